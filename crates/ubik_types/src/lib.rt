@@ -1,0 +1,22 @@
+//! The words that every crate of the project shares: hosts, versions, images and their changes, the cell
+//! with its quorums, and the limits of time. The definitions of vote state, lease and phase record stand
+//! in `specs/`, for a cell of any number of servers.
+#![tactic(auto)]
+
+mod hosts;
+mod images;
+mod limits;
+mod memory;
+mod phases;
+mod quorums;
+mod versions;
+
+pub use hosts::{Cell, Host};
+pub use images::{Bytes, Change, Changes, bytes_of, changes_new, changes_push};
+pub use limits::{
+    BIGTIME, MAX_IMAGE, MAX_MOMENT, MAXSERVERS, POLLTIME, RPCTIMEOUT, SKEW, SMALLTIME,
+};
+pub use memory::NoMemory;
+pub use phases::{Applied, Phase};
+pub use quorums::Marks;
+pub use versions::{MAX_COUNTER, Version};
