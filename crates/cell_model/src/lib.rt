@@ -1,0 +1,8 @@
+//! The model of a cell: what happens to a server, what it puts out, and, in `specs/`, the rules of a
+//! server, the world of all servers, and what a run of the world is worth. No disk, no code of a server
+//! and no script is named here.
+#![tactic(auto)]
+
+mod events;
+
+pub use events::{NodeEvent, Output, Reply};
