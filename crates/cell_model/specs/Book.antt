@@ -8,6 +8,7 @@ use Rattle.db_image.specs.Database.{Database}
 use Rattle.cell_model.specs.declared.events.NodeEvent.{NodeEvent}
 use Rattle.cell_model.specs.declared.events.NodeEvent.TheVariants.{BeaconTurn, RecoverTurn, Ask}
 use Rattle.cell_model.specs.declared.events.Output.{Output}
+use Rattle.cell_model.specs.declared.events.Reply.TheVariants as reply
 use Rattle.cell_model.specs.declared.events.Output.TheVariants as output
 use Rattle.cell_model.specs.Durable.{DurableCall}
 use Rattle.cell_model.specs.Durable as durable
