@@ -2,7 +2,7 @@
 use Rattle.std.specs.Prelude.{ℕ, List, [], ◌∷◌}
 use Rattle.db_image.specs.declared.CallReply.{CallReply}
 use Rattle.db_image.specs.Database.{Database}
-use Rattle.cell_model.specs.Book.{Transaction}
+use Rattle.cell_model.specs.Durable.{Transaction}
 
 -- the image after a list of transactions, from this image on
 abbrev pub image_from : Database → List ℕ → List Transaction → List ℕ

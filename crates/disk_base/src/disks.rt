@@ -1,5 +1,6 @@
 //! The disk of a server: three files, written and synced.
 ghost use Rattle.std.specs.Prelude.{◌≡◌, ◌+◌, ◌<◌, ◌≤◌, ℕ, List, Option, Bool, IsTrue, IfSome, length, take, drop, ◌↔◌};
+ghost use Rattle.std.specs.Option.{option_map};
 ghost use Rattle.disk_base.specs.Files.{Files, file_of, with_file, laid, OnDone, OnKnown, KeepsRoom, Stop, IsStopped};
 ghost use Rattle.disk_base.specs.Files.Stop.{Unarmed, Armed};
 ghost use Rattle.disk_base.specs.Count.{HasCause};
@@ -95,8 +96,7 @@ pub trait Disk {
     fn write_at(&mut self, f: FileNo, at: u64, bytes: &[u8]) -> DiskEnd
         requires begins { IfSome (files self.old) (λ fs. at ≤ length (file_of fs f)) }
         requires fits { at + length bytes.now ≤ room self.old f }
-        ensures written { OnDone result (IfSome (files self.old)
-            (λ fs. files self.new ≡ Option.Some (with_file fs f (laid (file_of fs f) at bytes.now)))) }
+        ensures written { OnDone result (files self.new ≡ option_map (λ fs. with_file fs f (laid (file_of fs f) at bytes.now)) (files self.old)) }
         ensures room { KeepsRoom (room self.old) (room self.new) }
         ensures steps { steps self.new ≡ steps self.old + 1 }
         ensures cause { HasCause (faults self.old) (faults self.new) (result ≡ DiskEnd.Failed) };
@@ -104,8 +104,7 @@ pub trait Disk {
     /// Keeps the first `len` bytes of a file, at most its length.
     fn cut(&mut self, f: FileNo, len: u64) -> DiskEnd
         requires { IfSome (files self.old) (λ fs. len ≤ length (file_of fs f)) }
-        ensures cut { OnDone result (IfSome (files self.old)
-            (λ fs. files self.new ≡ Option.Some (with_file fs f (take len (file_of fs f))))) }
+        ensures cut { OnDone result (files self.new ≡ option_map (λ fs. with_file fs f (take len (file_of fs f))) (files self.old)) }
         ensures room { KeepsRoom (room self.old) (room self.new) }
         ensures steps { steps self.new ≡ steps self.old + 1 }
         ensures cause { HasCause (faults self.old) (faults self.new) (result ≡ DiskEnd.Failed) };
