@@ -4,5 +4,6 @@ pub mod Lease
 pub mod Moment
 pub mod Phase
 pub mod Quorum
+pub mod Refusals
 pub mod Version
 pub mod Votes

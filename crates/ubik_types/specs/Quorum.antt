@@ -1,6 +1,6 @@
 -- Which sets of servers decide (Kazar, "Ubik": the lowest server has half a vote more).
 -- A set of servers is the list of its marks, in the order of the servers.
-use Rattle.std.specs.Prelude.{ℕ, ◌+◌, ◌*◌, ◌/◌, ◌<◌, ◌≤◌, Bool, List, [], ◌∷◌, count_by, nat_lt, nat_le, if◌then◌else◌, take}
+use Rattle.std.specs.Prelude.{ℕ, ◌≡◌, true, Some, slice_get, ◌+◌, ◌*◌, ◌/◌, ◌<◌, ◌≤◌, Bool, List, [], ◌∷◌, count_by, nat_lt, nat_le, if◌then◌else◌, take}
 
 -- how many servers are in the set
 abbrev pub size : List Bool → ℕ
@@ -28,3 +28,7 @@ IsMajority n set = n / 2 + 1 ≤ size set
 -- the set that marks make in a cell of n servers: later marks do not count
 abbrev pub marked : ℕ → List Bool → List Bool
 marked n marks = take n marks
+
+-- some server is in both sets
+abbrev pub SharesServer : List Bool → List Bool → Type 0
+SharesServer a b = (k : ℕ) × (slice_get a k ≡ Some true) × (slice_get b k ≡ Some true)

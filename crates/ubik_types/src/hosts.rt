@@ -1,8 +1,14 @@
 //! Hosts, and the cell that they make.
-ghost use Rattle.std.specs.Prelude.{◌≡◌, ◌<◌, ◌≤◌, length, slice_get, Some};
+ghost use Rattle.std.specs.Prelude.{◌≡◌, ◌<◌, ◌≤◌, ℕ, length, slice_get, Some, IfOk, IfErr, IfSome, IsPermutation, MatchOption, ◌==◌, position};
+ghost use Rattle.ubik_types.specs.declared.hosts.Host.{Host};
+ghost use Rattle.ubik_types.specs.Hosts.{IsCell, IsAscending, IsRising, IsLowestRepeated};
+ghost use Rattle.ubik_types.specs.Refusals.{Refuses};
 
+use crate::limits::MAXSERVERS;
+use std::alloc::{AllocError, Global};
 use std::fmt;
 use std::marker::Model;
+use thiserror::Error;
 
 /// The address of a server, 32 bits: 10.0.0.1 is 167772161.
 #[derive(Clone, Copy, Debug, PartialEq, Eq, PartialOrd, Ord, Hash)]
@@ -12,6 +18,35 @@ impl fmt::Display for Host {
     fn fmt<W: fmt::Write>(&self, f: &mut fmt::Formatter<W>) -> fmt::Result {
         let [a, b, c, d] = self.0.to_be_bytes();
         write!(f, "{a}.{b}.{c}.{d}")
+    }
+}
+
+/// Why a list of hosts makes no cell. The causes are tried in this order, but memory may run out before a
+/// repeated host is seen.
+#[derive(Clone, Copy, Debug, PartialEq, Eq, Error)]
+pub enum CellFault {
+    /// The list is empty.
+    #[error("a cell has at least one server")]
+    Empty,
+    /// The list has more than 20 hosts.
+    #[error("{count} servers, and a cell has at most 20")]
+    TooMany { count: usize },
+    /// The host stands at least twice, and no lower one does.
+    #[error("{host} is named twice")]
+    Repeated { host: Host },
+    /// Memory ran out.
+    #[error("out of memory")]
+    NoMemory,
+}
+
+impl From<AllocError> for CellFault {
+    ghost use Rattle.std.specs.Prelude.{◌≡◌};
+    ghost use Rattle.ubik_types.specs.declared.hosts.CellFault.TheVariants as fault;
+
+    ghost from_gives = { λ _ e. e ≡ fault.NoMemory };
+
+    fn from(_: AllocError) -> Self {
+        CellFault::NoMemory
     }
 }
 
@@ -34,6 +69,26 @@ impl Model for Cell {
 }
 
 impl Cell {
+    /// The cell of these hosts, which may come in any order.
+    pub fn new(alloc: Global, hosts: &[Host]) -> Result<Cell, CellFault>
+        ensures cell { IfOk result (λ cell. IsCell cell) }
+        ensures same { IfOk result (λ cell. IsPermutation hosts.now cell) }
+        ensures refused { IfErr result (λ fault. Refuses hosts.now fault) }
+    {
+        if hosts.is_empty() {
+            return Err(CellFault::Empty);
+        }
+        if hosts.len() > MAXSERVERS {
+            let count = hosts.len();
+            return Err(CellFault::TooMany { count });
+        }
+        let sorted = in_order(alloc, hosts)?;
+        match first_repeated(&sorted) {
+            Some(host) => Err(CellFault::Repeated { host }),
+            None => Ok(Cell { hosts: sorted }),
+        }
+    }
+
     /// How many servers the cell has.
     pub fn len(&self) -> usize
         ensures len { result ≡ length self.now }
@@ -49,5 +104,85 @@ impl Cell {
         ensures { slice_get self.now i ≡ Some result }
     {
         self.hosts[i]
+    }
+
+    /// The place of a host's server; none where the host is not of the cell.
+    pub fn index(&self, host: Host) -> Option<usize>
+        ensures found { IfSome result (λ i. slice_get self.now i ≡ Some host) }
+        ensures only { (i : ℕ) → slice_get self.now i ≡ Some host → result ≡ Some i }
+    {
+        place_of(&self.hosts, host)
+    }
+}
+
+/// The hosts in ascending order, a repeated one as often as before.
+fn in_order(alloc: Global, hosts: &[Host]) -> Result<Vec<Host>, AllocError>
+    ensures same { IfOk result (λ sorted. IsPermutation hosts.now sorted.items) }
+    ensures len { IfOk result (λ sorted. length sorted.items ≡ length hosts.now) }
+    ensures rising { IfOk result (λ sorted. IsRising sorted.items) }
+{
+    let mut sorted = hosts.to_vec(alloc)?;
+    sorted.sort_unstable();
+    Ok(sorted)
+}
+
+/// The lowest host that stands twice in a list that is in order.
+fn first_repeated(sorted: &[Host]) -> Option<Host>
+    requires { IsRising sorted.now }
+    ensures { MatchOption result (IsAscending sorted.now) (λ host. IsLowestRepeated sorted.now host) }
+{
+    for i in 1..sorted.len() {
+        if sorted[i - 1] == sorted[i] {
+            return Some(sorted[i]);
+        }
+    }
+    None
+}
+
+/// The first place at which a host stands.
+fn place_of(hosts: &[Host], host: Host) -> Option<usize>
+    ensures { result ≡ position (λ (other : Host). other.0 == host.0) hosts.now }
+{
+    hosts.iter().position(|other| other.0 == host.0)
+}
+
+#[cfg(test)]
+mod tests {
+    use super::*;
+    use std::test::Fail;
+
+    const FIRST: Host = Host(167_772_161);
+
+    const SECOND: Host = Host(167_772_162);
+
+    const THIRD: Host = Host(167_772_163);
+
+    fn fault_of(made: Result<Cell, CellFault>) -> Option<CellFault> {
+        match made {
+            Ok(_) => None,
+            Err(fault) => Some(fault),
+        }
+    }
+
+    #[test]
+    fn a_cell_in_order(rt: HostRuntime) -> Result<(), Fail> {
+        let cell = Cell::new(rt.alloc(), &[THIRD, FIRST, SECOND])?;
+        assert_eq!(rt; cell.len(), 3);
+        for (i, host) in [FIRST, SECOND, THIRD].iter().enumerate() {
+            assert_eq!(rt; cell.index(*host), Some(i), "{host}");
+        }
+        assert_eq!(rt; cell.host(2), THIRD);
+        assert_eq!(rt; cell.index(Host(7)), None);
+        Ok(())
+    }
+
+    #[test]
+    fn lists_that_make_no_cell(rt: HostRuntime) {
+        let none = fault_of(Cell::new(rt.alloc(), &[]));
+        assert_eq!(rt; none, Some(CellFault::Empty));
+        let many = fault_of(Cell::new(rt.alloc(), &[FIRST; 21]));
+        assert_eq!(rt; many, Some(CellFault::TooMany { count: 21 }));
+        let twice = fault_of(Cell::new(rt.alloc(), &[SECOND, FIRST, SECOND]));
+        assert_eq!(rt; twice, Some(CellFault::Repeated { host: SECOND }));
     }
 }

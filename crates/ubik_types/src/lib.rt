@@ -11,12 +11,15 @@ mod phases;
 mod quorums;
 mod versions;
 
-pub use hosts::{Cell, Host};
+pub use hosts::{Cell, CellFault, Host};
 pub use images::{Bytes, Change, Changes, bytes_of, changes_new, changes_push};
 pub use limits::{
     BIGTIME, MAX_IMAGE, MAX_MOMENT, MAXSERVERS, POLLTIME, RPCTIMEOUT, SKEW, SMALLTIME,
 };
 pub use memory::NoMemory;
 pub use phases::{Applied, Phase};
-pub use quorums::Marks;
+pub use quorums::{
+    Marks, majorities_share_a_server, majority, vote_quorum, vote_quorums_share_a_server,
+    votes_suffice,
+};
 pub use versions::{MAX_COUNTER, Version};

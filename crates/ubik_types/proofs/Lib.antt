@@ -1,0 +1,2 @@
+mod HostOrder
+mod QuorumsShare
