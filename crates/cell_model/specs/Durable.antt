@@ -8,6 +8,9 @@ pub record Durable : Type 0 where
   pub version : Version
   pub image : List ℕ
 
+abbrev pub durable : Version → List ℕ → Durable
+durable version image = record { version = version; image = image }
+
 -- of a database that nothing was written to
 abbrev pub no_database : Durable
 no_database = record { version = zero_version; image = [] }

@@ -17,8 +17,8 @@ use Rattle.ubik_types.specs.Quorum.{is_majority}
 use Rattle.ubik_types.specs.Votes.{beacon_is_due, answered}
 use Rattle.ubik_types.specs.Lease.{with_start, lease_end, is_in_lease}
 use Rattle.ubik_types.specs.Phase.{Polled, Spread, PhaseRecord, NoPhase, Poll, Fetch, Relabel, Send, Ready, phase_of}
-use Rattle.db_image.specs.declared.CallReply.{CallReply}
-use Rattle.db_image.specs.declared.CallReply.TheVariants as call_reply
+use Rattle.db_image.specs.declared.services.CallReply.{CallReply}
+use Rattle.db_image.specs.declared.services.CallReply.TheVariants as call_reply
 use Rattle.db_image.specs.Database.{Database}
 use Rattle.cell_model.specs.declared.events.NodeEvent.{NodeEvent}
 use Rattle.cell_model.specs.declared.events.NodeEvent.TheVariants.{BeaconTurn, RecoverTurn, Ask}

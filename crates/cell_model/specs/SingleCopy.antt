@@ -1,6 +1,6 @@
 -- The single copy: one database that makes one call after the other (own).
 use Rattle.std.specs.Prelude.{ℕ, List, [], ◌∷◌}
-use Rattle.db_image.specs.declared.CallReply.{CallReply}
+use Rattle.db_image.specs.declared.services.CallReply.{CallReply}
 use Rattle.db_image.specs.Database.{Database}
 use Rattle.cell_model.specs.Durable.{Transaction}
 

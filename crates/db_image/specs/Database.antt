@@ -1,7 +1,7 @@
 -- A database as the rules of a server see it: which calls write, and what a call answers and leaves, given
 -- the image before it and the moment. Another database needs no other rule.
 use Rattle.std.specs.Prelude.{ℕ, Bool, List, Option}
-use Rattle.db_image.specs.declared.CallReply.{CallReply}
+use Rattle.db_image.specs.declared.services.CallReply.{CallReply}
 
 -- the answer to a call, and the image after it
 pub record Outcome : Type 0 where

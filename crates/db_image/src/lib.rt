@@ -2,17 +2,6 @@
 //! single copy take a database's meaning.
 #![tactic(auto)]
 
-use ubik_types::Bytes;
+mod services;
 
-/// What a database answers to a call.
-#[derive(Drop)]
-pub enum CallReply {
-    /// The call took place; its answer fields.
-    Done(Bytes),
-    /// Refused by a rule of the database, by its number. Nothing changed.
-    Rule(u32),
-    /// The bytes are no call.
-    Malformed,
-    /// The image stands for no state of the database; where that showed, in bytes.
-    BadRecord { at: u32 },
-}
+pub use services::{CallReply, Service};
