@@ -5,6 +5,7 @@
 mod disks;
 mod sinks;
 mod sources;
+mod tallies;
 
 pub use disks::{Disk, DiskEnd, FileNo, Fill, LenEnd, Refused, RoomEnd, StopDisk};
 pub use sinks::{Sink, Wrote};
