@@ -3,6 +3,7 @@
 #![tactic(auto)]
 
 mod disks;
+mod plans;
 mod sinks;
 mod sources;
 mod tallies;
