@@ -1,5 +1,7 @@
 pub mod Count
 pub mod Files
+pub mod MemSink
+pub mod MemSource
 pub mod Plan
 pub mod Sink
 pub mod Source

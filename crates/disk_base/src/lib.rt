@@ -2,12 +2,16 @@
 //! with forms in memory.
 #![tactic(auto)]
 
+mod adapters;
 mod disks;
+mod memory_streams;
 mod plans;
 mod sinks;
 mod sources;
 mod tallies;
 
+pub use adapters::{ReaderSource, WriterSink};
 pub use disks::{Disk, DiskEnd, FileNo, Fill, LenEnd, Refused, RoomEnd, StopDisk};
+pub use memory_streams::{MemSink, MemSource};
 pub use sinks::{Sink, Wrote};
 pub use sources::{Got, Source};

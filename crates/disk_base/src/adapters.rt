@@ -1,0 +1,84 @@
+//! A source and a sink over readers and writers of std. They tell no content, and count each error.
+ghost use Rattle.std.specs.Prelude.{◌≡◌, None};
+
+use crate::tallies::Tally;
+use crate::{Got, Sink, Source, Wrote};
+use std::io::{Read, Write};
+
+/// A source over a reader. Each error of the reader is a failed read.
+#[derive(Drop)]
+pub struct ReaderSource<R: Read + Drop> {
+    reader: R,
+    faults: Tally,
+}
+
+impl<R: Read + Drop> ReaderSource<R> {
+    /// A source of what the reader has left, with no fault yet.
+    pub fn new(reader: R) -> ReaderSource<R>
+        ensures { result.faults.count ≡ 0 }
+    {
+        ReaderSource {
+            reader,
+            faults: Tally::new(),
+        }
+    }
+}
+
+impl<R: Read + Drop> Source for ReaderSource<R> {
+    ghost left = { λ source. None };
+
+    ghost faults = { λ source. source.faults.count };
+
+    fn read(&mut self, buf: &mut [u8]) -> Got {
+        match self.reader.read(buf) {
+            Ok(0) => Got::End,
+            Ok(count) => Got::Bytes(count),
+            Err(_) => {
+                self.faults = self.faults.next();
+                Got::Failed
+            }
+        }
+    }
+}
+
+/// A sink over a writer. Each error of the writer is a failed write, and so is a write that takes no byte.
+#[derive(Drop)]
+pub struct WriterSink<W: Write + Drop> {
+    writer: W,
+    faults: Tally,
+}
+
+impl<W: Write + Drop> WriterSink<W> {
+    /// A sink that appends to the writer, with no fault yet.
+    pub fn new(writer: W) -> WriterSink<W>
+        ensures { result.faults.count ≡ 0 }
+    {
+        WriterSink {
+            writer,
+            faults: Tally::new(),
+        }
+    }
+
+    /// Hands the writer back, which the caller flushes where it keeps bytes back.
+    pub fn into_inner(self) -> W
+        ensures { result ≡ self.writer }
+    {
+        self.writer
+    }
+}
+
+impl<W: Write + Drop> Sink for WriterSink<W> {
+    ghost written = { λ sink. None };
+
+    ghost faults = { λ sink. sink.faults.count };
+
+    fn write(&mut self, bytes: &[u8]) -> Wrote {
+        match self.writer.write(bytes) {
+            Ok(count) if count > 0 => Wrote::Bytes(count),
+            _ => {
+                self.faults = self.faults.next();
+                Wrote::Failed
+            }
+        }
+    }
+}
