@@ -15,7 +15,7 @@ pub struct ReaderSource<R: Read + Drop> {
 impl<R: Read + Drop> ReaderSource<R> {
     /// A source of what the reader has left, with no fault yet.
     pub fn new(reader: R) -> ReaderSource<R>
-        ensures { result.faults.count ≡ 0 }
+        ensures { ⟦<ReaderSource<R> as Source>⟧.faults result ≡ 0 }
     {
         ReaderSource {
             reader,
@@ -51,7 +51,7 @@ pub struct WriterSink<W: Write + Drop> {
 impl<W: Write + Drop> WriterSink<W> {
     /// A sink that appends to the writer, with no fault yet.
     pub fn new(writer: W) -> WriterSink<W>
-        ensures { result.faults.count ≡ 0 }
+        ensures { ⟦<WriterSink<W> as Sink>⟧.faults result ≡ 0 }
     {
         WriterSink {
             writer,
