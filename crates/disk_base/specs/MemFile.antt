@@ -1,6 +1,10 @@
--- What a file in memory holds.
-use Rattle.std.specs.Prelude.{ℕ, List, Option, Some, None}
+-- What a file in memory holds, and what a stop leaves of it.
+use Rattle.std.specs.Prelude.{◌≡◌, ℕ, ◌<◌, Bool, ◌&&◌, List, length, Option, Some, None, slice_index, nat_le, nat_lt, if◌then◌else◌}
+use Rattle.std.specs.List.{list_any}
 use Rattle.disk_base.specs.declared.memory_files.MemFile.{MemFile}
+use Rattle.disk_base.specs.declared.memory_files.Span.{Span}
+use Rattle.disk_base.specs.declared.disks.Fill.{Fill}
+use Rattle.disk_base.specs.declared.disks.Fill.TheVariants.{Old, New, Byte}
 
 -- what a read gives
 abbrev pub bytes_of : MemFile → List ℕ
@@ -13,3 +17,19 @@ synced_of file = elim (file.synced) [ Some bytes ↦ bytes.items | None ↦ file
 -- how many bytes have room
 abbrev pub room_of : MemFile → ℕ
 room_of file = file.room
+
+-- whether a position was written
+abbrev pub was_written : List Span → ℕ → Bool
+was_written spans at = list_any (λ span. nat_le span.from at && nat_lt at span.to) spans
+
+-- the byte stands in each position that was written, and the others are as before
+pub record IsFilled (byte : ℕ) (spans : List Span) (before after : List ℕ) : Type 0 where
+  pub same_length : length after ≡ length before
+  pub filled : (at : ℕ) → at < length before
+    → slice_index after at ≡ (if was_written spans at then byte else slice_index before at)
+
+-- what a stop leaves of a file
+abbrev pub IsLeft : Fill → MemFile → List ℕ → Type 0
+IsLeft Old file after = after ≡ synced_of file
+IsLeft New file after = after ≡ bytes_of file
+IsLeft (Byte byte) file after = IsFilled byte file.written.items (bytes_of file) after

@@ -1,11 +1,18 @@
 //! One file of a disk in memory.
-ghost use Rattle.std.specs.Prelude.{◌≡◌, ◌+◌, ◌<◌, ◌≤◌, [], length, take, drop, OnOk, OnErr, IsSome};
+ghost use Rattle.std.specs.Prelude.{◌≡◌, ◌+◌, ◌<◌, ◌≤◌, [], ◌∷◌, length, take, drop, OnOk, OnErr, IsSome};
 ghost use Rattle.disk_base.specs.Files.{laid};
-ghost use Rattle.disk_base.specs.MemFile.{bytes_of, synced_of, room_of};
+ghost use Rattle.disk_base.specs.MemFile.{bytes_of, synced_of, room_of, IsLeft, IsFilled};
 
+use crate::Fill;
 use std::alloc::Global;
-use std::ops::Range;
 use ubik_types::NoMemory;
+
+/// A range of positions, without its end.
+#[derive(Clone, Copy)]
+pub(crate) struct Span {
+    from: usize,
+    to: usize,
+}
 
 /// The bytes of a file, and what it was when it was last synced.
 #[derive(Drop)]
@@ -15,7 +22,7 @@ pub(crate) struct MemFile {
     /// The bytes as last synced, kept from the first change after that on.
     synced: Option<Vec<u8>>,
     /// The ranges that were written since.
-    written: Vec<Range<usize>>,
+    written: Vec<Span>,
     /// How many bytes have room.
     room: u64,
 }
@@ -90,7 +97,7 @@ impl MemFile {
         let from = at as usize;
         self.written.reserve(1)?;
         lay(&mut self.bytes, from, bytes)?;
-        let _ = self.written.push(from..from + bytes.len());
+        let _ = self.written.push(Span { from, to: from + bytes.len() });
         Ok(())
     }
 
@@ -115,6 +122,24 @@ impl MemFile {
         self.synced = None;
         self.written.clear();
     }
+
+    /// What a stop leaves becomes what a read gives and what was last synced.
+    pub(crate) fn revive(&mut self, fill: Fill)
+        ensures left { IsLeft fill self.old (bytes_of self.new) }
+        ensures synced { synced_of self.new ≡ bytes_of self.new }
+        ensures room { room_of self.new ≡ room_of self.old }
+    {
+        match fill {
+            Fill::Old => {
+                if let Some(bytes) = self.synced.take() {
+                    self.bytes = bytes;
+                }
+            }
+            Fill::New => {}
+            Fill::Byte(byte) => fill_all(&mut self.bytes, &self.written, byte),
+        }
+        self.sync();
+    }
 }
 
 /// Lays bytes over others from a position on. For want of memory all stays.
@@ -127,4 +152,22 @@ fn lay(file: &mut Vec<u8>, at: usize, bytes: &[u8]) -> Result<(), NoMemory>
     file.extend_from_slice(past)?;
     file[at..at + over.len()].copy_from_slice(over);
     Ok(())
+}
+
+/// Writes the byte into each position of the file that one of the ranges covers.
+fn fill_all(file: &mut [u8], spans: &[Span], byte: u8)
+    ensures { IsFilled byte spans.now file.old file.new }
+{
+    for span in spans {
+        fill_span(file, *span, byte);
+    }
+}
+
+/// Writes the byte into each position of the file that the range covers.
+fn fill_span(file: &mut [u8], span: Span, byte: u8)
+    ensures { IsFilled byte (span ∷ []) file.old file.new }
+{
+    for at in span.from..span.to.min(file.len()) {
+        file[at] = byte;
+    }
 }
