@@ -1,5 +1,6 @@
 pub mod Count
 pub mod Files
+pub mod MemCalls
 pub mod MemFile
 pub mod MemSink
 pub mod MemSource

@@ -4,6 +4,7 @@
 
 mod adapters;
 mod disks;
+mod memory_calls;
 mod memory_files;
 mod memory_streams;
 mod plans;
