@@ -1,6 +1,7 @@
 pub mod Count
 pub mod Files
 pub mod MemCalls
+pub mod MemDisk
 pub mod MemFile
 pub mod MemSink
 pub mod MemSource

@@ -5,6 +5,7 @@
 mod adapters;
 mod disks;
 mod memory_calls;
+mod memory_disks;
 mod memory_files;
 mod memory_streams;
 mod plans;
@@ -14,6 +15,7 @@ mod tallies;
 
 pub use adapters::{ReaderSource, WriterSink};
 pub use disks::{Disk, DiskEnd, FileNo, Fill, LenEnd, Refused, RoomEnd, StopDisk};
+pub use memory_disks::MemDisk;
 pub use memory_streams::{MemSink, MemSource};
 pub use sinks::{Sink, Wrote};
 pub use sources::{Got, Source};
