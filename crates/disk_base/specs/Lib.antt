@@ -1,3 +1,4 @@
+pub mod Adapters
 pub mod Count
 pub mod Files
 pub mod MemCalls

@@ -1,5 +1,6 @@
 //! A source and a sink over readers and writers of std. They tell no content, and count each error.
 ghost use Rattle.std.specs.Prelude.{◌≡◌, None};
+ghost use Rattle.disk_base.specs.Adapters.{reader_faults, writer_faults, writer_of};
 
 use crate::tallies::Tally;
 use crate::{Got, Sink, Source, Wrote};
@@ -15,7 +16,7 @@ pub struct ReaderSource<R: Read + Drop> {
 impl<R: Read + Drop> ReaderSource<R> {
     /// A source of what the reader has left, with no fault yet.
     pub fn new(reader: R) -> ReaderSource<R>
-        ensures { ⟦<ReaderSource<R> as Source>⟧.faults result ≡ 0 }
+        ensures { reader_faults result ≡ 0 }
     {
         ReaderSource {
             reader,
@@ -27,7 +28,7 @@ impl<R: Read + Drop> ReaderSource<R> {
 impl<R: Read + Drop> Source for ReaderSource<R> {
     ghost left = { λ source. None };
 
-    ghost faults = { λ source. source.faults.count };
+    ghost faults = { λ source. reader_faults source };
 
     fn read(&mut self, buf: &mut [u8]) -> Got {
         match self.reader.read(buf) {
@@ -51,7 +52,7 @@ pub struct WriterSink<W: Write + Drop> {
 impl<W: Write + Drop> WriterSink<W> {
     /// A sink that appends to the writer, with no fault yet.
     pub fn new(writer: W) -> WriterSink<W>
-        ensures { ⟦<WriterSink<W> as Sink>⟧.faults result ≡ 0 }
+        ensures { writer_faults result ≡ 0 }
     {
         WriterSink {
             writer,
@@ -61,7 +62,7 @@ impl<W: Write + Drop> WriterSink<W> {
 
     /// Hands the writer back, which the caller flushes where it keeps bytes back.
     pub fn into_inner(self) -> W
-        ensures { result ≡ self.writer }
+        ensures { result ≡ writer_of self }
     {
         self.writer
     }
@@ -70,7 +71,7 @@ impl<W: Write + Drop> WriterSink<W> {
 impl<W: Write + Drop> Sink for WriterSink<W> {
     ghost written = { λ sink. None };
 
-    ghost faults = { λ sink. sink.faults.count };
+    ghost faults = { λ sink. writer_faults sink };
 
     fn write(&mut self, bytes: &[u8]) -> Wrote {
         match self.writer.write(bytes) {
