@@ -19,3 +19,6 @@ pub use memory_disks::MemDisk;
 pub use memory_streams::{MemSink, MemSource};
 pub use sinks::{Sink, Wrote};
 pub use sources::{Got, Source};
+
+#[cfg(test)]
+mod tests;
