@@ -26,7 +26,7 @@ was_written spans at = list_any (λ span. nat_le span.from at && nat_lt at span.
 pub record IsFilled (byte : ℕ) (spans : List Span) (before after : List ℕ) : Type 0 where
   pub same_length : length after ≡ length before
   pub filled : (at : ℕ) → at < length before
-    → slice_index after at ≡ (if was_written spans at then byte else slice_index before at)
+      → slice_index after at ≡ (if was_written spans at then byte else slice_index before at)
 
 -- what a stop leaves of a file
 abbrev pub IsLeft : Fill → MemFile → List ℕ → Type 0

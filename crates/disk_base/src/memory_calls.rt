@@ -127,7 +127,10 @@ impl MemCalls {
                 Passage::Stops
             }
             StopState::Armed { calls, fill } => {
-                self.stop = StopState::Armed { calls: calls - 1, fill };
+                self.stop = StopState::Armed {
+                    calls: calls - 1,
+                    fill,
+                };
                 unless_planned(planned)
             }
             StopState::Unarmed => unless_planned(planned),
@@ -143,5 +146,9 @@ impl MemCalls {
 fn unless_planned(planned: bool) -> Passage
     ensures { result ≡ unless planned }
 {
-    if planned { Passage::Fails } else { Passage::Passes }
+    if planned {
+        Passage::Fails
+    } else {
+        Passage::Passes
+    }
 }

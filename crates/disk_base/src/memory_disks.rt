@@ -58,7 +58,8 @@ impl MemFiles {
 
     fn write_at(&mut self, f: FileNo, at: u64, bytes: &[u8]) -> Result<(), NoMemory>
         requires { at ≤ length (file_of (now_in self.old) f) }
-        ensures ok { OnOk result (now_in self.new ≡ with_file (now_in self.old) f (laid (file_of (now_in self.old) f) at bytes.now)) }
+        ensures ok { OnOk result (now_in self.new
+            ≡ with_file (now_in self.old) f (laid (file_of (now_in self.old) f) at bytes.now)) }
         ensures err { OnErr result (now_in self.new ≡ now_in self.old) }
         ensures synced { synced_in self.new ≡ synced_in self.old }
         ensures room { KeepsRoom (room_in self.old) (room_in self.new) }
@@ -71,7 +72,8 @@ impl MemFiles {
     }
 
     fn cut(&mut self, f: FileNo, len: u64) -> Result<(), NoMemory>
-        ensures ok { OnOk result (now_in self.new ≡ with_file (now_in self.old) f (take len (file_of (now_in self.old) f))) }
+        ensures ok { OnOk result (now_in self.new
+            ≡ with_file (now_in self.old) f (take len (file_of (now_in self.old) f))) }
         ensures err { OnErr result (now_in self.new ≡ now_in self.old) }
         ensures synced { synced_in self.new ≡ synced_in self.old }
         ensures room { KeepsRoom (room_in self.old) (room_in self.new) }
@@ -85,7 +87,8 @@ impl MemFiles {
 
     fn sync(&mut self, f: FileNo)
         ensures now { now_in self.new ≡ now_in self.old }
-        ensures synced { synced_in self.new ≡ with_file (synced_in self.old) f (file_of (now_in self.old) f) }
+        ensures synced { synced_in self.new
+            ≡ with_file (synced_in self.old) f (file_of (now_in self.old) f) }
         ensures room { KeepsRoom (room_in self.old) (room_in self.new) }
     {
         match f {
@@ -132,12 +135,32 @@ impl MemDisk {
             calls: MemCalls::new(alloc, fails)?,
         })
     }
+
+    /// Ends a changing call that passed, and failed only for want of memory.
+    fn end(&mut self, done: Result<(), NoMemory>) -> DiskEnd
+        ensures ok { OnOk done (result ≡ DiskEnd.Done) }
+        ensures err { OnErr done (result ≡ DiskEnd.Failed) }
+        ensures cause { HasCause (disk_faults self.old) (disk_faults self.new) (result ≡ DiskEnd.Failed) }
+        ensures files { self.new.files ≡ self.old.files }
+        ensures steps { disk_steps self.new ≡ disk_steps self.old }
+        ensures stop { disk_stop self.new ≡ disk_stop self.old }
+        ensures plan { disk_plan self.new ≡ disk_plan self.old }
+    {
+        match done {
+            Ok(()) => DiskEnd::Done,
+            Err(NoMemory) => {
+                self.calls.fail();
+                DiskEnd::Failed
+            }
+        }
+    }
 }
 
 impl Disk for MemDisk {
     ghost use Rattle.disk_base.specs.Plan.{after_call};
     ghost use Rattle.disk_base.specs.MemCalls.{after_change};
-    ghost use Rattle.disk_base.specs.MemDisk.{now_of, last_synced, disk_room, disk_stop, disk_plan, disk_steps, disk_faults, disk_fails, disk_passage, done_unless, known_unless, end_of, FailsUnlessPassed, FailedWrite};
+    ghost use Rattle.disk_base.specs.MemDisk.{now_of, last_synced, disk_room, disk_stop, disk_plan, disk_steps, disk_faults};
+    ghost use Rattle.disk_base.specs.MemDisk.{disk_fails, disk_passage, done_unless, known_unless, end_of, FailsUnlessPassed, FailedWrite};
 
     ghost files = { λ disk. Some (now_of disk) };
 
@@ -183,7 +206,8 @@ impl Disk for MemDisk {
 
     fn read(&mut self, f: FileNo, at: u64, buf: &mut [u8]) -> DiskEnd
         requires { at + length buf.old ≤ length (file_of (now_of self.old) f) }
-        ensures bytes { OnDone result (buf.new ≡ take (length buf.old) (drop at (file_of (now_of self.old) f))) }
+        ensures bytes { OnDone result
+            (buf.new ≡ take (length buf.old) (drop at (file_of (now_of self.old) f))) }
         ensures files { OnDone result (Some (now_of self.new) ≡ Some (now_of self.old)) }
         ensures room { KeepsRoom (disk_room self.old) (disk_room self.new) }
         ensures steps { disk_steps self.new ≡ disk_steps self.old }
@@ -204,8 +228,8 @@ impl Disk for MemDisk {
     fn write_at(&mut self, f: FileNo, at: u64, bytes: &[u8]) -> DiskEnd
         requires begins { at ≤ length (file_of (now_of self.old) f) }
         requires fits { at + length bytes.now ≤ disk_room self.old f }
-        ensures written { OnDone result
-            (Some (now_of self.new) ≡ Some (with_file (now_of self.old) f (laid (file_of (now_of self.old) f) at bytes.now))) }
+        ensures written { OnDone result (Some (now_of self.new)
+            ≡ Some (with_file (now_of self.old) f (laid (file_of (now_of self.old) f) at bytes.now))) }
         ensures room { KeepsRoom (disk_room self.old) (disk_room self.new) }
         ensures steps { disk_steps self.new ≡ disk_steps self.old + 1 }
         ensures cause { HasCause (disk_faults self.old) (disk_faults self.new) (result ≡ DiskEnd.Failed) }
@@ -229,7 +253,8 @@ impl Disk for MemDisk {
 
     fn cut(&mut self, f: FileNo, len: u64) -> DiskEnd
         requires { len ≤ length (file_of (now_of self.old) f) }
-        ensures cut { OnDone result (Some (now_of self.new) ≡ Some (with_file (now_of self.old) f (take len (file_of (now_of self.old) f)))) }
+        ensures cut { OnDone result (Some (now_of self.new)
+            ≡ Some (with_file (now_of self.old) f (take len (file_of (now_of self.old) f)))) }
         ensures room { KeepsRoom (disk_room self.old) (disk_room self.new) }
         ensures steps { disk_steps self.new ≡ disk_steps self.old + 1 }
         ensures cause { HasCause (disk_faults self.old) (disk_faults self.new) (result ≡ DiskEnd.Failed) }
@@ -253,7 +278,8 @@ impl Disk for MemDisk {
         ensures cause { HasCause (disk_faults self.old) (disk_faults self.new) (result ≡ DiskEnd.Failed) }
         ensures exact { result ≡ end_of (disk_passage self.old) }
         ensures unchanged { now_of self.new ≡ now_of self.old }
-        ensures synced { OnDone result (last_synced self.new ≡ with_file (last_synced self.old) f (file_of (now_of self.old) f)) }
+        ensures synced { OnDone result (last_synced self.new
+            ≡ with_file (last_synced self.old) f (file_of (now_of self.old) f)) }
         ensures failed { result ≡ DiskEnd.Failed → last_synced self.new ≡ last_synced self.old }
         ensures stop { disk_stop self.new ≡ after_change (disk_stop self.old) }
         ensures counted { disk_plan self.new ≡ after_call (disk_plan self.old) }
@@ -298,28 +324,5 @@ impl StopDisk for MemDisk {
     {
         let fill = self.calls.disarm();
         self.files.revive(fill);
-    }
-}
-
-impl MemDisk {
-    ghost use Rattle.disk_base.specs.MemDisk.{disk_stop, disk_plan, disk_steps, disk_faults};
-
-    /// Ends a changing call that passed, and failed only for want of memory.
-    fn end(&mut self, done: Result<(), NoMemory>) -> DiskEnd
-        ensures ok { OnOk done (result ≡ DiskEnd.Done) }
-        ensures err { OnErr done (result ≡ DiskEnd.Failed) }
-        ensures cause { HasCause (disk_faults self.old) (disk_faults self.new) (result ≡ DiskEnd.Failed) }
-        ensures files { self.new.files ≡ self.old.files }
-        ensures steps { disk_steps self.new ≡ disk_steps self.old }
-        ensures stop { disk_stop self.new ≡ disk_stop self.old }
-        ensures plan { disk_plan self.new ≡ disk_plan self.old }
-    {
-        match done {
-            Ok(()) => DiskEnd::Done,
-            Err(NoMemory) => {
-                self.calls.fail();
-                DiskEnd::Failed
-            }
-        }
     }
 }

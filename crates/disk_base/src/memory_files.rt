@@ -97,7 +97,10 @@ impl MemFile {
         let from = at as usize;
         self.written.reserve(1)?;
         lay(&mut self.bytes, from, bytes)?;
-        let _ = self.written.push(Span { from, to: from + bytes.len() });
+        let _ = self.written.push(Span {
+            from,
+            to: from + bytes.len(),
+        });
         Ok(())
     }
 

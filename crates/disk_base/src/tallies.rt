@@ -16,6 +16,7 @@ impl Model for Tally {
 
 // It owns nothing.
 unsafe impl Send for Tally {}
+
 unsafe impl Sync for Tally {}
 
 impl Tally {

@@ -75,7 +75,12 @@ fn a_source_is_read_in_pieces(rt: HostRuntime) -> Result<(), Fail> {
 #[test]
 fn a_sink_keeps_what_did_not_fail(rt: HostRuntime) -> Result<(), Fail> {
     let mut sink = MemSink::new(rt.alloc(), &[1, 3])?;
-    let wanted = [Wrote::Failed, Wrote::Bytes(2), Wrote::Failed, Wrote::Bytes(2)];
+    let wanted = [
+        Wrote::Failed,
+        Wrote::Bytes(2),
+        Wrote::Failed,
+        Wrote::Bytes(2),
+    ];
     expect_writes(&rt, &mut sink, b"ab", &wanted);
     assert_eq!(rt; sink.written(), b"abab".as_slice());
     Ok(())
@@ -209,5 +214,16 @@ fn an_error_of_a_writer_is_a_fault(rt: HostRuntime) -> Result<(), Fail> {
     let mut whole = WriterSink::new(Vec::new(rt.alloc()));
     expect_writes(&rt, &mut whole, b"ab", &[Wrote::Bytes(2)]);
     assert_eq!(rt; whole.into_inner().as_slice(), b"ab".as_slice());
+    Ok(())
+}
+
+/// A value that may go to another thread.
+fn crosses<T: Send>(_: &T) {}
+
+#[test]
+fn the_forms_in_memory_go_to_other_threads(rt: HostRuntime) -> Result<(), Fail> {
+    crosses(&MemDisk::new(rt.alloc(), &[])?);
+    crosses(&MemSource::new(rt.alloc(), b"", &[])?);
+    crosses(&MemSink::new(rt.alloc(), &[])?);
     Ok(())
 }
