@@ -14,6 +14,10 @@ bytes_of file = file.bytes.items
 abbrev pub synced_of : MemFile → List ℕ
 synced_of file = elim (file.synced) [ Some bytes ↦ bytes.items | None ↦ file.bytes.items ]
 
+-- the ranges that were written since
+abbrev pub written_of : MemFile → List Span
+written_of file = file.written.items
+
 -- how many bytes have room
 abbrev pub room_of : MemFile → ℕ
 room_of file = file.room
@@ -32,4 +36,4 @@ pub record IsFilled (byte : ℕ) (spans : List Span) (before after : List ℕ) :
 abbrev pub IsLeft : Fill → MemFile → List ℕ → Type 0
 IsLeft Old file after = after ≡ synced_of file
 IsLeft New file after = after ≡ bytes_of file
-IsLeft (Byte byte) file after = IsFilled byte file.written.items (bytes_of file) after
+IsLeft (Byte byte) file after = IsFilled byte (written_of file) (bytes_of file) after

@@ -1,7 +1,7 @@
 //! One file of a disk in memory.
-ghost use Rattle.std.specs.Prelude.{◌≡◌, ◌+◌, ◌<◌, ◌≤◌, [], ◌∷◌, length, take, drop, OnOk, OnErr, IsSome};
+ghost use Rattle.std.specs.Prelude.{◌≡◌, ◌+◌, ◌<◌, ◌≤◌, [], ◌∷◌, ◌++◌, length, take, drop, OnOk, OnErr, IsSome};
 ghost use Rattle.disk_base.specs.Files.{laid};
-ghost use Rattle.disk_base.specs.MemFile.{bytes_of, synced_of, room_of, IsLeft, IsFilled};
+ghost use Rattle.disk_base.specs.MemFile.{bytes_of, synced_of, written_of, room_of, IsLeft, IsFilled};
 
 use crate::Fill;
 use std::alloc::Global;
@@ -32,6 +32,7 @@ impl MemFile {
     pub(crate) fn new(alloc: Global) -> MemFile
         ensures bytes { bytes_of result ≡ [] }
         ensures synced { synced_of result ≡ [] }
+        ensures written { written_of result ≡ [] }
         ensures room { room_of result ≡ 0 }
     {
         MemFile {
@@ -55,6 +56,7 @@ impl MemFile {
         ensures room { room_of self.old ≤ room_of self.new }
         ensures bytes { bytes_of self.new ≡ bytes_of self.old }
         ensures synced { synced_of self.new ≡ synced_of self.old }
+        ensures written { written_of self.new ≡ written_of self.old }
     {
         if self.room < len {
             let missing = (len as usize).saturating_sub(self.bytes.len());
@@ -77,6 +79,7 @@ impl MemFile {
         ensures bytes { bytes_of self.new ≡ bytes_of self.old }
         ensures synced { synced_of self.new ≡ synced_of self.old }
         ensures room { room_of self.new ≡ room_of self.old }
+        ensures written { written_of self.new ≡ written_of self.old }
         ensures kept { OnOk result (IsSome self.new.synced) }
     {
         if self.synced.is_none() {
@@ -90,6 +93,9 @@ impl MemFile {
         requires { at ≤ length (bytes_of self.old) }
         ensures ok { OnOk result (bytes_of self.new ≡ laid (bytes_of self.old) at bytes.now) }
         ensures err { OnErr result (bytes_of self.new ≡ bytes_of self.old) }
+        ensures marked { OnOk result (written_of self.new
+            ≡ written_of self.old ++ record { from = at; to = at + length bytes.now } ∷ []) }
+        ensures unmarked { OnErr result (written_of self.new ≡ written_of self.old) }
         ensures synced { synced_of self.new ≡ synced_of self.old }
         ensures room { room_of self.new ≡ room_of self.old }
     {
@@ -108,6 +114,7 @@ impl MemFile {
     pub(crate) fn cut(&mut self, len: u64) -> Result<(), NoMemory>
         ensures ok { OnOk result (bytes_of self.new ≡ take len (bytes_of self.old)) }
         ensures err { OnErr result (bytes_of self.new ≡ bytes_of self.old) }
+        ensures written { written_of self.new ≡ written_of self.old }
         ensures synced { synced_of self.new ≡ synced_of self.old }
         ensures room { room_of self.new ≡ room_of self.old }
     {
@@ -120,6 +127,7 @@ impl MemFile {
     pub(crate) fn sync(&mut self)
         ensures bytes { bytes_of self.new ≡ bytes_of self.old }
         ensures synced { synced_of self.new ≡ bytes_of self.old }
+        ensures written { written_of self.new ≡ [] }
         ensures room { room_of self.new ≡ room_of self.old }
     {
         self.synced = None;
@@ -130,6 +138,7 @@ impl MemFile {
     pub(crate) fn revive(&mut self, fill: Fill)
         ensures left { IsLeft fill self.old (bytes_of self.new) }
         ensures synced { synced_of self.new ≡ bytes_of self.new }
+        ensures written { written_of self.new ≡ [] }
         ensures room { room_of self.new ≡ room_of self.old }
     {
         match fill {
