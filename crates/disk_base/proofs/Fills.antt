@@ -1,5 +1,5 @@
 -- Filling one range, and one range after others.
-use Rattle.std.proofs.Common.{◌≡◌, ℕ, ◌+◌, ◌<◌, ◌≤◌, Bool, true, false, ◌||◌, List, [], ◌∷◌, length, take, min, max, nat_le, nat_lt, slice_index, arith, refl, sym, ◌∙◌, ap}
+use Rattle.std.proofs.Common.{◌≡◌, ℕ, ◌<◌, ◌≤◌, List, [], ◌∷◌, length, min, max, arith}
 use Rattle.std.proofs.lemmas.Bool.Decides.{nat_tests}
 use Rattle.disk_base.specs.declared.memory_files.Span.{Span}
 use Rattle.disk_base.specs.MemFile.{IsFilled, was_written}

@@ -1,5 +1,5 @@
 -- Which calls of a disk in memory fail, and in which it stops.
-use Rattle.std.specs.Prelude.{◌≡◌, ℕ, ◌-◌, Bool, true, false, ◌||◌, ◌==◌, if◌then◌else◌}
+use Rattle.std.specs.Prelude.{◌≡◌, ◌-◌, Bool, true, false, ◌||◌, ◌==◌, if◌then◌else◌}
 use Rattle.disk_base.specs.declared.disks.Fill.{Fill}
 use Rattle.disk_base.specs.declared.disks.Fill.TheVariants.{Old}
 use Rattle.disk_base.specs.declared.memory_calls.MemCalls.{MemCalls}

@@ -1,5 +1,5 @@
 -- What a disk in memory holds, and how its calls end.
-use Rattle.std.specs.Prelude.{◌≡◌, ℕ, List, Bool, ◌⊎◌, if◌then◌else◌}
+use Rattle.std.specs.Prelude.{◌≡◌, ℕ, Bool, ◌⊎◌, if◌then◌else◌}
 use Rattle.disk_base.specs.declared.disks.FileNo.{FileNo}
 use Rattle.disk_base.specs.declared.disks.FileNo.TheVariants.{Database, Log, Incoming}
 use Rattle.disk_base.specs.declared.disks.DiskEnd.{DiskEnd}

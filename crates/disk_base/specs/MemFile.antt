@@ -1,5 +1,5 @@
 -- What a file in memory holds, and what a stop leaves of it.
-use Rattle.std.specs.Prelude.{◌≡◌, ℕ, ◌<◌, Bool, ◌&&◌, List, length, Option, Some, None, slice_index, nat_le, nat_lt, if◌then◌else◌}
+use Rattle.std.specs.Prelude.{◌≡◌, ℕ, ◌<◌, Bool, ◌&&◌, List, length, Some, None, slice_index, nat_le, nat_lt, if◌then◌else◌}
 use Rattle.std.specs.List.{list_any}
 use Rattle.disk_base.specs.declared.memory_files.MemFile.{MemFile}
 use Rattle.disk_base.specs.declared.memory_files.Span.{Span}
