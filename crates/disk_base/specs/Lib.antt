@@ -1,4 +1,11 @@
+pub mod Adapters
 pub mod Count
 pub mod Files
+pub mod MemCalls
+pub mod MemDisk
+pub mod MemFile
+pub mod MemSink
+pub mod MemSource
+pub mod Plan
 pub mod Sink
 pub mod Source

@@ -13,3 +13,8 @@ pub record AppendsFront (n : ℕ) (before after : Option (List ℕ)) (bytes : Li
 abbrev pub Appends : Wrote → Option (List ℕ) → Option (List ℕ) → List ℕ → Type 0
 Appends (Bytes n) before after bytes = AppendsFront n before after bytes
 Appends Failed before after bytes = after ≡ before
+
+-- so many bytes were appended, or none
+abbrev pub IsWhole : ℕ → Wrote → Type 0
+IsWhole len (Bytes n) = n ≡ len
+IsWhole len Failed = Unit {0}

@@ -2,10 +2,23 @@
 //! with forms in memory.
 #![tactic(auto)]
 
+mod adapters;
 mod disks;
+mod memory_calls;
+mod memory_disks;
+mod memory_files;
+mod memory_streams;
+mod plans;
 mod sinks;
 mod sources;
+mod tallies;
 
+pub use adapters::{ReaderSource, WriterSink};
 pub use disks::{Disk, DiskEnd, FileNo, Fill, LenEnd, Refused, RoomEnd, StopDisk};
+pub use memory_disks::MemDisk;
+pub use memory_streams::{MemSink, MemSource};
 pub use sinks::{Sink, Wrote};
 pub use sources::{Got, Source};
+
+#[cfg(test)]
+mod tests;

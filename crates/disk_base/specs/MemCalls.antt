@@ -1,0 +1,62 @@
+-- Which calls of a disk in memory fail, and in which it stops.
+use Rattle.std.specs.Prelude.{◌≡◌, ◌-◌, Bool, true, false, ◌||◌, ◌==◌, if◌then◌else◌}
+use Rattle.disk_base.specs.declared.disks.Fill.{Fill}
+use Rattle.disk_base.specs.declared.disks.Fill.TheVariants.{Old}
+use Rattle.disk_base.specs.declared.memory_calls.MemCalls.{MemCalls}
+use Rattle.disk_base.specs.declared.memory_calls.StopState.{StopState}
+use Rattle.disk_base.specs.declared.memory_calls.StopState.TheVariants as states
+use Rattle.disk_base.specs.declared.memory_calls.Passage.{Passage}
+use Rattle.disk_base.specs.declared.memory_calls.Passage.TheVariants.{Passes, Stops, Fails}
+use Rattle.disk_base.specs.Files.{Stop}
+use Rattle.disk_base.specs.Files.Stop.{Unarmed, Armed, Stopped}
+use Rattle.disk_base.specs.Plan.{fails_next}
+
+-- a state as the disk's meaning sees it
+abbrev pub stop_in : StopState → Stop
+stop_in states.Unarmed = Unarmed
+stop_in (states.Armed calls fill) = Armed calls fill
+stop_in (states.Stopped fill) = Stopped fill
+
+abbrev pub stop_of : MemCalls → Stop
+stop_of calls = stop_in calls.stop
+
+-- whether the disk has stopped
+abbrev pub is_stopped : Stop → Bool
+is_stopped Unarmed = false
+is_stopped (Armed _ _) = false
+is_stopped (Stopped _) = true
+
+-- whether the next call fails, if it changes no file
+abbrev pub fails_now : MemCalls → Bool
+fails_now calls = fails_next calls.plan || is_stopped (stop_of calls)
+
+-- a call that the disk lets through passes, unless its number is to fail
+abbrev pub unless : Bool → Passage
+unless planned = if planned then Fails else Passes
+
+-- what becomes of a changing call of which it is known whether its number is to fail
+abbrev pub passage : Stop → Bool → Passage
+passage Unarmed planned = unless planned
+passage (Armed calls _) planned = if calls == 0 then Stops else unless planned
+passage (Stopped _) planned = Fails
+
+-- what becomes of the next call, if it changes a file
+abbrev pub passage_of : MemCalls → Passage
+passage_of calls = passage (stop_of calls) (fails_next calls.plan)
+
+-- the stop after one more changing call
+abbrev pub after_change : Stop → Stop
+after_change Unarmed = Unarmed
+after_change (Armed calls fill) = if calls == 0 then Stopped fill else Armed (calls - 1) fill
+after_change (Stopped fill) = Stopped fill
+
+-- what a stop leaves; a disk that did not stop leaves what was last synced
+abbrev pub fill_left : Stop → Fill
+fill_left Unarmed = Old
+fill_left (Armed _ _) = Old
+fill_left (Stopped fill) = fill
+
+-- the counts of changing calls and of faults stay
+pub record KeepsTallies (before after : MemCalls) : Type 0 where
+  pub steps : after.steps.count ≡ before.steps.count
+  pub faults : after.faults.count ≡ before.faults.count

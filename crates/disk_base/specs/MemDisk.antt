@@ -1,0 +1,107 @@
+-- What a disk in memory holds, and how its calls end.
+use Rattle.std.specs.Prelude.{◌≡◌, ℕ, Bool, ◌⊎◌, if◌then◌else◌}
+use Rattle.disk_base.specs.declared.disks.FileNo.{FileNo}
+use Rattle.disk_base.specs.declared.disks.FileNo.TheVariants.{Database, Log, Incoming}
+use Rattle.disk_base.specs.declared.disks.DiskEnd.{DiskEnd}
+use Rattle.disk_base.specs.declared.disks.DiskEnd.TheVariants as ends
+use Rattle.disk_base.specs.declared.disks.LenEnd.{LenEnd}
+use Rattle.disk_base.specs.declared.disks.LenEnd.TheVariants as lens
+use Rattle.disk_base.specs.declared.disks.Fill.{Fill}
+use Rattle.disk_base.specs.declared.memory_calls.Passage.{Passage}
+use Rattle.disk_base.specs.declared.memory_calls.Passage.TheVariants.{Passes, Stops, Fails}
+use Rattle.disk_base.specs.declared.memory_files.MemFile.{MemFile}
+use Rattle.disk_base.specs.declared.memory_disks.MemFiles.{MemFiles}
+use Rattle.disk_base.specs.declared.memory_disks.MemDisk.{MemDisk}
+use Rattle.disk_base.specs.declared.plans.Plan.{Plan}
+use Rattle.disk_base.specs.Files.{Files, Stop}
+use Rattle.disk_base.specs.MemFile.{bytes_of, synced_of, room_of, IsLeft}
+use Rattle.disk_base.specs.MemCalls.{stop_of, passage_of, fails_now}
+
+abbrev pub file_at : MemFiles → FileNo → MemFile
+file_at files Database = files.database
+file_at files Log = files.log
+file_at files Incoming = files.incoming
+
+-- what reads give
+abbrev pub now_in : MemFiles → Files
+now_in files = record {
+  database = bytes_of files.database;
+  log = bytes_of files.log;
+  incoming = bytes_of files.incoming;
+}
+
+-- what was last synced
+abbrev pub synced_in : MemFiles → Files
+synced_in files = record {
+  database = synced_of files.database;
+  log = synced_of files.log;
+  incoming = synced_of files.incoming;
+}
+
+-- how many bytes of a file have room
+abbrev pub room_in : MemFiles → FileNo → ℕ
+room_in files f = room_of (file_at files f)
+
+abbrev pub now_of : MemDisk → Files
+now_of disk = now_in disk.files
+
+abbrev pub last_synced : MemDisk → Files
+last_synced disk = synced_in disk.files
+
+abbrev pub disk_room : MemDisk → FileNo → ℕ
+disk_room disk f = room_in disk.files f
+
+abbrev pub disk_stop : MemDisk → Stop
+disk_stop disk = stop_of disk.calls
+
+abbrev pub disk_steps : MemDisk → ℕ
+disk_steps disk = disk.calls.steps.count
+
+abbrev pub disk_faults : MemDisk → ℕ
+disk_faults disk = disk.calls.faults.count
+
+-- which calls are to fail, and how many were made
+abbrev pub disk_plan : MemDisk → Plan
+disk_plan disk = disk.calls.plan
+
+-- whether the next call fails, if it changes no file
+abbrev pub disk_fails : MemDisk → Bool
+disk_fails disk = fails_now disk.calls
+
+-- what becomes of the next call, if it changes a file
+abbrev pub disk_passage : MemDisk → Passage
+disk_passage disk = passage_of disk.calls
+
+-- a call that fails for its number or a stop, and is done otherwise
+abbrev pub done_unless : Bool → DiskEnd
+done_unless failed = if failed then ends.Failed else ends.Done
+
+abbrev pub known_unless : Bool → ℕ → LenEnd
+known_unless failed len = if failed then lens.Failed else lens.Known len
+
+-- how a changing call ends that takes no memory
+abbrev pub end_of : Passage → DiskEnd
+end_of Passes = ends.Done
+end_of Stops = ends.Failed
+end_of Fails = ends.Failed
+
+-- a changing call that did not pass has failed
+abbrev pub FailsUnlessPassed : Passage → DiskEnd → Type 0
+FailsUnlessPassed Passes end = Unit {0}
+FailsUnlessPassed Stops end = end ≡ ends.Failed
+FailsUnlessPassed Fails end = end ≡ ends.Failed
+
+-- what a stop leaves of the three files
+pub record IsLeftOf (fill : Fill) (files : MemFiles) (after : Files) : Type 0 where
+  pub database : IsLeft fill files.database after.database
+  pub log : IsLeft fill files.log after.log
+  pub incoming : IsLeft fill files.incoming after.incoming
+
+abbrev pub IsLeftBy : Fill → MemDisk → Files → Type 0
+IsLeftBy fill disk after = IsLeftOf fill disk.files after
+
+-- a write that fails changes no file, but one in which the disk stops and finds memory is written
+abbrev pub FailedWrite : Passage → DiskEnd → (before after written : Files) → Type 0
+FailedWrite Passes end before after written = end ≡ ends.Failed → after ≡ before
+FailedWrite Stops end before after written = (after ≡ written) ⊎ (after ≡ before)
+FailedWrite Fails end before after written = after ≡ before

@@ -1,0 +1,154 @@
+//! The calls of a disk in memory: which of them fail, and in which the disk stops.
+ghost use Rattle.std.specs.Prelude.{◌≡◌, ◌≢◌, ◌+◌, ◌<◌, ◌≤◌, IfOk, IsTrue, ◌↔◌};
+ghost use Rattle.disk_base.specs.Plan.{IsFresh, after_call};
+ghost use Rattle.disk_base.specs.Count.{HasCause};
+ghost use Rattle.disk_base.specs.Files.{IsStopped};
+ghost use Rattle.disk_base.specs.Files.Stop.{Unarmed, Armed};
+ghost use Rattle.disk_base.specs.MemCalls.{stop_of, fails_now, after_change, passage_of, fill_left, unless, KeepsTallies};
+
+use crate::Fill;
+use crate::plans::Plan;
+use crate::tallies::Tally;
+use std::alloc::Global;
+use ubik_types::NoMemory;
+
+/// Whether a disk is to stop.
+#[derive(Clone, Copy)]
+pub(crate) enum StopState {
+    Unarmed,
+    /// So many further changing calls pass.
+    Armed { calls: u32, fill: Fill },
+    Stopped { fill: Fill },
+}
+
+/// What becomes of a changing call.
+#[derive(Clone, Copy, PartialEq, Eq)]
+pub(crate) enum Passage {
+    Passes,
+    /// The disk stops in it.
+    Stops,
+    Fails,
+}
+
+/// What decides on the calls of a disk in memory, and counts them.
+#[derive(Drop)]
+pub(crate) struct MemCalls {
+    plan: Plan,
+    stop: StopState,
+    steps: Tally,
+    faults: Tally,
+}
+
+impl MemCalls {
+    /// No call was made yet, and no stop is armed.
+    pub(crate) fn new(alloc: Global, fails: &[u64]) -> Result<MemCalls, NoMemory>
+        ensures plan { IfOk result (λ calls. IsFresh fails.now calls.plan) }
+        ensures stop { IfOk result (λ calls. stop_of calls ≡ Unarmed) }
+        ensures steps { IfOk result (λ calls. calls.steps.count ≡ 0) }
+        ensures faults { IfOk result (λ calls. calls.faults.count ≡ 0) }
+    {
+        Ok(MemCalls {
+            plan: Plan::new(alloc, fails)?,
+            stop: StopState::Unarmed,
+            steps: Tally::new(),
+            faults: Tally::new(),
+        })
+    }
+
+    pub(crate) fn stopped(&self) -> bool
+        ensures { IsTrue result ↔ IsStopped (stop_of self.now) }
+    {
+        matches!(self.stop, StopState::Stopped { .. })
+    }
+
+    pub(crate) fn arm(&mut self, calls: u32, fill: Fill)
+        ensures stop { stop_of self.new ≡ Armed calls fill }
+        ensures plan { self.new.plan ≡ self.old.plan }
+        ensures tallies { KeepsTallies self.old self.new }
+    {
+        self.stop = StopState::Armed { calls, fill };
+    }
+
+    /// Ends the stop, and says what it left: `Fill::Old` where there was none.
+    pub(crate) fn disarm(&mut self) -> Fill
+        ensures fill { result ≡ fill_left (stop_of self.old) }
+        ensures stop { stop_of self.new ≡ Unarmed }
+        ensures plan { self.new.plan ≡ self.old.plan }
+        ensures tallies { KeepsTallies self.old self.new }
+    {
+        let fill = match self.stop {
+            StopState::Stopped { fill } => fill,
+            StopState::Unarmed | StopState::Armed { .. } => Fill::Old,
+        };
+        self.stop = StopState::Unarmed;
+        fill
+    }
+
+    /// One more fault.
+    pub(crate) fn fail(&mut self)
+        ensures faults { self.new.faults.count ≡ self.old.faults.count + 1 }
+        ensures steps { self.new.steps.count ≡ self.old.steps.count }
+        ensures stop { stop_of self.new ≡ stop_of self.old }
+        ensures plan { self.new.plan ≡ self.old.plan }
+    {
+        self.faults = self.faults.next();
+    }
+
+    /// Begins a call that changes no file, and says whether it fails.
+    pub(crate) fn begin(&mut self) -> bool
+        ensures fails { result ≡ fails_now self.old }
+        ensures cause { HasCause self.old.faults.count self.new.faults.count (IsTrue result) }
+        ensures steps { self.new.steps.count ≡ self.old.steps.count }
+        ensures stop { stop_of self.new ≡ stop_of self.old }
+        ensures plan { self.new.plan ≡ after_call self.old.plan }
+    {
+        let planned = self.plan.next_fails();
+        let fails = planned || self.stopped();
+        if fails {
+            self.fail();
+        }
+        fails
+    }
+
+    /// Begins a call that changes a file, and says whether it passes.
+    pub(crate) fn begin_change(&mut self) -> Passage
+        ensures passage { result ≡ passage_of self.old }
+        ensures cause { HasCause self.old.faults.count self.new.faults.count (result ≢ Passage.Passes) }
+        ensures steps { self.new.steps.count ≡ self.old.steps.count + 1 }
+        ensures stop { stop_of self.new ≡ after_change (stop_of self.old) }
+        ensures plan { self.new.plan ≡ after_call self.old.plan }
+    {
+        self.steps = self.steps.next();
+        let planned = self.plan.next_fails();
+        let passage = match self.stop {
+            StopState::Stopped { .. } => Passage::Fails,
+            StopState::Armed { calls: 0, fill } => {
+                self.stop = StopState::Stopped { fill };
+                Passage::Stops
+            }
+            StopState::Armed { calls, fill } => {
+                self.stop = StopState::Armed {
+                    calls: calls - 1,
+                    fill,
+                };
+                unless_planned(planned)
+            }
+            StopState::Unarmed => unless_planned(planned),
+        };
+        if passage != Passage::Passes {
+            self.fail();
+        }
+        passage
+    }
+}
+
+/// A call passes, unless it is to fail by its number.
+fn unless_planned(planned: bool) -> Passage
+    ensures { result ≡ unless planned }
+{
+    if planned {
+        Passage::Fails
+    } else {
+        Passage::Passes
+    }
+}

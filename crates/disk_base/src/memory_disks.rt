@@ -1,0 +1,328 @@
+//! A disk in memory, whose calls fail by their numbers, and which can be told to stop.
+ghost use Rattle.std.specs.Prelude.{◌≡◌, ◌+◌, ◌<◌, ◌≤◌, ℕ, List, Some, Option, IfOk, IfSome, IsTrue, OnOk, OnErr, length, take, drop, ◌↔◌};
+ghost use Rattle.disk_base.specs.Files.{no_files, file_of, with_file, laid, OnDone, OnKnown, KeepsRoom, IsStopped};
+ghost use Rattle.disk_base.specs.Files.Stop.{Unarmed, Armed};
+ghost use Rattle.disk_base.specs.Count.{HasCause};
+
+use crate::memory_calls::{MemCalls, Passage};
+use crate::memory_files::MemFile;
+use crate::{Disk, DiskEnd, FileNo, Fill, LenEnd, RoomEnd, StopDisk};
+use std::alloc::Global;
+use ubik_types::NoMemory;
+
+/// The three files of a disk in memory.
+#[derive(Drop)]
+pub(crate) struct MemFiles {
+    database: MemFile,
+    log: MemFile,
+    incoming: MemFile,
+}
+
+impl MemFiles {
+    ghost use Rattle.disk_base.specs.MemDisk.{file_at, now_in, synced_in, room_in, IsLeftOf};
+
+    /// Three empty files.
+    fn new(alloc: Global) -> MemFiles
+        ensures now { now_in result ≡ no_files }
+        ensures synced { synced_in result ≡ no_files }
+    {
+        MemFiles {
+            database: MemFile::new(alloc),
+            log: MemFile::new(alloc),
+            incoming: MemFile::new(alloc),
+        }
+    }
+
+    fn file(&self, f: FileNo) -> &MemFile
+        ensures { result.now ≡ file_at self.now f }
+    {
+        match f {
+            FileNo::Database => &self.database,
+            FileNo::Log => &self.log,
+            FileNo::Incoming => &self.incoming,
+        }
+    }
+
+    fn reserve(&mut self, f: FileNo, len: u64) -> Result<(), NoMemory>
+        ensures reserved { OnOk result (len ≤ room_in self.new f) }
+        ensures now { now_in self.new ≡ now_in self.old }
+        ensures synced { synced_in self.new ≡ synced_in self.old }
+        ensures room { KeepsRoom (room_in self.old) (room_in self.new) }
+    {
+        match f {
+            FileNo::Database => self.database.reserve(len),
+            FileNo::Log => self.log.reserve(len),
+            FileNo::Incoming => self.incoming.reserve(len),
+        }
+    }
+
+    fn write_at(&mut self, f: FileNo, at: u64, bytes: &[u8]) -> Result<(), NoMemory>
+        requires { at ≤ length (file_of (now_in self.old) f) }
+        ensures ok { OnOk result (now_in self.new
+            ≡ with_file (now_in self.old) f (laid (file_of (now_in self.old) f) at bytes.now)) }
+        ensures err { OnErr result (now_in self.new ≡ now_in self.old) }
+        ensures synced { synced_in self.new ≡ synced_in self.old }
+        ensures room { KeepsRoom (room_in self.old) (room_in self.new) }
+    {
+        match f {
+            FileNo::Database => self.database.write_at(at, bytes),
+            FileNo::Log => self.log.write_at(at, bytes),
+            FileNo::Incoming => self.incoming.write_at(at, bytes),
+        }
+    }
+
+    fn cut(&mut self, f: FileNo, len: u64) -> Result<(), NoMemory>
+        ensures ok { OnOk result (now_in self.new
+            ≡ with_file (now_in self.old) f (take len (file_of (now_in self.old) f))) }
+        ensures err { OnErr result (now_in self.new ≡ now_in self.old) }
+        ensures synced { synced_in self.new ≡ synced_in self.old }
+        ensures room { KeepsRoom (room_in self.old) (room_in self.new) }
+    {
+        match f {
+            FileNo::Database => self.database.cut(len),
+            FileNo::Log => self.log.cut(len),
+            FileNo::Incoming => self.incoming.cut(len),
+        }
+    }
+
+    fn sync(&mut self, f: FileNo)
+        ensures now { now_in self.new ≡ now_in self.old }
+        ensures synced { synced_in self.new
+            ≡ with_file (synced_in self.old) f (file_of (now_in self.old) f) }
+        ensures room { KeepsRoom (room_in self.old) (room_in self.new) }
+    {
+        match f {
+            FileNo::Database => self.database.sync(),
+            FileNo::Log => self.log.sync(),
+            FileNo::Incoming => self.incoming.sync(),
+        }
+    }
+
+    fn revive(&mut self, fill: Fill)
+        ensures left { IsLeftOf fill self.old (now_in self.new) }
+        ensures synced { synced_in self.new ≡ now_in self.new }
+        ensures room { KeepsRoom (room_in self.old) (room_in self.new) }
+    {
+        self.database.revive(fill);
+        self.log.revive(fill);
+        self.incoming.revive(fill);
+    }
+}
+
+/// A disk whose files lie in memory, and are lost with it.
+#[derive(Drop)]
+pub struct MemDisk {
+    files: MemFiles,
+    calls: MemCalls,
+}
+
+impl MemDisk {
+    ghost use Rattle.disk_base.specs.Plan.{IsFresh};
+    ghost use Rattle.disk_base.specs.MemDisk.{now_of, last_synced, disk_stop, disk_plan, disk_steps, disk_faults};
+
+    /// A disk of three empty files, unarmed. Its call number k fails where k is in `fails`; calls of `len`, `read`,
+    /// `write_at`, `cut` and `sync` are counted, from 1. A call that fails by its number changes no file.
+    pub fn new(alloc: Global, fails: &[u64]) -> Result<MemDisk, NoMemory>
+        ensures files { IfOk result (λ disk. now_of disk ≡ no_files) }
+        ensures synced { IfOk result (λ disk. last_synced disk ≡ no_files) }
+        ensures fails { IfOk result (λ disk. IsFresh fails.now (disk_plan disk)) }
+        ensures stop { IfOk result (λ disk. disk_stop disk ≡ Unarmed) }
+        ensures steps { IfOk result (λ disk. disk_steps disk ≡ 0) }
+        ensures faults { IfOk result (λ disk. disk_faults disk ≡ 0) }
+    {
+        Ok(MemDisk {
+            files: MemFiles::new(alloc),
+            calls: MemCalls::new(alloc, fails)?,
+        })
+    }
+
+    /// Ends a changing call that passed, and failed only for want of memory.
+    fn end(&mut self, done: Result<(), NoMemory>) -> DiskEnd
+        ensures ok { OnOk done (result ≡ DiskEnd.Done) }
+        ensures err { OnErr done (result ≡ DiskEnd.Failed) }
+        ensures cause { HasCause (disk_faults self.old) (disk_faults self.new) (result ≡ DiskEnd.Failed) }
+        ensures files { self.new.files ≡ self.old.files }
+        ensures steps { disk_steps self.new ≡ disk_steps self.old }
+        ensures stop { disk_stop self.new ≡ disk_stop self.old }
+        ensures plan { disk_plan self.new ≡ disk_plan self.old }
+    {
+        match done {
+            Ok(()) => DiskEnd::Done,
+            Err(NoMemory) => {
+                self.calls.fail();
+                DiskEnd::Failed
+            }
+        }
+    }
+}
+
+impl Disk for MemDisk {
+    ghost use Rattle.disk_base.specs.Plan.{after_call};
+    ghost use Rattle.disk_base.specs.MemCalls.{after_change};
+    ghost use Rattle.disk_base.specs.MemDisk.{now_of, last_synced, disk_room, disk_stop, disk_plan, disk_steps, disk_faults};
+    ghost use Rattle.disk_base.specs.MemDisk.{disk_fails, disk_passage, done_unless, known_unless, end_of, FailsUnlessPassed, FailedWrite};
+
+    ghost files = { λ disk. Some (now_of disk) };
+
+    ghost room = { disk_room };
+
+    ghost steps = { disk_steps };
+
+    ghost faults = { disk_faults };
+
+    fn len(&mut self, f: FileNo) -> LenEnd
+        ensures length { OnKnown result (λ n. n ≡ length (file_of (now_of self.old) f)) }
+        ensures files { OnKnown result (λ _. Some (now_of self.new) ≡ Some (now_of self.old)) }
+        ensures room { KeepsRoom (disk_room self.old) (disk_room self.new) }
+        ensures steps { disk_steps self.new ≡ disk_steps self.old }
+        ensures cause { HasCause (disk_faults self.old) (disk_faults self.new) (result ≡ LenEnd.Failed) }
+        ensures exact { result ≡ known_unless (disk_fails self.old) (length (file_of (now_of self.old) f)) }
+        ensures unchanged { now_of self.new ≡ now_of self.old }
+        ensures synced { last_synced self.new ≡ last_synced self.old }
+        ensures stop { disk_stop self.new ≡ disk_stop self.old }
+        ensures counted { disk_plan self.new ≡ after_call (disk_plan self.old) }
+    {
+        if self.calls.begin() {
+            return LenEnd::Failed;
+        }
+        LenEnd::Known(self.files.file(f).len())
+    }
+
+    fn reserve(&mut self, f: FileNo, len: u64) -> RoomEnd
+        ensures reserved { result ≡ RoomEnd.Done → len ≤ disk_room self.new f }
+        ensures files { Some (now_of self.new) ≡ Some (now_of self.old) }
+        ensures room { KeepsRoom (disk_room self.old) (disk_room self.new) }
+        ensures steps { disk_steps self.new ≡ disk_steps self.old }
+        ensures faults { disk_faults self.new ≡ disk_faults self.old }
+        ensures synced { last_synced self.new ≡ last_synced self.old }
+        ensures stop { disk_stop self.new ≡ disk_stop self.old }
+        ensures counted { disk_plan self.new ≡ disk_plan self.old }
+    {
+        match self.files.reserve(f, len) {
+            Ok(()) => RoomEnd::Done,
+            Err(NoMemory) => RoomEnd::NoMemory,
+        }
+    }
+
+    fn read(&mut self, f: FileNo, at: u64, buf: &mut [u8]) -> DiskEnd
+        requires { at + length buf.old ≤ length (file_of (now_of self.old) f) }
+        ensures bytes { OnDone result
+            (buf.new ≡ take (length buf.old) (drop at (file_of (now_of self.old) f))) }
+        ensures files { OnDone result (Some (now_of self.new) ≡ Some (now_of self.old)) }
+        ensures room { KeepsRoom (disk_room self.old) (disk_room self.new) }
+        ensures steps { disk_steps self.new ≡ disk_steps self.old }
+        ensures cause { HasCause (disk_faults self.old) (disk_faults self.new) (result ≡ DiskEnd.Failed) }
+        ensures exact { result ≡ done_unless (disk_fails self.old) }
+        ensures unchanged { now_of self.new ≡ now_of self.old }
+        ensures synced { last_synced self.new ≡ last_synced self.old }
+        ensures stop { disk_stop self.new ≡ disk_stop self.old }
+        ensures counted { disk_plan self.new ≡ after_call (disk_plan self.old) }
+    {
+        if self.calls.begin() {
+            return DiskEnd::Failed;
+        }
+        self.files.file(f).read(at, buf);
+        DiskEnd::Done
+    }
+
+    fn write_at(&mut self, f: FileNo, at: u64, bytes: &[u8]) -> DiskEnd
+        requires begins { at ≤ length (file_of (now_of self.old) f) }
+        requires fits { at + length bytes.now ≤ disk_room self.old f }
+        ensures written { OnDone result (Some (now_of self.new)
+            ≡ Some (with_file (now_of self.old) f (laid (file_of (now_of self.old) f) at bytes.now))) }
+        ensures room { KeepsRoom (disk_room self.old) (disk_room self.new) }
+        ensures steps { disk_steps self.new ≡ disk_steps self.old + 1 }
+        ensures cause { HasCause (disk_faults self.old) (disk_faults self.new) (result ≡ DiskEnd.Failed) }
+        ensures fails { FailsUnlessPassed (disk_passage self.old) result }
+        ensures failed { FailedWrite (disk_passage self.old) result (now_of self.old) (now_of self.new)
+            (with_file (now_of self.old) f (laid (file_of (now_of self.old) f) at bytes.now)) }
+        ensures synced { last_synced self.new ≡ last_synced self.old }
+        ensures stop { disk_stop self.new ≡ after_change (disk_stop self.old) }
+        ensures counted { disk_plan self.new ≡ after_call (disk_plan self.old) }
+    {
+        let passage = self.calls.begin_change();
+        if passage == Passage::Fails {
+            return DiskEnd::Failed;
+        }
+        let written = self.files.write_at(f, at, bytes);
+        if passage == Passage::Stops {
+            return DiskEnd::Failed;
+        }
+        self.end(written)
+    }
+
+    fn cut(&mut self, f: FileNo, len: u64) -> DiskEnd
+        requires { len ≤ length (file_of (now_of self.old) f) }
+        ensures cut { OnDone result (Some (now_of self.new)
+            ≡ Some (with_file (now_of self.old) f (take len (file_of (now_of self.old) f)))) }
+        ensures room { KeepsRoom (disk_room self.old) (disk_room self.new) }
+        ensures steps { disk_steps self.new ≡ disk_steps self.old + 1 }
+        ensures cause { HasCause (disk_faults self.old) (disk_faults self.new) (result ≡ DiskEnd.Failed) }
+        ensures fails { FailsUnlessPassed (disk_passage self.old) result }
+        ensures failed { result ≡ DiskEnd.Failed → now_of self.new ≡ now_of self.old }
+        ensures synced { last_synced self.new ≡ last_synced self.old }
+        ensures stop { disk_stop self.new ≡ after_change (disk_stop self.old) }
+        ensures counted { disk_plan self.new ≡ after_call (disk_plan self.old) }
+    {
+        if self.calls.begin_change() != Passage::Passes {
+            return DiskEnd::Failed;
+        }
+        let cut = self.files.cut(f, len);
+        self.end(cut)
+    }
+
+    fn sync(&mut self, f: FileNo) -> DiskEnd
+        ensures files { OnDone result (Some (now_of self.new) ≡ Some (now_of self.old)) }
+        ensures room { KeepsRoom (disk_room self.old) (disk_room self.new) }
+        ensures steps { disk_steps self.new ≡ disk_steps self.old + 1 }
+        ensures cause { HasCause (disk_faults self.old) (disk_faults self.new) (result ≡ DiskEnd.Failed) }
+        ensures exact { result ≡ end_of (disk_passage self.old) }
+        ensures unchanged { now_of self.new ≡ now_of self.old }
+        ensures synced { OnDone result (last_synced self.new
+            ≡ with_file (last_synced self.old) f (file_of (now_of self.old) f)) }
+        ensures failed { result ≡ DiskEnd.Failed → last_synced self.new ≡ last_synced self.old }
+        ensures stop { disk_stop self.new ≡ after_change (disk_stop self.old) }
+        ensures counted { disk_plan self.new ≡ after_call (disk_plan self.old) }
+    {
+        if self.calls.begin_change() != Passage::Passes {
+            return DiskEnd::Failed;
+        }
+        self.files.sync(f);
+        DiskEnd::Done
+    }
+}
+
+impl StopDisk for MemDisk {
+    ghost use Rattle.disk_base.specs.MemCalls.{fill_left};
+    ghost use Rattle.disk_base.specs.MemDisk.{now_of, last_synced, disk_room, disk_stop, disk_plan, disk_steps, disk_faults, IsLeftBy};
+
+    ghost stop = { disk_stop };
+
+    fn arm(&mut self, calls: u32, fill: Fill)
+        ensures armed { disk_stop self.new ≡ Armed calls fill }
+        ensures files { Some (now_of self.new) ≡ Some (now_of self.old) }
+        ensures room { KeepsRoom (disk_room self.old) (disk_room self.new) }
+        ensures steps { disk_steps self.new ≡ disk_steps self.old }
+        ensures faults { disk_faults self.new ≡ disk_faults self.old }
+        ensures synced { last_synced self.new ≡ last_synced self.old }
+        ensures counted { disk_plan self.new ≡ disk_plan self.old }
+    {
+        self.calls.arm(calls, fill);
+    }
+
+    fn stopped(&self) -> bool {
+        self.calls.stopped()
+    }
+
+    fn revive(&mut self)
+        ensures unarmed { disk_stop self.new ≡ Unarmed }
+        ensures steps { disk_steps self.new ≡ disk_steps self.old }
+        ensures faults { disk_faults self.new ≡ disk_faults self.old }
+        ensures left { IsLeftBy (fill_left (disk_stop self.old)) self.old (now_of self.new) }
+        ensures synced { last_synced self.new ≡ now_of self.new }
+        ensures counted { disk_plan self.new ≡ disk_plan self.old }
+    {
+        let fill = self.calls.disarm();
+        self.files.revive(fill);
+    }
+}
