@@ -1,0 +1,123 @@
+//! Reading a text line by line.
+ghost use Rattle.std.specs.Prelude.{◌≡◌, ◌+◌, ◌<◌, ◌≤◌, ℕ, List, [], length, IfSome, IfOk, vec_len, vec_capacity};
+ghost use Rattle.disk_base.specs.Count.{HasCause};
+ghost use Rattle.cell_script.specs.Lines.{ReadsLine};
+ghost use Rattle.cell_script.specs.LineSteps.{TakesByte, Extends};
+
+use disk_base::{Got, Source};
+use std::alloc::Global;
+use std::marker::Model;
+use ubik_types::NoMemory;
+
+/// The most bytes of a line, without the LF that ends it.
+pub const MAX_LINE: usize = 1024;
+
+/// The byte that ends a line.
+const LF: u8 = b'\n';
+
+/// How the reading of a line ended.
+#[derive(Clone, Copy, Debug, PartialEq, Eq)]
+pub enum LineEnd {
+    /// A line was read.
+    Line,
+    /// The line has more than [`MAX_LINE`] bytes. One byte past these was read; the rest of the line is left.
+    TooLong,
+    /// Nothing was left.
+    End,
+    /// The source failed. What was read of the line is lost.
+    Failed,
+}
+
+/// Reads the lines of a source, one at a time. It takes all its memory when it is made, and holds one line
+/// at most. Contracts see the line that was read last.
+#[derive(Drop)]
+pub struct LineReader {
+    line: Vec<u8>,
+}
+
+impl Model for LineReader {
+    ghost use Rattle.std.specs.Prelude.{ℕ, List, length, ◌≤◌, vec_capacity};
+
+    ghost Value = { List ℕ };
+
+    ghost view = { λ r. r.line.items };
+
+    ghost invariant = { λ r. (1024 ≤ vec_capacity r.line) × (length r.line.items ≤ 1024) };
+}
+
+impl LineReader {
+    /// A reader with room for one line, which holds the empty line. The error is want of memory.
+    pub fn new(alloc: Global) -> Result<LineReader, NoMemory>
+        ensures { IfOk result (λ r. r ≡ []) }
+    {
+        let line = Vec::with_capacity(alloc, MAX_LINE)?;
+        Ok(LineReader { line })
+    }
+
+    /// The line that was read last, without its LF. It says nothing after an end other than
+    /// [`LineEnd::Line`].
+    pub fn line(&self) -> &[u8]
+        ensures line { result.now ≡ self.now }
+        ensures short { length result.now ≤ 1024 }
+    {
+        self.line.as_slice()
+    }
+
+    /// Reads the next line, without its LF. It reads a byte at a time, since the source is the buffer.
+    pub fn next_line<S: Source>(&mut self, source: &mut S) -> LineEnd
+        ensures told { IfSome (S.left source.old) (λ text. ReadsLine result text (S.left source.new) self.new) }
+        ensures cause { HasCause (S.faults source.old) (S.faults source.new) (result ≡ LineEnd.Failed) }
+    {
+        self.line.clear();
+        loop {
+            match extend_line(&mut self.line, source) {
+                None => {}
+                Some(end) => return end,
+            }
+        }
+    }
+}
+
+/// What stands next in a source.
+enum Next {
+    Byte(u8),
+    End,
+    Failed,
+}
+
+/// Takes one byte from a source.
+fn next_byte<S: Source>(source: &mut S) -> Next
+    ensures told { IfSome (S.left source.old) (λ text. TakesByte result text (S.left source.new)) }
+    ensures cause { HasCause (S.faults source.old) (S.faults source.new) (result ≡ Next.Failed) }
+{
+    let mut buf = [0u8; 1];
+    match source.read(&mut buf) {
+        Got::Bytes(_) => Next::Byte(buf[0]),
+        Got::End => Next::End,
+        Got::Failed => Next::Failed,
+    }
+}
+
+/// Reads one byte of a line. It says how the line ended, or nothing where the byte was added to it.
+fn extend_line<S: Source>(line: &mut Vec<u8>, source: &mut S) -> Option<LineEnd>
+    requires room { 1024 ≤ vec_capacity line.old }
+    requires short { length line.old.items ≤ 1024 }
+    ensures told { IfSome (S.left source.old)
+        (λ text. Extends result text (S.left source.new) line.old.items line.new.items) }
+    ensures room { 1024 ≤ vec_capacity line.new }
+    ensures short { length line.new.items ≤ 1024 }
+    ensures longer { result ≡ None → length line.new.items ≡ length line.old.items + 1 }
+    ensures cause { HasCause (S.faults source.old) (S.faults source.new) (result ≡ Some LineEnd.Failed) }
+{
+    match next_byte(source) {
+        Next::Byte(LF) => Some(LineEnd::Line),
+        Next::Byte(_) if line.len() == MAX_LINE => Some(LineEnd::TooLong),
+        Next::Byte(byte) => {
+            line.push(byte).unwrap();
+            None
+        }
+        Next::End if line.is_empty() => Some(LineEnd::End),
+        Next::End => Some(LineEnd::Line),
+        Next::Failed => Some(LineEnd::Failed),
+    }
+}
