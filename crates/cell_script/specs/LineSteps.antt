@@ -1,5 +1,6 @@
 -- The reading of a line, byte by byte.
 use Rattle.std.specs.Prelude.{◌≡◌, ◌≢◌, ◌<◌, ◌≤◌, ℕ, List, [], ◌∷◌, ◌++◌, length, Option, Some, None, ◌⊎◌}
+use Rattle.cell_script.specs.Lines.{HasNoLf}
 use Rattle.cell_script.specs.declared.readers.LineEnd.{LineEnd}
 use Rattle.cell_script.specs.declared.readers.LineEnd.TheVariants.{Line, TooLong, End, Failed}
 use Rattle.cell_script.specs.declared.readers.Next.{Next}
@@ -42,3 +43,10 @@ Extends (Some Line) text after old new = (new ≡ old) × EndsLine text after ol
 Extends (Some TooLong) text after old new = Overflows text after old
 Extends (Some End) text after old new = (old ≡ []) × (new ≡ []) × (text ≡ []) × (after ≡ Some [])
 Extends (Some Failed) text after old new = after ≡ Some text
+
+-- a part of a line was read from a text
+pub record HasRead (text : List ℕ) (after : Option (List ℕ)) (line : List ℕ) : Type 0 where
+  pub rest : List ℕ
+  pub no_lf : HasNoLf line
+  pub read : text ≡ line ++ rest
+  pub left : after ≡ Some rest
