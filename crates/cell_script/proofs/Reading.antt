@@ -4,7 +4,7 @@ use Rattle.std.proofs.lemmas.List.Elements.{All-push}
 use Rattle.std.proofs.lemmas.List.{length_push}
 use Rattle.cell_script.specs.declared.readers.LineEnd.{LineEnd}
 use Rattle.cell_script.specs.declared.readers.LineEnd.TheVariants.{Line, TooLong, End, Failed}
-use Rattle.cell_script.specs.Lines.{HasNoLf, ReadsLine, IsFirstLine}
+use Rattle.cell_script.specs.Lines.{HasNoLf, ReadsLine, TakesPart}
 use Rattle.cell_script.specs.LineSteps.{EndsLine, Extends, HasRead}
 
 -- the line stands first in the text where it ends
@@ -25,18 +25,18 @@ ends_at TooLong text rest after old new no_lf read short e =
     let long : length (old ++ e.byte ∷ []) ≡ 1025 = omega (arith, length_push old e.byte, e.full) in
     let joined : (old ++ e.byte ∷ []) ++ e.taken.rest ≡ old ++ e.byte ∷ e.taken.rest = append_assoc old (e.byte ∷ []) e.taken.rest in
     let taken : rest ≡ e.byte ∷ e.taken.rest = e.taken.read in
-    record {
+    let grown : TakesPart text after = record {
         part = old ++ e.byte ∷ [];
         rest = e.taken.rest;
         no_lf = All-push (λ b. b ≢ 10) old e.byte no_lf e.no_lf;
-        long = long;
         read = cc;
         left = e.taken.left
-    }
+    } in
+    (grown, long)
 ends_at End text rest after old new no_lf read short e =
     let none : text ≡ [] = rw (read, e.0, e.2) refl in (none, e.3)
 ends_at Failed text rest after old new no_lf read short e =
-    record { part = old; rest = rest; no_lf = no_lf; long = short; read = read; left = e }
+    (record { part = old; rest = rest; no_lf = no_lf; read = read; left = e }, short)
 
 -- the end of a line, from what was read of it
 pub ReadsLine_ends : (first middle after : Option (List ℕ)) (end : LineEnd) (old new : List ℕ) →

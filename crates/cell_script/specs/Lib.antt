@@ -1,4 +1,7 @@
 pub mod Lines
 pub mod LineLaws
 pub mod LineSteps
+pub mod Meaning
+pub mod Numbers
+pub mod Words
 pub mod Write

@@ -20,12 +20,11 @@ pub record TakesLine (text : List ℕ) (after : Option (List ℕ)) (line : List 
   pub read : IsFirstLine text line rest
   pub left : after ≡ Some rest
 
--- a part of a line was read, which holds for its length
-pub record TakesPart (text : List ℕ) (after : Option (List ℕ)) (HasLength : ℕ → Type 0) : Type 0 where
+-- a part of a line was read
+pub record TakesPart (text : List ℕ) (after : Option (List ℕ)) : Type 0 where
   pub part : List ℕ
   pub rest : List ℕ
   pub no_lf : HasNoLf part
-  pub long : HasLength (length part)
   pub read : text ≡ part ++ rest
   pub left : after ≡ Some rest
 
@@ -33,9 +32,9 @@ pub record TakesPart (text : List ℕ) (after : Option (List ℕ)) (HasLength : 
 -- empty text, or at most 1024 bytes of a line
 abbrev pub ReadsLine : LineEnd → List ℕ → Option (List ℕ) → List ℕ → Type 0
 ReadsLine Line text after line = TakesLine text after line
-ReadsLine TooLong text after line = TakesPart text after (λ n. n ≡ 1025)
+ReadsLine TooLong text after line = (taken : TakesPart text after) × (length taken.part ≡ 1025)
 ReadsLine End text after line = (text ≡ []) × (after ≡ Some [])
-ReadsLine Failed text after line = TakesPart text after (λ n. n ≤ 1024)
+ReadsLine Failed text after line = (taken : TakesPart text after) × (length taken.part ≤ 1024)
 
 -- the lines of a text; the last may lack its LF
 abbrev pub lines_of : List ℕ → List (List ℕ)

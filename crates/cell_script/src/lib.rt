@@ -2,9 +2,15 @@
 #![tactic(auto)]
 
 mod laws;
+mod lines;
+mod numbers;
 mod readers;
+mod splits;
 mod writers;
 
 pub use laws::{text_has_its_lines, text_has_its_whole_lines};
+pub use lines::{Line, line_meaning};
+pub use numbers::{number, number_within};
 pub use readers::{LineEnd, LineReader, MAX_LINE};
+pub use splits::{Words, split_words};
 pub use writers::{WriteFault, write_whole};
