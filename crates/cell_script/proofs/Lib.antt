@@ -1,2 +1,3 @@
+pub mod NumberReading
 pub mod Reading
 pub mod Writing
