@@ -35,8 +35,8 @@ digit_below b digit = grind (arith, nat_tests)
 IsUtf8-numeral : (digits : List ℕ) → is_numeral digits ≡ true → IsUtf8 digits
 IsUtf8-numeral digits numeral =
     IsUtf8-from_ascii digits (IsAscii-from_all digits
-        (All-weaker (λ b. is_ascii_digit b ≡ true) (λ b. b < 128) digit_below digits
-            (AllPass-from_list_all is_ascii_digit digits (only_digits digits numeral))))
+    (All-weaker (λ b. is_ascii_digit b ≡ true) (λ b. b < 128) digit_below digits
+    (AllPass-from_list_all is_ascii_digit digits (only_digits digits numeral))))
 
 -- the text of a numeral is not refused
 pub numeral_is_text : {T E : Type 0} (P : T → Type 0) (Q : E → Type 0) (r : Result T E) (digits : List ℕ) →
@@ -58,7 +58,7 @@ pub value_of-parse : {E : Type 0} (r : Result ℕ E) (text digits : List ℕ) �
 value_of-parse r text digits same numeral parses =
     let own : ParsesUnsigned 64 10 digits r = rw same at parses in
     value_by r digits (some_digit digits numeral)
-        (parse_digits digits_model 64 digits r own (only_digits digits numeral))
+    (parse_digits digits_model 64 digits r own (only_digits digits numeral))
 
 -- the text of bytes has these bytes
 pub text_is : {E : Type 0} (U : Type 0) (Q : E → Type 0) (r : Result (Bor (List ℕ)) E) (text : Bor (List ℕ)) (digits : List ℕ) →

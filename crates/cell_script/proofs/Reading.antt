@@ -26,11 +26,11 @@ ends_at TooLong text rest after old new no_lf read short e =
     let joined : (old ++ e.byte ∷ []) ++ e.taken.rest ≡ old ++ e.byte ∷ e.taken.rest = append_assoc old (e.byte ∷ []) e.taken.rest in
     let taken : rest ≡ e.byte ∷ e.taken.rest = e.taken.read in
     let grown : TakesPart text after = record {
-        part = old ++ e.byte ∷ [];
-        rest = e.taken.rest;
-        no_lf = All-push (λ b. b ≢ 10) old e.byte no_lf e.no_lf;
-        read = cc;
-        left = e.taken.left
+      part = old ++ e.byte ∷ [];
+      rest = e.taken.rest;
+      no_lf = All-push (λ b. b ≢ 10) old e.byte no_lf e.no_lf;
+      read = cc;
+      left = e.taken.left;
     } in
     (grown, long)
 ends_at End text rest after old new no_lf read short e =
@@ -46,5 +46,5 @@ pub ReadsLine_ends : (first middle after : Option (List ℕ)) (end : LineEnd) (o
 ReadsLine_ends None middle after end old new part short e = tt
 ReadsLine_ends (Some text) middle after end old new part short e =
     let last : Extends (Some end) part.rest after old new =
-        subst (λ (m : Option (List ℕ)). IfSome m (λ text. Extends (Some end) text after old new)) part.left e in
+    subst (λ (m : Option (List ℕ)). IfSome m (λ text. Extends (Some end) text after old new)) part.left e in
     ends_at end text part.rest after old new part.no_lf part.read short last

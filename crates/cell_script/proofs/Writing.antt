@@ -11,8 +11,8 @@ pub appended_more : (first middle after : Option (List ℕ)) (bytes piece : List
 appended_more None middle after bytes piece done count so_far at wrote = tt
 appended_more (Some before) middle after bytes piece done count so_far at wrote =
     let told : after ≡ Some ((before ++ take done bytes) ++ take count piece) =
-        subst (λ (m : Option (List ℕ)). IfSome m (λ written. after ≡ Some (written ++ take count piece))) so_far wrote.told in
+    subst (λ (m : Option (List ℕ)). IfSome m (λ written. after ≡ Some (written ++ take count piece))) so_far wrote.told in
     let joined : take (done + count) bytes ≡ take done bytes ++ take count (drop done bytes) = take-add done count bytes in
     let apart : (before ++ take done bytes) ++ take count piece ≡ before ++ (take done bytes ++ take count piece) =
-        append_assoc before (take done bytes) (take count piece) in
+    append_assoc before (take done bytes) (take count piece) in
     cc

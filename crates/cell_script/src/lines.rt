@@ -2,12 +2,11 @@
 ghost use Rattle.std.specs.Prelude.{◌≡◌, IfOk};
 ghost use Rattle.cell_script.specs.Meaning.{first_word_of, server_of, cell_line, tick_all_line, only_server, ask_line, line_of_words, is_idle, line_of};
 
-use std::alloc::Global;
-use ubik_types::{Bytes, NoMemory};
-
 use crate::numbers::number_within;
 use crate::readers::MAX_LINE;
 use crate::splits::{Words, split_words};
+use std::alloc::Global;
+use ubik_types::{Bytes, NoMemory};
 
 /// A line of a script, as far as this stage builds them. Servers are numbered from 1.
 #[derive(Drop)]

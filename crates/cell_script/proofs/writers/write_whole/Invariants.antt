@@ -6,7 +6,7 @@ invariant-loop-done g l = record {
   within : l.done ≤ length l.bytes;
   told : IfSome (g.K.Sink.written l.fn.out) (λ before. g.K.Sink.written l.out ≡ Some (before ++ take l.done l.bytes));
   empty : l.bytes ≡ [] → l.out ≡ l.fn.out;
-  faults : g.K.Sink.faults l.fn.out ≤ g.K.Sink.faults l.out
+  faults : g.K.Sink.faults l.fn.out ≤ g.K.Sink.faults l.out;
 }
 
 abbrev pub decreases-loop-done : goal.decreases-loop-done
