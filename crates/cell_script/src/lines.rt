@@ -150,3 +150,47 @@ fn server_number(word: &[u8]) -> Option<u32>
 {
     number_within(word, 1, 20)
 }
+
+#[cfg(test)]
+mod tests {
+    use super::*;
+    use std::test::Fail;
+
+    /// A line without its words: what it does, its number, and how many words a call has.
+    fn outline(line: &Line) -> (&'static str, u32, usize) {
+        match line {
+            Line::Nothing => ("nothing", 0, 0),
+            Line::Cell { clock } => ("cell", *clock, 0),
+            Line::TickAll { seconds } => ("tickall", *seconds, 0),
+            Line::Beacon { server } => ("beacon", *server, 0),
+            Line::Recover { server } => ("recover", *server, 0),
+            Line::Ask { server, call } => ("ask", *server, call.as_slice().len()),
+        }
+    }
+
+    #[test]
+    fn understands_lines(rt: HostRuntime) -> Result<(), Fail> {
+        for (line, want) in [
+            ("", Some(("nothing", 0, 0))),
+            ("# cell", Some(("nothing", 0, 0))),
+            ("cell 1 1000 pt", Some(("cell", 1000, 0))),
+            ("tickall \t 76", Some(("tickall", 76, 0))),
+            ("beacon 1", Some(("beacon", 1, 0))),
+            ("recover 20", Some(("recover", 20, 0))),
+            ("ask 1 newentry smith 0 0", Some(("ask", 1, 4))),
+            ("ask 1", None),
+            ("beacon 21", None),
+            ("beacon 1 ", None),
+            (" ", None),
+            ("cell 2 1000 pt", None),
+            ("cell 1 0 pt", None),
+            ("cell 1 1000 vl", None),
+            ("tickall 50001", None),
+            ("show 1", None),
+        ] {
+            let meaning = line_meaning(rt.alloc(), line.as_bytes())?;
+            assert_eq!(rt; meaning.as_ref().map(outline), want, "at {line}");
+        }
+        Ok(())
+    }
+}

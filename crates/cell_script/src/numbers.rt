@@ -52,3 +52,27 @@ fn value(digits: &[u8]) -> Option<u64>
 {
     str::from_utf8(digits).ok()?.parse().ok()
 }
+
+#[cfg(test)]
+mod tests {
+    use super::*;
+
+    #[test]
+    fn reads_numbers(rt: HostRuntime) {
+        for (word, want) in [
+            ("0", Some(0)),
+            ("1000", Some(1000)),
+            ("18446744073709551615", Some(18_446_744_073_709_551_615)),
+            ("18446744073709551616", None),
+            ("", None),
+            ("+1", None),
+            ("-0", None),
+            ("01", None),
+            ("1x", None),
+        ] {
+            assert_eq!(rt; number(word.as_bytes()), want, "at {word}");
+        }
+        assert_eq!(rt; number_within(b"20", 1, 20), Some(20));
+        assert_eq!(rt; number_within(b"21", 1, 20), None);
+    }
+}

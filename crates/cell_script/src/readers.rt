@@ -121,3 +121,68 @@ fn extend_line<S: Source>(line: &mut Vec<u8>, source: &mut S) -> Option<LineEnd>
         Next::Failed => Some(LineEnd::Failed),
     }
 }
+
+#[cfg(test)]
+mod tests {
+    use super::*;
+    use std::test::Fail;
+
+    /// A text that is given a byte at a time, and then fails so many times.
+    #[derive(Drop)]
+    struct Text<'a> {
+        rest: &'a [u8],
+        failures: u8,
+    }
+
+    impl Source for Text<'_> {
+        ghost use Rattle.std.specs.Prelude.{◌-◌, Option, Some};
+
+        ghost left = { λ s. Some s.rest.now };
+
+        ghost faults = { λ s. 255 - s.failures };
+
+        fn read(&mut self, buf: &mut [u8]) -> Got {
+            if !self.rest.is_empty() {
+                buf[0] = self.rest[0];
+                self.rest = &self.rest[1..];
+                return Got::Bytes(1);
+            }
+            if self.failures > 0 {
+                self.failures -= 1;
+                return Got::Failed;
+            }
+            Got::End
+        }
+    }
+
+    #[test]
+    fn reads_lines(rt: HostRuntime) -> Result<(), Fail> {
+        let mut reader = LineReader::new(rt.alloc())?;
+        let mut text = Text {
+            rest: b"tickall 76\n\n#",
+            failures: 1,
+        };
+        assert_eq!(rt; reader.next_line(&mut text), LineEnd::Line);
+        assert_eq!(rt; reader.line(), b"tickall 76".as_slice());
+        assert_eq!(rt; reader.next_line(&mut text), LineEnd::Line);
+        assert_eq!(rt; reader.line(), b"".as_slice());
+        assert_eq!(rt; reader.next_line(&mut text), LineEnd::Failed);
+        assert_eq!(rt; reader.next_line(&mut text), LineEnd::End);
+        Ok(())
+    }
+
+    #[test]
+    fn reads_long_lines(rt: HostRuntime) -> Result<(), Fail> {
+        let mut reader = LineReader::new(rt.alloc())?;
+        for (len, end) in [(1024usize, LineEnd::Line), (1025, LineEnd::TooLong)] {
+            let line = vec![in rt.alloc(); b'a'; len]?;
+            let mut text = Text {
+                rest: &line,
+                failures: 0,
+            };
+            assert_eq!(rt; reader.next_line(&mut text), end, "at {len}");
+            assert_eq!(rt; reader.next_line(&mut text), LineEnd::End, "after {len}");
+        }
+        Ok(())
+    }
+}
