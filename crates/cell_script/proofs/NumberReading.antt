@@ -15,17 +15,17 @@ use Rattle.std.proofs.lemmas.Str.Parse.{IsNumeralModel, numerals_by_value, parse
 use Rattle.cell_script.specs.Numbers.{is_numeral, value_of}
 
 -- a numeral has a digit
-some_digit : (digits : List ℕ) → is_numeral digits ≡ true → 0 < length digits
+pub some_digit : (digits : List ℕ) → is_numeral digits ≡ true → 0 < length digits
 some_digit [] numeral = cc
 some_digit (digit ∷ digits) numeral = omega arith
 
 -- and only digits
-only_digits : (digits : List ℕ) → is_numeral digits ≡ true → list_all is_ascii_digit digits ≡ true
+pub only_digits : (digits : List ℕ) → is_numeral digits ≡ true → list_all is_ascii_digit digits ≡ true
 only_digits [] numeral = refl
 only_digits (digit ∷ []) numeral = and_from (is_ascii_digit digit) true numeral refl
 only_digits (first ∷ second ∷ digits) numeral = (and_parts (not (eqb first 48)) (list_all is_ascii_digit (first ∷ second ∷ digits)) numeral).1
 
-digits_model : IsNumeralModel (λ ds. list_all is_ascii_digit ds ≡ true) (digits_value 10)
+pub digits_model : IsNumeralModel (λ ds. list_all is_ascii_digit ds ≡ true) (digits_value 10)
 digits_model = numerals_by_value _ (search rules)
 
 -- a digit is an ASCII byte

@@ -3,5 +3,6 @@ pub mod LineLaws
 pub mod LineSteps
 pub mod Meaning
 pub mod Numbers
+pub mod ScriptLaws
 pub mod Words
 pub mod Write

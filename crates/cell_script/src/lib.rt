@@ -8,7 +8,9 @@ mod readers;
 mod splits;
 mod writers;
 
-pub use laws::{text_has_its_lines, text_has_its_whole_lines};
+pub use laws::{
+    decimal_text_is_its_number, line_has_its_words, text_has_its_lines, text_has_its_whole_lines,
+};
 pub use lines::{Line, line_meaning};
 pub use numbers::{number, number_within};
 pub use readers::{LineEnd, LineReader, MAX_LINE};

@@ -70,9 +70,8 @@ impl LineReader {
     {
         self.line.clear();
         loop {
-            match extend_line(&mut self.line, source) {
-                None => {}
-                Some(end) => return end,
+            if let Some(end) = extend_line(&mut self.line, source) {
+                return end;
             }
         }
     }
