@@ -1,15 +1,15 @@
 -- A number is read from its decimal text alone.
-use Rattle.std.proofs.Common.{◌≡◌, ℕ, zero, suc, ◌<◌, ◌≤◌, ◌^◌, ◌&&◌, Bool, true, false, not, eqb, ltb, cond, List, [], ◌∷◌, length, get_or, Option, Some, None, refl, ap, sym, ◌∙◌, subst, rules, arith}
+use Rattle.std.proofs.Common.{◌≡◌, ℕ, zero, suc, ◌<◌, ◌^◌, Bool, true, false, not, eqb, ltb, cond, List, [], ◌∷◌, length, get_or, Option, Some, None, refl, ap, sym, ◌∙◌, arith}
 use Rattle.std.specs.Char.{is_ascii_digit}
 use Rattle.std.specs.Fmt.{decimal}
 use Rattle.std.specs.List.{list_all}
 use Rattle.std.specs.Str.Parse.{digits_value}
-use Rattle.std.proofs.lemmas.Bool.{and_from, and_parts, cond_below, eqb-false, ne_eqb, ltb-true}
+use Rattle.std.proofs.lemmas.Bool.{and_from, and_parts, cond_below, ne_eqb, ltb-true}
 use Rattle.std.proofs.lemmas.Bool.Decides.{nat_tests}
 use Rattle.std.proofs.lemmas.Fmt.{decimal-digits_value, decimal_nonempty, digits_decimal, digits_value-decimal, first_decimal, decimal_digit}
 use Rattle.std.proofs.lemmas.Option.{cond_some}
 use Rattle.cell_script.proofs.NumberReading.{digits_model, some_digit, only_digits}
-use Rattle.cell_script.specs.Numbers.{is_numeral, value_of, number_of}
+use Rattle.cell_script.specs.Numbers.{is_numeral, value_of}
 use Rattle.cell_script.specs.ScriptLaws.{ReadsDecimals, ReadsDecimalsAlone}
 
 -- digits are a numeral where a zero stands first only alone
@@ -59,7 +59,7 @@ decimal_from_number_of word n same =
     let value = cond_some (ltb (digits_value 10 word) (2 ^ 64)) (digits_value 10 word) n numeral.1 in
     let low : digits_value 10 word < 2 ^ 64 = ltb-true (digits_value 10 word) (2 ^ 64) value.0 in
     let text : decimal (digits_value 10 word) ≡ word =
-        decimal-digits_value digits_model word (only_digits word numeral.0) (some_digit word numeral.0)
-            (zero_alone word numeral.0) low in
+    decimal-digits_value digits_model word (only_digits word numeral.0) (some_digit word numeral.0)
+    (zero_alone word numeral.0) low in
     let small : n < 2 ^ 64 = omega (arith, value.1) in
     (small, sym text ∙ ap decimal value.1)

@@ -1,5 +1,5 @@
 -- The reading of a line, byte by byte.
-use Rattle.std.specs.Prelude.{◌≡◌, ◌≢◌, ◌<◌, ◌≤◌, ℕ, List, [], ◌∷◌, ◌++◌, length, Option, Some, None, ◌⊎◌}
+use Rattle.std.specs.Prelude.{◌≡◌, ◌≢◌, ◌<◌, ℕ, List, [], ◌∷◌, ◌++◌, length, Option, Some, None, ◌⊎◌}
 use Rattle.cell_script.specs.Lines.{HasNoLf}
 use Rattle.cell_script.specs.declared.readers.LineEnd.{LineEnd}
 use Rattle.cell_script.specs.declared.readers.LineEnd.TheVariants.{Line, TooLong, End, Failed}

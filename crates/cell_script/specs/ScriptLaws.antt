@@ -1,5 +1,5 @@
 -- Laws of the words and numbers of a line.
-use Rattle.std.specs.Prelude.{◌≡◌, ℕ, ◌^◌, ◌<◌, true, false, List, [], ◌∷◌, ◌++◌, length, Option, Some, map}
+use Rattle.std.specs.Prelude.{◌≡◌, ℕ, ◌^◌, ◌<◌, true, false, List, [], ◌∷◌, ◌++◌, length, Some, map}
 use Rattle.std.specs.Fmt.{decimal}
 use Rattle.std.specs.List.{All}
 use Rattle.cell_script.specs.Numbers.{number_of}

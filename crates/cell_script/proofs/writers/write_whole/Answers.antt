@@ -1,4 +1,4 @@
-use Rattle.std.proofs.Common.{length, length-drop, ◌≡◌, ◌+◌, ◌≤◌, ◌<◌, [], ap, arith}
+use Rattle.std.proofs.Common.{length, length-drop, ◌≡◌, ap, arith}
 use Rattle.std.proofs.lemmas.List.{take_rest}
 use Rattle.cell_script.proofs.Writing.{appended_more}
 use Rattle.cell_script.proofs.writers.write_whole.Goals as goal

@@ -1,4 +1,4 @@
-use Rattle.std.proofs.Common.{length, take, ◌-◌, ◌≡◌, ◌≤◌, ◌++◌, List, [], IfSome, Some}
+use Rattle.std.proofs.Common.{length, take, ◌-◌, ◌≡◌, ◌≤◌, ◌++◌, [], IfSome, Some}
 use Rattle.cell_script.proofs.writers.write_whole.Given as goal
 
 abbrev pub invariant-loop-done : goal.invariant-loop-done

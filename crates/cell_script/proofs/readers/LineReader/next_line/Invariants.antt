@@ -1,4 +1,4 @@
-use Rattle.std.proofs.Common.{◌≡◌, ◌≤◌, ◌-◌, length, IfSome, vec_capacity}
+use Rattle.std.proofs.Common.{◌≤◌, ◌-◌, length, IfSome, vec_capacity}
 use Rattle.cell_script.specs.LineSteps.{HasRead}
 use Rattle.cell_script.proofs.readers.LineReader.next_line.Given as goal
 

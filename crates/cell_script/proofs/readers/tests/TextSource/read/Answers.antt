@@ -1,4 +1,4 @@
-use Rattle.std.proofs.Common.{◌≡◌, ◌<◌, ◌-◌, ℕ, List, [], ◌∷◌, length, get_or, take, drop, set, Some, refl, ap, arith}
+use Rattle.std.proofs.Common.{◌<◌, ◌-◌, ℕ, List, [], ◌∷◌, length, get_or, take, drop, set, Some, refl, ap, arith}
 use Rattle.std.proofs.lemmas.List.{take_rest}
 use Rattle.std.proofs.lemmas.Bool.Decides.{nat_tests}
 use Rattle.disk_base.specs.Source.{Moves}
@@ -10,9 +10,9 @@ moves_first : (rest buf : List ℕ) → 0 < length rest → 0 < length buf →
 moves_first [] buf left room = absurd (omega arith)
 moves_first (x ∷ rest) [] left room = absurd (omega arith)
 moves_first (x ∷ rest) (b ∷ buf) left room = record {
-    some = omega arith;
-    within = omega arith;
-    told = (omega arith, refl, ap (λ bytes. Some bytes) (take_rest (x ∷ rest) 1))
+  some = omega arith;
+  within = omega arith;
+  told = (omega arith, refl, ap (λ bytes. Some bytes) (take_rest (x ∷ rest) 1));
 }
 
 pub returns-then-not-is_empty-clause-moved : goal.returns-then-not-is_empty-clause-moved
