@@ -1,0 +1,5 @@
+pub mod NumberLaws
+pub mod NumberReading
+pub mod Reading
+pub mod WordLaws
+pub mod Writing

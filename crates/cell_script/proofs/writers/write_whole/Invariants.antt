@@ -1,0 +1,13 @@
+use Rattle.std.proofs.Common.{length, take, ◌-◌, ◌≡◌, ◌≤◌, ◌++◌, [], IfSome, Some}
+use Rattle.cell_script.proofs.writers.write_whole.Given as goal
+
+abbrev pub invariant-loop-done : goal.invariant-loop-done
+invariant-loop-done g l = record {
+  within : l.done ≤ length l.bytes;
+  told : IfSome (g.K.Sink.written l.fn.out) (λ before. g.K.Sink.written l.out ≡ Some (before ++ take l.done l.bytes));
+  empty : l.bytes ≡ [] → l.out ≡ l.fn.out;
+  faults : g.K.Sink.faults l.fn.out ≤ g.K.Sink.faults l.out;
+}
+
+abbrev pub decreases-loop-done : goal.decreases-loop-done
+decreases-loop-done g l = length l.bytes - l.done

@@ -1,0 +1,8 @@
+pub mod Lines
+pub mod LineLaws
+pub mod LineSteps
+pub mod Meaning
+pub mod Numbers
+pub mod ScriptLaws
+pub mod Words
+pub mod Write

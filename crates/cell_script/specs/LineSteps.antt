@@ -1,0 +1,52 @@
+-- The reading of a line, byte by byte.
+use Rattle.std.specs.Prelude.{◌≡◌, ◌≢◌, ◌<◌, ℕ, List, [], ◌∷◌, ◌++◌, length, Option, Some, None, ◌⊎◌}
+use Rattle.cell_script.specs.Lines.{HasNoLf}
+use Rattle.cell_script.specs.declared.readers.LineEnd.{LineEnd}
+use Rattle.cell_script.specs.declared.readers.LineEnd.TheVariants.{Line, TooLong, End, Failed}
+use Rattle.cell_script.specs.declared.readers.Next.{Next}
+use Rattle.cell_script.specs.declared.readers.Next.TheVariants as next
+
+-- a byte that stood first in a text was taken
+pub record TakesFirst (byte : ℕ) (text : List ℕ) (after : Option (List ℕ)) : Type 0 where
+  pub rest : List ℕ
+  pub read : text ≡ byte ∷ rest
+  pub left : after ≡ Some rest
+
+-- what the taking of a byte leaves of a text
+abbrev pub TakesByte : Next → List ℕ → Option (List ℕ) → Type 0
+TakesByte (next.Byte b) text after = TakesFirst b text after
+TakesByte next.End text after = (text ≡ []) × (after ≡ Some [])
+TakesByte next.Failed text after = after ≡ Some text
+
+-- a byte other than LF was added to a line
+pub record AddsByte (text : List ℕ) (after : Option (List ℕ)) (old new : List ℕ) : Type 0 where
+  pub byte : ℕ
+  pub no_lf : byte ≢ 10
+  pub added : new ≡ old ++ byte ∷ []
+  pub taken : TakesFirst byte text after
+
+-- a byte other than LF was taken beyond a full line
+pub record Overflows (text : List ℕ) (after : Option (List ℕ)) (line : List ℕ) : Type 0 where
+  pub byte : ℕ
+  pub no_lf : byte ≢ 10
+  pub full : length line ≡ 1024
+  pub taken : TakesFirst byte text after
+
+-- an LF was taken, or nothing was left and the line is not empty
+abbrev pub EndsLine : List ℕ → Option (List ℕ) → List ℕ → Type 0
+EndsLine text after line = TakesFirst 10 text after ⊎ (text ≡ []) × (after ≡ Some []) × (0 < length line)
+
+-- one step of the reading of a line
+abbrev pub Extends : Option LineEnd → List ℕ → Option (List ℕ) → List ℕ → List ℕ → Type 0
+Extends None text after old new = AddsByte text after old new
+Extends (Some Line) text after old new = (new ≡ old) × EndsLine text after old
+Extends (Some TooLong) text after old new = Overflows text after old
+Extends (Some End) text after old new = (old ≡ []) × (new ≡ []) × (text ≡ []) × (after ≡ Some [])
+Extends (Some Failed) text after old new = after ≡ Some text
+
+-- a part of a line was read from a text
+pub record HasRead (text : List ℕ) (after : Option (List ℕ)) (line : List ℕ) : Type 0 where
+  pub rest : List ℕ
+  pub no_lf : HasNoLf line
+  pub read : text ≡ line ++ rest
+  pub left : after ≡ Some rest

@@ -1,0 +1,52 @@
+-- The lines of a text, and what the reading of one line leaves of the text.
+use Rattle.std.specs.Prelude.{◌≡◌, ◌≢◌, ◌<◌, ◌≤◌, ◌==◌, if◌then◌else◌, ℕ, List, [], ◌∷◌, ◌++◌, length, Option, Some, ◌⊎◌}
+use Rattle.std.specs.List.{All, onto_first}
+use Rattle.cell_script.specs.declared.readers.LineEnd.{LineEnd}
+use Rattle.cell_script.specs.declared.readers.LineEnd.TheVariants.{Line, TooLong, End, Failed}
+
+-- no byte is the LF that ends a line
+abbrev pub HasNoLf : List ℕ → Type 0
+HasNoLf bytes = All (λ b. b ≢ 10) bytes
+
+-- a line and its LF stand first in the text, or the line is all of it and lacks the LF
+abbrev pub IsFirstLine : List ℕ → List ℕ → List ℕ → Type 0
+IsFirstLine text line rest = (text ≡ line ++ 10 ∷ rest) ⊎ (text ≡ line) × (rest ≡ []) × (0 < length line)
+
+-- a line of at most 1024 bytes was read
+pub record TakesLine (text : List ℕ) (after : Option (List ℕ)) (line : List ℕ) : Type 0 where
+  pub rest : List ℕ
+  pub no_lf : HasNoLf line
+  pub short : length line ≤ 1024
+  pub read : IsFirstLine text line rest
+  pub left : after ≡ Some rest
+
+-- a part of a line was read
+pub record TakesPart (text : List ℕ) (after : Option (List ℕ)) : Type 0 where
+  pub part : List ℕ
+  pub rest : List ℕ
+  pub no_lf : HasNoLf part
+  pub read : text ≡ part ++ rest
+  pub left : after ≡ Some rest
+
+-- what the reading of a line that ended so took from a text: all of a line, 1025 bytes of one, nothing of the
+-- empty text, or at most 1024 bytes of a line
+abbrev pub ReadsLine : LineEnd → List ℕ → Option (List ℕ) → List ℕ → Type 0
+ReadsLine Line text after line = TakesLine text after line
+ReadsLine TooLong text after line = (taken : TakesPart text after) × (length taken.part ≡ 1025)
+ReadsLine End text after line = (text ≡ []) × (after ≡ Some [])
+ReadsLine Failed text after line = (taken : TakesPart text after) × (length taken.part ≤ 1024)
+
+-- the lines of a text; the last may lack its LF
+abbrev pub lines_of : List ℕ → List (List ℕ)
+lines_of [] = []
+lines_of (b ∷ bytes) = if b == 10 then [] ∷ lines_of bytes else onto_first b (lines_of bytes)
+
+-- a byte put before the first line, where there is one
+abbrev pub longer_first : ℕ → List (List ℕ) → List (List ℕ)
+longer_first b [] = []
+longer_first b (line ∷ lines) = (b ∷ line) ∷ lines
+
+-- the lines of a text that an LF ends
+abbrev pub whole_lines : List ℕ → List (List ℕ)
+whole_lines [] = []
+whole_lines (b ∷ bytes) = if b == 10 then [] ∷ whole_lines bytes else longer_first b (whole_lines bytes)

@@ -1,0 +1,24 @@
+//! Laws of scripts: of the lines of a text, the words of a line, and numbers.
+ghost use Rattle.cell_script.specs.LineLaws.{HasTheseLines, HasTheseWholeLines};
+ghost use Rattle.cell_script.specs.ScriptLaws.{ReadsDecimals, ReadsDecimalsAlone, ReadsSpacedWords};
+
+/// The lines of a text are those that it was made of; the last may lack its LF.
+pub fn text_has_its_lines()
+    ensures { HasTheseLines }
+{}
+
+/// The whole lines of a text are those that it was made of, without a last one that lacks its LF.
+pub fn text_has_its_whole_lines()
+    ensures { HasTheseWholeLines }
+{}
+
+/// A number below 2^64 is read from its decimal text, and from no other word.
+pub fn decimal_text_is_its_number()
+    ensures read { ReadsDecimals }
+    ensures alone { ReadsDecimalsAlone }
+{}
+
+/// A line of words with blanks between them has these words.
+pub fn line_has_its_words()
+    ensures { ReadsSpacedWords }
+{}

@@ -1,0 +1,78 @@
+//! Numbers in a script.
+ghost use Rattle.std.specs.Prelude.{◌≡◌, true};
+ghost use Rattle.std.specs.Char.{is_ascii_digit};
+ghost use Rattle.std.specs.List.{list_all};
+ghost use Rattle.cell_script.specs.Numbers.{is_numeral, value_of, number_of, number_within};
+
+use std::str;
+
+/// The number that a word writes: decimal digits with no needless zero and no sign, below 2^64.
+pub fn number(word: &[u8]) -> Option<u64>
+    ensures { result ≡ number_of word.now }
+{
+    if !is_numeral(word) {
+        return None;
+    }
+    value(word)
+}
+
+/// The number that a word writes, where it is one from `low` to `high`.
+pub fn number_within(word: &[u8], low: u32, high: u32) -> Option<u32>
+    ensures { result ≡ number_within low high word.now }
+{
+    let number = u32::try_from(number(word)?).ok()?;
+    if low <= number && number <= high {
+        Some(number)
+    } else {
+        None
+    }
+}
+
+/// Whether a word is decimal digits with no needless zero.
+fn is_numeral(word: &[u8]) -> bool
+    ensures { result ≡ is_numeral word.now }
+{
+    match word {
+        [] => false,
+        [only] => only.is_ascii_digit(),
+        [first, ..] => *first != b'0' && are_digits(word),
+    }
+}
+
+fn are_digits(word: &[u8]) -> bool
+    ensures { result ≡ list_all is_ascii_digit word.now }
+{
+    word.iter().all(|byte| byte.is_ascii_digit())
+}
+
+/// The value of decimal digits, where it is below 2^64.
+fn value(digits: &[u8]) -> Option<u64>
+    requires { is_numeral digits.now ≡ true }
+    ensures { result ≡ value_of digits.now }
+{
+    str::from_utf8(digits).ok()?.parse().ok()
+}
+
+#[cfg(test)]
+mod tests {
+    use super::*;
+
+    #[test]
+    fn reads_numbers(rt: HostRuntime) {
+        for (word, want) in [
+            ("0", Some(0)),
+            ("1000", Some(1000)),
+            ("18446744073709551615", Some(18_446_744_073_709_551_615)),
+            ("18446744073709551616", None),
+            ("", None),
+            ("+1", None),
+            ("-0", None),
+            ("01", None),
+            ("1x", None),
+        ] {
+            assert_eq!(rt; number(word.as_bytes()), want, "at {word}");
+        }
+        assert_eq!(rt; number_within(b"20", 1, 20), Some(20));
+        assert_eq!(rt; number_within(b"21", 1, 20), None);
+    }
+}
