@@ -1,0 +1,9 @@
+pub mod Database
+pub mod Fault
+pub mod Label
+pub mod Node
+pub mod OwnVotes
+pub mod Progress
+pub mod Serving
+pub mod State
+pub mod Verdict

@@ -1,0 +1,383 @@
+//! A server of a cell, one step at a time.
+ghost use Rattle.std.specs.Prelude.{◌≡◌, ◌≢◌, ◌+◌, ◌*◌, ◌<◌, ◌≤◌, Bool, ℕ, List, [], ◌∷◌, length, IfOk, IfErr, IfSome, IsErrOf, OnOk, OnErr, MatchResult, Some, false};
+ghost use Rattle.ubik_types.specs.Moment.{IsMoment};
+ghost use Rattle.cell_model.specs.Node as model;
+ghost use Rattle.cell_model.specs.NodeRule.{refusals};
+ghost use Rattle.cell_model.specs.declared.events.NodeEvent.TheVariants as events;
+ghost use Rattle.cell_model.specs.declared.events.Output.TheVariants as outputs;
+
+use crate::database::{StoreFault, WriteFault, read_database, write_database};
+use crate::outputs::Outputs;
+use crate::own_votes::OwnVotes;
+use crate::state::{Plan, Progress, State};
+use crate::verdicts::{Verdict, verdict_of};
+use cell_model::{NodeEvent, Output, Reply};
+use db_image::Service;
+use disk_base::{Disk, Refused};
+use std::alloc::Global;
+use std::marker::PhantomData;
+use ubik_types::{Applied, Bytes, Cell, NoMemory, Phase, Version};
+
+/// How a step ended.
+#[derive(Clone, Copy, Debug, PartialEq, Eq)]
+pub enum StepEnd {
+    /// The step was made.
+    Done,
+    /// The server's disk failed, now or before: it answers every call with a fault of the disk, until it is
+    /// opened anew.
+    Halted,
+    /// Memory ran out. Nothing changed and nothing was put out.
+    NoMemory,
+}
+
+/// A server that is up, over its disk, and the database that it serves.
+#[derive(Drop)]
+pub struct Node<D: Disk, V: Service> {
+    alloc: Global,
+    disk: D,
+    state: State,
+    halted: bool,
+    last: u32,
+    service: PhantomData<V>,
+}
+
+impl<D: Disk, V: Service> Node<D, V> {
+    ghost use Rattle.ubik_node.specs.Fault.{IsFaultOf};
+    ghost use Rattle.ubik_node.specs.Label.{durable_of};
+    ghost use Rattle.ubik_types.specs.declared.versions.Version.{Version};
+    ghost use Rattle.ubik_types.specs.Phase.{phase_of};
+    ghost use Rattle.ubik_types.specs.Lease.{lease_end};
+    ghost use Rattle.cell_model.specs.Durable.{Durable, Transaction};
+    ghost use Rattle.ubik_types.specs.Phase.{Polled, Spread};
+    ghost use Rattle.cell_model.specs.NodeRule.{committed, no_quorum, evaluated};
+    ghost use Rattle.ubik_node.specs.Verdict.{Judges};
+    ghost use Rattle.ubik_node.specs.Serving.{IsServing, Served, Asked};
+    ghost use Rattle.ubik_node.specs.Progress.{phase_record, own_poll, own_spread};
+    ghost use Rattle.ubik_node.specs.Node.{node_of, up_server, IsStored, Makes, Steps, last_after};
+
+    /// Opens a server over its disk, at a moment in seconds. A cell has one server today, so `me` is 0.
+    /// A refusal hands the disk back: as it was, but after a fault of the disk.
+    pub fn open(
+        alloc: Global,
+        cell: Cell,
+        me: usize,
+        disk: D,
+        now: u32,
+    ) -> Result<Node<D, V>, Refused<D, StoreFault>>
+        requires alone { length cell ≡ 1 }
+        requires me { me < length cell }
+        requires moment { IsMoment now }
+        ensures opened { IfOk result (λ node. (d : Durable) × (node_of node ≡ model.Up (model.opened_server 1 d now))
+            × IfSome (D.files disk) (λ fs. durable_of fs.database ≡ Some d)) }
+        ensures stored { IfOk result (λ node. IsStored D.files node) }
+        ensures kept { IfOk result (λ node. (D.files node.disk ≡ D.files disk) × (D.steps node.disk ≡ D.steps disk) × (node.last ≡ now)) }
+        ensures refused { IfErr result (λ refused. IfSome (D.files disk) (λ fs. IsFaultOf fs.database refused.why)) }
+        ensures fault { IfErr result (λ refused. refused.why ≡ StoreFault.DiskFault → D.faults disk < D.faults refused.disk) }
+        ensures same { IfErr result (λ refused. (refused.why ≡ StoreFault.DiskFault → ⊥) → D.files refused.disk ≡ D.files disk) }
+        ensures steps { IfErr result (λ refused. D.steps refused.disk ≡ D.steps disk) }
+        ensures never_falls { MatchResult result (λ node. D.faults disk ≤ D.faults node.disk) (λ refused. D.faults disk ≤ D.faults refused.disk) }
+    {
+        let mut disk = disk;
+        match read_database(alloc, &mut disk) {
+            Ok((version, image)) => Ok(Node {
+                alloc,
+                disk,
+                state: State {
+                    version,
+                    image,
+                    votes: OwnVotes::fresh(now),
+                    opened: now,
+                    progress: Progress::None,
+                },
+                halted: false,
+                last: now,
+                service: PhantomData,
+            }),
+            Err(why) => Err(Refused { disk, why }),
+        }
+    }
+
+    /// One step: what an event makes of the server at a moment, not below the last one. An id of a call is
+    /// new since the opening. `out` is empty before it, and has what the step put out after it.
+    pub fn step(&mut self, now: u32, event: NodeEvent, out: &mut Outputs) -> StepEnd
+        requires moment { IsMoment now }
+        requires order { self.old.last ≤ now }
+        requires empty { out.old ≡ [] }
+        ensures step { Steps V.database result event now (node_of self.old) (node_of self.new) out.new
+            (D.steps self.old.disk) (D.steps self.new.disk) }
+        ensures stored { IsStored D.files self.old → IsStored D.files self.new }
+        ensures beacon { event ≡ events.BeaconTurn → result ≢ StepEnd.NoMemory }
+        ensures fault { result ≡ StepEnd.Halted → self.old.halted ≡ false → D.faults self.old.disk < D.faults self.new.disk }
+        ensures never_falls { D.faults self.old.disk ≤ D.faults self.new.disk }
+        ensures last { self.new.last ≡ last_after result self.old.last now }
+    {
+        let end = if self.halted {
+            refuse(&event, out)
+        } else {
+            self.step_up(now, &event, out)
+        };
+        if end != StepEnd::NoMemory {
+            self.last = now;
+        }
+        end
+    }
+
+    /// The version of the database. Of a halted server this and the next three are those from before the
+    /// step that halted it.
+    pub fn version(&self) -> Version
+        ensures { result ≡ (up_server self.now).version }
+    {
+        self.state.version
+    }
+
+    /// The phase of the server's recovery.
+    pub fn phase(&self) -> Phase
+        ensures { result ≡ phase_of (up_server self.now).phase }
+    {
+        self.state.progress.phase()
+    }
+
+    /// The last moment of the lease that was counted last, in seconds; 0 where none was.
+    pub fn lease_until(&self) -> u32
+        ensures { result ≡ lease_end 1 (up_server self.now).starts }
+    {
+        self.state.votes.lease_until()
+    }
+
+    /// Whether the server's disk has failed.
+    pub fn halted(&self) -> bool
+        ensures { result ≡ self.now.halted }
+    {
+        self.halted
+    }
+
+    /// The moment of the opening, or of the last step that did not end for want of memory.
+    pub fn last(&self) -> u32
+        ensures { result ≡ self.now.last }
+    {
+        self.last
+    }
+
+    /// Takes the server down, and gives its disk back.
+    pub fn close(self) -> D
+        ensures { result ≡ self.disk }
+    {
+        self.disk
+    }
+
+    /// A step of a server that is not halted.
+    #[tactic(auto, unfolding(cell_model::specs::NodeRule::step_of))]
+    fn step_up(&mut self, now: u32, event: &NodeEvent, out: &mut Outputs) -> StepEnd
+        requires moment { IsMoment now }
+        requires whole { self.old.halted ≡ false }
+        requires empty { out.old ≡ [] }
+        ensures step { Steps V.database result event.now now (node_of self.old) (node_of self.new) out.new
+            (D.steps self.old.disk) (D.steps self.new.disk) }
+        ensures stored { IsStored D.files self.old → IsStored D.files self.new }
+        ensures beacon { event.now ≡ events.BeaconTurn → result ≢ StepEnd.NoMemory }
+        ensures fault { result ≡ StepEnd.Halted → D.faults self.old.disk < D.faults self.new.disk }
+        ensures never_falls { D.faults self.old.disk ≤ D.faults self.new.disk }
+        ensures last { self.new.last ≡ self.old.last }
+    {
+        match event {
+            NodeEvent::BeaconTurn => {
+                self.state.take_beacon_turn(now);
+                StepEnd::Done
+            }
+            NodeEvent::RecoverTurn => self.recover(now, out),
+            NodeEvent::Ask { id, call } => self.ask(now, *id, call.as_slice(), out),
+        }
+    }
+
+    /// The recovery turn of a server that is not halted.
+    #[tactic(auto, unfolding(cell_model::specs::NodeRule::step_of))]
+    fn recover(&mut self, now: u32, out: &mut Outputs) -> StepEnd
+        requires moment { IsMoment now }
+        requires whole { self.old.halted ≡ false }
+        requires empty { out.old ≡ [] }
+        ensures step { Steps V.database result events.RecoverTurn now (node_of self.old) (node_of self.new) out.new
+            (D.steps self.old.disk) (D.steps self.new.disk) }
+        ensures stored { IsStored D.files self.old → IsStored D.files self.new }
+        ensures fault { result ≡ StepEnd.Halted → D.faults self.old.disk < D.faults self.new.disk }
+        ensures never_falls { D.faults self.old.disk ≤ D.faults self.new.disk }
+        ensures last { self.new.last ≡ self.old.last }
+    {
+        let poll = match self.state.recovery_plan(now) {
+            Plan::Rest(progress) => {
+                self.state.progress = progress;
+                return StepEnd::Done;
+            }
+            Plan::Relabel { poll } => poll,
+        };
+        let version = Version {
+            epoch: now,
+            counter: 1,
+        };
+        match write_database(&mut self.disk, version, self.state.image.as_slice()) {
+            Ok(()) => {
+                let old = self.state.version;
+                self.state.progress = Progress::Ready { poll, old };
+                self.state.version = version;
+                out.put(Output::Announce { version });
+                StepEnd::Done
+            }
+            Err(WriteFault::NoMemory) => StepEnd::NoMemory,
+            Err(WriteFault::DiskFault) => {
+                self.halted = true;
+                StepEnd::Halted
+            }
+        }
+    }
+
+    /// Commits an image under the next counter, announces it, and answers the call.
+    #[tactic(auto, unfolding(cell_model::specs::NodeRule::step_of))]
+    fn commit(
+        &mut self,
+        id: u32,
+        progress: Progress,
+        answer: Bytes,
+        image: Bytes,
+        out: &mut Outputs,
+    ) -> Result<(), WriteFault>
+        requires whole { self.old.halted ≡ false }
+        requires empty { out.old ≡ [] }
+        requires image { length image ≤ 16777216 }
+        requires counter { self.old.state.version.counter < 2147483647 }
+        ensures made { OnOk result ((t : Transaction) (poll : ℕ) (before : Version) → progress ≡ Progress.Ready poll before →
+            Makes (committed 1 0 (up_server self.old) id answer image t (own_poll poll before) (own_spread before))
+            (node_of self.new) out.new (D.steps self.old.disk) (D.steps self.new.disk)) }
+        ensures stored { OnOk result (IsStored D.files self.old → IsStored D.files self.new) }
+        ensures same { OnErr result ((self.new.state ≡ self.old.state) × (self.new.halted ≡ self.old.halted) × (out.new ≡ [])) }
+        ensures no_memory { IsErrOf result WriteFault.NoMemory → (D.files self.new.disk ≡ D.files self.old.disk) × (D.steps self.new.disk ≡ D.steps self.old.disk) }
+        ensures fault { IsErrOf result WriteFault.DiskFault → D.faults self.old.disk < D.faults self.new.disk }
+        ensures never_falls { D.faults self.old.disk ≤ D.faults self.new.disk }
+        ensures last { self.new.last ≡ self.old.last }
+    {
+        let version = Version {
+            epoch: self.state.version.epoch,
+            counter: self.state.version.counter + 1,
+        };
+        write_database(&mut self.disk, version, image.as_slice())?;
+        self.state.version = version;
+        self.state.image = image;
+        self.state.progress = progress;
+        out.put(Output::Announce { version });
+        let reply = Reply::Ok(answer);
+        out.put(Output::Reply { id, reply });
+        Ok(())
+    }
+
+    /// The refusal of a server behind which no quorum stands, with its phase.
+    fn no_quorum(&self, now: u32, phase: Phase) -> Reply
+        ensures { result ≡ no_quorum 1 (up_server self.now) now phase }
+    {
+        Reply::NoQuorum {
+            now,
+            until: self.state.votes.lease_until(),
+            phase,
+            applied: Applied::No,
+        }
+    }
+
+    /// What the ready sync site does about a call, which it evaluates on its image.
+    fn evaluate(&self, now: u32, call: &[u8], writes: bool) -> Result<Verdict, NoMemory>
+        ensures { IfOk result (λ verdict. (id : ℕ) (poll : Polled) (spread : Spread) →
+            Judges (up_server self.now) now id call.now poll spread verdict
+            (evaluated V.database 1 0 (up_server self.now) now id call.now writes poll spread)) }
+    {
+        let (reply, image) = V::call_image(self.alloc, self.state.image.as_slice(), now, call)?;
+        Ok(verdict_of(&self.state, reply, image, writes))
+    }
+
+    /// A call at the ready sync site, in lease: the server is as after the lapse.
+    fn serve(&mut self, now: u32, id: u32, call: &[u8], writes: bool, out: &mut Outputs) -> StepEnd
+        requires whole { self.old.halted ≡ false }
+        requires empty { out.old ≡ [] }
+        requires ready { IsServing self.old.state }
+        ensures done { result ≡ StepEnd.Done → Served V.database self.old.state now id call.now writes
+            (node_of self.new) out.new (D.steps self.old.disk) (D.steps self.new.disk) }
+        ensures halted { result ≡ StepEnd.Halted → (node_of self.new ≡ model.Halted (model.halted_from (up_server self.old)))
+            × (out.new ≡ outputs.Reply id Reply.DiskFault ∷ []) }
+        ensures told { result ≢ StepEnd.NoMemory }
+        ensures stored { IsStored D.files self.old → IsStored D.files self.new }
+        ensures fault { result ≡ StepEnd.Halted → D.faults self.old.disk < D.faults self.new.disk }
+        ensures never_falls { D.faults self.old.disk ≤ D.faults self.new.disk }
+        ensures last { self.new.last ≡ self.old.last }
+    {
+        let Ok(verdict) = self.evaluate(now, call, writes) else {
+            return put_reply(out, id, Reply::NoMemory);
+        };
+        match verdict {
+            Verdict::Reply(reply) => put_reply(out, id, reply),
+            Verdict::NewPoll => {
+                let reply = self.no_quorum(now, Phase::Poll);
+                self.state.progress = Progress::Poll { poll: now };
+                put_reply(out, id, reply)
+            }
+            Verdict::Commit { answer, image } => {
+                match self.commit(id, self.state.progress, answer, image, out) {
+                    Ok(()) => StepEnd::Done,
+                    Err(WriteFault::NoMemory) => put_reply(out, id, Reply::NoMemory),
+                    Err(WriteFault::DiskFault) => {
+                        self.halted = true;
+                        let _ = put_reply(out, id, Reply::DiskFault);
+                        StepEnd::Halted
+                    }
+                }
+            }
+        }
+    }
+
+    /// A call at a server that is not halted.
+    fn ask(&mut self, now: u32, id: u32, call: &[u8], out: &mut Outputs) -> StepEnd
+        requires whole { self.old.halted ≡ false }
+        requires empty { out.old ≡ [] }
+        ensures done { result ≡ StepEnd.Done → Asked V.database (up_server self.old) now id call.now
+            (node_of self.new) out.new (D.steps self.old.disk) (D.steps self.new.disk) }
+        ensures halted { result ≡ StepEnd.Halted → (node_of self.new ≡ model.Halted (model.halted_from (up_server self.old)))
+            × (out.new ≡ outputs.Reply id Reply.DiskFault ∷ []) }
+        ensures told { result ≢ StepEnd.NoMemory }
+        ensures stored { IsStored D.files self.old → IsStored D.files self.new }
+        ensures fault { result ≡ StepEnd.Halted → D.faults self.old.disk < D.faults self.new.disk }
+        ensures never_falls { D.faults self.old.disk ≤ D.faults self.new.disk }
+        ensures last { self.new.last ≡ self.old.last }
+    {
+        let progress = self.state.kept_progress(now);
+        self.state.progress = progress;
+        let Some(writes) = V::writes(call) else {
+            return put_reply(out, id, Reply::Malformed);
+        };
+        match progress {
+            Progress::Ready { .. } => self.serve(now, id, call, writes, out),
+            _ => {
+                let reply = self.no_quorum(now, progress.phase());
+                put_reply(out, id, reply)
+            }
+        }
+    }
+}
+
+/// Puts a reply out, which ends a step.
+fn put_reply(out: &mut Outputs, id: u32, reply: Reply) -> StepEnd
+    requires { out.old ≡ [] }
+    ensures done { result ≡ StepEnd.Done }
+    ensures out { out.new ≡ outputs.Reply id reply ∷ [] }
+{
+    out.put(Output::Reply { id, reply });
+    StepEnd::Done
+}
+
+/// What a halted server puts out at an event.
+fn refuse(event: &NodeEvent, out: &mut Outputs) -> StepEnd
+    requires { out.old ≡ [] }
+    ensures halted { result ≡ StepEnd.Halted }
+    ensures out { out.new ≡ refusals event.now }
+{
+    if let NodeEvent::Ask { id, .. } = event {
+        out.put(Output::Reply {
+            id: *id,
+            reply: Reply::DiskFault,
+        });
+    }
+    StepEnd::Halted
+}

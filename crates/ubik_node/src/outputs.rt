@@ -1,0 +1,55 @@
+//! The list that a step leaves.
+ghost use Rattle.std.specs.Prelude.{◌≡◌, ◌<◌, ◌++◌, ◌∷◌, [], length, IfOk, option_to_list};
+
+use cell_model::Output;
+use std::alloc::Global;
+use std::collections::VecDeque;
+use std::marker::Model;
+use ubik_types::NoMemory;
+
+/// For how many outputs of one step there is room.
+const PLACES: usize = 200;
+
+/// What a step put out, in order. Contracts see the list. It has room for the outputs of a step from the
+/// start, so that putting one out takes no memory.
+#[derive(Drop)]
+pub struct Outputs {
+    list: VecDeque<Output>,
+}
+
+impl Model for Outputs {
+    ghost use Rattle.std.specs.Prelude.{List, ◌≤◌};
+    ghost use Rattle.std.specs.VecDeque.{deque_capacity};
+    ghost use Rattle.cell_model.specs.declared.events.Output.{Output};
+
+    ghost Value = { List Output };
+
+    ghost view = { λ o. o.list.items };
+
+    ghost invariant = { λ o. 200 ≤ deque_capacity o.list };
+}
+
+impl Outputs {
+    /// An empty list, with all its room.
+    pub fn make(alloc: Global) -> Result<Outputs, NoMemory>
+        ensures { IfOk result (λ outputs. outputs ≡ []) }
+    {
+        let list = VecDeque::with_capacity(alloc, PLACES)?;
+        Ok(Outputs { list })
+    }
+
+    /// Takes the first output.
+    pub fn take(&mut self) -> Option<Output>
+        ensures { self.old ≡ option_to_list result ++ self.new }
+    {
+        self.list.pop_front()
+    }
+
+    /// Adds an output at the end.
+    pub fn put(&mut self, output: Output)
+        requires { length self.old < 200 }
+        ensures { self.new ≡ self.old ++ output ∷ [] }
+    {
+        let _ = self.list.push_back(output);
+    }
+}
