@@ -1,5 +1,5 @@
 -- What a counted vote changes in the list of starts.
-use Rattle.std.proofs.Common.{◌≡◌, ℕ, zero, suc, ◌+◌, ◌<◌, ◌≤◌, ◌^◌, max, Bool, true, false, IsTrue, Option, Some, None, IfSome, List, [], ◌∷◌, length, take, drop, set, get_or, refl, ap, sym, ◌∙◌, arith}
+use Rattle.std.proofs.Common.{◌≡◌, ℕ, zero, suc, ◌<◌, ◌^◌, Bool, true, false, IsTrue, Option, Some, None, IfSome, List, [], ◌∷◌, length, take, set, get_or, refl, ap, arith}
 use Rattle.ubik_types.specs.Lease.{counted, with_start, start_of, is_from, no_starts, is_counted, vote_counted}
 use Rattle.ubik_types.specs.Votes.{VoteState, fresh_votes}
 use Rattle.std.proofs.lemmas.Bool.Decides.{nat_tests}

@@ -1,13 +1,13 @@
 -- The greatest start that a vote quorum supports.
-use Rattle.std.proofs.Common.{◌≡◌, ℕ, zero, suc, ◌+◌, ◌*◌, ◌<◌, ◌≤◌, ◌^◌, max, Bool, true, false, cond, Option, Some, None, IfSome, List, [], ◌∷◌, length, take, drop, set, get_or, IsTrue, ◌↔◌, map, nat_le, nat_lt, refl, ap, sym, ◌∙◌, subst, inl, inr, ⊎_elim, ◌⊎◌, if◌then◌else◌, arith}
+use Rattle.std.proofs.Common.{◌≡◌, ℕ, zero, suc, ◌+◌, ◌<◌, ◌≤◌, ◌^◌, max, Bool, true, false, cond, Option, Some, None, List, [], ◌∷◌, length, take, drop, set, get_or, IsTrue, ◌↔◌, map, nat_le, refl, ap, sym, ◌∙◌, subst, inl, inr, ⊎_elim, ◌⊎◌, if◌then◌else◌, arith}
 use Rattle.std.proofs.lemmas.Bool.{cases_lt}
 use Rattle.std.proofs.lemmas.Bool.Decides.{nat_tests}
 use Rattle.std.proofs.lemmas.Grind.{common_steps}
 use Rattle.std.proofs.lemmas.List.{take_more, take_more_set, take_all, length-take-le, drop_more, at_drop_all}
 use Rattle.std.proofs.lemmas.List.Sums.{sum_by-cons}
 use Rattle.ubik_types.specs.Quorum.{size, lowest_bonus, is_vote_quorum, IsVoteQuorum}
-use Rattle.ubik_types.specs.Lease.{is_from, supporters, quorum_start, lease_from, lease_end}
-use Rattle.ubik_votes.specs.Greatest.{IsSupported, IsGreatestSupported, RestsOnGreatest, AreMoments, better_start}
+use Rattle.ubik_types.specs.Lease.{is_from, supporters, quorum_start}
+use Rattle.ubik_votes.specs.Greatest.{IsSupported, RestsOnGreatest, AreMoments, better_start}
 
 -- a step of the search for the greatest
 pub quorum_start-step : (n : ℕ) (all : List (Option ℕ)) (best : ℕ) (s : Option ℕ) (among : List (Option ℕ)) → max best (quorum_start n all (s ∷ among)) ≡ max (better_start n all best s) (quorum_start n all among)

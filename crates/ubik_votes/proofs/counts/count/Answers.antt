@@ -1,4 +1,4 @@
-use Rattle.std.proofs.Common.{◌≡◌, ◌∙◌, ℕ, Option, set, ap}
+use Rattle.std.proofs.Common.{◌∙◌, ℕ, Option, set, ap}
 use Rattle.ubik_votes.proofs.Starts.{set-counted}
 use Rattle.ubik_votes.proofs.counts.count.Goals as goal
 

@@ -1,7 +1,6 @@
-use Rattle.std.proofs.Common.{rules, ◌≡◌, ◌∙◌, ℕ, List, Option, take, ap, arith}
+use Rattle.std.proofs.Common.{rules, ◌≡◌, ◌∙◌, ℕ, List, Option, take, ap}
 use Rattle.ubik_types.specs.Lease.{with_start}
-use Rattle.ubik_votes.specs.Greatest.{AreMoments}
-use Rattle.ubik_votes.proofs.Starts.{take-with_start, length-with_start, moments-with_start, moments-at, start_of-take}
+use Rattle.ubik_votes.proofs.Starts.{take-with_start, length-with_start, moments-with_start}
 use Rattle.ubik_votes.proofs.voters.Votes.beacon.Goals as goal
 
 pub invariant_of-self : goal.invariant_of-self

@@ -1,4 +1,4 @@
-use Rattle.std.proofs.Common.{rules, ◌≡◌, nat_lt, true, arith}
+use Rattle.std.proofs.Common.{◌≡◌, nat_lt, true, arith}
 use Rattle.std.proofs.lemmas.Bool.Decides.{nat_tests}
 use Rattle.ubik_votes.proofs.Starts.{start_of-take, moments-at, moment-from}
 use Rattle.ubik_votes.proofs.voters.Votes.is_counted.Goals as goal

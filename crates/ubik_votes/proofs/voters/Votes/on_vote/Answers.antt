@@ -1,6 +1,6 @@
-use Rattle.std.proofs.Common.{rules, ◌≡◌, ◌∙◌, ℕ, List, Option, take, ap, sym, arith}
+use Rattle.std.proofs.Common.{rules, ◌≡◌, ◌∙◌, ℕ, List, Option, take, ap, sym}
 use Rattle.ubik_types.specs.Lease.{with_start}
-use Rattle.ubik_votes.proofs.Starts.{take-with_start, length-with_start, moments-with_start, moments-at, start_of-take, counted-vote}
+use Rattle.ubik_votes.proofs.Starts.{take-with_start, length-with_start, moments-with_start, counted-vote}
 use Rattle.ubik_votes.proofs.voters.Votes.on_vote.Goals as goal
 
 pub invariant_of-self : goal.invariant_of-self
