@@ -1,6 +1,6 @@
 -- The lease of a server (Kazar, "Ubik": for 60 seconds after the start of votes of a quorum). A server keeps
 -- for each server of the cell, in their order, the greatest start for which that one's yes was counted.
-use Rattle.std.specs.Prelude.{ℕ, zero, suc, ◌+◌, Bool, false, ◌==◌, nat_le, max, if◌then◌else◌, Option, Some, None, List, [], ◌∷◌, map, replicate}
+use Rattle.std.specs.Prelude.{ℕ, zero, suc, ◌+◌, Bool, false, ◌==◌, ◌&&◌, nat_lt, nat_le, max, if◌then◌else◌, Option, Some, None, List, [], ◌∷◌, map, replicate}
 use Rattle.ubik_types.specs.declared.limits.TheConstants.{SMALLTIME}
 use Rattle.ubik_types.specs.Quorum.{is_vote_quorum}
 
@@ -22,6 +22,22 @@ with_start (s ∷ starts) (suc server) start = s ∷ with_start starts server st
 abbrev pub is_from : ℕ → Option ℕ → Bool
 is_from s None = false
 is_from s (Some start) = nat_le s start
+
+-- the start that stands for a server
+abbrev pub start_of : List (Option ℕ) → ℕ → Option ℕ
+start_of [] server = None
+start_of (s ∷ starts) zero = s
+start_of (s ∷ starts) (suc server) = start_of starts server
+
+-- a yes for a start counts after the opening, and up to the last start that the server asked votes for: the
+-- one for which its own yes was counted
+abbrev pub is_counted : ℕ → ℕ → List (Option ℕ) → ℕ → Bool
+is_counted opened me starts start = nat_lt opened start && is_from start (start_of starts me)
+
+-- the starts after a vote: a no takes nothing away
+abbrev pub vote_counted : ℕ → ℕ → List (Option ℕ) → ℕ → ℕ → Bool → List (Option ℕ)
+vote_counted opened me starts from start vote =
+    if vote && is_counted opened me starts start then with_start starts from start else starts
 
 -- the servers whose greatest counted start is at least s
 abbrev pub supporters : List (Option ℕ) → ℕ → List Bool

@@ -1,7 +1,7 @@
 -- The vote state of a server (Kazar, "Ubik": a server votes for one host at a time, for 75 seconds; that it
 -- prefers the sync site, and else the lowest host, is own). Servers are their places in the cell, moments
 -- are whole seconds.
-use Rattle.std.specs.Prelude.{ℕ, ◌+◌, Bool, false, ◌==◌, ◌&&◌, ◌||◌, nat_lt, if◌then◌else◌, Option, Some, None}
+use Rattle.std.specs.Prelude.{ℕ, ◌+◌, Bool, false, ◌==◌, ◌&&◌, ◌||◌, nat_lt, if◌then◌else◌, Option, Some, None, option_map}
 use Rattle.ubik_types.specs.declared.limits.TheConstants.{BIGTIME}
 
 -- a server, and when it was heard
@@ -77,3 +77,7 @@ answered votes now server claim =
 -- Own beacon: due where the server would say yes to its own beacon, its claim being that it is in lease.
 abbrev pub beacon_is_due : VoteState → ℕ → ℕ → Bool → Bool
 beacon_is_due votes now me in_lease = answers_yes votes now me in_lease
+
+-- the sync host that was heard within 75 seconds, and when
+abbrev pub sync_heard : ℕ → VoteState → Option (ℕ × ℕ)
+sync_heard now votes = option_map (λ (h : Heard). (h.server, h.at)) (still_heard now votes.sync)

@@ -1,0 +1,4 @@
+pub mod Answers
+pub mod Greatest
+pub mod View
+pub mod Voter

@@ -1,0 +1,221 @@
+//! A server among the votes.
+ghost use Rattle.std.specs.Prelude.{◌≡◌, ◌<◌, ◌≤◌, ◌^◌, IsTrue, IfSome};
+ghost use Rattle.ubik_types.specs.Lease.{is_counted};
+ghost use Rattle.ubik_types.specs.Moment.{IsMoment};
+ghost use Rattle.ubik_types.specs.Votes.{answers_yes, sync_heard};
+ghost use Rattle.ubik_votes.specs.Voter.{fresh_voter, after_beacon, after_own_beacon, after_vote, leased_until, is_leased, is_due};
+
+use crate::answers::{Given, still_heard};
+use crate::counts::{count, is_from, lease_end};
+use std::marker::Model;
+
+/// The votes that a server gives and gets. Servers are their places in the cell, moments are whole seconds
+/// from 1 to 2147483647.
+#[derive(Drop)]
+pub struct Votes {
+    servers: usize,
+    me: usize,
+    opened: u32,
+    given: Given,
+    starts: [Option<u32>; 20],
+}
+
+impl Model for Votes {
+    ghost use Rattle.ubik_votes.specs.Voter.{Voter};
+
+    ghost Value = { Voter };
+
+    ghost use Rattle.ubik_votes.specs.View.{voter_of, IsInOrder};
+
+    ghost view = { voter_of };
+
+    ghost invariant = { IsInOrder };
+}
+
+impl Votes {
+    /// The votes of server `me` of `n` servers, which starts now.
+    pub fn start(n: usize, me: usize, now: u32) -> Votes
+        requires servers { n ≤ 20 }
+        requires me { me < n }
+        ensures { result ≡ fresh_voter n me now }
+    {
+        Votes {
+            servers: n,
+            me,
+            opened: now,
+            given: Given::fresh(now),
+            starts: [None; 20],
+        }
+    }
+
+    /// Takes a beacon of a server in, which claims to be in lease or not, and answers it.
+    pub fn on_beacon(&mut self, now: u32, from: usize, claim: bool) -> bool
+        requires { from < self.old.servers }
+        ensures answer { result ≡ answers_yes self.old.votes now from claim }
+        ensures after { self.new ≡ after_beacon self.old now from claim }
+    {
+        self.given.answer(now, from, claim)
+    }
+
+    /// Whether this server is to ask for votes now.
+    pub fn beacon_due(&self, now: u32) -> bool
+        ensures { result ≡ is_due self.now now }
+    {
+        self.given.would_answer(now, self.me, self.in_lease(now))
+    }
+
+    /// Asks for votes, which has to be due: the server votes for itself.
+    pub fn beacon(&mut self, now: u32, claim: bool)
+        requires moment { IsMoment now }
+        requires due { IsTrue (is_due self.old now) }
+        requires claim { claim ≡ is_leased self.old now }
+        ensures { self.new ≡ after_own_beacon self.old now claim }
+    {
+        self.given.answer(now, self.me, claim);
+        count(&mut self.starts, self.me, now);
+    }
+
+    /// Takes the vote of a server on the beacon of that start in. A no takes nothing away.
+    pub fn on_vote(&mut self, from: usize, start: u32, yes: bool)
+        requires { from < self.old.servers }
+        ensures { self.new ≡ after_vote self.old from start yes }
+    {
+        if yes && self.is_counted(start) {
+            count(&mut self.starts, from, start);
+        }
+    }
+
+    /// Whether a yes for the start counts.
+    fn is_counted(&self, start: u32) -> bool
+        ensures rule { result ≡ is_counted self.now.opened self.now.me self.now.starts start }
+        ensures moment { IsTrue result → start < 2 ^ 31 }
+    {
+        self.opened < start && is_from(start, self.starts[self.me])
+    }
+
+    /// The last moment of the lease, 0 where there is none.
+    pub fn lease_until(&self) -> u32
+        ensures { result ≡ leased_until self.now }
+    {
+        lease_end(&self.starts[..self.servers])
+    }
+
+    pub fn in_lease(&self, now: u32) -> bool
+        ensures { result ≡ is_leased self.now now }
+    {
+        now <= self.lease_until()
+    }
+
+    /// The server that was heard within 75 seconds to claim the lease, and when.
+    pub fn sync_heard(&self, now: u32) -> Option<(usize, u32)>
+        ensures heard { result ≡ sync_heard now self.now.votes }
+        ensures server { IfSome result (λ h. h.0 < self.now.servers) }
+    {
+        still_heard(self.given.sync, now).map(|heard| (heard.server, heard.at))
+    }
+
+    /// To whom the last yes went, and when. After a start: to nobody, at the start.
+    pub fn last_yes(&self) -> (Option<usize>, u32)
+        ensures to { result.0 ≡ self.now.votes.yes_to }
+        ensures at { result.1 ≡ self.now.votes.yes_at }
+        ensures server { IfSome result.0 (λ server. server < self.now.servers) }
+    {
+        (self.given.yes_to, self.given.yes_at)
+    }
+}
+
+#[cfg(test)]
+mod tests {
+    use super::*;
+
+    /// Server 0 of 3, which starts at 1000 and asks for votes at 1076; server 1 votes for it.
+    #[test]
+    fn first_lease(rt: HostRuntime) {
+        let mut zero = Votes::start(3, 0, 1000);
+        assert_eq!(rt; zero.last_yes(), (None, 1000));
+        assert!(rt; !zero.beacon_due(1075));
+        assert!(rt; zero.beacon_due(1076));
+        let claim = zero.in_lease(1076);
+        assert!(rt; !claim);
+        zero.beacon(1076, claim);
+        assert_eq!(rt; zero.last_yes(), (Some(0), 1076));
+        assert_eq!(rt; zero.lease_until(), 0);
+
+        let mut one = Votes::start(3, 1, 1000);
+        assert!(rt; !one.on_beacon(1075, 0, false));
+        assert!(rt; one.on_beacon(1076, 0, false));
+        assert_eq!(rt; one.last_yes(), (Some(0), 1076));
+
+        zero.on_vote(1, 1000, true);
+        zero.on_vote(1, 1076, false);
+        zero.on_vote(1, 1077, true);
+        assert_eq!(rt; zero.lease_until(), 0);
+        zero.on_vote(1, 1076, true);
+        assert_eq!(rt; zero.lease_until(), 1136);
+        zero.on_vote(1, 1076, false);
+        assert!(rt; zero.in_lease(1135));
+        assert!(rt; zero.in_lease(1136));
+        assert!(rt; !zero.in_lease(1137));
+    }
+
+    /// 59 and 60 seconds after the start the lease is renewed, which takes the votes of a quorum.
+    #[test]
+    fn renewed_lease(rt: HostRuntime) {
+        let mut zero = Votes::start(3, 0, 1000);
+        assert!(rt; zero.beacon_due(1076));
+        let claim = zero.in_lease(1076);
+        zero.beacon(1076, claim);
+        zero.on_vote(2, 1076, true);
+        assert_eq!(rt; zero.lease_until(), 1136);
+
+        assert!(rt; zero.beacon_due(1135));
+        let claim = zero.in_lease(1135);
+        assert!(rt; claim);
+        zero.beacon(1135, claim);
+        assert_eq!(rt; zero.lease_until(), 1136);
+        zero.on_vote(1, 1135, true);
+        assert_eq!(rt; zero.lease_until(), 1195);
+        assert_eq!(rt; zero.sync_heard(1210), Some((0, 1135)));
+        assert_eq!(rt; zero.sync_heard(1211), None);
+
+        assert!(rt; zero.beacon_due(1136));
+        let late = zero.in_lease(1196);
+        assert!(rt; !late);
+        assert!(rt; zero.beacon_due(1196));
+        zero.beacon(1196, late);
+        assert_eq!(rt; zero.sync_heard(1196), None);
+        assert_eq!(rt; zero.lease_until(), 1195);
+    }
+
+    /// Server 1 votes for server 0, and for server 2 once that vote is 76 seconds old.
+    #[test]
+    fn one_vote_at_a_time(rt: HostRuntime) {
+        let mut one = Votes::start(3, 1, 1000);
+        assert!(rt; one.on_beacon(1135, 0, true));
+        assert_eq!(rt; one.sync_heard(1210), Some((0, 1135)));
+        assert_eq!(rt; one.sync_heard(1211), None);
+        assert!(rt; !one.beacon_due(1150));
+        assert!(rt; !one.on_beacon(1196, 2, true));
+        assert_eq!(rt; one.sync_heard(1196), Some((2, 1196)));
+        assert!(rt; !one.on_beacon(1210, 2, true));
+        assert!(rt; one.on_beacon(1211, 2, true));
+        assert_eq!(rt; one.last_yes(), (Some(2), 1211));
+        assert!(rt; one.on_beacon(1212, 2, false));
+        assert_eq!(rt; one.sync_heard(1212), None);
+        assert!(rt; !one.beacon_due(1287));
+        assert!(rt; one.beacon_due(1288));
+    }
+
+    /// Server 0 forgets its votes at a restart, and votes for nobody in the 75 seconds after it.
+    #[test]
+    fn restarted(rt: HostRuntime) {
+        let mut zero = Votes::start(3, 0, 1200);
+        zero.on_vote(1, 1135, true);
+        zero.on_vote(1, 1201, true);
+        assert_eq!(rt; zero.lease_until(), 0);
+        assert!(rt; !zero.on_beacon(1275, 1, false));
+        assert!(rt; zero.on_beacon(1276, 1, false));
+        assert!(rt; !zero.beacon_due(1277));
+        assert_eq!(rt; zero.last_yes(), (Some(1), 1276));
+    }
+}
