@@ -1,0 +1,6 @@
+//! The protection database's entries over a whole image: the calls that make a user and translate names, what
+//! they answer and leave, and calls and answers as words.
+#![tactic(auto)]
+
+mod calls;
+
