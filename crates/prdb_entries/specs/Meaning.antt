@@ -1,12 +1,12 @@
 -- What a call answers and leaves, by the state alone.
 use Rattle.std.specs.Prelude.{ℕ, ℤ, pos, ◌+◌, ◌-◌, Bool, not, Option, Some, None, unwrap_or, List, [], ◌∷◌, ◌++◌, length, map, if◌then◌else◌}
-use Rattle.std.specs.List.{find, list_any, flat_map, range_with_len}
+use Rattle.std.specs.List.{find, list_any, range_with_len}
 use Rattle.std.specs.Option.{option_map}
 use Rattle.std.specs.Ordering.{int_eq}
 use Rattle.std.specs.Str.{bytes_eq}
 use Rattle.db_image.specs.declared.CallReply.{CallReply}
 use Rattle.db_image.specs.declared.CallReply.TheVariants.{Done, Rule}
-use Rattle.prdb_entries.specs.Bytes.{word, signed_word}
+use Rattle.prdb_entries.specs.Bytes.{word, words, bits}
 use Rattle.prdb_entries.specs.Call.{PrCall, NewUser, NameToId}
 use Rattle.prdb_entries.specs.Names.{lowered, is_user_name}
 use Rattle.prdb_entries.specs.State.{PrEntry, PrState, user_flags, administrators, anonymous}
@@ -67,4 +67,4 @@ meaning s now (NewUser name) =
     if not (is_user_name (lowered name)) then refused s bad_name
     else (if has_name s (lowered name) then refused s name_exists else made s (lowered name) (next_user_id s))
 meaning s now (NameToId names) =
-    record { reply = Done (word (length names) ++ flat_map (λ name. signed_word (id_of_name s (lowered name))) names); state = s }
+    record { reply = Done (word (length names) ++ words (map (λ name. bits (id_of_name s (lowered name))) names)); state = s }

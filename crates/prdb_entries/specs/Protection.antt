@@ -1,11 +1,11 @@
 -- The protection database over whole images, whatever their bytes are.
-use Rattle.std.specs.Prelude.{ℕ, ◌+◌, not, Option, Some, None, unwrap_or, List, [], ◌++◌, length, take, drop, ◌==◌, if◌then◌else◌}
-use Rattle.std.specs.List.{find, flat_map}
+use Rattle.std.specs.Prelude.{ℕ, ◌+◌, not, Option, Some, None, unwrap_or, List, [], ◌++◌, map, length, take, drop, ◌==◌, if◌then◌else◌}
+use Rattle.std.specs.List.{find}
 use Rattle.std.specs.Option.{option_map}
 use Rattle.db_image.specs.Database.{Database, Outcome}
 use Rattle.db_image.specs.declared.CallReply.{CallReply}
 use Rattle.db_image.specs.declared.CallReply.TheVariants.{Done, Rule, Malformed, BadRecord}
-use Rattle.prdb_entries.specs.Bytes.{word, word_at}
+use Rattle.prdb_entries.specs.Bytes.{word, words, word_at}
 use Rattle.prdb_entries.specs.Call.{PrCall, NewUser, NameToId, is_write}
 use Rattle.prdb_entries.specs.Reading.{call_of}
 use Rattle.prdb_entries.specs.Names.{lowered, is_user_name}
@@ -42,7 +42,7 @@ answer_new_user image name =
 
 -- the ids of names
 unfoldable pub ids_of : List (List ℕ) → List (List ℕ) → List ℕ
-ids_of blocks names = flat_map (λ name. word (id_among blocks (lowered name))) names
+ids_of blocks names = words (map (λ name. id_among blocks (lowered name)) names)
 
 -- what a call answers over an image of whole blocks
 abbrev pub answer : List ℕ → PrCall → Answer

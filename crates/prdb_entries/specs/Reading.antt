@@ -12,12 +12,17 @@ infixl 10 ◌>>=◌
 abbrev pub ◌>>=◌ : {A B : Type 0} → Option A → (A → Option B) → Option B
 o >>= f = option_and_then f o
 
+-- what a function returned, seen by view, is what reading gives
+abbrev pub Gives : {X Y : Type 0} → (X → Y) → Option X → Option Y → Type 0
+Gives view None read = read ≡ None
+Gives view (Some x) read = read ≡ Some (view x)
+
 -- so many bytes, and the bytes after them
-unfoldable pub front_at : ℕ → List ℕ → Option (List ℕ × List ℕ)
+abbrev pub front_at : ℕ → List ℕ → Option (List ℕ × List ℕ)
 front_at len bytes = if nat_lt (length bytes) len then None else Some (take len bytes, drop len bytes)
 
 -- a field is a value and the bytes after it
-unfoldable pub number_at : List ℕ → Option (ℕ × List ℕ)
+abbrev pub number_at : List ℕ → Option (ℕ × List ℕ)
 number_at bytes = do
   front ← front_at 4 bytes
   Some (from_be_bytes w32 front.0, front.1)

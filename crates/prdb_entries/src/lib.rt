@@ -2,5 +2,10 @@
 //! they answer and leave, and calls and answers as words.
 #![tactic(auto)]
 
+mod blocks;
 mod calls;
+mod entries;
+mod names;
+
+pub use calls::writes;
 
