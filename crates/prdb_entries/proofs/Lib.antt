@@ -1,2 +1,6 @@
 pub mod Fixed
+pub mod Ids
+pub mod Initial
+pub mod NextId
+pub mod Over
 pub mod Strings

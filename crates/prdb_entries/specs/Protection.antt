@@ -18,9 +18,13 @@ use Rattle.prdb_entries.specs.Blocks.{has_whole_blocks, block_count, blocks_of, 
 unfoldable pub next_id : List ℕ → Option ℕ
 next_id image = find (λ id. not (id_is_among (blocks_of image) id)) (ids_above (word_at image 8))
 
--- the image with another maximum user id in its head, and one more block, which is this user's
+-- the image with another maximum user id and another number of blocks in its head
+unfoldable pub with_numbers : List ℕ → ℕ → ℕ → List ℕ
+with_numbers image max count = take 8 image ++ word max ++ take 4 (drop 12 image) ++ word count ++ drop 20 image
+
+-- the image with this user's block at the end, and its id as the maximum
 unfoldable pub with_block : List ℕ → List ℕ → ℕ → List ℕ
-with_block image name id = take 8 image ++ word id ++ take 4 (drop 12 image) ++ word (block_count image + 1) ++ drop 20 image ++ block_of (new_user name id)
+with_block image name id = with_numbers image id (block_count image + 1) ++ block_of (new_user name id)
 
 -- an answer, and the image after it where it changed
 abbrev pub Answer : Type 0

@@ -1,8 +1,9 @@
 //! Entries, and the images that are written of them.
-ghost use Rattle.std.specs.Prelude.{◌≡◌, ◌++◌, OnOk, IfOk, pos, ℕ};
+ghost use Rattle.std.specs.Prelude.{◌≡◌, ◌++◌, OnOk, IfOk, length, pos, unsigned_abs, ◌≤ℤ◌};
 ghost use Rattle.prdb_entries.specs.Bytes.{words, zeros, filled};
 ghost use Rattle.std.specs.List.{flat_map};
 ghost use Rattle.prdb_entries.specs.State.{fixed, fixed_entries, administrators, initial_state};
+ghost use Rattle.prdb_entries.specs.Meaning.{new_user};
 ghost use Rattle.prdb_entries.specs.Layout.{head_of, numbers_of, block_of, layout, entry_of};
 
 use std::alloc::{AllocError, Global};
@@ -57,6 +58,21 @@ impl<'a> Entry<'a> {
             owner: ADMINISTRATORS,
             creator: ADMINISTRATORS,
             quota: 0,
+        }
+    }
+
+    /// A user as a call makes it.
+    pub fn new_user(name: &'a [u8], id: i32) -> Self
+        requires { pos 0 ≤ℤ id }
+        ensures { entry_of result ≡ new_user name.now (unsigned_abs id) }
+    {
+        Entry {
+            name,
+            flags: USER_FLAGS,
+            id,
+            owner: ADMINISTRATORS,
+            creator: ANONYMOUS,
+            quota: USER_QUOTA,
         }
     }
 }
@@ -152,7 +168,8 @@ fn push_fixed(out: &mut Vec<u8>) -> Result<(), AllocError>
 /// The image of the first state: the head and the fixed entries.
 #[tactic(auto, unfolding(crate::specs::Layout::layout))]
 pub fn initial_image(alloc: Global) -> Result<Vec<u8>, AllocError>
-    ensures { IfOk result (λ image. image.items ≡ layout initial_state) }
+    ensures value { IfOk result (λ image. image.items ≡ layout initial_state) }
+    ensures len { IfOk result (λ image. length image.items ≡ 3264) }
 {
     let mut image = Vec::new(alloc);
     push_head(&mut image)?;

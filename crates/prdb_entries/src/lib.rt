@@ -5,7 +5,9 @@
 mod blocks;
 mod calls;
 mod entries;
+mod images;
 mod names;
 
 pub use calls::writes;
+pub use images::call_image;
 
