@@ -1,7 +1,7 @@
 -- The calls of the protection database that are built, and the one spelling of each.
 use Rattle.std.specs.Prelude.{ℕ, ◌≤◌, Bool, true, false, List, [], ◌∷◌, ◌++◌, length}
 use Rattle.std.specs.List.{flat_map, AllByRecursion}
-use Rattle.prdb_entries.specs.Bytes.{word, string}
+use Rattle.prdb_entries.specs.Bytes.{words, string}
 
 -- a call: the name of a user to be made, without a given owner, or the names to be translated to ids
 pub data PrCall : Type 0 where
@@ -17,8 +17,8 @@ no_owner = 0
 
 -- the call's number and its fields, and nothing behind them
 abbrev pub spelling : PrCall → List ℕ
-spelling (NewUser name) = word 1 ++ string name ++ word user_kind ++ word no_owner
-spelling (NameToId names) = word 3 ++ word (length names) ++ flat_map string names
+spelling (NewUser name) = words (1 ∷ []) ++ string name ++ words (user_kind ∷ no_owner ∷ [])
+spelling (NameToId names) = words (3 ∷ length names ∷ []) ++ flat_map string names
 
 -- a name in a call has at most 255 bytes
 abbrev pub IsCallName : List ℕ → Type 0

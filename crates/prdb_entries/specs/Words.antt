@@ -9,15 +9,15 @@ use Rattle.prdb_entries.specs.Call.{PrCall, NewUser, NameToId, spelling}
 use Rattle.prdb_entries.specs.Reading.{◌>>=◌, number_at, call_of}
 
 -- one mark or more, and nothing else
-abbrev pub is_quotes : List ℕ → Bool
+unfoldable pub is_quotes : List ℕ → Bool
 is_quotes word = nat_lt 0 (length word) && list_all (λ b. b == 34) word
 
 -- no blank and no control byte, and not empty
-abbrev pub is_plain : List ℕ → Bool
+unfoldable pub is_plain : List ℕ → Bool
 is_plain word = nat_lt 0 (length word) && list_all (λ b. nat_le 33 b) word
 
 -- a string without the limit of its length: two marks more stand round a string of marks or of nothing
-abbrev pub unquoted : List ℕ → Option (List ℕ)
+unfoldable pub unquoted : List ℕ → Option (List ℕ)
 unquoted word =
     if is_quotes word then (if length word == 1 then Some word else (if length word == 3 then None else Some (drop 2 word)))
     else (if is_plain word then Some word else None)
@@ -33,8 +33,7 @@ unfoldable pub strings_of_words : List (List ℕ) → Option (List (List ℕ))
 strings_of_words [] = Some []
 strings_of_words (word ∷ words) = do
   first ← string_of_word word
-  others ← strings_of_words words
-  Some (first ∷ others)
+  option_map (λ others. first ∷ others) (strings_of_words words)
 
 -- the words behind newentry: a name, the kind 0 and the owner 0
 abbrev pub new_user_in : List (List ℕ) → Option PrCall
@@ -66,15 +65,13 @@ unfoldable pub ids_text : ℕ → List ℕ → Option (List ℕ)
 ids_text zero bytes = if length bytes == 0 then Some [] else None
 ids_text (suc n) bytes = do
   id ← number_at bytes
-  others ← ids_text n id.1
-  Some (32 ∷ id_text id.0 ++ others)
+  option_map (λ others. 32 ∷ id_text id.0 ++ others) (ids_text n id.1)
 
 -- a list of ids: their number, and they
 unfoldable pub id_list_text : List ℕ → Option (List ℕ)
 id_list_text bytes = do
   count ← number_at bytes
-  ids ← ids_text count.0 count.1
-  Some (decimal count.0 ++ ids)
+  option_map (λ ids. decimal count.0 ++ ids) (ids_text count.0 count.1)
 
 -- one id
 unfoldable pub one_id_text : List ℕ → Option (List ℕ)

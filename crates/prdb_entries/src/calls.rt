@@ -12,8 +12,10 @@ const MAX_NAME: u32 = 255;
 /// The most items of a list in a call.
 const MAX_LIST: u32 = 5000;
 
-const USER_KIND: u32 = 0;
-const NO_OWNER: u32 = 0;
+/// A user's kind in a call.
+pub const USER_KIND: u32 = 0;
+/// The owner in a call that gives none.
+pub const NO_OWNER: u32 = 0;
 
 /// A call as it stands in its bytes.
 #[derive(Clone, Copy)]
@@ -45,7 +47,7 @@ pub fn number(bytes: &[u8]) -> Option<(u32, &[u8])>
     Some((number, rest))
 }
 
-fn zeros_after(length: u32) -> usize
+pub fn zeros_after(length: u32) -> usize
     ensures { result ≡ padding length }
 {
     (4 - length as usize % 4) % 4

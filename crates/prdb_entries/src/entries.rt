@@ -78,7 +78,7 @@ impl<'a> Entry<'a> {
 }
 
 #[tactic(auto, unfolding(crate::specs::Bytes::zeros))]
-fn push_zeros(out: &mut Vec<u8>, count: usize) -> Result<(), AllocError>
+pub fn push_zeros(out: &mut Vec<u8>, count: usize) -> Result<(), AllocError>
     ensures { OnOk result (out.new.items ≡ out.old.items ++ zeros count) }
 {
     for _ in 0..count {
@@ -88,7 +88,7 @@ fn push_zeros(out: &mut Vec<u8>, count: usize) -> Result<(), AllocError>
 }
 
 #[tactic(auto, unfolding(crate::specs::Bytes::words))]
-fn push_words(out: &mut Vec<u8>, numbers: &[u32]) -> Result<(), AllocError>
+pub fn push_words(out: &mut Vec<u8>, numbers: &[u32]) -> Result<(), AllocError>
     ensures { OnOk result (out.new.items ≡ out.old.items ++ words numbers.now) }
 {
     for number in numbers {

@@ -7,7 +7,8 @@ mod calls;
 mod entries;
 mod images;
 mod names;
+mod words;
 
 pub use calls::writes;
 pub use images::call_image;
-
+pub use words::{call_words, reply_words};
