@@ -1,3 +1,5 @@
+pub mod CallLaw
+pub mod Fields
 pub mod Fixed
 pub mod Ids
 pub mod Initial

@@ -6,9 +6,11 @@ mod blocks;
 mod calls;
 mod entries;
 mod images;
+mod laws;
 mod names;
 mod words;
 
 pub use calls::writes;
 pub use images::call_image;
+pub use laws::law_call_is_spelled;
 pub use words::{call_words, reply_words};
