@@ -46,19 +46,19 @@ new_user_takes bytes call fits e =
     let named : a.0.1 ≡ words (0 ∷ 0 ∷ []) = both ∙ ap (λ (n : ℕ). word n ++ word o.0.0) (eqb-true k.0.0 0 numbers.0) ∙ ap (λ (n : ℕ). word 0 ++ word n) (eqb-true o.0.0 0 numbers.1) ∙ sym (words_two 0 0) in
     let whole : bytes ≡ string a.0.0 ++ words (0 ∷ 0 ∷ []) = ta.0.parts ∙ ap (λ (r : List ℕ). string a.0.0 ++ r) named in
     let text : word 1 ++ bytes ≡ spelling (NewUser a.0.0) =
-      ap (λ (b : List ℕ). word 1 ++ b) whole ∙ sym (append_assoc (word 1) (string a.0.0) (words (0 ∷ 0 ∷ []))) ∙ ap (λ (w : List ℕ). (w ++ string a.0.0) ++ words (0 ∷ 0 ∷ [])) (sym (words_one 1)) in
+    ap (λ (b : List ℕ). word 1 ++ b) whole ∙ sym (append_assoc (word 1) (string a.0.0) (words (0 ∷ 0 ∷ []))) ∙ ap (λ (w : List ℕ). (w ++ string a.0.0) ++ words (0 ∷ 0 ∷ [])) (sym (words_one 1)) in
     subst (λ (c : PrCall). Spells bytes 1 c) g.1 (record { text = text; fits = ta.1 })
 
 new_user_again : (name : List ℕ) → IsCallName name → new_user_of (string name ++ words (0 ∷ 0 ∷ [])) ≡ Some (NewUser name)
 unfolding new_user_of
 new_user_again name short =
     ap (λ (o : Option (List ℕ × List ℕ)). o >>= λ n. number_at n.1 >>= λ kind. number_at kind.1 >>= λ owner. cond (eqb kind.0 0 && eqb owner.0 0 && eqb (length owner.1) 0) (Some (NewUser n.0)) None)
-      (string_again name (words (0 ∷ 0 ∷ [])) short)
+    (string_again name (words (0 ∷ 0 ∷ [])) short)
     ∙ ap (λ (b : List ℕ). number_at b >>= λ kind. number_at kind.1 >>= λ owner. cond (eqb kind.0 0 && eqb owner.0 0 && eqb (length owner.1) 0) (Some (NewUser name)) None) (words_two 0 0)
     ∙ ap (λ (o : Option (ℕ × List ℕ)). o >>= λ kind. number_at kind.1 >>= λ owner. cond (eqb kind.0 0 && eqb owner.0 0 && eqb (length owner.1) 0) (Some (NewUser name)) None)
-      (number_again 0 (word 0) (omega arith))
+    (number_again 0 (word 0) (omega arith))
     ∙ ap (λ (o : Option (ℕ × List ℕ)). o >>= λ owner. cond (eqb 0 0 && eqb owner.0 0 && eqb (length owner.1) 0) (Some (NewUser name)) None)
-      (ap number_at (sym (append-nil (word 0))) ∙ number_again 0 [] (omega arith))
+    (ap number_at (sym (append-nil (word 0))) ∙ number_again 0 [] (omega arith))
 
 -- a test that passed
 cond_yes : {A : Type 0} (b : Bool) (o : Option A) (y : A) → cond b o None ≡ Some y → (b ≡ true) × (o ≡ Some y)
@@ -83,7 +83,7 @@ name_to_id_takes bytes call fits e =
     let whole : bytes ≡ word a.0.0 ++ flat_map string s.0.0 = ta.0.parts ∙ ap (λ (r : List ℕ). word a.0.0 ++ r) last in
     let counted : bytes ≡ word (length s.0.0) ++ flat_map string s.0.0 = whole ∙ ap (λ (n : ℕ). word n ++ flat_map string s.0.0) (sym ts.1) in
     let text : word 3 ++ bytes ≡ spelling (NameToId s.0.0) =
-      ap (λ (b : List ℕ). word 3 ++ b) counted ∙ sym (append_assoc (word 3) (word (length s.0.0)) (flat_map string s.0.0)) ∙ ap (λ (w : List ℕ). w ++ flat_map string s.0.0) (sym (words_two 3 (length s.0.0))) in
+    ap (λ (b : List ℕ). word 3 ++ b) counted ∙ sym (append_assoc (word 3) (word (length s.0.0)) (flat_map string s.0.0)) ∙ ap (λ (w : List ℕ). w ++ flat_map string s.0.0) (sym (words_two 3 (length s.0.0))) in
     let few : a.0.0 ≤ 5000 = leb-true a.0.0 5000 g.0 in
     let same : NameToId s.0.0 ≡ call = ap NameToId h.1 ∙ m.2 in
     subst (λ (c : PrCall). Spells bytes 3 c) same (record { text = text; fits = (omega (arith, ts.1), ts.2) })

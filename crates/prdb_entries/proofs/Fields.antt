@@ -115,15 +115,15 @@ unfolding string_at
 string_again text rest short =
     let pad : List ℕ = zeros (padding (length text)) in
     let regrouped : string text ++ rest ≡ word (length text) ++ (text ++ (zeros (padding (length text)) ++ rest)) =
-      append_assoc (word (length text) ++ text) (zeros (padding (length text))) rest ∙ append_assoc (word (length text)) text (zeros (padding (length text)) ++ rest) in
+    append_assoc (word (length text) ++ text) (zeros (padding (length text))) rest ∙ append_assoc (word (length text)) text (zeros (padding (length text)) ++ rest) in
     let test : (leb (length text) 255 && list_all (λ b. eqb b 0) (zeros (padding (length text)))) ≡ true = and_from _ _ (le-leb (length text) 255 short) (test-zeros (padding (length text))) in
     ap string_at regrouped
     ∙ ap (λ (o : Option (ℕ × List ℕ)). o >>= λ len. front_at len.0 len.1 >>= λ t. front_at (padding len.0) t.1 >>= λ zs. cond (leb len.0 255 && list_all (λ b. eqb b 0) zs.0) (Some (t.0, zs.1)) None)
-        (number_again (length text) (text ++ (zeros (padding (length text)) ++ rest)) (omega arith))
+    (number_again (length text) (text ++ (zeros (padding (length text)) ++ rest)) (omega arith))
     ∙ ap (λ (o : Option (List ℕ × List ℕ)). o >>= λ t. front_at (padding (length text)) t.1 >>= λ zs. cond (leb (length text) 255 && list_all (λ b. eqb b 0) zs.0) (Some (t.0, zs.1)) None)
-        (front_again (length text) text (zeros (padding (length text)) ++ rest) refl)
+    (front_again (length text) text (zeros (padding (length text)) ++ rest) refl)
     ∙ ap (λ (o : Option (List ℕ × List ℕ)). o >>= λ zs. cond (leb (length text) 255 && list_all (λ b. eqb b 0) zs.0) (Some (text, zs.1)) None)
-        (front_again (padding (length text)) (zeros (padding (length text))) rest (length-zeros (padding (length text))))
+    (front_again (padding (length text)) (zeros (padding (length text))) rest (length-zeros (padding (length text))))
     ∙ ap (λ (b : Bool). cond b (Some (text, rest)) None) test
 
 -- ---- lists of strings

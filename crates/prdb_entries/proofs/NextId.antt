@@ -9,13 +9,13 @@ pub ids_above_is : (a max : ℕ) → a ≡ min (max + 1) 4294967295 → range_wi
 ids_above_is a max e =
     elim (cases_lt max 2147483647) [
       | inl below ↦
-        let first : a ≡ max + 1 = omega arith in
-        let len : 2147483648 - (max + 1) ≡ 2147483647 - max = omega arith in
-        rw (first, len) refl
+          let first : a ≡ max + 1 = omega arith in
+          let len : 2147483648 - (max + 1) ≡ 2147483647 - max = omega arith in
+          rw (first, len) refl
       | inr past ↦
-        let left : 2147483648 - a ≡ 0 = omega arith in
-        let right : 2147483647 - max ≡ 0 = omega arith in
-        rw (left, right) refl
+          let left : 2147483648 - a ≡ 0 = omega arith in
+          let right : 2147483647 - max ≡ 0 = omega arith in
+          rw (left, right) refl
     ]
 
 found_or_later : (b : Bool) (x bound : ℕ) (later : Option ℕ) → x ≤ bound → IfSome later (λ y. y ≤ bound) → IfSome (cond b (Some x) later) (λ y. y ≤ bound)

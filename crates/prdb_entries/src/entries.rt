@@ -21,6 +21,7 @@ const FORMAT: u32 = 1;
 const MAX_GROUP: i32 = -205;
 
 const USER_FLAGS: u32 = 131_072;
+
 const GROUP_FLAGS: u32 = 131_584;
 
 /// The id of `system:administrators`, which owns what has no other owner.
@@ -141,12 +142,7 @@ fn push_head(out: &mut Vec<u8>) -> Result<(), AllocError>
     Ok(())
 }
 
-fn push_fixed_entry(
-    out: &mut Vec<u8>,
-    name: &[u8],
-    flags: u32,
-    id: i32,
-) -> Result<(), AllocError>
+fn push_fixed_entry(out: &mut Vec<u8>, name: &[u8], flags: u32, id: i32) -> Result<(), AllocError>
     ensures { OnOk result (out.new.items ≡ out.old.items ++ block_of (fixed name.now flags id)) }
 {
     push_block(out, &Entry::fixed(name, flags, id))?;

@@ -9,7 +9,9 @@ ghost use Rattle.prdb_entries.specs.Blocks.{id_among, id_is_among};
 ghost use Rattle.prdb_entries.specs.Reading.{names_of, StandsForCall, call_of};
 ghost use Rattle.prdb_entries.specs.Protection.{protection, refusal, answer, answer_over, answer_new_user, next_id, with_numbers, with_block, ids_of};
 
-use crate::blocks::{BLOCK_LEN, Block, HEAD_LEN, blocks, has_id, has_name, has_whole_blocks, id_of, word_at};
+use crate::blocks::{
+    BLOCK_LEN, Block, HEAD_LEN, blocks, has_id, has_name, has_whole_blocks, id_of, word_at,
+};
 use crate::calls::{Call, read_call, string};
 use crate::entries::{Entry, initial_image, push_block};
 use crate::names::{is_user_name, lowered};
@@ -22,7 +24,9 @@ const MAX_ID: u32 = 2_147_483_647;
 
 /// The refusals, by their numbers in the protection server's table of errors.
 const NAME_EXISTS: u32 = 267_264;
+
 const NO_IDS: u32 = 267_266;
+
 const BAD_NAME: u32 = 267_272;
 
 /// An answer, and the image after it where it changed.

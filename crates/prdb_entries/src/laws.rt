@@ -8,5 +8,4 @@ ghost use Rattle.prdb_entries.specs.Reading.{call_of};
 pub fn law_call_is_spelled()
     ensures { (bytes : List ℕ) (call : PrCall) → IsBytes bytes
         → (call_of bytes ≡ Some call) ↔ ((bytes ≡ spelling call) × IsPrCall call) }
-{
-}
+{}

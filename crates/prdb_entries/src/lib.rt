@@ -14,3 +14,6 @@ pub use calls::writes;
 pub use images::call_image;
 pub use laws::law_call_is_spelled;
 pub use words::{call_words, reply_words};
+
+#[cfg(test)]
+mod tests;

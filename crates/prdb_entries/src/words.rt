@@ -23,11 +23,14 @@ const MAX_LIST: usize = 5000;
 
 /// The names of the calls, and the word of the number 0.
 const NEWENTRY: &[u8] = b"newentry";
+
 const NAMETOID: &[u8] = b"nametoid";
+
 const ZERO: &[u8] = b"0";
 
 /// The numbers of the calls.
 const NEW_ENTRY: u32 = 1;
+
 const NAME_TO_ID: u32 = 3;
 
 fn are_quotes(bytes: &[u8]) -> bool

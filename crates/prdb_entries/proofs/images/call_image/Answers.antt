@@ -21,8 +21,10 @@ returns-then-is_empty c =
     let call = c.in-Some.ensures in
     let first = ap (λ (i : List ℕ). answer i call.0) (c.deref.ensures.value ∙ c.in_ok-initial_image.ensures.value) in
     let over = over_empty image read call.0 call.1 (sym c.if-is_empty.ensures) in
-    record { exact = IfOk-weaker c.answer.result (λ (r : Answer). (p : PrCall) → StandsForCall c.in-Some.call p → r ≡ answer c.deref.result.now p) (λ (r : Answer). Settles r image (answer_over image read))
-        (λ r f. settled r (answer_over image read) image (f call.0 call.2 ∙ first ∙ sym over)) c.answer.ensures }
+    record {
+      exact = IfOk-weaker c.answer.result (λ (r : Answer). (p : PrCall) → StandsForCall c.in-Some.call p → r ≡ answer c.deref.result.now p) (λ (r : Answer). Settles r image (answer_over image read))
+          (λ r f. settled r (answer_over image read) image (f call.0 call.2 ∙ first ∙ sym over)) c.answer.ensures;
+    }
 
 pub returns-then-not-has_whole_blocks : goal.returns-then-not-has_whole_blocks
 returns-then-not-has_whole_blocks c =
@@ -38,5 +40,7 @@ returns c =
     let read = call_of c.args.call.now in
     let call = c.in-Some.ensures in
     let over = over_blocks image read call.0 call.1 (sym c.if-is_empty.ensures) (sym c.if-not-has_whole_blocks.ensures) in
-    record { exact = IfOk-weaker c.answer-2.result (λ (r : Answer). (p : PrCall) → StandsForCall c.in-Some.call p → r ≡ answer image p) (λ (r : Answer). Settles r image (answer_over image read))
-        (λ r f. settled r (answer_over image read) image (f call.0 call.2 ∙ sym over)) c.answer-2.ensures }
+    record {
+      exact = IfOk-weaker c.answer-2.result (λ (r : Answer). (p : PrCall) → StandsForCall c.in-Some.call p → r ≡ answer image p) (λ (r : Answer). Settles r image (answer_over image read))
+          (λ r f. settled r (answer_over image read) image (f call.0 call.2 ∙ sym over)) c.answer-2.ensures;
+    }

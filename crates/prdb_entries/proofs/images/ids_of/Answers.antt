@@ -11,7 +11,7 @@ loop-init c =
     let whole = word c.args.count ++ ids_of c.args.blocks.now (unwrap_or (names_of c.args.count c.args.names.now) []) in
     let first : c.extend_from_slice.new.self.items ≡ word c.args.count = search rules in
     subst (λ (out : List ℕ). Remains c.args.blocks.now c.args.count 0 c.args.names.now out whole) (sym first)
-        (begins c.args.blocks.now c.args.count c.args.names.now (names_of c.args.count c.args.names.now) refl c.requires)
+    (begins c.args.blocks.now c.args.count c.args.names.now (names_of c.args.count c.args.names.now) refl c.requires)
 
 pub unreachable-requires : goal.unreachable-requires
 unreachable-requires c =

@@ -24,4 +24,4 @@ returns c =
     let same = ap (λ (b : Bool). then_some b c.loop.out) c.is_empty.ensures in
     let whole = behind (string_bytes c.args.out) (ids_text c.args.count c.args.bytes.now) in
     ap (option_map string_bytes) (c.then_some.ensures ∙ same) ∙ shown (eqb (length c.loop.rest.now) 0) c.loop.out
-        ∙ is_done c.args.count c.loop.counter c.loop.rest.now (string_bytes c.loop.out) whole c.loop-test.false c.loop.invariant
+    ∙ is_done c.args.count c.loop.counter c.loop.rest.now (string_bytes c.loop.out) whole c.loop-test.false c.loop.invariant
