@@ -1,0 +1,38 @@
+-- An image's blocks as they are read, whatever its bytes are.
+use Rattle.std.specs.Prelude.{ℕ, ◌/◌, ◌%◌, ◌-◌, Bool, ◌&&◌, Option, unwrap_or, List, length, take, drop, nat_le, ◌==◌}
+use Rattle.std.specs.List.{before_first, find, list_any}
+use Rattle.std.specs.Option.{option_map}
+use Rattle.std.specs.Simd.{first_chunks}
+use Rattle.std.specs.Str.{bytes_eq}
+use Rattle.prdb_entries.specs.Bytes.{word_at}
+use Rattle.prdb_entries.specs.Layout.{head_len, block_len}
+
+-- a head, and whole blocks behind it
+abbrev pub has_whole_blocks : List ℕ → Bool
+has_whole_blocks image = nat_le head_len (length image) && (length image - head_len) % block_len == 0
+
+-- how many blocks stand behind the head
+abbrev pub block_count : List ℕ → ℕ
+block_count image = (length image - head_len) / block_len
+
+-- the blocks, in their order
+unfoldable pub blocks_of : List ℕ → List (List ℕ)
+blocks_of image = first_chunks block_len (block_count image) (drop head_len image)
+
+-- the name in a block ends before the first zero byte of its field
+unfoldable pub block_name : List ℕ → List ℕ
+block_name block = before_first (λ b. b == 0) (take 64 (drop 32 block))
+
+-- the id in a block, as the number of its word
+abbrev pub block_id : List ℕ → ℕ
+block_id block = word_at block 8
+
+-- the id word of the first block with this name, or that of `anonymous`
+abbrev pub id_among : List (List ℕ) → List ℕ → ℕ
+id_among blocks name = unwrap_or (option_map block_id (find (λ block. bytes_eq (block_name block) name) blocks)) 32766
+
+abbrev pub name_among : List (List ℕ) → List ℕ → Bool
+name_among blocks name = list_any (λ block. bytes_eq (block_name block) name) blocks
+
+abbrev pub id_is_among : List (List ℕ) → ℕ → Bool
+id_is_among blocks id = list_any (λ block. block_id block == id) blocks

@@ -1,0 +1,38 @@
+-- The image of a state, format 1: a head, and a block for each entry.
+use Rattle.std.specs.Prelude.{ℕ, ◌≡◌, ◌⊎◌, List, [], ◌∷◌, ◌++◌, length}
+use Rattle.std.specs.List.{flat_map}
+use Rattle.prdb_entries.specs.Bytes.{bits, words, zeros, filled}
+use Rattle.prdb_entries.specs.declared.entries.Entry.{Entry}
+use Rattle.prdb_entries.specs.State.{PrEntry, PrState, IsPrState, initial_state}
+
+-- the head, in bytes
+abbrev pub head_len : ℕ
+head_len = 2112
+
+-- a block, in bytes
+abbrev pub block_len : ℕ
+block_len = 192
+
+-- the head: the database's word, format 1, the maxima, the number of blocks, and zero bytes
+unfoldable pub head_of : PrState → List ℕ
+head_of s = words (0x50524442 ∷ 1 ∷ s.max_user ∷ bits s.max_group ∷ length s.entries ∷ []) ++ zeros 2092
+
+-- an entry, without where its name lies in memory
+abbrev pub entry_of : Entry → PrEntry
+entry_of e = record { name = e.name.now; flags = e.flags; id = e.id; owner = e.owner; creator = e.creator; quota = e.quota }
+
+-- the numbers at the front of an entry's block: its kind, its own, and that it has no pairs
+unfoldable pub numbers_of : PrEntry → List ℕ
+numbers_of e = 1 ∷ e.flags ∷ bits e.id ∷ bits e.owner ∷ bits e.creator ∷ bits e.quota ∷ 0 ∷ 0 ∷ []
+
+-- an entry's block: its numbers, its name in 64 bytes, and zero bytes
+unfoldable pub block_of : PrEntry → List ℕ
+block_of e = words (numbers_of e) ++ filled 64 e.name ++ zeros 96
+
+unfoldable pub layout : PrState → List ℕ
+layout s = head_of s ++ flat_map block_of s.entries
+
+-- an image stands for a valid state by its layout; the empty image stands for the initial state
+pub record StandsFor (image : List ℕ) (s : PrState) : Type 0 where
+  pub valid : IsPrState s
+  pub bytes : (image ≡ layout s) ⊎ ((image ≡ []) × (s ≡ initial_state))

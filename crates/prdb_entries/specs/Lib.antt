@@ -1,0 +1,10 @@
+pub mod Bytes
+pub mod Call
+pub mod Reading
+pub mod Names
+pub mod State
+pub mod Meaning
+pub mod Layout
+pub mod Blocks
+pub mod Protection
+pub mod Words

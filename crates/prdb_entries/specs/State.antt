@@ -1,0 +1,79 @@
+-- The protection database's state: its entries in the order of their blocks, and the two maxima (ptserver).
+use Rattle.std.specs.Prelude.{ℕ, ℤ, pos, negsuc, ◌≡◌, ◌<◌, ◌≤◌, ◌^◌, ◌⊎◌, ◌<ℤ◌, ◌≢◌, List, [], ◌∷◌, length, map, take, codes, FitsSigned, All, Contains, nat_eq}
+use Rattle.std.specs.Int.{w32}
+use Rattle.std.specs.List.{AllPairs}
+use Rattle.prdb_entries.specs.Bytes.{IsBytes}
+
+-- an entry: its name, its flags, its id, the ids of its owner and its creator, and its quota
+pub record PrEntry : Type 0 where
+  pub name : List ℕ
+  pub flags : ℕ
+  pub id : ℤ
+  pub owner : ℤ
+  pub creator : ℤ
+  pub quota : ℤ
+
+-- the greatest user id that was given and the least group id, and the entries
+pub record PrState : Type 0 where
+  pub max_user : ℕ
+  pub max_group : ℤ
+  pub entries : List PrEntry
+
+-- what an entry begins with: a user's and a group's flags
+abbrev pub user_flags : ℕ
+user_flags = 131072
+
+abbrev pub group_flags : ℕ
+group_flags = 131584
+
+-- the ids of `system:administrators` and of `anonymous`
+abbrev pub administrators : ℤ
+administrators = negsuc 203
+
+abbrev pub anonymous : ℤ
+anonymous = pos 32766
+
+-- an entry that is always there
+abbrev pub fixed : List ℕ → ℕ → ℤ → PrEntry
+fixed name flags id = record { name = name; flags = flags; id = id; owner = administrators; creator = administrators; quota = pos 0 }
+
+-- the six fixed entries, in the order of their blocks
+unfoldable pub fixed_entries : List PrEntry
+fixed_entries = fixed (codes "system:anyuser") group_flags (negsuc 100) ∷ fixed (codes "system:authuser") group_flags (negsuc 101)
+    ∷ fixed (codes "system:ptsviewers") group_flags (negsuc 202) ∷ fixed (codes "system:administrators") group_flags administrators
+    ∷ fixed (codes "system:backup") group_flags (negsuc 204) ∷ fixed (codes "anonymous") user_flags anonymous ∷ []
+
+-- the state at first
+abbrev pub initial_state : PrState
+initial_state = record { max_user = 0; max_group = negsuc 204; entries = fixed_entries }
+
+-- a name and an id, by which an entry is found
+abbrev pub key : PrEntry → List ℕ × ℤ
+key e = (e.name, e.id)
+
+-- an id that is 0 or an entry's
+abbrev pub IsIdOrNone : List PrEntry → ℤ → Type 0
+IsIdOrNone entries id = (id ≡ pos 0) ⊎ Contains (map (λ e. e.id) entries) id
+
+-- an entry whose fields have a place in a block: a name without zero bytes, and words
+pub record IsPrEntry (e : PrEntry) : Type 0 where
+  pub name_bytes : IsBytes e.name
+  pub name_len : length e.name ≤ 63
+  pub name_text : All (λ b. 0 < b) e.name
+  pub flags : e.flags < 2 ^ 32
+  pub id : FitsSigned w32 e.id
+  pub owner : FitsSigned w32 e.owner
+  pub creator : FitsSigned w32 e.creator
+  pub quota : FitsSigned w32 e.quota
+
+-- a valid state: names and ids are distinct, the fixed entries come first, each owner is none or an entry, each
+-- creator is a fixed entry, and the maxima are in range
+pub record IsPrState (s : PrState) : Type 0 where
+  pub entries : All IsPrEntry s.entries
+  pub names : AllPairs (λ a b. a ≢ b) (map (λ e. e.name) s.entries)
+  pub ids : AllPairs (λ a b. a ≢ b) (map (λ e. e.id) s.entries)
+  pub fixed_first : map key (take 6 s.entries) ≡ map key fixed_entries
+  pub owners : All (λ e. IsIdOrNone s.entries e.owner) s.entries
+  pub creators : All (λ e. Contains (map (λ f. f.id) fixed_entries) e.creator) s.entries
+  pub max_user : s.max_user < 2 ^ 31
+  pub max_group : (k : ℕ) × (s.max_group ≡ negsuc k) × (k < 2147483647)

@@ -1,0 +1,88 @@
+-- Calls and answers as words of a script.
+use Rattle.std.specs.Prelude.{ℕ, zero, suc, Bool, ◌&&◌, ◌||◌, List, [], ◌∷◌, ◌++◌, length, take, drop, Option, Some, None, nat_lt, nat_le, ◌==◌, if◌then◌else◌, codes}
+use Rattle.std.specs.Fmt.{decimal, signed_decimal}
+use Rattle.std.specs.Int.{w32, cast_signed}
+use Rattle.std.specs.List.{list_all, flat_map}
+use Rattle.std.specs.Option.{option_map}
+use Rattle.std.specs.Str.{bytes_eq}
+use Rattle.prdb_entries.specs.Call.{PrCall, NewUser, NameToId, spelling}
+use Rattle.prdb_entries.specs.Reading.{◌>>=◌, number_at, call_of}
+
+-- one mark or more, and nothing else
+unfoldable pub is_quotes : List ℕ → Bool
+is_quotes word = nat_lt 0 (length word) && list_all (λ b. b == 34) word
+
+-- no blank and no control byte, and not empty
+unfoldable pub is_plain : List ℕ → Bool
+is_plain word = nat_lt 0 (length word) && list_all (λ b. nat_le 33 b) word
+
+-- a string without the limit of its length: two marks more stand round a string of marks or of nothing
+unfoldable pub unquoted : List ℕ → Option (List ℕ)
+unquoted word =
+    if is_quotes word then (if length word == 1 then Some word else (if length word == 3 then None else Some (drop 2 word)))
+    else (if is_plain word then Some word else None)
+
+-- the string of at most 255 bytes that a word stands for
+unfoldable pub string_of_word : List ℕ → Option (List ℕ)
+string_of_word word = do
+  text ← unquoted word
+  if nat_le (length text) 255 then Some text else None
+
+-- the strings that the words stand for, each for one
+unfoldable pub strings_of_words : List (List ℕ) → Option (List (List ℕ))
+strings_of_words [] = Some []
+strings_of_words (word ∷ words) = do
+  first ← string_of_word word
+  option_map (λ others. first ∷ others) (strings_of_words words)
+
+-- the words behind newentry: a name, the kind 0 and the owner 0
+abbrev pub new_user_in : List (List ℕ) → Option PrCall
+new_user_in (name ∷ kind ∷ owner ∷ []) =
+    if bytes_eq kind (codes "0") && bytes_eq owner (codes "0") then option_map NewUser (string_of_word name) else None
+new_user_in words = None
+
+-- the words behind nametoid: their number in decimal, and the names
+abbrev pub name_to_id_in : List (List ℕ) → Option PrCall
+name_to_id_in [] = None
+name_to_id_in (count ∷ names) =
+    if nat_le (length names) 5000 && bytes_eq count (decimal (length names)) then option_map NameToId (strings_of_words names) else None
+
+-- the call that words name
+abbrev pub call_in : List (List ℕ) → Option PrCall
+call_in [] = None
+call_in (name ∷ words) = if bytes_eq name (codes "newentry") then new_user_in words else (if bytes_eq name (codes "nametoid") then name_to_id_in words else None)
+
+-- the bytes of the call that words name
+abbrev pub call_of_words : List (List ℕ) → Option (List ℕ)
+call_of_words words = option_map spelling (call_in words)
+
+-- an id as a word
+abbrev pub id_text : ℕ → List ℕ
+id_text id = signed_decimal (cast_signed w32 id)
+
+-- so many ids, each after a blank, which are all of the bytes
+unfoldable pub ids_text : ℕ → List ℕ → Option (List ℕ)
+ids_text zero bytes = if length bytes == 0 then Some [] else None
+ids_text (suc n) bytes = do
+  id ← number_at bytes
+  option_map (λ others. 32 ∷ id_text id.0 ++ others) (ids_text n id.1)
+
+-- a list of ids: their number, and they
+unfoldable pub id_list_text : List ℕ → Option (List ℕ)
+id_list_text bytes = do
+  count ← number_at bytes
+  option_map (λ ids. decimal count.0 ++ ids) (ids_text count.0 count.1)
+
+-- one id
+unfoldable pub one_id_text : List ℕ → Option (List ℕ)
+one_id_text bytes = do
+  id ← number_at bytes
+  if length id.1 == 0 then Some (id_text id.0) else None
+
+-- the words of the answer to a call, joined by blanks
+abbrev pub answer_text : PrCall → List ℕ → Option (List ℕ)
+answer_text (NewUser name) reply = one_id_text reply
+answer_text (NameToId names) reply = id_list_text reply
+
+abbrev pub reply_in_words : List ℕ → List ℕ → Option (List ℕ)
+reply_in_words call reply = call_of call >>= λ c. answer_text c reply

@@ -1,0 +1,93 @@
+//! An image's head and blocks, as they are read.
+ghost use Rattle.std.specs.Prelude.{◌≡◌, ◌≤◌, length, ◌+◌, ◌/◌, ◌%◌, ◌==◌};
+ghost use Rattle.std.specs.List.{position, position_or_len};
+ghost use Rattle.prdb_entries.specs.Bytes.{word_at};
+ghost use Rattle.prdb_entries.specs.Blocks.{has_whole_blocks, blocks_of, block_name, block_id, id_among, name_among, id_is_among};
+
+/// The length of an image's head, in bytes.
+pub const HEAD_LEN: usize = 2112;
+
+/// The length of a block, in bytes.
+pub const BLOCK_LEN: usize = 192;
+
+/// The id of the entry `anonymous`.
+pub const ANONYMOUS: u32 = 32766;
+
+pub type Block = [u8; BLOCK_LEN];
+
+/// Whether an image is a head and whole blocks.
+pub fn has_whole_blocks(image: &[u8]) -> bool
+    ensures { result ≡ has_whole_blocks image.now }
+{
+    image.len() >= HEAD_LEN && (image.len() - HEAD_LEN) % BLOCK_LEN == 0
+}
+
+/// The blocks of an image, in their order.
+#[tactic(auto, unfolding(crate::specs::Blocks::blocks_of))]
+pub fn blocks(image: &[u8]) -> &[Block]
+    requires { 2112 ≤ length image.now }
+    ensures { result.now ≡ blocks_of image.now }
+{
+    let (_, blocks) = image.split_at(HEAD_LEN);
+    blocks.as_chunks::<BLOCK_LEN>().0
+}
+
+/// The word at a place.
+pub fn word_at(bytes: &[u8], at: usize) -> u32
+    requires { at + 4 ≤ length bytes.now }
+    ensures { result ≡ word_at bytes.now at }
+{
+    let word = &bytes[at..at + 4];
+    u32::from_be_bytes([word[0], word[1], word[2], word[3]])
+}
+
+fn first_zero(field: &[u8]) -> Option<usize>
+    ensures { result ≡ position (λ b. b == 0) field.now }
+{
+    field.iter().position(|b| *b == 0)
+}
+
+/// The length of the text before the first zero byte.
+fn text_len(field: &[u8]) -> usize
+    ensures { result ≡ position_or_len (λ b. b == 0) field.now }
+{
+    first_zero(field).unwrap_or(field.len())
+}
+
+#[tactic(auto, unfolding(crate::specs::Blocks::block_name))]
+fn block_name(block: &Block) -> &[u8]
+    ensures { result.now ≡ block_name block.now }
+{
+    let field = &block[32..96];
+    &field[..text_len(field)]
+}
+
+fn block_id(block: &Block) -> u32
+    ensures { result ≡ block_id block.now }
+{
+    word_at(block, 8)
+}
+
+/// The id of the first entry with this name, in two's complement, or that of `anonymous`.
+pub fn id_of(blocks: &[Block], name: &[u8]) -> u32
+    ensures { result ≡ id_among blocks.now name.now }
+{
+    blocks
+        .iter()
+        .find(|block| block_name(block) == name)
+        .map_or(ANONYMOUS, |block| block_id(block))
+}
+
+/// Whether an entry has this name.
+pub fn has_name(blocks: &[Block], name: &[u8]) -> bool
+    ensures { result ≡ name_among blocks.now name.now }
+{
+    blocks.iter().any(|block| block_name(block) == name)
+}
+
+/// Whether an entry has this id, in two's complement.
+pub fn has_id(blocks: &[Block], id: u32) -> bool
+    ensures { result ≡ id_is_among blocks.now id }
+{
+    blocks.iter().any(|block| block_id(block) == id)
+}

@@ -1,0 +1,19 @@
+//! The protection database's entries over a whole image: the calls that make a user and translate names, what
+//! they answer and leave, and calls and answers as words.
+#![tactic(auto)]
+
+mod blocks;
+mod calls;
+mod entries;
+mod images;
+mod laws;
+mod names;
+mod words;
+
+pub use calls::writes;
+pub use images::call_image;
+pub use laws::law_call_is_spelled;
+pub use words::{call_words, reply_words};
+
+#[cfg(test)]
+mod tests;

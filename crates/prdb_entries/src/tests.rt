@@ -1,0 +1,91 @@
+use super::*;
+use db_image::CallReply;
+use std::alloc::Global;
+use std::test::Fail;
+use ubik_types::{Bytes, NoMemory, bytes_of};
+
+const NEW_SMITH: [u8; 24] = [
+    0, 0, 0, 1, 0, 0, 0, 5, b's', b'm', b'i', b't', b'h', 0, 0, 0, 0, 0, 0, 0, 0, 0, 0, 0,
+];
+
+const SMITH_TO_ID: [u8; 20] = [
+    0, 0, 0, 3, 0, 0, 0, 1, 0, 0, 0, 5, b'S', b'm', b'i', b't', b'h', 0, 0, 0,
+];
+
+fn words(alloc: Global, texts: &[&str]) -> Result<Vec<Bytes>, NoMemory> {
+    let mut words = Vec::new(alloc);
+    for text in texts {
+        words.push(bytes_of(alloc, text.as_bytes())?)?;
+    }
+    Ok(words)
+}
+
+fn is_done(reply: &CallReply, fields: &[u8]) -> bool {
+    match reply {
+        CallReply::Done(bytes) => bytes.as_slice() == fields,
+        _ => false,
+    }
+}
+
+fn is_rule(reply: &CallReply, number: u32) -> bool {
+    match reply {
+        CallReply::Rule(rule) => *rule == number,
+        _ => false,
+    }
+}
+
+#[test]
+fn first_user(rt: HostRuntime) -> Result<(), Fail> {
+    let (reply, image) = call_image(rt.alloc(), &[], 1076, &NEW_SMITH)?;
+    assert!(rt; is_done(&reply, &[0, 0, 0, 1]));
+    let image = image.ok_or("a user changes the image")?;
+    assert_eq!(rt; image.as_slice().len(), 2112 + 7 * 192);
+    let (reply, after) = call_image(rt.alloc(), image.as_slice(), 1076, &SMITH_TO_ID)?;
+    assert!(rt; is_done(&reply, &[0, 0, 0, 1, 0, 0, 0, 1]));
+    assert!(rt; after.is_none());
+    let (reply, _) = call_image(rt.alloc(), image.as_slice(), 1076, &NEW_SMITH)?;
+    assert!(rt; is_rule(&reply, 267264));
+    Ok(())
+}
+
+#[test]
+fn faults(rt: HostRuntime) -> Result<(), Fail> {
+    let (reply, _) = call_image(rt.alloc(), &[], 1, &SMITH_TO_ID)?;
+    assert!(rt; is_done(&reply, &[0, 0, 0, 1, 0, 0, 0x7f, 0xfe]));
+    let (reply, _) = call_image(rt.alloc(), &[], 1, &NEW_SMITH[..23])?;
+    assert!(rt; matches!(reply, CallReply::Malformed));
+    let (reply, _) = call_image(rt.alloc(), &[0], 1, &NEW_SMITH)?;
+    assert!(rt; matches!(reply, CallReply::BadRecord { at: 1 }));
+    Ok(())
+}
+
+#[test]
+fn writing_calls(rt: HostRuntime) {
+    assert_eq!(rt; writes(&NEW_SMITH), Some(true));
+    assert_eq!(rt; writes(&SMITH_TO_ID), Some(false));
+    assert_eq!(rt; writes(&[]), None);
+}
+
+#[test]
+fn calls_of_words(rt: HostRuntime) -> Result<(), Fail> {
+    let new_user = words(rt.alloc(), &["newentry", "smith", "0", "0"])?;
+    let call = call_words(rt.alloc(), &new_user)?.ok_or("a new user")?;
+    assert_eq!(rt; call.as_slice(), NEW_SMITH.as_slice());
+    let name = words(rt.alloc(), &["nametoid", "1", "Smith"])?;
+    let call = call_words(rt.alloc(), &name)?.ok_or("a name")?;
+    assert_eq!(rt; call.as_slice(), SMITH_TO_ID.as_slice());
+    let two = words(rt.alloc(), &["nametoid", "2", "smith"])?;
+    assert!(rt; call_words(rt.alloc(), &two)?.is_none());
+    Ok(())
+}
+
+#[test]
+fn answers_in_words(rt: HostRuntime) -> Result<(), Fail> {
+    let id = reply_words(rt.alloc(), &NEW_SMITH, &[0, 0, 0, 1])?.ok_or("an id")?;
+    assert_eq!(rt; id.as_slice(), b"1".as_slice());
+    let ids = [0, 0, 0, 1, 0xff, 0xff, 0xff, 0x9b];
+    let ids = reply_words(rt.alloc(), &SMITH_TO_ID, &ids)?.ok_or("a list")?;
+    assert_eq!(rt; ids.as_slice(), b"1 -101".as_slice());
+    assert!(rt; reply_words(rt.alloc(), &NEW_SMITH, &[0])?.is_none());
+    Ok(())
+}
