@@ -1,8 +1,8 @@
 -- What becomes of an image, by what kind of image it is.
 use Rattle.std.proofs.Common.{◌≡◌, ℕ, Bool, true, false, cond, eqb, List, length, Option, Some, None, Result, Ok, Err, refl, sym, ap, ◌∙◌, ◌∷◌, []}
 use Rattle.std.specs.Prelude.{IfOk, unwrap_or}
-use Rattle.db_image.specs.declared.CallReply.{CallReply}
-use Rattle.db_image.specs.declared.CallReply.TheVariants.{BadRecord, Malformed}
+use Rattle.db_image.specs.declared.services.CallReply.{CallReply}
+use Rattle.db_image.specs.declared.services.CallReply.TheVariants.{BadRecord, Malformed}
 use Rattle.prdb_entries.specs.Call.{PrCall}
 use Rattle.prdb_entries.specs.State.{initial_state}
 use Rattle.prdb_entries.specs.Layout.{layout}

@@ -4,8 +4,8 @@ use Rattle.std.specs.List.{find, list_any, range_with_len}
 use Rattle.std.specs.Option.{option_map}
 use Rattle.std.specs.Ordering.{int_eq}
 use Rattle.std.specs.Str.{bytes_eq}
-use Rattle.db_image.specs.declared.CallReply.{CallReply}
-use Rattle.db_image.specs.declared.CallReply.TheVariants.{Done, Rule}
+use Rattle.db_image.specs.declared.services.CallReply.{CallReply}
+use Rattle.db_image.specs.declared.services.CallReply.TheVariants.{Done, Rule}
 use Rattle.prdb_entries.specs.Bytes.{word, words, bits}
 use Rattle.prdb_entries.specs.Call.{PrCall, NewUser, NameToId}
 use Rattle.prdb_entries.specs.Names.{lowered, is_user_name}

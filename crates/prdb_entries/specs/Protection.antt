@@ -3,8 +3,8 @@ use Rattle.std.specs.Prelude.{ℕ, ◌+◌, not, Option, Some, None, unwrap_or, 
 use Rattle.std.specs.List.{find}
 use Rattle.std.specs.Option.{option_map}
 use Rattle.db_image.specs.Database.{Database, Outcome}
-use Rattle.db_image.specs.declared.CallReply.{CallReply}
-use Rattle.db_image.specs.declared.CallReply.TheVariants.{Done, Rule, Malformed, BadRecord}
+use Rattle.db_image.specs.declared.services.CallReply.{CallReply}
+use Rattle.db_image.specs.declared.services.CallReply.TheVariants.{Done, Rule, Malformed, BadRecord}
 use Rattle.prdb_entries.specs.Bytes.{word, words, word_at}
 use Rattle.prdb_entries.specs.Call.{PrCall, NewUser, NameToId, is_write}
 use Rattle.prdb_entries.specs.Reading.{call_of}

@@ -8,11 +8,13 @@ mod entries;
 mod images;
 mod laws;
 mod names;
+mod service;
 mod words;
 
 pub use calls::writes;
 pub use images::call_image;
 pub use laws::law_call_is_spelled;
+pub use service::PrService;
 pub use words::{call_words, reply_words};
 
 #[cfg(test)]

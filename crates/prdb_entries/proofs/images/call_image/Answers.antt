@@ -1,6 +1,6 @@
 use Rattle.std.proofs.Common.{◌≡◌, List, ℕ, None, ap, sym, ◌∙◌}
 use Rattle.std.proofs.lemmas.Result.{IfOk-weaker}
-use Rattle.db_image.specs.declared.CallReply.TheVariants.{BadRecord, Malformed}
+use Rattle.db_image.specs.declared.services.CallReply.TheVariants.{BadRecord, Malformed}
 use Rattle.std.specs.Prelude.{length}
 use Rattle.prdb_entries.specs.Call.{PrCall}
 use Rattle.prdb_entries.specs.Reading.{call_of, StandsForCall}
