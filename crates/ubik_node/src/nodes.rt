@@ -1,5 +1,5 @@
 //! A server of a cell, one step at a time.
-ghost use Rattle.std.specs.Prelude.{◌≡◌, ◌≢◌, ◌+◌, ◌*◌, ◌<◌, ◌≤◌, Bool, ℕ, List, [], ◌∷◌, length, IfOk, IfErr, IfSome, IsErrOf, OnOk, OnErr, MatchResult, Some, false};
+ghost use Rattle.std.specs.Prelude.{◌≡◌, ◌≢◌, ◌+◌, ◌*◌, ◌<◌, ◌≤◌, Bool, ℕ, List, [], ◌∷◌, length, IfOk, IfErr, IfSome, IsErrOf, OnOk, OnErr, MatchResult, Some, true, false};
 ghost use Rattle.ubik_types.specs.Moment.{IsMoment};
 ghost use Rattle.cell_model.specs.Node as model;
 ghost use Rattle.cell_model.specs.NodeRule.{refusals};
@@ -53,7 +53,7 @@ impl<D: Disk, V: Service> Node<D, V> {
     ghost use Rattle.ubik_node.specs.Verdict.{Judges};
     ghost use Rattle.ubik_node.specs.Serving.{IsServing, Served, Asked};
     ghost use Rattle.ubik_node.specs.Progress.{phase_record, own_poll, own_spread};
-    ghost use Rattle.ubik_node.specs.Node.{node_of, up_server, IsStored, Makes, Steps, last_after};
+    ghost use Rattle.ubik_node.specs.Node.{node_of, up_server, IsStored, KeepsDisk, Makes, Steps, last_after};
 
     /// Opens a server over its disk, at a moment in seconds. A cell has one server today, so `me` is 0.
     /// A refusal hands the disk back: as it was, but after a fault of the disk.
@@ -107,6 +107,10 @@ impl<D: Disk, V: Service> Node<D, V> {
             (D.steps self.old.disk) (D.steps self.new.disk) }
         ensures stored { IsStored D.files self.old → IsStored D.files self.new }
         ensures beacon { event ≡ events.BeaconTurn → result ≢ StepEnd.NoMemory }
+        ensures told { (id : ℕ) (call : List ℕ) → event ≡ events.Ask id call → result ≢ StepEnd.NoMemory }
+        ensures no_memory { result ≡ StepEnd.NoMemory → KeepsDisk D.files D.steps self.old self.new }
+        ensures rests { self.old.halted ≡ true → self.new.disk ≡ self.old.disk }
+        ensures fewer { D.steps self.new.disk ≤ D.steps self.old.disk + 4 }
         ensures fault { result ≡ StepEnd.Halted → self.old.halted ≡ false → D.faults self.old.disk < D.faults self.new.disk }
         ensures never_falls { D.faults self.old.disk ≤ D.faults self.new.disk }
         ensures last { self.new.last ≡ last_after result self.old.last now }
@@ -175,6 +179,9 @@ impl<D: Disk, V: Service> Node<D, V> {
             (D.steps self.old.disk) (D.steps self.new.disk) }
         ensures stored { IsStored D.files self.old → IsStored D.files self.new }
         ensures beacon { event.now ≡ events.BeaconTurn → result ≢ StepEnd.NoMemory }
+        ensures told { (id : ℕ) (call : List ℕ) → event.now ≡ events.Ask id call → result ≢ StepEnd.NoMemory }
+        ensures no_memory { result ≡ StepEnd.NoMemory → KeepsDisk D.files D.steps self.old self.new }
+        ensures fewer { D.steps self.new.disk ≤ D.steps self.old.disk + 4 }
         ensures fault { result ≡ StepEnd.Halted → D.faults self.old.disk < D.faults self.new.disk }
         ensures never_falls { D.faults self.old.disk ≤ D.faults self.new.disk }
         ensures last { self.new.last ≡ self.old.last }
@@ -198,6 +205,8 @@ impl<D: Disk, V: Service> Node<D, V> {
         ensures step { Steps V.database result events.RecoverTurn now (node_of self.old) (node_of self.new) out.new
             (D.steps self.old.disk) (D.steps self.new.disk) }
         ensures stored { IsStored D.files self.old → IsStored D.files self.new }
+        ensures no_memory { result ≡ StepEnd.NoMemory → KeepsDisk D.files D.steps self.old self.new }
+        ensures fewer { D.steps self.new.disk ≤ D.steps self.old.disk + 4 }
         ensures fault { result ≡ StepEnd.Halted → D.faults self.old.disk < D.faults self.new.disk }
         ensures never_falls { D.faults self.old.disk ≤ D.faults self.new.disk }
         ensures last { self.new.last ≡ self.old.last }
@@ -248,20 +257,21 @@ impl<D: Disk, V: Service> Node<D, V> {
             (node_of self.new) out.new (D.steps self.old.disk) (D.steps self.new.disk)) }
         ensures stored { OnOk result (IsStored D.files self.old → IsStored D.files self.new) }
         ensures same { OnErr result ((self.new.state ≡ self.old.state) × (self.new.halted ≡ self.old.halted) × (out.new ≡ [])) }
-        ensures no_memory { IsErrOf result WriteFault.NoMemory → (D.files self.new.disk ≡ D.files self.old.disk) × (D.steps self.new.disk ≡ D.steps self.old.disk) }
+        ensures no_memory { IsErrOf result WriteFault.NoMemory → KeepsDisk D.files D.steps self.old self.new }
+        ensures fewer { D.steps self.new.disk ≤ D.steps self.old.disk + 4 }
         ensures fault { IsErrOf result WriteFault.DiskFault → D.faults self.old.disk < D.faults self.new.disk }
         ensures never_falls { D.faults self.old.disk ≤ D.faults self.new.disk }
         ensures last { self.new.last ≡ self.old.last }
     {
-        let version = Version {
+        let next = Version {
             epoch: self.state.version.epoch,
             counter: self.state.version.counter + 1,
         };
-        write_database(&mut self.disk, version, image.as_slice())?;
-        self.state.version = version;
+        write_database(&mut self.disk, next, image.as_slice())?;
+        self.state.version = next;
         self.state.image = image;
         self.state.progress = progress;
-        out.put(Output::Announce { version });
+        out.put(Output::Announce { version: next });
         let reply = Reply::Ok(answer);
         out.put(Output::Reply { id, reply });
         Ok(())
@@ -299,6 +309,7 @@ impl<D: Disk, V: Service> Node<D, V> {
         ensures halted { result ≡ StepEnd.Halted → (node_of self.new ≡ model.Halted (model.halted_from (up_server self.old)))
             × (out.new ≡ outputs.Reply id Reply.DiskFault ∷ []) }
         ensures told { result ≢ StepEnd.NoMemory }
+        ensures fewer { D.steps self.new.disk ≤ D.steps self.old.disk + 4 }
         ensures stored { IsStored D.files self.old → IsStored D.files self.new }
         ensures fault { result ≡ StepEnd.Halted → D.faults self.old.disk < D.faults self.new.disk }
         ensures never_falls { D.faults self.old.disk ≤ D.faults self.new.disk }
@@ -337,6 +348,7 @@ impl<D: Disk, V: Service> Node<D, V> {
         ensures halted { result ≡ StepEnd.Halted → (node_of self.new ≡ model.Halted (model.halted_from (up_server self.old)))
             × (out.new ≡ outputs.Reply id Reply.DiskFault ∷ []) }
         ensures told { result ≢ StepEnd.NoMemory }
+        ensures fewer { D.steps self.new.disk ≤ D.steps self.old.disk + 4 }
         ensures stored { IsStored D.files self.old → IsStored D.files self.new }
         ensures fault { result ≡ StepEnd.Halted → D.faults self.old.disk < D.faults self.new.disk }
         ensures never_falls { D.faults self.old.disk ≤ D.faults self.new.disk }

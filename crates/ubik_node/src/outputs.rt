@@ -1,5 +1,5 @@
 //! The list that a step leaves.
-ghost use Rattle.std.specs.Prelude.{◌≡◌, ◌<◌, ◌++◌, ◌∷◌, [], length, IfOk, option_to_list};
+ghost use Rattle.std.specs.Prelude.{◌≡◌, ◌<◌, ◌++◌, ◌∷◌, [], length, IfOk, IsNone, option_to_list};
 
 use cell_model::Output;
 use std::alloc::Global;
@@ -38,9 +38,10 @@ impl Outputs {
         Ok(Outputs { list })
     }
 
-    /// Takes the first output.
+    /// Takes the first output; none where the list is empty.
     pub fn take(&mut self) -> Option<Output>
-        ensures { self.old ≡ option_to_list result ++ self.new }
+        ensures taken { self.old ≡ option_to_list result ++ self.new }
+        ensures none { IsNone result → self.old ≡ [] }
     {
         self.list.pop_front()
     }
