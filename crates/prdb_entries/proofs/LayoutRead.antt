@@ -1,21 +1,20 @@
 -- What is read from a layout is what it was made of.
-use Rattle.std.proofs.Common.{◌≡◌, ℕ, ℤ, pos, negsuc, zero, suc, ◌+◌, ◌-◌, ◌*◌, ◌/◌, ◌^◌, ◌<◌, ◌≤◌, Bool, true, false, cond, not, ◌||◌, eqb, leb, List, [], ◌∷◌, ◌++◌, length, get_or, take, drop, map, Option, Some, None, refl, sym, ap, subst, ◌∙◌, append_assoc, arith}
+use Rattle.std.proofs.Common.{◌≡◌, ℕ, ℤ, pos, negsuc, zero, suc, ◌+◌, ◌-◌, ◌*◌, ◌/◌, ◌^◌, ◌<◌, ◌≤◌, Bool, true, false, cond, not, ◌||◌, eqb, List, [], ◌∷◌, ◌++◌, length, get_or, take, drop, map, Option, Some, refl, ap, ◌∙◌, arith}
 use Rattle.std.specs.Prelude.{unwrap_or, FitsSigned}
-use Rattle.std.specs.Int.{w32, from_be_bytes}
+use Rattle.std.specs.Int.{w32}
 use Rattle.std.specs.Ordering.{int_eq}
 use Rattle.std.specs.Str.{bytes_eq}
 use Rattle.std.specs.List.{flat_map, find, list_any, range_with_len, position_or_len, All, AllByRecursion}
 use Rattle.std.specs.Option.{option_map}
 use Rattle.std.specs.Simd.{first_chunks}
-use Rattle.std.proofs.lemmas.Int.{ints}
 use Rattle.std.proofs.lemmas.Bool.{eqb-true, eq-eqb}
 use Rattle.std.proofs.lemmas.Bool.Decides.{nat_tests, same_from_decides, Decides-int_eq}
 use Rattle.std.proofs.lemmas.List.{take_at, drop_at, length-append, get_or_append_left, get_or-append_right, get_or-replicate}
 use Rattle.std.proofs.lemmas.List.Sums.{position_or_len_is}
 use Rattle.std.proofs.lemmas.Nat.{from_be_bytes-to_be_bytes_4}
-use Rattle.prdb_entries.specs.Bytes.{bits, word, word_at, words, zeros}
-use Rattle.prdb_entries.specs.State.{PrEntry, PrState, IsPrEntry, anonymous}
-use Rattle.prdb_entries.specs.Meaning.{id_of_name, has_name, has_id, ids_above, next_user_id}
+use Rattle.prdb_entries.specs.Bytes.{bits, word_at, words, zeros}
+use Rattle.prdb_entries.specs.State.{PrEntry, PrState, IsId, IsPrEntry, anonymous}
+use Rattle.prdb_entries.specs.Meaning.{has_id, ids_above, next_user_id}
 use Rattle.prdb_entries.specs.Layout.{head_of, numbers_of, block_of, layout}
 use Rattle.prdb_entries.specs.Blocks.{blocks_of, block_name, block_id, id_among, name_among, id_is_among}
 use Rattle.prdb_entries.specs.Protection.{next_id}
@@ -81,18 +80,22 @@ is_zero b h = grind (arith, nat_tests)
 text_end : (name : List ℕ) (k : ℕ) → 0 < k → All (λ b. 0 < b) name → position_or_len (λ b. eqb b 0) (name ++ zeros k) ≡ length name
 text_end name k more text =
     position_or_len_is (λ b. eqb b 0) (name ++ zeros k) (length name) 0 (omega (arith, length-append name (zeros k)))
-      (λ i lt. rw (get_or_append_left name (zeros k) 0 i lt) (not_zero (get_or name i 0) (text i 0 lt)))
-      (λ lt. is_zero (get_or (name ++ zeros k) (length name) 0)
-        (get_or-append_right name (zeros k) (length name) (length name) 0 refl (omega arith) ∙ get_or-zeros k (length name - length name) 0 (omega arith)))
+    (λ i lt. rw (get_or_append_left name (zeros k) 0 i lt) (not_zero (get_or name i 0) (text i 0 lt)))
+    (λ lt. is_zero (get_or (name ++ zeros k) (length name) 0)
+    (get_or-append_right name (zeros k) (length name) (length name) 0 refl (omega arith) ∙ get_or-zeros k (length name - length name) 0 (omega arith)))
 
 pub block_name-block_of : (e : PrEntry) → IsPrEntry e → block_name (block_of e) ≡ e.name
 unfolding block_name block_of numbers_of words
 block_name-block_of e h =
     let field : take 64 ((e.name ++ zeros (64 - length e.name)) ++ zeros 96) ≡ e.name ++ zeros (64 - length e.name) =
-      take_at (e.name ++ zeros (64 - length e.name)) (zeros 96) 64 (omega (arith, h.name_len, length-append e.name (zeros (64 - length e.name)), length-zeros (64 - length e.name))) in
+    take_at (e.name ++ zeros (64 - length e.name)) (zeros 96) 64 (omega (arith, h.name_len, length-append e.name (zeros (64 - length e.name)), length-zeros (64 - length e.name))) in
     ap (λ (f : List ℕ). take (position_or_len (λ b. eqb b 0) f) f) field
     ∙ ap (λ (n : ℕ). take n (e.name ++ zeros (64 - length e.name))) (text_end e.name (64 - length e.name) (omega (arith, h.name_len)) h.name_text)
     ∙ take_at e.name (zeros (64 - length e.name)) (length e.name) refl
+
+pub fits_id : (z : ℤ) → IsId z → FitsSigned w32 z
+fits_id (pos n) h = record { sfits = omega arith }
+fits_id (negsuc n) h = record { sfits = omega arith }
 
 pub bits_below : (z : ℤ) → FitsSigned w32 z → bits z < 2 ^ 32
 bits_below (pos n) h = omega (arith, h.sfits)
@@ -100,7 +103,7 @@ bits_below (negsuc n) h = omega (arith, h.sfits)
 
 pub block_id-block_of : (e : PrEntry) → IsPrEntry e → block_id (block_of e) ≡ bits e.id
 unfolding block_of numbers_of words
-block_id-block_of e h = from_be_bytes-to_be_bytes_4 (bits e.id) (bits_below e.id h.id)
+block_id-block_of e h = from_be_bytes-to_be_bytes_4 (bits e.id) (bits_below e.id (fits_id e.id h.id))
 
 pub max-layout : (s : PrState) → s.max_user < 2 ^ 31 → word_at (layout s) 8 ≡ s.max_user
 unfolding layout head_of words
@@ -134,13 +137,13 @@ from_bits (negsuc n) id fits le e = absurd (omega (arith, e, fits.sfits))
 same_id : (z : ℤ) (id : ℕ) → FitsSigned w32 z → id ≤ 2147483647 → eqb (bits z) id ≡ int_eq z (pos id)
 same_id z id fits le =
     same_from_decides (eqb (bits z) id) (int_eq z (pos id))
-      (λ e. from_bits z id fits le (eqb-true (bits z) id e), λ e. eq-eqb (bits z) id (ap bits e)) (Decides-int_eq z (pos id))
+    (λ e. from_bits z id fits le (eqb-true (bits z) id e), λ e. eq-eqb (bits z) id (ap bits e)) (Decides-int_eq z (pos id))
 
 pub has-id-found : (es : List PrEntry) (id : ℕ) → AreEntries es → id ≤ 2147483647 → id_is_among (map block_of es) id ≡ list_any (λ e. int_eq e.id (pos id)) es
 has-id-found [] id h le = refl
 has-id-found (e ∷ es) id h le =
     ap (λ (n : ℕ). eqb n id || id_is_among (map block_of es) id) (block_id-block_of e h.0)
-    ∙ ap (λ (b : Bool). b || id_is_among (map block_of es) id) (same_id e.id id h.0.id le)
+    ∙ ap (λ (b : Bool). b || id_is_among (map block_of es) id) (same_id e.id id (fits_id e.id h.0.id) le)
     ∙ ap (λ (b : Bool). int_eq e.id (pos id) || b) (has-id-found es id h.1 le)
 
 find_agree : (p q : ℕ → Bool) (n a bound : ℕ) → (0 < n → a + n ≤ bound + 1) → ((id : ℕ) → id ≤ bound → p id ≡ q id) → find p (range_with_len a n) ≡ find q (range_with_len a n)
@@ -156,4 +159,4 @@ next_id-layout s h max =
     ap (λ (bs : List (List ℕ)). find (λ id. not (id_is_among bs id)) (ids_above (word_at (layout s) 8))) (blocks-layout s h)
     ∙ ap (λ (m : ℕ). find (λ id. not (id_is_among (map block_of s.entries) id)) (ids_above m)) (max-layout s max)
     ∙ find_agree (λ id. not (id_is_among (map block_of s.entries) id)) (λ id. not (has_id s (pos id))) (2147483647 - s.max_user) (s.max_user + 1) 2147483647 (λ _. omega arith)
-        (λ id le. ap not (has-id-found s.entries id h le))
+    (λ id le. ap not (has-id-found s.entries id h le))

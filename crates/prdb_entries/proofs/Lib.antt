@@ -11,3 +11,4 @@ pub mod Strings
 pub mod LayoutRead
 pub mod Means
 pub mod UserAdded
+pub mod InitialState

@@ -1,21 +1,20 @@
 -- What a call makes of an image is what it means for the state that the image stands for.
-use Rattle.std.proofs.Common.{◌≡◌, ◌≢◌, ℕ, ℤ, pos, zero, suc, ◌+◌, ◌-◌, ◌*◌, ◌%◌, ◌<◌, ◌≤◌, Bool, true, false, cond, not, ◌&&◌, eqb, leb, List, [], ◌∷◌, ◌++◌, length, map, Option, Some, None, refl, sym, ap, subst, ◌∙◌, arith, inl, inr}
-use Rattle.std.specs.Prelude.{MatchOption, unwrap_or, ◌⊎◌}
+use Rattle.std.proofs.Common.{◌≡◌, ◌≢◌, ℕ, ◌+◌, ◌-◌, ◌*◌, ◌%◌, Bool, true, false, cond, not, eqb, leb, List, [], ◌∷◌, ◌++◌, length, map, Option, Some, None, refl, sym, ap, subst, ◌∙◌, arith, inl, inr}
+use Rattle.std.specs.Prelude.{◌⊎◌}
 use Rattle.std.proofs.lemmas.Bool.{le-leb, eq-eqb, and_from}
 use Rattle.std.proofs.lemmas.Bool.Decides.{nat_tests}
 use Rattle.std.proofs.lemmas.List.Elements.{recursion_from_All}
-use Rattle.db_image.specs.Database.{Outcome}
 use Rattle.db_image.specs.declared.CallReply.{CallReply}
-use Rattle.db_image.specs.declared.CallReply.TheVariants.{Done, Rule, BadRecord}
+use Rattle.db_image.specs.declared.CallReply.TheVariants.{Done, BadRecord}
 use Rattle.prdb_entries.specs.Bytes.{bits, word, words}
 use Rattle.prdb_entries.specs.Call.{PrCall, NewUser, NameToId}
 use Rattle.prdb_entries.specs.Names.{lowered, is_user_name}
-use Rattle.prdb_entries.specs.State.{PrEntry, PrState, IsPrEntry, IsPrState, initial_state}
-use Rattle.prdb_entries.specs.Meaning.{Meaning, meaning, refused, made, id_of_name, has_name, next_user_id, with_user, bad_name, name_exists}
+use Rattle.prdb_entries.specs.State.{PrState, IsPrEntry, IsPrState, initial_state}
+use Rattle.prdb_entries.specs.Meaning.{Meaning, meaning, refused, made, id_of_name, has_name, next_user_id}
 use Rattle.prdb_entries.specs.Layout.{block_of, layout, StandsFor}
 use Rattle.prdb_entries.specs.Blocks.{has_whole_blocks, blocks_of, id_among, name_among}
 use Rattle.prdb_entries.specs.Agreement.{IsMeant}
-use Rattle.prdb_entries.specs.Protection.{Answer, answer, answer_new_user, answer_over, added, ids_of, next_id, outcome, protection, refusal}
+use Rattle.prdb_entries.specs.Protection.{Answer, answer, answer_new_user, answer_over, added, ids_of, next_id, outcome, refusal}
 use Rattle.prdb_entries.proofs.LayoutRead.{AreEntries, length-layout, blocks-layout, id-found, name-found, next_id-layout}
 use Rattle.prdb_entries.proofs.UserAdded.{HasForm, form, next_is_new, with_block-layout, with_user-valid, with_user-other}
 
@@ -38,7 +37,7 @@ added-agrees : (s : PrState) (name : List ℕ) (id : Option ℕ) → IsPrState s
 added-agrees s name None h good new e = refusal-agrees s 267266
 added-agrees s name (Some id) h good new e =
     let unused = next_is_new s id e in
-    record { reply = refl; image = (with_block-layout s name id (entries_of s h), with_user-valid s name id h good new unused.0 unused.1, with_user-other s name id) }
+    record { reply = refl; image = (with_block-layout s name id (entries_of s h), with_user-valid s name id h good new unused.0 unused.1 unused.2, with_user-other s name id) }
 
 by_name : (s : PrState) (name : List ℕ) (taken : Bool) → IsPrState s → HasForm name → has_name s name ≡ taken
     → Agrees (cond taken (refusal 267264) (added (layout s) name (next_user_id s))) s (cond taken (refused s 267264) (made s name (next_user_id s)))
@@ -47,7 +46,7 @@ by_name s name false h good e = added-agrees s name (next_user_id s) h good e re
 
 by_form : (s : PrState) (name : List ℕ) (good : Bool) → IsPrState s → is_user_name name ≡ good
     → Agrees (cond (not good) (refusal 267272) (cond (has_name s name) (refusal 267264) (added (layout s) name (next_user_id s)))) s
-        (cond (not good) (refused s 267272) (cond (has_name s name) (refused s 267264) (made s name (next_user_id s))))
+    (cond (not good) (refused s 267272) (cond (has_name s name) (refused s 267264) (made s name (next_user_id s))))
 by_form s name false h e = refusal-agrees s 267272
 by_form s name true h e = by_name s name (has_name s name) h (form name e) refl
 
@@ -75,7 +74,7 @@ answer-agrees s now (NewUser name) h =
 answer-agrees s now (NameToId names) h =
     let es = entries_of s h in
     let ids : ids_of (blocks_of (layout s)) names ≡ words (map (λ name. bits (id_of_name s (lowered name))) names) =
-      ap (λ (bs : List (List ℕ)). ids_of bs names) (blocks-layout s es) ∙ ap words (ids-layout s names es) in
+    ap (λ (bs : List (List ℕ)). ids_of bs names) (blocks-layout s es) ∙ ap words (ids-layout s names es) in
     record { reply = ap (λ (l : List ℕ). Done (word (length names) ++ l)) ids; image = refl }
 
 -- ---- over the image itself
@@ -110,7 +109,7 @@ over-agrees s image now call h (inl e) =
     subst (λ (a : Answer). Agrees a s (meaning s now call)) (sym same) (answer-agrees s now call h)
 over-agrees s image now call h (inr e) =
     let same : answer_over image (Some call) ≡ answer (layout s) call =
-      ap (λ (i : List ℕ). answer_over i (Some call)) e.0 ∙ answer_over-empty call ∙ ap (λ (t : PrState). answer (layout t) call) (sym e.1) in
+    ap (λ (i : List ℕ). answer_over i (Some call)) e.0 ∙ answer_over-empty call ∙ ap (λ (t : PrState). answer (layout t) call) (sym e.1) in
     subst (λ (a : Answer). Agrees a s (meaning s now call)) (sym same) (answer-agrees s now call h)
 
 pub call-means : (s : PrState) (image : List ℕ) (now : ℕ) (read : Option PrCall) (call : PrCall) → StandsFor image s → read ≡ Some call

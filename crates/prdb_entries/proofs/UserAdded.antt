@@ -1,16 +1,15 @@
 -- A valid state stays valid when a user is added, and its image is the state's image with one block more.
-use Rattle.std.proofs.Common.{◌≡◌, ◌≢◌, ℕ, ℤ, pos, negsuc, zero, suc, ◌+◌, ◌-◌, ◌*◌, ◌/◌, ◌^◌, ◌<◌, ◌≤◌, min, Bool, true, false, cond, not, ◌&&◌, ◌||◌, eqb, leb, List, [], ◌∷◌, ◌++◌, length, get_or, take, drop, map, Option, Some, None, refl, sym, ap, subst, ◌∙◌, append_assoc, arith, inl, inr}
-use Rattle.std.specs.Prelude.{FitsSigned, IfSome, codes}
-use Rattle.std.specs.Int.{w32}
+use Rattle.std.proofs.Common.{◌≡◌, ◌≢◌, ℕ, ℤ, pos, zero, suc, ◌+◌, ◌-◌, ◌/◌, ◌<◌, ◌≤◌, Bool, true, false, cond, not, ◌&&◌, ◌||◌, eqb, leb, List, [], ◌∷◌, ◌++◌, length, take, drop, map, Option, Some, refl, sym, ap, subst, ◌∙◌, append_assoc, arith, inl, inr}
+use Rattle.std.specs.Prelude.{IfSome, codes}
 use Rattle.std.specs.Ordering.{int_eq}
 use Rattle.std.specs.Str.{bytes_eq}
-use Rattle.std.specs.List.{flat_map, find, list_any, list_all, All, AllPairs, AllByRecursion, Contains}
+use Rattle.std.specs.List.{flat_map, find, range_with_len, list_any, list_all, All, AllPairs, AllByRecursion, Contains}
 use Rattle.std.proofs.lemmas.Bool.{and_parts, leb-true, cases_lt}
 use Rattle.std.proofs.lemmas.Bool.Decides.{Decides-int_eq}
 use Rattle.std.proofs.lemmas.Slice.Eq.{bytes_eq-Decides}
 use Rattle.std.proofs.lemmas.List.{append-nil, length-append, length-map, length-take, map-append, take-append-drop, take-append-le, get_or_past}
 use Rattle.std.proofs.lemmas.List.Concat.{flat_map-append}
-use Rattle.std.proofs.lemmas.List.Elements.{All-from_recursion, recursion_from_All, All-push, All-weaker, Contains-append_left}
+use Rattle.std.proofs.lemmas.List.Elements.{All-from_recursion, All-push, All-weaker, Contains-append_left}
 use Rattle.std.proofs.lemmas.List.Quantifiers.{all_pairs_push}
 use Rattle.prdb_entries.specs.Bytes.{IsBytes, bits, words, zeros}
 use Rattle.prdb_entries.specs.Names.{is_name_byte, is_user_name}
@@ -31,7 +30,7 @@ unfolding with_block with_numbers layout head_of words
 with_block-layout s name id h =
     let count : (length (layout s) - 2112) / 192 + 1 ≡ length (s.entries ++ new_user name id ∷ []) = omega (arith, count-layout s h, length-append s.entries (new_user name id ∷ [])) in
     let tail : (zeros 2092 ++ flat_map block_of s.entries) ++ block_of (new_user name id) ≡ zeros 2092 ++ flat_map block_of (s.entries ++ new_user name id ∷ []) =
-      append_assoc (zeros 2092) (flat_map block_of s.entries) (block_of (new_user name id)) ∙ ap (λ (b : List ℕ). zeros 2092 ++ b) (sym (one_block s.entries (new_user name id))) in
+    append_assoc (zeros 2092) (flat_map block_of s.entries) (block_of (new_user name id)) ∙ ap (λ (b : List ℕ). zeros 2092 ++ b) (sym (one_block s.entries (new_user name id))) in
     ap (λ (n : ℕ). with_numbers (layout s) id n ++ block_of (new_user name id)) count
     ∙ ap (λ (t : List ℕ). words (0x50524442 ∷ 1 ∷ id ∷ bits s.max_group ∷ length (s.entries ++ new_user name id ∷ []) ∷ []) ++ t) tail
 
@@ -103,15 +102,23 @@ find_passes : (p : ℕ → Bool) (xs : List ℕ) (x : ℕ) → find p xs ≡ Som
 find_passes p [] x e = absurd cc
 find_passes p (a ∷ xs) x e = found_here p a x (p a) (find p xs) refl (find_passes p xs x) e
 
+positive_here : (a x : ℕ) (b : Bool) (later : Option ℕ) → 0 < a → (later ≡ Some x → 0 < x) → cond b (Some a) later ≡ Some x → 0 < x
+positive_here a x true later more h e = let same : a ≡ x = cc in omega (arith, same)
+positive_here a x false later more h e = h e
+
+find_positive : (p : ℕ → Bool) (n a x : ℕ) → 0 < a → find p (range_with_len a n) ≡ Some x → 0 < x
+find_positive p zero a x more e = absurd cc
+find_positive p (suc n) a x more e = positive_here a x (p a) (find p (range_with_len (a + 1) n)) more (find_positive p n (a + 1) x (omega arith)) e
+
 not_true : (b : Bool) → not b ≡ true → b ≡ false
 not_true true e = absurd cc
 not_true false e = refl
 
-pub next_is_new : (s : PrState) (id : ℕ) → next_user_id s ≡ Some id → (has_id s (pos id) ≡ false) × (id ≤ 2147483647)
+pub next_is_new : (s : PrState) (id : ℕ) → next_user_id s ≡ Some id → (has_id s (pos id) ≡ false) × (0 < id) × (id ≤ 2147483647)
 unfolding next_user_id
 next_is_new s id e =
     let passes = find_passes (λ n. not (has_id s (pos n))) (ids_above s.max_user) id e in
-    (not_true (has_id s (pos id)) passes, subst (λ (o : Option ℕ). IfSome o (λ n. n ≤ 2147483647)) e (next_below (λ n. not (has_id s (pos n))) s.max_user))
+    (not_true (has_id s (pos id)) passes, find_positive (λ n. not (has_id s (pos n))) (2147483647 - s.max_user) (s.max_user + 1) id (omega arith) e, subst (λ (o : Option ℕ). IfSome o (λ n. n ≤ 2147483647)) e (next_below (λ n. not (has_id s (pos n))) s.max_user))
 
 -- ---- the fixed entries
 
@@ -152,11 +159,17 @@ keeps_owner es u id (inl none) = inl none
 keeps_owner es u id (inr there) =
     inr (subst (λ (l : List ℤ). Contains l id) (sym (map-append (λ e. e.id) es (u ∷ []))) (Contains-append_left (map (λ e. e.id) es) (u.id ∷ []) id there))
 
-pub with_user-valid : (s : PrState) (name : List ℕ) (id : ℕ) → IsPrState s → HasForm name → has_name s name ≡ false → has_id s (pos id) ≡ false → id ≤ 2147483647 → IsPrState (with_user s name id)
-with_user-valid s name id h good new_name new_id le =
+pub with_user-valid : (s : PrState) (name : List ℕ) (id : ℕ) → IsPrState s → HasForm name → has_name s name ≡ false → has_id s (pos id) ≡ false → 0 < id → id ≤ 2147483647 → IsPrState (with_user s name id)
+with_user-valid s name id h good new_name new_id more le =
     let entry : IsPrEntry (new_user name id) = record {
-      name_bytes = good.bytes; name_len = good.len; name_text = good.text; flags = omega arith;
-      id = record { sfits = omega arith }; owner = record { sfits = omega arith }; creator = record { sfits = omega arith }; quota = record { sfits = omega arith };
+      name_bytes = good.bytes;
+      name_len = good.len;
+      name_text = good.text;
+      flags = omega arith;
+      id = (omega arith, le);
+      owner = record { sfits = omega arith };
+      creator = record { sfits = omega arith };
+      quota = record { sfits = omega arith };
     } in
     let names = all_pairs_push (λ a b. a ≢ b) (map (λ e. e.name) s.entries) name h.names (All-from_recursion (λ n. n ≢ name) (map (λ e. e.name) s.entries) (other_names s.entries name new_name)) in
     let ids = all_pairs_push (λ a b. a ≢ b) (map (λ e. e.id) s.entries) (pos id) h.ids (All-from_recursion (λ n. n ≢ pos id) (map (λ e. e.id) s.entries) (other_ids s.entries (pos id) new_id)) in
@@ -167,7 +180,7 @@ with_user-valid s name id h good new_name new_id le =
       ids = subst (λ (l : List ℤ). AllPairs (λ a b. a ≢ b) l) (sym (map-append (λ e. e.id) s.entries (new_user name id ∷ []))) ids;
       fixed_first = ap (map key) (take-append-le 6 s.entries (new_user name id ∷ []) (at_least_six s.entries h.fixed_first)) ∙ h.fixed_first;
       owners = All-push (λ e. IsIdOrNone (s.entries ++ new_user name id ∷ []) e.owner) s.entries (new_user name id)
-        (All-weaker (λ e. IsIdOrNone s.entries e.owner) (λ e. IsIdOrNone (s.entries ++ new_user name id ∷ []) e.owner) (λ e. keeps_owner s.entries (new_user name id) e.owner) s.entries h.owners) administered;
+          (All-weaker (λ e. IsIdOrNone s.entries e.owner) (λ e. IsIdOrNone (s.entries ++ new_user name id ∷ []) e.owner) (λ e. keeps_owner s.entries (new_user name id) e.owner) s.entries h.owners) administered;
       creators = All-push (λ e. Contains (map (λ f. f.id) fixed_entries) e.creator) s.entries (new_user name id) h.creators anonymous_fixed;
       max_user = omega arith;
       max_group = h.max_group;

@@ -12,7 +12,7 @@ mod words;
 
 pub use calls::writes;
 pub use images::call_image;
-pub use laws::{law_call_is_spelled, law_call_means};
+pub use laws::{law_call_is_spelled, law_call_means, law_empty_is_initial};
 pub use words::{call_words, reply_words};
 
 #[cfg(test)]

@@ -24,7 +24,7 @@ returns-then-is_empty c =
     let first = ap (λ (i : List ℕ). answer i call.0) (c.deref.ensures.value ∙ c.in_ok-initial_image.ensures.value) in
     let over = over_empty image read call.0 call.1 (sym c.if-is_empty.ensures) in
     let all = IfOk-weaker c.answer.result (λ (r : Answer). (p : PrCall) → StandsForCall c.in-Some.call p → r ≡ answer c.deref.result.now p) (λ (r : Answer). r ≡ answer_over image read)
-      (λ r f. f call.0 call.2 ∙ first ∙ sym over) c.answer.ensures in
+    (λ r f. f call.0 call.2 ∙ first ∙ sym over) c.answer.ensures in
     record {
       exact = IfOk-weaker c.answer.result (λ (r : Answer). r ≡ answer_over image read) (λ (r : Answer). Settles r image (answer_over image read)) (λ r e. settled r (answer_over image read) image e) all;
       meaning = IfOk-weaker c.answer.result (λ (r : Answer). r ≡ answer_over image read) (λ (r : Answer). Means r image c.args._now read) (λ r e. means r image c.args._now read e) all;
@@ -45,7 +45,7 @@ returns c =
     let call = c.in-Some.ensures in
     let over = over_blocks image read call.0 call.1 (sym c.if-is_empty.ensures) (sym c.if-not-has_whole_blocks.ensures) in
     let all = IfOk-weaker c.answer-2.result (λ (r : Answer). (p : PrCall) → StandsForCall c.in-Some.call p → r ≡ answer image p) (λ (r : Answer). r ≡ answer_over image read)
-      (λ r f. f call.0 call.2 ∙ sym over) c.answer-2.ensures in
+    (λ r f. f call.0 call.2 ∙ sym over) c.answer-2.ensures in
     record {
       exact = IfOk-weaker c.answer-2.result (λ (r : Answer). r ≡ answer_over image read) (λ (r : Answer). Settles r image (answer_over image read)) (λ r e. settled r (answer_over image read) image e) all;
       meaning = IfOk-weaker c.answer-2.result (λ (r : Answer). r ≡ answer_over image read) (λ (r : Answer). Means r image c.args._now read) (λ r e. means r image c.args._now read e) all;
