@@ -26,7 +26,7 @@ pub enum StepEnd {
     /// The server's disk failed, now or before: it answers every call with a fault of the disk, until it is
     /// opened anew.
     Halted,
-    /// Memory ran out. Nothing changed and nothing was put out.
+    /// Memory ran out in a recovery turn. Nothing changed and nothing was put out.
     NoMemory,
 }
 
@@ -55,8 +55,9 @@ impl<D: Disk, V: Service> Node<D, V> {
     ghost use Rattle.ubik_node.specs.Progress.{phase_record, own_poll, own_spread};
     ghost use Rattle.ubik_node.specs.Node.{node_of, up_server, IsStored, KeepsDisk, Makes, Steps, last_after};
 
-    /// Opens a server over its disk, at a moment in seconds. A cell has one server today, so `me` is 0.
-    /// A refusal hands the disk back: as it was, but after a fault of the disk.
+    /// Opens a server over its disk, at a moment in seconds. A cell has one server today, so `me` is 0. An
+    /// empty database file is an empty database of version 0.0. No changing call of the disk is made. A
+    /// refusal hands the disk back: as it was, but after a fault of the disk.
     pub fn open(
         alloc: Global,
         cell: Cell,
@@ -97,8 +98,10 @@ impl<D: Disk, V: Service> Node<D, V> {
         }
     }
 
-    /// One step: what an event makes of the server at a moment, not below the last one. An id of a call is
-    /// new since the opening. `out` is empty before it, and has what the step put out after it.
+    /// One step: what an event makes of the server at a moment in seconds, not below the last one. An id of a
+    /// call is new since the opening. `out` is empty before it, and has what the step put out after it. Only
+    /// a recovery turn can end for want of memory: a call that finds none is answered so. A step makes at
+    /// most four changing calls of the disk, and a halted server none.
     pub fn step(&mut self, now: u32, event: NodeEvent, out: &mut Outputs) -> StepEnd
         requires moment { IsMoment now }
         requires order { self.old.last ≤ now }
@@ -134,7 +137,7 @@ impl<D: Disk, V: Service> Node<D, V> {
         self.state.version
     }
 
-    /// The phase of the server's recovery.
+    /// The phase of the server's recovery, as the last step left it.
     pub fn phase(&self) -> Phase
         ensures { result ≡ phase_of (up_server self.now).phase }
     {
@@ -162,7 +165,7 @@ impl<D: Disk, V: Service> Node<D, V> {
         self.last
     }
 
-    /// Takes the server down, and gives its disk back.
+    /// Takes the server down, and gives its disk back, which another server can be opened over.
     pub fn close(self) -> D
         ensures { result ≡ self.disk }
     {

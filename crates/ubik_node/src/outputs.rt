@@ -30,7 +30,7 @@ impl Model for Outputs {
 }
 
 impl Outputs {
-    /// An empty list, with all its room.
+    /// An empty list, with all its room. It is refused only for want of memory.
     pub fn make(alloc: Global) -> Result<Outputs, NoMemory>
         ensures { IfOk result (λ outputs. outputs ≡ []) }
     {
@@ -46,7 +46,7 @@ impl Outputs {
         self.list.pop_front()
     }
 
-    /// Adds an output at the end.
+    /// Adds an output at the end of fewer than 200.
     pub fn put(&mut self, output: Output)
         requires { length self.old < 200 }
         ensures { self.new ≡ self.old ++ output ∷ [] }

@@ -4,7 +4,7 @@ ghost use Rattle.ubik_node.specs.Appending.{appending};
 
 use super::*;
 use db_image::{CallReply, Service};
-use disk_base::{Disk, DiskEnd, FileNo, MemDisk, Refused, RoomEnd};
+use disk_base::{Disk, DiskEnd, FileNo, MemDisk, Refused, RoomEnd, StopDisk};
 use std::alloc::Global;
 use std::process::Abort;
 use std::test::Fail;
@@ -119,20 +119,24 @@ fn is_announcement(output: &Option<Output>, wanted: Version) -> bool {
 
 fn is_answer(output: &Option<Output>, wanted: u32, answer: &[u8]) -> bool {
     match output {
-        Some(Output::Reply {
-            id,
-            reply: Reply::Ok(bytes),
-        }) => *id == wanted && bytes.as_slice() == answer,
+        Some(
+            Output::Reply {
+                id,
+                reply: Reply::Ok(bytes),
+            },
+        ) => *id == wanted && bytes.as_slice() == answer,
         _ => false,
     }
 }
 
 fn is_disk_fault(output: &Option<Output>, wanted: u32) -> bool {
     match output {
-        Some(Output::Reply {
-            id,
-            reply: Reply::DiskFault,
-        }) => *id == wanted,
+        Some(
+            Output::Reply {
+                id,
+                reply: Reply::DiskFault,
+            },
+        ) => *id == wanted,
         _ => false,
     }
 }
@@ -159,8 +163,12 @@ fn a_call_is_committed_and_outlives_the_server(rt: HostRuntime) -> Result<(), Fa
     let mut out = ask(&rt, alloc, &mut node, (1078, 2, b""), StepEnd::Done)?;
     assert!(rt; is_answer(&out.take(), 2, b"ab"));
     assert_eq!(rt; node.last(), 1078);
-    let again = opened(&rt, alloc, node.close())?;
+    let mut disk = node.close();
+    disk.revive();
+    let mut again = opened(&rt, alloc, disk)?;
     assert_eq!(rt; again.version(), version(1076, 2));
+    let announced = turns(&rt, alloc, &mut again, 1079)?;
+    assert_eq!(rt; announced, Some(version(1079, 1)));
     Ok(())
 }
 
@@ -171,7 +179,18 @@ fn no_beacon_is_due_at_1075(rt: HostRuntime) -> Result<(), Fail> {
     let announced = turns(&rt, alloc, &mut node, 1075)?;
     assert_eq!(rt; announced, None);
     let mut out = ask(&rt, alloc, &mut node, (1075, 1, b"ab"), StepEnd::Done)?;
-    let Some(Output::Reply { id: 1, reply: Reply::NoQuorum { now, until, phase, applied } }) = out.take() else {
+    let Some(
+        Output::Reply {
+            id: 1,
+            reply: Reply::NoQuorum {
+                now,
+                until,
+                phase,
+                applied,
+            },
+        },
+    ) = out.take()
+    else {
         panic!(rt; "no refusal");
     };
     assert_eq!(rt; (now, until), (1075, 0));
@@ -183,7 +202,9 @@ fn no_beacon_is_due_at_1075(rt: HostRuntime) -> Result<(), Fail> {
 fn an_epoch_ahead_of_the_clock_is_waited_for(rt: HostRuntime) -> Result<(), Fail> {
     let alloc = rt.alloc();
     let mut label = [0; 64];
-    label[..16].copy_from_slice(&[0, 0x35, 0x45, 0x45, 0, 0, 0, 0x40, 0, 0, 7, 0xd0, 0, 0, 0, 1]);
+    label[..16].copy_from_slice(&[
+        0, 0x35, 0x45, 0x45, 0, 0, 0, 0x40, 0, 0, 7, 0xd0, 0, 0, 0, 1,
+    ]);
     let disk = disk_with(&rt, alloc, &label)?;
     let mut node = opened(&rt, alloc, disk)?;
     assert_eq!(rt; node.version(), version(2000, 1));
