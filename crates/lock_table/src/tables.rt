@@ -30,14 +30,15 @@ pub struct LockTable {
 }
 
 impl Model for LockTable {
-    ghost use Rattle.std.specs.Prelude.{◌≡◌};
     ghost use Rattle.lock_table.specs.Table.{Table};
 
     ghost Value = { Table };
 
-    ghost view = { λ t. record { held = t.held.items; line = t.line.items } };
+    ghost use Rattle.lock_table.specs.View.{table_of, HasRoom};
 
-    ghost invariant = { λ t. t.line.capacity ≡ 64 };
+    ghost view = { table_of };
+
+    ghost invariant = { HasRoom };
 }
 
 impl LockTable {
