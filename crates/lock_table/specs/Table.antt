@@ -1,12 +1,19 @@
 -- The lock table: the ranges held, in the order in which they were taken, and the ids that wait, the first
 -- to be served first (own).
-use Rattle.std.specs.Prelude.{ℕ, ◌==◌, not, Option, List, [], ◌∷◌, ◌++◌, filter, find, drop}
+use Rattle.std.specs.Prelude.{ℕ, ◌==◌, ◌<◌, ◌≤◌, ◌^◌, not, Option, List, [], ◌∷◌, ◌++◌, length, filter, find, drop, All, AllPairs}
 use Rattle.lock_table.specs.declared.ranges.HeldRange.{HeldRange}
-use Rattle.lock_table.specs.Ranges.{conflicts}
+use Rattle.lock_table.specs.Ranges.{range_end, conflicts, Conflicts}
 
 pub record Table : Type 0 where
   pub held : List HeldRange
   pub line : List ℕ
+
+-- what is true of every table that its calls make: no place that one id writes is held by another, each
+-- range ends within 32 bits, and at most 64 ids wait
+pub record IsLockTable (table : Table) : Type 0 where
+  pub apart : AllPairs (λ a b. ¬ Conflicts a b) table.held
+  pub ends : All (λ range. range_end range < 2 ^ 32) table.held
+  pub not_more : length table.line ≤ 64
 
 abbrev pub empty_table : Table
 empty_table = record { held = []; line = [] }

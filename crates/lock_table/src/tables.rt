@@ -1,7 +1,7 @@
 //! The lock table.
 ghost use Rattle.std.specs.Prelude.{◌≡◌, ◌+◌, ◌^◌, ◌<◌, ◌≤◌, ◌↔◌, None, length, slice_get, option_map, IsOk, IfOk, IfErr, OnOk, OnErr};
 ghost use Rattle.lock_table.specs.Ranges.{held_range, conflict_of};
-ghost use Rattle.lock_table.specs.Table.{empty_table, first_conflict, with_range, without_holder, with_waiting, without_first};
+ghost use Rattle.lock_table.specs.Table.{IsLockTable, empty_table, first_conflict, with_range, without_holder, with_waiting, without_first};
 
 use crate::ranges::{HeldRange, LockConflict};
 use circular_buffer::HeapCircularBuffer;
@@ -34,11 +34,11 @@ impl Model for LockTable {
 
     ghost Value = { Table };
 
-    ghost use Rattle.lock_table.specs.View.{table_of, HasRoom};
+    ghost use Rattle.lock_table.specs.View.{table_of, IsWhole};
 
     ghost view = { table_of };
 
-    ghost invariant = { HasRoom };
+    ghost invariant = { IsWhole };
 }
 
 impl LockTable {
@@ -55,7 +55,8 @@ impl LockTable {
 
     /// The first held range that keeps `who` from taking this one; none where it may be taken.
     pub fn test(&self, start: u32, len: u32, write: bool, who: u32) -> Option<LockConflict>
-        ensures { result ≡ option_map conflict_of (first_conflict self.now (held_range start len write who)) }
+        ensures first { result ≡ option_map conflict_of (first_conflict self.now (held_range start len write who)) }
+        ensures table { IsLockTable self.now }
     {
         let wanted = HeldRange {
             holder: who,
