@@ -26,9 +26,13 @@ first_conflict table wanted = find (λ held. conflicts held wanted) table.held
 abbrev pub with_range : Table → HeldRange → Table
 with_range table range = record table { held = table.held ++ range ∷ [] }
 
+-- the ranges that other ids hold
+abbrev pub others : List HeldRange → ℕ → List HeldRange
+others held who = filter (λ (range : HeldRange). not (range.holder == who)) held
+
 -- the table after an id gave back all that it held
 abbrev pub without_holder : Table → ℕ → Table
-without_holder table who = record table { held = filter (λ (range : HeldRange). not (range.holder == who)) table.held }
+without_holder table who = record table { held = others table.held who }
 
 -- the table after an id joined the line
 abbrev pub with_waiting : Table → ℕ → Table

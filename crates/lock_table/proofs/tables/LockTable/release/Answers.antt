@@ -1,18 +1,15 @@
-use Rattle.std.proofs.Common.{rules, ◌≡◌, ◌==◌, ◌<◌, ◌^◌, not, List, filter, ap}
-use Rattle.std.proofs.lemmas.Fn.{filter_same}
+use Rattle.std.proofs.Common.{rules, ◌≡◌, ◌==◌, ◌<◌, ◌^◌, not}
 use Rattle.std.proofs.lemmas.List.Elements.{All-filter}
 use Rattle.std.proofs.lemmas.List.Kept.{AllPairs-filter}
 use Rattle.lock_table.specs.declared.ranges.HeldRange.{HeldRange}
 use Rattle.lock_table.specs.Ranges.{range_end, Conflicts}
-use Rattle.lock_table.specs.Table.{Table}
+use Rattle.lock_table.specs.Table.{others}
 use Rattle.lock_table.proofs.tables.LockTable.release.Goals as goal
 
 pub invariant_of-self : goal.invariant_of-self
 invariant_of-self c =
     let was = c.self.invariant.table in
-    let now : c.retain.new.self.items ≡ filter (λ (range : HeldRange). not (range.holder == c.args.who)) c.self.inside.held.items =
-        filter_same _ _ _ (λ x b f' k. search rules) _ _ c.retain.ensures.filtered
-    in
+    let now : c.keep_others.new.held.items ≡ others c.self.inside.held.items c.args.who = c.keep_others.ensures in
     record {
       room = c.self.invariant.room;
       table = record {
@@ -21,11 +18,3 @@ invariant_of-self c =
         not_more = was.not_more;
       };
     }
-
-pub returns : goal.returns
-returns c =
-    let left : c.retain.new.self.items ≡ filter (λ (range : HeldRange). not (range.holder == c.args.who)) c.self.inside.held.items =
-        filter_same _ _ _ (λ x b f' k. search rules) _ _ c.retain.ensures.filtered
-    in
-    let with_held : List HeldRange → Table = λ held. record { held = held; line = c.self.inside.line.items } in
-    rw (← c.self.view_is) (ap with_held left)
