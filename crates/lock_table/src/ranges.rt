@@ -39,14 +39,14 @@ impl HeldRange {
     }
 
     /// Whether the two may not be held at once.
-    pub fn conflicts_with(&self, other: &HeldRange) -> bool
+    pub(crate) fn conflicts_with(&self, other: &HeldRange) -> bool
         ensures { result ≡ conflicts self.now other.now }
     {
         self.holder != other.holder && (self.write || other.write) && self.overlaps(other)
     }
 
     /// What is told to another id that wants the range.
-    pub fn conflict(&self) -> LockConflict
+    pub(crate) fn conflict(&self) -> LockConflict
         ensures { result ≡ conflict_of self.now }
     {
         LockConflict {
