@@ -7,6 +7,8 @@
 mod faults;
 mod readers;
 mod sizes;
+mod writers;
 
 pub use faults::XdrFault;
 pub use readers::XdrReader;
+pub use writers::XdrWriter;
