@@ -1,2 +1,3 @@
+pub mod OneReading
 pub mod Padding
 pub mod ReadBack

@@ -1,2 +1,4 @@
+pub mod ChangeText
+pub mod Laws
 pub mod Reading
 pub mod Spelling

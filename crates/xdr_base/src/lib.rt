@@ -5,10 +5,12 @@
 #![tactic(auto)]
 
 mod faults;
+mod laws;
 mod readers;
 mod sizes;
 mod writers;
 
 pub use faults::XdrFault;
+pub use laws::{change_text_has_one_reading, no_item_begins_another};
 pub use readers::XdrReader;
 pub use writers::XdrWriter;

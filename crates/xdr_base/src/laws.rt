@@ -1,0 +1,18 @@
+//! Laws of the spellings: each is the clause of a call that does nothing.
+ghost use Rattle.std.specs.Prelude.{FitsSigned};
+ghost use Rattle.std.specs.Int.{w32};
+ghost use Rattle.xdr_base.specs.Spelling.{word, signed, truth, opaque};
+ghost use Rattle.xdr_base.specs.Laws.{NoneBeginsAnother, IsWord, IsTruth, IsOpaque, HasOneReading};
+
+/// No item's spelling begins another of its kind. A count is spelled as a number.
+pub fn no_item_begins_another()
+    ensures numbers { NoneBeginsAnother IsWord word }
+    ensures signed_numbers { NoneBeginsAnother (FitsSigned w32) signed }
+    ensures truth_values { NoneBeginsAnother IsTruth truth }
+    ensures opaques { NoneBeginsAnother IsOpaque opaque }
+{}
+
+/// A text of changes has one reading. One such text may begin another: a whole text is known by its length.
+pub fn change_text_has_one_reading()
+    ensures { HasOneReading }
+{}
