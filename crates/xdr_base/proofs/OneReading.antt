@@ -4,11 +4,13 @@ use Rattle.std.specs.Prelude.{FitsSigned}
 use Rattle.std.specs.Int.{w32, cast_unsigned, cast_signed, from_be_bytes}
 use Rattle.std.proofs.lemmas.Int.{to_z-of_z, ints}
 use Rattle.std.proofs.lemmas.List.{take_at, drop_at, length-append, append_cancel_left}
+use Rattle.std.specs.List.{AllByRecursion}
+use Rattle.std.proofs.lemmas.List.Concat.{flat_map-cons}
 use Rattle.std.proofs.lemmas.Nat.{from_be_bytes-to_be_bytes_4}
 use Rattle.ubik_types.specs.declared.images.Change.{Change}
 use Rattle.ubik_types.specs.declared.images.Change.TheVariants.{Put, Cut}
 use Rattle.xdr_base.specs.Spelling.{word, signed, truth, padding, opaque}
-use Rattle.xdr_base.specs.ChangeText.{change_spelling, Fits, text_of, AllFit, IsChangeText}
+use Rattle.xdr_base.specs.ChangeText.{change_spelling, HasSpelling, text_of, IsChangeText}
 use Rattle.xdr_base.specs.Laws.{NoneBeginsAnother, IsWord, IsTruth, IsOpaque, HasOneReading}
 
 pub words_differ : NoneBeginsAnother IsWord word
@@ -53,7 +55,7 @@ put_regrouped position bytes x =
 cut_regrouped : (len : ℕ) (x : List ℕ) → change_spelling (Cut len) ++ x ≡ word 2 ++ (word len ++ x)
 cut_regrouped len x = append_assoc (word 2) (word len) x
 
-pub changes_differ : NoneBeginsAnother Fits change_spelling
+pub changes_differ : NoneBeginsAnother HasSpelling change_spelling
 changes_differ (Put m ms) (Put n bs) x y p q e =
     let first = words_differ 1 1 (word m ++ (opaque ms ++ x)) (word n ++ (opaque bs ++ y)) (omega arith) (omega arith) (sym (put_regrouped m ms x) ∙ e ∙ put_regrouped n bs y) in
     let second = words_differ m n (opaque ms ++ x) (opaque bs ++ y) p.0 q.0 first.1 in
@@ -79,17 +81,18 @@ spelling_is_long (Cut m) = omega (arith, length-append (word 2) (word m))
 
 text_is_long : (change : Change) (changes : List Change) → [] ≡ text_of (change ∷ changes) → ⊥
 text_is_long change changes e =
-    omega (arith, ap length e, length-append (change_spelling change) (text_of changes), spelling_is_long change)
+    omega (arith, ap length (e ∙ flat_map-cons change_spelling change changes), length-append (change_spelling change) (text_of changes), spelling_is_long change)
 
-texts_differ : (a b : List Change) → AllFit a → AllFit b → text_of a ≡ text_of b → a ≡ b
+texts_differ : (a b : List Change) → AllByRecursion HasSpelling a → AllByRecursion HasSpelling b → text_of a ≡ text_of b → a ≡ b
 texts_differ [] [] p q e = refl
 texts_differ [] (b ∷ bs) p q e = absurd (text_is_long b bs e)
 texts_differ (a ∷ cs) [] p q e = absurd (text_is_long a cs (sym e))
 texts_differ (a ∷ cs) (b ∷ bs) p q e =
-    let first = changes_differ a b (text_of cs) (text_of bs) p.0 q.0 e in
+    let heads = sym (flat_map-cons change_spelling a cs) ∙ e ∙ flat_map-cons change_spelling b bs in
+    let first = changes_differ a b (text_of cs) (text_of bs) p.0 q.0 heads in
     let head : a ≡ b = first.0 in
     let tail : cs ≡ bs = texts_differ cs bs p.1 q.1 first.1 in
     cc
 
 pub text_has_one_reading : HasOneReading
-text_has_one_reading text a b p q = texts_differ a b p.fits q.fits (sym p.text_is ∙ q.text_is)
+text_has_one_reading text a b p q = texts_differ a b p.spelled q.spelled (sym p.text_is ∙ q.text_is)

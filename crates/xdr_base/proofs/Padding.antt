@@ -33,5 +33,5 @@ body_found rest len pad fits zeros =
     let long : length (take pad (drop (4 + len) rest)) ≡ pad = omega (arith, length-take pad (drop (4 + len) rest), length-drop (4 + len) rest) in
     let filled : take pad (drop (4 + len) rest) ≡ replicate pad 0 = zeros_are (take pad (drop (4 + len) rest)) zeros ∙ ap (λ n. replicate n 0) long in
     let split : drop (4 + len) rest ≡ replicate pad 0 ++ drop (4 + len + pad) rest =
-        sym (take-append-drop pad (drop (4 + len) rest)) ∙ ap (λ (x : List ℕ). x ++ drop pad (drop (4 + len) rest)) filled ∙ ap (λ (x : List ℕ). replicate pad 0 ++ x) (drop-drop pad (4 + len) rest) in
+    sym (take-append-drop pad (drop (4 + len) rest)) ∙ ap (λ (x : List ℕ). x ++ drop pad (drop (4 + len) rest)) filled ∙ ap (λ (x : List ℕ). replicate pad 0 ++ x) (drop-drop pad (4 + len) rest) in
     sym (take-append-drop len (drop 4 rest)) ∙ ap (λ (x : List ℕ). take len (drop 4 rest) ++ x) (behind ∙ split) ∙ sym (append_assoc (take len (drop 4 rest)) (replicate pad 0) (drop (4 + len + pad) rest))

@@ -59,13 +59,13 @@ body_again from bytes after e =
     let head_len : length head ≡ 4 + len = length-append (word len) bytes in
     let grouped : from.rest ≡ head ++ (zeros ++ after) = e ∙ append_assoc head zeros after in
     let size : length from.rest ≡ 4 + len + (pad + length after) =
-        omega (arith, ap length grouped, length-append head (zeros ++ after), length-append zeros after, length-replicate {A = ℕ} pad 0) in
+    omega (arith, ap length grouped, length-append head (zeros ++ after), length-append zeros after, length-replicate {A = ℕ} pad 0) in
     let long : nat_lt (length from.rest) (opaque_len len) ≡ false = le-ltb _ _ (omega arith) in
     let fill : take pad (drop (4 + len) from.rest) ≡ zeros =
-        ap (λ (x : List ℕ). take pad (drop (4 + len) x)) grouped ∙ ap (take pad) (drop_at head (zeros ++ after) (4 + len) head_len) ∙ take_at zeros after pad (length-replicate {A = ℕ} pad 0) in
+    ap (λ (x : List ℕ). take pad (drop (4 + len) x)) grouped ∙ ap (take pad) (drop_at head (zeros ++ after) (4 + len) head_len) ∙ take_at zeros after pad (length-replicate {A = ℕ} pad 0) in
     let padded : is_padded len from ≡ true = ap (list_all is_zero) fill ∙ all_are_zeros pad in
     let front : drop 4 from.rest ≡ bytes ++ (zeros ++ after) =
-        ap (drop 4) (grouped ∙ append_assoc (word len) bytes (zeros ++ after)) ∙ drop_at (word len) (bytes ++ (zeros ++ after)) 4 refl in
+    ap (drop 4) (grouped ∙ append_assoc (word len) bytes (zeros ++ after)) ∙ drop_at (word len) (bytes ++ (zeros ++ after)) 4 refl in
     let item : take len (drop 4 from.rest) ≡ bytes = ap (take len) front ∙ take_at bytes (zeros ++ after) len refl in
     rw (long, padded, item) refl
 
@@ -75,5 +75,5 @@ unfolding opaque_at
 opaque_again most from bytes after lt le e =
     let zeros : List ℕ = replicate (padding (length bytes)) 0 in
     let grouped : from.rest ≡ word (length bytes) ++ ((bytes ++ zeros) ++ after) =
-        e ∙ append_assoc (word (length bytes) ++ bytes) zeros after ∙ append_assoc (word (length bytes)) bytes (zeros ++ after) ∙ ap (λ (x : List ℕ). word (length bytes) ++ x) (sym (append_assoc bytes zeros after)) in
+    e ∙ append_assoc (word (length bytes) ++ bytes) zeros after ∙ append_assoc (word (length bytes)) bytes (zeros ++ after) ∙ ap (λ (x : List ℕ). word (length bytes) ++ x) (sym (append_assoc bytes zeros after)) in
     rw (count_again most from (length bytes) ((bytes ++ zeros) ++ after) lt le grouped) (body_again from bytes after e)

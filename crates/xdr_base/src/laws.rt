@@ -2,6 +2,7 @@
 ghost use Rattle.std.specs.Prelude.{FitsSigned};
 ghost use Rattle.std.specs.Int.{w32};
 ghost use Rattle.xdr_base.specs.Spelling.{word, signed, truth, opaque};
+ghost use Rattle.xdr_base.specs.ChangeText.{HasSpelling, change_spelling};
 ghost use Rattle.xdr_base.specs.Laws.{NoneBeginsAnother, IsWord, IsTruth, IsOpaque, HasOneReading};
 
 /// No item's spelling begins another of its kind. A count is spelled as a number.
@@ -12,7 +13,9 @@ pub fn no_item_begins_another()
     ensures opaques { NoneBeginsAnother IsOpaque opaque }
 {}
 
-/// A text of changes has one reading. One such text may begin another: a whole text is known by its length.
+/// A text of changes has one reading. One such text may begin another, so a text is read to its end; but no
+/// change's spelling begins another's.
 pub fn change_text_has_one_reading()
-    ensures { HasOneReading }
+    ensures whole_texts { HasOneReading }
+    ensures each_change { NoneBeginsAnother HasSpelling change_spelling }
 {}

@@ -10,9 +10,10 @@ use crate::faults::XdrFault;
 use crate::sizes::{WORD, opaque_len, padding};
 use std::marker::Model;
 
-/// Reads items from left to right. It takes no memory, and what it gives are slices of what it was made over.
-/// Contracts see the place of its next byte and the bytes from there on.
-#[derive(Drop)]
+/// Reads items from left to right. It takes no memory: the opaques that it gives are slices of what it was
+/// made over. A get that is refused leaves it where it was. Contracts see the place of its next byte and the
+/// bytes from there on.
+#[derive(Debug, Drop)]
 pub struct XdrReader<'a> {
     rest: &'a [u8],
     place: usize,
@@ -40,7 +41,7 @@ impl<'a> XdrReader<'a> {
         }
     }
 
-    /// The next number.
+    /// The next number; `Short` where fewer than four bytes are left.
     pub fn get_u32(&mut self) -> Result<u32, XdrFault>
         ensures exact { Gets (λ n. n) self.old self.new result (word_at self.old) }
         ensures found { IfOk result (λ n. Passes self.old (word n) self.new) }
@@ -50,7 +51,7 @@ impl<'a> XdrReader<'a> {
         self.next_word()
     }
 
-    /// The next signed number.
+    /// The next signed number; `Short` where fewer than four bytes are left.
     pub fn get_i32(&mut self) -> Result<i32, XdrFault>
         ensures exact { Gets (λ z. z) self.old self.new result (signed_at self.old) }
         ensures found { IfOk result (λ z. Passes self.old (signed z) self.new) }
@@ -60,7 +61,8 @@ impl<'a> XdrReader<'a> {
         self.next_signed()
     }
 
-    /// The next truth value.
+    /// The next truth value; `Short` where fewer than four bytes are left, else `BadBool` where the word is
+    /// neither 0 nor 1.
     pub fn get_bool(&mut self) -> Result<bool, XdrFault>
         ensures exact { Gets (λ b. b) self.old self.new result (truth_at self.old) }
         ensures found { IfOk result (λ b. Passes self.old (truth b) self.new) }
@@ -70,7 +72,9 @@ impl<'a> XdrReader<'a> {
         self.next_truth()
     }
 
-    /// The next opaque, of at most `most` bytes: a slice of what the reader was made over.
+    /// The next opaque, of at most `most` bytes; `Short` where not even its length is whole, else `TooLong`
+    /// where that is above `most`, else `Short` where its bytes and its padding do not all stand there, else
+    /// `Padding` where a byte of the padding is not zero.
     pub fn get_bytes(&mut self, most: u32) -> Result<&'a [u8], XdrFault>
         ensures exact { Gets (λ bytes. bytes.now) self.old self.new result (opaque_at most self.old) }
         ensures found { IfOk result (λ bytes. Passes self.old (opaque bytes.now) self.new) }
@@ -81,7 +85,8 @@ impl<'a> XdrReader<'a> {
         self.next_opaque(most)
     }
 
-    /// The next number, which is at most `most`: how many items follow.
+    /// How many items follow, at most `most`; `Short` where fewer than four bytes are left, else `TooLong`
+    /// where the number is above `most`.
     pub fn get_count(&mut self, most: u32) -> Result<u32, XdrFault>
         ensures exact { Gets (λ n. n) self.old self.new result (count_at most self.old) }
         ensures found { IfOk result (λ n. Passes self.old (word n) self.new) }
@@ -92,7 +97,7 @@ impl<'a> XdrReader<'a> {
         self.next_count(most)
     }
 
-    /// That nothing is left.
+    /// That nothing is left; `Rest` where something is.
     pub fn end(&self) -> Result<(), XdrFault>
         ensures done { IsOk result ↔ (self.now.rest ≡ []) }
         ensures left { IfErr result (λ fault. fault ≡ XdrFault.Rest (length self.now.rest)) }
@@ -210,7 +215,9 @@ impl<'a> XdrReader<'a> {
         ensures { result ≡ is_padded len self.now }
     {
         let end = WORD + len;
-        self.rest[end..end + padding(len)].iter().all(|byte| *byte == 0)
+        self.rest[end..end + padding(len)]
+            .iter()
+            .all(|byte| *byte == 0)
     }
 
     /// Goes on by some bytes.

@@ -87,7 +87,11 @@ fn texts_cut_off(rt: HostRuntime) {
     for (_, spelling) in TEXTS {
         for len in 0..spelling.len() {
             let mut reader = XdrReader::new(&spelling[..len]);
-            assert_eq!(rt; reader.get_bytes(8), Err(XdrFault::Short { at: 0 }), "{len}");
+            assert_eq!(rt;
+                reader.get_bytes(8),
+                Err(XdrFault::Short { at: 0 }),
+                "{len}"
+            );
         }
     }
 }
@@ -99,7 +103,11 @@ fn texts_with_wrong_padding(rt: HostRuntime) -> Result<(), Fail> {
             let mut wrong = spelling.to_vec(rt.alloc())?;
             wrong[place] = 1;
             let mut reader = XdrReader::new(&wrong);
-            assert_eq!(rt; reader.get_bytes(8), Err(XdrFault::Padding { at: 0 }), "{place}");
+            assert_eq!(rt;
+                reader.get_bytes(8),
+                Err(XdrFault::Padding { at: 0 }),
+                "{place}"
+            );
         }
     }
     Ok(())
@@ -143,6 +151,9 @@ fn two_mebibytes(rt: HostRuntime) -> Result<(), Fail> {
 #[test]
 fn faults_in_words(rt: HostRuntime) -> Result<(), Fail> {
     let padding = XdrFault::Padding { at: 8 }.to_string(rt.alloc())?;
-    assert_eq!(rt; padding.as_str(), "the item at byte 8 is padded with a byte that is not zero");
+    assert_eq!(rt;
+        padding.as_str(),
+        "the item at byte 8 is padded with a byte that is not zero"
+    );
     Ok(())
 }

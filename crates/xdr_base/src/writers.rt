@@ -12,7 +12,7 @@ const ZEROS: [u8; WORD - 1] = [0; WORD - 1];
 
 /// Writes items one after the other. Contracts see the bytes written; what memory it has reserved is not
 /// part of them.
-#[derive(Drop)]
+#[derive(Debug, Drop)]
 pub struct XdrWriter {
     bytes: Vec<u8>,
 }
