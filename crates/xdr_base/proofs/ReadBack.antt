@@ -1,7 +1,7 @@
 -- What is spelled at a reader's place is what stands there.
 use Rattle.std.proofs.Common.{◌≡◌, ℕ, ℤ, ◌+◌, ◌^◌, ◌<◌, ◌≤◌, Bool, true, false, List, ◌++◌, length, take, drop, replicate, Result, Ok, Err, refl, sym, ap, ◌∙◌, append_assoc, arith, nat_lt}
 use Rattle.std.specs.Prelude.{FitsSigned, IsOkAnd}
-use Rattle.std.specs.Int.{w32, cast_unsigned, cast_signed}
+use Rattle.std.specs.Int.{w32, cast_unsigned}
 use Rattle.std.specs.List.{list_all}
 use Rattle.std.proofs.lemmas.Int.{to_z-of_z, ints}
 use Rattle.std.proofs.lemmas.Bool.{le-ltb}
@@ -18,14 +18,25 @@ found x = Ok x
 found_is : {A : Type 0} (x y : A) → found x ≡ found y → x ≡ y
 found_is x y e = cc
 
--- a get answers with the item that stands there
-pub gets_back : {X Y : Type 0} (view : X → Y) (old new : Reading) (r : Result X XdrFault) (there : Result (Y × Reading) XdrFault) (y : Y) (behind : Reading)
-    → Gets view old new r there → there ≡ Ok (y, behind) → IsOkAnd r (λ x. view x ≡ y)
-gets_back {Y = Y} view old new (Ok x) there y behind gets e =
-    let both : found (view x, new) ≡ found (y, behind) = sym gets ∙ e in
-    ap (λ (p : Y × Reading). p.0) (found_is (view x, new) (y, behind) both)
-gets_back {Y = Y} view old new (Err fault) there y behind gets e =
+-- a get answers with the item that stands there, and leaves what follows
+pub gets_back : {X Y : Type 0} (view : X → Y) (old new : Reading) (r : Result X XdrFault) (there : Result (Y × Reading) XdrFault) (y : Y) (behind : Reading) (after : List ℕ)
+    → Gets view old new r there → there ≡ Ok (y, behind) → behind.rest ≡ after → IsOkAnd r (λ x. (view x ≡ y) × (new.rest ≡ after))
+gets_back {Y = Y} view old new (Ok x) there y behind after gets e rest =
+    let both = found_is (view x, new) (y, behind) (sym gets ∙ e) in
+    (ap (λ (p : Y × Reading). p.0) both, ap (λ (p : Y × Reading). p.1.rest) both ∙ rest)
+gets_back {Y = Y} view old new (Err fault) there y behind after gets e rest =
     let both : ◌≡◌ {A = Result (Y × Reading) XdrFault} (Err fault) (Ok (y, behind)) = sym gets.0 ∙ e in absurd cc
+
+-- what follows a word, and what follows an opaque
+pub word_left : (from : Reading) (n : ℕ) (after : List ℕ) → from.rest ≡ word n ++ after → (past 4 from).rest ≡ after
+word_left from n after e = ap (drop 4) e ∙ drop_at (word n) after 4 refl
+
+length-opaque : (bytes : List ℕ) → length (opaque bytes) ≡ opaque_len (length bytes)
+length-opaque bytes =
+    omega (arith, length-append (word (length bytes) ++ bytes) (replicate (padding (length bytes)) 0), length-append (word (length bytes)) bytes, length-replicate {A = ℕ} (padding (length bytes)) 0)
+
+pub opaque_left : (from : Reading) (bytes after : List ℕ) → from.rest ≡ opaque bytes ++ after → (past (opaque_len (length bytes)) from).rest ≡ after
+opaque_left from bytes after e = ap (drop (opaque_len (length bytes))) e ∙ drop_at (opaque bytes) after (opaque_len (length bytes)) (length-opaque bytes)
 
 pub word_again : (from : Reading) (n : ℕ) (after : List ℕ) → n < 2 ^ 32 → from.rest ≡ word n ++ after → word_at from ≡ Ok (n, past 4 from)
 word_again from n after lt e =

@@ -1,8 +1,6 @@
 -- Laws of the spellings.
-use Rattle.std.specs.Prelude.{◌≡◌, ℕ, ℤ, ◌<◌, ◌^◌, Bool, List, ◌++◌, length, FitsSigned}
-use Rattle.std.specs.Int.{w32}
+use Rattle.std.specs.Prelude.{◌≡◌, ℕ, ◌<◌, ◌^◌, Bool, List, ◌++◌, length}
 use Rattle.ubik_types.specs.declared.images.Change.{Change}
-use Rattle.xdr_base.specs.Spelling.{word, signed, truth, opaque}
 use Rattle.xdr_base.specs.ChangeText.{IsChangeText}
 
 -- No spelling begins another: of the items of a kind that have a spelling, where a text begins with one and

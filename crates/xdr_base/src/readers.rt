@@ -46,7 +46,7 @@ impl<'a> XdrReader<'a> {
         ensures exact { Gets (λ n. n) self.old self.new result (word_at self.old) }
         ensures found { IfOk result (λ n. Passes self.old (word n) self.new) }
         ensures back { (n : ℕ) (after : List ℕ) → n < 2 ^ 32 → self.old.rest ≡ word n ++ after →
-            IsOkAnd result (λ m. m ≡ n) }
+            IsOkAnd result (λ m. (m ≡ n) × (self.new.rest ≡ after)) }
     {
         self.next_word()
     }
@@ -56,7 +56,7 @@ impl<'a> XdrReader<'a> {
         ensures exact { Gets (λ z. z) self.old self.new result (signed_at self.old) }
         ensures found { IfOk result (λ z. Passes self.old (signed z) self.new) }
         ensures back { (z : ℤ) (after : List ℕ) → FitsSigned w32 z → self.old.rest ≡ signed z ++ after →
-            IsOkAnd result (λ y. y ≡ z) }
+            IsOkAnd result (λ y. (y ≡ z) × (self.new.rest ≡ after)) }
     {
         self.next_signed()
     }
@@ -67,7 +67,7 @@ impl<'a> XdrReader<'a> {
         ensures exact { Gets (λ b. b) self.old self.new result (truth_at self.old) }
         ensures found { IfOk result (λ b. Passes self.old (truth b) self.new) }
         ensures back { (b : Bool) (after : List ℕ) → self.old.rest ≡ truth b ++ after →
-            IsOkAnd result (λ c. c ≡ b) }
+            IsOkAnd result (λ c. (c ≡ b) × (self.new.rest ≡ after)) }
     {
         self.next_truth()
     }
@@ -80,7 +80,7 @@ impl<'a> XdrReader<'a> {
         ensures found { IfOk result (λ bytes. Passes self.old (opaque bytes.now) self.new) }
         ensures most { IfOk result (λ bytes. length bytes.now ≤ most) }
         ensures back { (bytes after : List ℕ) → length bytes ≤ most → self.old.rest ≡ opaque bytes ++ after →
-            IsOkAnd result (λ found. found.now ≡ bytes) }
+            IsOkAnd result (λ found. (found.now ≡ bytes) × (self.new.rest ≡ after)) }
     {
         self.next_opaque(most)
     }
@@ -92,7 +92,7 @@ impl<'a> XdrReader<'a> {
         ensures found { IfOk result (λ n. Passes self.old (word n) self.new) }
         ensures most { IfOk result (λ n. n ≤ most) }
         ensures back { (n : ℕ) (after : List ℕ) → n ≤ most → self.old.rest ≡ word n ++ after →
-            IsOkAnd result (λ m. m ≡ n) }
+            IsOkAnd result (λ m. (m ≡ n) × (self.new.rest ≡ after)) }
     {
         self.next_count(most)
     }
