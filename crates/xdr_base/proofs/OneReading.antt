@@ -1,5 +1,5 @@
 -- No spelling begins another, and a text of changes has one reading.
-use Rattle.std.proofs.Common.{◌≡◌, ℕ, ◌^◌, ◌<◌, true, false, List, [], ◌∷◌, ◌++◌, length, take, drop, replicate, refl, sym, ap, ◌∙◌, append_assoc, arith}
+use Rattle.std.proofs.Common.{◌≡◌, ℕ, ◌^◌, ◌<◌, ◌≤◌, true, false, List, [], ◌∷◌, ◌++◌, length, take, drop, replicate, refl, sym, ap, ◌∙◌, append_assoc, arith}
 use Rattle.std.specs.Prelude.{FitsSigned}
 use Rattle.std.specs.Int.{w32, cast_unsigned, cast_signed, from_be_bytes}
 use Rattle.std.proofs.lemmas.Int.{to_z-of_z, ints}
@@ -18,6 +18,9 @@ words_differ a b x y p q e =
     let head : word a ≡ word b = sym (take_at (word a) x 4 refl) ∙ ap (take 4) e ∙ take_at (word b) y 4 refl in
     let tail : x ≡ y = sym (drop_at (word a) x 4 refl) ∙ ap (drop 4) e ∙ drop_at (word b) y 4 refl in
     (sym (from_be_bytes-to_be_bytes_4 a p) ∙ ap (from_be_bytes w32) head ∙ from_be_bytes-to_be_bytes_4 b q, tail)
+
+pub counts_differ : (most : ℕ) → most < 2 ^ 32 → NoneBeginsAnother (λ n. n ≤ most) word
+counts_differ most lt a b x y p q e = words_differ a b x y (omega arith) (omega arith) e
 
 pub signed_differ : NoneBeginsAnother (FitsSigned w32) signed
 signed_differ a b x y p q e =

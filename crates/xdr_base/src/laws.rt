@@ -1,15 +1,17 @@
 //! Laws of the spellings: each is the clause of a call that does nothing.
-ghost use Rattle.std.specs.Prelude.{FitsSigned};
+ghost use Rattle.std.specs.Prelude.{ℕ, ◌<◌, ◌≤◌, ◌^◌, FitsSigned};
 ghost use Rattle.std.specs.Int.{w32};
 ghost use Rattle.xdr_base.specs.Spelling.{word, signed, truth, opaque};
 ghost use Rattle.xdr_base.specs.ChangeText.{HasSpelling, change_spelling};
 ghost use Rattle.xdr_base.specs.Laws.{NoneBeginsAnother, IsWord, IsTruth, IsOpaque, HasOneReading};
 
-/// No item's spelling begins another of its kind. A count is spelled as a number.
+/// No item's spelling begins another of its kind. A count is spelled as a number, and is at most what its
+/// reader takes.
 pub fn no_item_begins_another()
     ensures numbers { NoneBeginsAnother IsWord word }
     ensures signed_numbers { NoneBeginsAnother (FitsSigned w32) signed }
     ensures truth_values { NoneBeginsAnother IsTruth truth }
+    ensures counts { (most : ℕ) → most < 2 ^ 32 → NoneBeginsAnother (λ n. n ≤ most) word }
     ensures opaques { NoneBeginsAnother IsOpaque opaque }
 {}
 
