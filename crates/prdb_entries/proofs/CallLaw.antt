@@ -1,7 +1,7 @@
 -- A call that is read is spelled so, and what is spelled so is read.
-use Rattle.std.proofs.Common.{◌≡◌, ℕ, zero, suc, ◌+◌, ◌^◌, ◌<◌, ◌≤◌, Bool, true, false, ◌&&◌, cond, eqb, leb, List, [], ◌∷◌, ◌++◌, length, Option, Some, None, refl, sym, ap, subst, ◌∙◌, append_assoc, arith, inl, inr}
+use Rattle.std.proofs.Common.{◌≡◌, ℕ, ◌≤◌, Bool, true, false, ◌&&◌, cond, eqb, leb, List, [], ◌∷◌, ◌++◌, length, Option, Some, None, refl, sym, ap, subst, ◌∙◌, append_assoc, arith, inl, inr}
 use Rattle.std.specs.Prelude.{◌⊎◌, ◌↔◌}
-use Rattle.std.specs.List.{flat_map, AllByRecursion}
+use Rattle.std.specs.List.{flat_map}
 use Rattle.std.specs.Option.{option_map}
 use Rattle.std.proofs.lemmas.Bool.{leb-true, le-leb, eqb-true, and_parts}
 use Rattle.std.proofs.lemmas.Option.{cond_some}
@@ -10,7 +10,7 @@ use Rattle.prdb_entries.specs.Bytes.{IsBytes, word, words, string}
 use Rattle.prdb_entries.specs.Call.{PrCall, NewUser, NameToId, IsCallName, IsPrCall, spelling}
 use Rattle.prdb_entries.specs.Reading.{◌>>=◌, number_at, string_at, strings_at, new_user_of, names_of, name_to_id_of, call_of}
 use Rattle.prdb_entries.proofs.Ids.{bind_some}
-use Rattle.prdb_entries.proofs.Fields.{Takes, Takes-then, some_is, number_takes, number_again, string_takes, string_again, strings_take, strings_again}
+use Rattle.prdb_entries.proofs.Fields.{Takes, some_is, number_takes, number_again, string_takes, string_again, strings_take, strings_again}
 
 words_one : (a : ℕ) → words (a ∷ []) ≡ word a
 unfolding words

@@ -8,3 +8,7 @@ pub mod NextId
 pub mod Over
 pub mod Spelled
 pub mod Strings
+pub mod LayoutRead
+pub mod Means
+pub mod UserAdded
+pub mod InitialState

@@ -1,7 +1,6 @@
 -- What becomes of an image, by what kind of image it is.
-use Rattle.std.proofs.Common.{◌≡◌, ℕ, Bool, true, false, cond, eqb, List, length, Option, Some, None, Result, Ok, Err, refl, sym, ap, ◌∙◌, ◌∷◌, []}
-use Rattle.std.specs.Prelude.{IfOk, unwrap_or}
-use Rattle.db_image.specs.declared.services.CallReply.{CallReply}
+use Rattle.std.proofs.Common.{◌≡◌, ℕ, true, false, eqb, List, length, Option, Some, None, refl, ap}
+use Rattle.std.specs.Prelude.{unwrap_or}
 use Rattle.db_image.specs.declared.services.CallReply.TheVariants.{BadRecord, Malformed}
 use Rattle.prdb_entries.specs.Call.{PrCall}
 use Rattle.prdb_entries.specs.State.{initial_state}

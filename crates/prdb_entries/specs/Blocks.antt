@@ -1,5 +1,5 @@
 -- An image's blocks as they are read, whatever its bytes are.
-use Rattle.std.specs.Prelude.{ℕ, ◌/◌, ◌%◌, ◌-◌, Bool, ◌&&◌, Option, unwrap_or, List, length, take, drop, nat_le, ◌==◌}
+use Rattle.std.specs.Prelude.{ℕ, ◌/◌, ◌%◌, ◌-◌, Bool, ◌&&◌, unwrap_or, List, length, take, drop, nat_le, ◌==◌}
 use Rattle.std.specs.List.{before_first, find, list_any}
 use Rattle.std.specs.Option.{option_map}
 use Rattle.std.specs.Simd.{first_chunks}

@@ -8,3 +8,4 @@ pub mod Layout
 pub mod Blocks
 pub mod Protection
 pub mod Words
+pub mod Agreement

@@ -1,5 +1,5 @@
 -- The protection database over whole images, whatever their bytes are.
-use Rattle.std.specs.Prelude.{ℕ, ◌+◌, not, Option, Some, None, unwrap_or, List, [], ◌++◌, map, length, take, drop, ◌==◌, if◌then◌else◌}
+use Rattle.std.specs.Prelude.{ℕ, ◌+◌, not, Option, Some, None, unwrap_or, List, ◌++◌, map, length, take, drop, ◌==◌, if◌then◌else◌}
 use Rattle.std.specs.List.{find}
 use Rattle.std.specs.Option.{option_map}
 use Rattle.db_image.specs.Database.{Database, Outcome}
@@ -11,7 +11,7 @@ use Rattle.prdb_entries.specs.Reading.{call_of}
 use Rattle.prdb_entries.specs.Names.{lowered, is_user_name}
 use Rattle.prdb_entries.specs.State.{initial_state}
 use Rattle.prdb_entries.specs.Meaning.{ids_above, new_user, bad_name, name_exists, no_ids}
-use Rattle.prdb_entries.specs.Layout.{layout, block_of, head_len}
+use Rattle.prdb_entries.specs.Layout.{layout, block_of}
 use Rattle.prdb_entries.specs.Blocks.{has_whole_blocks, block_count, blocks_of, id_among, name_among, id_is_among}
 
 -- the least unused user id above the maximum that the head has

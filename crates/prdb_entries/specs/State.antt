@@ -1,5 +1,5 @@
 -- The protection database's state: its entries in the order of their blocks, and the two maxima (ptserver).
-use Rattle.std.specs.Prelude.{ℕ, ℤ, pos, negsuc, ◌≡◌, ◌<◌, ◌≤◌, ◌^◌, ◌⊎◌, ◌<ℤ◌, ◌≢◌, List, [], ◌∷◌, length, map, take, codes, FitsSigned, All, Contains, nat_eq}
+use Rattle.std.specs.Prelude.{ℕ, ℤ, pos, negsuc, ◌≡◌, ◌<◌, ◌≤◌, ◌^◌, ◌⊎◌, ◌≢◌, List, [], ◌∷◌, length, map, take, codes, FitsSigned, All, Contains}
 use Rattle.std.specs.Int.{w32}
 use Rattle.std.specs.List.{AllPairs}
 use Rattle.prdb_entries.specs.Bytes.{IsBytes}
@@ -55,13 +55,18 @@ key e = (e.name, e.id)
 abbrev pub IsIdOrNone : List PrEntry → ℤ → Type 0
 IsIdOrNone entries id = (id ≡ pos 0) ⊎ Contains (map (λ e. e.id) entries) id
 
+-- a user's id is from 1 to 2147483647, a group's from -1 down to -2147483647
+abbrev pub IsId : ℤ → Type 0
+IsId (pos n) = (0 < n) × (n ≤ 2147483647)
+IsId (negsuc n) = n < 2147483647
+
 -- an entry whose fields have a place in a block: a name without zero bytes, and words
 pub record IsPrEntry (e : PrEntry) : Type 0 where
   pub name_bytes : IsBytes e.name
   pub name_len : length e.name ≤ 63
   pub name_text : All (λ b. 0 < b) e.name
   pub flags : e.flags < 2 ^ 32
-  pub id : FitsSigned w32 e.id
+  pub id : IsId e.id
   pub owner : FitsSigned w32 e.owner
   pub creator : FitsSigned w32 e.creator
   pub quota : FitsSigned w32 e.quota

@@ -7,7 +7,11 @@ ghost use Rattle.prdb_entries.specs.Call.{PrCall, NameToId};
 ghost use Rattle.prdb_entries.specs.Names.{lowered};
 ghost use Rattle.prdb_entries.specs.Blocks.{id_among, id_is_among};
 ghost use Rattle.prdb_entries.specs.Reading.{names_of, StandsForCall, call_of};
-ghost use Rattle.prdb_entries.specs.Protection.{protection, refusal, answer, answer_over, answer_new_user, next_id, with_numbers, with_block, ids_of};
+ghost use Rattle.prdb_entries.specs.State.{PrState};
+ghost use Rattle.prdb_entries.specs.Meaning.{meaning};
+ghost use Rattle.prdb_entries.specs.Layout.{StandsFor};
+ghost use Rattle.prdb_entries.specs.Agreement.{IsMeant};
+ghost use Rattle.prdb_entries.specs.Protection.{outcome, protection, refusal, answer, answer_over, answer_new_user, next_id, with_numbers, with_block, ids_of};
 
 use crate::blocks::{
     BLOCK_LEN, Block, HEAD_LEN, blocks, has_id, has_name, has_whole_blocks, id_of, word_at,
@@ -169,6 +173,9 @@ pub fn call_image(
     requires { length image.now ≤ 16777216 }
     ensures exact { IfOk result (λ r. let o = protection.call image.now _now call.now in
         (r.0 ≡ o.reply) × (unwrap_or r.1 image.now ≡ o.image)) }
+    // Over an image that stands for a state, they are what the call means for that state.
+    ensures meaning { IfOk result (λ r. (s : PrState) (c : PrCall) → StandsFor image.now s → call_of call.now ≡ Some c
+        → IsMeant (outcome image.now r) image.now s (meaning s _now c)) }
 {
     let Some(call) = read_call(call) else {
         return Ok((CallReply::Malformed, None));

@@ -13,7 +13,7 @@ mod words;
 
 pub use calls::writes;
 pub use images::call_image;
-pub use laws::law_call_is_spelled;
+pub use laws::{law_call_is_spelled, law_call_means, law_empty_is_initial};
 pub use service::PrService;
 pub use words::{call_words, reply_words};
 

@@ -1,3 +1,4 @@
+pub mod Appending
 pub mod Database
 pub mod Fault
 pub mod Label

@@ -27,6 +27,10 @@ abbrev pub IsStored : {D V : Type 0} → (D → Option Files) → Node D V → T
 IsStored files n =
     n.halted ≡ false → IfSome (files n.disk) (λ fs. durable_of fs.database ≡ Some (durable n.state.version n.state.image))
 
+-- the disk keeps its files, and no changing call of it was made
+abbrev pub KeepsDisk : {D V : Type 0} → (D → Option Files) → (D → ℕ) → Node D V → Node D V → Type 0
+KeepsDisk files steps before after = (files after.disk ≡ files before.disk) × (steps after.disk ≡ steps before.disk)
+
 -- a step that was made: the server after it, what it put out, and four changing calls of the disk for each
 -- durable call
 pub record Makes (t : Stepped) (after : model.Node) (out : List Output) (disk_before disk_after : ℕ) : Type 0 where

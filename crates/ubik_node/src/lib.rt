@@ -16,3 +16,6 @@ pub use cell_model::{NodeEvent, Output, Reply};
 pub use database::StoreFault;
 pub use nodes::{Node, StepEnd};
 pub use outputs::Outputs;
+
+#[cfg(test)]
+mod tests;

@@ -1,5 +1,5 @@
 //! A server of a cell, one step at a time.
-ghost use Rattle.std.specs.Prelude.{◌≡◌, ◌≢◌, ◌+◌, ◌*◌, ◌<◌, ◌≤◌, Bool, ℕ, List, [], ◌∷◌, length, IfOk, IfErr, IfSome, IsErrOf, OnOk, OnErr, MatchResult, Some, false};
+ghost use Rattle.std.specs.Prelude.{◌≡◌, ◌≢◌, ◌+◌, ◌*◌, ◌<◌, ◌≤◌, Bool, ℕ, List, [], ◌∷◌, length, IfOk, IfErr, IfSome, IsErrOf, OnOk, OnErr, MatchResult, Some, true, false};
 ghost use Rattle.ubik_types.specs.Moment.{IsMoment};
 ghost use Rattle.cell_model.specs.Node as model;
 ghost use Rattle.cell_model.specs.NodeRule.{refusals};
@@ -26,7 +26,7 @@ pub enum StepEnd {
     /// The server's disk failed, now or before: it answers every call with a fault of the disk, until it is
     /// opened anew.
     Halted,
-    /// Memory ran out. Nothing changed and nothing was put out.
+    /// Memory ran out in a recovery turn. Nothing changed and nothing was put out.
     NoMemory,
 }
 
@@ -53,10 +53,11 @@ impl<D: Disk, V: Service> Node<D, V> {
     ghost use Rattle.ubik_node.specs.Verdict.{Judges};
     ghost use Rattle.ubik_node.specs.Serving.{IsServing, Served, Asked};
     ghost use Rattle.ubik_node.specs.Progress.{phase_record, own_poll, own_spread};
-    ghost use Rattle.ubik_node.specs.Node.{node_of, up_server, IsStored, Makes, Steps, last_after};
+    ghost use Rattle.ubik_node.specs.Node.{node_of, up_server, IsStored, KeepsDisk, Makes, Steps, last_after};
 
-    /// Opens a server over its disk, at a moment in seconds. A cell has one server today, so `me` is 0.
-    /// A refusal hands the disk back: as it was, but after a fault of the disk.
+    /// Opens a server over its disk, at a moment in seconds. A cell has one server today, so `me` is 0. An
+    /// empty database file is an empty database of version 0.0. No changing call of the disk is made. A
+    /// refusal hands the disk back: as it was, but after a fault of the disk.
     pub fn open(
         alloc: Global,
         cell: Cell,
@@ -97,8 +98,10 @@ impl<D: Disk, V: Service> Node<D, V> {
         }
     }
 
-    /// One step: what an event makes of the server at a moment, not below the last one. An id of a call is
-    /// new since the opening. `out` is empty before it, and has what the step put out after it.
+    /// One step: what an event makes of the server at a moment in seconds, not below the last one. An id of a
+    /// call is new since the opening. `out` is empty before it, and has what the step put out after it. Only
+    /// a recovery turn can end for want of memory: a call that finds none is answered so. A step makes at
+    /// most four changing calls of the disk, and a halted server none.
     pub fn step(&mut self, now: u32, event: NodeEvent, out: &mut Outputs) -> StepEnd
         requires moment { IsMoment now }
         requires order { self.old.last ≤ now }
@@ -107,6 +110,10 @@ impl<D: Disk, V: Service> Node<D, V> {
             (D.steps self.old.disk) (D.steps self.new.disk) }
         ensures stored { IsStored D.files self.old → IsStored D.files self.new }
         ensures beacon { event ≡ events.BeaconTurn → result ≢ StepEnd.NoMemory }
+        ensures told { (id : ℕ) (call : List ℕ) → event ≡ events.Ask id call → result ≢ StepEnd.NoMemory }
+        ensures no_memory { result ≡ StepEnd.NoMemory → KeepsDisk D.files D.steps self.old self.new }
+        ensures rests { self.old.halted ≡ true → self.new.disk ≡ self.old.disk }
+        ensures fewer { D.steps self.new.disk ≤ D.steps self.old.disk + 4 }
         ensures fault { result ≡ StepEnd.Halted → self.old.halted ≡ false → D.faults self.old.disk < D.faults self.new.disk }
         ensures never_falls { D.faults self.old.disk ≤ D.faults self.new.disk }
         ensures last { self.new.last ≡ last_after result self.old.last now }
@@ -130,7 +137,7 @@ impl<D: Disk, V: Service> Node<D, V> {
         self.state.version
     }
 
-    /// The phase of the server's recovery.
+    /// The phase of the server's recovery, as the last step left it.
     pub fn phase(&self) -> Phase
         ensures { result ≡ phase_of (up_server self.now).phase }
     {
@@ -158,7 +165,7 @@ impl<D: Disk, V: Service> Node<D, V> {
         self.last
     }
 
-    /// Takes the server down, and gives its disk back.
+    /// Takes the server down, and gives its disk back, which another server can be opened over.
     pub fn close(self) -> D
         ensures { result ≡ self.disk }
     {
@@ -175,6 +182,9 @@ impl<D: Disk, V: Service> Node<D, V> {
             (D.steps self.old.disk) (D.steps self.new.disk) }
         ensures stored { IsStored D.files self.old → IsStored D.files self.new }
         ensures beacon { event.now ≡ events.BeaconTurn → result ≢ StepEnd.NoMemory }
+        ensures told { (id : ℕ) (call : List ℕ) → event.now ≡ events.Ask id call → result ≢ StepEnd.NoMemory }
+        ensures no_memory { result ≡ StepEnd.NoMemory → KeepsDisk D.files D.steps self.old self.new }
+        ensures fewer { D.steps self.new.disk ≤ D.steps self.old.disk + 4 }
         ensures fault { result ≡ StepEnd.Halted → D.faults self.old.disk < D.faults self.new.disk }
         ensures never_falls { D.faults self.old.disk ≤ D.faults self.new.disk }
         ensures last { self.new.last ≡ self.old.last }
@@ -198,6 +208,8 @@ impl<D: Disk, V: Service> Node<D, V> {
         ensures step { Steps V.database result events.RecoverTurn now (node_of self.old) (node_of self.new) out.new
             (D.steps self.old.disk) (D.steps self.new.disk) }
         ensures stored { IsStored D.files self.old → IsStored D.files self.new }
+        ensures no_memory { result ≡ StepEnd.NoMemory → KeepsDisk D.files D.steps self.old self.new }
+        ensures fewer { D.steps self.new.disk ≤ D.steps self.old.disk + 4 }
         ensures fault { result ≡ StepEnd.Halted → D.faults self.old.disk < D.faults self.new.disk }
         ensures never_falls { D.faults self.old.disk ≤ D.faults self.new.disk }
         ensures last { self.new.last ≡ self.old.last }
@@ -248,20 +260,21 @@ impl<D: Disk, V: Service> Node<D, V> {
             (node_of self.new) out.new (D.steps self.old.disk) (D.steps self.new.disk)) }
         ensures stored { OnOk result (IsStored D.files self.old → IsStored D.files self.new) }
         ensures same { OnErr result ((self.new.state ≡ self.old.state) × (self.new.halted ≡ self.old.halted) × (out.new ≡ [])) }
-        ensures no_memory { IsErrOf result WriteFault.NoMemory → (D.files self.new.disk ≡ D.files self.old.disk) × (D.steps self.new.disk ≡ D.steps self.old.disk) }
+        ensures no_memory { IsErrOf result WriteFault.NoMemory → KeepsDisk D.files D.steps self.old self.new }
+        ensures fewer { D.steps self.new.disk ≤ D.steps self.old.disk + 4 }
         ensures fault { IsErrOf result WriteFault.DiskFault → D.faults self.old.disk < D.faults self.new.disk }
         ensures never_falls { D.faults self.old.disk ≤ D.faults self.new.disk }
         ensures last { self.new.last ≡ self.old.last }
     {
-        let version = Version {
+        let next = Version {
             epoch: self.state.version.epoch,
             counter: self.state.version.counter + 1,
         };
-        write_database(&mut self.disk, version, image.as_slice())?;
-        self.state.version = version;
+        write_database(&mut self.disk, next, image.as_slice())?;
+        self.state.version = next;
         self.state.image = image;
         self.state.progress = progress;
-        out.put(Output::Announce { version });
+        out.put(Output::Announce { version: next });
         let reply = Reply::Ok(answer);
         out.put(Output::Reply { id, reply });
         Ok(())
@@ -299,6 +312,7 @@ impl<D: Disk, V: Service> Node<D, V> {
         ensures halted { result ≡ StepEnd.Halted → (node_of self.new ≡ model.Halted (model.halted_from (up_server self.old)))
             × (out.new ≡ outputs.Reply id Reply.DiskFault ∷ []) }
         ensures told { result ≢ StepEnd.NoMemory }
+        ensures fewer { D.steps self.new.disk ≤ D.steps self.old.disk + 4 }
         ensures stored { IsStored D.files self.old → IsStored D.files self.new }
         ensures fault { result ≡ StepEnd.Halted → D.faults self.old.disk < D.faults self.new.disk }
         ensures never_falls { D.faults self.old.disk ≤ D.faults self.new.disk }
@@ -337,6 +351,7 @@ impl<D: Disk, V: Service> Node<D, V> {
         ensures halted { result ≡ StepEnd.Halted → (node_of self.new ≡ model.Halted (model.halted_from (up_server self.old)))
             × (out.new ≡ outputs.Reply id Reply.DiskFault ∷ []) }
         ensures told { result ≢ StepEnd.NoMemory }
+        ensures fewer { D.steps self.new.disk ≤ D.steps self.old.disk + 4 }
         ensures stored { IsStored D.files self.old → IsStored D.files self.new }
         ensures fault { result ≡ StepEnd.Halted → D.faults self.old.disk < D.faults self.new.disk }
         ensures never_falls { D.faults self.old.disk ≤ D.faults self.new.disk }

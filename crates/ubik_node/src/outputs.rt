@@ -1,5 +1,5 @@
 //! The list that a step leaves.
-ghost use Rattle.std.specs.Prelude.{◌≡◌, ◌<◌, ◌++◌, ◌∷◌, [], length, IfOk, option_to_list};
+ghost use Rattle.std.specs.Prelude.{◌≡◌, ◌<◌, ◌++◌, ◌∷◌, [], length, IfOk, IsNone, option_to_list};
 
 use cell_model::Output;
 use std::alloc::Global;
@@ -30,7 +30,7 @@ impl Model for Outputs {
 }
 
 impl Outputs {
-    /// An empty list, with all its room.
+    /// An empty list, with all its room. It is refused only for want of memory.
     pub fn make(alloc: Global) -> Result<Outputs, NoMemory>
         ensures { IfOk result (λ outputs. outputs ≡ []) }
     {
@@ -38,14 +38,15 @@ impl Outputs {
         Ok(Outputs { list })
     }
 
-    /// Takes the first output.
+    /// Takes the first output; none where the list is empty.
     pub fn take(&mut self) -> Option<Output>
-        ensures { self.old ≡ option_to_list result ++ self.new }
+        ensures taken { self.old ≡ option_to_list result ++ self.new }
+        ensures none { IsNone result → self.old ≡ [] }
     {
         self.list.pop_front()
     }
 
-    /// Adds an output at the end.
+    /// Adds an output at the end of fewer than 200.
     pub fn put(&mut self, output: Output)
         requires { length self.old < 200 }
         ensures { self.new ≡ self.old ++ output ∷ [] }

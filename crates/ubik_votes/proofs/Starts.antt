@@ -1,5 +1,5 @@
 -- What a counted vote changes in the list of starts.
-use Rattle.std.proofs.Common.{◌≡◌, ℕ, zero, suc, ◌<◌, ◌^◌, Bool, true, false, IsTrue, Option, Some, None, IfSome, List, [], ◌∷◌, length, take, set, get_or, refl, ap, arith}
+use Rattle.std.proofs.Common.{◌≡◌, ℕ, zero, suc, ◌<◌, ◌^◌, Bool, true, false, ◌&&◌, IsTrue, Option, Some, None, IfSome, List, [], ◌∷◌, length, take, set, get_or, refl, ap, arith}
 use Rattle.ubik_types.specs.Lease.{counted, with_start, start_of, is_from, no_starts, is_counted, vote_counted}
 use Rattle.ubik_types.specs.Votes.{VoteState, fresh_votes}
 use Rattle.std.proofs.lemmas.Bool.Decides.{nat_tests}
@@ -57,7 +57,6 @@ moment-from false start s is own yes_it_is = absurd (grind (arith, yes_it_is))
 pub fresh-view : (n me now : ℕ) (votes : VoteState) (starts : List (Option ℕ)) → votes ≡ fresh_votes now → starts ≡ no_starts n → (let voter : Voter = record { servers = n; me = me; opened = now; votes = votes; starts = starts } in voter ≡ fresh_voter n me now)
 fresh-view n me now votes starts are none = cc
 
--- the starts after a yes that counts
-pub counted-vote : (opened me : ℕ) (starts after : List (Option ℕ)) (from start : ℕ) (vote : Bool) → vote ≡ true → is_counted opened me starts start ≡ true → after ≡ with_start starts from start → after ≡ vote_counted opened me starts from start vote
-counted-vote opened me starts after from start true given rule is = rw rule is
-counted-vote opened me starts after from start false given rule is = cc
+-- the starts after a vote that counts
+pub counted-vote : (opened me : ℕ) (starts after : List (Option ℕ)) (from start : ℕ) (vote : Bool) → (vote && is_counted opened me starts start) ≡ true → after ≡ with_start starts from start → after ≡ vote_counted opened me starts from start vote
+counted-vote opened me starts after from start vote rule is = rw rule is

@@ -1,5 +1,5 @@
 //! A server among the votes.
-ghost use Rattle.std.specs.Prelude.{◌≡◌, ◌<◌, ◌≤◌, ◌^◌, IsTrue, IfSome};
+ghost use Rattle.std.specs.Prelude.{◌≡◌, ◌<◌, ◌≤◌, ◌^◌, ◌&&◌, IsTrue, IfSome};
 ghost use Rattle.ubik_types.specs.Lease.{is_counted};
 ghost use Rattle.ubik_types.specs.Moment.{IsMoment};
 ghost use Rattle.ubik_types.specs.Votes.{answers_yes, sync_heard};
@@ -80,17 +80,18 @@ impl Votes {
         requires { from < self.old.servers }
         ensures { self.new ≡ after_vote self.old from start yes }
     {
-        if yes && self.is_counted(start) {
-            count(&mut self.starts, from, start);
+        if !self.counts(start, yes) {
+            return;
         }
+        count(&mut self.starts, from, start);
     }
 
-    /// Whether a yes for the start counts.
-    fn is_counted(&self, start: u32) -> bool
-        ensures rule { result ≡ is_counted self.now.opened self.now.me self.now.starts start }
+    /// Whether a vote for the start counts.
+    fn counts(&self, start: u32, yes: bool) -> bool
+        ensures rule { result ≡ (yes && is_counted self.now.opened self.now.me self.now.starts start) }
         ensures moment { IsTrue result → start < 2 ^ 31 }
     {
-        self.opened < start && is_from(start, self.starts[self.me])
+        yes && self.opened < start && is_from(start, self.starts[self.me])
     }
 
     /// The last moment of the lease, 0 where there is none.

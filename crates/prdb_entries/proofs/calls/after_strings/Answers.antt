@@ -1,4 +1,4 @@
-use Rattle.std.proofs.Common.{◌≡◌, None, sym, ap, ◌∙◌, arith, rules}
+use Rattle.std.proofs.Common.{◌≡◌, None, rules}
 use Rattle.prdb_entries.specs.Reading.{strings_at}
 use Rattle.prdb_entries.proofs.Strings.{goes_on, fails, is_done, rest_of}
 use Rattle.prdb_entries.proofs.calls.after_strings.Goals as goal

@@ -1,7 +1,6 @@
 use Rattle.std.proofs.Common.{◌≡◌, ℕ, ◌-◌, not, Option, Some, None, refl, sym, ◌∙◌, ap, rules, tests}
 use Rattle.std.specs.List.{find, range_with_len}
 use Rattle.std.specs.Option.{option_map}
-use Rattle.std.specs.declared.ops.Range.{Range}
 use Rattle.std.proofs.iter.Yields.{nat_range_steps}
 use Rattle.std.proofs.lemmas.Iterator.{YieldsList, YieldsList-from_range}
 use Rattle.std.proofs.lemmas.Iterator.Search.{find_from_yields_List}

@@ -1,4 +1,4 @@
-use Rattle.std.proofs.Common.{◌<◌, ◌≤◌, not, arith, subst, ℕ, Option, sym}
+use Rattle.std.proofs.Common.{◌≤◌, not, subst, ℕ, Option, sym}
 use Rattle.std.specs.Prelude.{IfSome}
 use Rattle.prdb_entries.specs.Blocks.{id_is_among}
 use Rattle.prdb_entries.proofs.NextId.{next_below}

@@ -1,4 +1,4 @@
-use Rattle.std.proofs.Common.{◌≡◌, ◌+◌, ◌++◌, ◌∷◌, [], List, ℕ, Option, Some, None, length, drop, ap, sym, subst, ◌∙◌}
+use Rattle.std.proofs.Common.{◌≡◌, ◌+◌, ◌∷◌, [], List, ℕ, Some, None, length, drop, ap, sym, ◌∙◌}
 use Rattle.std.specs.Option.{option_map}
 use Rattle.prdb_entries.specs.Bytes.{words}
 use Rattle.prdb_entries.specs.Call.{NameToId, spelling}

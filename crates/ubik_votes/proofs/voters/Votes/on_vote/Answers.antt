@@ -1,4 +1,4 @@
-use Rattle.std.proofs.Common.{rules, ◌≡◌, ◌∙◌, ℕ, List, Option, take, ap, sym}
+use Rattle.std.proofs.Common.{rules, ◌≡◌, true, ◌∙◌, ℕ, List, Option, take, ap, sym}
 use Rattle.ubik_types.specs.Lease.{with_start}
 use Rattle.ubik_votes.proofs.Starts.{take-with_start, length-with_start, moments-with_start, counted-vote}
 use Rattle.ubik_votes.proofs.voters.Votes.on_vote.Goals as goal
@@ -12,9 +12,10 @@ invariant_of-self c = record {
   moments = rw c.count.ensures (moments-with_start _ _ _ c.self.invariant.moments (search rules));
 }
 
-pub returns-then-is_counted : goal.returns-then-is_counted
-returns-then-is_counted c =
+pub returns : goal.returns
+returns c =
     let starts : take c.self.inside.servers c.count.new.starts ≡ with_start (take c.self.inside.servers c.self.inside.starts) c.args.from c.args.start = ap (λ (those : List (Option ℕ)). take c.self.inside.servers those) c.count.ensures ∙ take-with_start _ _ _ _ in
-    let rule = sym c.is_counted.ensures.rule ∙ c.if-is_counted.true in
-    let after = counted-vote c.self.inside.opened c.self.inside.me (take c.self.inside.servers c.self.inside.starts) (take c.self.inside.servers c.count.new.starts) c.args.from c.args.start c.args.yes c.if-yes.true (rw (← c.self.view_is) at rule) starts in
+    let counts : c.counts.result ≡ true = search rules in
+    let rule = sym c.counts.ensures.rule ∙ counts in
+    let after = counted-vote c.self.inside.opened c.self.inside.me (take c.self.inside.servers c.self.inside.starts) (take c.self.inside.servers c.count.new.starts) c.args.from c.args.start c.args.yes (rw (← c.self.view_is) at rule) starts in
     rw (← c.self.view_is) cc

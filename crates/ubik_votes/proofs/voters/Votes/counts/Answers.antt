@@ -1,13 +1,13 @@
-use Rattle.std.proofs.Common.{◌≡◌, nat_lt, true, arith}
+use Rattle.std.proofs.Common.{arith}
 use Rattle.std.proofs.lemmas.Bool.Decides.{nat_tests}
 use Rattle.ubik_votes.proofs.Starts.{start_of-take, moments-at, moment-from}
-use Rattle.ubik_votes.proofs.voters.Votes.is_counted.Goals as goal
+use Rattle.ubik_votes.proofs.voters.Votes.counts.Goals as goal
 
 pub returns-then-self-start-clause-rule : goal.returns-then-self-start-clause-rule
 returns-then-self-start-clause-rule c =
     let own = start_of-take c.self.inside.servers c.self.inside.starts c.self.inside.me c.self.invariant.me in
-    let after : nat_lt c.self.inside.opened c.args.start ≡ true = grind (arith, nat_tests) in
-    rw (← c.self.view_is) (rw (after, own) c.is_from.ensures)
+    let from_own = c.is_from.ensures in
+    rw (← c.self.view_is) (rw own (grind (arith, nat_tests)))
 
 pub returns-then-self-start-clause-moment : goal.returns-then-self-start-clause-moment
 returns-then-self-start-clause-moment c =
