@@ -1,1 +1,6 @@
+pub mod Disks
+pub mod Lines
+pub mod Run
+pub mod Script
+pub mod Sites
 pub mod Trace

@@ -1,0 +1,10 @@
+pub mod Consuming
+pub mod Fields
+pub mod OneStep
+pub mod OpenedLine
+pub mod Opening
+pub mod Refusing
+pub mod Starting
+pub mod SteppedLine
+pub mod Telling
+pub mod Turning

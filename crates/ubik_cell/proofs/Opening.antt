@@ -1,0 +1,39 @@
+-- The opening of a server over an empty disk.
+use Rattle.std.proofs.Common.{◌≡◌, ◌≢◌, ◌<◌, ℕ, List, [], Option, Some, None, IfSome, refl, sym, subst, ◌∙◌, arith}
+use Rattle.disk_base.specs.Files.{Files, no_files}
+use Rattle.cell_model.specs.Durable.{Durable, no_database}
+use Rattle.ubik_node.specs.declared.database.StoreFault.{StoreFault}
+use Rattle.ubik_node.specs.declared.database.StoreFault.TheVariants.{DiskFault, BadLabel, NoMemory}
+use Rattle.ubik_node.specs.Fault.{IsFaultOf}
+use Rattle.ubik_node.specs.Label.{durable_of}
+use Rattle.ubik_cell.specs.declared.sites.Site.{Site}
+use Rattle.ubik_cell.specs.declared.sites.Site.TheVariants as site
+use Rattle.ubik_cell.specs.Sites.{DownTold, OpenTold}
+
+empty_file : durable_of [] ≡ Some no_database
+unfolding durable_of
+empty_file = refl
+
+-- an empty disk stands for no database
+pub fresh_durable : (files : Option Files) (d : Durable) → files ≡ Some no_files → IfSome files (λ fs. durable_of fs.database ≡ Some d) → d ≡ no_database
+fresh_durable files d empty is =
+    let P : Option Files → Type 0 = λ f. IfSome f (λ fs. durable_of fs.database ≡ Some d) in
+    let there : durable_of [] ≡ Some d = subst P empty is in
+    let same : Some d ≡ Some no_database = sym there ∙ empty_file in
+    cc
+
+-- its opening is refused for a fault of the disk, where memory is there
+pub refused_by_fault : (files : Option Files) (why : StoreFault) → files ≡ Some no_files → IfSome files (λ fs. IsFaultOf fs.database why) → why ≢ NoMemory → why ≡ DiskFault
+refused_by_fault files DiskFault empty is found = refl
+refused_by_fault files (BadLabel len head) empty is found =
+    let P : Option Files → Type 0 = λ f. IfSome f (λ fs. IsFaultOf fs.database (BadLabel len head)) in
+    let there : durable_of [] ≡ None = (subst P empty is).0 in
+    let never : Some no_database ≡ None = sym empty_file ∙ there in
+    absurd cc
+refused_by_fault files NoMemory empty is found = absurd (found refl)
+
+-- a server that stays down after a fault
+pub down_after_fault : {D : Type 0} (faults : D → ℕ) (clock : ℕ) (disk kept : D) (s : Site D) (before after : List ℕ) → faults disk < faults kept → DownTold faults kept s before after → OpenTold faults clock disk s before after
+down_after_fault faults clock disk kept (site.Unopened d) before after rose told = absurd told
+down_after_fault faults clock disk kept (site.Down d) before after rose told = (told.0, omega (arith, told.1))
+down_after_fault faults clock disk kept (site.Up n) before after rose told = absurd told

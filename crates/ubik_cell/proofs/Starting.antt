@@ -1,0 +1,46 @@
+-- How a run of a script starts.
+use Rattle.std.proofs.Common.{ℕ, List, [], Option, Some, None, IfSome, inl, refl, sym, ap, arith}
+use Rattle.std.proofs.lemmas.List.{append-nil}
+use Rattle.std.proofs.lemmas.List.Elements.{All-nil}
+use Rattle.db_image.specs.Database.{Database}
+use Rattle.ubik_cell.specs.declared.scripts.CellRun.{CellRun}
+use Rattle.ubik_cell.specs.Lines.{IsAt}
+use Rattle.ubik_cell.specs.Run.{SoFar, RanShort}
+use Rattle.ubik_cell.specs.Script.{first_stage}
+
+-- a fact of a source and of a sink of which nothing was taken, and to which nothing was given
+pub of_both : (Q : List ℕ → Option (List ℕ) → List ℕ → Option (List ℕ) → Type 0) (left written : Option (List ℕ)) → ((script before : List ℕ) → Q script (Some script) before (Some before)) → IfSome left (λ script. IfSome written (λ before. Q script left before written))
+of_both Q None written all = tt
+of_both Q (Some script) None all = tt
+of_both Q (Some script) (Some before) all = all script before
+
+-- before the first line
+pub first_so_far : {D : Type 0} (db : Database) (faults : D → ℕ) (run : CellRun D) → IsAt run first_stage → (script before : List ℕ) → SoFar db faults script (Some script) before (Some before) run
+first_so_far db faults run at script before =
+    record {
+      readings = [];
+      rest = script;
+      remains = refl;
+      consumed = inl (refl, All-nil _);
+      good = refl;
+      at = at;
+      wrote = ap Some (sym (append-nil before));
+      causes = omega arith;
+    }
+
+-- memory ran out before the first line
+pub short_at_once : (db : Database) (faults : ℕ) (script before : List ℕ) → RanShort db script (Some script) before (Some before) faults
+short_at_once db faults script before =
+    record {
+      readings = [];
+      read = [];
+      rest = script;
+      more = [];
+      split = refl;
+      remains = refl;
+      all = refl;
+      one = omega arith;
+      good = refl;
+      wrote = ap Some (sym (append-nil before));
+      causes = omega arith;
+    }

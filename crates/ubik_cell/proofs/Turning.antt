@@ -1,0 +1,243 @@
+-- How a run goes on, or ends, at a line.
+use Rattle.std.proofs.Common.{Bool, true, false, cond, nat_lt, nat_le, ◌<◌, take, drop, ◌≡◌, ◌≤◌, ℕ, List, [], ◌∷◌, ◌++◌, length, Option, Some, None, IfSome, refl, sym, ap, subst, ◌∙◌, arith, append_assoc}
+use Rattle.std.proofs.lemmas.List.{take-append-drop}
+use Rattle.std.specs.Prelude.{option_and_then}
+use Rattle.std.proofs.lemmas.Bool.Decides.{nat_tests}
+use Rattle.cell_script.specs.declared.lines.Line.TheVariants as lines
+use Rattle.cell_script.specs.Meaning.{is_idle, line_of_words}
+use Rattle.cell_script.specs.Words.{words_of}
+use Rattle.db_image.specs.Database.{Database}
+use Rattle.cell_script.specs.Lines.{TakesLine, TakesPart}
+use Rattle.ubik_cell.specs.declared.cells.CellKind.{CellKind}
+use Rattle.ubik_cell.specs.declared.scripts.CellRun.{CellRun}
+use Rattle.ubik_cell.specs.Script.{Stage, Luck, Reading, Line_run, Told, told, line_run, line_result}
+use Rattle.ubik_cell.specs.Run.{Runs, AtLine, AtRefusal, SoFar, RanToTheEnd, RanToFault, RanInPart, RanShort, read_lines, IsConsumed}
+use Rattle.ubik_cell.specs.Lines.{LineTold, IsRefused, IsAt}
+use Rattle.ubik_cell.specs.Sites.{site_faults}
+use Rattle.ubik_cell.specs.Trace.{trace}
+use Rattle.ubik_cell.proofs.Telling.{told-push, read_lines-push}
+use Rattle.ubik_cell.proofs.Consuming.{read_so_far, all_lines, lines_and_part, consumed-push, whole_before}
+
+same_some : {X : Type 0} {a b : X} → Some a ≡ Some b → a ≡ b
+same_some e = cc
+
+-- the line as it was read and run
+reading_of : List ℕ → Luck → Reading
+reading_of line luck = record { line = line; luck = luck }
+
+-- the line was told whole
+pub went_on : {D : Type 0} (db : Database) (faults : D → ℕ) (text : List ℕ) (left : Option (List ℕ)) (before written bytes : List ℕ) (after : Option (List ℕ)) (run next : CellRun D) (line : List ℕ) (at : AtLine db faults text left before (Some written) run line) → LineTold faults (λ luck. line_result db (told db at.readings).stage (record { line = line; luck = luck })) run next [] bytes → after ≡ Some (written ++ bytes) → SoFar db faults text left before after next
+unfolding reading_of
+went_on db faults text left before written bytes after run next line at ran wrote =
+    let t = told db at.readings in
+    let r = reading_of line ran.luck in
+    let more = told-push db at.readings r (Some ran.ran) at.good ran.is in
+    record {
+      readings = at.readings ++ r ∷ [];
+      rest = at.rest;
+      remains = at.remains;
+      consumed = let P : List (List ℕ) → Type 0 = λ l. IsConsumed text at.rest l in subst P (sym (read_lines-push at.readings r)) at.consumed;
+      good = ap (λ (d : Told). d.refused) more ∙ at.good;
+      at = let P : Told → Type 0 = λ d. IsAt next d.stage in subst P (sym more) ran.at;
+      wrote =
+          wrote ∙ ap (λ (w : List ℕ). Some (w ++ bytes)) (same_some at.wrote)
+          ∙ ap (λ (b : List ℕ). Some ((before ++ t.text) ++ b)) ran.told
+          ∙ ap Some (append_assoc before t.text (trace ran.ran.seen))
+          ∙ ap (λ (d : Told). Some (before ++ d.text)) (sym more);
+      causes = omega (arith, ap (λ (d : Told). d.faults) more, at.causes, ran.causes);
+    }
+
+-- the sink failed in what the line tells
+pub part_told : {D : Type 0} (db : Database) (faults : D → ℕ) (text : List ℕ) (left : Option (List ℕ)) (before written bytes : List ℕ) (count : ℕ) (after : Option (List ℕ)) (run next : CellRun D) (line : List ℕ) (at : AtLine db faults text left before (Some written) run line) → LineTold faults (λ luck. line_result db (told db at.readings).stage (record { line = line; luck = luck })) run next [] bytes → after ≡ Some (written ++ take count bytes) → RanInPart db text left before after (site_faults faults next.site)
+unfolding reading_of
+part_told db faults text left before written bytes count after run next line at ran wrote =
+    let t = told db at.readings in
+    let r = reading_of line ran.luck in
+    let more = told-push db at.readings r (Some ran.ran) at.good ran.is in
+    record {
+      readings = at.readings ++ r ∷ [];
+      read = at.read;
+      rest = at.rest;
+      split = at.split;
+      remains = at.remains;
+      all = read_lines-push at.readings r ∙ sym at.all;
+      front = t.text ++ take count bytes;
+      back = drop count bytes;
+      trace =
+          ap (λ (d : Told). d.text) more
+          ∙ ap (λ (b : List ℕ). t.text ++ b) (sym ran.told)
+          ∙ ap (λ (b : List ℕ). t.text ++ b) (sym (take-append-drop count bytes))
+          ∙ sym (append_assoc t.text (take count bytes) (drop count bytes));
+      wrote =
+          wrote ∙ ap (λ (w : List ℕ). Some (w ++ take count bytes)) (same_some at.wrote)
+          ∙ ap Some (append_assoc before t.text (take count bytes));
+      causes = omega (arith, ap (λ (d : Told). d.faults) more, at.causes, ran.causes);
+    }
+
+-- memory ran out in the line
+pub short_at : {D : Type 0} (db : Database) (faults : D → ℕ) (text : List ℕ) (left : Option (List ℕ)) (before : List ℕ) (after : Option (List ℕ)) (run next : CellRun D) (line : List ℕ) → AtLine db faults text left before after run line → site_faults faults run.site ≤ site_faults faults next.site → RanShort db text left before after (site_faults faults next.site)
+short_at db faults text left before after run next line at kept =
+    record {
+      readings = at.readings;
+      read = at.read;
+      rest = at.rest;
+      more = line ∷ [];
+      split = at.split;
+      remains = at.remains;
+      all = at.all;
+      one = omega arith;
+      good = at.good;
+      wrote = at.wrote;
+      causes = omega (arith, at.causes, kept);
+    }
+
+-- the line is refused
+pub refused_at : {D : Type 0} (db : Database) (faults : D → ℕ) (text : List ℕ) (left : Option (List ℕ)) (before : List ℕ) (after : Option (List ℕ)) (run next : CellRun D) (line : List ℕ) (at : AtLine db faults text left before after run line) → IsRefused (λ luck. line_result db (told db at.readings).stage (record { line = line; luck = luck })) → next.counts.lines ≡ run.counts.lines → site_faults faults run.site ≤ site_faults faults next.site → AtRefusal db faults text left before after next
+refused_at db faults text left before after run next line at refused same kept =
+    record {
+      readings = at.readings;
+      line = line;
+      read = at.read;
+      rest = at.rest;
+      split = at.split;
+      remains = at.remains;
+      all = at.all;
+      good = at.good;
+      at = at.at.lines ∙ sym same;
+      refused = refused;
+      wrote = at.wrote;
+      causes = omega (arith, at.causes, kept);
+    }
+
+-- what was told, of a text that was cleared before
+pub retold : {D : Type 0} (faults : D → ℕ) (result : Luck → Option Line_run) (before after : CellRun D) (text_before text_after bytes : List ℕ) → text_before ≡ [] → bytes ≡ text_after → LineTold faults result before after text_before text_after → LineTold faults result before after [] bytes
+retold faults result before after text_before text_after bytes none same told =
+    record {
+      luck = told.luck;
+      ran = told.ran;
+      is = told.is;
+      at = told.at;
+      told = same ∙ told.told ∙ ap (λ (b : List ℕ). b ++ trace told.ran.seen) none;
+      causes = told.causes;
+    }
+
+-- a run that ends at a refused line
+pub ends_refused : {D : Type 0} (db : Database) (faults : D → ℕ) (o : Option CellKind) (w after : Option (List ℕ)) (run next last : CellRun D) (line : List ℕ) → IfSome o (λ kind. IfSome w (λ written. (script before : List ℕ) (left : Option (List ℕ)) → AtRefusal db faults script left before (Some written) next → Runs kind db script left before after (site_faults faults next.site))) → last ≡ next → ((st : Stage) → IsAt run st → IsRefused (λ luck. line_result db st (record { line = line; luck = luck }))) → next.counts.lines ≡ run.counts.lines → site_faults faults run.site ≤ site_faults faults next.site → IfSome o (λ kind. IfSome w (λ written. (script before : List ℕ) (left : Option (List ℕ)) → AtLine db faults script left before (Some written) run line → Runs kind db script left before after (site_faults faults last.site)))
+ends_refused db faults None w after run next last line ends same refused lines kept = tt
+ends_refused db faults (Some kind) None after run next last line ends same refused lines kept = tt
+ends_refused {D} db faults (Some kind) (Some written) after run next last line ends same refused lines kept = λ script before left at.
+    let P : CellRun D → Type 0 = λ r. Runs kind db script left before after (site_faults faults r.site) in
+    subst P (sym same) (ends script before left (refused_at db faults script left before (Some written) run next line at (refused (told db at.readings).stage at.at) lines kept))
+
+-- what is known of what was left, where so much is left
+of_left : (P : List ℕ → Type 0) (left : Option (List ℕ)) (rest : List ℕ) → left ≡ Some rest → IfSome left P → P rest
+of_left P left rest is h = let Q : Option (List ℕ) → Type 0 = λ l. IfSome l P in subst Q is h
+
+-- the script was read to its end
+pub ran_to_the_end : {D : Type 0} (db : Database) (faults : D → ℕ) (script : List ℕ) (left later : Option (List ℕ)) (before : List ℕ) (after : Option (List ℕ)) (run : CellRun D) → SoFar db faults script left before after run → IfSome left (λ text. (text ≡ []) × (later ≡ Some [])) → RanToTheEnd db script later before after (site_faults faults run.site)
+ran_to_the_end db faults script left later before after run so ends =
+    let end = of_left (λ (text : List ℕ). (text ≡ []) × (later ≡ Some [])) left so.rest so.remains ends in
+    record {
+      readings = so.readings;
+      all = sym (all_lines script so.rest (read_lines so.readings) so.consumed end.0);
+      end = end.1;
+      good = so.good;
+      wrote = so.wrote;
+      causes = so.causes;
+    }
+
+-- the source failed
+pub ran_to_fault : {D : Type 0} (db : Database) (faults : D → ℕ) (script : List ℕ) (left later : Option (List ℕ)) (before : List ℕ) (after : Option (List ℕ)) (run : CellRun D) → SoFar db faults script left before after run → IfSome left (λ text. (taken : TakesPart text later) × (length taken.part ≤ 1024)) → RanToFault db script later before after (site_faults faults run.site)
+ran_to_fault db faults script left later before after run so fails =
+    let taken = (of_left (λ (text : List ℕ). (taken : TakesPart text later) × (length taken.part ≤ 1024)) left so.rest so.remains fails).0 in
+    let whole = whole_before script so.rest taken.part taken.rest (read_lines so.readings) taken.no_lf taken.read so.consumed in
+    record {
+      readings = so.readings;
+      read = whole.0;
+      rest = taken.rest;
+      split = whole.1;
+      remains = taken.left;
+      all = whole.2;
+      good = so.good;
+      wrote = so.wrote;
+      causes = so.causes;
+    }
+
+long_refused : (db : Database) (st : Stage) (line : List ℕ) (luck : Luck) → 1024 < length line → line_result db st (record { line = line; luck = luck }) ≡ None
+long_refused db st line luck long =
+    let past : nat_lt 1024 (length line) ≡ true = grind (arith, nat_tests) in
+    ap (λ (b : Bool). cond (nat_le 20000 st.lines) None (option_and_then (line_run db st luck) (cond b None (cond (is_idle line) (Some lines.Nothing) (option_and_then line_of_words (words_of line)))))) past
+    ∙ never (nat_le 20000 st.lines)
+  where
+    never : (b : Bool) → cond {A = Option Line_run} b None None ≡ None
+    never true = refl
+    never false = refl
+
+-- a line is too long
+pub refused_long : {D : Type 0} (db : Database) (faults : D → ℕ) (script : List ℕ) (left later : Option (List ℕ)) (before : List ℕ) (after : Option (List ℕ)) (run : CellRun D) → SoFar db faults script left before after run → IfSome left (λ text. (taken : TakesPart text later) × (length taken.part ≡ 1025)) → AtRefusal db faults script later before after run
+refused_long db faults script left later before after run so long =
+    let taken = of_left (λ (text : List ℕ). (taken : TakesPart text later) × (length taken.part ≡ 1025)) left so.rest so.remains long in
+    let part = taken.0.part in
+    let is = lines_and_part script so.rest part taken.0.rest (read_lines so.readings) taken.0.no_lf taken.0.read (omega (arith, taken.1)) so.consumed in
+    record {
+      readings = so.readings;
+      line = part;
+      read = is.read;
+      rest = taken.0.rest;
+      split = is.split;
+      remains = taken.0.left;
+      all = is.all;
+      good = so.good;
+      at = so.at.lines;
+      refused = λ luck. long_refused db (told db so.readings).stage part luck (omega (arith, taken.1));
+      wrote = so.wrote;
+      causes = so.causes;
+    }
+
+-- a line was read
+pub at_line : {D : Type 0} (db : Database) (faults : D → ℕ) (script : List ℕ) (left later : Option (List ℕ)) (before : List ℕ) (after : Option (List ℕ)) (run : CellRun D) (line : List ℕ) → SoFar db faults script left before after run → IfSome left (λ text. TakesLine text later line) → AtLine db faults script later before after run line
+at_line db faults script left later before after run line so takes =
+    let taken = of_left (λ (text : List ℕ). TakesLine text later line) left so.rest so.remains takes in
+    let more = consumed-push script so.rest line taken.rest (read_lines so.readings) taken.no_lf taken.read so.consumed in
+    let is = read_so_far script taken.rest (read_lines so.readings ++ line ∷ []) more in
+    record {
+      readings = so.readings;
+      read = is.read;
+      rest = taken.rest;
+      split = is.split;
+      remains = taken.left;
+      all = is.all;
+      consumed = more;
+      good = so.good;
+      at = so.at;
+      wrote = so.wrote;
+      causes = so.causes;
+    }
+
+-- a fact of a sink that tells what was written, where nothing more was written
+pub as_written : (Q : List ℕ → Option (List ℕ) → Type 0) (o : Option (List ℕ)) → ((written : List ℕ) → Q written (Some written)) → IfSome o (λ written. Q written o)
+as_written Q None all = tt
+as_written Q (Some written) all = all written
+
+-- a run that ends at a line that is too long
+pub ends_long : {D : Type 0} (db : Database) (faults : D → ℕ) (o : Option CellKind) (w after left later : Option (List ℕ)) (run last : CellRun D) → IfSome o (λ kind. IfSome w (λ written. (script before : List ℕ) (l : Option (List ℕ)) → AtRefusal db faults script l before (Some written) run → Runs kind db script l before after (site_faults faults run.site))) → last ≡ run → IfSome left (λ text. (taken : TakesPart text later) × (length taken.part ≡ 1025)) → IfSome o (λ kind. IfSome w (λ written. (script before : List ℕ) → SoFar db faults script left before (Some written) run → Runs kind db script later before after (site_faults faults last.site)))
+ends_long db faults None w after left later run last ends same long = tt
+ends_long db faults (Some kind) None after left later run last ends same long = tt
+ends_long {D} db faults (Some kind) (Some written) after left later run last ends same long = λ script before so.
+    let P : CellRun D → Type 0 = λ r. Runs kind db script later before after (site_faults faults r.site) in
+    subst P (sym same) (ends script before later (refused_long db faults script left later before (Some written) run so long))
+
+-- a run that ends at a line that was read
+pub ends_line : {D : Type 0} (db : Database) (faults : D → ℕ) (o : Option CellKind) (w after left later : Option (List ℕ)) (run last : CellRun D) (line told_line : List ℕ) → told_line ≡ line → IfSome o (λ kind. IfSome w (λ written. (script before : List ℕ) (l : Option (List ℕ)) → AtLine db faults script l before (Some written) run told_line → Runs kind db script l before after (site_faults faults last.site))) → IfSome left (λ text. TakesLine text later line) → IfSome o (λ kind. IfSome w (λ written. (script before : List ℕ) → SoFar db faults script left before (Some written) run → Runs kind db script later before after (site_faults faults last.site)))
+ends_line db faults None w after left later run last line told_line same ends takes = tt
+ends_line db faults (Some kind) None after left later run last line told_line same ends takes = tt
+ends_line db faults (Some kind) (Some written) after left later run last line told_line same ends takes = λ script before so.
+    let P : List ℕ → Type 0 = λ l. AtLine db faults script later before (Some written) run l in
+    ends script before later (subst P (sym same) (at_line db faults script left later before (Some written) run line so takes))
+
+-- a run that goes on after a line that was read
+pub goes_line : {D : Type 0} (db : Database) (faults : D → ℕ) (w after left later : Option (List ℕ)) (run next : CellRun D) (line told_line : List ℕ) → told_line ≡ line → IfSome w (λ written. (script before : List ℕ) (l : Option (List ℕ)) → AtLine db faults script l before (Some written) run told_line → SoFar db faults script l before after next) → IfSome left (λ text. TakesLine text later line) → IfSome w (λ written. (script before : List ℕ) → SoFar db faults script left before (Some written) run → SoFar db faults script later before after next)
+goes_line db faults None after left later run next line told_line same goes takes = tt
+goes_line db faults (Some written) after left later run next line told_line same goes takes = λ script before so.
+    let P : List ℕ → Type 0 = λ l. AtLine db faults script later before (Some written) run l in
+    goes script before later (subst P (sym same) (at_line db faults script left later before (Some written) run line so takes))

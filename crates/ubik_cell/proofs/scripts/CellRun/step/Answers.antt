@@ -1,0 +1,7 @@
+use Rattle.ubik_cell.proofs.SteppedLine.{stepped_line}
+use Rattle.ubik_cell.proofs.scripts.CellRun.step.Goals as goal
+
+pub returns-in-Told-clause-told : goal.returns-in-Told-clause-told
+returns-in-Told-clause-told g c = λ told st from.
+    stepped_line g.D.Disk.faults st c.args.self _ c.after_line-counts.result _ c.args.asks c.args.number c.args.event _ _ from
+    c.after_line-counts.ensures.lines c.after_line-counts.ensures.asks c.after_line-counts.ensures.clock (c.step_site-site.ensures.up told) (c.step_site-site.ensures.told told)

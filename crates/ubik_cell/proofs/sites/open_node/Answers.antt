@@ -1,0 +1,22 @@
+use Rattle.std.proofs.Common.{refl, ap, ◌∙◌}
+use Rattle.std.specs.String.{string_bytes}
+use Rattle.std.proofs.lemmas.List.Sorted.{length_permutation}
+use Rattle.cell_model.specs.Durable.{Durable}
+use Rattle.cell_model.specs.Node as model
+use Rattle.ubik_cell.proofs.Opening.{fresh_durable, refused_by_fault, down_after_fault}
+use Rattle.ubik_cell.proofs.sites.open_node.Goals as goal
+
+pub open-requires-clause-alone : goal.open-requires-clause-alone
+open-requires-clause-alone g c = length_permutation _ _ c.in-Ok.ensures.same
+
+pub returns-in-Ok-open-clause-told : goal.returns-in-Ok-open-clause-told
+returns-in-Ok-open-clause-told g c = λ told.
+    let o = c.in-Ok-open.ensures.opened in
+    let none = fresh_durable _ o.0 c.requires.empty o.2 in
+    (o.1 ∙ ap (λ (d : Durable). model.Up (model.opened_server 1 d c.args.clock)) none, refl, c.in-Ok-open.ensures.kept.2, c.in-Ok-open.ensures.never_falls)
+
+pub returns-in-Err-clause-told : goal.returns-in-Err-clause-told
+returns-in-Err-clause-told g c = λ told.
+    let down = c.keep_down.ensures.told told in
+    let fault = refused_by_fault _ c.in-Err.refused.why c.requires.empty c.in-Err.ensures.refused down.0 in
+    down_after_fault g.D.Disk.faults c.args.clock c.args.disk c.in-Err.refused.disk c.keep_down.result.0 (string_bytes c.args.text.now) (string_bytes c.keep_down.new.text) (c.in-Err.ensures.fault fault) down.1

@@ -1,0 +1,147 @@
+-- What a run of a script has written when it ends.
+use Rattle.std.specs.Prelude.{◌≡◌, ◌⊎◌, ◌≤◌, ℕ, Option, Some, None, List, [], ◌∷◌, ◌++◌, map, length}
+use Rattle.db_image.specs.Database.{Database}
+use Rattle.std.specs.List.{All}
+use Rattle.cell_script.specs.Lines.{HasNoLf, lines_of, whole_lines}
+use Rattle.cell_script.specs.LineLaws.{text_of}
+use Rattle.ubik_cell.specs.declared.scripts.CellRun.{CellRun}
+use Rattle.ubik_cell.specs.Lines.{IsAt}
+use Rattle.ubik_cell.specs.Sites.{site_faults}
+use Rattle.ubik_cell.specs.declared.cells.CellKind.{CellKind}
+use Rattle.ubik_cell.specs.declared.cells.CellKind.TheVariants as kind
+use Rattle.ubik_cell.specs.declared.cells.Why.TheVariants.{Unbuilt}
+use Rattle.ubik_cell.specs.Script.{Luck, Reading, told, line_result}
+
+-- the lines of these readings
+abbrev pub read_lines : List Reading → List (List ℕ)
+read_lines readings = map (λ r. r.line) readings
+
+-- the bytes that were written
+abbrev pub Wrote : List ℕ → Option (List ℕ) → List ℕ → Type 0
+Wrote before after bytes = after ≡ Some (before ++ bytes)
+
+-- the lines of the whole text, none of which is refused, and their trace
+pub record RanToTheEnd (db : Database) (text : List ℕ) (left : Option (List ℕ)) (before : List ℕ) (after : Option (List ℕ)) (faults : ℕ) : Type 0 where
+  pub readings : List Reading
+  pub all : read_lines readings ≡ lines_of text
+  pub end : left ≡ Some []
+  pub good : (told db readings).refused ≡ None
+  pub wrote : Wrote before after (told db readings).text
+  pub causes : (told db readings).faults ≤ faults
+
+-- the lines up to the first that is refused, and their trace, whose last line is the refusal
+pub record RanToRefusal (db : Database) (line : ℕ) (text : List ℕ) (left : Option (List ℕ)) (before : List ℕ) (after : Option (List ℕ)) (faults : ℕ) : Type 0 where
+  pub readings : List Reading
+  pub read : List ℕ
+  pub rest : List ℕ
+  pub split : text ≡ read ++ rest
+  pub remains : left ≡ Some rest
+  pub all : read_lines readings ≡ lines_of read
+  pub refused : (told db readings).refused ≡ Some line
+  pub wrote : Wrote before after (told db readings).text
+  pub causes : (told db readings).faults ≤ faults
+
+-- the lines before the fault: those that an LF ends, or all of a text that was given whole before the source
+-- failed to say so
+abbrev pub IsReadWhole : List ℕ → List ℕ → List (List ℕ) → Type 0
+IsReadWhole read rest lines = (lines ≡ whole_lines read) ⊎ ((rest ≡ []) × (lines ≡ lines_of read))
+
+-- the whole lines before a fault of the source, none of which is refused, and their trace
+pub record RanToFault (db : Database) (text : List ℕ) (left : Option (List ℕ)) (before : List ℕ) (after : Option (List ℕ)) (faults : ℕ) : Type 0 where
+  pub readings : List Reading
+  pub read : List ℕ
+  pub rest : List ℕ
+  pub split : text ≡ read ++ rest
+  pub remains : left ≡ Some rest
+  pub all : IsReadWhole read rest (read_lines readings)
+  pub good : (told db readings).refused ≡ None
+  pub wrote : Wrote before after (told db readings).text
+  pub causes : (told db readings).faults ≤ faults
+
+-- the front of the trace of the lines that were read; the sink failed in what the last of them tells
+pub record RanInPart (db : Database) (text : List ℕ) (left : Option (List ℕ)) (before : List ℕ) (after : Option (List ℕ)) (faults : ℕ) : Type 0 where
+  pub readings : List Reading
+  pub read : List ℕ
+  pub rest : List ℕ
+  pub split : text ≡ read ++ rest
+  pub remains : left ≡ Some rest
+  pub all : read_lines readings ≡ lines_of read
+  pub front : List ℕ
+  pub back : List ℕ
+  pub trace : (told db readings).text ≡ front ++ back
+  pub wrote : Wrote before after front
+  pub causes : (told db readings).faults ≤ faults
+
+-- the trace of the lines before the one in which memory ran out, if in any; nothing was written of that line
+pub record RanShort (db : Database) (text : List ℕ) (left : Option (List ℕ)) (before : List ℕ) (after : Option (List ℕ)) (faults : ℕ) : Type 0 where
+  pub readings : List Reading
+  pub read : List ℕ
+  pub rest : List ℕ
+  pub more : List (List ℕ)
+  pub split : text ≡ read ++ rest
+  pub remains : left ≡ Some rest
+  pub all : lines_of read ≡ read_lines readings ++ more
+  pub one : length more ≤ 1
+  pub good : (told db readings).refused ≡ None
+  pub wrote : Wrote before after (told db readings).text
+  pub causes : (told db readings).faults ≤ faults
+
+-- what was written by a run that ended so
+abbrev pub Runs : CellKind → Database → List ℕ → Option (List ℕ) → List ℕ → Option (List ℕ) → ℕ → Type 0
+Runs kind.Done db text left before after faults = RanToTheEnd db text left before after faults
+Runs (kind.ScriptRefused line Unbuilt) db text left before after faults = RanToRefusal db line text left before after faults
+Runs kind.ReadFault db text left before after faults = RanToFault db text left before after faults
+Runs kind.WriteFault db text left before after faults = RanInPart db text left before after faults
+Runs kind.NoMemory db text left before after faults = RanShort db text left before after faults
+
+-- the exit status of an end
+abbrev pub status_of : CellKind → ℕ
+status_of kind.Done = 0
+status_of (kind.ScriptRefused line why) = 1
+status_of kind.ReadFault = 2
+status_of kind.WriteFault = 3
+status_of kind.NoMemory = 5
+
+-- so far these lines of a text were read: each with its LF; or all of the text, whose last line lacks it
+abbrev pub IsConsumed : List ℕ → List ℕ → List (List ℕ) → Type 0
+IsConsumed text left lines = ((text ≡ text_of lines ++ left) × All HasNoLf lines) ⊎ ((left ≡ []) × (lines_of text ≡ lines))
+
+-- a run between two lines
+pub record SoFar {D : Type 0} (db : Database) (faults : D → ℕ) (text : List ℕ) (left : Option (List ℕ)) (before : List ℕ) (after : Option (List ℕ)) (run : CellRun D) : Type 0 where
+  pub readings : List Reading
+  pub rest : List ℕ
+  pub remains : left ≡ Some rest
+  pub consumed : IsConsumed text rest (read_lines readings)
+  pub good : (told db readings).refused ≡ None
+  pub at : IsAt run (told db readings).stage
+  pub wrote : Wrote before after (told db readings).text
+  pub causes : (told db readings).faults ≤ site_faults faults run.site
+
+-- a run before a line that is refused
+pub record AtRefusal {D : Type 0} (db : Database) (faults : D → ℕ) (text : List ℕ) (left : Option (List ℕ)) (before : List ℕ) (after : Option (List ℕ)) (run : CellRun D) : Type 0 where
+  pub readings : List Reading
+  pub line : List ℕ
+  pub read : List ℕ
+  pub rest : List ℕ
+  pub split : text ≡ read ++ rest
+  pub remains : left ≡ Some rest
+  pub all : lines_of read ≡ read_lines readings ++ line ∷ []
+  pub good : (told db readings).refused ≡ None
+  pub at : (told db readings).stage.lines ≡ run.counts.lines
+  pub refused : (luck : Luck) → line_result db (told db readings).stage (record { line = line; luck = luck }) ≡ None
+  pub wrote : Wrote before after (told db readings).text
+  pub causes : (told db readings).faults ≤ site_faults faults run.site
+
+-- a run before a line that was read
+pub record AtLine {D : Type 0} (db : Database) (faults : D → ℕ) (text : List ℕ) (left : Option (List ℕ)) (before : List ℕ) (after : Option (List ℕ)) (run : CellRun D) (line : List ℕ) : Type 0 where
+  pub readings : List Reading
+  pub read : List ℕ
+  pub rest : List ℕ
+  pub split : text ≡ read ++ rest
+  pub remains : left ≡ Some rest
+  pub all : lines_of read ≡ read_lines readings ++ line ∷ []
+  pub consumed : IsConsumed text rest (read_lines readings ++ line ∷ [])
+  pub good : (told db readings).refused ≡ None
+  pub at : IsAt run (told db readings).stage
+  pub wrote : Wrote before after (told db readings).text
+  pub causes : (told db readings).faults ≤ site_faults faults run.site

@@ -1,0 +1,72 @@
+-- What the one server of a cell puts out.
+use Rattle.std.specs.Prelude.{◌≡◌, ◌+◌, ◌<◌, ◌≤◌, ℕ, List, [], ◌∷◌, ◌++◌, map}
+use Rattle.db_image.specs.Database.{Database}
+use Rattle.cell_model.specs.declared.events.NodeEvent.{NodeEvent}
+use Rattle.cell_model.specs.Durable.{Durable, no_database}
+use Rattle.cell_model.specs.Node.{Node, Up, opened_server}
+use Rattle.cell_model.specs.World.{World, Stays_down, happens}
+use Rattle.ubik_node.specs.Node.{node_of}
+use Rattle.ubik_cell.specs.declared.sites.Site.{Site}
+use Rattle.ubik_cell.specs.declared.sites.Site.TheVariants as site
+use Rattle.ubik_cell.specs.Script.{Luck, step_event, fault_count}
+use Rattle.ubik_cell.specs.Trace.{trace}
+use Rattle.cell_model.specs.declared.events.Output.{Output}
+use Rattle.cell_model.specs.declared.events.Output.TheVariants as output
+use Rattle.cell_model.specs.declared.events.Reply.TheVariants as reply
+use Rattle.cell_model.specs.World.{Happening, Puts}
+
+-- what is seen of these outputs
+abbrev pub puts : List Output → List Happening
+puts outputs = map (Puts 0) outputs
+
+abbrev pub IsNotShort : Output → Type 0
+IsNotShort (output.Reply id reply.NoMemory) = ⊥
+IsNotShort _ = Unit {0}
+
+-- no reply is for want of memory
+abbrev pub HasNoShort : List Output → Type 0
+HasNoShort [] = Unit {0}
+HasNoShort (o ∷ outputs) = IsNotShort o × HasNoShort outputs
+
+-- the world of a cell of one
+abbrev pub one_world : ℕ → Durable → Node → List ℕ → World
+one_world clock durable node ids = record { sites = record { clock = clock; durable = durable; node = node; asked = ids } ∷ [] }
+
+-- a world of a cell of one with this clock and this server
+pub record IsOneWorld (clock : ℕ) (node : Node) (w : World) : Type 0 where
+  pub durable : Durable
+  pub ids : List ℕ
+  pub is : w ≡ one_world clock durable node ids
+
+-- in each world with this clock and this server before, the step leaves the server after, and this is seen
+pub record StepIs (db : Database) (luck : Luck) (clock : ℕ) (event : NodeEvent) (before after : Node) (seen : List Happening) : Type 0 where
+  pub leaves : (durable : Durable) (ids : List ℕ) → IsOneWorld clock after (happens db (one_world clock durable before ids) (step_event luck 0 event)).world
+  pub shows : (durable : Durable) (ids : List ℕ) → seen ≡ (happens db (one_world clock durable before ids) (step_event luck 0 event)).seen
+
+-- a step was made: what was seen was told, and each fault has its own rise of the disk's count
+pub record StepTold (db : Database) (clock : ℕ) (event : NodeEvent) (before after : Node) (text_before text_after : List ℕ) (faults_before faults_after : ℕ) : Type 0 where
+  pub luck : Luck
+  pub seen : List Happening
+  pub step : StepIs db luck clock event before after seen
+  pub told : text_after ≡ text_before ++ trace seen
+  pub causes : faults_before + fault_count seen ≤ faults_after
+
+-- the count of faults of the server's disk
+abbrev pub site_faults : {D : Type 0} → (D → ℕ) → Site D → ℕ
+site_faults faults (site.Unopened disk) = faults disk
+site_faults faults (site.Down disk) = faults disk
+site_faults faults (site.Up node) = faults node.disk
+
+-- a server that stays down, and tells so
+abbrev pub DownTold : {D : Type 0} → (D → ℕ) → D → Site D → List ℕ → List ℕ → Type 0
+DownTold faults disk (site.Down kept) text_before text_after =
+    (text_after ≡ text_before ++ trace (Stays_down 0 ∷ [])) × (faults disk ≤ faults kept)
+DownTold faults disk _ text_before text_after = ⊥
+
+-- a server that was opened on no database, and tells nothing; or one that stays down after a fault of its disk
+abbrev pub OpenTold : {D : Type 0} → (D → ℕ) → ℕ → D → Site D → List ℕ → List ℕ → Type 0
+OpenTold faults clock disk (site.Unopened kept) text_before text_after = ⊥
+OpenTold faults clock disk (site.Down kept) text_before text_after =
+    (text_after ≡ text_before ++ trace (Stays_down 0 ∷ [])) × (faults disk < faults kept)
+OpenTold faults clock disk (site.Up node) text_before text_after =
+    (node_of node ≡ Up (opened_server 1 no_database clock)) × (text_after ≡ text_before) × (node.last ≡ clock) × (faults disk ≤ faults node.disk)

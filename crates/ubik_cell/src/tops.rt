@@ -1,0 +1,177 @@
+//! A whole script: read line by line, each line run and told.
+ghost use Rattle.std.specs.Prelude.{◌≡◌, ◌≢◌, ◌+◌, ◌<◌, ◌≤◌, ℕ, List, Option, Some, None, IsSome, IfSome, MatchOption, [], vec_len, length, drop};
+ghost use Rattle.std.specs.String.{string_bytes};
+ghost use Rattle.disk_base.specs.Count.{HasCause};
+ghost use Rattle.disk_base.specs.Files.{no_files};
+ghost use Rattle.prdb_entries.specs.Protection.{protection};
+ghost use Rattle.ubik_cell.specs.Lines.{IsSound};
+ghost use Rattle.ubik_cell.specs.Run.{SoFar, AtLine, AtRefusal, Runs};
+ghost use Rattle.ubik_cell.specs.Run as Status;
+ghost use Rattle.ubik_cell.specs.Disks.{AllFresh, first_faults};
+ghost use Rattle.ubik_cell.specs.Sites.{site_faults};
+
+use crate::cells::{CellEnd, CellKind, Why};
+use crate::scripts::CellRun;
+use crate::sites::LineDone;
+use crate::traces::tell_refusal;
+use cell_script::{LineEnd, LineReader, write_whole};
+use disk_base::{Sink, Source, StopDisk};
+use std::alloc::Global;
+
+/// Tells that the next line is refused.
+fn refuse<K: Sink, D: StopDisk>(
+    out: &mut K,
+    run: CellRun<D>,
+    text: &mut String,
+) -> (CellRun<D>, Option<CellKind>)
+    ensures same { result.0 ≡ run }
+    ensures ended { IsSome result.1 }
+    ensures ends { IfSome result.1 (λ kind. IfSome (K.written out.old) (λ written. (script before : List ℕ) (left : Option (List ℕ)) →
+        AtRefusal protection D.faults script left before (Some written) run →
+        Runs kind protection script left before (K.written out.new) (site_faults D.faults run.site))) }
+    ensures cause { HasCause (K.faults out.old) (K.faults out.new) (result.1 ≡ Some CellKind.WriteFault) }
+    ensures not_read { result.1 ≢ Some CellKind.ReadFault }
+{
+    text.clear();
+    let line = run.lines() + 1;
+    let Ok(()) = tell_refusal(text, line) else {
+        return (run, Some(CellKind::NoMemory));
+    };
+    match write_whole(out, text.as_bytes()) {
+        Ok(()) => {
+            let why = Why::Unbuilt;
+            (run, Some(CellKind::ScriptRefused { line, why }))
+        }
+        Err(_) => (run, Some(CellKind::WriteFault)),
+    }
+}
+
+/// Runs a line that was read, and writes what is seen of it.
+fn tell_line<K: Sink, D: StopDisk>(
+    out: &mut K,
+    run: CellRun<D>,
+    line: &[u8],
+    text: &mut String,
+) -> (CellRun<D>, Option<CellKind>)
+    requires sound { IsSound D.files run.counts.clock run.site }
+    ensures goes { result.1 ≡ None → IfSome (K.written out.old) (λ written. (script before : List ℕ) (left : Option (List ℕ)) →
+        AtLine protection D.faults script left before (Some written) run line.now →
+        SoFar protection D.faults script left before (K.written out.new) result.0) }
+    ensures ends { IfSome result.1 (λ kind. IfSome (K.written out.old) (λ written. (script before : List ℕ) (left : Option (List ℕ)) →
+        AtLine protection D.faults script left before (Some written) run line.now →
+        Runs kind protection script left before (K.written out.new) (site_faults D.faults result.0.site))) }
+    ensures sound { result.1 ≡ None → IsSound D.files result.0.counts.clock result.0.site }
+    ensures longer { result.1 ≡ None → result.0.counts.lines ≡ run.counts.lines + 1 }
+    ensures cause { HasCause (K.faults out.old) (K.faults out.new) (result.1 ≡ Some CellKind.WriteFault) }
+    ensures not_read { result.1 ≢ Some CellKind.ReadFault }
+    ensures never_falls { site_faults D.faults run.site ≤ site_faults D.faults result.0.site }
+{
+    text.clear();
+    let (run, done) = run.line(line, text);
+    match done {
+        LineDone::NoMemory => (run, Some(CellKind::NoMemory)),
+        LineDone::Refused => refuse(out, run, text),
+        LineDone::Told => match write_whole(out, text.as_bytes()) {
+            Ok(()) => (run, None),
+            Err(_) => (run, Some(CellKind::WriteFault)),
+        },
+    }
+}
+
+/// Reads one line of the script, and runs and tells it. None: the script goes on.
+fn turn<S: Source, K: Sink, D: StopDisk>(
+    reader: &mut LineReader,
+    input: &mut S,
+    out: &mut K,
+    run: CellRun<D>,
+    text: &mut String,
+) -> (CellRun<D>, Option<CellKind>)
+    requires sound { IsSound D.files run.counts.clock run.site }
+    ensures goes { result.1 ≡ None → IfSome (K.written out.old) (λ written. (script before : List ℕ) →
+        SoFar protection D.faults script (S.left input.old) before (Some written) run →
+        SoFar protection D.faults script (S.left input.new) before (K.written out.new) result.0) }
+    ensures ends { IfSome result.1 (λ kind. IfSome (K.written out.old) (λ written. (script before : List ℕ) →
+        SoFar protection D.faults script (S.left input.old) before (Some written) run →
+        Runs kind protection script (S.left input.new) before (K.written out.new) (site_faults D.faults result.0.site))) }
+    ensures sound { result.1 ≡ None → IsSound D.files result.0.counts.clock result.0.site }
+    ensures longer { result.1 ≡ None → result.0.counts.lines ≡ run.counts.lines + 1 }
+    ensures read_cause { HasCause (S.faults input.old) (S.faults input.new) (result.1 ≡ Some CellKind.ReadFault) }
+    ensures write_cause { HasCause (K.faults out.old) (K.faults out.new) (result.1 ≡ Some CellKind.WriteFault) }
+{
+    match reader.next_line(input) {
+        LineEnd::End => (run, Some(CellKind::Done)),
+        LineEnd::Failed => (run, Some(CellKind::ReadFault)),
+        LineEnd::TooLong => refuse(out, run, text),
+        LineEnd::Line => tell_line(out, run, reader.line(), text),
+    }
+}
+
+/// Runs a script to its end, over the disk of the one server. It gives the disk back.
+fn run_script<S: Source, K: Sink, D: StopDisk>(
+    alloc: Global,
+    input: &mut S,
+    out: &mut K,
+    disk: D,
+) -> (D, CellKind)
+    requires { D.files disk ≡ Some no_files }
+    ensures runs { IfSome (S.left input.old) (λ script. IfSome (K.written out.old) (λ before.
+        Runs result.1 protection script (S.left input.new) before (K.written out.new) (D.faults result.0))) }
+    ensures read_cause { HasCause (S.faults input.old) (S.faults input.new) (result.1 ≡ CellKind.ReadFault) }
+    ensures write_cause { HasCause (K.faults out.old) (K.faults out.new) (result.1 ≡ CellKind.WriteFault) }
+{
+    let Ok(mut reader) = LineReader::new(alloc) else {
+        return (disk, CellKind::NoMemory);
+    };
+    let mut text = String::new(alloc);
+    let mut run = CellRun::new(alloc, disk);
+    loop {
+        let (next, end) = turn(&mut reader, input, out, run, &mut text);
+        if let Some(kind) = end {
+            return (next.close(), kind);
+        }
+        run = next;
+    }
+}
+
+/// The exit status that stands for an end.
+fn status_of(kind: CellKind) -> u8
+    ensures { result ≡ Status.status_of kind }
+{
+    match kind {
+        CellKind::Done => 0,
+        CellKind::ScriptRefused { .. } => 1,
+        CellKind::ReadFault => 2,
+        CellKind::WriteFault => 3,
+        CellKind::NoMemory => 5,
+    }
+}
+
+/// Runs the script that the source gives, one line after the other, and writes its exact trace. It takes no
+/// words. There are 20 disks; disk i is that of server i + 1, and each stands in its place at every end.
+pub fn cell_top<S: Source, K: Sink, D: StopDisk>(
+    alloc: Global,
+    words: &[String],
+    input: &mut S,
+    out: &mut K,
+    disks: &mut Vec<D>,
+) -> CellEnd
+    requires no_words { length words.now ≡ 0 }
+    requires twenty { vec_len disks.old ≡ 20 }
+    requires fresh { AllFresh D.files D.stop D.faults disks.old.items }
+    ensures run { IfSome (S.left input.old) (λ script. IfSome (K.written out.old) (λ before.
+        Runs result.kind protection script (S.left input.new) before (K.written out.new) (first_faults D.faults disks.new.items))) }
+    ensures status { result.status ≡ Status.status_of result.kind }
+    ensures read_cause { HasCause (S.faults input.old) (S.faults input.new) (result.kind ≡ CellKind.ReadFault) }
+    ensures write_cause { HasCause (K.faults out.old) (K.faults out.new) (result.kind ≡ CellKind.WriteFault) }
+    ensures twenty { vec_len disks.new ≡ 20 }
+    ensures others { drop 1 disks.new.items ≡ drop 1 disks.old.items }
+{
+    let _ = words;
+    let disk = disks.remove(0);
+    let (disk, kind) = run_script(alloc, input, out, disk);
+    disks.insert(0, disk).unwrap();
+    CellEnd {
+        status: status_of(kind),
+        kind,
+    }
+}

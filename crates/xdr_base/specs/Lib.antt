@@ -1,0 +1,4 @@
+pub mod ChangeText
+pub mod Laws
+pub mod Reading
+pub mod Spelling
