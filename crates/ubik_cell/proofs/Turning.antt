@@ -55,13 +55,15 @@ part_told db faults text left before written bytes count after run next line at 
     let r = reading_of line ran.luck in
     let more = told-push db at.readings r (Some ran.ran) at.good ran.is in
     record {
-      readings = at.readings ++ r ∷ [];
+      readings = at.readings;
+      last = r;
       read = at.read;
       rest = at.rest;
       split = at.split;
       remains = at.remains;
-      all = read_lines-push at.readings r ∙ sym at.all;
-      front = t.text ++ take count bytes;
+      all = at.all;
+      good = at.good;
+      part = take count bytes;
       back = drop count bytes;
       trace =
           ap (λ (d : Told). d.text) more

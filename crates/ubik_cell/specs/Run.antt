@@ -29,17 +29,20 @@ pub record RanToTheEnd (db : Database) (text : List ℕ) (left : Option (List �
   pub wrote : Wrote before after (told db readings).text
   pub causes : (told db readings).faults ≤ faults
 
--- the lines up to the first that is refused, and their trace, whose last line is the refusal
+-- the lines before one that is refused, and then that one, which was read last; and their trace, whose last
+-- line is the refusal
 pub record RanToRefusal (db : Database) (line : ℕ) (text : List ℕ) (left : Option (List ℕ)) (before : List ℕ) (after : Option (List ℕ)) (faults : ℕ) : Type 0 where
   pub readings : List Reading
+  pub last : Reading
   pub read : List ℕ
   pub rest : List ℕ
   pub split : text ≡ read ++ rest
   pub remains : left ≡ Some rest
-  pub all : read_lines readings ≡ lines_of read
-  pub refused : (told db readings).refused ≡ Some line
-  pub wrote : Wrote before after (told db readings).text
-  pub causes : (told db readings).faults ≤ faults
+  pub all : lines_of read ≡ read_lines readings ++ last.line ∷ []
+  pub good : (told db readings).refused ≡ None
+  pub refused : (told db (readings ++ last ∷ [])).refused ≡ Some line
+  pub wrote : Wrote before after (told db (readings ++ last ∷ [])).text
+  pub causes : (told db (readings ++ last ∷ [])).faults ≤ faults
 
 -- the lines before the fault: those that an LF ends, or all of a text that was given whole before the source
 -- failed to say so
@@ -58,19 +61,21 @@ pub record RanToFault (db : Database) (text : List ℕ) (left : Option (List ℕ
   pub wrote : Wrote before after (told db readings).text
   pub causes : (told db readings).faults ≤ faults
 
--- the front of the trace of the lines that were read; the sink failed in what the last of them tells
+-- the trace of the lines before the last that was read, and a part of what that one tells; the sink failed there
 pub record RanInPart (db : Database) (text : List ℕ) (left : Option (List ℕ)) (before : List ℕ) (after : Option (List ℕ)) (faults : ℕ) : Type 0 where
   pub readings : List Reading
+  pub last : Reading
   pub read : List ℕ
   pub rest : List ℕ
   pub split : text ≡ read ++ rest
   pub remains : left ≡ Some rest
-  pub all : read_lines readings ≡ lines_of read
-  pub front : List ℕ
+  pub all : lines_of read ≡ read_lines readings ++ last.line ∷ []
+  pub good : (told db readings).refused ≡ None
+  pub part : List ℕ
   pub back : List ℕ
-  pub trace : (told db readings).text ≡ front ++ back
-  pub wrote : Wrote before after front
-  pub causes : (told db readings).faults ≤ faults
+  pub trace : (told db (readings ++ last ∷ [])).text ≡ (told db readings).text ++ part ++ back
+  pub wrote : Wrote before after ((told db readings).text ++ part)
+  pub causes : (told db (readings ++ last ∷ [])).faults ≤ faults
 
 -- the trace of the lines before the one in which memory ran out, if in any; nothing was written of that line
 pub record RanShort (db : Database) (text : List ℕ) (left : Option (List ℕ)) (before : List ℕ) (after : Option (List ℕ)) (faults : ℕ) : Type 0 where
