@@ -1,6 +1,7 @@
 -- What the lines of a script mean, as far as they are built.
-use Rattle.std.specs.Prelude.{ℕ, ◌==◌, ◌&&◌, nat_lt, Bool, true, if◌then◌else◌, List, [], ◌∷◌, length, codes, Option, Some, None, option_map, option_and_then}
+use Rattle.std.specs.Prelude.{ℕ, ◌≤◌, ◌==◌, ◌&&◌, nat_lt, Bool, true, if◌then◌else◌, List, [], ◌∷◌, length, codes, Option, Some, None, option_map, option_and_then}
 use Rattle.std.specs.Str.{bytes_eq}
+use Rattle.ubik_types.specs.Moment.{IsMoment}
 use Rattle.cell_script.specs.Numbers.{number_within}
 use Rattle.cell_script.specs.Words.{words_of}
 use Rattle.cell_script.specs.declared.lines.Line.{Line}
@@ -66,3 +67,9 @@ abbrev pub line_of : List ℕ → Option Line
 line_of bytes =
     if nat_lt 1024 (length bytes) then None
     else (if is_idle bytes then Some line.Nothing else option_and_then line_of_words (words_of bytes))
+
+-- the numbers of a line are within their bounds
+abbrev pub HasBounds : Line → Type 0
+HasBounds (line.Cell clock) = IsMoment clock × (clock ≤ 1000000000)
+HasBounds (line.TickAll seconds) = seconds ≤ 50000
+HasBounds _ = Unit {0}

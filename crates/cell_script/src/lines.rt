@@ -1,6 +1,6 @@
 //! The lines of a script, understood.
-ghost use Rattle.std.specs.Prelude.{◌≡◌, IfOk};
-ghost use Rattle.cell_script.specs.Meaning.{first_word_of, server_of, cell_line, tick_all_line, only_server, ask_line, line_of_words, is_idle, line_of};
+ghost use Rattle.std.specs.Prelude.{◌≡◌, IfOk, IfSome};
+ghost use Rattle.cell_script.specs.Meaning.{first_word_of, server_of, cell_line, tick_all_line, only_server, ask_line, line_of_words, is_idle, line_of, HasBounds};
 
 use crate::numbers::number_within;
 use crate::readers::MAX_LINE;
@@ -37,7 +37,8 @@ enum FirstWord {
 
 /// What a line means; none where it is none that this stage builds. The error is want of memory.
 pub fn line_meaning(alloc: Global, line: &[u8]) -> Result<Option<Line>, NoMemory>
-    ensures { IfOk result (λ meaning. meaning ≡ line_of line.now) }
+    ensures meaning { IfOk result (λ meaning. meaning ≡ line_of line.now) }
+    ensures bounds { IfOk result (λ meaning. IfSome meaning HasBounds) }
 {
     if line.len() > MAX_LINE {
         return Ok(None);

@@ -16,7 +16,7 @@ use Rattle.ubik_cell.specs.declared.scripts.CellRun.{CellRun}
 use Rattle.ubik_cell.specs.declared.scripts.Counts.{Counts}
 use Rattle.ubik_cell.specs.declared.sites.Site.{Site}
 use Rattle.ubik_cell.specs.declared.sites.Site.TheVariants as site
-use Rattle.ubik_cell.specs.Script.{asked, next_line, Luck, Sound, Stage, with_event, step_event, in_world, stepped, ticked_all, clocks_fit, line_run}
+use Rattle.ubik_cell.specs.Script.{asked, next_line, Luck, Sound, Stage, with_event, step_event, in_world, stepped, ticked_all, line_run}
 use Rattle.ubik_cell.specs.Sites.{one_world, IsOneWorld}
 use Rattle.ubik_cell.specs.Lines.{IsOpened, HasWorld, IsAt, StepsFrom, LineTold, SiteTold, Stands}
 
@@ -63,62 +63,36 @@ ticked_world clock later seconds node world here goes =
       is = ap (λ (w : World). (happens protection w (Tick_all seconds)).world) here.one.is ∙ ap (λ (k : ℕ). one_world k here.one.durable node here.one.ids) (sym goes);
     }
 
-ticks_fit : (clock seconds : ℕ) (node : Node) (world : Option World) (here : HasWorld clock node world) → clock + seconds < 2147483648 → clocks_fit seconds here.w.sites ≡ true
-ticks_fit clock seconds node world here fits =
-    let test : nat_lt (clock + seconds) 2147483648 ≡ true = grind (arith, nat_tests) in
-    ap (λ (w : World). clocks_fit seconds w.sites) here.one.is ∙ ap (λ (b : Bool). b && true) test
-
-ticks_past : (clock seconds : ℕ) (node : Node) (world : Option World) (here : HasWorld clock node world) → 2147483648 ≤ clock + seconds → clocks_fit seconds here.w.sites ≡ false
-ticks_past clock seconds node world here past =
-    let test : nat_lt (clock + seconds) 2147483648 ≡ false = grind (arith, nat_tests) in
-    ap (λ (w : World). clocks_fit seconds w.sites) here.one.is ∙ ap (λ (b : Bool). b && true) test
-
 -- what the tick comes to in a world
-tick_is : (st : Stage) (clock seconds : ℕ) (node : Node) (here : HasWorld clock node st.world) → clock + seconds < 2147483648 → in_world (ticked_all protection st seconds) st.world ≡ Some (with_event protection st here.w (Tick_all seconds))
-tick_is st clock seconds node here fits =
-    ap (in_world (ticked_all protection st seconds)) here.there
-    ∙ ap (λ (b : Bool). cond b (Some (with_event protection st here.w (Tick_all seconds))) None) (ticks_fit clock seconds node st.world here fits)
+tick_is : (st : Stage) (clock seconds : ℕ) (node : Node) (here : HasWorld clock node st.world) → in_world (ticked_all protection st seconds) st.world ≡ Some (with_event protection st here.w (Tick_all seconds))
+tick_is st clock seconds node here = ap (in_world (ticked_all protection st seconds)) here.there
 
-tick_of : {D : Type 0} (faults : D → ℕ) (st : Stage) (before : CellRun D) (alloc : Global) (counts : Counts) (seconds : ℕ) (text : List ℕ) (node : Node) → IsAt before st → counts.lines ≡ before.counts.lines + 1 → counts.asks ≡ before.counts.asks → counts.clock ≡ before.counts.clock + seconds → before.counts.clock + seconds < 2147483648 → (here : HasWorld before.counts.clock node st.world) → Stands counts.clock before.site (Some (happens protection here.w (Tick_all seconds)).world) → LineTold faults (λ luck. line_run protection st luck (line.TickAll seconds)) before (record { alloc = alloc; counts = counts; site = before.site }) text text
-tick_of faults st before alloc counts seconds text node at lines asks clock fits here stands =
+tick_of : {D : Type 0} (faults : D → ℕ) (st : Stage) (before : CellRun D) (alloc : Global) (counts : Counts) (seconds : ℕ) (text : List ℕ) (node : Node) → IsAt before st → counts.lines ≡ before.counts.lines + 1 → counts.asks ≡ before.counts.asks → counts.clock ≡ before.counts.clock + seconds → (here : HasWorld before.counts.clock node st.world) → Stands counts.clock before.site (Some (happens protection here.w (Tick_all seconds)).world) → LineTold faults (λ luck. line_run protection st luck (line.TickAll seconds)) before (record { alloc = alloc; counts = counts; site = before.site }) text text
+tick_of faults st before alloc counts seconds text node at lines asks clock here stands =
     record {
       luck = Sound;
       ran = with_event protection st here.w (Tick_all seconds);
-      is = tick_is st before.counts.clock seconds node here fits;
+      is = tick_is st before.counts.clock seconds node here;
       at = record { lines = omega (arith, at.lines); asks = at.asks ∙ sym asks; stands = stands };
       told = sym (append-nil text);
       causes = omega arith;
     }
 
-tick_at : {D : Type 0} (faults : D → ℕ) (st : Stage) (before : CellRun D) (alloc : Global) (counts : Counts) (seconds : ℕ) (text : List ℕ) (s : Site D) → before.site ≡ s → IsOpened s → Stands before.counts.clock s st.world → IsAt before st → counts.lines ≡ before.counts.lines + 1 → counts.asks ≡ before.counts.asks → counts.clock ≡ before.counts.clock + seconds → before.counts.clock + seconds < 2147483648 → LineTold faults (λ luck. line_run protection st luck (line.TickAll seconds)) before (record { alloc = alloc; counts = counts; site = before.site }) text text
-tick_at faults st before alloc counts seconds text (site.Unopened disk) is opened stands at lines asks clock fits = absurd opened
-tick_at {D} faults st before alloc counts seconds text (site.Down disk) is opened stands at lines asks clock fits =
+tick_at : {D : Type 0} (faults : D → ℕ) (st : Stage) (before : CellRun D) (alloc : Global) (counts : Counts) (seconds : ℕ) (text : List ℕ) (s : Site D) → before.site ≡ s → IsOpened s → Stands before.counts.clock s st.world → IsAt before st → counts.lines ≡ before.counts.lines + 1 → counts.asks ≡ before.counts.asks → counts.clock ≡ before.counts.clock + seconds → LineTold faults (λ luck. line_run protection st luck (line.TickAll seconds)) before (record { alloc = alloc; counts = counts; site = before.site }) text text
+tick_at faults st before alloc counts seconds text (site.Unopened disk) is opened stands at lines asks clock = absurd opened
+tick_at {D} faults st before alloc counts seconds text (site.Down disk) is opened stands at lines asks clock =
     let P : Site D → Type 0 = λ s. Stands counts.clock s (Some (happens protection stands.w (Tick_all seconds)).world) in
-    tick_of faults st before alloc counts seconds text Down at lines asks clock fits stands
+    tick_of faults st before alloc counts seconds text Down at lines asks clock stands
     (subst P (sym is) (record { w = (happens protection stands.w (Tick_all seconds)).world; there = refl; one = ticked_world before.counts.clock counts.clock seconds Down st.world stands clock }))
-tick_at {D} faults st before alloc counts seconds text (site.Up node) is opened stands at lines asks clock fits =
+tick_at {D} faults st before alloc counts seconds text (site.Up node) is opened stands at lines asks clock =
     let P : Site D → Type 0 = λ s. Stands counts.clock s (Some (happens protection stands.w (Tick_all seconds)).world) in
-    tick_of faults st before alloc counts seconds text (node_of node) at lines asks clock fits stands
+    tick_of faults st before alloc counts seconds text (node_of node) at lines asks clock stands
     (subst P (sym is) (record { w = (happens protection stands.w (Tick_all seconds)).world; there = refl; one = ticked_world before.counts.clock counts.clock seconds (node_of node) st.world stands clock }))
 
 -- the line of a tick
-pub ticked_line : {D : Type 0} (faults : D → ℕ) (st : Stage) (before : CellRun D) (alloc : Global) (counts : Counts) (seconds : ℕ) (text : List ℕ) → IsOpened before.site → IsAt before st → counts.lines ≡ before.counts.lines + 1 → counts.asks ≡ before.counts.asks → counts.clock ≡ before.counts.clock + seconds → before.counts.clock + seconds < 2147483648 → LineTold faults (λ luck. line_run protection st luck (line.TickAll seconds)) before (record { alloc = alloc; counts = counts; site = before.site }) text text
-ticked_line faults st before alloc counts seconds text opened at lines asks clock fits =
-    tick_at faults st before alloc counts seconds text before.site refl opened at.stands at lines asks clock fits
-
-past_of : (st : Stage) (clock seconds : ℕ) (node : Node) (here : HasWorld clock node st.world) → 2147483648 ≤ clock + seconds → in_world (ticked_all protection st seconds) st.world ≡ None
-past_of st clock seconds node here past =
-    ap (in_world (ticked_all protection st seconds)) here.there
-    ∙ ap (λ (b : Bool). cond b (Some (with_event protection st here.w (Tick_all seconds))) None) (ticks_past clock seconds node st.world here past)
-
-past_at : {D : Type 0} (st : Stage) (clock seconds : ℕ) (s : Site D) → Stands clock s st.world → 2147483648 ≤ clock + seconds → in_world (ticked_all protection st seconds) st.world ≡ None
-past_at st clock seconds (site.Unopened disk) stands past = ap (in_world (ticked_all protection st seconds)) stands
-past_at st clock seconds (site.Down disk) stands past = past_of st clock seconds Down stands past
-past_at st clock seconds (site.Up node) stands past = past_of st clock seconds (node_of node) stands past
-
--- a tick that no clock can follow is refused
-pub tick_refused : {D : Type 0} (st : Stage) (before : CellRun D) (seconds : ℕ) → IsAt before st → 2147483648 ≤ before.counts.clock + seconds → (luck : Luck) → line_run protection st luck (line.TickAll seconds) ≡ None
-tick_refused st before seconds at past luck = past_at st before.counts.clock seconds before.site at.stands past
+pub ticked_line : {D : Type 0} (faults : D → ℕ) (st : Stage) (before : CellRun D) (alloc : Global) (counts : Counts) (seconds : ℕ) (text : List ℕ) → IsOpened before.site → IsAt before st → counts.lines ≡ before.counts.lines + 1 → counts.asks ≡ before.counts.asks → counts.clock ≡ before.counts.clock + seconds → LineTold faults (λ luck. line_run protection st luck (line.TickAll seconds)) before (record { alloc = alloc; counts = counts; site = before.site }) text text
+ticked_line faults st before alloc counts seconds text opened at lines asks clock =
+    tick_at faults st before alloc counts seconds text before.site refl opened at.stands at lines asks clock
 
 -- a site that is not unopened is opened
 pub opened_unless : {D : Type 0} (s : Site D) → ((disk : D) → s ≡ site.Unopened disk → ⊥) → IsOpened s

@@ -5,7 +5,6 @@ use Rattle.cell_model.specs.declared.events.NodeEvent.{NodeEvent}
 use Rattle.cell_model.specs.Node.{Node, Down}
 use Rattle.cell_model.specs.World.{World, happens}
 use Rattle.cell_script.specs.declared.lines.Line.{Line}
-use Rattle.cell_script.specs.declared.lines.Line.TheVariants as line
 use Rattle.ubik_types.specs.Moment.{IsMoment}
 use Rattle.disk_base.specs.Files.{Files, no_files}
 use Rattle.ubik_node.specs.Node.{node_of}
@@ -72,8 +71,3 @@ pub record StepsFrom {D : Type 0} (run : CellRun D) (asks : ℕ) (st : Stage) : 
   pub lines : st.lines ≡ run.counts.lines
   pub calls : length st.calls ≡ asks
   pub stands : Stands run.counts.clock run.site st.world
-
--- the clock of a cell is a moment
-abbrev pub HasMoment : Line → Type 0
-HasMoment (line.Cell clock) = IsMoment clock
-HasMoment _ = Unit {0}

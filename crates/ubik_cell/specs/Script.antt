@@ -1,7 +1,6 @@
 -- What a script means: each line is a list of events of the world, given what the lines before it left, or it
 -- is refused. What met a fault of a disk is the only free choice.
 use Rattle.std.specs.Prelude.{ℕ, ◌+◌, ◌-◌, Bool, true, false, ◌&&◌, nat_lt, nat_le, if◌then◌else◌, Option, Some, None, option_and_then, List, [], ◌∷◌, ◌++◌, length}
-use Rattle.std.specs.List.{list_all}
 use Rattle.db_image.specs.Database.{Database}
 use Rattle.cell_model.specs.declared.events.NodeEvent.{NodeEvent}
 use Rattle.cell_model.specs.declared.events.NodeEvent.TheVariants as event
@@ -68,12 +67,9 @@ abbrev pub stepped : Database → Stage → Luck → ℕ → NodeEvent → World
 stepped db st luck number e w =
     if is_served w.sites number then Some (with_event db st w (step_event luck (number - 1) e)) else None
 
--- all clocks stay moments
-abbrev pub clocks_fit : ℕ → List Site → Bool
-clocks_fit seconds sites = list_all (λ site. nat_lt (site.clock + seconds) 2147483648) sites
-
+-- all clocks go on; by the bounds of a script's numbers they stay moments
 abbrev pub ticked_all : Database → Stage → ℕ → World → Option Line_run
-ticked_all db st seconds w = if clocks_fit seconds w.sites then Some (with_event db st w (Tick_all seconds)) else None
+ticked_all db st seconds w = Some (with_event db st w (Tick_all seconds))
 
 -- a call under the next number
 abbrev pub asked : Database → Stage → Luck → ℕ → List ℕ → World → Option Line_run

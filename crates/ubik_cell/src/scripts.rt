@@ -1,5 +1,5 @@
 //! The lines of a script, run one after the other.
-ghost use Rattle.std.specs.Prelude.{◌≡◌, ◌≢◌, ◌+◌, ◌<◌, ◌≤◌, ◌^◌, ℕ, List, Some};
+ghost use Rattle.std.specs.Prelude.{◌≡◌, ◌≢◌, ◌+◌, ◌*◌, ◌<◌, ◌≤◌, ℕ, List, Some};
 ghost use Rattle.std.specs.String.{string_bytes};
 ghost use Rattle.disk_base.specs.Files.{no_files};
 ghost use Rattle.prdb_entries.specs.Protection.{protection};
@@ -10,7 +10,7 @@ use disk_base::StopDisk;
 use prdb_entries::call_words;
 use std::alloc::Global;
 use ubik_node::NodeEvent;
-use ubik_types::{MAX_MOMENT, NoMemory};
+use ubik_types::NoMemory;
 
 /// The most lines of a script.
 const MAX_LINES: u32 = 20_000;
@@ -26,7 +26,7 @@ struct Counts {
     clock: u32,
     ghost few_lines: { lines ≤ 20000 },
     ghost few_asks: { asks ≤ lines },
-    ghost clock_fits: { clock < 2 ^ 31 },
+    ghost clock_fits: { clock ≤ 1000000000 + 50000 * lines },
 }
 
 impl Counts {
@@ -34,7 +34,7 @@ impl Counts {
     fn after_line(self, asks: u32, clock: u32) -> Counts
         requires room { self.lines < 20000 }
         requires asks { asks ≤ self.lines + 1 }
-        requires clock { clock < 2 ^ 31 }
+        requires clock { clock ≤ 1000000000 + 50000 * (self.lines + 1) }
         ensures lines { result.lines ≡ self.lines + 1 }
         ensures asks { result.asks ≡ asks }
         ensures clock { result.clock ≡ clock }
@@ -57,10 +57,10 @@ pub struct CellRun<D: StopDisk> {
 
 impl<D: StopDisk> CellRun<D> {
     ghost use Rattle.ubik_types.specs.Moment.{IsMoment};
-    ghost use Rattle.cell_script.specs.Meaning.{line_of};
+    ghost use Rattle.cell_script.specs.Meaning.{line_of, HasBounds};
     ghost use Rattle.ubik_cell.specs.Script.{Stage, Reading, first_stage, in_world, stepped, line_run, line_result};
     ghost use Rattle.ubik_cell.specs.Sites.{site_faults};
-    ghost use Rattle.ubik_cell.specs.Lines.{IsSound, HasMoment, IsAt, StepsFrom, LineTold, IsRefused};
+    ghost use Rattle.ubik_cell.specs.Lines.{IsSound, IsAt, StepsFrom, LineTold, IsRefused};
 
     /// A run before its first line, over the disk of the one server.
     pub fn new(alloc: Global, disk: D) -> CellRun<D>
@@ -100,6 +100,7 @@ impl<D: StopDisk> CellRun<D> {
     fn open(self, clock: u32, text: &mut String) -> (CellRun<D>, LineDone)
         requires room { self.counts.lines < 20000 }
         requires moment { IsMoment clock }
+        requires bound { clock ≤ 1000000000 }
         requires sound { IsSound D.files self.counts.clock self.site }
         ensures sound { result.1 ≢ LineDone.NoMemory → IsSound D.files result.0.counts.clock result.0.site }
         ensures told { result.1 ≡ LineDone.Told → (st : Stage) → IsAt self st →
@@ -142,6 +143,7 @@ impl<D: StopDisk> CellRun<D> {
     /// All clocks go forward.
     fn tick_all(self, seconds: u32) -> (CellRun<D>, LineDone)
         requires room { self.counts.lines < 20000 }
+        requires bound { seconds ≤ 50000 }
         requires sound { IsSound D.files self.counts.clock self.site }
         ensures sound { result.1 ≢ LineDone.NoMemory → IsSound D.files result.0.counts.clock result.0.site }
         ensures told { result.1 ≡ LineDone.Told → (st : Stage) → IsAt self st → (text : List ℕ) →
@@ -159,16 +161,6 @@ impl<D: StopDisk> CellRun<D> {
         } = self;
         if let Site::Unopened(disk) = site {
             let site = Site::Unopened(disk);
-            return (
-                CellRun {
-                    alloc,
-                    counts,
-                    site,
-                },
-                LineDone::Refused,
-            );
-        }
-        if seconds > MAX_MOMENT - counts.clock {
             return (
                 CellRun {
                     alloc,
@@ -293,7 +285,7 @@ impl<D: StopDisk> CellRun<D> {
     /// A line that was understood.
     fn run_line(self, line: &Line, text: &mut String) -> (CellRun<D>, LineDone)
         requires room { self.counts.lines < 20000 }
-        requires clock { HasMoment line.now }
+        requires bounds { HasBounds line.now }
         requires sound { IsSound D.files self.counts.clock self.site }
         ensures sound { result.1 ≢ LineDone.NoMemory → IsSound D.files result.0.counts.clock result.0.site }
         ensures told { result.1 ≡ LineDone.Told → (st : Stage) → IsAt self st →
