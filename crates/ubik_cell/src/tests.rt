@@ -1,6 +1,6 @@
 //! Whole scripts, over a source, a sink and disks in memory. Memory is ample in all of them: none of these ends is
 //! want of memory.
-ghost use Rattle.std.specs.Prelude.{◌≡◌, Some, IfOk, vec_len};
+ghost use Rattle.std.specs.Prelude.{◌≡◌, ◌+◌, Some, IfOk, OnOk, vec_len};
 ghost use Rattle.disk_base.specs.MemDisk.{now_of, disk_stop, disk_faults};
 ghost use Rattle.ubik_cell.specs.Disks.{AllFresh};
 
@@ -29,15 +29,25 @@ struct Seen {
     text: Vec<u8>,
 }
 
+/// Adds an empty disk, whose calls with these numbers, counted from 1, fail.
+fn add_disk(alloc: Global, disks: &mut Vec<MemDisk>, fails: &[u64]) -> Result<(), NoMemory>
+    ensures one { OnOk result (vec_len disks.new ≡ vec_len disks.old + 1) }
+    ensures fresh { OnOk result (AllFresh (λ disk. Some (now_of disk)) disk_stop disk_faults disks.old.items
+        → AllFresh (λ disk. Some (now_of disk)) disk_stop disk_faults disks.new.items) }
+{
+    disks.push(MemDisk::new(alloc, fails)?)?;
+    Ok(())
+}
+
 /// The empty disks of a cell. Calls of the first of them fail, by their numbers from 1.
 fn fresh_disks(alloc: Global, fails: &[u64]) -> Result<Vec<MemDisk>, NoMemory>
     ensures twenty { IfOk result (λ disks. vec_len disks ≡ 20) }
     ensures fresh { IfOk result (λ disks. AllFresh (λ disk. Some (now_of disk)) disk_stop disk_faults disks.items) }
 {
     let mut disks = Vec::with_capacity(alloc, MAXSERVERS)?;
-    for i in 0..MAXSERVERS {
-        let fails = if i == 0 { fails } else { &[] };
-        disks.push(MemDisk::new(alloc, fails)?)?;
+    add_disk(alloc, &mut disks, fails)?;
+    for _ in 1..MAXSERVERS {
+        add_disk(alloc, &mut disks, &[])?;
     }
     Ok(disks)
 }
