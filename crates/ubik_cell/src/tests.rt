@@ -1,5 +1,5 @@
-//! Whole scripts, over a source, a sink and disks in memory. Memory is ample in all of them: none of these ends is
-//! want of memory.
+//! Whole scripts, over a source, a sink and disks in memory. Memory is ample, so none of them ends for want
+//! of it.
 ghost use Rattle.std.specs.Prelude.{◌≡◌, ◌+◌, Some, IfOk, OnOk, vec_len};
 ghost use Rattle.disk_base.specs.MemDisk.{now_of, disk_stop, disk_faults};
 ghost use Rattle.ubik_cell.specs.Disks.{AllFresh};
@@ -113,42 +113,32 @@ fn a_taken_name_is_refused_and_an_unknown_one_is_anonymous(rt: HostRuntime) -> R
 }
 
 #[test]
-fn a_line_that_does_not_fit_is_the_last(rt: HostRuntime) -> Result<(), Fail> {
-    for (script, line, text) in [
-        ("dance 1", 1, "refused line 1 unbuilt\n"),
-        ("beacon 1\n", 1, "refused line 1 unbuilt\n"),
-        ("tickall 1\n", 1, "refused line 1 unbuilt\n"),
-        ("cell 1 1000 pt\r\n", 1, "refused line 1 unbuilt\n"),
-        ("cell 1 1000 pt\0\n", 1, "refused line 1 unbuilt\n"),
-        (
-            "\ncell 1 1000 pt\ncell 1 1000 pt\n",
-            3,
-            "refused line 3 unbuilt\n",
-        ),
-        (
-            "cell 1 1000 pt\n#\nbeacon 2\nbeacon 1\n",
-            3,
-            "refused line 3 unbuilt\n",
-        ),
-        (
-            "cell 1 1000 pt\ntickall 50001\n",
-            2,
-            "refused line 2 unbuilt\n",
-        ),
-        (
-            "cell 1 1000 pt\nask 1 newentry smith 1 0\n",
-            2,
-            "refused line 2 unbuilt\n",
-        ),
-        (
-            "cell 1 1000 pt\ntickall 76\nbeacon 1\nrecover 1\ndance 1\nrecover 1\n",
-            5,
-            "announce 1 1076.1\nrefused line 5 unbuilt\n",
-        ),
+fn a_first_line_that_does_not_fit_is_refused(rt: HostRuntime) -> Result<(), Fail> {
+    for script in [
+        "dance 1",
+        "beacon 1\n",
+        "tickall 1\n",
+        "cell 1 1000 pt\r\n",
+        "cell 1 1000 pt\0\n",
     ] {
-        expect_refused(&rt, rt.alloc(), script, line, text)?;
+        expect_refused(&rt, rt.alloc(), script, 1, "refused line 1 unbuilt\n")?;
     }
     Ok(())
+}
+
+#[test]
+fn a_line_that_does_not_fit_is_the_last(rt: HostRuntime) -> Result<(), Fail> {
+    for script in [
+        "cell 1 1000 pt\n\ncell 1 1000 pt\n",
+        "cell 1 1000 pt\n#\nbeacon 2\nbeacon 1\n",
+        "cell 1 1000 pt\n\ntickall 50001\n",
+        "cell 1 1000 pt\n\nask 1 newentry smith 1 0\n",
+    ] {
+        expect_refused(&rt, rt.alloc(), script, 3, "refused line 3 unbuilt\n")?;
+    }
+    let script = "cell 1 1000 pt\ntickall 76\nbeacon 1\nrecover 1\ndance 1\nrecover 1\n";
+    let text = "announce 1 1076.1\nrefused line 5 unbuilt\n";
+    expect_refused(&rt, rt.alloc(), script, 5, text)
 }
 
 #[test]
