@@ -9,3 +9,6 @@ mod traces;
 
 pub use cells::{CellEnd, CellKind, Why};
 pub use tops::cell_top;
+
+#[cfg(test)]
+mod tests;

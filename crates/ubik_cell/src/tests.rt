@@ -1,0 +1,216 @@
+//! Whole scripts, over a source, a sink and disks in memory. Memory is ample, so none of them ends for want
+//! of it.
+ghost use Rattle.std.specs.Prelude.{◌≡◌, ◌+◌, Some, IfOk, OnOk, vec_len};
+ghost use Rattle.disk_base.specs.MemDisk.{now_of, disk_stop, disk_faults};
+ghost use Rattle.ubik_cell.specs.Disks.{AllFresh};
+
+use super::*;
+use disk_base::{MemDisk, MemSink, MemSource};
+use std::alloc::Global;
+use std::process::Abort;
+use std::test::Fail;
+use ubik_types::{MAXSERVERS, NoMemory};
+
+/// A user is made and looked up.
+const FIRST_USER: &str =
+    "cell 1 1000 pt\ntickall 76\nbeacon 1\nrecover 1\nask 1 newentry smith 0 0\nask 1 nametoid 1 smith\n";
+
+/// What the script of the first user tells.
+const FIRST_TRACE: &str =
+    "announce 1 1076.1\nannounce 1 1076.2\nreply 1 1 ok 1\nreply 2 1 ok 1 1\n";
+
+/// The same with the beacon a second too early, and without the last LF.
+const TOO_EARLY: &str = "cell 1 1000 pt\ntickall 75\nbeacon 1\nrecover 1\nask 1 newentry smith 0 0";
+
+/// A run and what it wrote.
+#[derive(Drop)]
+struct Seen {
+    end: CellEnd,
+    text: Vec<u8>,
+}
+
+/// Adds an empty disk, whose calls with these numbers, counted from 1, fail.
+fn add_disk(alloc: Global, disks: &mut Vec<MemDisk>, fails: &[u64]) -> Result<(), NoMemory>
+    ensures one { OnOk result (vec_len disks.new ≡ vec_len disks.old + 1) }
+    ensures fresh { OnOk result (AllFresh (λ disk. Some (now_of disk)) disk_stop disk_faults disks.old.items
+        → AllFresh (λ disk. Some (now_of disk)) disk_stop disk_faults disks.new.items) }
+{
+    disks.push(MemDisk::new(alloc, fails)?)?;
+    Ok(())
+}
+
+/// The empty disks of a cell. Calls of the first of them fail, by their numbers from 1.
+fn fresh_disks(alloc: Global, fails: &[u64]) -> Result<Vec<MemDisk>, NoMemory>
+    ensures twenty { IfOk result (λ disks. vec_len disks ≡ 20) }
+    ensures fresh { IfOk result (λ disks. AllFresh (λ disk. Some (now_of disk)) disk_stop disk_faults disks.items) }
+{
+    let mut disks = Vec::with_capacity(alloc, MAXSERVERS)?;
+    add_disk(alloc, &mut disks, fails)?;
+    for _ in 1..MAXSERVERS {
+        add_disk(alloc, &mut disks, &[])?;
+    }
+    Ok(disks)
+}
+
+/// Runs a script. Calls of its source, of its sink and of the first disk fail, by their numbers from 1.
+fn run_on(
+    alloc: Global,
+    script: &[u8],
+    source_fails: &[u64],
+    sink_fails: &[u64],
+    disk_fails: &[u64],
+) -> Result<Seen, NoMemory> {
+    let mut source = MemSource::new(alloc, script, source_fails)?;
+    let mut sink = MemSink::new(alloc, sink_fails)?;
+    let mut disks = fresh_disks(alloc, disk_fails)?;
+    let end = cell_top(alloc, &[], &mut source, &mut sink, &mut disks);
+    let text = sink.written().to_vec(alloc)?;
+    Ok(Seen { end, text })
+}
+
+fn expect(rt: &impl Abort, seen: &Seen, status: u8, kind: CellKind, text: &str) {
+    assert_eq!(rt; seen.end, CellEnd { status, kind });
+    assert_eq!(rt; seen.text.as_slice(), text.as_bytes());
+}
+
+/// A script on which nothing fails: the line that is refused, and what is told.
+fn expect_refused(
+    rt: &impl Abort,
+    alloc: Global,
+    script: &str,
+    line: u32,
+    text: &str,
+) -> Result<(), Fail> {
+    let seen = run_on(alloc, script.as_bytes(), &[], &[], &[])?;
+    let why = Why::Unbuilt;
+    expect(rt, &seen, 1, CellKind::ScriptRefused { line, why }, text);
+    Ok(())
+}
+
+#[test]
+fn a_script_is_run_to_its_end(rt: HostRuntime) -> Result<(), Fail> {
+    for (script, text) in [
+        ("", ""),
+        ("\n# dance 1\n\n", ""),
+        (FIRST_USER, FIRST_TRACE),
+        (TOO_EARLY, "reply 1 1 noquorum 0 none no\n"),
+    ] {
+        let seen = run_on(rt.alloc(), script.as_bytes(), &[], &[], &[])?;
+        expect(&rt, &seen, 0, CellKind::Done, text);
+    }
+    Ok(())
+}
+
+#[test]
+fn a_taken_name_is_refused_and_an_unknown_one_is_anonymous(rt: HostRuntime) -> Result<(), Fail> {
+    let mut script = FIRST_USER.to_string(rt.alloc())?;
+    script.push_str("ask 1 newentry smith 0 0\nask 1 nametoid 2 smith nobody\n")?;
+    let mut text = FIRST_TRACE.to_string(rt.alloc())?;
+    text.push_str("reply 3 1 rule 267264\nreply 4 1 ok 2 1 32766\n")?;
+    let seen = run_on(rt.alloc(), script.as_bytes(), &[], &[], &[])?;
+    expect(&rt, &seen, 0, CellKind::Done, &text);
+    Ok(())
+}
+
+#[test]
+fn a_first_line_that_does_not_fit_is_refused(rt: HostRuntime) -> Result<(), Fail> {
+    for script in [
+        "dance 1",
+        "beacon 1\n",
+        "tickall 1\n",
+        "cell 1 1000 pt\r\n",
+        "cell 1 1000 pt\0\n",
+    ] {
+        expect_refused(&rt, rt.alloc(), script, 1, "refused line 1 unbuilt\n")?;
+    }
+    Ok(())
+}
+
+#[test]
+fn a_line_that_does_not_fit_is_the_last(rt: HostRuntime) -> Result<(), Fail> {
+    for script in [
+        "cell 1 1000 pt\n\ncell 1 1000 pt\n",
+        "cell 1 1000 pt\n#\nbeacon 2\nbeacon 1\n",
+        "cell 1 1000 pt\n\ntickall 50001\n",
+        "cell 1 1000 pt\n\nask 1 newentry smith 1 0\n",
+    ] {
+        expect_refused(&rt, rt.alloc(), script, 3, "refused line 3 unbuilt\n")?;
+    }
+    let script = "cell 1 1000 pt\ntickall 76\nbeacon 1\nrecover 1\ndance 1\nrecover 1\n";
+    let text = "announce 1 1076.1\nrefused line 5 unbuilt\n";
+    expect_refused(&rt, rt.alloc(), script, 5, text)
+}
+
+#[test]
+fn a_script_has_20000_lines_at_most(rt: HostRuntime) -> Result<(), Fail> {
+    let mut script = String::new(rt.alloc());
+    for _ in 0..20_000 {
+        script.push_str("#\n")?;
+    }
+    let seen = run_on(rt.alloc(), script.as_bytes(), &[], &[], &[])?;
+    expect(&rt, &seen, 0, CellKind::Done, "");
+    script.push_str("#")?;
+    expect_refused(
+        &rt,
+        rt.alloc(),
+        &script,
+        20_001,
+        "refused line 20001 unbuilt\n",
+    )
+}
+
+#[test]
+fn a_source_that_fails_ends_the_script_before_the_line(rt: HostRuntime) -> Result<(), Fail> {
+    for (call, text) in [
+        (1, ""),
+        (45, ""),
+        (46, "announce 1 1076.1\n"),
+        (60, "announce 1 1076.1\n"),
+    ] {
+        let seen = run_on(rt.alloc(), FIRST_USER.as_bytes(), &[call], &[], &[])?;
+        expect(&rt, &seen, 2, CellKind::ReadFault, text);
+    }
+    Ok(())
+}
+
+#[test]
+fn a_sink_that_fails_keeps_the_front(rt: HostRuntime) -> Result<(), Fail> {
+    for (script, call, text) in [
+        (FIRST_USER, 1, ""),
+        (FIRST_USER, 2, "announce 1 1076.1\n"),
+        ("dance 1\n", 1, ""),
+    ] {
+        let seen = run_on(rt.alloc(), script.as_bytes(), &[], &[call], &[])?;
+        expect(&rt, &seen, 3, CellKind::WriteFault, text);
+    }
+    Ok(())
+}
+
+#[test]
+fn a_disk_that_fails_in_the_opening_leaves_the_server_down(rt: HostRuntime) -> Result<(), Fail> {
+    let seen = run_on(rt.alloc(), b"cell 1 1000 pt\n", &[], &[], &[1])?;
+    expect(&rt, &seen, 0, CellKind::Done, "restarted 1 diskfault\n");
+    let seen = run_on(rt.alloc(), FIRST_USER.as_bytes(), &[], &[], &[1])?;
+    let (line, why) = (3, Why::Unbuilt);
+    let text = "restarted 1 diskfault\nrefused line 3 unbuilt\n";
+    expect(&rt, &seen, 1, CellKind::ScriptRefused { line, why }, text);
+    Ok(())
+}
+
+/// The disk has a call for the opening, four for the relabelling and four for the commit.
+#[test]
+fn a_disk_that_fails_later_halts_the_server(rt: HostRuntime) -> Result<(), Fail> {
+    let relabelling = "halted 1\nreply 1 1 diskfault\nreply 2 1 diskfault\n";
+    let commit = "announce 1 1076.1\nreply 1 1 diskfault\nhalted 1\nreply 2 1 diskfault\n";
+    for (call, text) in [
+        (2, relabelling),
+        (5, relabelling),
+        (6, commit),
+        (9, commit),
+        (10, FIRST_TRACE),
+    ] {
+        let seen = run_on(rt.alloc(), FIRST_USER.as_bytes(), &[], &[], &[call])?;
+        expect(&rt, &seen, 0, CellKind::Done, text);
+    }
+    Ok(())
+}
