@@ -1,11 +1,10 @@
 -- The numbers of a line are within their bounds.
-use Rattle.std.proofs.Common.{Bool, true, false, cond, nat_lt, nat_le, ◌&&◌, ◌≡◌, ◌<◌, ◌≤◌, ℕ, List, [], ◌∷◌, length, Option, Some, None, IfSome, refl, arith}
+use Rattle.std.proofs.Common.{Bool, true, false, cond, nat_le, ◌&&◌, ◌≡◌, ◌≤◌, ℕ, List, [], ◌∷◌, Option, Some, None, IfSome, refl, arith}
 use Rattle.std.proofs.lemmas.Bool.Decides.{nat_tests}
 use Rattle.std.specs.Prelude.{codes, option_map, option_and_then}
 use Rattle.std.specs.Str.{bytes_eq}
-use Rattle.cell_script.specs.Meaning.{first_word_of, HasBounds, cell_line, tick_all_line, only_server, ask_line, line_by, line_of_words, is_idle, line_of, server_of}
+use Rattle.cell_script.specs.Meaning.{first_word_of, HasBounds, cell_line, tick_all_line, only_server, ask_line, line_by, line_of_words, server_of}
 use Rattle.cell_script.specs.Numbers.{number_of, number_within}
-use Rattle.cell_script.specs.Words.{words_of}
 use Rattle.cell_script.specs.declared.lines.FirstWord.{FirstWord}
 use Rattle.cell_script.specs.declared.lines.FirstWord.TheVariants as word
 use Rattle.cell_script.specs.declared.lines.Line.{Line}
@@ -36,7 +35,7 @@ chosen low high n false c lo hi = tt
 within : (low high : ℕ) (digits : List ℕ) → IfSome (number_within low high digits) (IsWithin low high)
 within low high digits =
     then_all (IsWithin low high) (λ (n : ℕ). cond (nat_le low n && nat_le n high) (Some n) None) (number_of digits)
-      (λ n. chosen low high n (nat_le low n) (nat_le n high) refl refl)
+    (λ n. chosen low high n (nat_le low n) (nat_le n high) refl refl)
 
 free : {X : Type 0} (o : Option X) → IfSome o (λ _. Unit {0})
 free None = tt
@@ -49,9 +48,9 @@ cell_bounds (a ∷ []) = tt
 cell_bounds (a ∷ b ∷ []) = tt
 cell_bounds (servers ∷ clock ∷ kind ∷ []) =
     if_all HasBounds (bytes_eq servers (codes "1") && bytes_eq kind (codes "pt")) _ None
-      (map_all (IsWithin 1 1000000000) HasBounds line.Cell (number_within 1 1000000000 clock) (within 1 1000000000 clock)
-        (λ c is. (record { some = omega (arith, is.0); fits = omega (arith, is.1) }, is.1)))
-      tt
+    (map_all (IsWithin 1 1000000000) HasBounds line.Cell (number_within 1 1000000000 clock) (within 1 1000000000 clock)
+    (λ c is. (record { some = omega (arith, is.0); fits = omega (arith, is.1) }, is.1)))
+    tt
 cell_bounds (a ∷ b ∷ c ∷ d ∷ rest) = tt
 
 tick_bounds : (arguments : List (List ℕ)) → IfSome (tick_all_line arguments) HasBounds

@@ -4,7 +4,6 @@ use Rattle.db_image.specs.Database.{Database}
 use Rattle.cell_model.specs.declared.events.NodeEvent.{NodeEvent}
 use Rattle.cell_model.specs.Node.{Node, Down}
 use Rattle.cell_model.specs.World.{World, happens}
-use Rattle.cell_script.specs.declared.lines.Line.{Line}
 use Rattle.ubik_types.specs.Moment.{IsMoment}
 use Rattle.disk_base.specs.Files.{Files, no_files}
 use Rattle.ubik_node.specs.Node.{node_of}
