@@ -1,5 +1,6 @@
 //! `ubik_cell`: runs the script on standard input, and prints its exact trace on standard output.
 #![tactic(auto)]
+
 ghost use Rattle.std.specs.Prelude.{◌≡◌, Some, IfOk, vec_len};
 ghost use Rattle.disk_base.specs.MemDisk.{now_of, disk_stop, disk_faults};
 ghost use Rattle.ubik_cell.specs.Disks.{AllFresh};
