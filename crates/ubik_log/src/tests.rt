@@ -1,0 +1,1 @@
+//! Logs worked by hand from the table of records.
