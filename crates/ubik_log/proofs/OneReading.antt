@@ -64,7 +64,9 @@ ends_differ v w p q e =
     let second = fields_differ v.counter w.counter [] [] (omega arith) (omega arith) first.1 in
     let epoch : v.epoch ≡ w.epoch = first.0 in
     let counter : v.counter ≡ w.counter = second.0 in
-    cc
+    let with_epoch : ℕ → Version = λ n. record { epoch = n; counter = v.counter } in
+    let with_counter : ℕ → Version = λ n. record { epoch = w.epoch; counter = n } in
+    ap with_epoch epoch ∙ ap with_counter counter
 
 -- changes read up to where none begins are all of them
 abbrev pub BeginsWithNone : List ℕ → Type 0

@@ -64,10 +64,10 @@ fn lay_at(fields: &[u8]) -> Option<(Edit<'_>, &[u8])>
     let (at, fields) = number(fields)?;
     let (len, fields) = number(fields)?;
     let len = len as usize;
-    if at as usize + len > MAX_IMAGE || fields.len() < len {
+    if at as usize + len > MAX_IMAGE {
         return None;
     }
-    let (bytes, rest) = fields.split_at(len);
+    let (bytes, rest) = fields.split_at_checked(len)?;
     Some((Edit::Lay { at, bytes }, rest))
 }
 
