@@ -2,10 +2,8 @@
 use Rattle.std.proofs.Common.{◌≡◌, ◌≢◌, ℕ, ◌+◌, ◌^◌, ◌<◌, ◌≤◌, List, ◌++◌, length, Option, None, Some, arith, ap, sym}
 use Rattle.std.specs.Prelude.{IfNone}
 use Rattle.std.proofs.lemmas.List.{length-append}
-use Rattle.ubik_types.specs.declared.images.Change.{Change}
 use Rattle.ubik_types.specs.declared.images.Change.TheVariants.{Put, Cut}
-use Rattle.ubik_log.specs.LogGrammar.{field, change_record, IsWithinImage}
-use Rattle.ubik_log.specs.Records.{BeginsWithChange}
+use Rattle.ubik_log.specs.LogGrammar.{field}
 use Rattle.ubik_log.proofs.OneReading.{fields_differ, same_behind, other_behind, BeginsWithNone}
 
 pub none_as : {A : Type 0} {P Q : Type 0} (r : Option A) → (P → Q) → IfNone r P → IfNone r Q

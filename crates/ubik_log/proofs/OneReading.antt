@@ -1,5 +1,5 @@
 -- No record begins another, and a committed log has one reading.
-use Rattle.std.proofs.Common.{◌≡◌, ℕ, ◌+◌, ◌^◌, ◌<◌, ◌≤◌, List, [], ◌∷◌, ◌++◌, length, take, drop, refl, sym, ap, ◌∙◌, append_assoc, arith}
+use Rattle.std.proofs.Common.{◌≡◌, ℕ, ◌^◌, ◌<◌, List, [], ◌∷◌, ◌++◌, length, take, drop, refl, sym, ap, ◌∙◌, append_assoc, arith}
 use Rattle.std.specs.Int.{w32, from_be_bytes}
 use Rattle.std.specs.List.{All, flat_map}
 use Rattle.std.proofs.lemmas.List.{take_at, drop_at}
@@ -10,8 +10,8 @@ use Rattle.ubik_types.specs.declared.images.Change.{Change}
 use Rattle.ubik_types.specs.declared.images.Change.TheVariants.{Put, Cut}
 use Rattle.ubik_types.specs.declared.versions.Version.{Version}
 use Rattle.ubik_types.specs.Version.{IsVersion}
-use Rattle.ubik_log.specs.LogGrammar.{field, change_record, end_record, records_of, new_record, IsWithinImage, IsCommitted}
-use Rattle.ubik_log.specs.Records.{BeginsWithChange}
+use Rattle.ubik_log.specs.LogGrammar.{field, change_record, end_record, records_of, IsWithinImage}
+use Rattle.ubik_log.specs.Reading.{BeginsWithChange}
 use Rattle.ubik_log.specs.Laws.{HasOneReading}
 
 pub fields_differ : (a b : ℕ) (x y : List ℕ) → a < 2 ^ 32 → b < 2 ^ 32 → field a ++ x ≡ field b ++ y → (a ≡ b) × (x ≡ y)
@@ -33,7 +33,7 @@ other_behind m n x y lt q e = apart m n (fields_differ m n x y (omega arith) q e
 pub changes_differ : (a b : Change) (x y : List ℕ) → IsWithinImage a → IsWithinImage b → change_record a ++ x ≡ change_record b ++ y → (a ≡ b) × (x ≡ y)
 changes_differ (Put m ms) (Put n ns) x y p q e =
     let fields = same_behind 0 (field m ++ (field (length ms) ++ (ms ++ x))) (field n ++ (field (length ns) ++ (ns ++ y)))
-        (same_behind 103 (field 0 ++ (field m ++ (field (length ms) ++ (ms ++ x)))) (field 0 ++ (field n ++ (field (length ns) ++ (ns ++ y)))) e) in
+    (same_behind 103 (field 0 ++ (field m ++ (field (length ms) ++ (ms ++ x)))) (field 0 ++ (field n ++ (field (length ns) ++ (ns ++ y)))) e) in
     let position = fields_differ m n (field (length ms) ++ (ms ++ x)) (field (length ns) ++ (ns ++ y)) (omega arith) (omega arith) fields in
     let len = fields_differ (length ms) (length ns) (ms ++ x) (ns ++ y) (omega arith) (omega arith) position.1 in
     let at : m ≡ n = position.0 in
@@ -78,16 +78,16 @@ all_are_read [] [] rest version p q none e = (refl, e)
 all_are_read [] (b ∷ bs) rest version p q none e =
     absurd (none b (flat_map change_record bs ++ end_record version) (record {
       within_image = All-head IsWithinImage b bs q;
-      record_is = e ∙ ap (λ x. x ++ end_record version) (flat_map-cons change_record b bs) ∙ append_assoc (change_record b) (flat_map change_record bs) (end_record version)
+      record_is = e ∙ ap (λ x. x ++ end_record version) (flat_map-cons change_record b bs) ∙ append_assoc (change_record b) (flat_map change_record bs) (end_record version);
     }))
 all_are_read (a ∷ cs) [] rest version p q none e =
     absurd (end_is_no_change version a (flat_map change_record cs ++ rest)
-      (sym e ∙ ap (λ x. x ++ rest) (flat_map-cons change_record a cs) ∙ append_assoc (change_record a) (flat_map change_record cs) rest))
+    (sym e ∙ ap (λ x. x ++ rest) (flat_map-cons change_record a cs) ∙ append_assoc (change_record a) (flat_map change_record cs) rest))
 all_are_read (a ∷ cs) (b ∷ bs) rest version p q none e =
     let left = ap (λ x. x ++ rest) (flat_map-cons change_record a cs) ∙ append_assoc (change_record a) (flat_map change_record cs) rest in
     let right = ap (λ x. x ++ end_record version) (flat_map-cons change_record b bs) ∙ append_assoc (change_record b) (flat_map change_record bs) (end_record version) in
     let first = changes_differ a b (flat_map change_record cs ++ rest) (flat_map change_record bs ++ end_record version)
-        (All-head IsWithinImage a cs p) (All-head IsWithinImage b bs q) (sym left ∙ e ∙ right) in
+    (All-head IsWithinImage a cs p) (All-head IsWithinImage b bs q) (sym left ∙ e ∙ right) in
     let others = all_are_read cs bs rest version (All-tail IsWithinImage a cs p) (All-tail IsWithinImage b bs q) none first.1 in
     let head : a ≡ b = first.0 in
     let tail : cs ≡ bs = others.0 in
@@ -96,6 +96,6 @@ all_are_read (a ∷ cs) (b ∷ bs) rest version p q none e =
 pub log_has_one_reading : HasOneReading
 log_has_one_reading log a b v w p q =
     let same = all_are_read a b (end_record v) w p.told.within_image q.told.within_image
-        (λ change after begins. end_is_no_change v change after begins.record_is)
-        (same_behind 100 (records_of a v) (records_of b w) (sym p.text_is ∙ q.text_is)) in
+    (λ change after begins. end_is_no_change v change after begins.record_is)
+    (same_behind 100 (records_of a v) (records_of b w) (sym p.text_is ∙ q.text_is)) in
     (same.0, ends_differ v w p.told.is_version q.told.is_version same.1)

@@ -1,3 +1,3 @@
 pub mod Laws
 pub mod LogGrammar
-pub mod Records
+pub mod Reading

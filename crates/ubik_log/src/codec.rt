@@ -1,7 +1,7 @@
 //! A log as bytes, both ways.
 ghost use Rattle.std.specs.Prelude.{◌++◌, IfOk};
 ghost use Rattle.ubik_log.specs.LogGrammar.{new_record, IsTold, IsCommitted};
-ghost use Rattle.ubik_log.specs.Records.{IsStateOf};
+ghost use Rattle.ubik_log.specs.Reading.{IsStateOf};
 
 use crate::opcodes::LOGNEW;
 use crate::readers::{behind, edit_at, end_at};

@@ -1,10 +1,10 @@
 //! Reads the records of a log from the front of some bytes. No reader takes memory.
-ghost use Rattle.std.specs.Prelude.{◌≡◌, ◌≢◌, ℕ, ◌+◌, ◌≤◌, ◌<◌, List, ◌++◌, length, IfSome, IfNone, IfOk};
+ghost use Rattle.std.specs.Prelude.{◌≡◌, ◌≢◌, ℕ, ◌+◌, ◌^◌, ◌≤◌, ◌<◌, List, ◌++◌, length, IfSome, IfNone, IfOk};
 ghost use Rattle.ubik_types.specs.declared.images.Change.{Change as ChangeSeen};
 ghost use Rattle.ubik_types.specs.declared.versions.Version.{Version as VersionSeen};
 ghost use Rattle.ubik_types.specs.Version.{IsVersion};
 ghost use Rattle.ubik_log.specs.LogGrammar.{field, end_record, change_record};
-ghost use Rattle.ubik_log.specs.Records.{change_of, BeginsWithChange};
+ghost use Rattle.ubik_log.specs.Reading.{change_of, BeginsWithChange};
 
 use crate::opcodes::{FILE, LOGDATA, LOGEND, LOGTRUNCATE};
 use std::alloc::Global;
@@ -37,6 +37,7 @@ impl Edit<'_> {
 /// The first field, and the bytes behind it; none where fewer than four bytes stand there.
 fn number(bytes: &[u8]) -> Option<(u32, &[u8])>
     ensures found { IfSome result (λ r. bytes.now ≡ field r.0 ++ r.1.now) }
+    ensures small { IfSome result (λ r. r.0 < 2 ^ 32) }
     ensures none { IfNone result (length bytes.now < 4) }
 {
     match bytes {

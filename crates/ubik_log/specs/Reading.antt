@@ -1,10 +1,8 @@
 -- What the calls on logs answer, by the log grammar.
-use Rattle.std.specs.Prelude.{◌≡◌, ℕ, ◌<◌, ◌^◌, List, ◌++◌}
+use Rattle.std.specs.Prelude.{◌≡◌, ℕ, List, ◌++◌}
 use Rattle.ubik_types.specs.declared.images.Change.{Change}
 use Rattle.ubik_types.specs.declared.images.Change.TheVariants.{Put, Cut}
-use Rattle.ubik_types.specs.declared.versions.Version.{Version}
-use Rattle.ubik_types.specs.Version.{IsVersion}
-use Rattle.ubik_log.specs.LogGrammar.{change_record, end_record, IsWithinImage, IsCommitted, IsDiscarded}
+use Rattle.ubik_log.specs.LogGrammar.{change_record, IsWithinImage, IsCommitted, IsDiscarded}
 use Rattle.ubik_log.specs.declared.states.LogState.{LogState}
 use Rattle.ubik_log.specs.declared.states.LogState.TheVariants.{Committed, Discarded}
 use Rattle.ubik_log.specs.declared.readers.Edit.{Edit}
