@@ -65,7 +65,8 @@ fn lay_at(fields: &[u8]) -> Option<(Edit<'_>, &[u8])>
     let (at, fields) = number(fields)?;
     let (len, fields) = number(fields)?;
     let len = len as usize;
-    if at as usize + len > MAX_IMAGE {
+    let end = at as usize + len;
+    if end > MAX_IMAGE {
         return None;
     }
     let (bytes, rest) = fields.split_at_checked(len)?;
