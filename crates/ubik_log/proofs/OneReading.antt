@@ -1,8 +1,8 @@
 -- No record begins another, and a committed log has one reading.
-use Rattle.std.proofs.Common.{◌≡◌, ℕ, ◌^◌, ◌<◌, List, [], ◌∷◌, ◌++◌, length, take, drop, refl, sym, ap, ◌∙◌, append_assoc, arith}
+use Rattle.std.proofs.Common.{◌≡◌, ℕ, ◌^◌, ◌<◌, List, [], ◌∷◌, ◌++◌, length, slice_index, take, drop, refl, sym, ap, ◌∙◌, append_assoc, arith}
 use Rattle.std.specs.Int.{w32, from_be_bytes}
 use Rattle.std.specs.List.{All, flat_map}
-use Rattle.std.proofs.lemmas.List.{take_at, drop_at}
+use Rattle.std.proofs.lemmas.List.{take_at, drop_at, length-append, nil_from_length}
 use Rattle.std.proofs.lemmas.List.Concat.{flat_map-cons}
 use Rattle.std.proofs.lemmas.List.Elements.{All-head, All-tail}
 use Rattle.std.proofs.lemmas.Nat.{from_be_bytes-to_be_bytes_4}
@@ -10,9 +10,9 @@ use Rattle.ubik_types.specs.declared.images.Change.{Change}
 use Rattle.ubik_types.specs.declared.images.Change.TheVariants.{Put, Cut}
 use Rattle.ubik_types.specs.declared.versions.Version.{Version}
 use Rattle.ubik_types.specs.Version.{IsVersion}
-use Rattle.ubik_log.specs.LogGrammar.{field, change_record, end_record, records_of, IsWithinImage}
+use Rattle.ubik_log.specs.LogGrammar.{field, change_record, new_record, end_record, records_of, IsWithinImage}
 use Rattle.ubik_log.specs.Reading.{BeginsWithChange}
-use Rattle.ubik_log.specs.Laws.{HasOneReading}
+use Rattle.ubik_log.specs.Laws.{HasOneReading, NoneBeginsAnother, ClosedGateIsDiscarded}
 
 pub fields_differ : (a b : ℕ) (x y : List ℕ) → a < 2 ^ 32 → b < 2 ^ 32 → field a ++ x ≡ field b ++ y → (a ≡ b) × (x ≡ y)
 fields_differ a b x y p q e =
@@ -50,12 +50,12 @@ changes_differ (Cut m) (Cut n) x y p q e =
     let same : m ≡ n = len.0 in
     (cc, len.1)
 
--- the end of a log is no change
-pub end_is_no_change : (version : Version) (change : Change) (after : List ℕ) → end_record version ≡ change_record change ++ after → ⊥
-end_is_no_change version (Put n ns) after e =
-    other_behind 101 103 (field version.epoch ++ field version.counter) (field 0 ++ (field n ++ (field (length ns) ++ (ns ++ after)))) (omega arith) (omega arith) e
-end_is_no_change version (Cut n) after e =
-    other_behind 101 104 (field version.epoch ++ field version.counter) (field 0 ++ (field n ++ after)) (omega arith) (omega arith) e
+-- no change stands where the end of a log does
+pub end_is_no_change : (version : Version) (tail : List ℕ) (change : Change) (after : List ℕ) → end_record version ++ tail ≡ change_record change ++ after → ⊥
+end_is_no_change version tail (Put n ns) after e =
+    other_behind 101 103 (field version.epoch ++ (field version.counter ++ tail)) (field 0 ++ (field n ++ (field (length ns) ++ (ns ++ after)))) (omega arith) (omega arith) e
+end_is_no_change version tail (Cut n) after e =
+    other_behind 101 104 (field version.epoch ++ (field version.counter ++ tail)) (field 0 ++ (field n ++ after)) (omega arith) (omega arith) e
 
 pub ends_differ : (v w : Version) → IsVersion v → IsVersion w → end_record v ≡ end_record w → v ≡ w
 ends_differ v w p q e =
@@ -81,7 +81,7 @@ all_are_read [] (b ∷ bs) rest version p q none e =
       record_is = e ∙ ap (λ x. x ++ end_record version) (flat_map-cons change_record b bs) ∙ append_assoc (change_record b) (flat_map change_record bs) (end_record version);
     }))
 all_are_read (a ∷ cs) [] rest version p q none e =
-    absurd (end_is_no_change version a (flat_map change_record cs ++ rest)
+    absurd (end_is_no_change version [] a (flat_map change_record cs ++ rest)
     (sym e ∙ ap (λ x. x ++ rest) (flat_map-cons change_record a cs) ∙ append_assoc (change_record a) (flat_map change_record cs) rest))
 all_are_read (a ∷ cs) (b ∷ bs) rest version p q none e =
     let left = ap (λ x. x ++ rest) (flat_map-cons change_record a cs) ∙ append_assoc (change_record a) (flat_map change_record cs) rest in
@@ -96,6 +96,18 @@ all_are_read (a ∷ cs) (b ∷ bs) rest version p q none e =
 pub log_has_one_reading : HasOneReading
 log_has_one_reading log a b v w p q =
     let same = all_are_read a b (end_record v) w p.told.within_image q.told.within_image
-    (λ change after begins. end_is_no_change v change after begins.record_is)
+    (λ change after begins. end_is_no_change v [] change after begins.record_is)
     (same_behind 100 (records_of a v) (records_of b w) (sym p.text_is ∙ q.text_is)) in
     (same.0, ends_differ v w p.told.is_version q.told.is_version same.1)
+
+pub no_log_begins_another : NoneBeginsAnother
+no_log_begins_another log more a b v w p q =
+    let longer : log ++ more ≡ new_record ++ (flat_map change_record a ++ (end_record v ++ more)) =
+    ap (λ (x : List ℕ). x ++ more) p.text_is ∙ ap (λ (x : List ℕ). new_record ++ x) (append_assoc (flat_map change_record a) (end_record v) more) in
+    let same = all_are_read a b (end_record v ++ more) w p.told.within_image q.told.within_image
+    (λ change after begins. end_is_no_change v more change after begins.record_is)
+    (same_behind 100 (flat_map change_record a ++ (end_record v ++ more)) (records_of b w) (sym longer ∙ q.text_is)) in
+    nil_from_length more (omega (arith, ap length same.1, length-append (end_record v) more))
+
+pub closed_gate_is_discarded : ClosedGateIsDiscarded
+closed_gate_is_discarded log closed changes version committed = closed (ap (λ (x : List ℕ). slice_index x 3) committed.text_is)

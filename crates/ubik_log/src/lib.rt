@@ -10,7 +10,7 @@ mod states;
 mod writers;
 
 pub use codec::{encode_log, parse_log};
-pub use laws::log_has_one_reading;
+pub use laws::{closed_gate_is_discarded, log_has_one_reading, no_log_begins_another};
 pub use states::LogState;
 
 #[cfg(test)]
