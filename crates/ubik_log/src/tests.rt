@@ -102,3 +102,25 @@ fn limits_and_files(rt: HostRuntime) -> Result<(), Fail> {
     }
     Ok(())
 }
+
+/// How many changes the long log says.
+const MANY: usize = 65_536;
+
+/// A put of sixteen bytes at position 16.
+const RECORD: &[u8] = b"\0\0\0\x67\0\0\0\0\0\0\0\x10\0\0\0\x10abcdefghijklmnop";
+
+#[test]
+fn one_mebibyte_both_ways(rt: HostRuntime) -> Result<(), Fail> {
+    let mut log = NEW.to_vec(rt.alloc())?;
+    for _ in 0..MANY {
+        log.extend_from_slice(RECORD)?;
+    }
+    log.extend_from_slice(END)?;
+    let LogState::Committed { changes, version } = parse_log(rt.alloc(), &log)? else {
+        panic!(rt; "discarded");
+    };
+    assert_eq!(rt; changes.as_slice().len(), MANY);
+    let again = encode_log(rt.alloc(), &changes, version)?;
+    assert!(rt; again.as_slice() == log.as_slice());
+    Ok(())
+}
