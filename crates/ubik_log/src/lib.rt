@@ -1,0 +1,17 @@
+//! The log of a server, as bytes: what a transaction writes before it touches the database, and what is read
+//! after a stop. The definitions in `specs/` say which bytes are a committed log, and of which changes.
+#![tactic(auto)]
+
+mod codec;
+mod laws;
+mod opcodes;
+mod readers;
+mod states;
+mod writers;
+
+pub use codec::{encode_log, parse_log};
+pub use laws::{closed_gate_is_discarded, log_has_one_reading, no_log_begins_another};
+pub use states::LogState;
+
+#[cfg(test)]
+mod tests;
