@@ -166,7 +166,7 @@ pub fn cell_top<S: Source, K: Sink, D: StopDisk>(
     ensures twenty { vec_len disks.new ≡ 20 }
     ensures others { drop 1 disks.new.items ≡ drop 1 disks.old.items }
 {
-    let _ = words;
+    prove!(words.is_empty());
     let disk = disks.remove(0);
     let (disk, kind) = run_script(alloc, input, out, disk);
     disks.insert(0, disk).unwrap();
