@@ -1,0 +1,2 @@
+pub mod Durability
+pub mod WholeWorld
