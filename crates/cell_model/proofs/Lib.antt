@@ -1,2 +1,4 @@
 pub mod Durability
+pub mod Growth
+pub mod StepKinds
 pub mod WholeWorld

@@ -2,7 +2,7 @@
 use Rattle.std.proofs.Common.{Bool, true, false, ◌≡◌, ℕ, zero, suc, List, [], ◌∷◌, length, map, refl, sym, ap, subst, ◌∙◌}
 use Rattle.db_image.specs.Database.{Database}
 use Rattle.cell_model.specs.declared.events.NodeEvent.{NodeEvent}
-use Rattle.cell_model.specs.Durable.{Durable, durable, durable_after_all}
+use Rattle.cell_model.specs.Durable.{Durable, durable_after_all}
 use Rattle.cell_model.specs.Node.{Node, Down, Halted, Up}
 use Rattle.cell_model.specs.NodeRule.{step_of}
 use Rattle.cell_model.specs.World.{Site, World, Event, Tick_all, Step, Fault, Site_happened, step_at, fault_at, at_site, ticked, happens, world_after, first_site, first_world}
@@ -37,10 +37,10 @@ happened : (db : Database) (w : World) (e : Event) → AllDurable w.sites → Al
 happened db w (Tick_all seconds) all = all_ticked seconds w.sites all
 happened db w (Step server e short) all =
     at_one (λ (site : Site). step_at db (length w.sites) server site e short site.node)
-      (λ site. stepped db (length w.sites) server site e short site.node refl) w.sites server all
+    (λ site. stepped db (length w.sites) server site e short site.node refl) w.sites server all
 happened db w (Fault server e short made) all =
     at_one (λ (site : Site). fault_at db (length w.sites) server site e short made site.node)
-      (λ site. faulted db (length w.sites) server site e short made site.node refl) w.sites server all
+    (λ site. faulted db (length w.sites) server site e short made site.node refl) w.sites server all
 
 first_is : (n clock : ℕ) (failed : Bool) → IsOf (first_site n clock failed).durable (first_site n clock failed).node
 first_is n clock true = tt

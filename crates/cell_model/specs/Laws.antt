@@ -1,8 +1,9 @@
 -- Laws of the world.
-use Rattle.std.specs.Prelude.{◌≡◌, ℕ, Bool, List, [], ◌∷◌}
+use Rattle.std.specs.Prelude.{◌≡◌, ℕ, Bool, List, [], ◌∷◌, ◌++◌}
 use Rattle.db_image.specs.Database.{Database}
-use Rattle.cell_model.specs.Durable.{Durable, durable}
+use Rattle.cell_model.specs.Durable.{Durable, Transaction, durable}
 use Rattle.cell_model.specs.Node.{Node, Down, Halted, Up}
+use Rattle.cell_model.specs.Book.{Announcement, Run, first_run, run_after}
 use Rattle.cell_model.specs.World.{Site, Event, first_world, world_after}
 
 -- a server that is up, and not halted, has the version and the image of this durable state
@@ -21,3 +22,28 @@ abbrev pub DatabaseIsDurable : Type 0
 DatabaseIsDurable =
     (db : Database) (clock : ℕ) (failed : List Bool) (events : List Event) →
     AllDurable (world_after db (first_world clock failed) events).sites
+
+-- the run after these events
+abbrev pub run_through : Database → Run → List Event → Run
+run_through db r [] = r
+run_through db r (event ∷ events) = run_through db (run_after db r event) events
+
+-- one list is the front of another
+abbrev pub Begins : List Transaction → List Transaction → Type 0
+Begins front whole = (rest : List Transaction) × (whole ≡ front ++ rest)
+
+-- the list of each of these announcements is a front of this list
+abbrev pub AllBegin : List Announcement → List Transaction → Type 0
+AllBegin [] whole = Unit {0}
+AllBegin (a ∷ announcements) whole = Begins a.transactions whole × AllBegin announcements whole
+
+-- announcements, the newest first: the list of each is a front of the list of each later one
+abbrev pub Grows : List Announcement → Type 0
+Grows [] = Unit {0}
+Grows (newest ∷ earlier) = AllBegin earlier newest.transactions × Grows earlier
+
+-- In each run of a cell of one server, committed transactions have one order, which only grows.
+abbrev pub AnnouncementsGrow : Type 0
+AnnouncementsGrow =
+    (db : Database) (clock : ℕ) (failed : Bool) (events : List Event) →
+    Grows (run_through db (first_run (first_world clock (failed ∷ []))) events).announcements

@@ -7,4 +7,4 @@ mod events;
 mod laws;
 
 pub use events::{NodeEvent, Output, Reply};
-pub use laws::law_database_is_durable;
+pub use laws::{law_announcements_grow, law_database_is_durable};
