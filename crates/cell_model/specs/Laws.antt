@@ -42,7 +42,7 @@ abbrev pub Grows : List Announcement → Type 0
 Grows [] = Unit {0}
 Grows (newest ∷ earlier) = AllBegin earlier newest.transactions × Grows earlier
 
--- In each run of a cell of one server, committed transactions have one order, which only grows.
+-- In each run of a cell of one server, announced transactions have one order, which only grows.
 abbrev pub AnnouncementsGrow : Type 0
 AnnouncementsGrow =
     (db : Database) (clock : ℕ) (failed : Bool) (events : List Event) →
