@@ -2,7 +2,6 @@ pub mod Lines
 pub mod LineLaws
 pub mod LineSteps
 pub mod Meaning
-pub mod Numbers
 pub mod ScriptLaws
 pub mod Words
 pub mod Write

@@ -1,17 +1,7 @@
--- Laws of the words and numbers of a line.
-use Rattle.std.specs.Prelude.{◌≡◌, ℕ, ◌^◌, ◌<◌, true, false, List, [], ◌∷◌, ◌++◌, length, Some, map}
-use Rattle.std.specs.Fmt.{decimal}
+-- Laws of the words of a line.
+use Rattle.std.specs.Prelude.{◌≡◌, ℕ, ◌<◌, true, false, List, [], ◌∷◌, ◌++◌, length, Some, map}
 use Rattle.std.specs.List.{All}
-use Rattle.cell_script.specs.Numbers.{number_of}
 use Rattle.cell_script.specs.Words.{is_blank, words_of}
-
--- the decimal text of each number below 2^64 is read as that number
-abbrev pub ReadsDecimals : Type 0
-ReadsDecimals = (n : ℕ) → n < 2 ^ 64 → number_of (decimal n) ≡ Some n
-
--- and no other word is
-abbrev pub ReadsDecimalsAlone : Type 0
-ReadsDecimalsAlone = (word : List ℕ) (n : ℕ) → number_of word ≡ Some n → (n < 2 ^ 64) × (word ≡ decimal n)
 
 -- one byte or more, none of them a blank
 abbrev pub IsWord : List ℕ → Type 0

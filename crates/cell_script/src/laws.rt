@@ -1,6 +1,6 @@
-//! Laws of scripts: of the lines of a text, the words of a line, and numbers.
+//! Laws of scripts: of the lines of a text, and the words of a line.
 ghost use Rattle.cell_script.specs.LineLaws.{HasTheseLines, HasTheseWholeLines};
-ghost use Rattle.cell_script.specs.ScriptLaws.{ReadsDecimals, ReadsDecimalsAlone, ReadsSpacedWords};
+ghost use Rattle.cell_script.specs.ScriptLaws.{ReadsSpacedWords};
 
 /// The lines of a text are those that it was made of; the last may lack its LF.
 pub fn text_has_its_lines()
@@ -10,12 +10,6 @@ pub fn text_has_its_lines()
 /// The whole lines of a text are those that it was made of, without a last one that lacks its LF.
 pub fn text_has_its_whole_lines()
     ensures { HasTheseWholeLines }
-{}
-
-/// A number below 2^64 is read from its decimal text, and from no other word.
-pub fn decimal_text_is_its_number()
-    ensures read { ReadsDecimals }
-    ensures alone { ReadsDecimalsAlone }
 {}
 
 /// A line of words with blanks between them has these words.

@@ -3,16 +3,12 @@
 
 mod laws;
 mod lines;
-mod numbers;
 mod readers;
 mod splits;
 mod writers;
 
-pub use laws::{
-    decimal_text_is_its_number, line_has_its_words, text_has_its_lines, text_has_its_whole_lines,
-};
-pub use lines::{Line, line_meaning};
-pub use numbers::{number, number_within};
+pub use laws::{line_has_its_words, text_has_its_lines, text_has_its_whole_lines};
+pub use lines::{Line, Why, line_meaning};
 pub use readers::{LineEnd, LineReader, MAX_LINE};
 pub use splits::{Words, split_words};
 pub use writers::{WriteFault, write_whole};

@@ -1,10 +1,12 @@
 -- Calls and answers as words of a script.
-use Rattle.std.specs.Prelude.{ℕ, zero, suc, Bool, ◌&&◌, List, [], ◌∷◌, ◌++◌, length, drop, Option, Some, None, nat_lt, nat_le, ◌==◌, if◌then◌else◌, codes}
+use Rattle.std.specs.Prelude.{ℕ, ℤ, pos, zero, suc, Bool, false, not, is_some, ◌&&◌, ◌||◌, List, [], ◌∷◌, ◌++◌, length, drop, Option, Some, None, nat_lt, nat_le, ◌==◌, if◌then◌else◌, codes}
 use Rattle.std.specs.Fmt.{decimal, signed_decimal}
 use Rattle.std.specs.Int.{w32, cast_signed}
 use Rattle.std.specs.List.{list_all}
 use Rattle.std.specs.Option.{option_map}
+use Rattle.std.specs.Ordering.{int_eq}
 use Rattle.std.specs.Str.{bytes_eq}
+use Rattle.script_words.specs.Numbers.{number_within, signed_of}
 use Rattle.prdb_entries.specs.Call.{PrCall, NewUser, NameToId, spelling}
 use Rattle.prdb_entries.specs.Reading.{◌>>=◌, number_at, call_of}
 
@@ -51,6 +53,44 @@ name_to_id_in (count ∷ names) =
 abbrev pub call_in : List (List ℕ) → Option PrCall
 call_in [] = None
 call_in (name ∷ words) = if bytes_eq name (codes "newentry") then new_user_in words else (if bytes_eq name (codes "nametoid") then name_to_id_in words else None)
+
+-- the calls on entries that are not built yet, but for newentry in its other forms
+abbrev pub is_later_entry_call : List ℕ → Bool
+is_later_entry_call name =
+    bytes_eq name (codes "inewentry") || bytes_eq name (codes "delete") || bytes_eq name (codes "listentry")
+    || bytes_eq name (codes "listentries") || bytes_eq name (codes "changeentry") || bytes_eq name (codes "setfields")
+
+-- the calls on members and owners
+abbrev pub is_later_group_call : List ℕ → Bool
+is_later_group_call name =
+    bytes_eq name (codes "addtogroup") || bytes_eq name (codes "removefromgroup") || bytes_eq name (codes "getcps")
+    || bytes_eq name (codes "listelements") || bytes_eq name (codes "ismemberof") || bytes_eq name (codes "listowned")
+
+-- the calls on ids that are not built yet
+abbrev pub is_later_id_call : List ℕ → Bool
+is_later_id_call name =
+    bytes_eq name (codes "idtoname") || bytes_eq name (codes "listmax") || bytes_eq name (codes "setmax")
+
+-- the calls of which no form is built yet
+abbrev pub is_later_name : List ℕ → Bool
+is_later_name name = is_later_entry_call name || is_later_group_call name || is_later_id_call name
+
+-- a kind or an owner is given
+abbrev pub is_given : Option ℕ → Option ℤ → Bool
+is_given (Some kind) (Some owner) = not (kind == 0) || not (int_eq owner (pos 0))
+is_given kind owner = false
+
+-- newentry in its word form with a kind or an owner: a name, a number of 32 bits, and one with a sign
+abbrev pub is_other_entry : List (List ℕ) → Bool
+is_other_entry (name ∷ kind ∷ owner ∷ []) =
+    is_some (string_of_word name) && is_given (number_within 0 4294967295 kind) (signed_of owner)
+is_other_entry words = false
+
+-- the words name a call of the database that is not built yet
+abbrev pub is_unbuilt : List (List ℕ) → Bool
+is_unbuilt [] = false
+is_unbuilt (name ∷ words) =
+    if bytes_eq name (codes "newentry") then is_other_entry words else is_later_name name
 
 -- the bytes of the call that words name
 abbrev pub call_of_words : List (List ℕ) → Option (List ℕ)

@@ -15,7 +15,7 @@ pub use calls::writes;
 pub use images::call_image;
 pub use laws::{law_call_is_spelled, law_call_means, law_empty_is_initial};
 pub use service::PrService;
-pub use words::{call_words, reply_words};
+pub use words::{call_words, is_unbuilt, reply_words};
 
 #[cfg(test)]
 mod tests;

@@ -80,6 +80,27 @@ fn calls_of_words(rt: HostRuntime) -> Result<(), Fail> {
 }
 
 #[test]
+fn calls_that_are_not_built(rt: HostRuntime) -> Result<(), Fail> {
+    for (texts, want) in [
+        (["delete", "1", "x", "x"], true),
+        (["newentry", "staff", "2", "0"], true),
+        (["newentry", "staff", "2", "-204"], true),
+        (["newentry", "smith", "4294967295", "0"], true),
+        (["newentry", "smith", "4294967296", "0"], false),
+        (["newentry", "smith", "02", "0"], false),
+        (["newentry", "smith", "0", "-0"], false),
+        (["newentry", "smith", "0", "0"], false),
+        (["newentry", "\"\"\"", "2", "0"], false),
+        (["nametoid", "2", "smith", "jones"], false),
+        (["probe", "1", "1", "1"], false),
+    ] {
+        let call = words(rt.alloc(), &texts)?;
+        assert_eq!(rt; is_unbuilt(&call), want, "at {}", texts[0]);
+    }
+    Ok(())
+}
+
+#[test]
 fn answers_in_words(rt: HostRuntime) -> Result<(), Fail> {
     let id = reply_words(rt.alloc(), &NEW_SMITH, &[0, 0, 0, 1])?.ok_or("an id")?;
     assert_eq!(rt; id.as_slice(), b"1".as_slice());

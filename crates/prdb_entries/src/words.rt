@@ -8,10 +8,11 @@ ghost use Rattle.std.specs.String.{string_bytes};
 ghost use Rattle.prdb_entries.specs.Bytes.{string, zeros};
 ghost use Rattle.prdb_entries.specs.Call.{NewUser, NameToId, spelling};
 ghost use Rattle.prdb_entries.specs.Reading.{Gives};
-ghost use Rattle.prdb_entries.specs.Words.{is_quotes, is_plain, unquoted, string_of_word, strings_of_words, new_user_in, name_to_id_in, call_of_words, id_text, ids_text, id_list_text, one_id_text, reply_in_words};
+ghost use Rattle.prdb_entries.specs.Words.{is_quotes, is_plain, unquoted, string_of_word, strings_of_words, new_user_in, name_to_id_in, call_of_words, is_later_entry_call, is_later_group_call, is_later_id_call, is_later_name, is_given, is_other_entry, is_unbuilt, id_text, ids_text, id_list_text, one_id_text, reply_in_words};
 
 use crate::calls::{Call, NO_OWNER, USER_KIND, number, read_call, zeros_after};
 use crate::entries::{push_words, push_zeros};
+use script_words::{number_within, signed_number};
 use std::alloc::Global;
 use ubik_types::{Bytes, NoMemory};
 
@@ -181,6 +182,80 @@ pub fn call_words(alloc: Global, words: &[Bytes]) -> Result<Option<Bytes>, NoMem
         name_to_id_call(alloc, fields)
     } else {
         Ok(None)
+    }
+}
+
+/// Whether a kind or an owner is given.
+fn is_given(kind: Option<u32>, owner: Option<i32>) -> bool
+    ensures { result ≡ is_given kind owner }
+{
+    match (kind, owner) {
+        (Some(kind), Some(owner)) => kind != USER_KIND || owner != 0,
+        _ => false,
+    }
+}
+
+/// Whether the words behind `newentry` are in the word form and give a kind or an owner.
+fn is_other_entry(fields: &[Bytes]) -> bool
+    ensures { result ≡ is_other_entry fields.now }
+{
+    let [name, kind, owner] = fields else {
+        return false;
+    };
+    string_of_word(name.as_slice()).is_some()
+        && is_given(
+            number_within(kind.as_slice(), 0, u32::MAX),
+            signed_number(owner.as_slice()),
+        )
+}
+
+/// Whether a word is the name of a call on entries that is not built yet.
+fn is_later_entry_call(name: &[u8]) -> bool
+    ensures { result ≡ is_later_entry_call name.now }
+{
+    name == b"inewentry".as_slice()
+        || name == b"delete".as_slice()
+        || name == b"listentry".as_slice()
+        || name == b"listentries".as_slice()
+        || name == b"changeentry".as_slice()
+        || name == b"setfields".as_slice()
+}
+
+/// Whether a word is the name of a call on members and owners, none of which is built yet.
+fn is_later_group_call(name: &[u8]) -> bool
+    ensures { result ≡ is_later_group_call name.now }
+{
+    name == b"addtogroup".as_slice()
+        || name == b"removefromgroup".as_slice()
+        || name == b"getcps".as_slice()
+        || name == b"listelements".as_slice()
+        || name == b"ismemberof".as_slice()
+        || name == b"listowned".as_slice()
+}
+
+/// Whether a word is the name of a call on ids that is not built yet.
+fn is_later_id_call(name: &[u8]) -> bool
+    ensures { result ≡ is_later_id_call name.now }
+{
+    name == b"idtoname".as_slice() || name == b"listmax".as_slice() || name == b"setmax".as_slice()
+}
+
+/// Whether a word is the name of a call of which no form is built yet.
+fn is_later_name(name: &[u8]) -> bool
+    ensures { result ≡ is_later_name name.now }
+{
+    is_later_entry_call(name) || is_later_group_call(name) || is_later_id_call(name)
+}
+
+/// Whether the words name a call of this database that is not built yet: another call, by its name alone, or
+/// `newentry` in its word form with a kind or an owner.
+pub fn is_unbuilt(words: &[Bytes]) -> bool
+    ensures { result ≡ is_unbuilt words.now }
+{
+    match words.split_first() {
+        None => false,
+        Some((name, fields)) if name.as_slice() == NEWENTRY => is_other_entry(fields),
+        Some((name, _)) => is_later_name(name.as_slice()),
     }
 }
 

@@ -12,7 +12,7 @@ use Rattle.std.proofs.lemmas.List.Elements.{All-weaker}
 use Rattle.std.proofs.lemmas.Str.{IsUtf8-from_ascii}
 use Rattle.std.proofs.lemmas.Str.Ascii.{IsAscii-from_all}
 use Rattle.std.proofs.lemmas.Str.Parse.{IsNumeralModel, numerals_by_value, parse_digits}
-use Rattle.cell_script.specs.Numbers.{is_numeral, value_of}
+use Rattle.script_words.specs.Numbers.{is_numeral, value_of}
 
 -- a numeral has a digit
 pub some_digit : (digits : List ℕ) → is_numeral digits ≡ true → 0 < length digits

@@ -8,9 +8,9 @@ use Rattle.std.proofs.lemmas.Bool.{and_from, and_parts, cond_below, ne_eqb, ltb-
 use Rattle.std.proofs.lemmas.Bool.Decides.{nat_tests}
 use Rattle.std.proofs.lemmas.Fmt.{decimal-digits_value, decimal_nonempty, digits_decimal, digits_value-decimal, first_decimal, decimal_digit}
 use Rattle.std.proofs.lemmas.Option.{cond_some}
-use Rattle.cell_script.proofs.NumberReading.{digits_model, some_digit, only_digits}
-use Rattle.cell_script.specs.Numbers.{is_numeral, value_of}
-use Rattle.cell_script.specs.ScriptLaws.{ReadsDecimals, ReadsDecimalsAlone}
+use Rattle.script_words.proofs.NumberReading.{digits_model, some_digit, only_digits}
+use Rattle.script_words.specs.Numbers.{is_numeral, value_of}
+use Rattle.script_words.specs.NumberLaws.{ReadsDecimals, ReadsDecimalsAlone}
 
 -- digits are a numeral where a zero stands first only alone
 is_numeral_from : (digits : List ℕ) → 0 < length digits → list_all is_ascii_digit digits ≡ true →

@@ -1,8 +1,8 @@
-//! Numbers in a script.
+//! Numbers that words write.
 ghost use Rattle.std.specs.Prelude.{◌≡◌, true};
 ghost use Rattle.std.specs.Char.{is_ascii_digit};
 ghost use Rattle.std.specs.List.{list_all};
-ghost use Rattle.cell_script.specs.Numbers.{is_numeral, value_of, number_of, number_within};
+ghost use Rattle.script_words.specs.Numbers.{is_numeral, value_of, number_of, number_within, negated, signed_of};
 
 use std::str;
 
@@ -26,6 +26,24 @@ pub fn number_within(word: &[u8], low: u32, high: u32) -> Option<u32>
     } else {
         None
     }
+}
+
+/// The number of 32 bits that a word writes: as in [`number_within`], and a minus before a number other than zero.
+pub fn signed_number(word: &[u8]) -> Option<i32>
+    ensures { result ≡ signed_of word.now }
+{
+    match word {
+        [b'-', digits @ ..] => negated(digits),
+        _ => i32::try_from(number_within(word, 0, i32::MAX.unsigned_abs())?).ok(),
+    }
+}
+
+/// The number below zero that stands behind a minus.
+fn negated(digits: &[u8]) -> Option<i32>
+    ensures { result ≡ negated digits.now }
+{
+    let number = number_within(digits, 1, i32::MIN.unsigned_abs())?;
+    0i32.checked_sub_unsigned(number)
 }
 
 /// Whether a word is decimal digits with no needless zero.
@@ -74,5 +92,24 @@ mod tests {
         }
         assert_eq!(rt; number_within(b"20", 1, 20), Some(20));
         assert_eq!(rt; number_within(b"21", 1, 20), None);
+    }
+
+    #[test]
+    fn reads_signed_numbers(rt: HostRuntime) {
+        for (word, want) in [
+            ("0", Some(0)),
+            ("-204", Some(-204)),
+            ("2147483647", Some(i32::MAX)),
+            ("2147483648", None),
+            ("-2147483648", Some(i32::MIN)),
+            ("-2147483649", None),
+            ("-0", None),
+            ("-", None),
+            ("--1", None),
+            ("+1", None),
+            ("", None),
+        ] {
+            assert_eq!(rt; signed_number(word.as_bytes()), want, "at {word}");
+        }
     }
 }

@@ -1,6 +1,6 @@
 use Rattle.std.proofs.Common.{sym, ◌∙◌}
-use Rattle.cell_script.proofs.NumberReading.{numeral_is_text, text_is, value_of-parse}
-use Rattle.cell_script.proofs.numbers.value.Goals as goal
+use Rattle.script_words.proofs.NumberReading.{numeral_is_text, text_is, value_of-parse}
+use Rattle.script_words.proofs.numbers.value.Goals as goal
 
 pub returns-in_err-ok : goal.returns-in_err-ok
 returns-in_err-ok c =
