@@ -1,16 +1,22 @@
--- What a script means: each line is a list of events of the world, given what the lines before it left, or it
--- is refused. What met a fault of a disk is the only free choice.
-use Rattle.std.specs.Prelude.{ℕ, ◌+◌, ◌-◌, Bool, true, false, ◌&&◌, nat_lt, nat_le, if◌then◌else◌, Option, Some, None, option_and_then, List, [], ◌∷◌, ◌++◌, length}
+-- What a script means: each line is a list of events of the world, given what the lines before it left, or the
+-- script ends there. What met a fault of a disk is the only free choice.
+use Rattle.std.specs.Prelude.{ℕ, ◌+◌, ◌-◌, Bool, true, false, ◌&&◌, nat_lt, nat_le, if◌then◌else◌, Option, Some, None, Result, Ok, Err, List, [], ◌∷◌, ◌++◌, length, map}
 use Rattle.db_image.specs.Database.{Database}
+use Rattle.cell_model.specs.Book.{Run, first_run, run_after}
 use Rattle.cell_model.specs.declared.events.NodeEvent.{NodeEvent}
 use Rattle.cell_model.specs.declared.events.NodeEvent.TheVariants as event
 use Rattle.cell_model.specs.Node.{Node, Down, Halted, Up}
-use Rattle.cell_model.specs.World.{Site, World, Event, Tick_all, Step, Fault, Happening, Puts, Halts, Stays_down, happens, first_world, first_seen}
+use Rattle.cell_model.specs.World.{Site, Event, Tick_all, Step, Fault, Happening, Puts, Halts, Stays_down, happens, first_world, first_seen}
 use Rattle.cell_script.specs.declared.lines.Line.{Line}
 use Rattle.cell_script.specs.declared.lines.Line.TheVariants as line
+use Rattle.cell_script.specs.declared.lines.Why.{Why}
+use Rattle.cell_script.specs.declared.lines.Why.TheVariants as why
 use Rattle.cell_script.specs.Meaning.{line_of}
-use Rattle.prdb_entries.specs.Words.{call_of_words}
-use Rattle.ubik_cell.specs.Trace.{trace, refusal_text}
+use Rattle.prdb_entries.specs.Words.{call_of_words, is_unbuilt}
+use Rattle.ubik_cell.specs.declared.cells.Ending.{Ending}
+use Rattle.ubik_cell.specs.declared.cells.Ending.TheVariants.{Refused, Limit}
+use Rattle.ubik_cell.specs.declared.cells.Which.TheVariants.{Lines}
+use Rattle.ubik_cell.specs.Trace.{trace, ending_text}
 
 -- whether the disk served the opening or the step of a line, or failed in it, after so many durable calls
 pub data Luck : Type 0 where
@@ -22,14 +28,14 @@ pub record Reading : Type 0 where
   pub line : List ℕ
   pub luck : Luck
 
--- what the lines so far left: how many there were, the calls that were asked, and the world, once there is one
+-- what the lines so far left: how many there were, the calls that were asked, and the run, once there is a cell
 pub record Stage : Type 0 where
   pub lines : ℕ
   pub calls : List (List ℕ)
-  pub world : Option World
+  pub run : Option Run
 
 abbrev pub first_stage : Stage
-first_stage = record { lines = 0; calls = []; world = None }
+first_stage = record { lines = 0; calls = []; run = None }
 
 -- what a line leaves, and what is seen of it
 pub record Line_run : Type 0 where
@@ -40,9 +46,9 @@ abbrev pub next_line : Stage → Stage
 next_line st = record st { lines = st.lines + 1 }
 
 -- a line that brings one event
-abbrev pub with_event : Database → Stage → World → Event → Line_run
-with_event db st w e =
-    let h = happens db w e in record { stage = record (next_line st) { world = Some h.world }; seen = h.seen }
+abbrev pub with_event : Database → Stage → Run → Event → Line_run
+with_event db st r e =
+    record { stage = record (next_line st) { run = Some (run_after db r e) }; seen = (happens db r.world e).seen }
 
 -- the step of a server, counted from 0
 abbrev pub step_event : Luck → ℕ → NodeEvent → Event
@@ -59,55 +65,86 @@ is_up_at [] place = false
 is_up_at (site ∷ sites) ℕ.zero = is_up site.node
 is_up_at (site ∷ sites) (ℕ.suc place) = is_up_at sites place
 
--- the server of a number, counted from 1, is there and up
-abbrev pub is_served : List Site → ℕ → Bool
-is_served sites number = nat_lt 0 number && is_up_at sites (number - 1)
+-- there is a server of this number, counted from 1
+abbrev pub is_there : List Site → ℕ → Bool
+is_there sites number = nat_lt 0 number && nat_le number (length sites)
 
-abbrev pub stepped : Database → Stage → Luck → ℕ → NodeEvent → World → Option Line_run
-stepped db st luck number e w =
-    if is_served w.sites number then Some (with_event db st w (step_event luck (number - 1) e)) else None
+-- a step of the server of a number: the server is there, and up
+abbrev pub stepped : Database → Stage → Luck → ℕ → NodeEvent → Run → Result Line_run Why
+stepped db st luck number e r =
+    if is_there r.world.sites number
+    then (if is_up_at r.world.sites (number - 1) then Ok (with_event db st r (step_event luck (number - 1) e)) else Err why.State)
+    else Err why.Server
 
 -- all clocks go on; by the bounds of a script's numbers they stay moments
-abbrev pub ticked_all : Database → Stage → ℕ → World → Option Line_run
-ticked_all db st seconds w = Some (with_event db st w (Tick_all seconds))
+abbrev pub ticked_all : Database → Stage → ℕ → Run → Result Line_run Why
+ticked_all db st seconds r = Ok (with_event db st r (Tick_all seconds))
 
 -- a call under the next number
-abbrev pub asked : Database → Stage → Luck → ℕ → List ℕ → World → Option Line_run
-asked db st luck number call w =
-    stepped db (record st { calls = st.calls ++ call ∷ [] }) luck number (event.Ask (length st.calls + 1) call) w
+abbrev pub asked : Database → Stage → Luck → ℕ → List ℕ → Run → Result Line_run Why
+asked db st luck number call r =
+    stepped db (record st { calls = st.calls ++ call ∷ [] }) luck number (event.Ask (length st.calls + 1) call) r
+
+-- a call at the server that a word names
+abbrev pub asked_at : Database → Stage → Luck → Option ℕ → List ℕ → Run → Result Line_run Why
+asked_at db st luck None call r = Err why.Number
+asked_at db st luck (Some number) call r = asked db st luck number call r
+
+-- words that are a call, or one that is not built yet, or none
+abbrev pub asked_in : Database → Stage → Luck → Option ℕ → List (List ℕ) → Option (List ℕ) → Run → Result Line_run Why
+asked_in db st luck server words None r = if is_unbuilt words then Err why.Unbuilt else Err why.Syntax
+asked_in db st luck server words (Some call) r = asked_at db st luck server call r
+
+-- where no cell stands the number of the server alone is judged
+abbrev pub no_cell : Option ℕ → Result Line_run Why
+no_cell None = Err why.Number
+no_cell (Some number) = Err why.Cell
+
+-- once a cell stands the words of the call come first, and then the number of the server
+abbrev pub ask_run : Database → Stage → Luck → Option ℕ → List (List ℕ) → Option Run → Result Line_run Why
+ask_run db st luck server words None = no_cell server
+ask_run db st luck server words (Some r) = asked_in db st luck server words (call_of_words words) r
 
 abbrev pub has_failed : Luck → Bool
 has_failed Sound = false
 has_failed (Faulty made) = true
 
 -- a cell of one is opened at a clock
-abbrev pub opened : Stage → Luck → ℕ → Option World → Option Line_run
+abbrev pub opened : Stage → Luck → ℕ → Option Run → Result Line_run Why
 opened st luck clock None =
-    Some (record {
-      stage = record (next_line st) { world = Some (first_world clock (has_failed luck ∷ [])) };
+    Ok (record {
+      stage = record (next_line st) { run = Some (first_run (first_world clock (has_failed luck ∷ []))) };
       seen = first_seen 0 (has_failed luck ∷ []);
     })
-opened st luck clock (Some w) = None
+opened st luck clock (Some r) = Err why.Cell
 
--- what a line does in the world, where there is one
-abbrev pub in_world : (World → Option Line_run) → Option World → Option Line_run
-in_world run None = None
-in_world run (Some w) = run w
+-- what a line does in the run, where there is one
+abbrev pub in_run : (Run → Result Line_run Why) → Option Run → Result Line_run Why
+in_run does None = Err why.Cell
+in_run does (Some r) = does r
 
 -- a line that was understood
-abbrev pub line_run : Database → Stage → Luck → Line → Option Line_run
-line_run db st luck line.Nothing = Some (record { stage = next_line st; seen = [] })
-line_run db st luck (line.Cell clock) = opened st luck clock st.world
-line_run db st luck (line.TickAll seconds) = in_world (ticked_all db st seconds) st.world
-line_run db st luck (line.Beacon server) = in_world (stepped db st luck server event.BeaconTurn) st.world
-line_run db st luck (line.Recover server) = in_world (stepped db st luck server event.RecoverTurn) st.world
-line_run db st luck (line.Ask server words) =
-    option_and_then (λ call. in_world (asked db st luck server call) st.world) (call_of_words words)
+abbrev pub line_run : Database → Stage → Luck → Line → Result Line_run Why
+line_run db st luck line.Nothing = Ok (record { stage = next_line st; seen = [] })
+line_run db st luck (line.Cell clock) = opened st luck clock st.run
+line_run db st luck (line.TickAll seconds) = in_run (ticked_all db st seconds) st.run
+line_run db st luck (line.Beacon server) = in_run (stepped db st luck server event.BeaconTurn) st.run
+line_run db st luck (line.Recover server) = in_run (stepped db st luck server event.RecoverTurn) st.run
+line_run db st luck (line.Ask server words) = ask_run db st luck server words st.run
 
--- a line; none where it is refused, as is each line past the 20,000th
-abbrev pub line_result : Database → Stage → Reading → Option Line_run
+-- a line that was understood, or was not
+abbrev pub meaning_run : Database → Stage → Luck → Result Line Why → Result Line_run Why
+meaning_run db st luck (Err w) = Err w
+meaning_run db st luck (Ok l) = line_run db st luck l
+
+abbrev pub or_refused : Result Line_run Why → Result Line_run Ending
+or_refused (Ok run) = Ok run
+or_refused (Err w) = Err (Refused w)
+
+-- a line; a script has 20,000 of them at most
+abbrev pub line_result : Database → Stage → Reading → Result Line_run Ending
 line_result db st r =
-    if nat_le 20000 st.lines then None else option_and_then (λ l. line_run db st r.luck l) (line_of r.line)
+    if nat_le 20000 st.lines then Err (Limit Lines) else or_refused (meaning_run db st r.luck (line_of r.line))
 
 -- how many faults of a disk are seen
 abbrev pub fault_count : List Happening → ℕ
@@ -116,30 +153,37 @@ fault_count (Puts server output ∷ seen) = fault_count seen
 fault_count (Halts server ∷ seen) = fault_count seen + 1
 fault_count (Stays_down server ∷ seen) = fault_count seen + 1
 
--- what the lines so far left, the trace, how many faults of a disk were seen, and the number of the line that
--- was refused
+-- where a script ended before its end: the number of the line, and why
+pub record Stop : Type 0 where
+  pub line : ℕ
+  pub ending : Ending
+
+-- what the lines so far left, the trace, how many faults of a disk were seen, and where the script ended
 pub record Told : Type 0 where
   pub stage : Stage
   pub text : List ℕ
   pub faults : ℕ
-  pub refused : Option ℕ
+  pub stop : Option Stop
 
 abbrev pub first_told : Told
-first_told = record { stage = first_stage; text = []; faults = 0; refused = None }
+first_told = record { stage = first_stage; text = []; faults = 0; stop = None }
 
-abbrev pub told_with : Told → Option Line_run → Told
-told_with t None =
-    record t { text = t.text ++ refusal_text (t.stage.lines + 1); refused = Some (t.stage.lines + 1) }
-told_with t (Some run) =
+abbrev pub stop_at : ℕ → Ending → Stop
+stop_at line ending = record { line = line; ending = ending }
+
+abbrev pub told_with : Told → Result Line_run Ending → Told
+told_with t (Err e) =
+    record t { text = t.text ++ ending_text (t.stage.lines + 1) e; stop = Some (stop_at (t.stage.lines + 1) e) }
+told_with t (Ok run) =
     record t { stage = run.stage; text = t.text ++ trace run.seen; faults = t.faults + fault_count run.seen }
 
-abbrev pub told_unless : Database → Told → Reading → Option ℕ → Told
+abbrev pub told_unless : Database → Told → Reading → Option Stop → Told
 told_unless db t r None = told_with t (line_result db t.stage r)
-told_unless db t r (Some refused) = t
+told_unless db t r (Some stop) = t
 
--- one more line; nothing is told after a line that was refused
+-- one more line; nothing is told after the line at which the script ended
 abbrev pub told_after : Database → Told → Reading → Told
-told_after db t r = told_unless db t r t.refused
+told_after db t r = told_unless db t r t.stop
 
 -- all that these lines tell
 abbrev pub told_from : Database → Told → List Reading → Told
@@ -148,3 +192,7 @@ told_from db t (r ∷ readings) = told_from db (told_after db t r) readings
 
 abbrev pub told : Database → List Reading → Told
 told db readings = told_from db first_told readings
+
+-- lines at which no disk fails
+abbrev pub sound_readings : List (List ℕ) → List Reading
+sound_readings lines = map (λ l. record { line = l; luck = Sound }) lines

@@ -14,6 +14,12 @@ use Rattle.cell_model.specs.declared.events.Reply.TheVariants as reply
 use Rattle.cell_model.specs.declared.events.Output.{Output}
 use Rattle.cell_model.specs.declared.events.Output.TheVariants as output
 use Rattle.cell_model.specs.World.{Happening, Puts, Halts, Stays_down}
+use Rattle.cell_script.specs.declared.lines.Why.{Why}
+use Rattle.cell_script.specs.declared.lines.Why.TheVariants as why
+use Rattle.ubik_cell.specs.declared.cells.Which.{Which}
+use Rattle.ubik_cell.specs.declared.cells.Which.TheVariants as which
+use Rattle.ubik_cell.specs.declared.cells.Ending.{Ending}
+use Rattle.ubik_cell.specs.declared.cells.Ending.TheVariants.{Refused, Limit}
 
 abbrev pub phase_word : Phase → List ℕ
 phase_word phases.None = codes "none"
@@ -60,6 +66,22 @@ happening_text (Stays_down server) = codes "restarted " ++ decimal (server + 1) 
 abbrev pub trace : List Happening → List ℕ
 trace seen = flat_map happening_text seen
 
--- the last line of a script that is refused
-abbrev pub refusal_text : ℕ → List ℕ
-refusal_text line = codes "refused line " ++ decimal line ++ codes " unbuilt" ++ 10 ∷ []
+abbrev pub why_word : Why → List ℕ
+why_word why.Syntax = codes "syntax"
+why_word why.Number = codes "number"
+why_word why.Cell = codes "cell"
+why_word why.Server = codes "server"
+why_word why.State = codes "state"
+why_word why.Packet = codes "packet"
+why_word why.Skew = codes "skew"
+why_word why.Unbuilt = codes "unbuilt"
+
+abbrev pub which_word : Which → List ℕ
+which_word which.Lines = codes "lines"
+which_word which.Packets = codes "packets"
+which_word which.PacketBytes = codes "packetbytes"
+
+-- the last line of a trace, of a script that ended at this line
+abbrev pub ending_text : ℕ → Ending → List ℕ
+ending_text line (Refused w) = codes "refused line " ++ decimal line ++ 32 ∷ why_word w ++ 10 ∷ []
+ending_text line (Limit w) = codes "limit line " ++ decimal line ++ 32 ∷ which_word w ++ 10 ∷ []

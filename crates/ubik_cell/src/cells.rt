@@ -1,10 +1,25 @@
 //! How a run of a script ended.
 
-/// Why a line of a script was refused.
+use cell_script::Why;
+
+/// Which limit of a script a line would pass.
 #[derive(Clone, Copy, Debug, PartialEq, Eq)]
-pub enum Why {
-    /// The line is not built yet, or does not fit.
-    Unbuilt,
+pub enum Which {
+    /// The lines of a script, of which there are 20,000 at most.
+    Lines,
+    /// The packets that are sent.
+    Packets,
+    /// The bytes of the packets that are kept.
+    PacketBytes,
+}
+
+/// Why a script ends before its end.
+#[derive(Clone, Copy, Debug, PartialEq, Eq)]
+pub enum Ending {
+    /// A line is refused.
+    Refused(Why),
+    /// A line would pass a limit.
+    Limit(Which),
 }
 
 /// How a run of a script ended.
@@ -18,8 +33,12 @@ pub enum CellKind {
     ReadFault,
     /// The sink failed; what was written is the front of the trace.
     WriteFault,
+    /// This line, counted from 1, would pass a limit; the lines before it were run.
+    Limit { line: u32, which: Which },
     /// Memory ran out; what was written is the front of the trace.
     NoMemory,
+    /// The program takes no words, and this one, counted from 1, was given. Nothing was read or written.
+    Words { place: u32 },
 }
 
 /// The end of a run, with the exit status that stands for it.

@@ -7,7 +7,8 @@ mod sites;
 mod tops;
 mod traces;
 
-pub use cells::{CellEnd, CellKind, Why};
+pub use cell_script::Why;
+pub use cells::{CellEnd, CellKind, Ending, Which};
 pub use tops::cell_top;
 
 #[cfg(test)]
