@@ -1,3 +1,4 @@
+pub mod Announcing
 pub mod Durability
 pub mod Growth
 pub mod StepKinds
