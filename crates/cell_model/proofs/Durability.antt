@@ -1,6 +1,5 @@
 -- The durable calls of a step lead to the version and the image that the server has after it.
 use Rattle.std.proofs.Common.{◌≡◌, inl, inr, ℕ, List, Bool, ap, ◌∙◌}
-use Rattle.ubik_types.specs.declared.versions.Version.{Version}
 use Rattle.db_image.specs.Database.{Database}
 use Rattle.cell_model.specs.declared.events.NodeEvent.{NodeEvent}
 use Rattle.cell_model.specs.Durable.{durable, durable_after_all, Made}

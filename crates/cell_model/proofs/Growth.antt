@@ -1,21 +1,17 @@
 -- The lists of announcements grow along a run of a cell of one server.
-use Rattle.std.proofs.Common.{Bool, true, false, cond, ◌==◌, ◌&&◌, ◌≡◌, ◌⊎◌, inl, inr, ℕ, zero, suc, List, [], ◌∷◌, ◌++◌, map, take, Some, refl, sym, ap, subst, ◌∙◌, arith, append_assoc}
+use Rattle.std.proofs.Common.{Bool, true, false, ◌≡◌, ◌⊎◌, inl, inr, ℕ, zero, suc, List, [], ◌∷◌, ◌++◌, map, take, refl, sym, ap, subst, ◌∙◌, append_assoc}
 use Rattle.std.proofs.lemmas.List.{append-nil}
-use Rattle.std.proofs.lemmas.Bool.Decides.{nat_tests}
-use Rattle.std.specs.Prelude.{unwrap_or}
 use Rattle.ubik_types.specs.declared.versions.Version.{Version}
-use Rattle.ubik_types.specs.Version.{version_eq}
 use Rattle.db_image.specs.Database.{Database}
 use Rattle.cell_model.specs.declared.events.NodeEvent.{NodeEvent}
-use Rattle.cell_model.specs.declared.events.NodeEvent.TheVariants as event
 use Rattle.cell_model.specs.declared.events.Output.{Output}
 use Rattle.cell_model.specs.declared.events.Output.TheVariants as output
 use Rattle.cell_model.specs.declared.events.Reply.TheVariants as reply
-use Rattle.cell_model.specs.Book.{Book, Announcement, Run, list_of, list_or_none, entered, announced, first_run, run_after}
+use Rattle.cell_model.specs.Book.{Book, Announcement, Run, list_or_none, entered, announced, first_run, run_after}
 use Rattle.cell_model.specs.Durable.{Transaction, Made}
 use Rattle.cell_model.specs.Node.{Node, Down, Halted, Up, Server}
 use Rattle.cell_model.specs.NodeRule.{Stepped, lapsed, step_of, refusals}
-use Rattle.cell_model.specs.World.{Site, World, Event, Tick_all, Step, Fault, Puts, Halts, entries_from, step_at, fault_at, happens, first_world}
+use Rattle.cell_model.specs.World.{Site, World, Event, Tick_all, Step, Fault, Puts, entries_from, step_at, fault_at, happens, first_world}
 use Rattle.cell_model.specs.Laws.{run_through, AllBegin, Grows, AnnouncementsGrow}
 use Rattle.cell_model.proofs.Announcing.{newest, silent_announces, silent_refusals, halt_announces}
 use Rattle.cell_model.proofs.StepKinds.{IsSilent, IsFew, Announces, made_at, IsStep, silent_of, step_is}

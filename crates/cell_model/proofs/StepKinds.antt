@@ -22,7 +22,7 @@ use Rattle.cell_model.specs.declared.events.Reply.TheVariants as reply
 use Rattle.cell_model.specs.Book.{is_ready}
 use Rattle.cell_model.specs.Durable.{Transaction}
 use Rattle.cell_model.specs.Node.{Server}
-use Rattle.cell_model.specs.NodeRule.{Stepped, quiet, answering, no_quorum, next_version, commit_of, only_at, epoch_of, spread_from, own_relabelling, leased, lapsed, after_beacon, begun_poll, best_version, first_with, relabelled, polled_best, polled, recovered, committed, written, served, asked_in, asked_as, asked, is_short, step_of}
+use Rattle.cell_model.specs.NodeRule.{Stepped, quiet, answering, no_quorum, next_version, commit_of, only_at, epoch_of, own_relabelling, leased, lapsed, after_beacon, begun_poll, best_version, first_with, relabelled, polled_best, polled, recovered, committed, written, served, asked_in, asked_as, asked, is_short, step_of}
 
 -- this is what the database answers on the image of a ready server, to a call that is asked under this id
 pub record IsAnswer (db : Database) (s : Server) (now : ℕ) (e : NodeEvent) (id : ℕ) (answer : CallReply) : Type 0 where
