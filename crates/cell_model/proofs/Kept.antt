@@ -45,7 +45,7 @@ abbrev pub Moves : List Transaction → List Announcement → List Transaction �
 Moves before ann acknowledged =
     Begins before (order_of ann) × All (IsAt (order_of ann)) (map (acknowledged_at (length (order_of ann) - 1)) acknowledged)
 
-image_from-append : (db : Database) (image : List ℕ) (front more : List Transaction) → image_from db image (front ++ more) ≡ image_from db (image_from db image front) more
+pub image_from-append : (db : Database) (image : List ℕ) (front more : List Transaction) → image_from db image (front ++ more) ≡ image_from db (image_from db image front) more
 image_from-append db image [] more = refl
 image_from-append db image (t ∷ front) more = image_from-append db (db.call image t.moment t.call).image front more
 

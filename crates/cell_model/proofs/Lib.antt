@@ -3,6 +3,7 @@ pub mod Durability
 pub mod Growth
 pub mod Kept
 pub mod KeptRuns
+pub mod Recorded
 pub mod SingleReplies
 pub mod StepKinds
 pub mod WholeWorld

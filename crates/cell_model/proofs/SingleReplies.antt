@@ -41,7 +41,7 @@ told_single : (db : Database) (book : Book) (ann : List Announcement) (site : Si
 told_single db book ann site s e short id answer stands a = answer_single db (order_of ann) site s e short id answer (ready_image db book ann s stands a.ready) a
 
 reply_single : (db : Database) (book : Book) (ann : List Announcement) (site : Site) (s : Server) (e : NodeEvent) (short : List Bool) (id : ℕ) (r : Reply) → Stands db book ann s → IsTold db s site.clock e id r → IsSeenOf (told_then db ann site e short) (Puts 0 (output.Reply id r))
-reply_single db book ann site s e short id (reply.Ok fields) stands a = told_single db book ann site s e short id (call_reply.Done fields) stands a
+reply_single db book ann site s e short id (reply.Ok fields) stands a = told_single db book ann site s e short id (call_reply.Done fields) stands a.answered
 reply_single db book ann site s e short id (reply.Rule number) stands a = told_single db book ann site s e short id (call_reply.Rule number) stands a
 reply_single db book ann site s e short id (reply.NoQuorum at until phase applied) stands a = tt
 reply_single db book ann site s e short id (reply.TooLarge bytes) stands a = tt

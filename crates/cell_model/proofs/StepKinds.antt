@@ -1,6 +1,8 @@
 -- What a step can be: it rests, or it relabels, or it commits; whatever the event. And what a reply tells.
 use Rattle.std.proofs.Common.{Bool, true, false, true≢false, cond, nat_lt, ◌==◌, ◌≡◌, ℕ, List, [], ◌∷◌, length, map, Option, Some, None, refl, sym, ap, ◌∙◌, ◌⊎◌, inl, inr}
 use Rattle.std.proofs.lemmas.Bool.{cond_both}
+use Rattle.std.proofs.lemmas.Option.{same_Some}
+use Rattle.std.proofs.lemmas.Slice.Eq.{bytes_eq-Decides}
 use Rattle.std.specs.Prelude.{is_some}
 use Rattle.std.specs.Str.{bytes_eq}
 use Rattle.ubik_types.specs.declared.limits.TheConstants.{MAX_IMAGE}
@@ -31,9 +33,14 @@ pub record IsAnswer (db : Database) (s : Server) (now : ℕ) (e : NodeEvent) (id
   pub answer_is : (db.call s.image now call).reply ≡ answer
   pub ready : is_ready s.phase ≡ true
 
+-- an Ok where nothing is committed: a call that writes leaves the image as it is
+pub record IsOk (db : Database) (s : Server) (now : ℕ) (e : NodeEvent) (id : ℕ) (fields : List ℕ) : Type 0 where
+  pub answered : IsAnswer db s now e id (call_reply.Done fields)
+  pub same : db.writes answered.call ≡ Some true → (db.call s.image now answered.call).image ≡ s.image
+
 -- what a reply tells of the database is the database's answer
 abbrev pub IsTold : Database → Server → ℕ → NodeEvent → ℕ → Reply → Type 0
-IsTold db s now e id (reply.Ok fields) = IsAnswer db s now e id (call_reply.Done fields)
+IsTold db s now e id (reply.Ok fields) = IsOk db s now e id fields
 IsTold db s now e id (reply.Rule number) = IsAnswer db s now e id (call_reply.Rule number)
 IsTold db s now e id (reply.NoQuorum at until phase applied) = Unit {0}
 IsTold db s now e id (reply.TooLarge bytes) = Unit {0}
@@ -166,44 +173,47 @@ committed_is db n me s now id e answer poll spread answered =
 written_is : (db : Database) (n me : ℕ) (s : Server) (now id : ℕ) (e : NodeEvent) (answer : List ℕ) (poll : Polled) (spread : Spread) → (answered : IsAnswer db s now e id (call_reply.Done answer)) → IsStep db n me s now e (written n me s now id answered.call answer (db.call s.image now answered.call).image poll spread)
 written_is db n me s now id e answer poll spread answered =
     let image = (db.call s.image now answered.call).image in
-    either db n me s now e (bytes_eq image s.image) _ _ (answering_is db n me s now e id (reply.Ok answer) answered)
-    (either db n me s now e (nat_lt MAX_IMAGE (length image)) _ _ (answering_is db n me s now e id (reply.TooLarge (length image)) tt)
+    cond_both (bytes_eq image s.image) _ _ (IsStep db n me s now e)
+    (λ same. answering_is db n me s now e id (reply.Ok answer) (record { answered = answered; same = λ _. (bytes_eq-Decides image s.image).0 same }))
+    (λ _. either db n me s now e (nat_lt MAX_IMAGE (length image)) _ _ (answering_is db n me s now e id (reply.TooLarge (length image)) tt)
     (either db n me s now e (s.version.counter == MAX_COUNTER) _ _ (polls_is (begun_poll n me s now)) (committed_is db n me s now id e answer poll spread answered)))
   where
     polls_is : (poll : Polled) → IsStep db n me s now e (answering (record s { phase = Poll poll }) id (no_quorum n s now phases.Poll))
     polls_is poll = inl (record { calls = refl; version = refl; image_is = refl; ready = λ is. absurd (true≢false (sym is)); told = (tt, tt); none = refl })
 
-served_is : (db : Database) (n me : ℕ) (s : Server) (now id : ℕ) (call : List ℕ) (r : CallReply) (writes : Bool) (poll : Polled) (spread : Spread) → is_ready s.phase ≡ true → (db.call s.image now call).reply ≡ r → IsStep db n me s now (event.Ask id call) (served n me s now id call r (db.call s.image now call).image writes poll spread)
-served_is db n me s now id call (call_reply.Done answer) writes poll spread ready is =
+served_is : (db : Database) (n me : ℕ) (s : Server) (now id : ℕ) (call : List ℕ) (r : CallReply) (writes : Bool) (poll : Polled) (spread : Spread) → is_ready s.phase ≡ true → db.writes call ≡ Some writes → (db.call s.image now call).reply ≡ r → IsStep db n me s now (event.Ask id call) (served n me s now id call r (db.call s.image now call).image writes poll spread)
+served_is db n me s now id call (call_reply.Done answer) writes poll spread ready kind is =
     let answered : IsAnswer db s now (event.Ask id call) id (call_reply.Done answer) = record { call = call; asked = refl; answer_is = is; ready = ready } in
-    either db n me s now (event.Ask id call) writes _ _ (written_is db n me s now id (event.Ask id call) answer poll spread answered) (answering_is db n me s now (event.Ask id call) id (reply.Ok answer) answered)
-served_is db n me s now id call (call_reply.Rule number) writes poll spread ready is =
+    cond_both writes _ _ (IsStep db n me s now (event.Ask id call)) (λ _. written_is db n me s now id (event.Ask id call) answer poll spread answered)
+    (λ reads. answering_is db n me s now (event.Ask id call) id (reply.Ok answer)
+    (record { answered = answered; same = λ written. absurd (true≢false (sym (same_Some writes true (sym kind ∙ written)) ∙ reads)) }))
+served_is db n me s now id call (call_reply.Rule number) writes poll spread ready kind is =
     answering_is db n me s now (event.Ask id call) id (reply.Rule number) (record { call = call; asked = refl; answer_is = is; ready = ready })
-served_is db n me s now id call call_reply.Malformed writes poll spread ready is = answering_is db n me s now (event.Ask id call) id reply.Malformed tt
-served_is db n me s now id call (call_reply.BadRecord at) writes poll spread ready is =
+served_is db n me s now id call call_reply.Malformed writes poll spread ready kind is = answering_is db n me s now (event.Ask id call) id reply.Malformed tt
+served_is db n me s now id call (call_reply.BadRecord at) writes poll spread ready kind is =
     answering_is db n me s now (event.Ask id call) id (reply.BadRecord at) (record { call = call; asked = refl; answer_is = is; ready = ready })
 
 -- where no call is served
 unserved_is : (db : Database) (n me : ℕ) (s : Server) (now id : ℕ) (call : List ℕ) (phase : PhaseRecord) → IsStep db n me s now (event.Ask id call) (answering s id (no_quorum n s now (phase_of phase)))
 unserved_is db n me s now id call phase = answering_is db n me s now (event.Ask id call) id (no_quorum n s now (phase_of phase)) tt
 
-asked_in_is : (db : Database) (n me : ℕ) (s : Server) (now id : ℕ) (call : List ℕ) (writes : Bool) (phase : PhaseRecord) → s.phase ≡ phase → IsStep db n me s now (event.Ask id call) (asked_in db n me s now id call writes phase)
-asked_in_is db n me s now id call writes NoPhase is = unserved_is db n me s now id call NoPhase
-asked_in_is db n me s now id call writes (Poll poll) is = unserved_is db n me s now id call (Poll poll)
-asked_in_is db n me s now id call writes (Fetch poll best host) is = unserved_is db n me s now id call (Fetch poll best host)
-asked_in_is db n me s now id call writes (Relabel poll) is = unserved_is db n me s now id call (Relabel poll)
-asked_in_is db n me s now id call writes (Send poll spread) is = unserved_is db n me s now id call (Send poll spread)
-asked_in_is db n me s now id call writes (Ready poll spread announced) is =
+asked_in_is : (db : Database) (n me : ℕ) (s : Server) (now id : ℕ) (call : List ℕ) (writes : Bool) (phase : PhaseRecord) → db.writes call ≡ Some writes → s.phase ≡ phase → IsStep db n me s now (event.Ask id call) (asked_in db n me s now id call writes phase)
+asked_in_is db n me s now id call writes NoPhase kind is = unserved_is db n me s now id call NoPhase
+asked_in_is db n me s now id call writes (Poll poll) kind is = unserved_is db n me s now id call (Poll poll)
+asked_in_is db n me s now id call writes (Fetch poll best host) kind is = unserved_is db n me s now id call (Fetch poll best host)
+asked_in_is db n me s now id call writes (Relabel poll) kind is = unserved_is db n me s now id call (Relabel poll)
+asked_in_is db n me s now id call writes (Send poll spread) kind is = unserved_is db n me s now id call (Send poll spread)
+asked_in_is db n me s now id call writes (Ready poll spread announced) kind is =
     either db n me s now (event.Ask id call) (leased n s now) _ _
-    (served_is db n me s now id call (db.call s.image now call).reply writes poll spread (ap is_ready is) refl) (unserved_is db n me s now id call (Ready poll spread announced))
+    (served_is db n me s now id call (db.call s.image now call).reply writes poll spread (ap is_ready is) kind refl) (unserved_is db n me s now id call (Ready poll spread announced))
 
-asked_as_is : (db : Database) (n me : ℕ) (s : Server) (now id : ℕ) (call : List ℕ) (o : Option Bool) → IsStep db n me s now (event.Ask id call) (asked_as db n me s now id call o)
-asked_as_is db n me s now id call None = answering_is db n me s now (event.Ask id call) id reply.Malformed tt
-asked_as_is db n me s now id call (Some writes) = asked_in_is db n me s now id call writes s.phase refl
+asked_as_is : (db : Database) (n me : ℕ) (s : Server) (now id : ℕ) (call : List ℕ) (o : Option Bool) → db.writes call ≡ o → IsStep db n me s now (event.Ask id call) (asked_as db n me s now id call o)
+asked_as_is db n me s now id call None kind = answering_is db n me s now (event.Ask id call) id reply.Malformed tt
+asked_as_is db n me s now id call (Some writes) kind = asked_in_is db n me s now id call writes s.phase kind refl
 
 asked_is : (db : Database) (n me : ℕ) (s : Server) (now id : ℕ) (call : List ℕ) (short : Bool) → IsStep db n me s now (event.Ask id call) (asked db n me s now id call short)
 asked_is db n me s now id call short =
-    either db n me s now (event.Ask id call) short _ _ (answering_is db n me s now (event.Ask id call) id reply.NoMemory tt) (asked_as_is db n me s now id call (db.writes call))
+    either db n me s now (event.Ask id call) short _ _ (answering_is db n me s now (event.Ask id call) id reply.NoMemory tt) (asked_as_is db n me s now id call (db.writes call) refl)
 
 -- a step, whatever the event
 pub step_is : (db : Database) (n me : ℕ) (s : Server) (now : ℕ) (e : NodeEvent) (short : List Bool) → IsStep db n me (lapsed n s now) now e (step_of db n me s now e short)

@@ -1,5 +1,5 @@
 -- Laws of a cell of one server: what is acknowledged stays, and databases and replies are those of the single copy.
-use Rattle.std.specs.Prelude.{◌≡◌, ℕ, Bool, true, Option, Some, None, option_map, List, [], ◌∷◌, slice_get, All, Contains}
+use Rattle.std.specs.Prelude.{◌≡◌, ℕ, Bool, true, Option, Some, None, option_map, List, [], ◌∷◌, ◌++◌, ◌⊎◌, slice_get, All, Contains, IfSome}
 use Rattle.db_image.specs.declared.services.CallReply.{CallReply}
 use Rattle.db_image.specs.declared.services.CallReply.TheVariants as call_reply
 use Rattle.db_image.specs.Database.{Database}
@@ -29,6 +29,21 @@ AcknowledgedStay =
     let r = run_of_one db clock failed events in
     let later = run_through db r more in
     All (λ a. Contains later.acknowledged a × IsAt (order_of later.announcements) a) r.acknowledged
+
+-- the transaction is the one acknowledged, or it leaves the single copy's image as it is after the order
+abbrev pub IsRecorded : Database → List Transaction → List Transaction → Transaction → Type 0
+IsRecorded db order acknowledged t = (acknowledged ≡ t ∷ []) ⊎ (image_of db (order ++ t ∷ []) ≡ image_of db order)
+
+-- After each run, where the next event asks a call that writes, and its Ok is seen, the transaction is acknowledged
+-- in that event, or it changes nothing.
+abbrev pub OksAreAcknowledged : Type 0
+OksAreAcknowledged =
+    (db : Database) (clock : ℕ) (failed : Bool) (events : List Event) (server id : ℕ) (call fields : List ℕ) (short : List Bool) →
+    let r = run_of_one db clock failed events in
+    let h = happens db r.world (Step server (Ask id call) short) in
+    db.writes call ≡ Some true → Contains h.seen (Puts server (output.Reply id (reply.Ok fields))) →
+    IfSome (site_of r.world.sites server) (λ site.
+    IsRecorded db (order_of r.announcements) h.acknowledged (record { moment = site.clock; call = call }))
 
 -- a server of n that is a ready sync site has the image of the single copy after these transactions
 abbrev pub IsSingle : Database → List Transaction → ℕ → ℕ → Node → Type 0
@@ -62,21 +77,22 @@ single_told db order w (Step server (Ask id call) short) =
     option_map (λ (site : Site). told server id (reply_after db order site.clock call)) (site_of w.sites server)
 single_told db order w (Fault server event short made) = None
 
--- what a reply tells of the database is this; a reply that is not Ok, Rule or BadRecord tells nothing of it
+-- what a reply tells of the database is this. Ok, Rule and BadRecord tell of it, the others do not.
 abbrev pub IsToldBy : Option Told → ℕ → ℕ → Reply → Type 0
 IsToldBy single server id (reply.Ok fields) = single ≡ Some (told server id (call_reply.Done fields))
 IsToldBy single server id (reply.Rule number) = single ≡ Some (told server id (call_reply.Rule number))
 IsToldBy single server id (reply.BadRecord at) = single ≡ Some (told server id (call_reply.BadRecord at))
 IsToldBy single server id _ = Unit {0}
 
+-- the same of what is seen
 abbrev pub IsSeenOf : Option Told → Happening → Type 0
 IsSeenOf single (Puts server (output.Announce version)) = Unit {0}
 IsSeenOf single (Puts server (output.Reply id r)) = IsToldBy single server id r
 IsSeenOf single (Halts server) = Unit {0}
 IsSeenOf single (Stays_down server) = Unit {0}
 
--- After each run, each reply of the next event that tells of the database is that of the single copy after the order
--- before the event. The Ok of a transaction is evaluated on that order too: it is then the next one.
+-- After each run, each reply of the next event that tells of the database is that of the single copy, after the order
+-- before that event. A transaction is evaluated on that order too, and is then the next one.
 abbrev pub RepliesAreSingle : Type 0
 RepliesAreSingle =
     (db : Database) (clock : ℕ) (failed : Bool) (events : List Event) (event : Event) →

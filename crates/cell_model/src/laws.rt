@@ -1,5 +1,10 @@
 //! Laws of the world: each is the clause of a call that does nothing.
-ghost use Rattle.cell_model.specs.KeptLaws.{AcknowledgedStay, RepliesAreSingle, SitesAreSingle};
+ghost use Rattle.cell_model.specs.KeptLaws.{
+  AcknowledgedStay,
+  OksAreAcknowledged,
+  RepliesAreSingle,
+  SitesAreSingle,
+};
 ghost use Rattle.cell_model.specs.Laws.{DatabaseIsDurable, AnnouncementsGrow};
 
 /// In each run of a cell the durable state of each server that is up, and not halted, is its version and its
@@ -18,6 +23,12 @@ pub fn law_announcements_grow()
 /// that its commit gave it: none is lost, and none moves.
 pub fn law_acknowledged_stay()
     ensures { AcknowledgedStay }
+{}
+
+/// In each run of a cell of one server each Ok to a call that writes stands for a transaction that is acknowledged in
+/// that event, or for one that leaves the single copy as it is. So `law_acknowledged_stay` leaves out no write.
+pub fn law_ok_is_acknowledged()
+    ensures { OksAreAcknowledged }
 {}
 
 /// In each run of a cell of one server the database of each ready sync site is the image that the single copy has
