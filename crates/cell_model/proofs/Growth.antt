@@ -1,23 +1,20 @@
 -- The lists of announcements grow along a run of a cell of one server.
-use Rattle.std.proofs.Common.{Bool, true, false, cond, ◌==◌, ◌&&◌, ◌≡◌, ◌⊎◌, inl, inr, ℕ, zero, suc, List, [], ◌∷◌, ◌++◌, map, take, Some, refl, sym, ap, subst, ◌∙◌, arith, append_assoc}
+use Rattle.std.proofs.Common.{Bool, true, false, ◌≡◌, ◌⊎◌, inl, inr, ℕ, zero, suc, List, [], ◌∷◌, ◌++◌, map, take, refl, sym, ap, subst, ◌∙◌, append_assoc}
 use Rattle.std.proofs.lemmas.List.{append-nil}
-use Rattle.std.proofs.lemmas.Bool.Decides.{nat_tests}
-use Rattle.std.specs.Prelude.{unwrap_or}
 use Rattle.ubik_types.specs.declared.versions.Version.{Version}
-use Rattle.ubik_types.specs.Version.{version_eq}
 use Rattle.db_image.specs.Database.{Database}
 use Rattle.cell_model.specs.declared.events.NodeEvent.{NodeEvent}
-use Rattle.cell_model.specs.declared.events.NodeEvent.TheVariants as event
 use Rattle.cell_model.specs.declared.events.Output.{Output}
 use Rattle.cell_model.specs.declared.events.Output.TheVariants as output
 use Rattle.cell_model.specs.declared.events.Reply.TheVariants as reply
-use Rattle.cell_model.specs.Book.{Book, Announcement, Run, list_of, list_or_none, entered, announced, first_run, run_after}
+use Rattle.cell_model.specs.Book.{Book, Announcement, Run, list_or_none, entered, announced, first_run, run_after}
 use Rattle.cell_model.specs.Durable.{Transaction, Made}
-use Rattle.cell_model.specs.Node.{Node, Down, Halted, Up}
-use Rattle.cell_model.specs.NodeRule.{Stepped, step_of, refusals}
-use Rattle.cell_model.specs.World.{Site, World, Event, Tick_all, Step, Fault, Puts, Halts, entries_from, step_at, fault_at, happens, first_world}
+use Rattle.cell_model.specs.Node.{Node, Down, Halted, Up, Server}
+use Rattle.cell_model.specs.NodeRule.{Stepped, lapsed, step_of, refusals}
+use Rattle.cell_model.specs.World.{Site, World, Event, Tick_all, Step, Fault, Puts, entries_from, step_at, fault_at, happens, first_world}
 use Rattle.cell_model.specs.Laws.{run_through, AllBegin, Grows, AnnouncementsGrow}
-use Rattle.cell_model.proofs.StepKinds.{IsSilent, Announces, IsStep, step_is}
+use Rattle.cell_model.proofs.Announcing.{newest, silent_announces, silent_refusals, halt_announces}
+use Rattle.cell_model.proofs.StepKinds.{IsSilent, IsFew, Announces, made_at, IsStep, silent_of, step_is}
 
 -- the announcements so far begin the list of this version, and grow
 abbrev Keeps : Book → Version → List Announcement → Type 0
@@ -39,21 +36,6 @@ all_begin_more : (ann : List Announcement) (whole more : List Transaction) → A
 all_begin_more [] whole more all = tt
 all_begin_more (a ∷ ann) whole more all =
     ((all.0.0 ++ more, ap (λ (l : List Transaction). l ++ more) all.0.1 ∙ append_assoc a.transactions all.0.0 more), all_begin_more ann whole more all.1)
-
-silent_announces : (book : Book) (me : ℕ) (outputs : List Output) (ann : List Announcement) → IsSilent outputs → announced book (map (Puts me) outputs) ann ≡ ann
-silent_announces book me [] ann silent = refl
-silent_announces book me (output.Announce v ∷ outputs) ann silent = absurd silent.0
-silent_announces book me (output.Reply id r ∷ outputs) ann silent = silent_announces book me outputs ann silent.1
-
-same_version : (v : Version) → version_eq v v ≡ true
-same_version v =
-    let epoch : (v.epoch == v.epoch) ≡ true = grind (arith, nat_tests) in
-    let counter : (v.counter == v.counter) ≡ true = grind (arith, nat_tests) in
-    ap (λ (b : Bool). b && (v.counter == v.counter)) epoch ∙ counter
-
--- the list of the newest page
-newest : (v : Version) (list : List Transaction) (book : Book) → list_or_none (record { version = v; transactions = list } ∷ book) v ≡ list
-newest v list book = ap (λ (b : Bool). unwrap_or (cond b (Some list) (list_of book v)) []) (same_version v)
 
 -- a page more, and perhaps its announcement
 page_keeps : (book : Book) (me : ℕ) (v : Version) (list : List Transaction) (ann : List Announcement) → AllBegin ann list → Grows ann → Keeps (record { version = v; transactions = list } ∷ book) v ann
@@ -87,51 +69,41 @@ paged me book after new w list ann outputs b is (inr (tail, (o, silent))) all gr
     subst R (sym b) (subst Q (sym is) (subst P (sym o)
     (subst N (sym (silent_announces page me tail (first ∷ ann) silent)) (page_announced book me new list ann all grows))))
 
-step_keeps : (me : ℕ) (book : Book) (v : Version) (image : List ℕ) (ann : List Announcement) (t : Stepped) → IsStep v image t → Keeps book v ann → Keeps (entered book (entries_from v t.calls)) t.server.version (announced (entered book (entries_from v t.calls)) (map (Puts me) t.outputs) ann)
+step_keeps : (db : Database) (n me : ℕ) (s : Server) (now : ℕ) (e : NodeEvent) (book : Book) (ann : List Announcement) (t : Stepped) → IsStep db n me s now e t → Keeps book s.version ann → Keeps (entered book (entries_from s.version t.calls)) t.server.version (announced (entered book (entries_from s.version t.calls)) (map (Puts me) t.outputs) ann)
 unfolding MayAnnounce
-step_keeps me book v image ann t (inl rests) keeps =
-    moved book _ v _ ann _ (ap (λ (calls : List Made). entered book (entries_from v calls)) rests.calls) rests.version
-    (silent_announces (entered book (entries_from v t.calls)) me t.outputs ann rests.silent) keeps
-step_keeps me book v image ann t (inr (inl relabels)) keeps =
-    paged me book _ relabels.new _ (list_or_none book v) ann t.outputs
-    (ap (λ (calls : List Made). entered book (entries_from v calls)) relabels.calls) relabels.version (told relabels.outputs) keeps.0 keeps.1
+step_keeps db n me s now e book ann t (inl rests) keeps =
+    moved book _ s.version _ ann _ (ap (λ (calls : List Made). entered book (entries_from s.version calls)) rests.calls) rests.version
+    (silent_announces (entered book (entries_from s.version t.calls)) me t.outputs ann (silent_of db s now e t.outputs rests.told)) keeps
+step_keeps db n me s now e book ann t (inr (inl relabels)) keeps =
+    paged me book _ relabels.new _ (list_or_none book s.version) ann t.outputs
+    (ap (λ (calls : List Made). entered book (entries_from s.version calls)) relabels.calls) relabels.version (told relabels.outputs) keeps.0 keeps.1
   where
-    told : (t.outputs ≡ []) ⊎ (t.outputs ≡ output.Announce relabels.new ∷ []) → MayAnnounce relabels.new t.outputs
-    told (inl none) = inl none
-    told (inr one) = inr ([], (one, tt))
-step_keeps me book v image ann t (inr (inr commits)) keeps =
-    paged me book _ commits.new _ (list_or_none book v ++ commits.transaction ∷ []) ann t.outputs
-    (ap (λ (calls : List Made). entered book (entries_from v calls)) commits.calls) commits.version (told commits.outputs)
-    (all_begin_more ann (list_or_none book v) (commits.transaction ∷ []) keeps.0) keeps.1
-  where
-    told : ((t.outputs ≡ []) × (t.acknowledged ≡ [])) ⊎ Announces commits.new commits.transaction t → MayAnnounce commits.new t.outputs
+    told : ((t.outputs ≡ []) × IsFew n me) ⊎ (t.outputs ≡ output.Announce relabels.new ∷ []) → MayAnnounce relabels.new t.outputs
     told (inl none) = inl none.0
-    told (inr one) = inr (output.Reply one.id (reply.Ok one.answer) ∷ [], (one.outputs, (tt, tt)))
+    told (inr one) = inr ([], (one, tt))
+step_keeps db n me s now e book ann t (inr (inr commits)) keeps =
+    paged me book _ commits.new _ (list_or_none book s.version ++ (made_at now commits.answered.call) ∷ []) ann t.outputs
+    (ap (λ (calls : List Made). entered book (entries_from s.version calls)) commits.calls) commits.version (told commits.outputs)
+    (all_begin_more ann (list_or_none book s.version) ((made_at now commits.answered.call) ∷ []) keeps.0) keeps.1
+  where
+    told : ((t.outputs ≡ []) × (t.acknowledged ≡ []) × IsFew n me) ⊎ Announces commits.new commits.id commits.answer (made_at now commits.answered.call) t → MayAnnounce commits.new t.outputs
+    told (inl none) = inl none.0
+    told (inr one) = inr (output.Reply commits.id (reply.Ok commits.answer) ∷ [], (one.outputs, (tt, tt)))
 
 node_stays : (book : Book) (ann : List Announcement) (site : Site) (node : Node) → site.node ≡ node → KeepsNode book ann node → KeepsNode book ann site.node
 node_stays book ann site node is keeps = subst (KeepsNode book ann) (sym is) keeps
-
-silent_refusals : (e : NodeEvent) → IsSilent (refusals e)
-silent_refusals event.BeaconTurn = tt
-silent_refusals event.RecoverTurn = tt
-silent_refusals (event.Ask id call) = (tt, tt)
 
 halted_keeps : (book : Book) (me : ℕ) (e : NodeEvent) (ann : List Announcement) (node : Node) → KeepsNode book ann node → KeepsNode book (announced book (map (Puts me) (refusals e)) ann) node
 halted_keeps book me e ann node keeps =
     let P : List Announcement → Type 0 = λ x. KeepsNode book x node in
     subst P (sym (silent_announces book me (refusals e) ann (silent_refusals e))) keeps
 
-halt_announces : (book : Book) (me : ℕ) (outputs : List Output) (ann : List Announcement) → IsSilent outputs → announced book (map (Puts me) outputs ++ Halts me ∷ []) ann ≡ ann
-halt_announces book me [] ann silent = refl
-halt_announces book me (output.Announce v ∷ outputs) ann silent = absurd silent.0
-halt_announces book me (output.Reply id r ∷ outputs) ann silent = halt_announces book me outputs ann silent.1
-
 -- the site of the one server after a step
 one_step : (db : Database) (book : Book) (ann : List Announcement) (me : ℕ) (site : Site) (e : NodeEvent) (short : List Bool) (node : Node) → site.node ≡ node → KeepsNode book ann node → KeepsNode (entered book (step_at db 1 me site e short node).entries) (announced (entered book (step_at db 1 me site e short node).entries) (step_at db 1 me site e short node).seen ann) (step_at db 1 me site e short node).site.node
 one_step db book ann me site e short Down is keeps = node_stays book ann site Down is keeps
 one_step db book ann me site e short (Halted h) is keeps = halted_keeps book me e ann site.node (node_stays book ann site (Halted h) is keeps)
 one_step db book ann me site e short (Up s) is keeps =
-    step_keeps me book s.version s.image ann (step_of db 1 me s site.clock e short) (step_is db 1 me s site.clock e short) keeps
+    step_keeps db 1 me (lapsed 1 s site.clock) site.clock e book ann (step_of db 1 me s site.clock e short) (step_is db 1 me s site.clock e short) keeps
 
 one_fault : (db : Database) (book : Book) (ann : List Announcement) (me : ℕ) (site : Site) (e : NodeEvent) (short : List Bool) (made : ℕ) (node : Node) → site.node ≡ node → KeepsNode book ann node → KeepsNode (entered book (fault_at db 1 me site e short made node).entries) (announced (entered book (fault_at db 1 me site e short made node).entries) (fault_at db 1 me site e short made node).seen ann) (fault_at db 1 me site e short made node).site.node
 one_fault db book ann me site e short made Down is keeps = node_stays book ann site Down is keeps

@@ -1,4 +1,9 @@
+pub mod Announcing
 pub mod Durability
 pub mod Growth
+pub mod Kept
+pub mod KeptRuns
+pub mod Recorded
+pub mod SingleReplies
 pub mod StepKinds
 pub mod WholeWorld

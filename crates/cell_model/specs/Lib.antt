@@ -1,5 +1,6 @@
 pub mod Book
 pub mod Durable
+pub mod KeptLaws
 pub mod Laws
 pub mod Node
 pub mod NodeRule

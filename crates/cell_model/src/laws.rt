@@ -1,4 +1,10 @@
 //! Laws of the world: each is the clause of a call that does nothing.
+ghost use Rattle.cell_model.specs.KeptLaws.{
+  AcknowledgedStay,
+  OksAreAcknowledged,
+  RepliesAreSingle,
+  SitesAreSingle,
+};
 ghost use Rattle.cell_model.specs.Laws.{DatabaseIsDurable, AnnouncementsGrow};
 
 /// In each run of a cell the durable state of each server that is up, and not halted, is its version and its
@@ -11,4 +17,28 @@ pub fn law_database_is_durable()
 /// announced transactions have one order, which only grows.
 pub fn law_announcements_grow()
     ensures { AnnouncementsGrow }
+{}
+
+/// In each run of a cell of one server each acknowledged transaction is in the order from its Ok on, at the place
+/// that its commit gave it: none is lost, and none moves.
+pub fn law_acknowledged_stay()
+    ensures { AcknowledgedStay }
+{}
+
+/// In each run of a cell of one server each Ok to a call that writes stands for a transaction that is acknowledged in
+/// that event, or for one that leaves the single copy as it is. So `law_acknowledged_stay` leaves out no write.
+pub fn law_ok_is_acknowledged()
+    ensures { OksAreAcknowledged }
+{}
+
+/// In each run of a cell of one server the database of each ready sync site is the image that the single copy has
+/// after the order: the committed transactions, and nothing else.
+pub fn law_sites_are_single()
+    ensures { SitesAreSingle }
+{}
+
+/// In each run of a cell of one server each reply Ok, Rule or BadRecord is to a call that is asked in that event, and
+/// is what the single copy replies to it after the order before the event, at the clock of the server.
+pub fn law_replies_are_single()
+    ensures { RepliesAreSingle }
 {}
