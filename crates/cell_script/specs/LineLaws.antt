@@ -78,11 +78,42 @@ lines_of-first text (b ∷ line) rest none (inr last) =
     ∙ lines_of-part (b ∷ line) none
     ∙ ap (λ bytes. (b ∷ line) ∷ lines_of bytes) (sym last.1)
 
+-- a line, and the lines after it, that a text has from a front of a line on
+pub record BeginsLine (text front : List ℕ) : Type 0 where
+  pub more : List ℕ
+  pub later : List (List ℕ)
+  pub lines : lines_of text ≡ (front ++ more) ∷ later
+
+first_of : (b : ℕ) (lines : List (List ℕ)) → (more : List ℕ) × (later : List (List ℕ)) × (onto_first b lines ≡ (b ∷ more) ∷ later)
+first_of b [] = ([], [], refl)
+first_of b (line ∷ lines) = (line, lines, refl)
+
+-- bytes without an LF stand first in the first line
+pub lines_of-front : (b : ℕ) (front rest : List ℕ) → HasNoLf (b ∷ front) → BeginsLine (b ∷ (front ++ rest)) (b ∷ front)
+lines_of-front b [] rest none =
+    let first = first_of b (lines_of rest) in
+    record { more = first.0; later = first.1; lines = lines_of-cons b rest (no_lf-head b [] none) ∙ first.2 }
+lines_of-front b (c ∷ front) rest none =
+    let others = lines_of-front c front rest (no_lf-tail b (c ∷ front) none) in
+    record {
+      more = others.more;
+      later = others.later;
+      lines = lines_of-cons b (c ∷ (front ++ rest)) (no_lf-head b (c ∷ front) none) ∙ ap (onto_first b) others.lines;
+    }
+
 -- a text of whole lines before another text
 text_of-cons : (line : List ℕ) (lines : List (List ℕ)) (part : List ℕ) →
     text_of (line ∷ lines) ++ part ≡ line ++ 10 ∷ (text_of lines ++ part)
 text_of-cons line lines part =
     append_assoc (line ++ 10 ∷ []) (text_of lines) part ∙ append_assoc line (10 ∷ []) (text_of lines ++ part)
+
+-- whole lines before a text are its first lines
+pub lines_of-before : (lines : List (List ℕ)) (text : List ℕ) → All HasNoLf lines → lines_of (text_of lines ++ text) ≡ lines ++ lines_of text
+lines_of-before [] text no_lfs = refl
+lines_of-before (line ∷ lines) text no_lfs =
+    ap lines_of (text_of-cons line lines text)
+    ∙ lines_of-line line (text_of lines ++ text) (All-head HasNoLf line lines no_lfs)
+    ∙ ap (λ more. line ∷ more) (lines_of-before lines text (All-tail HasNoLf line lines no_lfs))
 
 pub lines_of-text_of : HasTheseLines
 lines_of-text_of [] part no_lfs none = lines_of-part part none

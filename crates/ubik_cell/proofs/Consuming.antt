@@ -5,7 +5,7 @@ use Rattle.std.specs.List.{All}
 use Rattle.std.proofs.lemmas.List.Elements.{All-append, All-nil}
 use Rattle.std.proofs.lemmas.Grind.{common_steps}
 use Rattle.cell_script.specs.Lines.{HasNoLf, IsFirstLine, lines_of}
-use Rattle.cell_script.specs.LineLaws.{text_of, last_line, lines_of-text_of, whole_lines-text_of}
+use Rattle.cell_script.specs.LineLaws.{text_of, last_line, BeginsLine, lines_of-front, lines_of-before, lines_of-text_of, whole_lines-text_of}
 use Rattle.ubik_cell.specs.Run.{IsConsumed, IsReadWhole}
 
 -- one more line of a text of lines
@@ -30,6 +30,33 @@ pub record IsRead (text left : List ℕ) (lines : List (List ℕ)) : Type 0 wher
 pub read_so_far : (text left : List ℕ) (lines : List (List ℕ)) → IsConsumed text left lines → IsRead text left lines
 read_so_far text left lines (inl whole) = record { read = text_of lines; split = whole.0; all = lines_of-whole lines whole.1 }
 read_so_far text left lines (inr end) = record { read = text; split = sym (append-nil text) ∙ ap (λ (l : List ℕ). text ++ l) (sym end.0); all = end.1 }
+
+-- the lines of a text are those that were read, and later ones
+pub later_lines : (text left : List ℕ) (lines : List (List ℕ)) → IsConsumed text left lines → (later : List (List ℕ)) × (lines_of text ≡ lines ++ later)
+later_lines text left lines (inl whole) = (lines_of left, ap lines_of whole.0 ∙ lines_of-before lines left whole.1)
+later_lines text left lines (inr end) = ([], end.1 ∙ sym (append-nil lines))
+
+-- a part of a line was read behind these lines: that line whole, and those after it
+pub record InLine (text part : List ℕ) (lines : List (List ℕ)) : Type 0 where
+  pub more : List ℕ
+  pub later : List (List ℕ)
+  pub all : lines_of text ≡ lines ++ (part ++ more) ∷ later
+
+pub in_line : (text left part rest : List ℕ) (lines : List (List ℕ)) → HasNoLf part → left ≡ part ++ rest → 0 < length part → IsConsumed text left lines → InLine text part lines
+in_line text left [] rest lines none first some consumed = absurd (omega (arith, some))
+in_line text left (b ∷ part) rest lines none first some (inl whole) =
+    let line = lines_of-front b part rest none in
+    record {
+      more = line.more;
+      later = line.later;
+      all =
+          ap lines_of whole.0 ∙ lines_of-before lines left whole.1
+          ∙ ap (λ (l : List ℕ). lines ++ lines_of l) first
+          ∙ ap (λ (l : List (List ℕ)). lines ++ l) line.lines;
+    }
+in_line text left (b ∷ part) rest lines none first some (inr end) =
+    let nothing : (b ∷ part) ++ rest ≡ [] = sym first ∙ end.0 in
+    absurd cc
 
 -- the lines of a text that was read to its end
 pub all_lines : (text left : List ℕ) (lines : List (List ℕ)) → IsConsumed text left lines → left ≡ [] → lines_of text ≡ lines

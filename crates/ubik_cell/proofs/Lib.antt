@@ -1,9 +1,12 @@
+pub mod AtEndings
+pub mod Completeness
 pub mod Consuming
 pub mod Fields
+pub mod NoFaults
 pub mod OneStep
 pub mod OpenedLine
 pub mod Opening
-pub mod Refusing
+pub mod Refusals
 pub mod Starting
 pub mod SteppedLine
 pub mod Telling

@@ -1,8 +1,9 @@
 -- The line that opens a cell.
-use Rattle.std.proofs.Common.{◌≡◌, ◌+◌, ℕ, true, false, List, [], ◌∷◌, Some, None, refl, sym, ap, subst, ◌∙◌, arith}
+use Rattle.std.proofs.Common.{◌≡◌, ◌+◌, ℕ, true, false, List, [], ◌∷◌, Some, None, Ok, refl, sym, ap, subst, ◌∙◌, arith}
 use Rattle.std.proofs.lemmas.List.{append-nil}
 use Rattle.std.specs.declared.alloc.Global.{Global}
 use Rattle.prdb_entries.specs.Protection.{protection}
+use Rattle.cell_model.specs.Book.{first_run}
 use Rattle.cell_model.specs.Durable.{no_database}
 use Rattle.cell_model.specs.Node.{Node, Down, Up, opened_server}
 use Rattle.cell_model.specs.World.{first_world, first_seen}
@@ -20,11 +21,11 @@ use Rattle.ubik_cell.specs.Lines.{IsAt, LineTold, Stands}
 opening : Stage → ℕ → Luck → Line_run
 opening st clock luck =
     record {
-      stage = record (next_line st) { world = Some (first_world clock (has_failed luck ∷ [])) };
+      stage = record (next_line st) { run = Some (first_run (first_world clock (has_failed luck ∷ []))) };
       seen = first_seen 0 (has_failed luck ∷ []);
     }
 
-opens : (st : Stage) (clock : ℕ) (luck : Luck) → st.world ≡ None → line_run protection st luck (line.Cell clock) ≡ Some (opening st clock luck)
+opens : (st : Stage) (clock : ℕ) (luck : Luck) → st.run ≡ None → line_run protection st luck (line.Cell clock) ≡ Ok (opening st clock luck)
 unfolding opening
 opens st clock luck none = ap (opened st luck clock) none
 
@@ -40,8 +41,8 @@ pub opened_line : {D : Type 0} (faults : D → ℕ) (st : Stage) (before : CellR
 unfolding opening
 opened_line faults st before alloc counts (site.Unopened kept) disk clock tb ta at unopened lines asks clocks told = absurd told
 opened_line {D} faults st before alloc counts (site.Down kept) disk clock tb ta at unopened lines asks clocks told =
-    let P : Site D → Type 0 = λ s. Stands before.counts.clock s st.world in
-    let none : st.world ≡ None = subst P unopened at.stands in
+    let P : Site D → Type 0 = λ s. Stands before.counts.clock s st.run in
+    let none : st.run ≡ None = subst P unopened at.stands in
     let cost : site_faults faults before.site ≡ faults disk = ap (λ (s : Site D). site_faults faults s) unopened in
     record {
       luck = Faulty 0;
@@ -50,14 +51,14 @@ opened_line {D} faults st before alloc counts (site.Down kept) disk clock tb ta 
       at = record {
         lines = omega (arith, at.lines);
         asks = at.asks ∙ sym asks;
-        stands = record { w = first_world clock (true ∷ []); there = refl; one = record { durable = no_database; ids = []; is = world_down clock counts.clock clocks } };
+        stands = record { r = first_run (first_world clock (true ∷ [])); there = refl; one = record { durable = no_database; ids = []; is = world_down clock counts.clock clocks } };
       };
       told = told.0;
       causes = omega (arith, told.1, cost);
     }
 opened_line {D} faults st before alloc counts (site.Up node) disk clock tb ta at unopened lines asks clocks told =
-    let P : Site D → Type 0 = λ s. Stands before.counts.clock s st.world in
-    let none : st.world ≡ None = subst P unopened at.stands in
+    let P : Site D → Type 0 = λ s. Stands before.counts.clock s st.run in
+    let none : st.run ≡ None = subst P unopened at.stands in
     let cost : site_faults faults before.site ≡ faults disk = ap (λ (s : Site D). site_faults faults s) unopened in
     record {
       luck = Sound;
@@ -66,7 +67,7 @@ opened_line {D} faults st before alloc counts (site.Up node) disk clock tb ta at
       at = record {
         lines = omega (arith, at.lines);
         asks = at.asks ∙ sym asks;
-        stands = record { w = first_world clock (false ∷ []); there = refl; one = record { durable = no_database; ids = []; is = world_up clock counts.clock (node_of node) clocks told.0 } };
+        stands = record { r = first_run (first_world clock (false ∷ [])); there = refl; one = record { durable = no_database; ids = []; is = world_up clock counts.clock (node_of node) clocks told.0 } };
       };
       told = told.1 ∙ sym (append-nil tb);
       causes = omega (arith, told.3, cost);

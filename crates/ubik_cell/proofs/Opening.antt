@@ -1,7 +1,11 @@
 -- The opening of a server over an empty disk.
-use Rattle.std.proofs.Common.{◌≡◌, ◌≢◌, ◌<◌, ℕ, List, [], Option, Some, None, IfSome, refl, sym, subst, ◌∙◌, arith}
+use Rattle.std.proofs.Common.{if◌then◌else◌, ◌≡◌, ◌≢◌, ◌<◌, ℕ, Bool, true, false, List, [], Option, Some, None, IfSome, refl, sym, subst, ◌∙◌, arith}
+use Rattle.ubik_types.specs.Moment.{IsMoment}
 use Rattle.disk_base.specs.Files.{Files, no_files}
 use Rattle.cell_model.specs.Durable.{Durable, no_database}
+use Rattle.cell_model.specs.Node as model
+use Rattle.ubik_node.specs.declared.nodes.Node.{Node}
+use Rattle.ubik_node.specs.Node.{node_of, up_server, IsStored}
 use Rattle.ubik_node.specs.declared.database.StoreFault.{StoreFault}
 use Rattle.ubik_node.specs.declared.database.StoreFault.TheVariants.{DiskFault, BadLabel, NoMemory}
 use Rattle.ubik_node.specs.Fault.{IsFaultOf}
@@ -9,6 +13,7 @@ use Rattle.ubik_node.specs.Label.{durable_of}
 use Rattle.ubik_cell.specs.declared.sites.Site.{Site}
 use Rattle.ubik_cell.specs.declared.sites.Site.TheVariants as site
 use Rattle.ubik_cell.specs.Sites.{DownTold, OpenTold}
+use Rattle.ubik_cell.specs.Lines.{HasDisk, IsSound}
 
 empty_file : durable_of [] ≡ Some no_database
 unfolding durable_of
@@ -37,3 +42,24 @@ pub down_after_fault : {D : Type 0} (faults : D → ℕ) (clock : ℕ) (disk kep
 down_after_fault faults clock disk kept (site.Unopened d) before after rose told = absurd told
 down_after_fault faults clock disk kept (site.Down d) before after rose told = (told.0, omega (arith, told.1))
 down_after_fault faults clock disk kept (site.Up n) before after rose told = absurd told
+
+-- a server that stays down after a fault, at its clock
+pub sound_down : {D : Type 0} (files : D → Option Files) (faults : D → ℕ) (clock : ℕ) (disk kept : D) (s : Site D) (before after : List ℕ) → IsMoment clock → faults disk < faults kept → DownTold faults kept s before after → IsSound files faults clock s
+sound_down files faults clock disk kept (site.Unopened d) before after moment rose told = absurd told
+sound_down files faults clock disk kept (site.Down d) before after moment rose told = (moment, omega (arith, told.1))
+sound_down files faults clock disk kept (site.Up n) before after moment rose told = absurd told
+
+not_halted : (halted : Bool) (s t : model.Server) → (if halted then model.Halted (model.halted_from s) else model.Up s) ≡ model.Up t → halted ≡ true → ⊥
+not_halted true s t is halted = let never : model.Halted (model.halted_from s) ≡ model.Up t = is in cc
+not_halted false s t is halted = cc
+
+-- what a server has that was opened on an empty disk
+pub fresh_disk : {D V : Type 0} (files : D → Option Files) (faults : D → ℕ) (disk : D) (n : Node D V) (t : model.Server) → files disk ≡ Some no_files → node_of n ≡ model.Up t → IsStored files n → files n.disk ≡ files disk → HasDisk files faults n
+fresh_disk files faults disk n t empty up stored kept =
+    record {
+      stored = stored;
+      alone = λ whole.
+          let P : Option Files → Type 0 = λ f. IfSome f (λ fs. (fs.log ≡ []) × (fs.incoming ≡ [])) in
+          subst P (sym (kept ∙ empty)) (refl, refl);
+      cause = λ halted. absurd (not_halted n.halted (up_server n) t up halted);
+    }

@@ -1,25 +1,19 @@
 -- How a run goes on, or ends, at a line.
-use Rattle.std.proofs.Common.{Bool, true, false, cond, nat_lt, nat_le, ◌<◌, take, drop, ◌≡◌, ◌≤◌, ℕ, List, [], ◌∷◌, ◌++◌, length, Option, Some, None, IfSome, refl, sym, ap, subst, ◌∙◌, arith, append_assoc}
-use Rattle.std.proofs.lemmas.List.{take-append-drop}
-use Rattle.std.specs.Prelude.{option_and_then}
-use Rattle.std.proofs.lemmas.Bool.Decides.{nat_tests}
-use Rattle.cell_script.specs.declared.lines.Line.TheVariants as lines
-use Rattle.cell_script.specs.Meaning.{is_idle, line_of_words}
-use Rattle.cell_script.specs.Words.{words_of}
+use Rattle.std.proofs.Common.{◌<◌, take, drop, ◌≡◌, ◌≤◌, ℕ, List, [], ◌∷◌, ◌++◌, length, Option, Some, None, IfSome, Result, Ok, refl, sym, ap, subst, ◌∙◌, arith, append_assoc, length-append}
+use Rattle.std.proofs.Math.Seq.{take-append_seam}
+use Rattle.std.proofs.lemmas.List.{take-append-drop, take_all}
 use Rattle.db_image.specs.Database.{Database}
 use Rattle.cell_script.specs.Lines.{TakesLine, TakesPart}
 use Rattle.ubik_cell.specs.declared.cells.CellKind.{CellKind}
+use Rattle.ubik_cell.specs.declared.cells.Ending.{Ending}
 use Rattle.ubik_cell.specs.declared.scripts.CellRun.{CellRun}
-use Rattle.ubik_cell.specs.Script.{Stage, Luck, Reading, Line_run, Told, told, line_run, line_result}
-use Rattle.ubik_cell.specs.Run.{Runs, AtLine, AtRefusal, SoFar, RanToTheEnd, RanToFault, RanInPart, RanShort, read_lines, IsConsumed}
-use Rattle.ubik_cell.specs.Lines.{LineTold, IsRefused, IsAt}
+use Rattle.ubik_cell.specs.Script.{Stage, Luck, Reading, Line_run, Told, told, line_result}
+use Rattle.ubik_cell.specs.Run.{Runs, AtLine, AtEnding, SoFar, RanToTheEnd, RanToFault, RanInPart, RanShort, read_lines, IsConsumed}
+use Rattle.ubik_cell.specs.Lines.{LineTold, Ends, IsAt}
 use Rattle.ubik_cell.specs.Sites.{site_faults}
 use Rattle.ubik_cell.specs.Trace.{trace}
-use Rattle.ubik_cell.proofs.Telling.{told-push, read_lines-push}
-use Rattle.ubik_cell.proofs.Consuming.{read_so_far, all_lines, lines_and_part, consumed-push, whole_before}
-
-same_some : {X : Type 0} {a b : X} → Some a ≡ Some b → a ≡ b
-same_some e = cc
+use Rattle.ubik_cell.proofs.Telling.{told-push, same_some, read_lines-push}
+use Rattle.ubik_cell.proofs.Consuming.{read_so_far, all_lines, later_lines, in_line, lines_and_part, consumed-push, whole_before}
 
 -- the line as it was read and run
 reading_of : List ℕ → Luck → Reading
@@ -31,13 +25,13 @@ unfolding reading_of
 went_on db faults text left before written bytes after run next line at ran wrote =
     let t = told db at.readings in
     let r = reading_of line ran.luck in
-    let more = told-push db at.readings r (Some ran.ran) at.good ran.is in
+    let more = told-push db at.readings r (Ok ran.ran) at.good ran.is in
     record {
       readings = at.readings ++ r ∷ [];
       rest = at.rest;
       remains = at.remains;
       consumed = let P : List (List ℕ) → Type 0 = λ l. IsConsumed text at.rest l in subst P (sym (read_lines-push at.readings r)) at.consumed;
-      good = ap (λ (d : Told). d.refused) more ∙ at.good;
+      good = ap (λ (d : Told). d.stop) more ∙ at.good;
       at = let P : Told → Type 0 = λ d. IsAt next d.stage in subst P (sym more) ran.at;
       wrote =
           wrote ∙ ap (λ (w : List ℕ). Some (w ++ bytes)) (same_some at.wrote)
@@ -53,7 +47,7 @@ unfolding reading_of
 part_told db faults text left before written bytes count after run next line at ran wrote =
     let t = told db at.readings in
     let r = reading_of line ran.luck in
-    let more = told-push db at.readings r (Some ran.ran) at.good ran.is in
+    let more = told-push db at.readings r (Ok ran.ran) at.good ran.is in
     record {
       readings = at.readings;
       last = r;
@@ -93,26 +87,36 @@ short_at db faults text left before after run next line at kept =
       causes = omega (arith, at.causes, kept);
     }
 
--- the line is refused
-pub refused_at : {D : Type 0} (db : Database) (faults : D → ℕ) (text : List ℕ) (left : Option (List ℕ)) (before : List ℕ) (after : Option (List ℕ)) (run next : CellRun D) (line : List ℕ) (at : AtLine db faults text left before after run line) → IsRefused (λ luck. line_result db (told db at.readings).stage (record { line = line; luck = luck })) → next.counts.lines ≡ run.counts.lines → site_faults faults run.site ≤ site_faults faults next.site → AtRefusal db faults text left before after next
-refused_at db faults text left before after run next line at refused same kept =
+-- a line of so few bytes is read whole
+whole_of : (line : List ℕ) → length line ≤ 1024 → take 1025 line ≡ line
+whole_of line short = take_all 1025 line (omega (arith, short))
+
+-- the script ends at the line
+pub ending_at : {D : Type 0} (db : Database) (faults : D → ℕ) (text : List ℕ) (left : Option (List ℕ)) (before : List ℕ) (after : Option (List ℕ)) (run next : CellRun D) (line : List ℕ) (ending : Ending) (at : AtLine db faults text left before after run line) → Ends ending (λ luck. line_result db (told db at.readings).stage (record { line = line; luck = luck })) → next.counts.lines ≡ run.counts.lines → site_faults faults run.site ≤ site_faults faults next.site → AtEnding db faults text left before after next ending
+unfolding reading_of
+ending_at db faults text left before after run next line ending at ends same kept =
+    let whole = whole_of line at.short in
+    let later = later_lines text at.rest (read_lines at.readings ++ line ∷ []) at.consumed in
     record {
       readings = at.readings;
       line = line;
+      later = later.0;
+      all = later.1 ∙ append_assoc (read_lines at.readings) (line ∷ []) later.0;
       read = at.read;
       rest = at.rest;
       split = at.split;
       remains = at.remains;
-      all = at.all;
+      so_far = at.all ∙ ap (λ (l : List ℕ). read_lines at.readings ++ l ∷ []) (sym whole);
       good = at.good;
       at = at.at.lines ∙ sym same;
-      refused = refused;
+      ends = ends;
+      ends_part = λ luck. ap (λ (l : List ℕ). line_result db (told db at.readings).stage (reading_of l luck)) whole ∙ ends luck;
       wrote = at.wrote;
       causes = omega (arith, at.causes, kept);
     }
 
 -- what was told, of a text that was cleared before
-pub retold : {D : Type 0} (faults : D → ℕ) (result : Luck → Option Line_run) (before after : CellRun D) (text_before text_after bytes : List ℕ) → text_before ≡ [] → bytes ≡ text_after → LineTold faults result before after text_before text_after → LineTold faults result before after [] bytes
+pub retold : {D : Type 0} (faults : D → ℕ) (result : Luck → Result Line_run Ending) (before after : CellRun D) (text_before text_after bytes : List ℕ) → text_before ≡ [] → bytes ≡ text_after → LineTold faults result before after text_before text_after → LineTold faults result before after [] bytes
 retold faults result before after text_before text_after bytes none same told =
     record {
       luck = told.luck;
@@ -123,13 +127,13 @@ retold faults result before after text_before text_after bytes none same told =
       causes = told.causes;
     }
 
--- a run that ends at a refused line
-pub ends_refused : {D : Type 0} (db : Database) (faults : D → ℕ) (o : Option CellKind) (w after : Option (List ℕ)) (run next last : CellRun D) (line : List ℕ) → IfSome o (λ kind. IfSome w (λ written. (script before : List ℕ) (left : Option (List ℕ)) → AtRefusal db faults script left before (Some written) next → Runs kind db script left before after (site_faults faults next.site))) → last ≡ next → ((st : Stage) → IsAt run st → IsRefused (λ luck. line_result db st (record { line = line; luck = luck }))) → next.counts.lines ≡ run.counts.lines → site_faults faults run.site ≤ site_faults faults next.site → IfSome o (λ kind. IfSome w (λ written. (script before : List ℕ) (left : Option (List ℕ)) → AtLine db faults script left before (Some written) run line → Runs kind db script left before after (site_faults faults last.site)))
-ends_refused db faults None w after run next last line ends same refused lines kept = tt
-ends_refused db faults (Some kind) None after run next last line ends same refused lines kept = tt
-ends_refused {D} db faults (Some kind) (Some written) after run next last line ends same refused lines kept = λ script before left at.
+-- a run that ends at a line at which its script ends
+pub ends_there : {D : Type 0} (db : Database) (faults : D → ℕ) (o : Option CellKind) (w after : Option (List ℕ)) (run next last : CellRun D) (line : List ℕ) (ending : Ending) → IfSome o (λ kind. IfSome w (λ written. (script before : List ℕ) (left : Option (List ℕ)) → AtEnding db faults script left before (Some written) next ending → Runs kind db script left before after (site_faults faults next.site))) → last ≡ next → ((st : Stage) → IsAt run st → Ends ending (λ luck. line_result db st (record { line = line; luck = luck }))) → next.counts.lines ≡ run.counts.lines → site_faults faults run.site ≤ site_faults faults next.site → IfSome o (λ kind. IfSome w (λ written. (script before : List ℕ) (left : Option (List ℕ)) → AtLine db faults script left before (Some written) run line → Runs kind db script left before after (site_faults faults last.site)))
+ends_there db faults None w after run next last line ending ends same there lines kept = tt
+ends_there db faults (Some kind) None after run next last line ending ends same there lines kept = tt
+ends_there {D} db faults (Some kind) (Some written) after run next last line ending ends same there lines kept = λ script before left at.
     let P : CellRun D → Type 0 = λ r. Runs kind db script left before after (site_faults faults r.site) in
-    subst P (sym same) (ends script before left (refused_at db faults script left before (Some written) run next line at (refused (told db at.readings).stage at.at) lines kept))
+    subst P (sym same) (ends script before left (ending_at db faults script left before (Some written) run next line ending at (there (told db at.readings).stage at.at) lines kept))
 
 -- what is known of what was left, where so much is left
 of_left : (P : List ℕ → Type 0) (left : Option (List ℕ)) (rest : List ℕ) → left ≡ Some rest → IfSome left P → P rest
@@ -165,33 +169,32 @@ ran_to_fault db faults script left later before after run so fails =
       causes = so.causes;
     }
 
-long_refused : (db : Database) (st : Stage) (line : List ℕ) (luck : Luck) → 1024 < length line → line_result db st (record { line = line; luck = luck }) ≡ None
-long_refused db st line luck long =
-    let past : nat_lt 1024 (length line) ≡ true = grind (arith, nat_tests) in
-    ap (λ (b : Bool). cond (nat_le 20000 st.lines) None (option_and_then (line_run db st luck) (cond b None (cond (is_idle line) (Some lines.Nothing) (option_and_then line_of_words (words_of line)))))) past
-    ∙ never (nat_le 20000 st.lines)
-  where
-    never : (b : Bool) → cond {A = Option Line_run} b None None ≡ None
-    never true = refl
-    never false = refl
-
 -- a line is too long
-pub refused_long : {D : Type 0} (db : Database) (faults : D → ℕ) (script : List ℕ) (left later : Option (List ℕ)) (before : List ℕ) (after : Option (List ℕ)) (run : CellRun D) → SoFar db faults script left before after run → IfSome left (λ text. (taken : TakesPart text later) × (length taken.part ≡ 1025)) → AtRefusal db faults script later before after run
-refused_long db faults script left later before after run so long =
+pub ending_long : {D : Type 0} (db : Database) (faults : D → ℕ) (script : List ℕ) (left later : Option (List ℕ)) (before : List ℕ) (after : Option (List ℕ)) (run : CellRun D) (ending : Ending) → SoFar db faults script left before after run → ((st : Stage) → IsAt run st → (line : List ℕ) → 1024 < length line → Ends ending (λ luck. line_result db st (record { line = line; luck = luck }))) → IfSome left (λ text. (taken : TakesPart text later) × (length taken.part ≡ 1025)) → AtEnding db faults script later before after run ending
+unfolding reading_of
+ending_long db faults script left later before after run ending so ends long =
     let taken = of_left (λ (text : List ℕ). (taken : TakesPart text later) × (length taken.part ≡ 1025)) left so.rest so.remains long in
     let part = taken.0.part in
-    let is = lines_and_part script so.rest part taken.0.rest (read_lines so.readings) taken.0.no_lf taken.0.read (omega (arith, taken.1)) so.consumed in
+    let full : length part ≡ 1025 = taken.1 in
+    let is = lines_and_part script so.rest part taken.0.rest (read_lines so.readings) taken.0.no_lf taken.0.read (omega (arith, full)) so.consumed in
+    let line = in_line script so.rest part taken.0.rest (read_lines so.readings) taken.0.no_lf taken.0.read (omega (arith, full)) so.consumed in
+    let front : take 1025 (part ++ line.more) ≡ part =
+    ap (λ (n : ℕ). take n (part ++ line.more)) (sym full) ∙ take-append_seam part line.more in
+    let st = (told db so.readings).stage in
     record {
       readings = so.readings;
-      line = part;
+      line = part ++ line.more;
+      later = line.later;
+      all = line.all;
       read = is.read;
       rest = taken.0.rest;
       split = is.split;
       remains = taken.0.left;
-      all = is.all;
+      so_far = is.all ∙ ap (λ (l : List ℕ). read_lines so.readings ++ l ∷ []) (sym front);
       good = so.good;
       at = so.at.lines;
-      refused = λ luck. long_refused db (told db so.readings).stage part luck (omega (arith, taken.1));
+      ends = ends st so.at (part ++ line.more) (omega (arith, length-append part line.more, full));
+      ends_part = λ luck. ap (λ (l : List ℕ). line_result db st (reading_of l luck)) front ∙ ends st so.at part (omega (arith, full)) luck;
       wrote = so.wrote;
       causes = so.causes;
     }
@@ -209,6 +212,7 @@ at_line db faults script left later before after run line so takes =
       split = is.split;
       remains = taken.left;
       all = is.all;
+      short = taken.short;
       consumed = more;
       good = so.good;
       at = so.at;
@@ -222,12 +226,12 @@ as_written Q None all = tt
 as_written Q (Some written) all = all written
 
 -- a run that ends at a line that is too long
-pub ends_long : {D : Type 0} (db : Database) (faults : D → ℕ) (o : Option CellKind) (w after left later : Option (List ℕ)) (run last : CellRun D) → IfSome o (λ kind. IfSome w (λ written. (script before : List ℕ) (l : Option (List ℕ)) → AtRefusal db faults script l before (Some written) run → Runs kind db script l before after (site_faults faults run.site))) → last ≡ run → IfSome left (λ text. (taken : TakesPart text later) × (length taken.part ≡ 1025)) → IfSome o (λ kind. IfSome w (λ written. (script before : List ℕ) → SoFar db faults script left before (Some written) run → Runs kind db script later before after (site_faults faults last.site)))
-ends_long db faults None w after left later run last ends same long = tt
-ends_long db faults (Some kind) None after left later run last ends same long = tt
-ends_long {D} db faults (Some kind) (Some written) after left later run last ends same long = λ script before so.
+pub ends_long : {D : Type 0} (db : Database) (faults : D → ℕ) (o : Option CellKind) (w after left later : Option (List ℕ)) (run last : CellRun D) (ending : Ending) → IfSome o (λ kind. IfSome w (λ written. (script before : List ℕ) (l : Option (List ℕ)) → AtEnding db faults script l before (Some written) run ending → Runs kind db script l before after (site_faults faults run.site))) → last ≡ run → ((st : Stage) → IsAt run st → (line : List ℕ) → 1024 < length line → Ends ending (λ luck. line_result db st (record { line = line; luck = luck }))) → IfSome left (λ text. (taken : TakesPart text later) × (length taken.part ≡ 1025)) → IfSome o (λ kind. IfSome w (λ written. (script before : List ℕ) → SoFar db faults script left before (Some written) run → Runs kind db script later before after (site_faults faults last.site)))
+ends_long db faults None w after left later run last ending ends same there long = tt
+ends_long db faults (Some kind) None after left later run last ending ends same there long = tt
+ends_long {D} db faults (Some kind) (Some written) after left later run last ending ends same there long = λ script before so.
     let P : CellRun D → Type 0 = λ r. Runs kind db script later before after (site_faults faults r.site) in
-    subst P (sym same) (ends script before later (refused_long db faults script left later before (Some written) run so long))
+    subst P (sym same) (ends script before later (ending_long db faults script left later before (Some written) run ending so there long))
 
 -- a run that ends at a line that was read
 pub ends_line : {D : Type 0} (db : Database) (faults : D → ℕ) (o : Option CellKind) (w after left later : Option (List ℕ)) (run last : CellRun D) (line told_line : List ℕ) → told_line ≡ line → IfSome o (λ kind. IfSome w (λ written. (script before : List ℕ) (l : Option (List ℕ)) → AtLine db faults script l before (Some written) run told_line → Runs kind db script l before after (site_faults faults last.site))) → IfSome left (λ text. TakesLine text later line) → IfSome o (λ kind. IfSome w (λ written. (script before : List ℕ) → SoFar db faults script left before (Some written) run → Runs kind db script later before after (site_faults faults last.site)))

@@ -1,5 +1,5 @@
 -- What a run of a script has written when it ends.
-use Rattle.std.specs.Prelude.{◌≡◌, ◌⊎◌, ◌≤◌, ℕ, Option, Some, None, List, [], ◌∷◌, ◌++◌, map, length}
+use Rattle.std.specs.Prelude.{◌≡◌, ◌⊎◌, ◌≤◌, ℕ, Option, Some, None, Err, List, [], ◌∷◌, ◌++◌, map, length, take}
 use Rattle.db_image.specs.Database.{Database}
 use Rattle.std.specs.List.{All}
 use Rattle.cell_script.specs.Lines.{HasNoLf, lines_of, whole_lines}
@@ -9,8 +9,9 @@ use Rattle.ubik_cell.specs.Lines.{IsAt}
 use Rattle.ubik_cell.specs.Sites.{site_faults}
 use Rattle.ubik_cell.specs.declared.cells.CellKind.{CellKind}
 use Rattle.ubik_cell.specs.declared.cells.CellKind.TheVariants as kind
-use Rattle.ubik_cell.specs.declared.cells.Why.TheVariants.{Unbuilt}
-use Rattle.ubik_cell.specs.Script.{Luck, Reading, told, line_result}
+use Rattle.ubik_cell.specs.declared.cells.Ending.{Ending}
+use Rattle.ubik_cell.specs.declared.cells.Ending.TheVariants.{Refused, Limit}
+use Rattle.ubik_cell.specs.Script.{Luck, Reading, Stage, told, stop_at, sound_readings, line_result}
 
 -- the lines of these readings
 abbrev pub read_lines : List Reading → List (List ℕ)
@@ -25,22 +26,24 @@ pub record RanToTheEnd (db : Database) (text : List ℕ) (left : Option (List �
   pub readings : List Reading
   pub all : read_lines readings ≡ lines_of text
   pub end : left ≡ Some []
-  pub good : (told db readings).refused ≡ None
+  pub good : (told db readings).stop ≡ None
   pub wrote : Wrote before after (told db readings).text
   pub causes : (told db readings).faults ≤ faults
 
--- the lines before one that is refused, and then that one, which was read last; and their trace, whose last
--- line is the refusal
-pub record RanToRefusal (db : Database) (line : ℕ) (text : List ℕ) (left : Option (List ℕ)) (before : List ℕ) (after : Option (List ℕ)) (faults : ℕ) : Type 0 where
+-- the lines before one at which the script ends, and that one; and their trace, whose last line tells the end. The
+-- source was read up to the end of that line, or 1025 bytes of it.
+pub record RanUntil (db : Database) (line : ℕ) (ending : Ending) (text : List ℕ) (left : Option (List ℕ)) (before : List ℕ) (after : Option (List ℕ)) (faults : ℕ) : Type 0 where
   pub readings : List Reading
   pub last : Reading
+  pub later : List (List ℕ)
+  pub all : lines_of text ≡ read_lines readings ++ last.line ∷ later
   pub read : List ℕ
   pub rest : List ℕ
   pub split : text ≡ read ++ rest
   pub remains : left ≡ Some rest
-  pub all : lines_of read ≡ read_lines readings ++ last.line ∷ []
-  pub good : (told db readings).refused ≡ None
-  pub refused : (told db (readings ++ last ∷ [])).refused ≡ Some line
+  pub so_far : lines_of read ≡ read_lines readings ++ take 1025 last.line ∷ []
+  pub good : (told db readings).stop ≡ None
+  pub ended : (told db (readings ++ last ∷ [])).stop ≡ Some (stop_at line ending)
   pub wrote : Wrote before after (told db (readings ++ last ∷ [])).text
   pub causes : (told db (readings ++ last ∷ [])).faults ≤ faults
 
@@ -57,7 +60,7 @@ pub record RanToFault (db : Database) (text : List ℕ) (left : Option (List ℕ
   pub split : text ≡ read ++ rest
   pub remains : left ≡ Some rest
   pub all : IsReadWhole read rest (read_lines readings)
-  pub good : (told db readings).refused ≡ None
+  pub good : (told db readings).stop ≡ None
   pub wrote : Wrote before after (told db readings).text
   pub causes : (told db readings).faults ≤ faults
 
@@ -70,7 +73,7 @@ pub record RanInPart (db : Database) (text : List ℕ) (left : Option (List ℕ)
   pub split : text ≡ read ++ rest
   pub remains : left ≡ Some rest
   pub all : lines_of read ≡ read_lines readings ++ last.line ∷ []
-  pub good : (told db readings).refused ≡ None
+  pub good : (told db readings).stop ≡ None
   pub part : List ℕ
   pub back : List ℕ
   pub trace : (told db (readings ++ last ∷ [])).text ≡ (told db readings).text ++ part ++ back
@@ -87,17 +90,19 @@ pub record RanShort (db : Database) (text : List ℕ) (left : Option (List ℕ))
   pub remains : left ≡ Some rest
   pub all : lines_of read ≡ read_lines readings ++ more
   pub one : length more ≤ 1
-  pub good : (told db readings).refused ≡ None
+  pub good : (told db readings).stop ≡ None
   pub wrote : Wrote before after (told db readings).text
   pub causes : (told db readings).faults ≤ faults
 
--- what was written by a run that ended so
+-- what was read and written by a run that ended so
 abbrev pub Runs : CellKind → Database → List ℕ → Option (List ℕ) → List ℕ → Option (List ℕ) → ℕ → Type 0
 Runs kind.Done db text left before after faults = RanToTheEnd db text left before after faults
-Runs (kind.ScriptRefused line Unbuilt) db text left before after faults = RanToRefusal db line text left before after faults
+Runs (kind.ScriptRefused line why) db text left before after faults = RanUntil db line (Refused why) text left before after faults
 Runs kind.ReadFault db text left before after faults = RanToFault db text left before after faults
 Runs kind.WriteFault db text left before after faults = RanInPart db text left before after faults
+Runs (kind.Limit line which) db text left before after faults = RanUntil db line (Limit which) text left before after faults
 Runs kind.NoMemory db text left before after faults = RanShort db text left before after faults
+Runs (kind.Words place) db text left before after faults = (left ≡ Some text) × (after ≡ Some before)
 
 -- the exit status of an end
 abbrev pub status_of : CellKind → ℕ
@@ -105,7 +110,24 @@ status_of kind.Done = 0
 status_of (kind.ScriptRefused line why) = 1
 status_of kind.ReadFault = 2
 status_of kind.WriteFault = 3
+status_of (kind.Limit line which) = 4
 status_of kind.NoMemory = 5
+status_of (kind.Words place) = 6
+
+-- how a script ends that ends at this line
+abbrev pub kind_at : ℕ → Ending → CellKind
+kind_at line (Refused why) = kind.ScriptRefused line why
+kind_at line (Limit which) = kind.Limit line which
+
+-- the script was run to its end, or memory ran out
+abbrev pub IsDoneOrShort : CellKind → Type 0
+IsDoneOrShort kind.Done = Unit {0}
+IsDoneOrShort kind.NoMemory = Unit {0}
+IsDoneOrShort _ = ⊥
+
+-- a script without a line that ends it, where no disk fails
+abbrev pub IsInside : Database → List ℕ → Type 0
+IsInside db text = (told db (sound_readings (lines_of text))).stop ≡ None
 
 -- so far these lines of a text were read: each with its LF; or all of the text, whose last line lacks it
 abbrev pub IsConsumed : List ℕ → List ℕ → List (List ℕ) → Type 0
@@ -117,23 +139,26 @@ pub record SoFar {D : Type 0} (db : Database) (faults : D → ℕ) (text : List 
   pub rest : List ℕ
   pub remains : left ≡ Some rest
   pub consumed : IsConsumed text rest (read_lines readings)
-  pub good : (told db readings).refused ≡ None
+  pub good : (told db readings).stop ≡ None
   pub at : IsAt run (told db readings).stage
   pub wrote : Wrote before after (told db readings).text
   pub causes : (told db readings).faults ≤ site_faults faults run.site
 
--- a run before a line that is refused
-pub record AtRefusal {D : Type 0} (db : Database) (faults : D → ℕ) (text : List ℕ) (left : Option (List ℕ)) (before : List ℕ) (after : Option (List ℕ)) (run : CellRun D) : Type 0 where
+-- a run before a line at which the script ends
+pub record AtEnding {D : Type 0} (db : Database) (faults : D → ℕ) (text : List ℕ) (left : Option (List ℕ)) (before : List ℕ) (after : Option (List ℕ)) (run : CellRun D) (ending : Ending) : Type 0 where
   pub readings : List Reading
   pub line : List ℕ
+  pub later : List (List ℕ)
+  pub all : lines_of text ≡ read_lines readings ++ line ∷ later
   pub read : List ℕ
   pub rest : List ℕ
   pub split : text ≡ read ++ rest
   pub remains : left ≡ Some rest
-  pub all : lines_of read ≡ read_lines readings ++ line ∷ []
-  pub good : (told db readings).refused ≡ None
+  pub so_far : lines_of read ≡ read_lines readings ++ take 1025 line ∷ []
+  pub good : (told db readings).stop ≡ None
   pub at : (told db readings).stage.lines ≡ run.counts.lines
-  pub refused : (luck : Luck) → line_result db (told db readings).stage (record { line = line; luck = luck }) ≡ None
+  pub ends : (luck : Luck) → line_result db (told db readings).stage (record { line = line; luck = luck }) ≡ Err ending
+  pub ends_part : (luck : Luck) → line_result db (told db readings).stage (record { line = take 1025 line; luck = luck }) ≡ Err ending
   pub wrote : Wrote before after (told db readings).text
   pub causes : (told db readings).faults ≤ site_faults faults run.site
 
@@ -145,8 +170,9 @@ pub record AtLine {D : Type 0} (db : Database) (faults : D → ℕ) (text : List
   pub split : text ≡ read ++ rest
   pub remains : left ≡ Some rest
   pub all : lines_of read ≡ read_lines readings ++ line ∷ []
+  pub short : length line ≤ 1024
   pub consumed : IsConsumed text rest (read_lines readings ++ line ∷ [])
-  pub good : (told db readings).refused ≡ None
+  pub good : (told db readings).stop ≡ None
   pub at : IsAt run (told db readings).stage
   pub wrote : Wrote before after (told db readings).text
   pub causes : (told db readings).faults ≤ site_faults faults run.site

@@ -51,11 +51,15 @@ pub record StepTold (db : Database) (clock : ℕ) (event : NodeEvent) (before af
   pub told : text_after ≡ text_before ++ trace seen
   pub causes : faults_before + fault_count seen ≤ faults_after
 
+-- the disk of the server
+abbrev pub site_disk : {D : Type 0} → Site D → D
+site_disk (site.Unopened disk) = disk
+site_disk (site.Down disk) = disk
+site_disk (site.Up node) = node.disk
+
 -- the count of faults of the server's disk
 abbrev pub site_faults : {D : Type 0} → (D → ℕ) → Site D → ℕ
-site_faults faults (site.Unopened disk) = faults disk
-site_faults faults (site.Down disk) = faults disk
-site_faults faults (site.Up node) = faults node.disk
+site_faults faults s = faults (site_disk s)
 
 -- a server that stays down, and tells so
 abbrev pub DownTold : {D : Type 0} → (D → ℕ) → D → Site D → List ℕ → List ℕ → Type 0

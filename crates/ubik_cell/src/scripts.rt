@@ -1,13 +1,16 @@
 //! The lines of a script, run one after the other.
-ghost use Rattle.std.specs.Prelude.{◌≡◌, ◌≢◌, ◌+◌, ◌*◌, ◌<◌, ◌≤◌, ℕ, List, Some};
+ghost use Rattle.std.specs.Prelude.{◌≡◌, ◌≢◌, ◌+◌, ◌*◌, ◌<◌, ◌≤◌, ℕ, List, length, Some, Err, if◌then◌else◌};
 ghost use Rattle.std.specs.String.{string_bytes};
 ghost use Rattle.disk_base.specs.Files.{no_files};
 ghost use Rattle.prdb_entries.specs.Protection.{protection};
+ghost use Rattle.prdb_entries.specs.Words.{is_unbuilt};
+ghost use Rattle.ubik_cell.specs.Script.{no_cell};
 
+use crate::cells::{Ending, Which};
 use crate::sites::{LineDone, Site, open_node, step_site};
-use cell_script::{Line, Words, line_meaning};
+use cell_script::{Line, Why, Words, line_meaning};
 use disk_base::StopDisk;
-use prdb_entries::call_words;
+use prdb_entries::{call_words, is_unbuilt};
 use std::alloc::Global;
 use ubik_node::NodeEvent;
 use ubik_types::NoMemory;
@@ -58,15 +61,15 @@ pub struct CellRun<D: StopDisk> {
 impl<D: StopDisk> CellRun<D> {
     ghost use Rattle.ubik_types.specs.Moment.{IsMoment};
     ghost use Rattle.cell_script.specs.Meaning.{line_of, HasBounds};
-    ghost use Rattle.ubik_cell.specs.Script.{Stage, Reading, first_stage, in_world, stepped, line_run, line_result};
-    ghost use Rattle.ubik_cell.specs.Sites.{site_faults};
-    ghost use Rattle.ubik_cell.specs.Lines.{IsSound, IsAt, StepsFrom, LineTold, IsRefused};
+    ghost use Rattle.ubik_cell.specs.Script.{Stage, Reading, first_stage, in_run, stepped, line_run, line_result};
+    ghost use Rattle.ubik_cell.specs.Sites.{site_disk, site_faults};
+    ghost use Rattle.ubik_cell.specs.Lines.{IsSound, IsAt, StepsFrom, LineTold, IsRefused, Ends};
 
     /// A run before its first line, over the disk of the one server.
     pub fn new(alloc: Global, disk: D) -> CellRun<D>
         requires { D.files disk ≡ Some no_files }
         ensures at { IsAt result first_stage }
-        ensures sound { IsSound D.files result.counts.clock result.site }
+        ensures sound { IsSound D.files D.faults result.counts.clock result.site }
         ensures faults { site_faults D.faults result.site ≡ D.faults disk }
     {
         let counts = Counts {
@@ -90,7 +93,7 @@ impl<D: StopDisk> CellRun<D> {
 
     /// The disk of the server, which is taken down.
     pub fn close(self) -> D
-        ensures { D.faults result ≡ site_faults D.faults self.site }
+        ensures { result ≡ site_disk self.site }
     {
         let CellRun { site, .. } = self;
         site.close()
@@ -101,14 +104,14 @@ impl<D: StopDisk> CellRun<D> {
         requires room { self.counts.lines < 20000 }
         requires moment { IsMoment clock }
         requires bound { clock ≤ 1000000000 }
-        requires sound { IsSound D.files self.counts.clock self.site }
-        ensures sound { result.1 ≢ LineDone.NoMemory → IsSound D.files result.0.counts.clock result.0.site }
+        requires sound { IsSound D.files D.faults self.counts.clock self.site }
+        ensures sound { result.1 ≢ LineDone.NoMemory → IsSound D.files D.faults result.0.counts.clock result.0.site }
         ensures told { result.1 ≡ LineDone.Told → (st : Stage) → IsAt self st →
             LineTold D.faults (λ luck. line_run protection st luck (Line.Cell clock)) self result.0 (string_bytes text.old) (string_bytes text.new) }
-        ensures refused { result.1 ≡ LineDone.Refused → (st : Stage) → IsAt self st →
-            IsRefused (λ luck. line_run protection st luck (Line.Cell clock)) }
+        ensures refused { (e : Ending) → result.1 ≡ LineDone.Ended e → (st : Stage) → IsAt self st →
+            IsRefused e (λ luck. line_run protection st luck (Line.Cell clock)) }
         ensures longer { result.1 ≡ LineDone.Told → result.0.counts.lines ≡ self.counts.lines + 1 }
-        ensures kept_lines { result.1 ≡ LineDone.Refused → result.0.counts.lines ≡ self.counts.lines }
+        ensures kept_lines { (e : Ending) → result.1 ≡ LineDone.Ended e → result.0.counts.lines ≡ self.counts.lines }
         ensures never_falls { site_faults D.faults self.site ≤ site_faults D.faults result.0.site }
     {
         let CellRun {
@@ -135,7 +138,7 @@ impl<D: StopDisk> CellRun<D> {
                     counts,
                     site,
                 },
-                LineDone::Refused,
+                LineDone::refused(Why::Cell),
             ),
         }
     }
@@ -144,14 +147,14 @@ impl<D: StopDisk> CellRun<D> {
     fn tick_all(self, seconds: u32) -> (CellRun<D>, LineDone)
         requires room { self.counts.lines < 20000 }
         requires bound { seconds ≤ 50000 }
-        requires sound { IsSound D.files self.counts.clock self.site }
-        ensures sound { result.1 ≢ LineDone.NoMemory → IsSound D.files result.0.counts.clock result.0.site }
+        requires sound { IsSound D.files D.faults self.counts.clock self.site }
+        ensures sound { result.1 ≢ LineDone.NoMemory → IsSound D.files D.faults result.0.counts.clock result.0.site }
         ensures told { result.1 ≡ LineDone.Told → (st : Stage) → IsAt self st → (text : List ℕ) →
             LineTold D.faults (λ luck. line_run protection st luck (Line.TickAll seconds)) self result.0 text text }
-        ensures refused { result.1 ≡ LineDone.Refused → (st : Stage) → IsAt self st →
-            IsRefused (λ luck. line_run protection st luck (Line.TickAll seconds)) }
+        ensures refused { (e : Ending) → result.1 ≡ LineDone.Ended e → (st : Stage) → IsAt self st →
+            IsRefused e (λ luck. line_run protection st luck (Line.TickAll seconds)) }
         ensures longer { result.1 ≡ LineDone.Told → result.0.counts.lines ≡ self.counts.lines + 1 }
-        ensures kept_lines { result.1 ≡ LineDone.Refused → result.0.counts.lines ≡ self.counts.lines }
+        ensures kept_lines { (e : Ending) → result.1 ≡ LineDone.Ended e → result.0.counts.lines ≡ self.counts.lines }
         ensures never_falls { site_faults D.faults self.site ≤ site_faults D.faults result.0.site }
     {
         let CellRun {
@@ -167,7 +170,7 @@ impl<D: StopDisk> CellRun<D> {
                     counts,
                     site,
                 },
-                LineDone::Refused,
+                LineDone::refused(Why::Cell),
             );
         }
         let counts = counts.after_line(counts.asks, counts.clock + seconds);
@@ -185,21 +188,21 @@ impl<D: StopDisk> CellRun<D> {
     fn step(
         self,
         asks: u32,
-        number: u32,
+        number: u64,
         event: NodeEvent,
         text: &mut String,
     ) -> (CellRun<D>, LineDone)
         requires room { self.counts.lines < 20000 }
         requires asks { asks ≤ self.counts.lines + 1 }
-        requires sound { IsSound D.files self.counts.clock self.site }
-        ensures sound { result.1 ≢ LineDone.NoMemory → IsSound D.files result.0.counts.clock result.0.site }
+        requires sound { IsSound D.files D.faults self.counts.clock self.site }
+        ensures sound { result.1 ≢ LineDone.NoMemory → IsSound D.files D.faults result.0.counts.clock result.0.site }
         ensures told { result.1 ≡ LineDone.Told → (st : Stage) → StepsFrom self asks st →
-            LineTold D.faults (λ luck. in_world (stepped protection st luck number event) st.world) self result.0 (string_bytes text.old) (string_bytes text.new) }
-        ensures refused { result.1 ≡ LineDone.Refused → (st : Stage) → StepsFrom self asks st →
-            IsRefused (λ luck. in_world (stepped protection st luck number event) st.world) }
-        ensures kept { result.1 ≡ LineDone.Refused → result.0 ≡ self }
+            LineTold D.faults (λ luck. in_run (stepped protection st luck number event) st.run) self result.0 (string_bytes text.old) (string_bytes text.new) }
+        ensures refused { (e : Ending) → result.1 ≡ LineDone.Ended e → (st : Stage) → StepsFrom self asks st →
+            IsRefused e (λ luck. in_run (stepped protection st luck number event) st.run) }
+        ensures kept { (e : Ending) → result.1 ≡ LineDone.Ended e → result.0 ≡ self }
         ensures longer { result.1 ≡ LineDone.Told → result.0.counts.lines ≡ self.counts.lines + 1 }
-        ensures kept_lines { result.1 ≡ LineDone.Refused → result.0.counts.lines ≡ self.counts.lines }
+        ensures kept_lines { (e : Ending) → result.1 ≡ LineDone.Ended e → result.0.counts.lines ≡ self.counts.lines }
         ensures never_falls { site_faults D.faults self.site ≤ site_faults D.faults result.0.site }
     {
         let CellRun {
@@ -220,7 +223,7 @@ impl<D: StopDisk> CellRun<D> {
                     done,
                 )
             }
-            LineDone::Refused | LineDone::NoMemory => (
+            LineDone::Ended(_) | LineDone::NoMemory => (
                 CellRun {
                     alloc,
                     counts,
@@ -231,24 +234,31 @@ impl<D: StopDisk> CellRun<D> {
         }
     }
 
-    /// A call of a server, counted from 1, in words.
-    fn ask(self, number: u32, words: &Words, text: &mut String) -> (CellRun<D>, LineDone)
+    /// A call of a server, counted from 1, in words. Once a cell stands the words come first: the server is judged
+    /// after them.
+    fn ask(self, server: Option<u64>, words: &Words, text: &mut String) -> (CellRun<D>, LineDone)
         requires room { self.counts.lines < 20000 }
-        requires sound { IsSound D.files self.counts.clock self.site }
-        ensures sound { result.1 ≢ LineDone.NoMemory → IsSound D.files result.0.counts.clock result.0.site }
+        requires sound { IsSound D.files D.faults self.counts.clock self.site }
+        ensures sound { result.1 ≢ LineDone.NoMemory → IsSound D.files D.faults result.0.counts.clock result.0.site }
         ensures told { result.1 ≡ LineDone.Told → (st : Stage) → IsAt self st →
-            LineTold D.faults (λ luck. line_run protection st luck (Line.Ask number words.now)) self result.0 (string_bytes text.old) (string_bytes text.new) }
-        ensures refused { result.1 ≡ LineDone.Refused → (st : Stage) → IsAt self st →
-            IsRefused (λ luck. line_run protection st luck (Line.Ask number words.now)) }
+            LineTold D.faults (λ luck. line_run protection st luck (Line.Ask server words.now)) self result.0 (string_bytes text.old) (string_bytes text.new) }
+        ensures refused { (e : Ending) → result.1 ≡ LineDone.Ended e → (st : Stage) → IsAt self st →
+            IsRefused e (λ luck. line_run protection st luck (Line.Ask server words.now)) }
         ensures longer { result.1 ≡ LineDone.Told → result.0.counts.lines ≡ self.counts.lines + 1 }
-        ensures kept_lines { result.1 ≡ LineDone.Refused → result.0.counts.lines ≡ self.counts.lines }
+        ensures kept_lines { (e : Ending) → result.1 ≡ LineDone.Ended e → result.0.counts.lines ≡ self.counts.lines }
         ensures never_falls { site_faults D.faults self.site ≤ site_faults D.faults result.0.site }
     {
+        if let Site::Unopened(_) = &self.site {
+            return (self, LineDone::refused(why_no_cell(server)));
+        }
         let Ok(call) = call_words(self.alloc, words.as_slice()) else {
             return (self, LineDone::NoMemory);
         };
         let Some(call) = call else {
-            return (self, LineDone::Refused);
+            return (self, LineDone::refused(why_no_call(words)));
+        };
+        let Some(number) = server else {
+            return (self, LineDone::refused(Why::Number));
         };
         let id = self.counts.asks + 1;
         self.step(id, number, NodeEvent::Ask { id, call }, text)
@@ -257,13 +267,13 @@ impl<D: StopDisk> CellRun<D> {
     /// An empty line, or a comment.
     fn pass(self) -> (CellRun<D>, LineDone)
         requires room { self.counts.lines < 20000 }
-        requires sound { IsSound D.files self.counts.clock self.site }
-        ensures sound { IsSound D.files result.0.counts.clock result.0.site }
+        requires sound { IsSound D.files D.faults self.counts.clock self.site }
+        ensures sound { IsSound D.files D.faults result.0.counts.clock result.0.site }
         ensures done { result.1 ≡ LineDone.Told }
         ensures told { (st : Stage) → IsAt self st → (text : List ℕ) →
             LineTold D.faults (λ luck. line_run protection st luck Line.Nothing) self result.0 text text }
         ensures longer { result.1 ≡ LineDone.Told → result.0.counts.lines ≡ self.counts.lines + 1 }
-        ensures kept_lines { result.1 ≡ LineDone.Refused → result.0.counts.lines ≡ self.counts.lines }
+        ensures kept_lines { (e : Ending) → result.1 ≡ LineDone.Ended e → result.0.counts.lines ≡ self.counts.lines }
         ensures never_falls { site_faults D.faults self.site ≤ site_faults D.faults result.0.site }
     {
         let CellRun {
@@ -286,13 +296,14 @@ impl<D: StopDisk> CellRun<D> {
     fn run_line(self, line: &Line, text: &mut String) -> (CellRun<D>, LineDone)
         requires room { self.counts.lines < 20000 }
         requires bounds { HasBounds line.now }
-        requires sound { IsSound D.files self.counts.clock self.site }
-        ensures sound { result.1 ≢ LineDone.NoMemory → IsSound D.files result.0.counts.clock result.0.site }
+        requires sound { IsSound D.files D.faults self.counts.clock self.site }
+        ensures sound { result.1 ≢ LineDone.NoMemory → IsSound D.files D.faults result.0.counts.clock result.0.site }
         ensures told { result.1 ≡ LineDone.Told → (st : Stage) → IsAt self st →
             LineTold D.faults (λ luck. line_run protection st luck line.now) self result.0 (string_bytes text.old) (string_bytes text.new) }
-        ensures refused { result.1 ≡ LineDone.Refused → (st : Stage) → IsAt self st → IsRefused (λ luck. line_run protection st luck line.now) }
+        ensures refused { (e : Ending) → result.1 ≡ LineDone.Ended e → (st : Stage) → IsAt self st →
+            IsRefused e (λ luck. line_run protection st luck line.now) }
         ensures longer { result.1 ≡ LineDone.Told → result.0.counts.lines ≡ self.counts.lines + 1 }
-        ensures kept_lines { result.1 ≡ LineDone.Refused → result.0.counts.lines ≡ self.counts.lines }
+        ensures kept_lines { (e : Ending) → result.1 ≡ LineDone.Ended e → result.0.counts.lines ≡ self.counts.lines }
         ensures never_falls { site_faults D.faults self.site ≤ site_faults D.faults result.0.site }
     {
         let asks = self.counts.asks;
@@ -306,29 +317,62 @@ impl<D: StopDisk> CellRun<D> {
         }
     }
 
-    /// The next line of the script, without its LF; what is seen of it is added to the text. The 20,001st is
-    /// refused.
+    /// The next line of the script, without its LF; what is seen of it is added to the text. The script ends at the
+    /// 20,001st.
     pub fn line(self, line: &[u8], text: &mut String) -> (CellRun<D>, LineDone)
-        requires sound { IsSound D.files self.counts.clock self.site }
-        ensures sound { result.1 ≢ LineDone.NoMemory → IsSound D.files result.0.counts.clock result.0.site }
+        requires sound { IsSound D.files D.faults self.counts.clock self.site }
+        ensures sound { result.1 ≢ LineDone.NoMemory → IsSound D.files D.faults result.0.counts.clock result.0.site }
         ensures told { result.1 ≡ LineDone.Told → (st : Stage) → IsAt self st →
             LineTold D.faults (λ luck. line_result protection st (record { line = line.now; luck = luck })) self result.0 (string_bytes text.old) (string_bytes text.new) }
-        ensures refused { result.1 ≡ LineDone.Refused → (st : Stage) → IsAt self st →
-            IsRefused (λ luck. line_result protection st (record { line = line.now; luck = luck })) }
+        ensures ended { (e : Ending) → result.1 ≡ LineDone.Ended e → (st : Stage) → IsAt self st →
+            Ends e (λ luck. line_result protection st (record { line = line.now; luck = luck })) }
         ensures few { result.1 ≡ LineDone.Told → self.counts.lines < 20000 }
         ensures longer { result.1 ≡ LineDone.Told → result.0.counts.lines ≡ self.counts.lines + 1 }
-        ensures kept_lines { result.1 ≡ LineDone.Refused → result.0.counts.lines ≡ self.counts.lines }
+        ensures kept_lines { (e : Ending) → result.1 ≡ LineDone.Ended e → result.0.counts.lines ≡ self.counts.lines }
         ensures never_falls { site_faults D.faults self.site ≤ site_faults D.faults result.0.site }
     {
         if self.counts.lines >= MAX_LINES {
-            return (self, LineDone::Refused);
+            return (self, LineDone::Ended(Ending::Limit(Which::Lines)));
         }
         let Ok(meaning) = line_meaning(self.alloc, line) else {
             return (self, LineDone::NoMemory);
         };
         match meaning {
-            Some(meaning) => self.run_line(&meaning, text),
-            None => (self, LineDone::Refused),
+            Ok(meaning) => self.run_line(&meaning, text),
+            Err(why) => (self, LineDone::refused(why)),
         }
+    }
+
+    /// Why the script ends at the next line, which has more bytes than a line may have.
+    pub fn ending_at_long_line(&self) -> Ending
+        ensures { (st : Stage) → IsAt self.now st → (line : List ℕ) → 1024 < length line →
+            Ends result (λ luck. line_result protection st (record { line = line; luck = luck })) }
+    {
+        if self.counts.lines >= MAX_LINES {
+            Ending::Limit(Which::Lines)
+        } else {
+            Ending::Refused(Why::Syntax)
+        }
+    }
+}
+
+/// Why a call is refused where no cell stands.
+fn why_no_cell(server: Option<u64>) -> Why
+    ensures { no_cell server ≡ Err result }
+{
+    match server {
+        None => Why::Number,
+        Some(_) => Why::Cell,
+    }
+}
+
+/// Why words that name no call are refused.
+fn why_no_call(words: &Words) -> Why
+    ensures { (if is_unbuilt words.now then Why.Unbuilt else Why.Syntax) ≡ result }
+{
+    if is_unbuilt(words.as_slice()) {
+        Why::Unbuilt
+    } else {
+        Why::Syntax
     }
 }

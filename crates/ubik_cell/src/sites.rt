@@ -6,13 +6,14 @@ ghost use Rattle.ubik_cell.specs.Trace.{trace};
 ghost use Rattle.prdb_entries.specs.Protection.{protection};
 ghost use Rattle.ubik_types.specs.Moment.{IsMoment};
 ghost use Rattle.ubik_node.specs.Node.{node_of};
-ghost use Rattle.cell_model.specs.World.{World};
-ghost use Rattle.ubik_cell.specs.Script.{is_served};
-ghost use Rattle.ubik_cell.specs.Lines.{IsOpened, IsSound, Stands, SiteTold};
-ghost use Rattle.ubik_cell.specs.Sites.{puts, HasNoShort, StepTold, OpenTold, DownTold, site_faults};
+ghost use Rattle.cell_model.specs.Book.{Run};
+ghost use Rattle.ubik_cell.specs.Lines.{HasDisk, IsOpened, IsSound, Stands, SiteTold, SiteRefuses};
+ghost use Rattle.ubik_cell.specs.Sites.{puts, HasNoShort, StepTold, OpenTold, DownTold, site_disk, site_faults};
 ghost use Rattle.disk_base.specs.Files.{no_files};
 
+use crate::cells::Ending;
 use crate::traces::{tell_halt, tell_output, tell_stays_down};
+use cell_script::Why;
 use disk_base::{Refused, StopDisk};
 use prdb_entries::PrService;
 use std::alloc::Global;
@@ -27,10 +28,19 @@ const FIRST_HOST: Host = Host(167_772_161);
 pub enum LineDone {
     /// It was run, and told what was seen.
     Told,
-    /// It is refused, and nothing was run.
-    Refused,
+    /// The script ends at it, and nothing of it was run.
+    Ended(Ending),
     /// Memory ran out.
     NoMemory,
+}
+
+impl LineDone {
+    /// The line is refused.
+    pub fn refused(why: Why) -> LineDone
+        ensures { result ≡ LineDone.Ended (Ending.Refused why) }
+    {
+        LineDone::Ended(Ending::Refused(why))
+    }
 }
 
 /// Where the disk of the one server is.
@@ -47,7 +57,7 @@ pub enum Site<D: StopDisk> {
 impl<D: StopDisk> Site<D> {
     /// The disk, with the server taken down.
     pub fn close(self) -> D
-        ensures { D.faults result ≡ site_faults D.faults self }
+        ensures { result ≡ site_disk self }
     {
         match self {
             Site::Unopened(disk) => disk,
@@ -87,8 +97,9 @@ pub fn step_node<D: StopDisk>(
     requires order { node.last ≤ clock }
     ensures told { result.1 ≡ LineDone.Told → StepTold protection clock event (node_of node) (node_of result.0)
         (string_bytes text.old) (string_bytes text.new) (D.faults node.disk) (D.faults result.0.disk) }
-    ensures taken { result.1 ≢ LineDone.Refused }
+    ensures taken { (e : Ending) → result.1 ≢ LineDone.Ended e }
     ensures last { result.0.last ≤ clock }
+    ensures disk { result.1 ≡ LineDone.Told → HasDisk D.files D.faults node → HasDisk D.files D.faults result.0 }
     ensures never_falls { D.faults node.disk ≤ D.faults result.0.disk }
 {
     let mut node = node;
@@ -121,30 +132,32 @@ fn tell_halted_step(text: &mut String, out: &mut Outputs, was_halted: bool) -> R
     tell_halt(text, 0)
 }
 
-/// A step of the server of a number, counted from 1. It is refused where no such server is up.
+/// A step of the server of a number, counted from 1. It is refused where no cell stands, where there is no such
+/// server, and where it is down.
 pub fn step_site<D: StopDisk>(
     alloc: Global,
     site: Site<D>,
     clock: u32,
-    number: u32,
+    number: u64,
     event: NodeEvent,
     text: &mut String,
 ) -> (Site<D>, LineDone)
-    requires { IsSound D.files clock site }
-    ensures sound { IsSound D.files clock result.0 }
-    ensures told { result.1 ≡ LineDone.Told → (w : World) → Stands clock site (Some w) →
-        SiteTold protection D.faults clock number event site result.0 w (string_bytes text.old) (string_bytes text.new) }
+    requires { IsSound D.files D.faults clock site }
+    ensures sound { result.1 ≢ LineDone.NoMemory → IsSound D.files D.faults clock result.0 }
+    ensures told { result.1 ≡ LineDone.Told → (r : Run) → Stands clock site (Some r) →
+        SiteTold protection D.faults clock number event site result.0 r (string_bytes text.old) (string_bytes text.new) }
     ensures up { result.1 ≡ LineDone.Told → IsOpened site }
-    ensures refused { result.1 ≡ LineDone.Refused → (result.0 ≡ site)
-        × ((w : World) → Stands clock site (Some w) → is_served w.sites number ≡ false) }
+    ensures ended { (e : Ending) → result.1 ≡ LineDone.Ended e → (result.0 ≡ site) × SiteRefuses clock number site e }
     ensures never_falls { site_faults D.faults site ≤ site_faults D.faults result.0 }
 {
     match site {
-        Site::Up(node) if number == 1 => {
+        Site::Unopened(disk) => (Site::Unopened(disk), LineDone::refused(Why::Cell)),
+        site if number != 1 => (site, LineDone::refused(Why::Server)),
+        Site::Down(disk) => (Site::Down(disk), LineDone::refused(Why::State)),
+        Site::Up(node) => {
             let (node, done) = step_node(alloc, node, clock, event, text);
             (Site::Up(node), done)
         }
-        site => (site, LineDone::Refused),
     }
 }
 
@@ -159,7 +172,8 @@ pub fn open_node<D: StopDisk>(
     requires moment { IsMoment clock }
     requires empty { D.files disk ≡ Some no_files }
     ensures told { result.1 ≡ LineDone.Told → OpenTold D.faults clock disk result.0 (string_bytes text.old) (string_bytes text.new) }
-    ensures taken { result.1 ≢ LineDone.Refused }
+    ensures sound { result.1 ≡ LineDone.Told → IsSound D.files D.faults clock result.0 }
+    ensures taken { (e : Ending) → result.1 ≢ LineDone.Ended e }
     ensures never_falls { D.faults disk ≤ site_faults D.faults result.0 }
 {
     let Ok(cell) = Cell::new(alloc, &[FIRST_HOST]) else {
@@ -174,7 +188,7 @@ pub fn open_node<D: StopDisk>(
 /// Keeps a server down whose opening was refused.
 fn keep_down<D: StopDisk>(refused: Refused<D, StoreFault>, text: &mut String) -> (Site<D>, LineDone)
     ensures told { result.1 ≡ LineDone.Told → (refused.why ≢ StoreFault.NoMemory) × DownTold D.faults refused.disk result.0 (string_bytes text.old) (string_bytes text.new) }
-    ensures taken { result.1 ≢ LineDone.Refused }
+    ensures taken { (e : Ending) → result.1 ≢ LineDone.Ended e }
     ensures never_falls { D.faults refused.disk ≤ site_faults D.faults result.0 }
 {
     let Refused { disk, why } = refused;

@@ -73,17 +73,29 @@ fn expect(rt: &impl Abort, seen: &Seen, status: u8, kind: CellKind, text: &str) 
     assert_eq!(rt; seen.text.as_slice(), text.as_bytes());
 }
 
-/// A script on which nothing fails: the line that is refused, and what is told.
+/// A script that is refused at this line, where calls of the first disk fail, and what is told before.
 fn expect_refused(
     rt: &impl Abort,
     alloc: Global,
-    script: &str,
+    script: &[u8],
+    disk_fails: &[u64],
     line: u32,
-    text: &str,
+    why: Why,
+    before: &str,
 ) -> Result<(), Fail> {
-    let seen = run_on(alloc, script.as_bytes(), &[], &[], &[])?;
-    let why = Why::Unbuilt;
-    expect(rt, &seen, 1, CellKind::ScriptRefused { line, why }, text);
+    let seen = run_on(alloc, script, &[], &[], disk_fails)?;
+    let word = match why {
+        Why::Syntax => "syntax",
+        Why::Number => "number",
+        Why::Cell => "cell",
+        Why::Server => "server",
+        Why::State => "state",
+        Why::Packet => "packet",
+        Why::Skew => "skew",
+        Why::Unbuilt => "unbuilt",
+    };
+    let text = format!(in alloc; "{before}refused line {line} {word}\n")?;
+    expect(rt, &seen, 1, CellKind::ScriptRefused { line, why }, &text);
     Ok(())
 }
 
@@ -112,33 +124,103 @@ fn a_taken_name_is_refused_and_an_unknown_one_is_anonymous(rt: HostRuntime) -> R
     Ok(())
 }
 
+/// Each reason, where no cell stands.
 #[test]
-fn a_first_line_that_does_not_fit_is_refused(rt: HostRuntime) -> Result<(), Fail> {
-    for script in [
-        "dance 1",
-        "beacon 1\n",
-        "tickall 1\n",
-        "cell 1 1000 pt\r\n",
-        "cell 1 1000 pt\0\n",
+fn a_first_line_is_refused_for_its_first_reason(rt: HostRuntime) -> Result<(), Fail> {
+    for (script, why) in [
+        (b"dance 1".as_slice(), Why::Syntax),
+        (b" ".as_slice(), Why::Syntax),
+        (b"beacon 1 \n".as_slice(), Why::Syntax),
+        (b"tickall 1 1".as_slice(), Why::Syntax),
+        (b"ask 0".as_slice(), Why::Syntax),
+        (b"cell 1 1000 pt\r\n".as_slice(), Why::Syntax),
+        (b"cell 1 1000 pt\0\n".as_slice(), Why::Syntax),
+        (b"cell 0 0 \xff\n".as_slice(), Why::Syntax),
+        (b"show 1".as_slice(), Why::Unbuilt),
+        (b"tick 0 0".as_slice(), Why::Unbuilt),
+        (b"cell 2 0 pt".as_slice(), Why::Unbuilt),
+        (b"cell x x vl".as_slice(), Why::Unbuilt),
+        (b"cell 21 1000 pt".as_slice(), Why::Number),
+        (b"cell 1 01 pt".as_slice(), Why::Number),
+        (b"beacon 0".as_slice(), Why::Number),
+        (b"recover 1\r\n".as_slice(), Why::Number),
+        (b"tickall 50001".as_slice(), Why::Number),
+        (b"ask 0 dance".as_slice(), Why::Number),
+        (b"beacon 18446744073709551616".as_slice(), Why::Number),
+        (b"beacon 18446744073709551615".as_slice(), Why::Cell),
+        (b"tickall 1".as_slice(), Why::Cell),
+        (b"recover 21".as_slice(), Why::Cell),
+        (b"ask 1 dance".as_slice(), Why::Cell),
+        (b"ask 1 listmax".as_slice(), Why::Cell),
     ] {
-        expect_refused(&rt, rt.alloc(), script, 1, "refused line 1 unbuilt\n")?;
+        expect_refused(&rt, rt.alloc(), script, &[], 1, why, "")?;
     }
     Ok(())
 }
 
+/// Each reason, once a cell stands, of a third line.
 #[test]
-fn a_line_that_does_not_fit_is_the_last(rt: HostRuntime) -> Result<(), Fail> {
-    for script in [
-        "cell 1 1000 pt\n\ncell 1 1000 pt\n",
-        "cell 1 1000 pt\n#\nbeacon 2\nbeacon 1\n",
-        "cell 1 1000 pt\n\ntickall 50001\n",
-        "cell 1 1000 pt\n\nask 1 newentry smith 1 0\n",
+fn a_later_line_is_refused_for_its_first_reason(rt: HostRuntime) -> Result<(), Fail> {
+    for (line, why) in [
+        ("ask x dance 1", Why::Syntax),
+        ("ask 0 newentry smith 0", Why::Syntax),
+        ("ask 2 newentry smith 00 0", Why::Syntax),
+        ("ask 1 newentry smith 0 -0", Why::Syntax),
+        ("ask 1 nametoid 2 smith", Why::Syntax),
+        ("ask 1 nametoid", Why::Syntax),
+        ("ask 0 listmax", Why::Unbuilt),
+        ("ask x newentry staff 2 -204", Why::Unbuilt),
+        ("restart 0", Why::Unbuilt),
+        ("ask 0 nametoid 0", Why::Number),
+        ("ask 01 newentry smith 0 0", Why::Number),
+        ("cell 1 0 pt", Why::Number),
+        ("cell 1 1000 pt", Why::Cell),
+        ("beacon 2", Why::Server),
+        ("ask 21 nametoid 0", Why::Server),
     ] {
-        expect_refused(&rt, rt.alloc(), script, 3, "refused line 3 unbuilt\n")?;
+        let script = format!(in rt.alloc(); "cell 1 1000 pt\n\n{line}\nbeacon 1\n")?;
+        expect_refused(&rt, rt.alloc(), script.as_bytes(), &[], 3, why, "")?;
     }
-    let script = "cell 1 1000 pt\ntickall 76\nbeacon 1\nrecover 1\ndance 1\nrecover 1\n";
-    let text = "announce 1 1076.1\nrefused line 5 unbuilt\n";
-    expect_refused(&rt, rt.alloc(), script, 5, text)
+    let script = b"cell 1 1000 pt\ntickall 76\nbeacon 1\nrecover 1\ndance 1\nrecover 1\n";
+    expect_refused(
+        &rt,
+        rt.alloc(),
+        script,
+        &[],
+        5,
+        Why::Syntax,
+        "announce 1 1076.1\n",
+    )
+}
+
+/// The first call of the disk is that of the opening.
+#[test]
+fn a_line_at_a_server_that_is_down_is_refused(rt: HostRuntime) -> Result<(), Fail> {
+    let down = "restarted 1 diskfault\n";
+    for (script, why) in [
+        ("cell 1 1000 pt\nbeacon 1\n", Why::State),
+        ("cell 1 1000 pt\nask 1 nametoid 0\n", Why::State),
+        ("cell 1 1000 pt\nask 1 listmax\n", Why::Unbuilt),
+        ("cell 1 1000 pt\nrecover 2\n", Why::Server),
+    ] {
+        expect_refused(&rt, rt.alloc(), script.as_bytes(), &[1], 2, why, down)?;
+    }
+    let seen = run_on(rt.alloc(), b"cell 1 1000 pt\ntickall 1\n", &[], &[], &[1])?;
+    expect(&rt, &seen, 0, CellKind::Done, down);
+    Ok(())
+}
+
+#[test]
+fn a_line_has_1024_bytes_at_most(rt: HostRuntime) -> Result<(), Fail> {
+    let mut script = String::new(rt.alloc());
+    script.push_str("#")?;
+    for _ in 0..1023 {
+        script.push_str("a")?;
+    }
+    let seen = run_on(rt.alloc(), script.as_bytes(), &[], &[], &[])?;
+    expect(&rt, &seen, 0, CellKind::Done, "");
+    script.push_str("a\n")?;
+    expect_refused(&rt, rt.alloc(), script.as_bytes(), &[], 1, Why::Syntax, "")
 }
 
 #[test]
@@ -149,14 +231,65 @@ fn a_script_has_20000_lines_at_most(rt: HostRuntime) -> Result<(), Fail> {
     }
     let seen = run_on(rt.alloc(), script.as_bytes(), &[], &[], &[])?;
     expect(&rt, &seen, 0, CellKind::Done, "");
-    script.push_str("#")?;
-    expect_refused(
-        &rt,
-        rt.alloc(),
-        &script,
-        20_001,
-        "refused line 20001 unbuilt\n",
-    )
+    script.push_str("dance")?;
+    let seen = run_on(rt.alloc(), script.as_bytes(), &[], &[], &[])?;
+    let (line, which) = (20_001, Which::Lines);
+    let text = "limit line 20001 lines\n";
+    expect(&rt, &seen, 4, CellKind::Limit { line, which }, text);
+    Ok(())
+}
+
+/// The number of the first line of these bytes that is neither empty nor a comment.
+fn first_line_that_counts(bytes: &[u8]) -> Option<u32> {
+    let mut number = 0u32;
+    for line in bytes.split(|byte| *byte == b'\n') {
+        number = number.saturating_add(1);
+        if !line.is_empty() && line[0] != b'#' {
+            return Some(number);
+        }
+    }
+    None
+}
+
+/// Bytes that no rule of scripts has made: none of these lines has a meaning but the empty ones and comments.
+#[test]
+fn bytes_by_chance_are_no_lines(rt: HostRuntime) -> Result<(), Fail> {
+    let mut state = 1u32;
+    for _ in 0..300 {
+        let mut bytes = Vec::new(rt.alloc());
+        for _ in 0..24 {
+            state = state.wrapping_mul(1_664_525).wrapping_add(1_013_904_223);
+            let byte = (state >> 24) as u8;
+            bytes.push(if byte < 64 {
+                b'\n'
+            } else if byte < 96 {
+                b'#'
+            } else {
+                byte
+            })?;
+        }
+        match first_line_that_counts(&bytes) {
+            Some(line) => expect_refused(&rt, rt.alloc(), &bytes, &[], line, Why::Syntax, "")?,
+            None => {
+                let seen = run_on(rt.alloc(), &bytes, &[], &[], &[])?;
+                expect(&rt, &seen, 0, CellKind::Done, "");
+            }
+        }
+    }
+    Ok(())
+}
+
+#[test]
+fn a_word_ends_all_before_it_begins(rt: HostRuntime) -> Result<(), Fail> {
+    let mut source = MemSource::new(rt.alloc(), b"dance", &[1])?;
+    let mut sink = MemSink::new(rt.alloc(), &[1])?;
+    let mut disks = fresh_disks(rt.alloc(), &[1])?;
+    let word = "x".to_string(rt.alloc())?;
+    let end = cell_top(rt.alloc(), &[word], &mut source, &mut sink, &mut disks);
+    let (status, kind) = (6, CellKind::Words { place: 1 });
+    assert_eq!(rt; end, CellEnd { status, kind });
+    assert!(rt; sink.written().is_empty());
+    Ok(())
 }
 
 #[test]
@@ -190,11 +323,9 @@ fn a_sink_that_fails_keeps_the_front(rt: HostRuntime) -> Result<(), Fail> {
 fn a_disk_that_fails_in_the_opening_leaves_the_server_down(rt: HostRuntime) -> Result<(), Fail> {
     let seen = run_on(rt.alloc(), b"cell 1 1000 pt\n", &[], &[], &[1])?;
     expect(&rt, &seen, 0, CellKind::Done, "restarted 1 diskfault\n");
-    let seen = run_on(rt.alloc(), FIRST_USER.as_bytes(), &[], &[], &[1])?;
-    let (line, why) = (3, Why::Unbuilt);
-    let text = "restarted 1 diskfault\nrefused line 3 unbuilt\n";
-    expect(&rt, &seen, 1, CellKind::ScriptRefused { line, why }, text);
-    Ok(())
+    let script = FIRST_USER.as_bytes();
+    let down = "restarted 1 diskfault\n";
+    expect_refused(&rt, rt.alloc(), script, &[1], 3, Why::State, down)
 }
 
 /// The disk has a call for the opening, four for the relabelling and four for the commit.

@@ -5,43 +5,52 @@ ghost use Rattle.disk_base.specs.Count.{HasCause};
 ghost use Rattle.disk_base.specs.Files.{no_files};
 ghost use Rattle.prdb_entries.specs.Protection.{protection};
 ghost use Rattle.ubik_cell.specs.Lines.{IsSound};
-ghost use Rattle.ubik_cell.specs.Run.{SoFar, AtLine, AtRefusal, Runs};
+ghost use Rattle.ubik_cell.specs.Run.{SoFar, AtLine, AtEnding, Runs, kind_at, IsInside, IsDoneOrShort};
 ghost use Rattle.ubik_cell.specs.Run as Status;
 ghost use Rattle.ubik_cell.specs.Disks.{AllFresh, first_faults};
 ghost use Rattle.ubik_cell.specs.Sites.{site_faults};
 
-use crate::cells::{CellEnd, CellKind, Why};
+use crate::cells::{CellEnd, CellKind, Ending};
 use crate::scripts::CellRun;
 use crate::sites::LineDone;
-use crate::traces::tell_refusal;
+use crate::traces::tell_ending;
 use cell_script::{LineEnd, LineReader, write_whole};
 use disk_base::{Sink, Source, StopDisk};
 use std::alloc::Global;
 
-/// Tells that the next line is refused.
-fn refuse<K: Sink, D: StopDisk>(
+/// How a script ends that ends at this line.
+fn kind_at(line: u32, ending: Ending) -> CellKind
+    ensures { result ≡ kind_at line ending }
+{
+    match ending {
+        Ending::Refused(why) => CellKind::ScriptRefused { line, why },
+        Ending::Limit(which) => CellKind::Limit { line, which },
+    }
+}
+
+/// Tells that the script ends at the next line, and why.
+fn end_at_line<K: Sink, D: StopDisk>(
     out: &mut K,
     run: CellRun<D>,
+    ending: Ending,
     text: &mut String,
 ) -> (CellRun<D>, Option<CellKind>)
     ensures same { result.0 ≡ run }
     ensures ended { IsSome result.1 }
     ensures ends { IfSome result.1 (λ kind. IfSome (K.written out.old) (λ written. (script before : List ℕ) (left : Option (List ℕ)) →
-        AtRefusal protection D.faults script left before (Some written) run →
+        AtEnding protection D.faults script left before (Some written) run ending →
         Runs kind protection script left before (K.written out.new) (site_faults D.faults run.site))) }
     ensures cause { HasCause (K.faults out.old) (K.faults out.new) (result.1 ≡ Some CellKind.WriteFault) }
     ensures not_read { result.1 ≢ Some CellKind.ReadFault }
+    ensures no_words { (place : ℕ) → result.1 ≢ Some (CellKind.Words place) }
 {
     text.clear();
     let line = run.lines() + 1;
-    let Ok(()) = tell_refusal(text, line) else {
+    let Ok(()) = tell_ending(text, line, ending) else {
         return (run, Some(CellKind::NoMemory));
     };
     match write_whole(out, text.as_bytes()) {
-        Ok(()) => {
-            let why = Why::Unbuilt;
-            (run, Some(CellKind::ScriptRefused { line, why }))
-        }
+        Ok(()) => (run, Some(kind_at(line, ending))),
         Err(_) => (run, Some(CellKind::WriteFault)),
     }
 }
@@ -53,24 +62,25 @@ fn tell_line<K: Sink, D: StopDisk>(
     line: &[u8],
     text: &mut String,
 ) -> (CellRun<D>, Option<CellKind>)
-    requires sound { IsSound D.files run.counts.clock run.site }
+    requires sound { IsSound D.files D.faults run.counts.clock run.site }
     ensures goes { result.1 ≡ None → IfSome (K.written out.old) (λ written. (script before : List ℕ) (left : Option (List ℕ)) →
         AtLine protection D.faults script left before (Some written) run line.now →
         SoFar protection D.faults script left before (K.written out.new) result.0) }
     ensures ends { IfSome result.1 (λ kind. IfSome (K.written out.old) (λ written. (script before : List ℕ) (left : Option (List ℕ)) →
         AtLine protection D.faults script left before (Some written) run line.now →
         Runs kind protection script left before (K.written out.new) (site_faults D.faults result.0.site))) }
-    ensures sound { result.1 ≡ None → IsSound D.files result.0.counts.clock result.0.site }
+    ensures sound { result.1 ≡ None → IsSound D.files D.faults result.0.counts.clock result.0.site }
     ensures longer { result.1 ≡ None → result.0.counts.lines ≡ run.counts.lines + 1 }
     ensures cause { HasCause (K.faults out.old) (K.faults out.new) (result.1 ≡ Some CellKind.WriteFault) }
     ensures not_read { result.1 ≢ Some CellKind.ReadFault }
+    ensures no_words { (place : ℕ) → result.1 ≢ Some (CellKind.Words place) }
     ensures never_falls { site_faults D.faults run.site ≤ site_faults D.faults result.0.site }
 {
     text.clear();
     let (run, done) = run.line(line, text);
     match done {
         LineDone::NoMemory => (run, Some(CellKind::NoMemory)),
-        LineDone::Refused => refuse(out, run, text),
+        LineDone::Ended(ending) => end_at_line(out, run, ending, text),
         LineDone::Told => match write_whole(out, text.as_bytes()) {
             Ok(()) => (run, None),
             Err(_) => (run, Some(CellKind::WriteFault)),
@@ -86,22 +96,26 @@ fn turn<S: Source, K: Sink, D: StopDisk>(
     run: CellRun<D>,
     text: &mut String,
 ) -> (CellRun<D>, Option<CellKind>)
-    requires sound { IsSound D.files run.counts.clock run.site }
+    requires sound { IsSound D.files D.faults run.counts.clock run.site }
     ensures goes { result.1 ≡ None → IfSome (K.written out.old) (λ written. (script before : List ℕ) →
         SoFar protection D.faults script (S.left input.old) before (Some written) run →
         SoFar protection D.faults script (S.left input.new) before (K.written out.new) result.0) }
     ensures ends { IfSome result.1 (λ kind. IfSome (K.written out.old) (λ written. (script before : List ℕ) →
         SoFar protection D.faults script (S.left input.old) before (Some written) run →
         Runs kind protection script (S.left input.new) before (K.written out.new) (site_faults D.faults result.0.site))) }
-    ensures sound { result.1 ≡ None → IsSound D.files result.0.counts.clock result.0.site }
+    ensures sound { result.1 ≡ None → IsSound D.files D.faults result.0.counts.clock result.0.site }
     ensures longer { result.1 ≡ None → result.0.counts.lines ≡ run.counts.lines + 1 }
     ensures read_cause { HasCause (S.faults input.old) (S.faults input.new) (result.1 ≡ Some CellKind.ReadFault) }
     ensures write_cause { HasCause (K.faults out.old) (K.faults out.new) (result.1 ≡ Some CellKind.WriteFault) }
+    ensures no_words { (place : ℕ) → result.1 ≢ Some (CellKind.Words place) }
 {
     match reader.next_line(input) {
         LineEnd::End => (run, Some(CellKind::Done)),
         LineEnd::Failed => (run, Some(CellKind::ReadFault)),
-        LineEnd::TooLong => refuse(out, run, text),
+        LineEnd::TooLong => {
+            let ending = run.ending_at_long_line();
+            end_at_line(out, run, ending, text)
+        }
         LineEnd::Line => tell_line(out, run, reader.line(), text),
     }
 }
@@ -118,6 +132,7 @@ fn run_script<S: Source, K: Sink, D: StopDisk>(
         Runs result.1 protection script (S.left input.new) before (K.written out.new) (D.faults result.0))) }
     ensures read_cause { HasCause (S.faults input.old) (S.faults input.new) (result.1 ≡ CellKind.ReadFault) }
     ensures write_cause { HasCause (K.faults out.old) (K.faults out.new) (result.1 ≡ CellKind.WriteFault) }
+    ensures no_words { (place : ℕ) → result.1 ≢ CellKind.Words place }
 {
     let Ok(mut reader) = LineReader::new(alloc) else {
         return (disk, CellKind::NoMemory);
@@ -142,12 +157,15 @@ fn status_of(kind: CellKind) -> u8
         CellKind::ScriptRefused { .. } => 1,
         CellKind::ReadFault => 2,
         CellKind::WriteFault => 3,
+        CellKind::Limit { .. } => 4,
         CellKind::NoMemory => 5,
+        CellKind::Words { .. } => 6,
     }
 }
 
 /// Runs the script that the source gives, one line after the other, and writes its exact trace. It takes no
-/// words. There are 20 disks; disk i is that of server i + 1, and each stands in its place at every end.
+/// words: where one is given, nothing is read or written. There are 20 disks; disk i is that of server i + 1, and
+/// each stands in its place at every end.
 pub fn cell_top<S: Source, K: Sink, D: StopDisk>(
     alloc: Global,
     words: &[String],
@@ -155,18 +173,29 @@ pub fn cell_top<S: Source, K: Sink, D: StopDisk>(
     out: &mut K,
     disks: &mut Vec<D>,
 ) -> CellEnd
-    requires no_words { length words.now ≡ 0 }
     requires twenty { vec_len disks.old ≡ 20 }
     requires fresh { AllFresh D.files D.stop D.faults disks.old.items }
     ensures run { IfSome (S.left input.old) (λ script. IfSome (K.written out.old) (λ before.
         Runs result.kind protection script (S.left input.new) before (K.written out.new) (first_faults D.faults disks.new.items))) }
+    ensures complete { length words.now ≡ 0 → S.faults input.new ≡ S.faults input.old → K.faults out.new ≡ K.faults out.old →
+        first_faults D.faults disks.new.items ≡ 0 → IfSome (S.left input.old) (λ script. IfSome (K.written out.old) (λ before.
+        IsInside protection script → IsDoneOrShort result.kind)) }
     ensures status { result.status ≡ Status.status_of result.kind }
     ensures read_cause { HasCause (S.faults input.old) (S.faults input.new) (result.kind ≡ CellKind.ReadFault) }
     ensures write_cause { HasCause (K.faults out.old) (K.faults out.new) (result.kind ≡ CellKind.WriteFault) }
+    ensures words { 0 < length words.now → result.kind ≡ CellKind.Words 1 }
+    ensures no_words { (place : ℕ) → result.kind ≡ CellKind.Words place →
+        (0 < length words.now) × (input.new ≡ input.old) × (out.new ≡ out.old) × (disks.new ≡ disks.old) }
     ensures twenty { vec_len disks.new ≡ 20 }
     ensures others { drop 1 disks.new.items ≡ drop 1 disks.old.items }
 {
-    prove!(words.is_empty());
+    if !words.is_empty() {
+        let kind = CellKind::Words { place: 1 };
+        return CellEnd {
+            status: status_of(kind),
+            kind,
+        };
+    }
     let disk = disks.remove(0);
     let (disk, kind) = run_script(alloc, input, out, disk);
     disks.insert(0, disk).unwrap();

@@ -4,9 +4,11 @@ ghost use Rattle.std.specs.Fmt.{signed_decimal};
 ghost use Rattle.std.specs.Int.{w32, from_be_bytes, cast_signed};
 ghost use Rattle.std.specs.String.{string_bytes};
 ghost use Rattle.cell_model.specs.World.{Halts, Stays_down};
-ghost use Rattle.ubik_cell.specs.Trace.{phase_word, applied_word, fields_text, version_text, reply_text, output_text, happening_text, refusal_text};
+ghost use Rattle.ubik_cell.specs.Trace.{phase_word, applied_word, fields_text, version_text, reply_text, output_text, happening_text, why_word, which_word, ending_text};
 
+use crate::cells::{Ending, Which};
 use cell_model::{Output, Reply};
+use cell_script::Why;
 use ubik_types::{Applied, NoMemory, Phase, Version};
 
 fn phase_word(phase: Phase) -> &'static str
@@ -131,11 +133,45 @@ pub fn tell_stays_down(text: &mut String, server: u32) -> Result<(), NoMemory>
     Ok(())
 }
 
-/// Adds the last line of a script that is refused at this line, counted from 1. After an `Err` a part of the line
-/// may stand at the end.
-pub fn tell_refusal(text: &mut String, line: u32) -> Result<(), NoMemory>
-    ensures { OnOk result (string_bytes text.new ≡ string_bytes text.old ++ refusal_text line) }
+fn why_word(why: Why) -> &'static str
+    ensures { result.now ≡ why_word why }
 {
-    writeln!(text, "refused line {line} unbuilt")?;
+    match why {
+        Why::Syntax => "syntax",
+        Why::Number => "number",
+        Why::Cell => "cell",
+        Why::Server => "server",
+        Why::State => "state",
+        Why::Packet => "packet",
+        Why::Skew => "skew",
+        Why::Unbuilt => "unbuilt",
+    }
+}
+
+fn which_word(which: Which) -> &'static str
+    ensures { result.now ≡ which_word which }
+{
+    match which {
+        Which::Lines => "lines",
+        Which::Packets => "packets",
+        Which::PacketBytes => "packetbytes",
+    }
+}
+
+/// Adds the last line of the trace of a script that ended at this line, counted from 1. After an `Err` a part of the
+/// line may stand at the end.
+pub fn tell_ending(text: &mut String, line: u32, ending: Ending) -> Result<(), NoMemory>
+    ensures { OnOk result (string_bytes text.new ≡ string_bytes text.old ++ ending_text line ending) }
+{
+    match ending {
+        Ending::Refused(why) => {
+            let why = why_word(why);
+            writeln!(text, "refused line {line} {why}")?;
+        }
+        Ending::Limit(which) => {
+            let which = which_word(which);
+            writeln!(text, "limit line {line} {which}")?;
+        }
+    }
     Ok(())
 }

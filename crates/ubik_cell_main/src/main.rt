@@ -7,7 +7,7 @@ ghost use Rattle.ubik_cell.specs.Disks.{AllFresh};
 
 use disk_base::{MemDisk, ReaderSource, WriterSink};
 use std::alloc::Global;
-use std::env::{Env, FillError};
+use std::env;
 use std::io::{self, BufReader, BufWriter, Write};
 use std::process::ExitCode;
 use ubik_cell::cell_top;
@@ -19,7 +19,7 @@ const WRITE_FAULT: u8 = 3;
 /// Memory ran out.
 const NO_MEMORY: u8 = 5;
 
-/// There is a word, and the program takes none.
+/// There is a word that is not UTF-8, and the program takes none.
 const WORDS: u8 = 6;
 
 /// The empty disks of a cell, in memory.
@@ -34,13 +34,19 @@ fn fresh_disks(alloc: Global) -> Result<Vec<MemDisk>, NoMemory>
     Ok(disks)
 }
 
-/// Whether the program was given a word.
-fn has_word(rt: &impl Env) -> bool {
-    !matches!(rt.arg(1, &mut [0u8; 0]), Err(FillError::NotPresent))
+/// The words that the program was given, behind its name. One that is not UTF-8 is invalid data.
+fn words(rt: &HostRuntime) -> io::Result<Vec<String>> {
+    let mut words = Vec::new(rt.alloc());
+    for word in env::args(rt)?.skip(1) {
+        if words.push(word).is_err() {
+            return Err(io::Error::from(io::ErrorKind::OutOfMemory));
+        }
+    }
+    Ok(words)
 }
 
 /// Runs the script. The trace is buffered, and what is left of it goes out at every end.
-fn run(rt: &HostRuntime) -> Result<u8, NoMemory> {
+fn run(rt: &HostRuntime, words: &[String]) -> Result<u8, NoMemory> {
     let alloc = rt.alloc();
     let mut disks = fresh_disks(alloc)?;
     let Ok(reader) = BufReader::new(alloc, rt.reader()) else {
@@ -51,7 +57,7 @@ fn run(rt: &HostRuntime) -> Result<u8, NoMemory> {
     };
     let mut input = ReaderSource::new(reader);
     let mut out = WriterSink::new(writer);
-    let end = cell_top(alloc, &[], &mut input, &mut out, &mut disks);
+    let end = cell_top(alloc, words, &mut input, &mut out, &mut disks);
     match out.into_inner().flush() {
         Ok(()) => Ok(end.status),
         Err(_) => Ok(WRITE_FAULT),
@@ -59,10 +65,12 @@ fn run(rt: &HostRuntime) -> Result<u8, NoMemory> {
 }
 
 fn main(rt: HostRuntime) -> ExitCode {
-    if has_word(&rt) {
-        return ExitCode::from(WORDS);
-    }
-    match run(&rt) {
+    let words = match words(&rt) {
+        Ok(words) => words,
+        Err(error) if error.kind() == io::ErrorKind::InvalidData => return ExitCode::from(WORDS),
+        Err(_) => return ExitCode::from(NO_MEMORY),
+    };
+    match run(&rt, &words) {
         Ok(status) => ExitCode::from(status),
         Err(NoMemory) => ExitCode::from(NO_MEMORY),
     }

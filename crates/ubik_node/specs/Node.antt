@@ -1,5 +1,5 @@
 -- What a node stands for, and what a step of it is.
-use Rattle.std.specs.Prelude.{◌≡◌, ◌+◌, ◌*◌, ℕ, Bool, false, if◌then◌else◌, Option, Some, IfSome, List, [], length}
+use Rattle.std.specs.Prelude.{◌≡◌, ◌⊎◌, option_map, ◌+◌, ◌*◌, ℕ, Bool, false, if◌then◌else◌, Option, Some, IfSome, List, [], length}
 use Rattle.disk_base.specs.Files.{Files}
 use Rattle.db_image.specs.Database.{Database}
 use Rattle.cell_model.specs.declared.events.NodeEvent.{NodeEvent}
@@ -10,6 +10,7 @@ use Rattle.cell_model.specs.NodeRule.{Stepped, step_of, refusals}
 use Rattle.ubik_node.specs.declared.nodes.Node.{Node}
 use Rattle.ubik_node.specs.declared.nodes.StepEnd.{StepEnd}
 use Rattle.ubik_node.specs.declared.nodes.StepEnd.TheVariants.{Done, Halted, NoMemory}
+use Rattle.ubik_node.specs.Database.{with_database}
 use Rattle.ubik_node.specs.Label.{durable_of}
 use Rattle.ubik_node.specs.State.{server_of}
 
@@ -30,6 +31,12 @@ IsStored files n =
 -- the disk keeps its files, and no changing call of it was made
 abbrev pub KeepsDisk : {D V : Type 0} → (D → Option Files) → (D → ℕ) → Node D V → Node D V → Type 0
 KeepsDisk files steps before after = (files after.disk ≡ files before.disk) × (steps after.disk ≡ steps before.disk)
+
+-- of the files of the disk no other than the database file was changed
+abbrev pub OnlyDatabase : {D V : Type 0} → (D → Option Files) → Node D V → Node D V → Type 0
+OnlyDatabase files before after =
+    (files after.disk ≡ files before.disk)
+    ⊎ ((bytes : List ℕ) × (files after.disk ≡ option_map (with_database bytes) (files before.disk)))
 
 -- a step that was made: the server after it, what it put out, and four changing calls of the disk for each
 -- durable call

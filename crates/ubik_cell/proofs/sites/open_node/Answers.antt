@@ -1,9 +1,9 @@
-use Rattle.std.proofs.Common.{refl, ap, ◌∙◌}
+use Rattle.std.proofs.Common.{refl, ap, ◌∙◌, ◌≤◌, arith}
 use Rattle.std.specs.String.{string_bytes}
 use Rattle.std.proofs.lemmas.List.Sorted.{length_permutation}
 use Rattle.cell_model.specs.Durable.{Durable}
 use Rattle.cell_model.specs.Node as model
-use Rattle.ubik_cell.proofs.Opening.{fresh_durable, refused_by_fault, down_after_fault}
+use Rattle.ubik_cell.proofs.Opening.{fresh_durable, refused_by_fault, down_after_fault, sound_down, fresh_disk}
 use Rattle.ubik_cell.proofs.sites.open_node.Goals as goal
 
 pub open-requires-clause-alone : goal.open-requires-clause-alone
@@ -20,3 +20,15 @@ returns-in-Err-clause-told g c = λ told.
     let down = c.keep_down.ensures.told told in
     let fault = refused_by_fault _ c.in-Err.refused.why c.requires.empty c.in-Err.ensures.refused down.0 in
     down_after_fault g.D.Disk.faults c.args.clock c.args.disk c.in-Err.refused.disk c.keep_down.result.0 (string_bytes c.args.text.now) (string_bytes c.keep_down.new.text) (c.in-Err.ensures.fault fault) down.1
+
+pub returns-in-Ok-open-clause-sound : goal.returns-in-Ok-open-clause-sound
+returns-in-Ok-open-clause-sound g c = λ told.
+    let o = c.in-Ok-open.ensures.opened in
+    let last : c.in-Ok-open.node.last ≤ c.args.clock = omega (arith, c.in-Ok-open.ensures.kept.2) in
+    (c.requires.moment, last, fresh_disk g.D.Disk.files g.D.Disk.faults c.args.disk _ _ c.requires.empty o.1 c.in-Ok-open.ensures.stored c.in-Ok-open.ensures.kept.0)
+
+pub returns-in-Err-clause-sound : goal.returns-in-Err-clause-sound
+returns-in-Err-clause-sound g c = λ told.
+    let down = c.keep_down.ensures.told told in
+    let fault = refused_by_fault _ c.in-Err.refused.why c.requires.empty c.in-Err.ensures.refused down.0 in
+    sound_down g.D.Disk.files g.D.Disk.faults c.args.clock c.args.disk c.in-Err.refused.disk c.keep_down.result.0 (string_bytes c.args.text.now) (string_bytes c.keep_down.new.text) c.requires.moment (c.in-Err.ensures.fault fault) down.1

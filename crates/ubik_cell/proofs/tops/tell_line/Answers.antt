@@ -3,12 +3,12 @@ use Rattle.cell_script.specs.Write.{AppendsPart}
 use Rattle.prdb_entries.specs.Protection.{protection}
 use Rattle.ubik_cell.specs.Script.{told}
 use Rattle.ubik_cell.proofs.Telling.{over_told}
-use Rattle.ubik_cell.proofs.Turning.{went_on, part_told, retold, ends_refused}
+use Rattle.ubik_cell.proofs.Turning.{went_on, part_told, retold, ends_there}
 use Rattle.ubik_cell.proofs.tops.tell_line.Goals as goal
 
-pub returns-in-Refused-clause-ends : goal.returns-in-Refused-clause-ends
-returns-in-Refused-clause-ends g c =
-    ends_refused _ _ _ _ _ c.args.run _ _ c.args.line.now c.refuse.ensures.ends c.refuse.ensures.same (c.line-run.ensures.refused c.in-Refused.is) (c.line-run.ensures.kept_lines c.in-Refused.is) c.line-run.ensures.never_falls
+pub returns-in-Ended-clause-ends : goal.returns-in-Ended-clause-ends
+returns-in-Ended-clause-ends g c =
+    ends_there _ _ _ _ _ c.args.run _ _ c.args.line.now c.in-Ended.ending c.end_at_line.ensures.ends c.end_at_line.ensures.same (c.line-run.ensures.ended c.in-Ended.ending c.in-Ended.is) (c.line-run.ensures.kept_lines c.in-Ended.ending c.in-Ended.is) c.line-run.ensures.never_falls
 
 pub returns-in-Ok-clause-goes : goal.returns-in-Ok-clause-goes
 returns-in-Ok-clause-goes g c = λ went.

@@ -17,7 +17,7 @@ returns-in-Failed-clause-ends g c =
 
 pub returns-in-TooLong-clause-ends : goal.returns-in-TooLong-clause-ends
 returns-in-TooLong-clause-ends g c =
-    ends_long protection g.D.Disk.faults _ _ _ _ _ c.args.run _ c.refuse.ensures.ends c.refuse.ensures.same c.in-TooLong.ensures.told
+    ends_long protection g.D.Disk.faults _ _ _ _ _ c.args.run _ _ c.end_at_line.ensures.ends c.end_at_line.ensures.same c.ending_at_long_line-ending.ensures c.in-TooLong.ensures.told
 
 pub returns-in-Line-clause-goes : goal.returns-in-Line-clause-goes
 returns-in-Line-clause-goes g c = λ went.

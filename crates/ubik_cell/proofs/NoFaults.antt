@@ -1,0 +1,123 @@
+-- Where no fault of a disk is seen, a line does what it does where no disk fails.
+use Rattle.std.proofs.Common.{◌≡◌, ◌≤◌, ◌+◌, ◌-◌, cond, nat_le, ℕ, zero, suc, Bool, true, false, List, [], ◌∷◌, ◌++◌, length, map, Option, Some, None, IfSome, Result, Ok, Err, refl, sym, ap, ◌∙◌, arith}
+use Rattle.db_image.specs.Database.{Database}
+use Rattle.prdb_entries.specs.Words.{call_of_words, is_unbuilt}
+use Rattle.cell_model.specs.Book.{Run, run_with}
+use Rattle.cell_model.specs.declared.events.NodeEvent.{NodeEvent}
+use Rattle.cell_model.specs.declared.events.NodeEvent.TheVariants as event
+use Rattle.cell_model.specs.declared.events.Output.{Output}
+use Rattle.cell_model.specs.Node.{Node, Down, Halted, Up}
+use Rattle.cell_model.specs.NodeRule.{refusals}
+use Rattle.cell_model.specs.World.{Site, World, Step, Fault, Puts, Halts, Happening, Happened, Site_happened, Entry, step_at, fault_at, at_site, from_site, site_of, happens}
+use Rattle.cell_model.specs.Durable.{Transaction}
+use Rattle.cell_script.specs.Meaning.{line_of}
+use Rattle.cell_script.specs.declared.lines.Line.{Line}
+use Rattle.cell_script.specs.declared.lines.Line.TheVariants as line
+use Rattle.cell_script.specs.declared.lines.Why.{Why}
+use Rattle.cell_script.specs.declared.lines.Why.TheVariants as why
+use Rattle.ubik_cell.specs.declared.cells.Ending.{Ending}
+use Rattle.ubik_cell.specs.declared.cells.Ending.TheVariants.{Limit}
+use Rattle.ubik_cell.specs.declared.cells.Which.TheVariants.{Lines}
+use Rattle.ubik_cell.specs.Script.{Luck, Sound, Faulty, Reading, Stage, Line_run, next_line, with_event, step_event, in_run, is_there, is_up_at, stepped, asked_in, asked_at, ask_run, opened, line_run, meaning_run, or_refused, line_result, fault_count}
+
+-- a list that ends with a halt has a fault
+halt_counts : (me : ℕ) (outputs : List Output) → fault_count (map (Puts me) outputs ++ Halts me ∷ []) ≡ 1
+halt_counts me [] = refl
+halt_counts me (o ∷ outputs) = halt_counts me outputs
+
+-- a step with a faulty disk in which no fault is seen
+same_at : (db : Database) (n me : ℕ) (site : Site) (e : NodeEvent) (made : ℕ) (node : Node) → fault_count (fault_at db n me site e [] made node).seen ≤ 0 → fault_at db n me site e [] made node ≡ step_at db n me site e [] node
+same_at db n me site e made Down none = refl
+same_at db n me site e made (Halted h) none = refl
+same_at db n me site e made (Up s) none = absurd (omega (arith, none, halt_counts me (refusals e)))
+
+-- where two functions agree at the site of a number, they lead to the same
+same_sites : (f g : Site → Site_happened) (sites : List Site) (p : ℕ) → IfSome (site_of sites p) (λ site. f site ≡ g site) → at_site f sites p ≡ at_site g sites p
+same_sites f g [] p same = refl
+same_sites f g (site ∷ sites) zero same = ap (λ (h : Site_happened). h.site ∷ sites) same
+same_sites f g (site ∷ sites) (suc p) same = ap (λ (more : List Site). site ∷ more) (same_sites f g sites p same)
+
+same_from : {A : Type 0} (part : Site_happened → List A) (f g : Site → Site_happened) (sites : List Site) (p : ℕ) → IfSome (site_of sites p) (λ site. f site ≡ g site) → from_site part f sites p ≡ from_site part g sites p
+same_from part f g [] p same = refl
+same_from part f g (site ∷ sites) zero same = ap part same
+same_from part f g (site ∷ sites) (suc p) same = same_from part f g sites p same
+
+agrees : (db : Database) (n me : ℕ) (e : NodeEvent) (made : ℕ) (sites : List Site) (p : ℕ) → fault_count (from_site (λ h. h.seen) (λ (site : Site). fault_at db n me site e [] made site.node) sites p) ≤ 0 → IfSome (site_of sites p) (λ site. fault_at db n me site e [] made site.node ≡ step_at db n me site e [] site.node)
+agrees db n me e made [] p none = tt
+agrees db n me e made (site ∷ sites) zero none = same_at db n me site e made site.node none
+agrees db n me e made (site ∷ sites) (suc p) none = agrees db n me e made sites p none
+
+happened : List Site → List Happening → List Entry → List Transaction → Happened
+happened sites seen entries acknowledged = record { world = record { sites = sites }; seen = seen; entries = entries; acknowledged = acknowledged }
+
+no_fault : (db : Database) (w : World) (p : ℕ) (e : NodeEvent) (made : ℕ) → fault_count (happens db w (Fault p e [] made)).seen ≤ 0 → happens db w (Fault p e [] made) ≡ happens db w (Step p e [])
+unfolding happened
+no_fault db w p e made none =
+    let n = length w.sites in
+    let f : Site → Site_happened = λ site. fault_at db n p site e [] made site.node in
+    let g : Site → Site_happened = λ site. step_at db n p site e [] site.node in
+    let same = agrees db n p e made w.sites p none in
+    ap (λ (sites : List Site). happened sites (from_site (λ h. h.seen) f w.sites p) (from_site (λ h. h.entries) f w.sites p) (from_site (λ h. h.acknowledged) f w.sites p)) (same_sites f g w.sites p same)
+    ∙ ap (λ (seen : List Happening). happened (at_site g w.sites p) seen (from_site (λ h. h.entries) f w.sites p) (from_site (λ h. h.acknowledged) f w.sites p)) (same_from (λ h. h.seen) f g w.sites p same)
+    ∙ ap (λ (entries : List Entry). happened (at_site g w.sites p) (from_site (λ h. h.seen) g w.sites p) entries (from_site (λ h. h.acknowledged) f w.sites p)) (same_from (λ h. h.entries) f g w.sites p same)
+    ∙ ap (λ (acknowledged : List Transaction). happened (at_site g w.sites p) (from_site (λ h. h.seen) g w.sites p) (from_site (λ h. h.entries) g w.sites p) acknowledged) (same_from (λ h. h.acknowledged) f g w.sites p same)
+
+-- no fault is seen of a line
+abbrev pub IsFree : {E : Type 0} → Result Line_run E → Type 0
+IsFree (Ok run) = fault_count run.seen ≤ 0
+IsFree (Err e) = Unit {0}
+
+-- a line that brings what happened
+event_run : Stage → Run → Happened → Line_run
+event_run st r h = record { stage = record (next_line st) { run = Some (run_with r h) }; seen = h.seen }
+
+stepped_free : (db : Database) (st : Stage) (number : ℕ) (e : NodeEvent) (r : Run) (made : ℕ) (there up : Bool) → IsFree (cond {A = Result Line_run Why} there (cond up (Ok (with_event db st r (step_event (Faulty made) (number - 1) e))) (Err why.State)) (Err why.Server)) → cond {A = Result Line_run Why} there (cond up (Ok (with_event db st r (step_event Sound (number - 1) e))) (Err why.State)) (Err why.Server) ≡ cond there (cond up (Ok (with_event db st r (step_event (Faulty made) (number - 1) e))) (Err why.State)) (Err why.Server)
+unfolding event_run
+stepped_free db st number e r made true true free =
+    let same = no_fault db r.world (number - 1) e made free in
+    ap (λ (h : Happened). Ok (event_run st r h)) (sym same)
+stepped_free db st number e r made true false free = refl
+stepped_free db st number e r made false up free = refl
+
+in_run_free : (db : Database) (st : Stage) (number : ℕ) (e : NodeEvent) (made : ℕ) (run : Option Run) → IsFree (in_run (stepped db st (Faulty made) number e) run) → in_run (stepped db st Sound number e) run ≡ in_run (stepped db st (Faulty made) number e) run
+in_run_free db st number e made None free = refl
+in_run_free db st number e made (Some r) free = stepped_free db st number e r made (is_there r.world.sites number) (is_up_at r.world.sites (number - 1)) free
+
+asked_free : (db : Database) (st : Stage) (made : ℕ) (server : Option ℕ) (words : List (List ℕ)) (call : Option (List ℕ)) (r : Run) → IsFree (asked_in db st (Faulty made) server words call r) → asked_in db st Sound server words call r ≡ asked_in db st (Faulty made) server words call r
+asked_free db st made server words None r free = refl
+asked_free db st made None words (Some call) r free = refl
+asked_free db st made (Some number) words (Some call) r free =
+    stepped_free db (record st { calls = st.calls ++ call ∷ [] }) number (event.Ask (length st.calls + 1) call) r made (is_there r.world.sites number) (is_up_at r.world.sites (number - 1)) free
+
+ask_free : (db : Database) (st : Stage) (made : ℕ) (server : Option ℕ) (words : List (List ℕ)) (run : Option Run) → IsFree (ask_run db st (Faulty made) server words run) → ask_run db st Sound server words run ≡ ask_run db st (Faulty made) server words run
+ask_free db st made server words None free = refl
+ask_free db st made server words (Some r) free = asked_free db st made server words (call_of_words words) r free
+
+opened_free : (st : Stage) (clock made : ℕ) (run : Option Run) → IsFree (opened st (Faulty made) clock run) → opened st Sound clock run ≡ opened st (Faulty made) clock run
+opened_free st clock made None free = absurd (omega (arith, free))
+opened_free st clock made (Some r) free = refl
+
+line_free : (db : Database) (st : Stage) (made : ℕ) (l : Line) → IsFree (line_run db st (Faulty made) l) → line_run db st Sound l ≡ line_run db st (Faulty made) l
+line_free db st made line.Nothing free = refl
+line_free db st made (line.Cell clock) free = opened_free st clock made st.run free
+line_free db st made (line.TickAll seconds) free = refl
+line_free db st made (line.Beacon server) free = in_run_free db st server event.BeaconTurn made st.run free
+line_free db st made (line.Recover server) free = in_run_free db st server event.RecoverTurn made st.run free
+line_free db st made (line.Ask server words) free = ask_free db st made server words st.run free
+
+meaning_free : (db : Database) (st : Stage) (made : ℕ) (meaning : Result Line Why) → IsFree (meaning_run db st (Faulty made) meaning) → meaning_run db st Sound meaning ≡ meaning_run db st (Faulty made) meaning
+meaning_free db st made (Err w) free = refl
+meaning_free db st made (Ok l) free = line_free db st made l free
+
+free_or_refused : (r : Result Line_run Why) → IsFree (or_refused r) → IsFree r
+free_or_refused (Ok run) free = free
+free_or_refused (Err w) free = tt
+
+result_free : (db : Database) (st : Stage) (made : ℕ) (meaning : Result Line Why) (past : Bool) → IsFree (cond {A = Result Line_run Ending} past (Err (Limit Lines)) (or_refused (meaning_run db st (Faulty made) meaning))) → cond {A = Result Line_run Ending} past (Err (Limit Lines)) (or_refused (meaning_run db st Sound meaning)) ≡ cond past (Err (Limit Lines)) (or_refused (meaning_run db st (Faulty made) meaning))
+result_free db st made meaning true free = refl
+result_free db st made meaning false free = ap or_refused (meaning_free db st made meaning (free_or_refused (meaning_run db st (Faulty made) meaning) free))
+
+-- a line of which no fault is seen is the same where no disk fails
+pub sound_result : (db : Database) (st : Stage) (bytes : List ℕ) (luck : Luck) → IsFree (line_result db st (record { line = bytes; luck = luck })) → line_result db st (record { line = bytes; luck = Sound }) ≡ line_result db st (record { line = bytes; luck = luck })
+sound_result db st bytes Sound free = refl
+sound_result db st bytes (Faulty made) free = result_free db st made (line_of bytes) (nat_le 20000 st.lines) free
