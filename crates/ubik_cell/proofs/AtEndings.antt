@@ -2,13 +2,14 @@
 use Rattle.std.proofs.Common.{take, drop, ◌≡◌, ◌+◌, ℕ, List, [], ◌∷◌, ◌++◌, Option, Some, None, Err, sym, ap, subst, ◌∙◌, arith, append_assoc}
 use Rattle.std.proofs.lemmas.List.{take-append-drop}
 use Rattle.db_image.specs.Database.{Database}
+use Rattle.disk_base.specs.Files.{Files}
 use Rattle.ubik_cell.specs.declared.scripts.CellRun.{CellRun}
 use Rattle.ubik_cell.specs.declared.cells.CellKind.{CellKind}
 use Rattle.ubik_cell.specs.declared.cells.Ending.{Ending}
 use Rattle.ubik_cell.specs.declared.cells.Ending.TheVariants.{Refused, Limit}
 use Rattle.ubik_cell.specs.Script.{Sound, Reading, Told, told, stop_at}
-use Rattle.ubik_cell.specs.Run.{AtEnding, Runs, RanUntil, RanInPart, RanShort, kind_at}
-use Rattle.ubik_cell.specs.Sites.{site_faults}
+use Rattle.ubik_cell.specs.Run.{AtEnding, Holds, Runs, RanUntil, RanInPart, RanShort, kind_at}
+use Rattle.ubik_cell.specs.Sites.{site_held}
 use Rattle.ubik_cell.specs.Trace.{ending_text}
 use Rattle.ubik_cell.proofs.Telling.{told-push, same_some}
 
@@ -17,9 +18,9 @@ last : List ℕ → Reading
 last line = record { line = line; luck = Sound }
 
 -- the end was told
-pub told_ending : {D : Type 0} (db : Database) (faults : D → ℕ) (text : List ℕ) (left : Option (List ℕ)) (before written : List ℕ) (after : Option (List ℕ)) (run : CellRun D) (ending : Ending) (number : ℕ) → number ≡ run.counts.lines + 1 → AtEnding db faults text left before (Some written) run ending → after ≡ Some (written ++ ending_text number ending) → RanUntil db number ending text left before after (site_faults faults run.site)
+pub told_ending : {D : Type 0} (db : Database) (files : D → Option Files) (faults : D → ℕ) (text : List ℕ) (left : Option (List ℕ)) (before written : List ℕ) (after : Option (List ℕ)) (run : CellRun D) (ending : Ending) (number : ℕ) → number ≡ run.counts.lines + 1 → AtEnding db files faults text left before (Some written) run ending → after ≡ Some (written ++ ending_text number ending) → RanUntil db number ending text left before after (site_held files faults run.site)
 unfolding last
-told_ending db faults text left before written after run ending number next at wrote =
+told_ending db files faults text left before written after run ending number next at wrote =
     let t = told db at.readings in
     let more = told-push db at.readings (last at.line) (Err ending) at.good (at.ends Sound) in
     let line : number ≡ t.stage.lines + 1 = omega (arith, at.at) in
@@ -41,6 +42,7 @@ told_ending db faults text left before written after run ending number next at w
           ∙ ap Some (append_assoc before t.text (ending_text (t.stage.lines + 1) ending))
           ∙ ap (λ (d : Told). Some (before ++ d.text)) (sym more);
       causes = omega (arith, ap (λ (d : Told). d.faults) more, at.causes);
+      holds = at.holds;
     }
 
 -- a part and what is behind it
@@ -50,9 +52,9 @@ rejoined text bytes count =
     ∙ sym (append_assoc text (take count bytes) (drop count bytes))
 
 -- the sink failed in telling the end
-pub part_of_ending : {D : Type 0} (db : Database) (faults : D → ℕ) (text : List ℕ) (left : Option (List ℕ)) (before written : List ℕ) (after : Option (List ℕ)) (run : CellRun D) (ending : Ending) (number count : ℕ) → number ≡ run.counts.lines + 1 → AtEnding db faults text left before (Some written) run ending → after ≡ Some (written ++ take count (ending_text number ending)) → RanInPart db text left before after (site_faults faults run.site)
+pub part_of_ending : {D : Type 0} (db : Database) (files : D → Option Files) (faults : D → ℕ) (text : List ℕ) (left : Option (List ℕ)) (before written : List ℕ) (after : Option (List ℕ)) (run : CellRun D) (ending : Ending) (number count : ℕ) → number ≡ run.counts.lines + 1 → AtEnding db files faults text left before (Some written) run ending → after ≡ Some (written ++ take count (ending_text number ending)) → RanInPart db text left before after (site_held files faults run.site)
 unfolding last
-part_of_ending db faults text left before written after run ending number count next at wrote =
+part_of_ending db files faults text left before written after run ending number count next at wrote =
     let t = told db at.readings in
     let more = told-push db at.readings (last (take 1025 at.line)) (Err ending) at.good (at.ends_part Sound) in
     let line : number ≡ t.stage.lines + 1 = omega (arith, at.at) in
@@ -75,11 +77,12 @@ part_of_ending db faults text left before written after run ending number count 
           wrote ∙ ap (λ (w : List ℕ). Some (w ++ take count (ending_text number ending))) (same_some at.wrote)
           ∙ ap Some (append_assoc before t.text (take count (ending_text number ending)));
       causes = omega (arith, ap (λ (d : Told). d.faults) more, at.causes);
+      holds = let P : Told → Type 0 = λ d. Holds (site_held files faults run.site) d.stage in subst P (sym more) at.holds;
     }
 
 -- memory ran out in telling the end
-pub short_of_ending : {D : Type 0} (db : Database) (faults : D → ℕ) (text : List ℕ) (left : Option (List ℕ)) (before : List ℕ) (after : Option (List ℕ)) (run : CellRun D) (ending : Ending) → AtEnding db faults text left before after run ending → RanShort db text left before after (site_faults faults run.site)
-short_of_ending db faults text left before after run ending at =
+pub short_of_ending : {D : Type 0} (db : Database) (files : D → Option Files) (faults : D → ℕ) (text : List ℕ) (left : Option (List ℕ)) (before : List ℕ) (after : Option (List ℕ)) (run : CellRun D) (ending : Ending) → AtEnding db files faults text left before after run ending → RanShort db text left before after (site_held files faults run.site)
+short_of_ending db files faults text left before after run ending at =
     record {
       readings = at.readings;
       read = at.read;
@@ -95,10 +98,10 @@ short_of_ending db faults text left before after run ending at =
     }
 
 -- the end was told, and the run ends so
-pub told_kind : {D : Type 0} (db : Database) (faults : D → ℕ) (text : List ℕ) (left : Option (List ℕ)) (before written : List ℕ) (after : Option (List ℕ)) (run : CellRun D) (ending : Ending) (number : ℕ) (kind : CellKind) → kind ≡ kind_at number ending → number ≡ run.counts.lines + 1 → AtEnding db faults text left before (Some written) run ending → after ≡ Some (written ++ ending_text number ending) → Runs kind db text left before after (site_faults faults run.site)
-told_kind db faults text left before written after run (Refused w) number kind is next at wrote =
-    let P : CellKind → Type 0 = λ k. Runs k db text left before after (site_faults faults run.site) in
-    subst P (sym is) (told_ending db faults text left before written after run (Refused w) number next at wrote)
-told_kind db faults text left before written after run (Limit w) number kind is next at wrote =
-    let P : CellKind → Type 0 = λ k. Runs k db text left before after (site_faults faults run.site) in
-    subst P (sym is) (told_ending db faults text left before written after run (Limit w) number next at wrote)
+pub told_kind : {D : Type 0} (db : Database) (files : D → Option Files) (faults : D → ℕ) (text : List ℕ) (left : Option (List ℕ)) (before written : List ℕ) (after : Option (List ℕ)) (run : CellRun D) (ending : Ending) (number : ℕ) (kind : CellKind) → kind ≡ kind_at number ending → number ≡ run.counts.lines + 1 → AtEnding db files faults text left before (Some written) run ending → after ≡ Some (written ++ ending_text number ending) → Runs kind db text left before after (site_held files faults run.site)
+told_kind db files faults text left before written after run (Refused w) number kind is next at wrote =
+    let P : CellKind → Type 0 = λ k. Runs k db text left before after (site_held files faults run.site) in
+    subst P (sym is) (told_ending db files faults text left before written after run (Refused w) number next at wrote)
+told_kind db files faults text left before written after run (Limit w) number kind is next at wrote =
+    let P : CellKind → Type 0 = λ k. Runs k db text left before after (site_held files faults run.site) in
+    subst P (sym is) (told_ending db files faults text left before written after run (Limit w) number next at wrote)

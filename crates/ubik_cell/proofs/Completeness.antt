@@ -8,6 +8,7 @@ use Rattle.ubik_cell.specs.declared.cells.Ending.{Ending}
 use Rattle.ubik_cell.specs.declared.cells.Ending.TheVariants.{Refused, Limit}
 use Rattle.ubik_cell.specs.Script.{Luck, Sound, Reading, Line_run, Stop, Told, first_told, fault_count, told_with, told_unless, told_after, told_from, told, line_result, sound_readings}
 use Rattle.ubik_cell.specs.Run.{Runs, RanUntil, IsInside, IsDoneOrShort, read_lines}
+use Rattle.ubik_cell.specs.Sites.{Held}
 use Rattle.ubik_cell.proofs.NoFaults.{IsFree, sound_result}
 use Rattle.ubik_cell.proofs.Telling.{read_lines-push}
 
@@ -60,8 +61,8 @@ sound_append [] ys = refl
 sound_append (l ∷ xs) ys = ap (λ (more : List Reading). record { line = l; luck = Sound } ∷ more) (sound_append xs ys)
 
 -- a script that ended at a line is not inside the language, where no fault was seen
-never_inside : (db : Database) (line : ℕ) (ending : Ending) (script : List ℕ) (left : Option (List ℕ)) (before : List ℕ) (after : Option (List ℕ)) (faults : ℕ) → RanUntil db line ending script left before after faults → faults ≡ 0 → IsInside db script → ⊥
-never_inside db line ending script left before after faults ran none inside =
+never_inside : (db : Database) (line : ℕ) (ending : Ending) (script : List ℕ) (left : Option (List ℕ)) (before : List ℕ) (after : Option (List ℕ)) (disk : Held) → RanUntil db line ending script left before after disk → disk.faults ≡ 0 → IsInside db script → ⊥
+never_inside db line ending script left before after disk ran none inside =
     let all = ran.readings ++ ran.last ∷ [] in
     let free : (told db all).faults ≤ 0 = omega (arith, ran.causes, none) in
     let lines : lines_of script ≡ read_lines all ++ ran.later =
@@ -78,20 +79,20 @@ never_inside db line ending script left before after faults ran none inside =
     cc
 
 -- a run that ended so ended well
-pub complete_run : (k : CellKind) (db : Database) (script : List ℕ) (left : Option (List ℕ)) (before : List ℕ) (after : Option (List ℕ)) (faults : ℕ) → Runs k db script left before after faults → faults ≡ 0 → IsInside db script → k ≢ kind.ReadFault → k ≢ kind.WriteFault → ((place : ℕ) → k ≢ kind.Words place) → IsDoneOrShort k
-complete_run kind.Done db script left before after faults runs none inside read wrote words = tt
-complete_run (kind.ScriptRefused line why) db script left before after faults runs none inside read wrote words =
-    absurd (never_inside db line (Refused why) script left before after faults runs none inside)
-complete_run kind.ReadFault db script left before after faults runs none inside read wrote words = absurd (read refl)
-complete_run kind.WriteFault db script left before after faults runs none inside read wrote words = absurd (wrote refl)
-complete_run (kind.Limit line which) db script left before after faults runs none inside read wrote words =
-    absurd (never_inside db line (Limit which) script left before after faults runs none inside)
-complete_run kind.NoMemory db script left before after faults runs none inside read wrote words = tt
-complete_run (kind.Words place) db script left before after faults runs none inside read wrote words = absurd (words place refl)
+pub complete_run : (k : CellKind) (db : Database) (script : List ℕ) (left : Option (List ℕ)) (before : List ℕ) (after : Option (List ℕ)) (disk : Held) → Runs k db script left before after disk → disk.faults ≡ 0 → IsInside db script → k ≢ kind.ReadFault → k ≢ kind.WriteFault → ((place : ℕ) → k ≢ kind.Words place) → IsDoneOrShort k
+complete_run kind.Done db script left before after disk runs none inside read wrote words = tt
+complete_run (kind.ScriptRefused line why) db script left before after disk runs none inside read wrote words =
+    absurd (never_inside db line (Refused why) script left before after disk runs none inside)
+complete_run kind.ReadFault db script left before after disk runs none inside read wrote words = absurd (read refl)
+complete_run kind.WriteFault db script left before after disk runs none inside read wrote words = absurd (wrote refl)
+complete_run (kind.Limit line which) db script left before after disk runs none inside read wrote words =
+    absurd (never_inside db line (Limit which) script left before after disk runs none inside)
+complete_run kind.NoMemory db script left before after disk runs none inside read wrote words = tt
+complete_run (kind.Words place) db script left before after disk runs none inside read wrote words = absurd (words place refl)
 
 -- the same where the source and the sink tell
-pub complete_told : (k : CellKind) (db : Database) (left later written after : Option (List ℕ)) (faults : ℕ) → IfSome left (λ script. IfSome written (λ before. Runs k db script later before after faults)) → faults ≡ 0 → k ≢ kind.ReadFault → k ≢ kind.WriteFault → ((place : ℕ) → k ≢ kind.Words place) → IfSome left (λ script. IfSome written (λ before. IsInside db script → IsDoneOrShort k))
-complete_told k db None later written after faults runs none read wrote words = tt
-complete_told k db (Some script) later None after faults runs none read wrote words = tt
-complete_told k db (Some script) later (Some before) after faults runs none read wrote words = λ inside.
-    complete_run k db script later before after faults runs none inside read wrote words
+pub complete_told : (k : CellKind) (db : Database) (left later written after : Option (List ℕ)) (disk : Held) → IfSome left (λ script. IfSome written (λ before. Runs k db script later before after disk)) → disk.faults ≡ 0 → k ≢ kind.ReadFault → k ≢ kind.WriteFault → ((place : ℕ) → k ≢ kind.Words place) → IfSome left (λ script. IfSome written (λ before. IsInside db script → IsDoneOrShort k))
+complete_told k db None later written after disk runs none read wrote words = tt
+complete_told k db (Some script) later None after disk runs none read wrote words = tt
+complete_told k db (Some script) later (Some before) after disk runs none read wrote words = λ inside.
+    complete_run k db script later before after disk runs none inside read wrote words

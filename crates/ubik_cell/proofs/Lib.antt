@@ -2,6 +2,7 @@ pub mod AtEndings
 pub mod Completeness
 pub mod Consuming
 pub mod Fields
+pub mod Holding
 pub mod NoFaults
 pub mod OneStep
 pub mod OpenedLine

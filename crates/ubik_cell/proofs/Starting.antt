@@ -3,8 +3,10 @@ use Rattle.std.proofs.Common.{ℕ, List, [], Option, Some, None, IfSome, inl, re
 use Rattle.std.proofs.lemmas.List.{append-nil}
 use Rattle.std.proofs.lemmas.List.Elements.{All-nil}
 use Rattle.db_image.specs.Database.{Database}
+use Rattle.disk_base.specs.Files.{Files}
 use Rattle.ubik_cell.specs.declared.scripts.CellRun.{CellRun}
-use Rattle.ubik_cell.specs.Lines.{IsAt}
+use Rattle.ubik_cell.specs.Lines.{IsAt, IsSound}
+use Rattle.ubik_cell.specs.Sites.{Held}
 use Rattle.ubik_cell.specs.Run.{SoFar, RanShort}
 use Rattle.ubik_cell.specs.Script.{first_stage}
 
@@ -15,8 +17,8 @@ of_both Q (Some script) None all = tt
 of_both Q (Some script) (Some before) all = all script before
 
 -- before the first line
-pub first_so_far : {D : Type 0} (db : Database) (faults : D → ℕ) (run : CellRun D) → IsAt run first_stage → (script before : List ℕ) → SoFar db faults script (Some script) before (Some before) run
-first_so_far db faults run at script before =
+pub first_so_far : {D : Type 0} (db : Database) (files : D → Option Files) (faults : D → ℕ) (run : CellRun D) → IsAt run first_stage → IsSound files faults run.counts.clock run.site → (script before : List ℕ) → SoFar db files faults script (Some script) before (Some before) run
+first_so_far db files faults run at sound script before =
     record {
       readings = [];
       rest = script;
@@ -26,11 +28,12 @@ first_so_far db faults run at script before =
       at = at;
       wrote = ap Some (sym (append-nil before));
       causes = omega arith;
+      sound = sound;
     }
 
 -- memory ran out before the first line
-pub short_at_once : (db : Database) (faults : ℕ) (script before : List ℕ) → RanShort db script (Some script) before (Some before) faults
-short_at_once db faults script before =
+pub short_at_once : (db : Database) (disk : Held) (script before : List ℕ) → RanShort db script (Some script) before (Some before) disk
+short_at_once db disk script before =
     record {
       readings = [];
       read = [];

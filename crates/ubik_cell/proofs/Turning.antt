@@ -1,18 +1,22 @@
 -- How a run goes on, or ends, at a line.
-use Rattle.std.proofs.Common.{◌<◌, take, drop, ◌≡◌, ◌≤◌, ℕ, List, [], ◌∷◌, ◌++◌, length, Option, Some, None, IfSome, Result, Ok, refl, sym, ap, subst, ◌∙◌, arith, append_assoc, length-append}
+use Rattle.std.proofs.Common.{◌<◌, take, drop, ◌≡◌, ◌≢◌, ◌≤◌, ℕ, List, [], ◌∷◌, ◌++◌, length, Option, Some, None, IfSome, Result, Ok, refl, sym, ap, subst, ◌∙◌, arith, append_assoc, length-append}
 use Rattle.std.proofs.Math.Seq.{take-append_seam}
 use Rattle.std.proofs.lemmas.List.{take-append-drop, take_all}
 use Rattle.db_image.specs.Database.{Database}
+use Rattle.disk_base.specs.Files.{Files}
 use Rattle.cell_script.specs.Lines.{TakesLine, TakesPart}
 use Rattle.ubik_cell.specs.declared.cells.CellKind.{CellKind}
 use Rattle.ubik_cell.specs.declared.cells.Ending.{Ending}
 use Rattle.ubik_cell.specs.declared.scripts.CellRun.{CellRun}
+use Rattle.ubik_cell.specs.declared.sites.LineDone.{LineDone}
+use Rattle.ubik_cell.specs.declared.sites.LineDone.TheVariants as done_as
 use Rattle.ubik_cell.specs.Script.{Stage, Luck, Reading, Line_run, Told, told, line_result}
-use Rattle.ubik_cell.specs.Run.{Runs, AtLine, AtEnding, SoFar, RanToTheEnd, RanToFault, RanInPart, RanShort, read_lines, IsConsumed}
-use Rattle.ubik_cell.specs.Lines.{LineTold, Ends, IsAt}
-use Rattle.ubik_cell.specs.Sites.{site_faults}
+use Rattle.ubik_cell.specs.Run.{Holds, Runs, AtLine, AtEnding, SoFar, RanToTheEnd, RanToFault, RanInPart, RanShort, read_lines, IsConsumed}
+use Rattle.ubik_cell.specs.Lines.{LineTold, Ends, IsAt, IsSound}
+use Rattle.ubik_cell.specs.Sites.{site_faults, site_held}
 use Rattle.ubik_cell.specs.Trace.{trace}
 use Rattle.ubik_cell.proofs.Telling.{told-push, same_some, read_lines-push}
+use Rattle.ubik_cell.proofs.Holding.{held_at}
 use Rattle.ubik_cell.proofs.Consuming.{read_so_far, all_lines, later_lines, in_line, lines_and_part, consumed-push, whole_before}
 
 -- the line as it was read and run
@@ -20,9 +24,9 @@ reading_of : List ℕ → Luck → Reading
 reading_of line luck = record { line = line; luck = luck }
 
 -- the line was told whole
-pub went_on : {D : Type 0} (db : Database) (faults : D → ℕ) (text : List ℕ) (left : Option (List ℕ)) (before written bytes : List ℕ) (after : Option (List ℕ)) (run next : CellRun D) (line : List ℕ) (at : AtLine db faults text left before (Some written) run line) → LineTold faults (λ luck. line_result db (told db at.readings).stage (record { line = line; luck = luck })) run next [] bytes → after ≡ Some (written ++ bytes) → SoFar db faults text left before after next
+pub went_on : {D : Type 0} (db : Database) (files : D → Option Files) (faults : D → ℕ) (text : List ℕ) (left : Option (List ℕ)) (before written bytes : List ℕ) (after : Option (List ℕ)) (run next : CellRun D) (line : List ℕ) (at : AtLine db files faults text left before (Some written) run line) → LineTold faults (λ luck. line_result db (told db at.readings).stage (record { line = line; luck = luck })) run next [] bytes → IsSound files faults next.counts.clock next.site → after ≡ Some (written ++ bytes) → SoFar db files faults text left before after next
 unfolding reading_of
-went_on db faults text left before written bytes after run next line at ran wrote =
+went_on db files faults text left before written bytes after run next line at ran sound wrote =
     let t = told db at.readings in
     let r = reading_of line ran.luck in
     let more = told-push db at.readings r (Ok ran.ran) at.good ran.is in
@@ -39,12 +43,13 @@ went_on db faults text left before written bytes after run next line at ran wrot
           ∙ ap Some (append_assoc before t.text (trace ran.ran.seen))
           ∙ ap (λ (d : Told). Some (before ++ d.text)) (sym more);
       causes = omega (arith, ap (λ (d : Told). d.faults) more, at.causes, ran.causes);
+      sound = sound;
     }
 
 -- the sink failed in what the line tells
-pub part_told : {D : Type 0} (db : Database) (faults : D → ℕ) (text : List ℕ) (left : Option (List ℕ)) (before written bytes : List ℕ) (count : ℕ) (after : Option (List ℕ)) (run next : CellRun D) (line : List ℕ) (at : AtLine db faults text left before (Some written) run line) → LineTold faults (λ luck. line_result db (told db at.readings).stage (record { line = line; luck = luck })) run next [] bytes → after ≡ Some (written ++ take count bytes) → RanInPart db text left before after (site_faults faults next.site)
+pub part_told : {D : Type 0} (db : Database) (files : D → Option Files) (faults : D → ℕ) (text : List ℕ) (left : Option (List ℕ)) (before written bytes : List ℕ) (count : ℕ) (after : Option (List ℕ)) (run next : CellRun D) (line : List ℕ) (at : AtLine db files faults text left before (Some written) run line) → LineTold faults (λ luck. line_result db (told db at.readings).stage (record { line = line; luck = luck })) run next [] bytes → IsSound files faults next.counts.clock next.site → after ≡ Some (written ++ take count bytes) → RanInPart db text left before after (site_held files faults next.site)
 unfolding reading_of
-part_told db faults text left before written bytes count after run next line at ran wrote =
+part_told db files faults text left before written bytes count after run next line at ran sound wrote =
     let t = told db at.readings in
     let r = reading_of line ran.luck in
     let more = told-push db at.readings r (Ok ran.ran) at.good ran.is in
@@ -68,11 +73,12 @@ part_told db faults text left before written bytes count after run next line at 
           wrote ∙ ap (λ (w : List ℕ). Some (w ++ take count bytes)) (same_some at.wrote)
           ∙ ap Some (append_assoc before t.text (take count bytes));
       causes = omega (arith, ap (λ (d : Told). d.faults) more, at.causes, ran.causes);
+      holds = let P : Told → Type 0 = λ d. Holds (site_held files faults next.site) d.stage in subst P (sym more) (held_at files faults next ran.ran.stage sound ran.at);
     }
 
 -- memory ran out in the line
-pub short_at : {D : Type 0} (db : Database) (faults : D → ℕ) (text : List ℕ) (left : Option (List ℕ)) (before : List ℕ) (after : Option (List ℕ)) (run next : CellRun D) (line : List ℕ) → AtLine db faults text left before after run line → site_faults faults run.site ≤ site_faults faults next.site → RanShort db text left before after (site_faults faults next.site)
-short_at db faults text left before after run next line at kept =
+pub short_at : {D : Type 0} (db : Database) (files : D → Option Files) (faults : D → ℕ) (text : List ℕ) (left : Option (List ℕ)) (before : List ℕ) (after : Option (List ℕ)) (run next : CellRun D) (line : List ℕ) → AtLine db files faults text left before after run line → site_faults faults run.site ≤ site_faults faults next.site → RanShort db text left before after (site_held files faults next.site)
+short_at db files faults text left before after run next line at kept =
     record {
       readings = at.readings;
       read = at.read;
@@ -92,9 +98,9 @@ whole_of : (line : List ℕ) → length line ≤ 1024 → take 1025 line ≡ lin
 whole_of line short = take_all 1025 line (omega (arith, short))
 
 -- the script ends at the line
-pub ending_at : {D : Type 0} (db : Database) (faults : D → ℕ) (text : List ℕ) (left : Option (List ℕ)) (before : List ℕ) (after : Option (List ℕ)) (run next : CellRun D) (line : List ℕ) (ending : Ending) (at : AtLine db faults text left before after run line) → Ends ending (λ luck. line_result db (told db at.readings).stage (record { line = line; luck = luck })) → next.counts.lines ≡ run.counts.lines → site_faults faults run.site ≤ site_faults faults next.site → AtEnding db faults text left before after next ending
+pub ending_at : {D : Type 0} (db : Database) (files : D → Option Files) (faults : D → ℕ) (text : List ℕ) (left : Option (List ℕ)) (before : List ℕ) (after : Option (List ℕ)) (run : CellRun D) (line : List ℕ) (ending : Ending) (at : AtLine db files faults text left before after run line) → Ends ending (λ luck. line_result db (told db at.readings).stage (record { line = line; luck = luck })) → AtEnding db files faults text left before after run ending
 unfolding reading_of
-ending_at db faults text left before after run next line ending at ends same kept =
+ending_at db files faults text left before after run line ending at ends =
     let whole = whole_of line at.short in
     let later = later_lines text at.rest (read_lines at.readings ++ line ∷ []) at.consumed in
     record {
@@ -108,11 +114,12 @@ ending_at db faults text left before after run next line ending at ends same kep
       remains = at.remains;
       so_far = at.all ∙ ap (λ (l : List ℕ). read_lines at.readings ++ l ∷ []) (sym whole);
       good = at.good;
-      at = at.at.lines ∙ sym same;
+      at = at.at.lines;
       ends = ends;
       ends_part = λ luck. ap (λ (l : List ℕ). line_result db (told db at.readings).stage (reading_of l luck)) whole ∙ ends luck;
       wrote = at.wrote;
-      causes = omega (arith, at.causes, kept);
+      causes = at.causes;
+      holds = held_at files faults run (told db at.readings).stage at.sound at.at;
     }
 
 -- what was told, of a text that was cleared before
@@ -128,20 +135,21 @@ retold faults result before after text_before text_after bytes none same told =
     }
 
 -- a run that ends at a line at which its script ends
-pub ends_there : {D : Type 0} (db : Database) (faults : D → ℕ) (o : Option CellKind) (w after : Option (List ℕ)) (run next last : CellRun D) (line : List ℕ) (ending : Ending) → IfSome o (λ kind. IfSome w (λ written. (script before : List ℕ) (left : Option (List ℕ)) → AtEnding db faults script left before (Some written) next ending → Runs kind db script left before after (site_faults faults next.site))) → last ≡ next → ((st : Stage) → IsAt run st → Ends ending (λ luck. line_result db st (record { line = line; luck = luck }))) → next.counts.lines ≡ run.counts.lines → site_faults faults run.site ≤ site_faults faults next.site → IfSome o (λ kind. IfSome w (λ written. (script before : List ℕ) (left : Option (List ℕ)) → AtLine db faults script left before (Some written) run line → Runs kind db script left before after (site_faults faults last.site)))
-ends_there db faults None w after run next last line ending ends same there lines kept = tt
-ends_there db faults (Some kind) None after run next last line ending ends same there lines kept = tt
-ends_there {D} db faults (Some kind) (Some written) after run next last line ending ends same there lines kept = λ script before left at.
-    let P : CellRun D → Type 0 = λ r. Runs kind db script left before after (site_faults faults r.site) in
-    subst P (sym same) (ends script before left (ending_at db faults script left before (Some written) run next line ending at (there (told db at.readings).stage at.at) lines kept))
+pub ends_there : {D : Type 0} (db : Database) (files : D → Option Files) (faults : D → ℕ) (o : Option CellKind) (w after : Option (List ℕ)) (run next last : CellRun D) (line : List ℕ) (ending : Ending) → IfSome o (λ kind. IfSome w (λ written. (script before : List ℕ) (left : Option (List ℕ)) → AtEnding db files faults script left before (Some written) next ending → Runs kind db script left before after (site_held files faults next.site))) → last ≡ next → next ≡ run → ((st : Stage) → IsAt run st → Ends ending (λ luck. line_result db st (record { line = line; luck = luck }))) → IfSome o (λ kind. IfSome w (λ written. (script before : List ℕ) (left : Option (List ℕ)) → AtLine db files faults script left before (Some written) run line → Runs kind db script left before after (site_held files faults last.site)))
+ends_there db files faults None w after run next last line ending ends same kept there = tt
+ends_there db files faults (Some kind) None after run next last line ending ends same kept there = tt
+ends_there {D} db files faults (Some kind) (Some written) after run next last line ending ends same kept there = λ script before left at.
+    let P : CellRun D → Type 0 = λ r. Runs kind db script left before after (site_held files faults r.site) in
+    let Q : CellRun D → Type 0 = λ r. AtEnding db files faults script left before (Some written) r ending in
+    subst P (sym same) (ends script before left (subst Q (sym kept) (ending_at db files faults script left before (Some written) run line ending at (there (told db at.readings).stage at.at))))
 
 -- what is known of what was left, where so much is left
 of_left : (P : List ℕ → Type 0) (left : Option (List ℕ)) (rest : List ℕ) → left ≡ Some rest → IfSome left P → P rest
 of_left P left rest is h = let Q : Option (List ℕ) → Type 0 = λ l. IfSome l P in subst Q is h
 
 -- the script was read to its end
-pub ran_to_the_end : {D : Type 0} (db : Database) (faults : D → ℕ) (script : List ℕ) (left later : Option (List ℕ)) (before : List ℕ) (after : Option (List ℕ)) (run : CellRun D) → SoFar db faults script left before after run → IfSome left (λ text. (text ≡ []) × (later ≡ Some [])) → RanToTheEnd db script later before after (site_faults faults run.site)
-ran_to_the_end db faults script left later before after run so ends =
+pub ran_to_the_end : {D : Type 0} (db : Database) (files : D → Option Files) (faults : D → ℕ) (script : List ℕ) (left later : Option (List ℕ)) (before : List ℕ) (after : Option (List ℕ)) (run : CellRun D) → SoFar db files faults script left before after run → IfSome left (λ text. (text ≡ []) × (later ≡ Some [])) → RanToTheEnd db script later before after (site_held files faults run.site)
+ran_to_the_end db files faults script left later before after run so ends =
     let end = of_left (λ (text : List ℕ). (text ≡ []) × (later ≡ Some [])) left so.rest so.remains ends in
     record {
       readings = so.readings;
@@ -150,11 +158,12 @@ ran_to_the_end db faults script left later before after run so ends =
       good = so.good;
       wrote = so.wrote;
       causes = so.causes;
+      holds = held_at files faults run (told db so.readings).stage so.sound so.at;
     }
 
 -- the source failed
-pub ran_to_fault : {D : Type 0} (db : Database) (faults : D → ℕ) (script : List ℕ) (left later : Option (List ℕ)) (before : List ℕ) (after : Option (List ℕ)) (run : CellRun D) → SoFar db faults script left before after run → IfSome left (λ text. (taken : TakesPart text later) × (length taken.part ≤ 1024)) → RanToFault db script later before after (site_faults faults run.site)
-ran_to_fault db faults script left later before after run so fails =
+pub ran_to_fault : {D : Type 0} (db : Database) (files : D → Option Files) (faults : D → ℕ) (script : List ℕ) (left later : Option (List ℕ)) (before : List ℕ) (after : Option (List ℕ)) (run : CellRun D) → SoFar db files faults script left before after run → IfSome left (λ text. (taken : TakesPart text later) × (length taken.part ≤ 1024)) → RanToFault db script later before after (site_held files faults run.site)
+ran_to_fault db files faults script left later before after run so fails =
     let taken = (of_left (λ (text : List ℕ). (taken : TakesPart text later) × (length taken.part ≤ 1024)) left so.rest so.remains fails).0 in
     let whole = whole_before script so.rest taken.part taken.rest (read_lines so.readings) taken.no_lf taken.read so.consumed in
     record {
@@ -167,12 +176,13 @@ ran_to_fault db faults script left later before after run so fails =
       good = so.good;
       wrote = so.wrote;
       causes = so.causes;
+      holds = held_at files faults run (told db so.readings).stage so.sound so.at;
     }
 
 -- a line is too long
-pub ending_long : {D : Type 0} (db : Database) (faults : D → ℕ) (script : List ℕ) (left later : Option (List ℕ)) (before : List ℕ) (after : Option (List ℕ)) (run : CellRun D) (ending : Ending) → SoFar db faults script left before after run → ((st : Stage) → IsAt run st → (line : List ℕ) → 1024 < length line → Ends ending (λ luck. line_result db st (record { line = line; luck = luck }))) → IfSome left (λ text. (taken : TakesPart text later) × (length taken.part ≡ 1025)) → AtEnding db faults script later before after run ending
+pub ending_long : {D : Type 0} (db : Database) (files : D → Option Files) (faults : D → ℕ) (script : List ℕ) (left later : Option (List ℕ)) (before : List ℕ) (after : Option (List ℕ)) (run : CellRun D) (ending : Ending) → SoFar db files faults script left before after run → ((st : Stage) → IsAt run st → (line : List ℕ) → 1024 < length line → Ends ending (λ luck. line_result db st (record { line = line; luck = luck }))) → IfSome left (λ text. (taken : TakesPart text later) × (length taken.part ≡ 1025)) → AtEnding db files faults script later before after run ending
 unfolding reading_of
-ending_long db faults script left later before after run ending so ends long =
+ending_long db files faults script left later before after run ending so ends long =
     let taken = of_left (λ (text : List ℕ). (taken : TakesPart text later) × (length taken.part ≡ 1025)) left so.rest so.remains long in
     let part = taken.0.part in
     let full : length part ≡ 1025 = taken.1 in
@@ -197,11 +207,12 @@ ending_long db faults script left later before after run ending so ends long =
       ends_part = λ luck. ap (λ (l : List ℕ). line_result db st (reading_of l luck)) front ∙ ends st so.at part (omega (arith, full)) luck;
       wrote = so.wrote;
       causes = so.causes;
+      holds = held_at files faults run (told db so.readings).stage so.sound so.at;
     }
 
 -- a line was read
-pub at_line : {D : Type 0} (db : Database) (faults : D → ℕ) (script : List ℕ) (left later : Option (List ℕ)) (before : List ℕ) (after : Option (List ℕ)) (run : CellRun D) (line : List ℕ) → SoFar db faults script left before after run → IfSome left (λ text. TakesLine text later line) → AtLine db faults script later before after run line
-at_line db faults script left later before after run line so takes =
+pub at_line : {D : Type 0} (db : Database) (files : D → Option Files) (faults : D → ℕ) (script : List ℕ) (left later : Option (List ℕ)) (before : List ℕ) (after : Option (List ℕ)) (run : CellRun D) (line : List ℕ) → SoFar db files faults script left before after run → IfSome left (λ text. TakesLine text later line) → AtLine db files faults script later before after run line
+at_line db files faults script left later before after run line so takes =
     let taken = of_left (λ (text : List ℕ). TakesLine text later line) left so.rest so.remains takes in
     let more = consumed-push script so.rest line taken.rest (read_lines so.readings) taken.no_lf taken.read so.consumed in
     let is = read_so_far script taken.rest (read_lines so.readings ++ line ∷ []) more in
@@ -218,6 +229,7 @@ at_line db faults script left later before after run line so takes =
       at = so.at;
       wrote = so.wrote;
       causes = so.causes;
+      sound = so.sound;
     }
 
 -- a fact of a sink that tells what was written, where nothing more was written
@@ -226,24 +238,28 @@ as_written Q None all = tt
 as_written Q (Some written) all = all written
 
 -- a run that ends at a line that is too long
-pub ends_long : {D : Type 0} (db : Database) (faults : D → ℕ) (o : Option CellKind) (w after left later : Option (List ℕ)) (run last : CellRun D) (ending : Ending) → IfSome o (λ kind. IfSome w (λ written. (script before : List ℕ) (l : Option (List ℕ)) → AtEnding db faults script l before (Some written) run ending → Runs kind db script l before after (site_faults faults run.site))) → last ≡ run → ((st : Stage) → IsAt run st → (line : List ℕ) → 1024 < length line → Ends ending (λ luck. line_result db st (record { line = line; luck = luck }))) → IfSome left (λ text. (taken : TakesPart text later) × (length taken.part ≡ 1025)) → IfSome o (λ kind. IfSome w (λ written. (script before : List ℕ) → SoFar db faults script left before (Some written) run → Runs kind db script later before after (site_faults faults last.site)))
-ends_long db faults None w after left later run last ending ends same there long = tt
-ends_long db faults (Some kind) None after left later run last ending ends same there long = tt
-ends_long {D} db faults (Some kind) (Some written) after left later run last ending ends same there long = λ script before so.
-    let P : CellRun D → Type 0 = λ r. Runs kind db script later before after (site_faults faults r.site) in
-    subst P (sym same) (ends script before later (ending_long db faults script left later before (Some written) run ending so there long))
+pub ends_long : {D : Type 0} (db : Database) (files : D → Option Files) (faults : D → ℕ) (o : Option CellKind) (w after left later : Option (List ℕ)) (run last : CellRun D) (ending : Ending) → IfSome o (λ kind. IfSome w (λ written. (script before : List ℕ) (l : Option (List ℕ)) → AtEnding db files faults script l before (Some written) run ending → Runs kind db script l before after (site_held files faults run.site))) → last ≡ run → ((st : Stage) → IsAt run st → (line : List ℕ) → 1024 < length line → Ends ending (λ luck. line_result db st (record { line = line; luck = luck }))) → IfSome left (λ text. (taken : TakesPart text later) × (length taken.part ≡ 1025)) → IfSome o (λ kind. IfSome w (λ written. (script before : List ℕ) → SoFar db files faults script left before (Some written) run → Runs kind db script later before after (site_held files faults last.site)))
+ends_long db files faults None w after left later run last ending ends same there long = tt
+ends_long db files faults (Some kind) None after left later run last ending ends same there long = tt
+ends_long {D} db files faults (Some kind) (Some written) after left later run last ending ends same there long = λ script before so.
+    let P : CellRun D → Type 0 = λ r. Runs kind db script later before after (site_held files faults r.site) in
+    subst P (sym same) (ends script before later (ending_long db files faults script left later before (Some written) run ending so there long))
 
 -- a run that ends at a line that was read
-pub ends_line : {D : Type 0} (db : Database) (faults : D → ℕ) (o : Option CellKind) (w after left later : Option (List ℕ)) (run last : CellRun D) (line told_line : List ℕ) → told_line ≡ line → IfSome o (λ kind. IfSome w (λ written. (script before : List ℕ) (l : Option (List ℕ)) → AtLine db faults script l before (Some written) run told_line → Runs kind db script l before after (site_faults faults last.site))) → IfSome left (λ text. TakesLine text later line) → IfSome o (λ kind. IfSome w (λ written. (script before : List ℕ) → SoFar db faults script left before (Some written) run → Runs kind db script later before after (site_faults faults last.site)))
-ends_line db faults None w after left later run last line told_line same ends takes = tt
-ends_line db faults (Some kind) None after left later run last line told_line same ends takes = tt
-ends_line db faults (Some kind) (Some written) after left later run last line told_line same ends takes = λ script before so.
-    let P : List ℕ → Type 0 = λ l. AtLine db faults script later before (Some written) run l in
-    ends script before later (subst P (sym same) (at_line db faults script left later before (Some written) run line so takes))
+pub ends_line : {D : Type 0} (db : Database) (files : D → Option Files) (faults : D → ℕ) (o : Option CellKind) (w after left later : Option (List ℕ)) (run last : CellRun D) (line told_line : List ℕ) → told_line ≡ line → IfSome o (λ kind. IfSome w (λ written. (script before : List ℕ) (l : Option (List ℕ)) → AtLine db files faults script l before (Some written) run told_line → Runs kind db script l before after (site_held files faults last.site))) → IfSome left (λ text. TakesLine text later line) → IfSome o (λ kind. IfSome w (λ written. (script before : List ℕ) → SoFar db files faults script left before (Some written) run → Runs kind db script later before after (site_held files faults last.site)))
+ends_line db files faults None w after left later run last line told_line same ends takes = tt
+ends_line db files faults (Some kind) None after left later run last line told_line same ends takes = tt
+ends_line db files faults (Some kind) (Some written) after left later run last line told_line same ends takes = λ script before so.
+    let P : List ℕ → Type 0 = λ l. AtLine db files faults script later before (Some written) run l in
+    ends script before later (subst P (sym same) (at_line db files faults script left later before (Some written) run line so takes))
 
 -- a run that goes on after a line that was read
-pub goes_line : {D : Type 0} (db : Database) (faults : D → ℕ) (w after left later : Option (List ℕ)) (run next : CellRun D) (line told_line : List ℕ) → told_line ≡ line → IfSome w (λ written. (script before : List ℕ) (l : Option (List ℕ)) → AtLine db faults script l before (Some written) run told_line → SoFar db faults script l before after next) → IfSome left (λ text. TakesLine text later line) → IfSome w (λ written. (script before : List ℕ) → SoFar db faults script left before (Some written) run → SoFar db faults script later before after next)
-goes_line db faults None after left later run next line told_line same goes takes = tt
-goes_line db faults (Some written) after left later run next line told_line same goes takes = λ script before so.
-    let P : List ℕ → Type 0 = λ l. AtLine db faults script later before (Some written) run l in
-    goes script before later (subst P (sym same) (at_line db faults script left later before (Some written) run line so takes))
+pub goes_line : {D : Type 0} (db : Database) (files : D → Option Files) (faults : D → ℕ) (w after left later : Option (List ℕ)) (run next : CellRun D) (line told_line : List ℕ) → told_line ≡ line → IfSome w (λ written. (script before : List ℕ) (l : Option (List ℕ)) → AtLine db files faults script l before (Some written) run told_line → SoFar db files faults script l before after next) → IfSome left (λ text. TakesLine text later line) → IfSome w (λ written. (script before : List ℕ) → SoFar db files faults script left before (Some written) run → SoFar db files faults script later before after next)
+goes_line db files faults None after left later run next line told_line same goes takes = tt
+goes_line db files faults (Some written) after left later run next line told_line same goes takes = λ script before so.
+    let P : List ℕ → Type 0 = λ l. AtLine db files faults script later before (Some written) run l in
+    goes script before later (subst P (sym same) (at_line db files faults script left later before (Some written) run line so takes))
+
+-- a line that was told is not one at which memory ran out
+pub told_not_short : (done : LineDone) → done ≡ done_as.Told → done ≢ done_as.NoMemory
+told_not_short done is = λ short. let never : done_as.Told ≡ done_as.NoMemory = sym is ∙ short in cc

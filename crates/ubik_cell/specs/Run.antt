@@ -1,12 +1,18 @@
 -- What a run of a script has written when it ends.
-use Rattle.std.specs.Prelude.{◌≡◌, ◌⊎◌, ◌≤◌, ℕ, Option, Some, None, Err, List, [], ◌∷◌, ◌++◌, map, length, take}
+use Rattle.std.specs.Prelude.{◌≡◌, ◌⊎◌, ◌≤◌, ℕ, Option, Some, None, IfSome, Err, List, [], ◌∷◌, ◌++◌, map, length, take}
 use Rattle.db_image.specs.Database.{Database}
+use Rattle.disk_base.specs.Files.{Files, no_files}
+use Rattle.cell_model.specs.Book.{Run}
+use Rattle.cell_model.specs.Durable.{durable}
+use Rattle.cell_model.specs.Node.{Node, Down, Halted, Up}
+use Rattle.cell_model.specs.World.{Site}
+use Rattle.ubik_node.specs.Label.{durable_of}
 use Rattle.std.specs.List.{All}
 use Rattle.cell_script.specs.Lines.{HasNoLf, lines_of, whole_lines}
 use Rattle.cell_script.specs.LineLaws.{text_of}
 use Rattle.ubik_cell.specs.declared.scripts.CellRun.{CellRun}
-use Rattle.ubik_cell.specs.Lines.{IsAt}
-use Rattle.ubik_cell.specs.Sites.{site_faults}
+use Rattle.ubik_cell.specs.Lines.{IsAt, IsSound}
+use Rattle.ubik_cell.specs.Sites.{Held, site_faults, site_held}
 use Rattle.ubik_cell.specs.declared.cells.CellKind.{CellKind}
 use Rattle.ubik_cell.specs.declared.cells.CellKind.TheVariants as kind
 use Rattle.ubik_cell.specs.declared.cells.Ending.{Ending}
@@ -21,18 +27,37 @@ read_lines readings = map (λ r. r.line) readings
 abbrev pub Wrote : List ℕ → Option (List ℕ) → List ℕ → Type 0
 Wrote before after bytes = after ≡ Some (before ++ bytes)
 
+-- where the disk never failed, the server is up, and the disk reads as its version and its image; where no cell
+-- stands, the disk is empty
+abbrev pub ReadsAs : Node → Files → Type 0
+ReadsAs Down fs = ⊥
+ReadsAs (Halted h) fs = ⊥
+ReadsAs (Up s) fs = (durable_of fs.database ≡ Some (durable s.version s.image)) × (fs.log ≡ []) × (fs.incoming ≡ [])
+
+abbrev pub SitesRead : List Site → Files → Type 0
+SitesRead (site ∷ []) fs = ReadsAs site.node fs
+SitesRead _ fs = ⊥
+
+abbrev pub Reads : Option Run → Files → Type 0
+Reads None fs = fs ≡ no_files
+Reads (Some r) fs = SitesRead r.world.sites fs
+
+abbrev pub Holds : Held → Stage → Type 0
+Holds disk st = disk.faults ≡ 0 → IfSome disk.files (Reads st.run)
+
 -- the lines of the whole text, none of which is refused, and their trace
-pub record RanToTheEnd (db : Database) (text : List ℕ) (left : Option (List ℕ)) (before : List ℕ) (after : Option (List ℕ)) (faults : ℕ) : Type 0 where
+pub record RanToTheEnd (db : Database) (text : List ℕ) (left : Option (List ℕ)) (before : List ℕ) (after : Option (List ℕ)) (disk : Held) : Type 0 where
   pub readings : List Reading
   pub all : read_lines readings ≡ lines_of text
   pub end : left ≡ Some []
   pub good : (told db readings).stop ≡ None
   pub wrote : Wrote before after (told db readings).text
-  pub causes : (told db readings).faults ≤ faults
+  pub causes : (told db readings).faults ≤ disk.faults
+  pub holds : Holds disk (told db readings).stage
 
 -- the lines before one at which the script ends, and that one; and their trace, whose last line tells the end. The
 -- source was read up to the end of that line, or 1025 bytes of it.
-pub record RanUntil (db : Database) (line : ℕ) (ending : Ending) (text : List ℕ) (left : Option (List ℕ)) (before : List ℕ) (after : Option (List ℕ)) (faults : ℕ) : Type 0 where
+pub record RanUntil (db : Database) (line : ℕ) (ending : Ending) (text : List ℕ) (left : Option (List ℕ)) (before : List ℕ) (after : Option (List ℕ)) (disk : Held) : Type 0 where
   pub readings : List Reading
   pub last : Reading
   pub later : List (List ℕ)
@@ -45,7 +70,8 @@ pub record RanUntil (db : Database) (line : ℕ) (ending : Ending) (text : List 
   pub good : (told db readings).stop ≡ None
   pub ended : (told db (readings ++ last ∷ [])).stop ≡ Some (stop_at line ending)
   pub wrote : Wrote before after (told db (readings ++ last ∷ [])).text
-  pub causes : (told db (readings ++ last ∷ [])).faults ≤ faults
+  pub causes : (told db (readings ++ last ∷ [])).faults ≤ disk.faults
+  pub holds : Holds disk (told db readings).stage
 
 -- the lines before the fault: those that an LF ends, or all of a text that was given whole before the source
 -- failed to say so
@@ -53,7 +79,7 @@ abbrev pub IsReadWhole : List ℕ → List ℕ → List (List ℕ) → Type 0
 IsReadWhole read rest lines = (lines ≡ whole_lines read) ⊎ ((rest ≡ []) × (lines ≡ lines_of read))
 
 -- the whole lines before a fault of the source, none of which is refused, and their trace
-pub record RanToFault (db : Database) (text : List ℕ) (left : Option (List ℕ)) (before : List ℕ) (after : Option (List ℕ)) (faults : ℕ) : Type 0 where
+pub record RanToFault (db : Database) (text : List ℕ) (left : Option (List ℕ)) (before : List ℕ) (after : Option (List ℕ)) (disk : Held) : Type 0 where
   pub readings : List Reading
   pub read : List ℕ
   pub rest : List ℕ
@@ -62,10 +88,11 @@ pub record RanToFault (db : Database) (text : List ℕ) (left : Option (List ℕ
   pub all : IsReadWhole read rest (read_lines readings)
   pub good : (told db readings).stop ≡ None
   pub wrote : Wrote before after (told db readings).text
-  pub causes : (told db readings).faults ≤ faults
+  pub causes : (told db readings).faults ≤ disk.faults
+  pub holds : Holds disk (told db readings).stage
 
 -- the trace of the lines before the last that was read, and a part of what that one tells; the sink failed there
-pub record RanInPart (db : Database) (text : List ℕ) (left : Option (List ℕ)) (before : List ℕ) (after : Option (List ℕ)) (faults : ℕ) : Type 0 where
+pub record RanInPart (db : Database) (text : List ℕ) (left : Option (List ℕ)) (before : List ℕ) (after : Option (List ℕ)) (disk : Held) : Type 0 where
   pub readings : List Reading
   pub last : Reading
   pub read : List ℕ
@@ -78,10 +105,11 @@ pub record RanInPart (db : Database) (text : List ℕ) (left : Option (List ℕ)
   pub back : List ℕ
   pub trace : (told db (readings ++ last ∷ [])).text ≡ (told db readings).text ++ part ++ back
   pub wrote : Wrote before after ((told db readings).text ++ part)
-  pub causes : (told db (readings ++ last ∷ [])).faults ≤ faults
+  pub causes : (told db (readings ++ last ∷ [])).faults ≤ disk.faults
+  pub holds : Holds disk (told db (readings ++ last ∷ [])).stage
 
 -- the trace of the lines before the one in which memory ran out, if in any; nothing was written of that line
-pub record RanShort (db : Database) (text : List ℕ) (left : Option (List ℕ)) (before : List ℕ) (after : Option (List ℕ)) (faults : ℕ) : Type 0 where
+pub record RanShort (db : Database) (text : List ℕ) (left : Option (List ℕ)) (before : List ℕ) (after : Option (List ℕ)) (disk : Held) : Type 0 where
   pub readings : List Reading
   pub read : List ℕ
   pub rest : List ℕ
@@ -92,17 +120,17 @@ pub record RanShort (db : Database) (text : List ℕ) (left : Option (List ℕ))
   pub one : length more ≤ 1
   pub good : (told db readings).stop ≡ None
   pub wrote : Wrote before after (told db readings).text
-  pub causes : (told db readings).faults ≤ faults
+  pub causes : (told db readings).faults ≤ disk.faults
 
 -- what was read and written by a run that ended so
-abbrev pub Runs : CellKind → Database → List ℕ → Option (List ℕ) → List ℕ → Option (List ℕ) → ℕ → Type 0
-Runs kind.Done db text left before after faults = RanToTheEnd db text left before after faults
-Runs (kind.ScriptRefused line why) db text left before after faults = RanUntil db line (Refused why) text left before after faults
-Runs kind.ReadFault db text left before after faults = RanToFault db text left before after faults
-Runs kind.WriteFault db text left before after faults = RanInPart db text left before after faults
-Runs (kind.Limit line which) db text left before after faults = RanUntil db line (Limit which) text left before after faults
-Runs kind.NoMemory db text left before after faults = RanShort db text left before after faults
-Runs (kind.Words place) db text left before after faults = (left ≡ Some text) × (after ≡ Some before)
+abbrev pub Runs : CellKind → Database → List ℕ → Option (List ℕ) → List ℕ → Option (List ℕ) → Held → Type 0
+Runs kind.Done db text left before after disk = RanToTheEnd db text left before after disk
+Runs (kind.ScriptRefused line why) db text left before after disk = RanUntil db line (Refused why) text left before after disk
+Runs kind.ReadFault db text left before after disk = RanToFault db text left before after disk
+Runs kind.WriteFault db text left before after disk = RanInPart db text left before after disk
+Runs (kind.Limit line which) db text left before after disk = RanUntil db line (Limit which) text left before after disk
+Runs kind.NoMemory db text left before after disk = RanShort db text left before after disk
+Runs (kind.Words place) db text left before after disk = (left ≡ Some text) × (after ≡ Some before)
 
 -- the exit status of an end
 abbrev pub status_of : CellKind → ℕ
@@ -134,7 +162,7 @@ abbrev pub IsConsumed : List ℕ → List ℕ → List (List ℕ) → Type 0
 IsConsumed text left lines = ((text ≡ text_of lines ++ left) × All HasNoLf lines) ⊎ ((left ≡ []) × (lines_of text ≡ lines))
 
 -- a run between two lines
-pub record SoFar {D : Type 0} (db : Database) (faults : D → ℕ) (text : List ℕ) (left : Option (List ℕ)) (before : List ℕ) (after : Option (List ℕ)) (run : CellRun D) : Type 0 where
+pub record SoFar {D : Type 0} (db : Database) (files : D → Option Files) (faults : D → ℕ) (text : List ℕ) (left : Option (List ℕ)) (before : List ℕ) (after : Option (List ℕ)) (run : CellRun D) : Type 0 where
   pub readings : List Reading
   pub rest : List ℕ
   pub remains : left ≡ Some rest
@@ -143,9 +171,10 @@ pub record SoFar {D : Type 0} (db : Database) (faults : D → ℕ) (text : List 
   pub at : IsAt run (told db readings).stage
   pub wrote : Wrote before after (told db readings).text
   pub causes : (told db readings).faults ≤ site_faults faults run.site
+  pub sound : IsSound files faults run.counts.clock run.site
 
 -- a run before a line at which the script ends
-pub record AtEnding {D : Type 0} (db : Database) (faults : D → ℕ) (text : List ℕ) (left : Option (List ℕ)) (before : List ℕ) (after : Option (List ℕ)) (run : CellRun D) (ending : Ending) : Type 0 where
+pub record AtEnding {D : Type 0} (db : Database) (files : D → Option Files) (faults : D → ℕ) (text : List ℕ) (left : Option (List ℕ)) (before : List ℕ) (after : Option (List ℕ)) (run : CellRun D) (ending : Ending) : Type 0 where
   pub readings : List Reading
   pub line : List ℕ
   pub later : List (List ℕ)
@@ -161,9 +190,10 @@ pub record AtEnding {D : Type 0} (db : Database) (faults : D → ℕ) (text : Li
   pub ends_part : (luck : Luck) → line_result db (told db readings).stage (record { line = take 1025 line; luck = luck }) ≡ Err ending
   pub wrote : Wrote before after (told db readings).text
   pub causes : (told db readings).faults ≤ site_faults faults run.site
+  pub holds : Holds (site_held files faults run.site) (told db readings).stage
 
 -- a run before a line that was read
-pub record AtLine {D : Type 0} (db : Database) (faults : D → ℕ) (text : List ℕ) (left : Option (List ℕ)) (before : List ℕ) (after : Option (List ℕ)) (run : CellRun D) (line : List ℕ) : Type 0 where
+pub record AtLine {D : Type 0} (db : Database) (files : D → Option Files) (faults : D → ℕ) (text : List ℕ) (left : Option (List ℕ)) (before : List ℕ) (after : Option (List ℕ)) (run : CellRun D) (line : List ℕ) : Type 0 where
   pub readings : List Reading
   pub read : List ℕ
   pub rest : List ℕ
@@ -176,3 +206,4 @@ pub record AtLine {D : Type 0} (db : Database) (faults : D → ℕ) (text : List
   pub at : IsAt run (told db readings).stage
   pub wrote : Wrote before after (told db readings).text
   pub causes : (told db readings).faults ≤ site_faults faults run.site
+  pub sound : IsSound files faults run.counts.clock run.site

@@ -1,6 +1,7 @@
 -- What the one server of a cell puts out.
-use Rattle.std.specs.Prelude.{◌≡◌, ◌+◌, ◌<◌, ◌≤◌, ℕ, List, [], ◌∷◌, ◌++◌, map}
+use Rattle.std.specs.Prelude.{◌≡◌, ◌+◌, ◌<◌, ◌≤◌, ℕ, Option, List, [], ◌∷◌, ◌++◌, map}
 use Rattle.db_image.specs.Database.{Database}
+use Rattle.disk_base.specs.Files.{Files}
 use Rattle.cell_model.specs.declared.events.NodeEvent.{NodeEvent}
 use Rattle.cell_model.specs.Durable.{Durable, no_database}
 use Rattle.cell_model.specs.Node.{Node, Up, opened_server}
@@ -60,6 +61,17 @@ site_disk (site.Up node) = node.disk
 -- the count of faults of the server's disk
 abbrev pub site_faults : {D : Type 0} → (D → ℕ) → Site D → ℕ
 site_faults faults s = faults (site_disk s)
+
+-- what a disk reads as, where it tells it, and how often it has failed
+pub record Held : Type 0 where
+  pub files : Option Files
+  pub faults : ℕ
+
+abbrev pub held : {D : Type 0} → (D → Option Files) → (D → ℕ) → D → Held
+held files faults disk = record { files = files disk; faults = faults disk }
+
+abbrev pub site_held : {D : Type 0} → (D → Option Files) → (D → ℕ) → Site D → Held
+site_held files faults s = held files faults (site_disk s)
 
 -- a server that stays down, and tells so
 abbrev pub DownTold : {D : Type 0} → (D → ℕ) → D → Site D → List ℕ → List ℕ → Type 0

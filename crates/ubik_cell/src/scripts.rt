@@ -111,7 +111,7 @@ impl<D: StopDisk> CellRun<D> {
         ensures refused { (e : Ending) → result.1 ≡ LineDone.Ended e → (st : Stage) → IsAt self st →
             IsRefused e (λ luck. line_run protection st luck (Line.Cell clock)) }
         ensures longer { result.1 ≡ LineDone.Told → result.0.counts.lines ≡ self.counts.lines + 1 }
-        ensures kept_lines { (e : Ending) → result.1 ≡ LineDone.Ended e → result.0.counts.lines ≡ self.counts.lines }
+        ensures kept { (e : Ending) → result.1 ≡ LineDone.Ended e → result.0 ≡ self }
         ensures never_falls { site_faults D.faults self.site ≤ site_faults D.faults result.0.site }
     {
         let CellRun {
@@ -154,7 +154,7 @@ impl<D: StopDisk> CellRun<D> {
         ensures refused { (e : Ending) → result.1 ≡ LineDone.Ended e → (st : Stage) → IsAt self st →
             IsRefused e (λ luck. line_run protection st luck (Line.TickAll seconds)) }
         ensures longer { result.1 ≡ LineDone.Told → result.0.counts.lines ≡ self.counts.lines + 1 }
-        ensures kept_lines { (e : Ending) → result.1 ≡ LineDone.Ended e → result.0.counts.lines ≡ self.counts.lines }
+        ensures kept { (e : Ending) → result.1 ≡ LineDone.Ended e → result.0 ≡ self }
         ensures never_falls { site_faults D.faults self.site ≤ site_faults D.faults result.0.site }
     {
         let CellRun {
@@ -202,7 +202,6 @@ impl<D: StopDisk> CellRun<D> {
             IsRefused e (λ luck. in_run (stepped protection st luck number event) st.run) }
         ensures kept { (e : Ending) → result.1 ≡ LineDone.Ended e → result.0 ≡ self }
         ensures longer { result.1 ≡ LineDone.Told → result.0.counts.lines ≡ self.counts.lines + 1 }
-        ensures kept_lines { (e : Ending) → result.1 ≡ LineDone.Ended e → result.0.counts.lines ≡ self.counts.lines }
         ensures never_falls { site_faults D.faults self.site ≤ site_faults D.faults result.0.site }
     {
         let CellRun {
@@ -245,7 +244,7 @@ impl<D: StopDisk> CellRun<D> {
         ensures refused { (e : Ending) → result.1 ≡ LineDone.Ended e → (st : Stage) → IsAt self st →
             IsRefused e (λ luck. line_run protection st luck (Line.Ask server words.now)) }
         ensures longer { result.1 ≡ LineDone.Told → result.0.counts.lines ≡ self.counts.lines + 1 }
-        ensures kept_lines { (e : Ending) → result.1 ≡ LineDone.Ended e → result.0.counts.lines ≡ self.counts.lines }
+        ensures kept { (e : Ending) → result.1 ≡ LineDone.Ended e → result.0 ≡ self }
         ensures never_falls { site_faults D.faults self.site ≤ site_faults D.faults result.0.site }
     {
         if let Site::Unopened(_) = &self.site {
@@ -273,7 +272,7 @@ impl<D: StopDisk> CellRun<D> {
         ensures told { (st : Stage) → IsAt self st → (text : List ℕ) →
             LineTold D.faults (λ luck. line_run protection st luck Line.Nothing) self result.0 text text }
         ensures longer { result.1 ≡ LineDone.Told → result.0.counts.lines ≡ self.counts.lines + 1 }
-        ensures kept_lines { (e : Ending) → result.1 ≡ LineDone.Ended e → result.0.counts.lines ≡ self.counts.lines }
+        ensures kept { (e : Ending) → result.1 ≡ LineDone.Ended e → result.0 ≡ self }
         ensures never_falls { site_faults D.faults self.site ≤ site_faults D.faults result.0.site }
     {
         let CellRun {
@@ -303,7 +302,7 @@ impl<D: StopDisk> CellRun<D> {
         ensures refused { (e : Ending) → result.1 ≡ LineDone.Ended e → (st : Stage) → IsAt self st →
             IsRefused e (λ luck. line_run protection st luck line.now) }
         ensures longer { result.1 ≡ LineDone.Told → result.0.counts.lines ≡ self.counts.lines + 1 }
-        ensures kept_lines { (e : Ending) → result.1 ≡ LineDone.Ended e → result.0.counts.lines ≡ self.counts.lines }
+        ensures kept { (e : Ending) → result.1 ≡ LineDone.Ended e → result.0 ≡ self }
         ensures never_falls { site_faults D.faults self.site ≤ site_faults D.faults result.0.site }
     {
         let asks = self.counts.asks;
@@ -328,7 +327,7 @@ impl<D: StopDisk> CellRun<D> {
             Ends e (λ luck. line_result protection st (record { line = line.now; luck = luck })) }
         ensures few { result.1 ≡ LineDone.Told → self.counts.lines < 20000 }
         ensures longer { result.1 ≡ LineDone.Told → result.0.counts.lines ≡ self.counts.lines + 1 }
-        ensures kept_lines { (e : Ending) → result.1 ≡ LineDone.Ended e → result.0.counts.lines ≡ self.counts.lines }
+        ensures kept { (e : Ending) → result.1 ≡ LineDone.Ended e → result.0 ≡ self }
         ensures never_falls { site_faults D.faults self.site ≤ site_faults D.faults result.0.site }
     {
         if self.counts.lines >= MAX_LINES {

@@ -7,8 +7,8 @@ ghost use Rattle.prdb_entries.specs.Protection.{protection};
 ghost use Rattle.ubik_cell.specs.Lines.{IsSound};
 ghost use Rattle.ubik_cell.specs.Run.{SoFar, AtLine, AtEnding, Runs, kind_at, IsInside, IsDoneOrShort};
 ghost use Rattle.ubik_cell.specs.Run as Status;
-ghost use Rattle.ubik_cell.specs.Disks.{AllFresh, first_faults};
-ghost use Rattle.ubik_cell.specs.Sites.{site_faults};
+ghost use Rattle.ubik_cell.specs.Disks.{AllFresh, first_held};
+ghost use Rattle.ubik_cell.specs.Sites.{site_faults, held, site_held};
 
 use crate::cells::{CellEnd, CellKind, Ending};
 use crate::scripts::CellRun;
@@ -38,8 +38,8 @@ fn end_at_line<K: Sink, D: StopDisk>(
     ensures same { result.0 ≡ run }
     ensures ended { IsSome result.1 }
     ensures ends { IfSome result.1 (λ kind. IfSome (K.written out.old) (λ written. (script before : List ℕ) (left : Option (List ℕ)) →
-        AtEnding protection D.faults script left before (Some written) run ending →
-        Runs kind protection script left before (K.written out.new) (site_faults D.faults run.site))) }
+        AtEnding protection D.files D.faults script left before (Some written) run ending →
+        Runs kind protection script left before (K.written out.new) (site_held D.files D.faults run.site))) }
     ensures cause { HasCause (K.faults out.old) (K.faults out.new) (result.1 ≡ Some CellKind.WriteFault) }
     ensures not_read { result.1 ≢ Some CellKind.ReadFault }
     ensures no_words { (place : ℕ) → result.1 ≢ Some (CellKind.Words place) }
@@ -64,11 +64,11 @@ fn tell_line<K: Sink, D: StopDisk>(
 ) -> (CellRun<D>, Option<CellKind>)
     requires sound { IsSound D.files D.faults run.counts.clock run.site }
     ensures goes { result.1 ≡ None → IfSome (K.written out.old) (λ written. (script before : List ℕ) (left : Option (List ℕ)) →
-        AtLine protection D.faults script left before (Some written) run line.now →
-        SoFar protection D.faults script left before (K.written out.new) result.0) }
+        AtLine protection D.files D.faults script left before (Some written) run line.now →
+        SoFar protection D.files D.faults script left before (K.written out.new) result.0) }
     ensures ends { IfSome result.1 (λ kind. IfSome (K.written out.old) (λ written. (script before : List ℕ) (left : Option (List ℕ)) →
-        AtLine protection D.faults script left before (Some written) run line.now →
-        Runs kind protection script left before (K.written out.new) (site_faults D.faults result.0.site))) }
+        AtLine protection D.files D.faults script left before (Some written) run line.now →
+        Runs kind protection script left before (K.written out.new) (site_held D.files D.faults result.0.site))) }
     ensures sound { result.1 ≡ None → IsSound D.files D.faults result.0.counts.clock result.0.site }
     ensures longer { result.1 ≡ None → result.0.counts.lines ≡ run.counts.lines + 1 }
     ensures cause { HasCause (K.faults out.old) (K.faults out.new) (result.1 ≡ Some CellKind.WriteFault) }
@@ -98,11 +98,11 @@ fn turn<S: Source, K: Sink, D: StopDisk>(
 ) -> (CellRun<D>, Option<CellKind>)
     requires sound { IsSound D.files D.faults run.counts.clock run.site }
     ensures goes { result.1 ≡ None → IfSome (K.written out.old) (λ written. (script before : List ℕ) →
-        SoFar protection D.faults script (S.left input.old) before (Some written) run →
-        SoFar protection D.faults script (S.left input.new) before (K.written out.new) result.0) }
+        SoFar protection D.files D.faults script (S.left input.old) before (Some written) run →
+        SoFar protection D.files D.faults script (S.left input.new) before (K.written out.new) result.0) }
     ensures ends { IfSome result.1 (λ kind. IfSome (K.written out.old) (λ written. (script before : List ℕ) →
-        SoFar protection D.faults script (S.left input.old) before (Some written) run →
-        Runs kind protection script (S.left input.new) before (K.written out.new) (site_faults D.faults result.0.site))) }
+        SoFar protection D.files D.faults script (S.left input.old) before (Some written) run →
+        Runs kind protection script (S.left input.new) before (K.written out.new) (site_held D.files D.faults result.0.site))) }
     ensures sound { result.1 ≡ None → IsSound D.files D.faults result.0.counts.clock result.0.site }
     ensures longer { result.1 ≡ None → result.0.counts.lines ≡ run.counts.lines + 1 }
     ensures read_cause { HasCause (S.faults input.old) (S.faults input.new) (result.1 ≡ Some CellKind.ReadFault) }
@@ -129,7 +129,7 @@ fn run_script<S: Source, K: Sink, D: StopDisk>(
 ) -> (D, CellKind)
     requires { D.files disk ≡ Some no_files }
     ensures runs { IfSome (S.left input.old) (λ script. IfSome (K.written out.old) (λ before.
-        Runs result.1 protection script (S.left input.new) before (K.written out.new) (D.faults result.0))) }
+        Runs result.1 protection script (S.left input.new) before (K.written out.new) (held D.files D.faults result.0))) }
     ensures read_cause { HasCause (S.faults input.old) (S.faults input.new) (result.1 ≡ CellKind.ReadFault) }
     ensures write_cause { HasCause (K.faults out.old) (K.faults out.new) (result.1 ≡ CellKind.WriteFault) }
     ensures no_words { (place : ℕ) → result.1 ≢ CellKind.Words place }
@@ -176,9 +176,9 @@ pub fn cell_top<S: Source, K: Sink, D: StopDisk>(
     requires twenty { vec_len disks.old ≡ 20 }
     requires fresh { AllFresh D.files D.stop D.faults disks.old.items }
     ensures run { IfSome (S.left input.old) (λ script. IfSome (K.written out.old) (λ before.
-        Runs result.kind protection script (S.left input.new) before (K.written out.new) (first_faults D.faults disks.new.items))) }
+        Runs result.kind protection script (S.left input.new) before (K.written out.new) (first_held D.files D.faults disks.new.items))) }
     ensures complete { length words.now ≡ 0 → S.faults input.new ≡ S.faults input.old → K.faults out.new ≡ K.faults out.old →
-        first_faults D.faults disks.new.items ≡ 0 → IfSome (S.left input.old) (λ script. IfSome (K.written out.old) (λ before.
+        (first_held D.files D.faults disks.new.items).faults ≡ 0 → IfSome (S.left input.old) (λ script. IfSome (K.written out.old) (λ before.
         IsInside protection script → IsDoneOrShort result.kind)) }
     ensures status { result.status ≡ Status.status_of result.kind }
     ensures read_cause { HasCause (S.faults input.old) (S.faults input.new) (result.kind ≡ CellKind.ReadFault) }

@@ -3,21 +3,21 @@ use Rattle.cell_script.specs.Write.{AppendsPart}
 use Rattle.prdb_entries.specs.Protection.{protection}
 use Rattle.ubik_cell.specs.Script.{told}
 use Rattle.ubik_cell.proofs.Telling.{over_told}
-use Rattle.ubik_cell.proofs.Turning.{went_on, part_told, retold, ends_there}
+use Rattle.ubik_cell.proofs.Turning.{went_on, part_told, retold, told_not_short, ends_there}
 use Rattle.ubik_cell.proofs.tops.tell_line.Goals as goal
 
 pub returns-in-Ended-clause-ends : goal.returns-in-Ended-clause-ends
 returns-in-Ended-clause-ends g c =
-    ends_there _ _ _ _ _ c.args.run _ _ c.args.line.now c.in-Ended.ending c.end_at_line.ensures.ends c.end_at_line.ensures.same (c.line-run.ensures.ended c.in-Ended.ending c.in-Ended.is) (c.line-run.ensures.kept_lines c.in-Ended.ending c.in-Ended.is) c.line-run.ensures.never_falls
+    ends_there _ _ _ _ _ _ c.args.run _ _ c.args.line.now c.in-Ended.ending c.end_at_line.ensures.ends c.end_at_line.ensures.same (c.line-run.ensures.kept c.in-Ended.ending c.in-Ended.is) (c.line-run.ensures.ended c.in-Ended.ending c.in-Ended.is)
 
 pub returns-in-Ok-clause-goes : goal.returns-in-Ok-clause-goes
 returns-in-Ok-clause-goes g c = λ went.
     over_told (λ (written : List ℕ). g.K.Sink.written c.write_whole.new.out ≡ Some (written ++ c.as_bytes.result.now)) _ _ c.in-Ok.ensures.told (λ written wrote script before left at.
-    went_on protection g.D.Disk.faults script left before written c.as_bytes.result.now _ c.args.run c.line-run.result.0 c.args.line.now at
-    (retold _ _ _ _ _ _ _ c.clear.ensures.bytes c.as_bytes.ensures.value (c.line-run.ensures.told c.in-Told.is (told protection at.readings).stage at.at)) wrote)
+    went_on protection g.D.Disk.files g.D.Disk.faults script left before written c.as_bytes.result.now _ c.args.run c.line-run.result.0 c.args.line.now at
+    (retold _ _ _ _ _ _ _ c.clear.ensures.bytes c.as_bytes.ensures.value (c.line-run.ensures.told c.in-Told.is (told protection at.readings).stage at.at)) (c.line-run.ensures.sound (told_not_short _ c.in-Told.is)) wrote)
 
 pub returns-in-Err-clause-ends : goal.returns-in-Err-clause-ends
 returns-in-Err-clause-ends g c =
     over_told (λ (written : List ℕ). AppendsPart written (g.K.Sink.written c.write_whole.new.out) c.as_bytes.result.now) _ _ c.in-Err.ensures.told (λ written wrote script before left at.
-    part_told protection g.D.Disk.faults script left before written c.as_bytes.result.now wrote.count _ c.args.run c.line-run.result.0 c.args.line.now at
-    (retold _ _ _ _ _ _ _ c.clear.ensures.bytes c.as_bytes.ensures.value (c.line-run.ensures.told c.in-Told.is (told protection at.readings).stage at.at)) wrote.written)
+    part_told protection g.D.Disk.files g.D.Disk.faults script left before written c.as_bytes.result.now wrote.count _ c.args.run c.line-run.result.0 c.args.line.now at
+    (retold _ _ _ _ _ _ _ c.clear.ensures.bytes c.as_bytes.ensures.value (c.line-run.ensures.told c.in-Told.is (told protection at.readings).stage at.at)) (c.line-run.ensures.sound (told_not_short _ c.in-Told.is)) wrote.written)
