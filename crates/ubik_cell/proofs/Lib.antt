@@ -3,6 +3,7 @@ pub mod Completeness
 pub mod Consuming
 pub mod Fields
 pub mod Holding
+pub mod LineKinds
 pub mod NoFaults
 pub mod OneStep
 pub mod OpenedLine
@@ -12,3 +13,4 @@ pub mod Starting
 pub mod SteppedLine
 pub mod Telling
 pub mod Turning
+pub mod Worth

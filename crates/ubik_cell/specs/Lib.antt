@@ -1,5 +1,6 @@
 pub mod Disks
 pub mod Lines
+pub mod OneCopy
 pub mod Run
 pub mod Script
 pub mod Sites

@@ -1,5 +1,5 @@
 //! A whole script: read line by line, each line run and told.
-ghost use Rattle.std.specs.Prelude.{◌≡◌, ◌≢◌, ◌+◌, ◌<◌, ◌≤◌, ℕ, List, Option, Some, None, IsSome, IfSome, MatchOption, [], vec_len, length, drop};
+ghost use Rattle.std.specs.Prelude.{◌≡◌, ◌≢◌, ◌+◌, ◌<◌, ◌≤◌, ℕ, List, Option, Some, None, IsSome, IfSome, MatchOption, [], vec_len, length, drop, All};
 ghost use Rattle.std.specs.String.{string_bytes};
 ghost use Rattle.disk_base.specs.Count.{HasCause};
 ghost use Rattle.disk_base.specs.Files.{no_files};
@@ -7,6 +7,9 @@ ghost use Rattle.prdb_entries.specs.Protection.{protection};
 ghost use Rattle.ubik_cell.specs.Lines.{IsSound};
 ghost use Rattle.ubik_cell.specs.Run.{SoFar, AtLine, AtEnding, Runs, kind_at, IsInside, IsDoneOrShort};
 ghost use Rattle.ubik_cell.specs.Run as Status;
+ghost use Rattle.cell_model.specs.KeptLaws.{AcknowledgedStay, OksAreAcknowledged, RepliesAreSingle, SitesAreSingle};
+ghost use Rattle.cell_model.specs.Laws.{AnnouncementsGrow, DatabaseIsDurable};
+ghost use Rattle.ubik_cell.specs.OneCopy.{DiskHolds, HasOneOrder, HasSingleReplies, IsKept, OfEachRun};
 ghost use Rattle.ubik_cell.specs.Disks.{AllFresh, first_held};
 ghost use Rattle.ubik_cell.specs.Sites.{site_faults, held, site_held};
 
@@ -14,6 +17,10 @@ use crate::cells::{CellEnd, CellKind, Ending};
 use crate::scripts::CellRun;
 use crate::sites::LineDone;
 use crate::traces::tell_ending;
+use cell_model::{
+    law_acknowledged_stay, law_announcements_grow, law_database_is_durable, law_ok_is_acknowledged,
+    law_replies_are_single, law_sites_are_single,
+};
 use cell_script::{LineEnd, LineReader, write_whole};
 use disk_base::{Sink, Source, StopDisk};
 use std::alloc::Global;
@@ -163,6 +170,23 @@ fn status_of(kind: CellKind) -> u8
     }
 }
 
+/// The laws of each run of a cell of one server, which the run of a script is. It does nothing.
+fn recall_laws()
+    ensures order { AnnouncementsGrow }
+    ensures stay { AcknowledgedStay }
+    ensures acknowledged { OksAreAcknowledged }
+    ensures sites { SitesAreSingle }
+    ensures replies { RepliesAreSingle }
+    ensures durable { DatabaseIsDurable }
+{
+    law_announcements_grow();
+    law_acknowledged_stay();
+    law_ok_is_acknowledged();
+    law_sites_are_single();
+    law_replies_are_single();
+    law_database_is_durable();
+}
+
 /// Runs the script that the source gives, one line after the other, and writes its exact trace. It takes no
 /// words: where one is given, nothing is read or written. There are 20 disks; disk i is that of server i + 1, and
 /// each stands in its place at every end.
@@ -177,6 +201,15 @@ pub fn cell_top<S: Source, K: Sink, D: StopDisk>(
     requires fresh { AllFresh D.files D.stop D.faults disks.old.items }
     ensures run { IfSome (S.left input.old) (λ script. IfSome (K.written out.old) (λ before.
         Runs result.kind protection script (S.left input.new) before (K.written out.new) (first_held D.files D.faults disks.new.items))) }
+    ensures one_order { OfEachRun HasOneOrder result.kind protection (S.left input.old) (S.left input.new) (K.written out.old) (K.written out.new)
+        (first_held D.files D.faults disks.new.items) }
+    ensures kept { OfEachRun IsKept result.kind protection (S.left input.old) (S.left input.new) (K.written out.old) (K.written out.new)
+        (first_held D.files D.faults disks.new.items) }
+    ensures single_copy { OfEachRun HasSingleReplies result.kind protection (S.left input.old) (S.left input.new) (K.written out.old) (K.written out.new)
+        (first_held D.files D.faults disks.new.items) }
+    ensures disk { DiskHolds result.kind protection (S.left input.old) (S.left input.new) (K.written out.old) (K.written out.new)
+        (first_held D.files D.faults disks.new.items) }
+    ensures unused { All (λ disk. D.files disk ≡ Some no_files) (drop 1 disks.new.items) }
     ensures complete { length words.now ≡ 0 → S.faults input.new ≡ S.faults input.old → K.faults out.new ≡ K.faults out.old →
         (first_held D.files D.faults disks.new.items).faults ≡ 0 → IfSome (S.left input.old) (λ script. IfSome (K.written out.old) (λ before.
         IsInside protection script → IsDoneOrShort result.kind)) }
@@ -189,6 +222,7 @@ pub fn cell_top<S: Source, K: Sink, D: StopDisk>(
     ensures twenty { vec_len disks.new ≡ 20 }
     ensures others { drop 1 disks.new.items ≡ drop 1 disks.old.items }
 {
+    recall_laws();
     if !words.is_empty() {
         let kind = CellKind::Words { place: 1 };
         return CellEnd {

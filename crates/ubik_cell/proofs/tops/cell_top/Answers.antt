@@ -2,7 +2,9 @@ use Rattle.std.proofs.Common.{rules, ◌≡◌, sym, ap, ◌∙◌, arith}
 use Rattle.prdb_entries.specs.Protection.{protection}
 use Rattle.ubik_cell.specs.Disks.{first_held}
 use Rattle.ubik_cell.specs.Sites.{Held, held}
+use Rattle.ubik_cell.specs.OneCopy.{HasOneOrder, IsKept, HasSingleReplies}
 use Rattle.ubik_cell.proofs.Completeness.{complete_told}
+use Rattle.ubik_cell.proofs.Worth.{of_each_run, one_order, kept, single_replies, disk_holds}
 use Rattle.ubik_cell.proofs.tops.cell_top.Goals as goal
 
 pub returns-clause-complete : goal.returns-clause-complete
@@ -13,3 +15,15 @@ returns-clause-complete g c = λ none read wrote sound.
     (λ is. let rose = c.run_script-disk.ensures.read_cause.rose is in absurd (omega (arith, rose, read)))
     (λ is. let rose = c.run_script-disk.ensures.write_cause.rose is in absurd (omega (arith, rose, wrote)))
     c.run_script-disk.ensures.no_words
+
+pub returns-clause-one_order : goal.returns-clause-one_order
+returns-clause-one_order g c = of_each_run HasOneOrder (one_order c.recall_laws.ensures.order) c.run_script-disk.result.1 protection _ _ _ _ _
+
+pub returns-clause-kept : goal.returns-clause-kept
+returns-clause-kept g c = of_each_run IsKept (kept c.recall_laws.ensures.stay c.recall_laws.ensures.sites c.recall_laws.ensures.acknowledged) c.run_script-disk.result.1 protection _ _ _ _ _
+
+pub returns-clause-single_copy : goal.returns-clause-single_copy
+returns-clause-single_copy g c = of_each_run HasSingleReplies (single_replies c.recall_laws.ensures.replies) c.run_script-disk.result.1 protection _ _ _ _ _
+
+pub returns-clause-disk : goal.returns-clause-disk
+returns-clause-disk g c = disk_holds c.recall_laws.ensures.durable c.run_script-disk.result.1 protection _ _ _ _ _

@@ -1,0 +1,98 @@
+-- What the run of a script's lines is worth: one order of the committed transactions, what was acknowledged stays in it,
+-- and each database and each reply is that of a single copy.
+use Rattle.std.specs.Prelude.{◌≡◌, ◌⊎◌, ℕ, Bool, true, Option, Some, None, IfSome, List, [], ◌∷◌, ◌++◌, All, Contains}
+use Rattle.db_image.specs.Database.{Database}
+use Rattle.disk_base.specs.Files.{Files, no_files}
+use Rattle.cell_model.specs.Book.{Run, order_of}
+use Rattle.cell_model.specs.declared.events.NodeEvent.TheVariants.{Ask}
+use Rattle.cell_model.specs.declared.events.Output.TheVariants as output
+use Rattle.cell_model.specs.declared.events.Reply.TheVariants as reply
+use Rattle.cell_model.specs.KeptLaws.{run_of_one, IsAt, IsSingle, IsSeenOf, IsRecorded, single_told}
+use Rattle.cell_model.specs.Laws.{AllDurable, Grows}
+use Rattle.cell_model.specs.World.{Site, Event, Step, Puts, site_of, happens, first_seen, first_world, seen_of}
+use Rattle.ubik_node.specs.Label.{durable_of}
+use Rattle.ubik_cell.specs.declared.cells.CellKind.{CellKind}
+use Rattle.ubik_cell.specs.declared.cells.CellKind.TheVariants as kind
+use Rattle.ubik_cell.specs.Run.{Runs}
+use Rattle.ubik_cell.specs.Script.{Reading, told}
+use Rattle.ubik_cell.specs.Sites.{Held}
+use Rattle.ubik_cell.specs.Trace.{trace}
+
+-- the run of these lines: a cell was opened at a clock, or its disk failed then, and these events came after it; what
+-- was told is what is seen of them, as long as the script did not end
+pub record IsRunOf (db : Database) (readings : List Reading) (clock : ℕ) (failed : Bool) (events : List Event) : Type 0 where
+  pub run : (told db readings).stage.run ≡ Some (run_of_one db clock failed events)
+  pub told : (told db readings).stop ≡ None →
+      (told db readings).text ≡ trace (first_seen 0 (failed ∷ []) ++ seen_of db (first_world clock (failed ∷ [])) events)
+
+-- the list of each announcement is a front of the list of each later one
+abbrev pub HasOneOrder : Database → ℕ → Bool → List Event → Type 0
+HasOneOrder db clock failed events = Grows (run_of_one db clock failed events).announcements
+
+-- What was acknowledged at any place of the run is in the order at its end, at its place; and the database of each ready
+-- sync site at any place is the single copy's after the order there. Each Ok to a call that writes is acknowledged in
+-- that event, or the call changes nothing.
+pub record IsKept (db : Database) (clock : ℕ) (failed : Bool) (events : List Event) : Type 0 where
+  pub stays : (front back : List Event) → events ≡ front ++ back →
+      All (λ a. IsAt (order_of (run_of_one db clock failed events).announcements) a) (run_of_one db clock failed front).acknowledged
+  pub sites : (front back : List Event) → events ≡ front ++ back →
+      let r = run_of_one db clock failed front in
+      All (λ site. IsSingle db (order_of r.announcements) 1 site.clock site.node) r.world.sites
+  pub recorded : (front back : List Event) (server id : ℕ) (call fields : List ℕ) (short : List Bool) →
+      events ≡ front ++ Step server (Ask id call) short ∷ back →
+      let r = run_of_one db clock failed front in
+      let h = happens db r.world (Step server (Ask id call) short) in
+      db.writes call ≡ Some true → Contains h.seen (Puts server (output.Reply id (reply.Ok fields))) →
+      IfSome (site_of r.world.sites server) (λ site.
+      IsRecorded db (order_of r.announcements) h.acknowledged (record { moment = site.clock; call = call }))
+
+-- each reply Ok or Rule of an event is that of the single copy after the order before the event
+abbrev pub HasSingleReplies : Database → ℕ → Bool → List Event → Type 0
+HasSingleReplies db clock failed events =
+    (front back : List Event) (event : Event) → events ≡ front ++ event ∷ back →
+    let r = run_of_one db clock failed front in
+    All (IsSeenOf (single_told db (order_of r.announcements) r.world event)) (happens db r.world event).seen
+
+-- no cell stands, and nothing was told; or the run has this
+abbrev pub OfRun : (Database → ℕ → Bool → List Event → Type 0) → Database → List Reading → Type 0
+OfRun P db readings =
+    ((told db readings).stage.run ≡ None) × ((told db readings).stop ≡ None → (told db readings).text ≡ [])
+    ⊎ ((clock : ℕ) × (failed : Bool) × (events : List Event) × IsRunOf db readings clock failed events × P db clock failed events)
+
+-- the lines that were run, the last perhaps told in part
+abbrev pub readings_of : (k : CellKind) (db : Database) (script : List ℕ) (left : Option (List ℕ)) (before : List ℕ) (after : Option (List ℕ)) (disk : Held) → Runs k db script left before after disk → List Reading
+readings_of kind.Done db script left before after disk runs = runs.readings
+readings_of (kind.ScriptRefused line why) db script left before after disk runs = runs.readings
+readings_of kind.ReadFault db script left before after disk runs = runs.readings
+readings_of kind.WriteFault db script left before after disk runs = runs.readings ++ runs.last ∷ []
+readings_of (kind.Limit line which) db script left before after disk runs = runs.readings
+readings_of kind.NoMemory db script left before after disk runs = runs.readings
+readings_of (kind.Words place) db script left before after disk runs = []
+
+-- so of each run of which the bytes that were written are the trace
+abbrev pub OfEachRun : (Database → ℕ → Bool → List Event → Type 0) → CellKind → Database → Option (List ℕ) → Option (List ℕ) → Option (List ℕ) → Option (List ℕ) → Held → Type 0
+OfEachRun P k db left later written after disk =
+    IfSome left (λ script. IfSome written (λ before.
+    (runs : Runs k db script later before after disk) → OfRun P db (readings_of k db script later before after disk runs)))
+
+-- the disk of the one server reads as its durable state, and has no log and no incoming file
+abbrev pub ReadsDurable : List Site → Files → Type 0
+ReadsDurable (site ∷ []) fs = (durable_of fs.database ≡ Some site.durable) × (fs.log ≡ []) × (fs.incoming ≡ [])
+ReadsDurable _ fs = ⊥
+
+abbrev pub ReadsRun : Option Run → Files → Type 0
+ReadsRun None fs = fs ≡ no_files
+ReadsRun (Some r) fs = ReadsDurable r.world.sites fs
+
+-- lines were run, and what they did was told, or its telling began. Want of memory may have come after the durable
+-- calls of a step of which nothing was told.
+abbrev pub IsTold : CellKind → Type 0
+IsTold kind.NoMemory = ⊥
+IsTold (kind.Words place) = ⊥
+IsTold _ = Unit {0}
+
+-- where its count of faults stands at 0, the first disk reads as the durable state of each such run
+abbrev pub DiskHolds : CellKind → Database → Option (List ℕ) → Option (List ℕ) → Option (List ℕ) → Option (List ℕ) → Held → Type 0
+DiskHolds k db left later written after disk =
+    IfSome left (λ script. IfSome written (λ before. (runs : Runs k db script later before after disk) → IsTold k → disk.faults ≡ 0 →
+    IfSome disk.files (ReadsRun (told db (readings_of k db script later before after disk runs)).stage.run)))
