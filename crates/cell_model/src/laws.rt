@@ -19,8 +19,8 @@ pub fn law_announcements_grow()
     ensures { AnnouncementsGrow }
 {}
 
-/// In each run of a cell of one server each acknowledged transaction is in the order from its Ok on, at the place
-/// that its commit gave it: none is lost, and none moves.
+/// In each run of a cell of one server a transaction that was acknowledged stays in the order, where its commit put it:
+/// none is lost, and none moves.
 pub fn law_acknowledged_stay()
     ensures { AcknowledgedStay }
 {}
