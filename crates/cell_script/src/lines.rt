@@ -265,6 +265,13 @@ mod tests {
         }
     }
 
+    fn seen(meaning: &Result<Line, Why>) -> Result<(&'static str, u64, usize), Why> {
+        match meaning {
+            Ok(line) => Ok(outline(line)),
+            Err(why) => Err(*why),
+        }
+    }
+
     #[test]
     fn understands_lines(rt: HostRuntime) -> Result<(), Fail> {
         for (line, want) in [
@@ -279,7 +286,7 @@ mod tests {
             ("ask 0 nametoid", ("ask", 0, 1)),
         ] {
             let meaning = line_meaning(rt.alloc(), line.as_bytes())?;
-            assert_eq!(rt; meaning.as_ref().map(outline), Ok(want), "at {line}");
+            assert_eq!(rt; seen(&meaning), Ok(want), "at {line}");
         }
         Ok(())
     }
@@ -332,7 +339,7 @@ mod tests {
         ] {
             for line in lines {
                 let meaning = line_meaning(rt.alloc(), line.as_bytes())?;
-                assert_eq!(rt; meaning.as_ref().map(outline), Err(&why), "at {line}");
+                assert_eq!(rt; seen(&meaning), Err(why), "at {line}");
             }
         }
         Ok(())

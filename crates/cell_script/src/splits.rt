@@ -21,6 +21,7 @@ impl Model for Words {
 }
 
 impl Words {
+    /// The words in their order.
     pub fn as_slice(&self) -> &[Bytes]
         ensures { result.now ≡ self.now }
     {

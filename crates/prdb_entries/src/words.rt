@@ -22,17 +22,17 @@ const MAX_STRING: usize = 255;
 /// A list in a call has at most so many items.
 const MAX_LIST: usize = 5000;
 
-/// The names of the calls, and the word of the number 0.
+// The names of the calls, and the word of the number 0.
 const NEWENTRY: &[u8] = b"newentry";
 
 const NAMETOID: &[u8] = b"nametoid";
 
 const ZERO: &[u8] = b"0";
 
-/// The numbers of the calls.
-const NEW_ENTRY: u32 = 1;
+// The numbers of the calls.
+const NEWENTRY_NUMBER: u32 = 1;
 
-const NAME_TO_ID: u32 = 3;
+const NAMETOID_NUMBER: u32 = 3;
 
 fn are_quotes(bytes: &[u8]) -> bool
     ensures { result ≡ list_all (λ b. b == 34) bytes.now }
@@ -113,7 +113,7 @@ fn spell_new_user(alloc: Global, name: &[u8]) -> Result<Bytes, NoMemory>
     ensures { IfOk result (λ bytes. bytes ≡ spelling (NewUser name.now)) }
 {
     let mut out = Vec::new(alloc);
-    push_words(&mut out, &[NEW_ENTRY])?;
+    push_words(&mut out, &[NEWENTRY_NUMBER])?;
     push_string(&mut out, name)?;
     push_words(&mut out, &[USER_KIND, NO_OWNER])?;
     Ok(Bytes::new(out))
@@ -125,7 +125,7 @@ fn spell_names(alloc: Global, names: &[Bytes]) -> Result<Option<Bytes>, NoMemory
     ensures { IfOk result (λ r. r ≡ option_map (λ list. spelling (NameToId list)) (strings_of_words names.now)) }
 {
     let mut out = Vec::new(alloc);
-    push_words(&mut out, &[NAME_TO_ID, names.len() as u32])?;
+    push_words(&mut out, &[NAMETOID_NUMBER, names.len() as u32])?;
     for name in names {
         let Some(text) = string_of_word(name.as_slice()) else {
             return Ok(None);

@@ -2,14 +2,13 @@
 use Rattle.std.proofs.Common.{◌≡◌, ◌≤◌, ◌+◌, ◌-◌, cond, nat_le, ℕ, zero, suc, Bool, true, false, List, [], ◌∷◌, ◌++◌, length, map, Option, Some, None, IfSome, Result, Ok, Err, refl, sym, ap, ◌∙◌, arith}
 use Rattle.db_image.specs.Database.{Database}
 use Rattle.prdb_entries.specs.Words.{call_of_words, is_unbuilt}
-use Rattle.cell_model.specs.Book.{Run, run_with}
+use Rattle.cell_model.specs.Book.{Run}
 use Rattle.cell_model.specs.declared.events.NodeEvent.{NodeEvent}
 use Rattle.cell_model.specs.declared.events.NodeEvent.TheVariants as event
 use Rattle.cell_model.specs.declared.events.Output.{Output}
-use Rattle.cell_model.specs.Node.{Node, Down, Halted, Up}
+use Rattle.cell_model.specs.Node.{Node, Down, Halted, Up, Server}
 use Rattle.cell_model.specs.NodeRule.{refusals}
-use Rattle.cell_model.specs.World.{Site, World, Step, Fault, Puts, Halts, Happening, Happened, Site_happened, Entry, step_at, fault_at, at_site, from_site, site_of, happens}
-use Rattle.cell_model.specs.Durable.{Transaction}
+use Rattle.cell_model.specs.World.{Site, World, Event, Puts, Halts, fault_at, from_site, happens}
 use Rattle.cell_script.specs.Meaning.{line_of}
 use Rattle.cell_script.specs.declared.lines.Line.{Line}
 use Rattle.cell_script.specs.declared.lines.Line.TheVariants as line
@@ -18,64 +17,37 @@ use Rattle.cell_script.specs.declared.lines.Why.TheVariants as why
 use Rattle.ubik_cell.specs.declared.cells.Ending.{Ending}
 use Rattle.ubik_cell.specs.declared.cells.Ending.TheVariants.{Limit}
 use Rattle.ubik_cell.specs.declared.cells.Which.TheVariants.{Lines}
-use Rattle.ubik_cell.specs.Script.{Luck, Sound, Faulty, Reading, Stage, Line_run, next_line, with_event, step_event, in_run, is_there, is_up_at, stepped, asked_in, asked_at, ask_run, opened, line_run, meaning_run, or_refused, line_result, fault_count}
+use Rattle.ubik_cell.specs.Script.{Luck, Sound, Faulty, Reading, Stage, Line_run, with_event, step_event, event_at, node_at, in_run, is_there, is_up_at, stepped, asked_in, asked_at, ask_run, opened, line_run, meaning_run, or_refused, line_result, fault_count}
 
 -- a list that ends with a halt has a fault
 halt_counts : (me : ℕ) (outputs : List Output) → fault_count (map (Puts me) outputs ++ Halts me ∷ []) ≡ 1
 halt_counts me [] = refl
 halt_counts me (o ∷ outputs) = halt_counts me outputs
 
--- a step with a faulty disk in which no fault is seen
-same_at : (db : Database) (n me : ℕ) (site : Site) (e : NodeEvent) (made : ℕ) (node : Node) → fault_count (fault_at db n me site e [] made node).seen ≤ 0 → fault_at db n me site e [] made node ≡ step_at db n me site e [] node
-same_at db n me site e made Down none = refl
-same_at db n me site e made (Halted h) none = refl
-same_at db n me site e made (Up s) none = absurd (omega (arith, none, halt_counts me (refusals e)))
+-- a step in which the disk of a server fails that is not halted is seen
+fault_counts : (db : Database) (n me : ℕ) (site : Site) (e : NodeEvent) (made : ℕ) (node : Node) (s : Server) → node ≡ Up s → fault_count (fault_at db n me site e [] made node).seen ≡ 1
+fault_counts db n me site e made node s is =
+    ap (λ (m : Node). fault_count (fault_at db n me site e [] made m).seen) is ∙ halt_counts me (refusals e)
 
--- where two functions agree at the site of a number, they lead to the same
-same_sites : (f g : Site → Site_happened) (sites : List Site) (p : ℕ) → IfSome (site_of sites p) (λ site. f site ≡ g site) → at_site f sites p ≡ at_site g sites p
-same_sites f g [] p same = refl
-same_sites f g (site ∷ sites) zero same = ap (λ (h : Site_happened). h.site ∷ sites) same
-same_sites f g (site ∷ sites) (suc p) same = ap (λ (more : List Site). site ∷ more) (same_sites f g sites p same)
+fault_at_place : (db : Database) (n me : ℕ) (e : NodeEvent) (made : ℕ) (sites : List Site) (p : ℕ) (s : Server) → node_at sites p ≡ Up s → fault_count (from_site (λ h. h.seen) (λ (site : Site). fault_at db n me site e [] made site.node) sites p) ≡ 1
+fault_at_place db n me e made [] p s is = let never : Down ≡ Up s = is in cc
+fault_at_place db n me e made (site ∷ sites) zero s is = fault_counts db n me site e made site.node s is
+fault_at_place db n me e made (site ∷ sites) (suc p) s is = fault_at_place db n me e made sites p s is
 
-same_from : {A : Type 0} (part : Site_happened → List A) (f g : Site → Site_happened) (sites : List Site) (p : ℕ) → IfSome (site_of sites p) (λ site. f site ≡ g site) → from_site part f sites p ≡ from_site part g sites p
-same_from part f g [] p same = refl
-same_from part f g (site ∷ sites) zero same = ap part same
-same_from part f g (site ∷ sites) (suc p) same = same_from part f g sites p same
-
-agrees : (db : Database) (n me : ℕ) (e : NodeEvent) (made : ℕ) (sites : List Site) (p : ℕ) → fault_count (from_site (λ h. h.seen) (λ (site : Site). fault_at db n me site e [] made site.node) sites p) ≤ 0 → IfSome (site_of sites p) (λ site. fault_at db n me site e [] made site.node ≡ step_at db n me site e [] site.node)
-agrees db n me e made [] p none = tt
-agrees db n me e made (site ∷ sites) zero none = same_at db n me site e made site.node none
-agrees db n me e made (site ∷ sites) (suc p) none = agrees db n me e made sites p none
-
-happened : List Site → List Happening → List Entry → List Transaction → Happened
-happened sites seen entries acknowledged = record { world = record { sites = sites }; seen = seen; entries = entries; acknowledged = acknowledged }
-
-no_fault : (db : Database) (w : World) (p : ℕ) (e : NodeEvent) (made : ℕ) → fault_count (happens db w (Fault p e [] made)).seen ≤ 0 → happens db w (Fault p e [] made) ≡ happens db w (Step p e [])
-unfolding happened
-no_fault db w p e made none =
-    let n = length w.sites in
-    let f : Site → Site_happened = λ site. fault_at db n p site e [] made site.node in
-    let g : Site → Site_happened = λ site. step_at db n p site e [] site.node in
-    let same = agrees db n p e made w.sites p none in
-    ap (λ (sites : List Site). happened sites (from_site (λ h. h.seen) f w.sites p) (from_site (λ h. h.entries) f w.sites p) (from_site (λ h. h.acknowledged) f w.sites p)) (same_sites f g w.sites p same)
-    ∙ ap (λ (seen : List Happening). happened (at_site g w.sites p) seen (from_site (λ h. h.entries) f w.sites p) (from_site (λ h. h.acknowledged) f w.sites p)) (same_from (λ h. h.seen) f g w.sites p same)
-    ∙ ap (λ (entries : List Entry). happened (at_site g w.sites p) (from_site (λ h. h.seen) g w.sites p) entries (from_site (λ h. h.acknowledged) f w.sites p)) (same_from (λ h. h.entries) f g w.sites p same)
-    ∙ ap (λ (acknowledged : List Transaction). happened (at_site g w.sites p) (from_site (λ h. h.seen) g w.sites p) (from_site (λ h. h.entries) g w.sites p) acknowledged) (same_from (λ h. h.acknowledged) f g w.sites p same)
+-- a step with a faulty disk in which no fault is seen is one with a sound disk
+same_event : (db : Database) (w : World) (p : ℕ) (e : NodeEvent) (made : ℕ) (node : Node) → node_at w.sites p ≡ node → fault_count (happens db w (step_event (Faulty made) node p e)).seen ≤ 0 → step_event Sound node p e ≡ step_event (Faulty made) node p e
+same_event db w p e made Down is none = refl
+same_event db w p e made (Halted h) is none = refl
+same_event db w p e made (Up s) is none = absurd (omega (arith, none, fault_at_place db (length w.sites) p e made w.sites p s is))
 
 -- no fault is seen of a line
 abbrev pub IsFree : {E : Type 0} → Result Line_run E → Type 0
 IsFree (Ok run) = fault_count run.seen ≤ 0
 IsFree (Err e) = Unit {0}
 
--- a line that brings what happened
-event_run : Stage → Run → Happened → Line_run
-event_run st r h = record { stage = record (next_line st) { run = Some (run_with r h) }; seen = h.seen }
-
-stepped_free : (db : Database) (st : Stage) (number : ℕ) (e : NodeEvent) (r : Run) (made : ℕ) (there up : Bool) → IsFree (cond {A = Result Line_run Why} there (cond up (Ok (with_event db st r (step_event (Faulty made) (number - 1) e))) (Err why.State)) (Err why.Server)) → cond {A = Result Line_run Why} there (cond up (Ok (with_event db st r (step_event Sound (number - 1) e))) (Err why.State)) (Err why.Server) ≡ cond there (cond up (Ok (with_event db st r (step_event (Faulty made) (number - 1) e))) (Err why.State)) (Err why.Server)
-unfolding event_run
+stepped_free : (db : Database) (st : Stage) (number : ℕ) (e : NodeEvent) (r : Run) (made : ℕ) (there up : Bool) → IsFree (cond {A = Result Line_run Why} there (cond up (Ok (with_event db st r (event_at (Faulty made) r number e))) (Err why.State)) (Err why.Server)) → cond {A = Result Line_run Why} there (cond up (Ok (with_event db st r (event_at Sound r number e))) (Err why.State)) (Err why.Server) ≡ cond there (cond up (Ok (with_event db st r (event_at (Faulty made) r number e))) (Err why.State)) (Err why.Server)
 stepped_free db st number e r made true true free =
-    let same = no_fault db r.world (number - 1) e made free in
-    ap (λ (h : Happened). Ok (event_run st r h)) (sym same)
+    ap (λ (x : Event). Ok (with_event db st r x)) (same_event db r.world (number - 1) e made (node_at r.world.sites (number - 1)) refl free)
 stepped_free db st number e r made true false free = refl
 stepped_free db st number e r made false up free = refl
 

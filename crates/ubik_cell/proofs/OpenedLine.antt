@@ -21,7 +21,10 @@ use Rattle.ubik_cell.specs.Lines.{IsAt, LineTold, Stands}
 opening : Stage → ℕ → Luck → Line_run
 opening st clock luck =
     record {
-      stage = record (next_line st) { run = Some (first_run (first_world clock (has_failed luck ∷ []))) };
+      stage = record (next_line st) {
+        opening = Some (record { clock = clock; failed = has_failed luck });
+        run = Some (first_run (first_world clock (has_failed luck ∷ [])));
+      };
       seen = first_seen 0 (has_failed luck ∷ []);
     }
 

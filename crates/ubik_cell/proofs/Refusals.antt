@@ -17,7 +17,7 @@ use Rattle.ubik_cell.specs.declared.scripts.CellRun.{CellRun}
 use Rattle.ubik_cell.specs.declared.sites.Site.{Site}
 use Rattle.ubik_cell.specs.declared.sites.Site.TheVariants as site
 use Rattle.ubik_cell.specs.Lines.{NoServer, SiteRefuses, Stands, StepsFrom, IsAt, IsOpened, LineTold, IsRefused, Ends}
-use Rattle.ubik_cell.specs.Script.{Luck, Reading, Stage, Line_run, with_event, step_event, in_run, is_there, is_up_at, stepped, no_cell, asked_in, asked_at, ask_run, line_run, meaning_run, or_refused, line_result}
+use Rattle.ubik_cell.specs.Script.{Luck, Reading, Stage, Line_run, with_event, event_at, in_run, is_there, is_up_at, stepped, no_cell, asked_in, asked_at, ask_run, line_run, meaning_run, or_refused, line_result}
 use Rattle.ubik_cell.proofs.SteppedLine.{has_run}
 
 -- what is refused is so whatever stands for it
@@ -28,9 +28,9 @@ refused_as (Limit which) f g same refused = refused
 -- a server that is not there, or is down, makes no step
 no_step : (st : Stage) (luck : Luck) (number : ℕ) (event : NodeEvent) (r : Run) (w : Why) → NoServer number r w → stepped protection st luck number event r ≡ Err w
 no_step st luck number event r why.Server none =
-    ap (λ (b : Bool). cond b (cond (is_up_at r.world.sites (number - 1)) (Ok (with_event protection st r (step_event luck (number - 1) event))) (Err why.State)) (Err why.Server)) none
+    ap (λ (b : Bool). cond b (cond (is_up_at r.world.sites (number - 1)) (Ok (with_event protection st r (event_at luck r number event))) (Err why.State)) (Err why.Server)) none
 no_step st luck number event r why.State none =
-    let made : Result Line_run Why = Ok (with_event protection st r (step_event luck (number - 1) event)) in
+    let made : Result Line_run Why = Ok (with_event protection st r (event_at luck r number event)) in
     ap (λ (b : Bool). cond b (cond (is_up_at r.world.sites (number - 1)) made (Err why.State)) (Err why.Server)) none.0
     ∙ ap (λ (b : Bool). cond b made (Err why.State)) none.1
 no_step st luck number event r why.Syntax none = absurd none

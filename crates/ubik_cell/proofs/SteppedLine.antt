@@ -17,7 +17,7 @@ use Rattle.ubik_cell.specs.declared.scripts.CellRun.{CellRun}
 use Rattle.ubik_cell.specs.declared.scripts.Counts.{Counts}
 use Rattle.ubik_cell.specs.declared.sites.Site.{Site}
 use Rattle.ubik_cell.specs.declared.sites.Site.TheVariants as site
-use Rattle.ubik_cell.specs.Script.{next_line, Luck, Sound, Stage, Line_run, with_event, step_event, in_run, is_there, is_up_at, stepped, asked_in, ask_run, ticked_all, line_run}
+use Rattle.ubik_cell.specs.Script.{next_line, Luck, Sound, Stage, Line_run, with_event, event_at, in_run, is_there, is_up_at, stepped, asked_in, ask_run, ticked_all, line_run}
 use Rattle.ubik_cell.specs.Sites.{one_world, IsOneWorld}
 use Rattle.ubik_cell.specs.Lines.{IsOpened, HasWorld, IsAt, StepsFrom, LineTold, SiteTold, Stands}
 
@@ -28,9 +28,9 @@ no_world clock (site.Down disk) opened stands = let never = stands.there in cc
 no_world clock (site.Up node) opened stands = let never = stands.there in cc
 
 -- a server that is there and up makes its step
-does_step : (st : Stage) (luck : Luck) (number : ℕ) (event : NodeEvent) (r : Run) → is_there r.world.sites number ≡ true → is_up_at r.world.sites (number - 1) ≡ true → stepped protection st luck number event r ≡ Ok (with_event protection st r (step_event luck (number - 1) event))
+does_step : (st : Stage) (luck : Luck) (number : ℕ) (event : NodeEvent) (r : Run) → is_there r.world.sites number ≡ true → is_up_at r.world.sites (number - 1) ≡ true → stepped protection st luck number event r ≡ Ok (with_event protection st r (event_at luck r number event))
 does_step st luck number event r there up =
-    let made : Result Line_run Why = Ok (with_event protection st r (step_event luck (number - 1) event)) in
+    let made : Result Line_run Why = Ok (with_event protection st r (event_at luck r number event)) in
     ap (λ (b : Bool). cond b (cond (is_up_at r.world.sites (number - 1)) made (Err why.State)) (Err why.Server)) there
     ∙ ap (λ (b : Bool). cond b made (Err why.State)) up
 
@@ -38,12 +38,12 @@ step_in : {D : Type 0} (faults : D → ℕ) (st : Stage) (before : CellRun D) (a
 step_in faults st before alloc counts after asks number event tb ta r from lines asked clock told =
     record {
       luck = told.luck;
-      ran = with_event protection st r (step_event told.luck (number - 1) event);
+      ran = with_event protection st r (event_at told.luck r number event);
       is = does_step st told.luck number event r told.there told.up;
       at = record {
         lines = omega (arith, from.lines);
         asks = from.calls ∙ sym asked;
-        stands = let P : ℕ → Type 0 = λ k. Stands k after (Some (run_after protection r (step_event told.luck (number - 1) event))) in subst P (sym clock) told.stands;
+        stands = let P : ℕ → Type 0 = λ k. Stands k after (Some (run_after protection r (event_at told.luck r number event))) in subst P (sym clock) told.stands;
       };
       told = told.told;
       causes = told.causes;

@@ -13,7 +13,7 @@ use Rattle.cell_model.specs.World.{Site, World, Event, Happening, happens, first
 use Rattle.ubik_cell.specs.declared.cells.CellKind.{CellKind}
 use Rattle.ubik_cell.specs.declared.cells.CellKind.TheVariants as kind
 use Rattle.ubik_cell.specs.declared.cells.Ending.{Ending}
-use Rattle.ubik_cell.specs.OneCopy.{IsRunOf, HasOneOrder, IsKept, HasSingleReplies, OfRun, OfEachRun, ReadsDurable, ReadsRun, IsTold, DiskHolds, readings_of}
+use Rattle.ubik_cell.specs.OneCopy.{IsRunOf, HasOneOrder, IsKept, HasSingleReplies, OfOpening, OfRun, OfEachRun, ReadsDurable, ReadsRun, IsTold, DiskHolds, readings_of}
 use Rattle.ubik_cell.specs.Run.{Holds, Reads, ReadsAs, SitesRead, Runs}
 use Rattle.ubik_cell.specs.Script.{Reading, Stage, Line_run, Stop, Told, first_told, told_with, told_unless, told_after, told_from, told, line_result}
 use Rattle.ubik_cell.specs.Sites.{Held}
@@ -44,11 +44,13 @@ all_seen db clock failed events = first_seen 0 (failed ∷ []) ++ seen_of db (fi
 pub record IsRun (db : Database) (t : Told) : Type 0 where
   pub clock : ℕ
   pub failed : Bool
-  pub events : List Event
-  pub run : t.stage.run ≡ Some (run_of_one db clock failed events)
-  pub told : t.stop ≡ None → t.text ≡ trace (first_seen 0 (failed ∷ []) ++ seen_of db (first_world clock (failed ∷ [])) events)
+  pub opening : t.stage.opening ≡ Some (record { clock = clock; failed = failed })
+  pub run : t.stage.run ≡ Some (run_of_one db clock failed t.stage.events)
+  pub told : t.stop ≡ None → t.text ≡ trace (first_seen 0 (failed ∷ []) ++ seen_of db (first_world clock (failed ∷ [])) t.stage.events)
 
 pub record IsNoRun (t : Told) : Type 0 where
+  pub opening : t.stage.opening ≡ None
+  pub events : t.stage.events ≡ []
   pub run : t.stage.run ≡ None
   pub told : t.stop ≡ None → t.text ≡ []
 
@@ -59,52 +61,66 @@ MayRun db t = IsNoRun t ⊎ IsRun db t
 brought : (db : Database) (t : Told) (ran : Line_run) → t.stop ≡ None → IsBringing db t.stage ran → IsRun db t → IsRun db (told_with t (Ok ran))
 unfolding all_seen
 brought db t ran good brings is =
-    let same : brings.r ≡ run_of_one db is.clock is.failed is.events = same_some (sym brings.there ∙ is.run) in
+    let events = t.stage.events in
+    let same : brings.r ≡ run_of_one db is.clock is.failed events = same_some (sym brings.there ∙ is.run) in
     let w : World = first_world is.clock (is.failed ∷ []) in
+    let more : ran.stage.events ≡ events ++ brings.event ∷ [] = brings.events in
     record {
       clock = is.clock;
       failed = is.failed;
-      events = is.events ++ brings.event ∷ [];
+      opening = brings.opening ∙ is.opening;
       run =
           brings.run ∙ ap (λ (r : Run). Some (run_after db r brings.event)) same
-          ∙ ap Some (sym (run_push db (first_run w) is.events brings.event));
+          ∙ ap Some (sym (run_push db (first_run w) events brings.event))
+          ∙ ap (λ (l : List Event). Some (run_of_one db is.clock is.failed l)) (sym more);
       told = λ none.
           ap (λ (text : List ℕ). text ++ trace ran.seen) (is.told good)
-          ∙ ap (λ (seen : List Happening). trace (all_seen db is.clock is.failed is.events) ++ trace seen) (brings.seen ∙ ap (λ (r : Run). (happens db r.world brings.event).seen) same)
-          ∙ sym (trace-append (all_seen db is.clock is.failed is.events) (happens db (run_of_one db is.clock is.failed is.events).world brings.event).seen)
-          ∙ ap trace (append_assoc (first_seen 0 (is.failed ∷ [])) (seen_of db w is.events) (happens db (run_of_one db is.clock is.failed is.events).world brings.event).seen)
-          ∙ ap (λ (seen : List Happening). trace (first_seen 0 (is.failed ∷ []) ++ seen)) (sym (seen_push db (first_run w) is.events brings.event));
+          ∙ ap (λ (seen : List Happening). trace (all_seen db is.clock is.failed events) ++ trace seen) (brings.seen ∙ ap (λ (r : Run). (happens db r.world brings.event).seen) same)
+          ∙ sym (trace-append (all_seen db is.clock is.failed events) (happens db (run_of_one db is.clock is.failed events).world brings.event).seen)
+          ∙ ap trace (append_assoc (first_seen 0 (is.failed ∷ [])) (seen_of db w events) (happens db (run_of_one db is.clock is.failed events).world brings.event).seen)
+          ∙ ap (λ (seen : List Happening). trace (first_seen 0 (is.failed ∷ []) ++ seen)) (sym (seen_push db (first_run w) events brings.event))
+          ∙ ap (λ (l : List Event). trace (all_seen db is.clock is.failed l)) (sym more);
     }
 
 no_run_here : (db : Database) (t : Told) (ran : Line_run) → IsBringing db t.stage ran → t.stage.run ≡ None → ⊥
 no_run_here db t ran brings none = let never : None ≡ Some brings.r = sym none ∙ brings.there in cc
 
 one_run_here : (db : Database) (t : Told) (ran : Line_run) (o : IsRun db t) → t.stage.run ≡ None → ⊥
-one_run_here db t ran is none = let never : None ≡ Some (run_of_one db is.clock is.failed is.events) = sym none ∙ is.run in cc
+one_run_here db t ran is none = let never : None ≡ Some (run_of_one db is.clock is.failed t.stage.events) = sym none ∙ is.run in cc
 
 quiet_text : (text : List ℕ) (seen : List Happening) → seen ≡ [] → text ++ trace seen ≡ text
 quiet_text text seen none = ap (λ (s : List Happening). text ++ trace s) none ∙ append-nil text
 
 ran_line : (db : Database) (t : Told) (ran : Line_run) → t.stop ≡ None → IsKind {E = Ending} db t.stage (Ok ran) → MayRun db t → MayRun db (told_with t (Ok ran))
+unfolding all_seen
 ran_line db t ran good (inl quiet) (inl none) =
-    inl (record { run = quiet.run ∙ none.run; told = λ stop. quiet_text t.text ran.seen quiet.seen ∙ none.told good })
+    inl (record {
+      opening = quiet.opening ∙ none.opening;
+      events = quiet.events ∙ none.events;
+      run = quiet.run ∙ none.run;
+      told = λ stop. quiet_text t.text ran.seen quiet.seen ∙ none.told good;
+    })
 ran_line db t ran good (inl quiet) (inr is) =
     inr (record {
       clock = is.clock;
       failed = is.failed;
-      events = is.events;
-      run = quiet.run ∙ is.run;
-      told = λ stop. quiet_text t.text ran.seen quiet.seen ∙ is.told good;
+      opening = quiet.opening ∙ is.opening;
+      run = quiet.run ∙ is.run ∙ ap (λ (l : List Event). Some (run_of_one db is.clock is.failed l)) (sym quiet.events);
+      told = λ stop.
+          quiet_text t.text ran.seen quiet.seen ∙ is.told good
+          ∙ ap (λ (l : List Event). trace (all_seen db is.clock is.failed l)) (sym quiet.events);
     })
 ran_line db t ran good (inr (inl opens)) (inl none) =
+    let nothing : ran.stage.events ≡ [] = opens.events ∙ none.events in
     inr (record {
       clock = opens.clock;
       failed = opens.failed;
-      events = [];
-      run = opens.run;
+      opening = opens.opening;
+      run = opens.run ∙ ap (λ (l : List Event). Some (run_of_one db opens.clock opens.failed l)) (sym nothing);
       told = λ stop.
           ap (λ (text : List ℕ). text ++ trace ran.seen) (none.told good) ∙ ap trace opens.seen
-          ∙ ap trace (sym (append-nil (first_seen 0 (opens.failed ∷ []))));
+          ∙ ap trace (sym (append-nil (first_seen 0 (opens.failed ∷ []))))
+          ∙ ap (λ (l : List Event). trace (all_seen db opens.clock opens.failed l)) (sym nothing);
     })
 ran_line db t ran good (inr (inl opens)) (inr is) = absurd (one_run_here db t ran is opens.none)
 ran_line db t ran good (inr (inr brings)) (inl none) = absurd (no_run_here db t ran brings none.run)
@@ -112,12 +128,12 @@ ran_line db t ran good (inr (inr brings)) (inr is) = inr (brought db t ran good 
 
 -- at the end of a script nothing more is promised of the text
 ended_line : (db : Database) (t : Told) (e : Ending) → MayRun db t → MayRun db (told_with t (Err e))
-ended_line db t e (inl none) = inl (record { run = none.run; told = λ stop. absurd (never_none stop) })
+ended_line db t e (inl none) = inl (record { opening = none.opening; events = none.events; run = none.run; told = λ stop. absurd (never_none stop) })
   where
     never_none : {X : Type 0} {x : X} → Some x ≡ None → ⊥
     never_none e = cc
 ended_line db t e (inr is) =
-    inr (record { clock = is.clock; failed = is.failed; events = is.events; run = is.run; told = λ stop. absurd (never_none stop) })
+    inr (record { clock = is.clock; failed = is.failed; opening = is.opening; run = is.run; told = λ stop. absurd (never_none stop) })
   where
     never_none : {X : Type 0} {x : X} → Some x ≡ None → ⊥
     never_none e = cc
@@ -135,15 +151,17 @@ from_lines db t [] may = may
 from_lines db t (r ∷ readings) may = from_lines db (told_after db t r) readings (unless_line db t r t.stop refl may)
 
 may_run : (db : Database) (readings : List Reading) → MayRun db (told db readings)
-may_run db readings = from_lines db first_told readings (inl (record { run = refl; told = λ stop. refl }))
+may_run db readings = from_lines db first_told readings (inl (record { opening = refl; events = refl; run = refl; told = λ stop. refl }))
 
 -- what each run of a cell of one has, the run of these lines has
 of_run : (P : Database → ℕ → Bool → List Event → Type 0) → ((db : Database) (clock : ℕ) (failed : Bool) (events : List Event) → P db clock failed events) → (db : Database) (readings : List Reading) → OfRun P db readings
 of_run P all db readings = by (may_run db readings)
   where
     by : MayRun db (told db readings) → OfRun P db readings
-    by (inl none) = inl (none.run, none.told)
-    by (inr is) = inr (is.clock, is.failed, is.events, record { run = is.run; told = is.told }, all db is.clock is.failed is.events)
+    by (inl none) = subst (OfOpening P db (told db readings)) (sym none.opening) (none.run, none.told)
+    by (inr is) =
+        subst (OfOpening P db (told db readings)) (sym is.opening)
+        (record { run = is.run; told = is.told }, all db is.clock is.failed (told db readings).stage.events)
 
 pub of_each_run : (P : Database → ℕ → Bool → List Event → Type 0) → ((db : Database) (clock : ℕ) (failed : Bool) (events : List Event) → P db clock failed events) → (k : CellKind) (db : Database) (left later written after : Option (List ℕ)) (disk : Held) → OfEachRun P k db left later written after disk
 of_each_run P all k db None later written after disk = tt
@@ -159,14 +177,14 @@ single_replies law db clock failed events = λ front back event split. law db cl
 pub kept : AcknowledgedStay → SitesAreSingle → OksAreAcknowledged → (db : Database) (clock : ℕ) (failed : Bool) (events : List Event) → IsKept db clock failed events
 kept stay sites oks db clock failed events =
     record {
-      stays = λ front back split.
+      stays = λ front middle back split.
           let r = run_of_one db clock failed front in
-          let later = run_through db r back in
-          let whole : later ≡ run_of_one db clock failed events =
-          sym (run_append db (first_run (first_world clock (failed ∷ []))) front back) ∙ ap (run_of_one db clock failed) (sym split) in
+          let later = run_through db r middle in
+          let whole : later ≡ run_of_one db clock failed (front ++ middle) =
+          sym (run_append db (first_run (first_world clock (failed ∷ []))) front middle) in
           let P : Run → Type 0 = λ x. All (λ a. IsAt (order_of x.announcements) a) r.acknowledged in
           subst P whole
-          (All-weaker (λ a. Contains later.acknowledged a × IsAt (order_of later.announcements) a) (λ a. IsAt (order_of later.announcements) a) (λ a both. both.1) r.acknowledged (stay db clock failed front back));
+          (All-weaker (λ a. Contains later.acknowledged a × IsAt (order_of later.announcements) a) (λ a. IsAt (order_of later.announcements) a) (λ a both. both.1) r.acknowledged (stay db clock failed front middle));
       sites = λ front back split. sites db clock failed front;
       recorded = λ front back server id call fields short split. oks db clock failed front server id call fields short;
     }
@@ -198,10 +216,11 @@ run_durable law db readings fs reads = by (may_run db readings)
     by (inr is) =
         let P : Option Run → Type 0 = λ o. Reads o fs in
         let Q : Option Run → Type 0 = λ o. ReadsRun o fs in
-        let r = run_of_one db is.clock is.failed is.events in
+        let events = (told db readings).stage.events in
+        let r = run_of_one db is.clock is.failed events in
         let w = first_world is.clock (is.failed ∷ []) in
         let all : AllDurable r.world.sites =
-        subst (λ (v : World). AllDurable v.sites) (sym (world_of_run db (first_run w) is.events)) (law db is.clock (is.failed ∷ []) is.events) in
+        subst (λ (v : World). AllDurable v.sites) (sym (world_of_run db (first_run w) events)) (law db is.clock (is.failed ∷ []) events) in
         subst Q (sym is.run) (sites_durable r.world.sites fs all (subst P is.run reads))
 
 holds_durable : DatabaseIsDurable → (db : Database) (readings : List Reading) (disk : Held) → Holds disk (told db readings).stage → disk.faults ≡ 0 → IfSome disk.files (ReadsRun (told db readings).stage.run)

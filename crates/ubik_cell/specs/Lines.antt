@@ -16,7 +16,7 @@ use Rattle.cell_script.specs.declared.lines.Why.{Why}
 use Rattle.cell_script.specs.declared.lines.Why.TheVariants as why
 use Rattle.ubik_cell.specs.declared.cells.Ending.{Ending}
 use Rattle.ubik_cell.specs.declared.cells.Ending.TheVariants.{Refused, Limit}
-use Rattle.ubik_cell.specs.Script.{Luck, Stage, Line_run, step_event, is_there, is_up_at, fault_count}
+use Rattle.ubik_cell.specs.Script.{Luck, Stage, Line_run, event_at, is_there, is_up_at, fault_count}
 use Rattle.ubik_cell.specs.Sites.{IsOneWorld, site_faults}
 use Rattle.ubik_cell.specs.Trace.{trace}
 
@@ -61,9 +61,9 @@ pub record SiteTold {D : Type 0} (db : Database) (faults : D → ℕ) (clock num
   pub luck : Luck
   pub there : is_there r.world.sites number ≡ true
   pub up : is_up_at r.world.sites (number - 1) ≡ true
-  pub stands : Stands clock after (Some (run_after db r (step_event luck (number - 1) event)))
-  pub told : text_after ≡ text_before ++ trace (happens db r.world (step_event luck (number - 1) event)).seen
-  pub causes : site_faults faults before + fault_count (happens db r.world (step_event luck (number - 1) event)).seen ≤ site_faults faults after
+  pub stands : Stands clock after (Some (run_after db r (event_at luck r number event)))
+  pub told : text_after ≡ text_before ++ trace (happens db r.world (event_at luck r number event)).seen
+  pub causes : site_faults faults before + fault_count (happens db r.world (event_at luck r number event)).seen ≤ site_faults faults after
 
 -- the server of this number is not there after a run, or is down
 abbrev pub NoServer : ℕ → Run → Why → Type 0

@@ -1,6 +1,6 @@
 -- What the run of a script's lines is worth: one order of the committed transactions, what was acknowledged stays in it,
 -- and each database and each reply is that of a single copy.
-use Rattle.std.specs.Prelude.{◌≡◌, ◌⊎◌, ℕ, Bool, true, Option, Some, None, IfSome, List, [], ◌∷◌, ◌++◌, All, Contains}
+use Rattle.std.specs.Prelude.{◌≡◌, ℕ, Bool, true, Option, Some, None, IfSome, List, [], ◌∷◌, ◌++◌, All, Contains}
 use Rattle.db_image.specs.Database.{Database}
 use Rattle.disk_base.specs.Files.{Files, no_files}
 use Rattle.cell_model.specs.Book.{Run, order_of}
@@ -14,27 +14,27 @@ use Rattle.ubik_node.specs.Label.{durable_of}
 use Rattle.ubik_cell.specs.declared.cells.CellKind.{CellKind}
 use Rattle.ubik_cell.specs.declared.cells.CellKind.TheVariants as kind
 use Rattle.ubik_cell.specs.Run.{Runs}
-use Rattle.ubik_cell.specs.Script.{Reading, told}
+use Rattle.ubik_cell.specs.Script.{Opening, Reading, Told, told}
 use Rattle.ubik_cell.specs.Sites.{Held}
 use Rattle.ubik_cell.specs.Trace.{trace}
 
--- the run of these lines: a cell was opened at a clock, or its disk failed then, and these events came after it; what
--- was told is what is seen of them, as long as the script did not end
-pub record IsRunOf (db : Database) (readings : List Reading) (clock : ℕ) (failed : Bool) (events : List Event) : Type 0 where
-  pub run : (told db readings).stage.run ≡ Some (run_of_one db clock failed events)
-  pub told : (told db readings).stop ≡ None →
-      (told db readings).text ≡ trace (first_seen 0 (failed ∷ []) ++ seen_of db (first_world clock (failed ∷ [])) events)
+-- the run that these lines told is that of the opening and the events; what was told is what is seen of them, as long as
+-- the script did not end
+pub record IsRunOf (db : Database) (t : Told) (clock : ℕ) (failed : Bool) (events : List Event) : Type 0 where
+  pub run : t.stage.run ≡ Some (run_of_one db clock failed events)
+  pub told : t.stop ≡ None → t.text ≡ trace (first_seen 0 (failed ∷ []) ++ seen_of db (first_world clock (failed ∷ [])) events)
 
 -- the list of each announcement is a front of the list of each later one
 abbrev pub HasOneOrder : Database → ℕ → Bool → List Event → Type 0
 HasOneOrder db clock failed events = Grows (run_of_one db clock failed events).announcements
 
--- What was acknowledged at any place of the run is in the order at its end, at its place; and the database of each ready
--- sync site at any place is the single copy's after the order there. Each Ok to a call that writes is acknowledged in
+-- What was acknowledged at any place of the run is in the order at each later one, at its place; and the database of each
+-- ready sync site at any place is the single copy's after the order there. Each Ok to a call that writes is acknowledged in
 -- that event, or the call changes nothing.
 pub record IsKept (db : Database) (clock : ℕ) (failed : Bool) (events : List Event) : Type 0 where
-  pub stays : (front back : List Event) → events ≡ front ++ back →
-      All (λ a. IsAt (order_of (run_of_one db clock failed events).announcements) a) (run_of_one db clock failed front).acknowledged
+  pub stays : (front middle back : List Event) → events ≡ (front ++ middle) ++ back →
+      All (λ a. IsAt (order_of (run_of_one db clock failed (front ++ middle)).announcements) a)
+          (run_of_one db clock failed front).acknowledged
   pub sites : (front back : List Event) → events ≡ front ++ back →
       let r = run_of_one db clock failed front in
       All (λ site. IsSingle db (order_of r.announcements) 1 site.clock site.node) r.world.sites
@@ -53,11 +53,13 @@ HasSingleReplies db clock failed events =
     let r = run_of_one db clock failed front in
     All (IsSeenOf (single_told db (order_of r.announcements) r.world event)) (happens db r.world event).seen
 
--- no cell stands, and nothing was told; or the run has this
+-- no cell stands, and nothing was told; or the opening and the events of these lines make their run, and have this
+abbrev pub OfOpening : (Database → ℕ → Bool → List Event → Type 0) → Database → Told → Option Opening → Type 0
+OfOpening P db t None = (t.stage.run ≡ None) × (t.stop ≡ None → t.text ≡ [])
+OfOpening P db t (Some o) = IsRunOf db t o.clock o.failed t.stage.events × P db o.clock o.failed t.stage.events
+
 abbrev pub OfRun : (Database → ℕ → Bool → List Event → Type 0) → Database → List Reading → Type 0
-OfRun P db readings =
-    ((told db readings).stage.run ≡ None) × ((told db readings).stop ≡ None → (told db readings).text ≡ [])
-    ⊎ ((clock : ℕ) × (failed : Bool) × (events : List Event) × IsRunOf db readings clock failed events × P db clock failed events)
+OfRun P db readings = OfOpening P db (told db readings) (told db readings).stage.opening
 
 -- the lines that were run, the last perhaps told in part
 abbrev pub readings_of : (k : CellKind) (db : Database) (script : List ℕ) (left : Option (List ℕ)) (before : List ℕ) (after : Option (List ℕ)) (disk : Held) → Runs k db script left before after disk → List Reading
@@ -69,7 +71,8 @@ readings_of (kind.Limit line which) db script left before after disk runs = runs
 readings_of kind.NoMemory db script left before after disk runs = runs.readings
 readings_of (kind.Words place) db script left before after disk runs = []
 
--- so of each run of which the bytes that were written are the trace
+-- So of each run of which the bytes that were written are the trace, as `Runs` says; that there is one, another clause
+-- says.
 abbrev pub OfEachRun : (Database → ℕ → Bool → List Event → Type 0) → CellKind → Database → Option (List ℕ) → Option (List ℕ) → Option (List ℕ) → Option (List ℕ) → Held → Type 0
 OfEachRun P k db left later written after disk =
     IfSome left (λ script. IfSome written (λ before.

@@ -28,14 +28,22 @@ pub record Reading : Type 0 where
   pub line : List ℕ
   pub luck : Luck
 
--- what the lines so far left: how many there were, the calls that were asked, and the run, once there is a cell
+-- the opening of a cell: its clock, and whether the disk failed in it
+pub record Opening : Type 0 where
+  pub clock : ℕ
+  pub failed : Bool
+
+-- what the lines so far left: how many there were, the calls that were asked, how the cell was opened, the events after
+-- that, and the run, once there is a cell
 pub record Stage : Type 0 where
   pub lines : ℕ
   pub calls : List (List ℕ)
+  pub opening : Option Opening
+  pub events : List Event
   pub run : Option Run
 
 abbrev pub first_stage : Stage
-first_stage = record { lines = 0; calls = []; run = None }
+first_stage = record { lines = 0; calls = []; opening = None; events = []; run = None }
 
 -- what a line leaves, and what is seen of it
 pub record Line_run : Type 0 where
@@ -48,22 +56,34 @@ next_line st = record st { lines = st.lines + 1 }
 -- a line that brings one event
 abbrev pub with_event : Database → Stage → Run → Event → Line_run
 with_event db st r e =
-    record { stage = record (next_line st) { run = Some (run_after db r e) }; seen = (happens db r.world e).seen }
+    record {
+      stage = record (next_line st) { events = st.events ++ e ∷ []; run = Some (run_after db r e) };
+      seen = (happens db r.world e).seen;
+    }
 
--- the step of a server, counted from 0
-abbrev pub step_event : Luck → ℕ → NodeEvent → Event
-step_event Sound server e = Step server e []
-step_event (Faulty made) server e = Fault server e [] made
+-- the step of a server, counted from 0. Only a server that is up, and not halted, has a disk that can fail.
+abbrev pub step_event : Luck → Node → ℕ → NodeEvent → Event
+step_event Sound node server e = Step server e []
+step_event (Faulty made) (Up s) server e = Fault server e [] made
+step_event (Faulty made) node server e = Step server e []
 
 abbrev pub is_up : Node → Bool
 is_up Down = false
 is_up (Halted h) = true
 is_up (Up s) = true
 
+-- the server at a place, which is down where there is none
+abbrev pub node_at : List Site → ℕ → Node
+node_at [] place = Down
+node_at (site ∷ sites) ℕ.zero = site.node
+node_at (site ∷ sites) (ℕ.suc place) = node_at sites place
+
 abbrev pub is_up_at : List Site → ℕ → Bool
-is_up_at [] place = false
-is_up_at (site ∷ sites) ℕ.zero = is_up site.node
-is_up_at (site ∷ sites) (ℕ.suc place) = is_up_at sites place
+is_up_at sites place = is_up (node_at sites place)
+
+-- the step of the server of a number, counted from 1
+abbrev pub event_at : Luck → Run → ℕ → NodeEvent → Event
+event_at luck r number e = step_event luck (node_at r.world.sites (number - 1)) (number - 1) e
 
 -- there is a server of this number, counted from 1
 abbrev pub is_there : List Site → ℕ → Bool
@@ -73,7 +93,7 @@ is_there sites number = nat_lt 0 number && nat_le number (length sites)
 abbrev pub stepped : Database → Stage → Luck → ℕ → NodeEvent → Run → Result Line_run Why
 stepped db st luck number e r =
     if is_there r.world.sites number
-    then (if is_up_at r.world.sites (number - 1) then Ok (with_event db st r (step_event luck (number - 1) e)) else Err why.State)
+    then (if is_up_at r.world.sites (number - 1) then Ok (with_event db st r (event_at luck r number e)) else Err why.State)
     else Err why.Server
 
 -- all clocks go on; by the bounds of a script's numbers they stay moments
@@ -113,7 +133,10 @@ has_failed (Faulty made) = true
 abbrev pub opened : Stage → Luck → ℕ → Option Run → Result Line_run Why
 opened st luck clock None =
     Ok (record {
-      stage = record (next_line st) { run = Some (first_run (first_world clock (has_failed luck ∷ []))) };
+      stage = record (next_line st) {
+        opening = Some (record { clock = clock; failed = has_failed luck });
+        run = Some (first_run (first_world clock (has_failed luck ∷ [])));
+      };
       seen = first_seen 0 (has_failed luck ∷ []);
     })
 opened st luck clock (Some r) = Err why.Cell

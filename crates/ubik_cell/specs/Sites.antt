@@ -41,8 +41,8 @@ pub record IsOneWorld (clock : ℕ) (node : Node) (w : World) : Type 0 where
 
 -- in each world with this clock and this server before, the step leaves the server after, and this is seen
 pub record StepIs (db : Database) (luck : Luck) (clock : ℕ) (event : NodeEvent) (before after : Node) (seen : List Happening) : Type 0 where
-  pub leaves : (durable : Durable) (ids : List ℕ) → IsOneWorld clock after (happens db (one_world clock durable before ids) (step_event luck 0 event)).world
-  pub shows : (durable : Durable) (ids : List ℕ) → seen ≡ (happens db (one_world clock durable before ids) (step_event luck 0 event)).seen
+  pub leaves : (durable : Durable) (ids : List ℕ) → IsOneWorld clock after (happens db (one_world clock durable before ids) (step_event luck before 0 event)).world
+  pub shows : (durable : Durable) (ids : List ℕ) → seen ≡ (happens db (one_world clock durable before ids) (step_event luck before 0 event)).seen
 
 -- a step was made: what was seen was told, and each fault has its own rise of the disk's count
 pub record StepTold (db : Database) (clock : ℕ) (event : NodeEvent) (before after : Node) (text_before text_after : List ℕ) (faults_before faults_after : ℕ) : Type 0 where

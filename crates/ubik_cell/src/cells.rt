@@ -31,11 +31,11 @@ pub enum CellKind {
     ScriptRefused { line: u32, why: Why },
     /// The source failed; the whole lines before that were run.
     ReadFault,
-    /// The sink failed; what was written is the front of the trace.
+    /// The sink failed; what was written is a front of the trace.
     WriteFault,
     /// This line, counted from 1, would pass a limit; the lines before it were run.
     Limit { line: u32, which: Which },
-    /// Memory ran out; what was written is the front of the trace.
+    /// Memory ran out; what was written is the trace of the lines before.
     NoMemory,
     /// The program takes no words, and this one, counted from 1, was given. Nothing was read or written.
     Words { place: u32 },
@@ -44,6 +44,8 @@ pub enum CellKind {
 /// The end of a run, with the exit status that stands for it.
 #[derive(Clone, Copy, Debug, PartialEq, Eq)]
 pub struct CellEnd {
+    /// 0 to 6, one for each kind.
     pub status: u8,
+    /// How the run ended.
     pub kind: CellKind,
 }

@@ -86,7 +86,7 @@ fn tell_outputs(text: &mut String, out: &mut Outputs) -> Result<(), NoMemory>
 }
 
 /// A step of the one server at its clock.
-pub fn step_node<D: StopDisk>(
+fn step_node<D: StopDisk>(
     alloc: Global,
     node: Node<D, PrService>,
     clock: u32,
