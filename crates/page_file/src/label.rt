@@ -1,0 +1,74 @@
+//! The label in front of a database file.
+ghost use Rattle.std.specs.Prelude.{IfSome, IsSome, ◌≡◌, ◌≤◌, ◌+◌, length, take, drop};
+ghost use Rattle.std.specs.Int.{w32, from_be_bytes};
+ghost use Rattle.page_file.specs.Label.{label, version_of_label, version_by};
+
+use ubik_types::{MAX_COUNTER, MAX_IMAGE, Version};
+
+/// The length of the label, in bytes.
+pub const LABEL_LEN: usize = 64;
+
+/// The length of the longest database file, in bytes: a label and the longest image.
+pub const MAX_DATABASE_LEN: u64 = 16_777_280;
+
+const _: () = prove!(MAX_DATABASE_LEN == (LABEL_LEN + MAX_IMAGE) as u64);
+
+/// The label of a version.
+pub fn label_bytes(version: Version) -> [u8; 64]
+    ensures { result ≡ label version }
+{
+    let [a, b, c, d] = version.epoch.to_be_bytes();
+    let [e, f, g, h] = version.counter.to_be_bytes();
+    [
+        0, 0x35, 0x45, 0x45, 0, 0, 0, 64, a, b, c, d, e, f, g, h, //
+        0, 0, 0, 0, 0, 0, 0, 0, 0, 0, 0, 0, 0, 0, 0, 0, //
+        0, 0, 0, 0, 0, 0, 0, 0, 0, 0, 0, 0, 0, 0, 0, 0, //
+        0, 0, 0, 0, 0, 0, 0, 0, 0, 0, 0, 0, 0, 0, 0, 0,
+    ]
+}
+
+/// The word at a position, its highest byte first.
+fn word_at(bytes: &[u8], at: usize) -> u32
+    requires { at + 4 ≤ length bytes.now }
+    ensures { result ≡ from_be_bytes w32 (take 4 (drop at bytes.now)) }
+{
+    match &bytes[at..at + 4] {
+        [a, b, c, d] => u32::from_be_bytes([*a, *b, *c, *d]),
+        _ => unreachable!(),
+    }
+}
+
+/// The version whose label this is.
+pub fn read_label(bytes: &[u8; 64]) -> Option<Version>
+    ensures label { result ≡ version_of_label bytes.now }
+    ensures fits { IfSome result (λ v. (v.epoch ≤ 2147483647) × (v.counter ≤ 2147483647)) }
+{
+    let version = Version {
+        epoch: word_at(bytes, 8),
+        counter: word_at(bytes, 12),
+    };
+    if version.epoch > MAX_COUNTER {
+        return None;
+    }
+    if version.counter > MAX_COUNTER {
+        return None;
+    }
+    (*bytes == label_bytes(version)).then_some(version)
+}
+
+/// The version in the head of a file of some length; none where the file is too short or too long, or its
+/// head is no label.
+pub fn version_of_file(len: u64, head: &[u8; 64]) -> Option<Version>
+    ensures version { result ≡ version_by len head.now }
+    ensures labelled { IsSome result → 64 ≤ len }
+    ensures fits { IsSome result → len ≤ 16777280 }
+    ensures numbers { IfSome result (λ v. (v.epoch ≤ 2147483647) × (v.counter ≤ 2147483647)) }
+{
+    if len < LABEL_LEN as u64 {
+        return None;
+    }
+    if len > MAX_DATABASE_LEN {
+        return None;
+    }
+    read_label(head)
+}
