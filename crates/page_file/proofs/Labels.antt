@@ -1,5 +1,5 @@
 -- A label that is read again, and the version of a file by its head.
-use Rattle.std.proofs.Common.{◌≡◌, ◌<◌, ◌≤◌, ◌^◌, ◌+◌, ◌∙◌, ℕ, Bool, true, false, cond, eqb, nat_lt, nat_le, ◌&&◌, List, get_or, length, take, Option, Some, None, ap, sym, refl, arith, ltb-false, length-take}
+use Rattle.std.proofs.Common.{◌≡◌, ◌<◌, ◌≤◌, ◌^◌, ◌∙◌, ℕ, Bool, true, false, cond, eqb, nat_lt, nat_le, ◌&&◌, List, length, take, Option, Some, None, ap, sym, refl, arith, ltb-false, length-take}
 use Rattle.std.specs.Int.{w32, to_be_bytes, from_be_bytes}
 use Rattle.std.specs.Str.{bytes_eq}
 use Rattle.std.proofs.lemmas.Bool.Decides.{nat_tests}

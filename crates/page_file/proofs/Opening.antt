@@ -6,7 +6,7 @@ use Rattle.disk_base.specs.Files.{Files}
 use Rattle.page_file.specs.Fault.{Refuses, IsUnlabelled}
 use Rattle.page_file.specs.declared.faults.PageFault.TheVariants.{BadLabel}
 use Rattle.page_file.specs.Label.{version_of_label, version_by, version_of_database, IsHeadOf}
-use Rattle.page_file.specs.Pages.{Known, LabelledAs, Agrees, AgreesIn}
+use Rattle.page_file.specs.Pages.{LabelledAs, Agrees, AgreesIn}
 use Rattle.page_file.proofs.Labels.{version_by_label, version_by_head, front_of_head, version_of_empty, version_of_filled}
 
 -- a fact of the files behind two equal disks

@@ -1,5 +1,5 @@
 -- What was read of a database file, where the disk tells its files.
-use Rattle.std.proofs.Common.{◌≡◌, ◌<◌, ◌≤◌, ◌+◌, ◌-◌, ◌∙◌, ℕ, min, List, ◌++◌, length, take, drop, get_or, replicate, Option, Some, None, IfSome, arith, ap, sym, length-append, length-take, length-drop}
+use Rattle.std.proofs.Common.{◌≡◌, ◌<◌, ◌≤◌, ◌+◌, ◌-◌, ◌∙◌, ℕ, min, List, ◌++◌, length, take, drop, get_or, replicate, Option, Some, None, IfSome, arith, ap, sym, length-take, length-drop}
 use Rattle.std.proofs.lemmas.Grind.{common_steps}
 use Rattle.std.proofs.Math.Seq.{take-add}
 use Rattle.std.proofs.lemmas.List.{drop-drop, get_or-replicate}

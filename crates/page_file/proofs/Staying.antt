@@ -1,5 +1,5 @@
 -- Calls that change no file, one after the other.
-use Rattle.std.proofs.Common.{ℕ, ◌≤◌, arith}
+use Rattle.std.proofs.Common.{ℕ, arith}
 use Rattle.disk_base.specs.Files.{Files, KeepsRoom}
 use Rattle.disk_base.specs.Crash.{LeavesSame}
 use Rattle.disk_base.specs.declared.disks.FileNo.{FileNo}
@@ -12,15 +12,6 @@ LeavesSame-trans first second =
       no_less = λ fs before. second.no_less fs (first.no_less fs before);
       since_no_more = λ t fs since. first.since_no_more t fs (second.since_no_more t fs since);
       since_no_less = λ t fs past. second.since_no_less t fs (first.since_no_less t fs past);
-    }
-
-pub LeavesSame-refl : (a : Files → Type 0) (p : ℕ → Files → Type 0) → LeavesSame a a p p
-LeavesSame-refl a p =
-    record {
-      no_more = λ fs now. now;
-      no_less = λ fs before. before;
-      since_no_more = λ t fs since. since;
-      since_no_less = λ t fs past. past;
     }
 
 pub KeepsRoom-trans : (a b c : FileNo → ℕ) → KeepsRoom a b → KeepsRoom b c → KeepsRoom a c

@@ -1,8 +1,7 @@
 -- What pages know after a change of the database file, where the disk tells its files.
-use Rattle.std.proofs.Common.{◌≡◌, ◌<◌, ◌≤◌, ◌+◌, ◌-◌, ◌∙◌, ℕ, max, List, ◌++◌, length, take, drop, Option, Some, None, IfSome, ap, sym, refl, subst, arith, length-append, length-take, length-drop}
+use Rattle.std.proofs.Common.{◌≡◌, ◌≤◌, ◌+◌, ◌-◌, ◌∙◌, ℕ, max, List, length, take, Option, Some, None, IfSome, ap, sym, refl, subst, arith, length-take, length-drop}
 use Rattle.std.specs.Option.{option_map}
 use Rattle.std.proofs.lemmas.Grind.{common_steps}
-use Rattle.std.proofs.lemmas.List.{take-append-le}
 use Rattle.ubik_types.specs.declared.versions.Version.{Version}
 use Rattle.ubik_types.specs.Version.{IsVersion}
 use Rattle.disk_base.specs.Files.{Files, with_file, laid}

@@ -12,3 +12,6 @@ pub use faults::PageFault;
 pub use label::{LABEL_LEN, MAX_DATABASE_LEN, label_bytes, read_label, version_of_file};
 pub use pages::Pages;
 pub use reads::PAGE_LEN;
+
+#[cfg(test)]
+mod tests;

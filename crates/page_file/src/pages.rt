@@ -1,5 +1,5 @@
 //! Pages over the database file of a disk.
-ghost use Rattle.std.specs.Prelude.{◌≡◌, ◌+◌, ◌-◌, ◌≤◌, ◌<◌, ◌^◌, ℕ, Some, None, IsSome, IfSome, OnOk, OnErr, IfOk, IfErr, IsErr, IsErrOf, length, take, drop, max, min, unwrap_or};
+ghost use Rattle.std.specs.Prelude.{◌≡◌, ◌+◌, ◌-◌, ◌≤◌, ◌^◌, Some, None, IsSome, IfSome, OnOk, OnErr, IfOk, IfErr, IsErr, IsErrOf, length, take, drop, max, min, unwrap_or};
 ghost use Rattle.std.specs.Option.{option_map};
 ghost use Rattle.ubik_types.specs.Version.{IsVersion, zero_version};
 ghost use Rattle.disk_base.specs.Files.{with_file, laid, KeepsRoom};

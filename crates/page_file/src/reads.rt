@@ -1,5 +1,5 @@
 //! What is read of the database file: its length, its head, and parts of it.
-ghost use Rattle.std.specs.Prelude.{◌≡◌, ◌+◌, ◌≤◌, ◌<◌, ◌^◌, ℕ, IfSome, OnOk, IfOk, IfErr, IsErr, length, take, drop};
+ghost use Rattle.std.specs.Prelude.{◌≡◌, ◌+◌, ◌≤◌, ◌<◌, ◌^◌, IfSome, OnOk, IfOk, IfErr, IsErr, length, take, drop};
 ghost use Rattle.disk_base.specs.Files.{KeepsRoom};
 ghost use Rattle.disk_base.specs.Count.{HasCause};
 ghost use Rattle.disk_base.specs.Crash.{LeavesSame};

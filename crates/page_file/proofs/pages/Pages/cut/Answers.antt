@@ -1,5 +1,4 @@
-use Rattle.std.proofs.Common.{Option, refl, ap}
-use Rattle.ubik_types.specs.declared.versions.Version.{Version}
+use Rattle.std.proofs.Common.{refl, ap}
 use Rattle.page_file.specs.Pages.{Known}
 use Rattle.page_file.proofs.Writing.{within_image, cut_agrees}
 use Rattle.page_file.proofs.pages.Pages.cut.Goals as goal
