@@ -1,5 +1,6 @@
 pub mod Adapters
 pub mod Count
+pub mod Crash
 pub mod Files
 pub mod MemCalls
 pub mod MemDisk

@@ -1,9 +1,10 @@
 //! The disk of a server: three files, written and synced.
-ghost use Rattle.std.specs.Prelude.{◌≡◌, ◌+◌, ◌<◌, ◌≤◌, ℕ, List, Option, Bool, IsTrue, IfSome, length, take, drop, ◌↔◌};
+ghost use Rattle.std.specs.Prelude.{◌≡◌, ◌+◌, ◌<◌, ◌≤◌, ℕ, List, Option, Bool, IsTrue, true, Some, IsSome, IfSome, length, take, drop, ◌↔◌};
 ghost use Rattle.std.specs.Option.{option_map};
 ghost use Rattle.disk_base.specs.Files.{Files, file_of, with_file, laid, OnDone, OnKnown, KeepsRoom, Stop, IsStopped};
 ghost use Rattle.disk_base.specs.Files.Stop.{Unarmed, Armed};
 ghost use Rattle.disk_base.specs.Count.{HasCause};
+ghost use Rattle.disk_base.specs.Crash.{Torn, CutShort, InFile, Follows, Narrows, Only, OnlyIn, Elapses, LeavesSame};
 ghost use Rattle.disk_base.specs.declared.disks.FileNo.{FileNo};
 
 /// One of the three files of a server.
@@ -67,12 +68,32 @@ pub trait Disk {
     /// How often a call has failed. It never falls.
     ghost faults: { Self → ℕ };
 
+    /// Whether the disk tells its files, once they are opened anew after a failure. It never changes.
+    ghost tells: { Self → Bool };
+
+    /// What a crash now may leave.
+    ghost may_leave: { Self → Files → Type 0 };
+
+    /// What a crash at some moment may have left since the step count stood at a number.
+    ghost left_since: { Self → ℕ → Files → Type 0 };
+
+    /// A moment since then is now.
+    ghost counts_now: { (disk : Self) (t : ℕ) (c : Files) → t ≤ steps disk → may_leave disk c → left_since disk t c };
+
+    /// Since the step count that stands now there was no other moment.
+    ghost only_now: { (disk : Self) (c : Files) → left_since disk (steps disk) c → may_leave disk c };
+
+    /// A crash may leave what a read gives.
+    ghost may_be_read: { (disk : Self) (fs : Files) → files disk ≡ Some fs → may_leave disk fs };
+
     /// The length of a file, in bytes.
     fn len(&mut self, f: FileNo) -> LenEnd
         ensures length { OnKnown result (λ n. IfSome (files self.old) (λ fs. n ≡ length (file_of fs f))) }
         ensures files { OnKnown result (λ _. files self.new ≡ files self.old) }
         ensures room { KeepsRoom (room self.old) (room self.new) }
         ensures steps { steps self.new ≡ steps self.old }
+        ensures crash { LeavesSame (may_leave self.old) (may_leave self.new) (left_since self.old) (left_since self.new) }
+        ensures tells { tells self.new ≡ tells self.old }
         ensures cause { HasCause (faults self.old) (faults self.new) (result ≡ LenEnd.Failed) };
 
     /// Makes room for the first `len` bytes of a file. For want of memory nothing changes.
@@ -81,6 +102,8 @@ pub trait Disk {
         ensures files { files self.new ≡ files self.old }
         ensures room { KeepsRoom (room self.old) (room self.new) }
         ensures steps { steps self.new ≡ steps self.old }
+        ensures crash { LeavesSame (may_leave self.old) (may_leave self.new) (left_since self.old) (left_since self.new) }
+        ensures tells { tells self.new ≡ tells self.old }
         ensures faults { faults self.new ≡ faults self.old };
 
     /// Reads the bytes of a file from a position on, which lie within its length.
@@ -90,6 +113,8 @@ pub trait Disk {
         ensures files { OnDone result (files self.new ≡ files self.old) }
         ensures room { KeepsRoom (room self.old) (room self.new) }
         ensures steps { steps self.new ≡ steps self.old }
+        ensures crash { LeavesSame (may_leave self.old) (may_leave self.new) (left_since self.old) (left_since self.new) }
+        ensures tells { tells self.new ≡ tells self.old }
         ensures cause { HasCause (faults self.old) (faults self.new) (result ≡ DiskEnd.Failed) };
 
     /// Writes bytes over a file from a position on, at most its length, and within its room.
@@ -99,6 +124,9 @@ pub trait Disk {
         ensures written { OnDone result (files self.new ≡ option_map (λ fs. with_file fs f (laid (file_of fs f) at bytes.now)) (files self.old)) }
         ensures room { KeepsRoom (room self.old) (room self.new) }
         ensures steps { steps self.new ≡ steps self.old + 1 }
+        ensures crash { Follows (InFile f (Torn at (length bytes.now))) (may_leave self.old) (may_leave self.new) }
+        ensures time { Elapses (steps self.old) (left_since self.old) (left_since self.new) (may_leave self.new) }
+        ensures tells { tells self.new ≡ tells self.old }
         ensures cause { HasCause (faults self.old) (faults self.new) (result ≡ DiskEnd.Failed) };
 
     /// Keeps the first `len` bytes of a file, at most its length.
@@ -107,6 +135,9 @@ pub trait Disk {
         ensures cut { OnDone result (files self.new ≡ option_map (λ fs. with_file fs f (take len (file_of fs f))) (files self.old)) }
         ensures room { KeepsRoom (room self.old) (room self.new) }
         ensures steps { steps self.new ≡ steps self.old + 1 }
+        ensures crash { Follows (InFile f (CutShort len)) (may_leave self.old) (may_leave self.new) }
+        ensures time { Elapses (steps self.old) (left_since self.old) (left_since self.new) (may_leave self.new) }
+        ensures tells { tells self.new ≡ tells self.old }
         ensures cause { HasCause (faults self.old) (faults self.new) (result ≡ DiskEnd.Failed) };
 
     /// After it a crash leaves of the file what a read gives.
@@ -114,6 +145,10 @@ pub trait Disk {
         ensures files { OnDone result (files self.new ≡ files self.old) }
         ensures room { KeepsRoom (room self.old) (room self.new) }
         ensures steps { steps self.new ≡ steps self.old + 1 }
+        ensures durable { OnDone result (IfSome (files self.old) (λ fs. OnlyIn f (file_of fs f) (may_leave self.new))) }
+        ensures crash { Narrows (may_leave self.old) (may_leave self.new) }
+        ensures time { Elapses (steps self.old) (left_since self.old) (left_since self.new) (may_leave self.new) }
+        ensures tells { tells self.new ≡ tells self.old }
         ensures cause { HasCause (faults self.old) (faults self.new) (result ≡ DiskEnd.Failed) };
 }
 
@@ -129,6 +164,8 @@ pub trait StopDisk: Disk {
         ensures files { Self.files self.new ≡ Self.files self.old }
         ensures room { KeepsRoom (Self.room self.old) (Self.room self.new) }
         ensures steps { Self.steps self.new ≡ Self.steps self.old }
+        ensures crash { LeavesSame (Self.may_leave self.old) (Self.may_leave self.new) (Self.left_since self.old) (Self.left_since self.new) }
+        ensures tells { Self.tells self.new ≡ Self.tells self.old }
         ensures faults { Self.faults self.new ≡ Self.faults self.old };
 
     /// Whether it has stopped.
@@ -138,6 +175,10 @@ pub trait StopDisk: Disk {
     /// Ends the stop: the files are opened anew. A disk that did not stop is revived as with `Fill::Old`.
     fn revive(&mut self)
         ensures unarmed { stop self.new ≡ Unarmed }
+        ensures left { IfSome (Self.files self.new) (λ fs. Self.may_leave self.old fs × Only fs (Self.may_leave self.new)) }
+        ensures told { Self.tells self.old ≡ true → IsSome (Self.files self.new) }
+        ensures tells { Self.tells self.new ≡ Self.tells self.old }
+        ensures room { (f : FileNo) → IfSome (Self.files self.new) (λ fs. length (file_of fs f) ≤ Self.room self.new f) }
         ensures steps { Self.steps self.new ≡ Self.steps self.old }
         ensures faults { Self.faults self.new ≡ Self.faults self.old };
 }

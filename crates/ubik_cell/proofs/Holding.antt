@@ -6,7 +6,7 @@ use Rattle.cell_model.specs.Durable.{Durable, durable}
 use Rattle.cell_model.specs.Node as model
 use Rattle.cell_model.specs.World.{Site as ModelSite, World}
 use Rattle.ubik_node.specs.declared.nodes.Node.{Node}
-use Rattle.ubik_node.specs.Label.{durable_of}
+use Rattle.ubik_node.specs.Database.{durable_of}
 use Rattle.ubik_node.specs.Node.{node_of, up_server, IsStored}
 use Rattle.ubik_cell.specs.declared.scripts.CellRun.{CellRun}
 use Rattle.ubik_cell.specs.declared.sites.Site.{Site}

@@ -9,7 +9,7 @@ use Rattle.ubik_node.specs.Node.{node_of, up_server, IsStored}
 use Rattle.ubik_node.specs.declared.database.StoreFault.{StoreFault}
 use Rattle.ubik_node.specs.declared.database.StoreFault.TheVariants.{DiskFault, BadLabel, NoMemory}
 use Rattle.ubik_node.specs.Fault.{IsFaultOf}
-use Rattle.ubik_node.specs.Label.{durable_of}
+use Rattle.ubik_node.specs.Database.{durable_of}
 use Rattle.ubik_cell.specs.declared.sites.Site.{Site}
 use Rattle.ubik_cell.specs.declared.sites.Site.TheVariants as site
 use Rattle.ubik_cell.specs.Sites.{DownTold, OpenTold}

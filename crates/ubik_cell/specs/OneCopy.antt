@@ -10,7 +10,7 @@ use Rattle.cell_model.specs.declared.events.Reply.TheVariants as reply
 use Rattle.cell_model.specs.KeptLaws.{run_of_one, IsAt, IsSingle, IsSeenOf, IsRecorded, single_told}
 use Rattle.cell_model.specs.Laws.{AllDurable, Grows}
 use Rattle.cell_model.specs.World.{Site, Event, Step, Puts, site_of, happens, first_seen, first_world, seen_of}
-use Rattle.ubik_node.specs.Label.{durable_of}
+use Rattle.ubik_node.specs.Database.{durable_of}
 use Rattle.ubik_cell.specs.declared.cells.CellKind.{CellKind}
 use Rattle.ubik_cell.specs.declared.cells.CellKind.TheVariants as kind
 use Rattle.ubik_cell.specs.Run.{Runs}

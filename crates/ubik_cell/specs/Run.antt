@@ -6,7 +6,7 @@ use Rattle.cell_model.specs.Book.{Run}
 use Rattle.cell_model.specs.Durable.{durable}
 use Rattle.cell_model.specs.Node.{Node, Down, Halted, Up}
 use Rattle.cell_model.specs.World.{Site}
-use Rattle.ubik_node.specs.Label.{durable_of}
+use Rattle.ubik_node.specs.Database.{durable_of}
 use Rattle.std.specs.List.{All}
 use Rattle.cell_script.specs.Lines.{HasNoLf, lines_of, whole_lines}
 use Rattle.cell_script.specs.LineLaws.{text_of}

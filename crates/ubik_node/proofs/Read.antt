@@ -1,6 +1,6 @@
 -- What was read of a database file, where the disk tells its files.
-use Rattle.std.proofs.Common.{refl, sym, eqb, cond, length-take, Bool, true, false, nat_lt, ltb-false, get_or, ◌<◌, ◌≡◌, ◌+◌, ◌≤◌, ℕ, min, List, ◌++◌, length, take, drop, Option, Some, None, IfSome, ◌∙◌, ap, arith, length-drop}
-use Rattle.std.proofs.lemmas.List.{take_all, take-append-le, ext_get_or, get_or-take}
+use Rattle.std.proofs.Common.{sym, eqb, cond, Bool, true, false, get_or, ◌<◌, ◌≡◌, ◌+◌, ◌≤◌, ℕ, min, List, ◌++◌, length, take, drop, Option, Some, None, IfSome, ◌∙◌, ap, arith, length-drop}
+use Rattle.std.proofs.lemmas.List.{take_all, take-append-le}
 use Rattle.ubik_types.specs.declared.versions.Version.{Version}
 use Rattle.cell_model.specs.Durable.{durable, no_database}
 use Rattle.ubik_node.specs.Fault.{IsFaultOf}
@@ -8,7 +8,9 @@ use Rattle.ubik_node.specs.declared.database.StoreFault.TheVariants.{BadLabel}
 use Rattle.std.proofs.lemmas.Grind.{common_steps}
 use Rattle.std.proofs.lemmas.Bool.Decides.{nat_tests}
 use Rattle.disk_base.specs.Files.{Files}
-use Rattle.ubik_node.specs.Label.{IsHeadOf, version_by, durable_of, durable_with}
+use Rattle.page_file.specs.Label.{IsHeadOf, version_by}
+use Rattle.page_file.proofs.Labels.{version_by_head}
+use Rattle.ubik_node.specs.Database.{durable_of, durable_with}
 
 -- a list that was written whole in place of one of its length
 pub written_whole : (n : ℕ) (bytes rest : List ℕ) → length bytes ≡ n → take n (bytes ++ rest) ≡ bytes
@@ -33,19 +35,6 @@ head_read (Some fs) len n bytes seen head is told read same filled =
       len = filled.len;
       bytes = λ k below. filled.bytes k below ∙ ap (λ (b : List ℕ). get_or b k 0) (same ∙ read) ∙ read_at fs.database k n below (is ∙ ap (λ (m : ℕ). min m 64) told);
     }
-
-front_of_head : (head file : List ℕ) → 64 ≤ length file → IsHeadOf head file → head ≡ take 64 file
-front_of_head head file long is =
-    let len = is.len in ext_get_or 0 head (take 64 file) (omega (arith, length-take 64 file)) (λ k below. is.bytes k (omega arith) ∙ sym (get_or-take 64 file k 0 (omega arith)))
-
--- the version of a file is that of its head
-pub version_by_head : (head file : List ℕ) → IsHeadOf head file → version_by (length file) head ≡ version_by (length file) (take 64 file)
-version_by_head head file is =
-    by_length (nat_lt (length file) 64) refl
-  where
-    by_length : (b : Bool) → nat_lt (length file) 64 ≡ b → version_by (length file) head ≡ version_by (length file) (take 64 file)
-    by_length true short = rw short (λ i. None)
-    by_length false long = ap (λ (h : List ℕ). version_by (length file) h) (front_of_head head file (ltb-false _ _ long) is)
 
 -- what a file stands for that is not empty
 pub labelled_durable : (file : List ℕ) (r : Option Version) → 0 < length file → version_by (length file) (take 64 file) ≡ r → durable_of file ≡ durable_with (drop 64 file) r

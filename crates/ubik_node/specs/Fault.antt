@@ -2,7 +2,8 @@
 use Rattle.std.specs.Prelude.{◌≡◌, List, ℕ, length, None}
 use Rattle.ubik_node.specs.declared.database.StoreFault.{StoreFault}
 use Rattle.ubik_node.specs.declared.database.StoreFault.TheVariants.{DiskFault, BadLabel, NoMemory}
-use Rattle.ubik_node.specs.Label.{durable_of, IsHeadOf}
+use Rattle.page_file.specs.Label.{IsHeadOf}
+use Rattle.ubik_node.specs.Database.{durable_of}
 
 -- the fault is not one of the label
 abbrev pub IsNoLabelFault : StoreFault → Type 0

@@ -1,7 +1,6 @@
 pub mod Appending
 pub mod Database
 pub mod Fault
-pub mod Label
 pub mod Node
 pub mod OwnVotes
 pub mod Progress

@@ -10,8 +10,7 @@ use Rattle.cell_model.specs.NodeRule.{Stepped, step_of, refusals}
 use Rattle.ubik_node.specs.declared.nodes.Node.{Node}
 use Rattle.ubik_node.specs.declared.nodes.StepEnd.{StepEnd}
 use Rattle.ubik_node.specs.declared.nodes.StepEnd.TheVariants.{Done, Halted, NoMemory}
-use Rattle.ubik_node.specs.Database.{with_database}
-use Rattle.ubik_node.specs.Label.{durable_of}
+use Rattle.ubik_node.specs.Database.{durable_of, with_database}
 use Rattle.ubik_node.specs.State.{server_of}
 
 -- the server of a node that is not halted

@@ -1,13 +1,13 @@
 //! The database file of a server: its label, and the image behind it.
 ghost use Rattle.std.specs.Prelude.{Some, ◌-◌, replicate, ◌≡◌, ◌+◌, ◌<◌, ◌≤◌, ◌++◌, length, drop, OnOk, IfOk, IfErr, IfSome, IsErrOf};
 ghost use Rattle.std.specs.Option.{option_map};
-ghost use Rattle.ubik_node.specs.Database.{with_database};
+ghost use Rattle.page_file.specs.Label.{label, IsHeadOf};
+ghost use Rattle.ubik_node.specs.Database.{with_database, durable_of};
 ghost use Rattle.ubik_node.specs.Fault.{IsNoLabelFault, IsFaultOf};
 ghost use Rattle.cell_model.specs.Durable.{durable};
-ghost use Rattle.ubik_node.specs.Label.{label, durable_of, IsHeadOf};
 
-use crate::label::{LABEL_LEN, label_bytes, version_of_file};
 use disk_base::{Disk, DiskEnd, FileNo, LenEnd, RoomEnd};
+use page_file::{LABEL_LEN, label_bytes, version_of_file};
 use std::alloc::Global;
 use thiserror::Error;
 use ubik_types::{Bytes, Version};

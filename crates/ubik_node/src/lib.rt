@@ -5,7 +5,6 @@
 #![tactic(auto)]
 
 mod database;
-mod label;
 mod nodes;
 mod outputs;
 mod own_votes;

@@ -43,7 +43,7 @@ pub struct Node<D: Disk, V: Service> {
 
 impl<D: Disk, V: Service> Node<D, V> {
     ghost use Rattle.ubik_node.specs.Fault.{IsFaultOf};
-    ghost use Rattle.ubik_node.specs.Label.{durable_of};
+    ghost use Rattle.ubik_node.specs.Database.{durable_of};
     ghost use Rattle.ubik_types.specs.declared.versions.Version.{Version};
     ghost use Rattle.ubik_types.specs.Phase.{phase_of};
     ghost use Rattle.ubik_types.specs.Lease.{lease_end};

@@ -1,6 +1,6 @@
 use Rattle.std.proofs.Common.{drop, Option, IfSome, ◌≡◌, ◌∙◌, sym, subst, arith}
 use Rattle.disk_base.specs.Files.{Files}
-use Rattle.ubik_node.specs.Label.{IsHeadOf}
+use Rattle.page_file.specs.Label.{IsHeadOf}
 use Rattle.ubik_node.proofs.Read.{empty_durable, found_durable, refused_file}
 use Rattle.ubik_node.proofs.database.read_database.Goals as goal
 

@@ -1,12 +1,17 @@
 //! The label in front of a database file.
 ghost use Rattle.std.specs.Prelude.{IfSome, IsSome, ◌≡◌, ◌≤◌, ◌+◌, length, take, drop};
 ghost use Rattle.std.specs.Int.{w32, from_be_bytes};
-ghost use Rattle.ubik_node.specs.Label.{label, version_of_label, version_by};
+ghost use Rattle.page_file.specs.Label.{label, version_of_label, version_by};
 
 use ubik_types::{MAX_COUNTER, MAX_IMAGE, Version};
 
 /// The length of the label, in bytes.
 pub const LABEL_LEN: usize = 64;
+
+/// The length of the longest database file, in bytes: a label and the longest image.
+pub const MAX_DATABASE_LEN: u64 = 16_777_280;
+
+const _: () = prove!(MAX_DATABASE_LEN == (LABEL_LEN + MAX_IMAGE) as u64);
 
 /// The label of a version.
 pub fn label_bytes(version: Version) -> [u8; 64]
@@ -62,7 +67,7 @@ pub fn version_of_file(len: u64, head: &[u8; 64]) -> Option<Version>
     if len < LABEL_LEN as u64 {
         return None;
     }
-    if len > (LABEL_LEN + MAX_IMAGE) as u64 {
+    if len > MAX_DATABASE_LEN {
         return None;
     }
     read_label(head)

@@ -5,7 +5,7 @@ use Rattle.std.specs.Str.{bytes_eq}
 use Rattle.ubik_types.specs.declared.limits.TheConstants.{MAX_IMAGE}
 use Rattle.ubik_types.specs.declared.versions.TheConstants.{MAX_COUNTER}
 use Rattle.ubik_types.specs.declared.versions.Version.{Version}
-use Rattle.cell_model.specs.Durable.{Durable, no_database}
+use Rattle.ubik_types.specs.Version.{zero_version}
 
 -- a fixed number, the length of the label, and the version
 abbrev pub label : Version → List ℕ
@@ -25,20 +25,16 @@ version_of_label bytes =
     let v = version_in bytes in
     if nat_le v.epoch MAX_COUNTER && nat_le v.counter MAX_COUNTER && bytes_eq bytes (label v) then Some v else None
 
-abbrev pub durable_with : List ℕ → Option Version → Option Durable
-durable_with image None = None
-durable_with image (Some v) = Some (record { version = v; image = image })
-
 -- the version of a file of some length, by its first 64 bytes
 abbrev pub version_by : ℕ → List ℕ → Option Version
 version_by len head =
     if nat_lt len 64 then None else (if nat_lt (64 + MAX_IMAGE) len then None else version_of_label head)
 
--- what a database file stands for: an empty one for no database, else its label and the rest of the file
-unfoldable pub durable_of : List ℕ → Option Durable
-durable_of file =
-    if length file == 0 then Some no_database
-    else durable_with (drop 64 file) (version_by (length file) (take 64 file))
+-- the version of a database file: that of its label, and the first one where it is empty; none where it is
+-- longer than a label and the longest image, or is not empty and begins with no label
+unfoldable pub version_of_database : List ℕ → Option Version
+version_of_database file =
+    if length file == 0 then Some zero_version else version_by (length file) (take 64 file)
 
 -- the first 64 bytes of a file, and zero bytes where it is shorter
 pub record IsHeadOf (head file : List ℕ) : Type 0 where

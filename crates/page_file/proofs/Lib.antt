@@ -1,0 +1,5 @@
+pub mod Labels
+pub mod Opening
+pub mod Reading
+pub mod Staying
+pub mod Writing

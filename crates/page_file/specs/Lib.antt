@@ -1,0 +1,4 @@
+pub mod Fault
+pub mod Label
+pub mod Pages
+pub mod View

@@ -1,0 +1,28 @@
+-- What pages know of a database file, and when that is so.
+use Rattle.std.specs.Prelude.{◌≡◌, ℕ, List, Option, IfSome, length, take, drop}
+use Rattle.ubik_types.specs.declared.versions.Version.{Version}
+use Rattle.disk_base.specs.Files.{Files}
+use Rattle.page_file.specs.Label.{version_of_label}
+
+pub record Known : Type 0 where
+  -- none where no label was read, and none was set since
+  pub version : Option Version
+  -- the length of the image, in bytes
+  pub len : ℕ
+
+-- the bytes behind the label; a position in it is 64 less than in the file
+abbrev pub image_of : List ℕ → List ℕ
+image_of file = drop 64 file
+
+-- a version is that of a file's label, where it has one
+abbrev pub LabelledAs : List ℕ → Version → Type 0
+LabelledAs file version = IfSome (version_of_label (take 64 file)) (λ read. read ≡ version)
+
+-- The length is that of the image, and the version that of the label.
+pub record Agrees (pages : Known) (file : List ℕ) : Type 0 where
+  pub len : pages.len ≡ length (image_of file)
+  pub version : IfSome pages.version (LabelledAs file)
+
+-- pages agree with the database file of a disk, where it tells its files
+abbrev pub AgreesIn : Known → Option Files → Type 0
+AgreesIn pages files = IfSome files (λ fs. Agrees pages fs.database)

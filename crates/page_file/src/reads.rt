@@ -1,0 +1,93 @@
+//! What is read of the database file: its length, its head, and parts of it.
+ghost use Rattle.std.specs.Prelude.{◌≡◌, ◌+◌, ◌≤◌, ◌<◌, ◌^◌, IfSome, OnOk, IfOk, IfErr, IsErr, length, take, drop};
+ghost use Rattle.disk_base.specs.Files.{KeepsRoom};
+ghost use Rattle.disk_base.specs.Count.{HasCause};
+ghost use Rattle.disk_base.specs.Crash.{LeavesSame};
+ghost use Rattle.page_file.specs.Label.{IsHeadOf};
+ghost use Rattle.page_file.specs.Pages.{image_of};
+
+use crate::faults::PageFault;
+use crate::label::LABEL_LEN;
+use disk_base::{Disk, DiskEnd, FileNo, LenEnd};
+
+/// The length of a page of the image, in bytes (own).
+pub const PAGE_LEN: usize = 1024;
+
+/// The length of the database file, in bytes.
+pub(crate) fn file_len<D: Disk>(disk: &mut D) -> Result<u64, PageFault>
+    ensures told { IfOk result (λ len. IfSome (D.files disk.old) (λ fs. len ≡ length fs.database)) }
+    ensures files { OnOk result (D.files disk.new ≡ D.files disk.old) }
+    ensures room { KeepsRoom (D.room disk.old) (D.room disk.new) }
+    ensures steps { D.steps disk.new ≡ D.steps disk.old }
+    ensures crash { LeavesSame (D.may_leave disk.old) (D.may_leave disk.new) (D.left_since disk.old) (D.left_since disk.new) }
+    ensures tells { D.tells disk.new ≡ D.tells disk.old }
+    ensures fault { IfErr result (λ fault. fault ≡ PageFault.DiskFault) }
+    ensures cause { HasCause (D.faults disk.old) (D.faults disk.new) (IsErr result) }
+{
+    match disk.len(FileNo::Database) {
+        LenEnd::Known(len) => Ok(len),
+        LenEnd::Failed => Err(PageFault::DiskFault),
+    }
+}
+
+/// The first 64 bytes of the database file of this length, and zero bytes where it is shorter.
+pub(crate) fn read_head<D: Disk>(disk: &mut D, len: u64) -> Result<[u8; 64], PageFault>
+    requires { IfSome (D.files disk.old) (λ fs. len ≡ length fs.database) }
+    ensures head { IfOk result (λ head. IfSome (D.files disk.old) (λ fs. IsHeadOf head fs.database)) }
+    ensures files { OnOk result (D.files disk.new ≡ D.files disk.old) }
+    ensures room { KeepsRoom (D.room disk.old) (D.room disk.new) }
+    ensures steps { D.steps disk.new ≡ D.steps disk.old }
+    ensures crash { LeavesSame (D.may_leave disk.old) (D.may_leave disk.new) (D.left_since disk.old) (D.left_since disk.new) }
+    ensures tells { D.tells disk.new ≡ D.tells disk.old }
+    ensures fault { IfErr result (λ fault. fault ≡ PageFault.DiskFault) }
+    ensures cause { HasCause (D.faults disk.old) (D.faults disk.new) (IsErr result) }
+{
+    let mut head = [0; LABEL_LEN];
+    let there = len.min(LABEL_LEN as u64) as usize;
+    match disk.read(FileNo::Database, 0, &mut head[..there]) {
+        DiskEnd::Done => Ok(head),
+        DiskEnd::Failed => Err(PageFault::DiskFault),
+    }
+}
+
+/// Reads bytes of the image from a position on, which lie within it.
+fn read_image<D: Disk>(disk: &mut D, at: u64, buf: &mut [u8]) -> Result<(), PageFault>
+    requires within { IfSome (D.files disk.old) (λ fs. at + length buf.old ≤ length (image_of fs.database)) }
+    requires some { 0 < length buf.old }
+    requires fits { at + 64 < 2 ^ 64 }
+    ensures bytes { OnOk result (IfSome (D.files disk.old) (λ fs. buf.new ≡ take (length buf.old) (drop at (image_of fs.database)))) }
+    ensures files { OnOk result (D.files disk.new ≡ D.files disk.old) }
+    ensures room { KeepsRoom (D.room disk.old) (D.room disk.new) }
+    ensures steps { D.steps disk.new ≡ D.steps disk.old }
+    ensures crash { LeavesSame (D.may_leave disk.old) (D.may_leave disk.new) (D.left_since disk.old) (D.left_since disk.new) }
+    ensures tells { D.tells disk.new ≡ D.tells disk.old }
+    ensures fault { IfErr result (λ fault. fault ≡ PageFault.DiskFault) }
+    ensures cause { HasCause (D.faults disk.old) (D.faults disk.new) (IsErr result) }
+{
+    match disk.read(FileNo::Database, LABEL_LEN as u64 + at, buf) {
+        DiskEnd::Done => Ok(()),
+        DiskEnd::Failed => Err(PageFault::DiskFault),
+    }
+}
+
+/// Reads bytes of the image from a position on, which lie within it, in pages.
+pub(crate) fn read_pages<D: Disk>(disk: &mut D, at: u32, buf: &mut [u8]) -> Result<(), PageFault>
+    requires within { IfSome (D.files disk.old) (λ fs. at + length buf.old ≤ length (image_of fs.database)) }
+    ensures bytes { OnOk result (IfSome (D.files disk.old) (λ fs. buf.new ≡ take (length buf.old) (drop at (image_of fs.database)))) }
+    ensures files { OnOk result (D.files disk.new ≡ D.files disk.old) }
+    ensures room { KeepsRoom (D.room disk.old) (D.room disk.new) }
+    ensures steps { D.steps disk.new ≡ D.steps disk.old }
+    ensures crash { LeavesSame (D.may_leave disk.old) (D.may_leave disk.new) (D.left_since disk.old) (D.left_since disk.new) }
+    ensures tells { D.tells disk.new ≡ D.tells disk.old }
+    ensures fault { IfErr result (λ fault. fault ≡ PageFault.DiskFault) }
+    ensures cause { HasCause (D.faults disk.old) (D.faults disk.new) (IsErr result) }
+{
+    let mut done = 0;
+    while done < buf.len() {
+        let from = at as usize + done;
+        let part = (PAGE_LEN - from % PAGE_LEN).min(buf.len() - done);
+        read_image(disk, from as u64, &mut buf[done..done + part])?;
+        done += part;
+    }
+    Ok(())
+}
