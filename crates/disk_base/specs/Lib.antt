@@ -5,8 +5,11 @@ pub mod Files
 pub mod MemCalls
 pub mod MemDisk
 pub mod MemFile
+pub mod MemLaws
 pub mod MemSink
 pub mod MemSource
+pub mod Moments
 pub mod Plan
 pub mod Sink
 pub mod Source
+pub mod Touches

@@ -8,10 +8,12 @@ mod memory_calls;
 mod memory_disks;
 mod memory_files;
 mod memory_streams;
+mod moments;
 mod plans;
 mod sinks;
 mod sources;
 mod tallies;
+mod touches;
 
 pub use adapters::{ReaderSource, WriterSink};
 pub use disks::{Disk, DiskEnd, FileNo, Fill, LenEnd, Refused, RoomEnd, StopDisk};
