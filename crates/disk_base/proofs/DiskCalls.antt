@@ -1,5 +1,5 @@
 -- What the calls of a disk in memory do to what a crash may leave of its files.
-use Rattle.std.proofs.Common.{◌≡◌, inl, Result, Ok, Err, OnOk, OnErr, ℕ, ◌≤◌, List, [], length, subst, sym, ap, ◌∙◌, refl, arith}
+use Rattle.std.proofs.Common.{◌≡◌, Result, Ok, Err, OnOk, OnErr, ℕ, ◌≤◌, List, [], length, subst, sym, ap, ◌∙◌, refl, arith}
 use Rattle.std.proofs.lemmas.List.{ext_get_or}
 use Rattle.disk_base.specs.declared.disks.FileNo.{FileNo}
 use Rattle.disk_base.specs.declared.disks.FileNo.TheVariants.{Database, Log, Incoming}
@@ -16,6 +16,7 @@ use Rattle.disk_base.specs.MemFile.{bytes_of, synced_of, touches_of, IsLeft}
 use Rattle.disk_base.specs.Moments.{FileState, Moment, MayLeave, state_of, with_state, touched, at_rest, all_at_rest}
 use Rattle.disk_base.specs.MemDisk.{now_in, moment_in, IsLeftOf}
 use Rattle.disk_base.proofs.Touched.{MayBe-synced, MayBe-filled}
+use Rattle.disk_base.proofs.Idle.{Torn-idle, CutShort-idle, Follows-idle}
 use Rattle.disk_base.proofs.Left.{torn-left, cut-left}
 
 -- what may be left of a file after a call that takes each of these states to this one
@@ -58,21 +59,6 @@ cut-follows files f len =
     follows (CutShort len) (moment_in files) f (touched state (Cut len))
     (λ c left. cut-left state.synced state.touches len c left)
 
--- the files with what a file holds
-same_file : (c : Files) (f : FileNo) → c ≡ with_file c f (file_of c f)
-same_file c Database = refl
-same_file c Log = refl
-same_file c Incoming = refl
-
--- a call that changes nothing
-stays : (step : List ℕ → List ℕ → Type 0) → ((bytes : List ℕ) → step bytes bytes) → (moment : Moment) (f : FileNo)
-    → Follows (InFile f step) (MayLeave moment) (MayLeave moment)
-stays step idle moment f = λ c left. (c, left, (same_file c f, idle (file_of c f)))
-
--- a write may have done nothing, and so may a cut
-torn_idle : (at len : ℕ) (bytes : List ℕ) → Torn at len bytes bytes
-torn_idle at len bytes = record { before = refl; after = refl; no_shorter = omega arith; no_longer = omega arith }
-
 -- a call that is done, or finds no memory
 module _ (step : List ℕ → List ℕ → Type 0) (idle : (bytes : List ℕ) → step bytes bytes) (touch : Touch) (f : FileNo) where
   done_or_not : (old new : MemFiles) {T E : Type 0} (result : Result T E)
@@ -83,7 +69,7 @@ module _ (step : List ℕ → List ℕ → Type 0) (idle : (bytes : List ℕ) �
   done_or_not old new (Ok v) done is same =
       subst (λ (m : Moment). Follows (InFile f step) (MayLeave (moment_in old)) (MayLeave m)) (sym is) done
   done_or_not old new (Err e) done is same =
-      subst (λ (m : Moment). Follows (InFile f step) (MayLeave (moment_in old)) (MayLeave m)) (sym same) (stays step idle (moment_in old) f)
+      subst (λ (m : Moment). Follows (InFile f step) (MayLeave (moment_in old)) (MayLeave m)) (sym same) (Follows-idle step idle (MayLeave (moment_in old)) f)
 
   called : (old begun new : MemFiles) {T E : Type 0} (result : Result T E)
       → Follows (InFile f step) (MayLeave (moment_in old)) (MayLeave (with_state (moment_in old) f (touched (state_of (moment_in old) f) touch)))
@@ -101,14 +87,14 @@ pub Follows-write : (old begun new : MemFiles) (f : FileNo) (at len : ℕ) {T E 
     → OnErr result (moment_in new ≡ moment_in begun)
     → Follows (InFile f (Torn at len)) (MayLeave (moment_in old)) (MayLeave (moment_in new))
 Follows-write old begun new f at len result begins same ok err =
-    called (Torn at len) (torn_idle at len) (Wrote at len) f old begun new result (write-follows old f at len begins) same ok err
+    called (Torn at len) (Torn-idle at len) (Wrote at len) f old begun new result (write-follows old f at len begins) same ok err
 
 pub Follows-cut : (old begun new : MemFiles) (f : FileNo) (len : ℕ) {T E : Type 0} (result : Result T E) → begun ≡ old
     → OnOk result (moment_in new ≡ with_state (moment_in begun) f (touched (state_of (moment_in begun) f) (Cut len)))
     → OnErr result (moment_in new ≡ moment_in begun)
     → Follows (InFile f (CutShort len)) (MayLeave (moment_in old)) (MayLeave (moment_in new))
 Follows-cut old begun new f len result same ok err =
-    called (CutShort len) (λ bytes. inl refl) (Cut len) f old begun new result (cut-follows old f len) same ok err
+    called (CutShort len) (CutShort-idle len) (Cut len) f old begun new result (cut-follows old f len) same ok err
 
 -- of a file at rest its bytes alone may be left
 only-rest : (bytes c : List ℕ) → MayBe bytes [] c → c ≡ bytes

@@ -1,5 +1,6 @@
 pub mod DiskCalls
 pub mod Fills
+pub mod Idle
 pub mod Left
 pub mod Times
 pub mod Touched

@@ -1,6 +1,7 @@
 pub mod Adapters
 pub mod Count
 pub mod Crash
+pub mod FileDisk
 pub mod Files
 pub mod MemCalls
 pub mod MemDisk

@@ -4,6 +4,7 @@
 
 mod adapters;
 mod disks;
+mod file_disks;
 mod memory_calls;
 mod memory_disks;
 mod memory_files;
@@ -17,6 +18,7 @@ mod touches;
 
 pub use adapters::{ReaderSource, WriterSink};
 pub use disks::{Disk, DiskEnd, FileNo, Fill, LenEnd, Refused, RoomEnd, StopDisk};
+pub use file_disks::{FileDisk, OpenFault};
 pub use memory_disks::MemDisk;
 pub use memory_streams::{MemSink, MemSource};
 pub use sinks::{Sink, Wrote};
