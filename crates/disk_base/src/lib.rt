@@ -25,4 +25,6 @@ pub use sinks::{Sink, Wrote};
 pub use sources::{Got, Source};
 
 #[cfg(test)]
+mod replay_tests;
+#[cfg(test)]
 mod tests;
