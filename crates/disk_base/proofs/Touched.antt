@@ -59,7 +59,7 @@ length-laid : (file bytes : List ℕ) (at : ℕ) → at ≤ length file → leng
 length-laid file bytes at begins = grind (arith, common_steps)
 
 -- a position that a write does not cover lies before it or past it
-pub uncovered : (at len k : ℕ) → covers (Wrote at len) k ≡ false → (k < at) ⊎ (at + len ≤ k)
+uncovered : (at len k : ℕ) → covers (Wrote at len) k ≡ false → (k < at) ⊎ (at + len ≤ k)
 uncovered at len k out = elim (cases_lt k at) [ inl before ↦ inl before | inr from ↦ inr (grind (arith, nat_tests)) ]
 
 laid-before : (file bytes : List ℕ) (at k : ℕ) → at ≤ length file → k < at → get_or (laid file at bytes) k 0 ≡ get_or file k 0
@@ -121,9 +121,3 @@ MayBe-filled byte synced touches before after was filled = record {
       let within : at < length before = omega (arith, filled.same_length) in
       filled.filled at within ∙ ap (λ b. cond b byte (get_or before at 0)) un ∙ was.untouched at within un;
 }
-
--- the same where what was last synced is what was kept, or else what is there
-pub MayBe-refilled : (byte : ℕ) (kept : Option (Vec ℕ Global)) (touches : List Touch) (before after : List ℕ)
-    → MayBe (kept_or kept before) touches before → IsFilled byte touches before after → MayBe (kept_or kept after) touches after
-MayBe-refilled byte (Some v) touches before after was filled = MayBe-filled byte v.items touches before after was filled
-MayBe-refilled byte None touches before after was filled = MayBe-synced after touches

@@ -14,13 +14,21 @@ use thiserror::Error;
 /// Why the files of a folder were not opened.
 #[derive(Clone, Copy, Debug, PartialEq, Eq, Error)]
 pub enum OpenFault {
+    /// The system refused.
     #[error("the folder and its files cannot be opened")]
     Failed,
+    /// Memory ran out, here or in the system.
     #[error("out of memory")]
     NoMemory,
 }
 
 impl From<io::Error> for OpenFault {
+    ghost use Rattle.std.specs.Prelude.{◌≡◌};
+    ghost use Rattle.std.specs.IoError.{error_kind};
+    ghost use Rattle.disk_base.specs.FileDisk.{fault_of};
+
+    ghost from_gives = { λ error fault. fault ≡ fault_of (error_kind error) };
+
     fn from(error: io::Error) -> Self {
         match error.kind() {
             io::ErrorKind::OutOfMemory => OpenFault::NoMemory,
@@ -30,7 +38,7 @@ impl From<io::Error> for OpenFault {
 }
 
 /// A disk over three files of a folder. Each error of the system is a failed call, and so is a read past the
-/// end. What a call has done stays done, also where it failed.
+/// end. A write that failed may be done in part.
 #[derive(Drop)]
 pub struct FileDisk {
     database: File,
@@ -43,8 +51,8 @@ pub struct FileDisk {
 impl FileDisk {
     ghost use Rattle.disk_base.specs.FileDisk.{file_steps, file_faults};
 
-    /// Opens the files `database`, `log` and `incoming` of a folder, and makes each that is not there. That they
-    /// are there is synced.
+    /// Opens the files `database`, `log` and `incoming` of a folder, and makes those that are not there. Their
+    /// names are then synced, with the folder.
     pub fn open<R: Files<File = File> + AllocGlobal>(
         rt: &R,
         folder: &str,

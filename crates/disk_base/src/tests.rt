@@ -263,6 +263,7 @@ fn a_folder_keeps_what_was_written(rt: HostRuntime) -> Result<(), Fail> {
     let _ = fs::remove_dir_all(&rt, folder.as_str());
     fs::create_dir(&rt, folder.as_str())?;
     let mut disk = FileDisk::open(&rt, folder.as_str())?;
+    crosses(&disk);
     expect_kept(&rt, rt.alloc(), &mut disk)?;
     let mut again = FileDisk::open(&rt, folder.as_str())?;
     expect_file(&rt, rt.alloc(), &mut again, FileNo::Log, b"abcXY")?;
