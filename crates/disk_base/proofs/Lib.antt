@@ -1,2 +1,7 @@
+pub mod DiskCalls
 pub mod Fills
+pub mod Idle
+pub mod Left
+pub mod Times
+pub mod Touched
 pub mod Walks

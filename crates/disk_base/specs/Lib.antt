@@ -1,12 +1,16 @@
 pub mod Adapters
 pub mod Count
 pub mod Crash
+pub mod FileDisk
 pub mod Files
 pub mod MemCalls
 pub mod MemDisk
 pub mod MemFile
+pub mod MemLaws
 pub mod MemSink
 pub mod MemSource
+pub mod Moments
 pub mod Plan
 pub mod Sink
 pub mod Source
+pub mod Touches

@@ -1,5 +1,5 @@
 -- What a disk in memory holds, and how its calls end.
-use Rattle.std.specs.Prelude.{◌≡◌, ℕ, Bool, ◌⊎◌, if◌then◌else◌}
+use Rattle.std.specs.Prelude.{◌≡◌, ℕ, Bool, true, ◌⊎◌, ◌∷◌, if◌then◌else◌}
 use Rattle.disk_base.specs.declared.disks.FileNo.{FileNo}
 use Rattle.disk_base.specs.declared.disks.FileNo.TheVariants.{Database, Log, Incoming}
 use Rattle.disk_base.specs.declared.disks.DiskEnd.{DiskEnd}
@@ -14,8 +14,9 @@ use Rattle.disk_base.specs.declared.memory_disks.MemFiles.{MemFiles}
 use Rattle.disk_base.specs.declared.memory_disks.MemDisk.{MemDisk}
 use Rattle.disk_base.specs.declared.plans.Plan.{Plan}
 use Rattle.disk_base.specs.Files.{Files, Stop}
-use Rattle.disk_base.specs.MemFile.{bytes_of, synced_of, room_of, IsLeft}
+use Rattle.disk_base.specs.MemFile.{bytes_of, synced_of, touches_of, room_of, IsLeft}
 use Rattle.disk_base.specs.MemCalls.{stop_of, passage_of, fails_now}
+use Rattle.disk_base.specs.Moments.{FileState, Moment, MayLeave, LeftSince}
 
 abbrev pub file_at : MemFiles → FileNo → MemFile
 file_at files Database = files.database
@@ -36,6 +37,18 @@ synced_in files = record {
   database = synced_of files.database;
   log = synced_of files.log;
   incoming = synced_of files.incoming;
+}
+
+-- what was last synced of a file, and the changing calls since
+abbrev pub state_in : MemFile → FileState
+state_in file = record { synced = synced_of file; touches = touches_of file }
+
+-- what decides on what a crash now may leave
+abbrev pub moment_in : MemFiles → Moment
+moment_in files = record {
+  database = state_in files.database;
+  log = state_in files.log;
+  incoming = state_in files.incoming;
 }
 
 -- how many bytes of a file have room
@@ -59,6 +72,21 @@ disk_steps disk = disk.calls.steps.count
 
 abbrev pub disk_faults : MemDisk → ℕ
 disk_faults disk = disk.calls.faults.count
+
+-- it tells its files
+abbrev pub disk_tells : MemDisk → Bool
+disk_tells disk = true
+
+-- the present moment
+abbrev pub moment_of : MemDisk → Moment
+moment_of disk = moment_in disk.files
+
+abbrev pub disk_may_leave : MemDisk → Files → Type 0
+disk_may_leave disk c = MayLeave (moment_of disk) c
+
+-- a moment is kept since the disk was made, or was last revived
+abbrev pub disk_left_since : MemDisk → ℕ → Files → Type 0
+disk_left_since disk since c = LeftSince (moment_of disk ∷ disk.moments.earlier) (disk_steps disk) since c
 
 -- which calls are to fail, and how many were made
 abbrev pub disk_plan : MemDisk → Plan

@@ -4,21 +4,27 @@
 
 mod adapters;
 mod disks;
+mod file_disks;
 mod memory_calls;
 mod memory_disks;
 mod memory_files;
 mod memory_streams;
+mod moments;
 mod plans;
 mod sinks;
 mod sources;
 mod tallies;
+mod touches;
 
 pub use adapters::{ReaderSource, WriterSink};
 pub use disks::{Disk, DiskEnd, FileNo, Fill, LenEnd, Refused, RoomEnd, StopDisk};
+pub use file_disks::{FileDisk, OpenFault};
 pub use memory_disks::MemDisk;
 pub use memory_streams::{MemSink, MemSource};
 pub use sinks::{Sink, Wrote};
 pub use sources::{Got, Source};
 
+#[cfg(test)]
+mod replay_tests;
 #[cfg(test)]
 mod tests;

@@ -1,11 +1,15 @@
 //! A disk in memory, whose calls fail by their numbers, and which can be told to stop.
-ghost use Rattle.std.specs.Prelude.{◌≡◌, ◌+◌, ◌<◌, ◌≤◌, ℕ, List, Some, Option, IfOk, IfSome, IsTrue, OnOk, OnErr, length, take, drop, ◌↔◌};
+ghost use Rattle.std.specs.Prelude.{◌≡◌, ◌≢◌, ◌+◌, ◌<◌, ◌≤◌, ℕ, List, ◌∷◌, Some, Option, Bool, true, IfOk, IfSome, IsSome, IsTrue, OnOk, OnErr, length, take, drop, ◌↔◌};
 ghost use Rattle.disk_base.specs.Files.{no_files, file_of, with_file, laid, OnDone, OnKnown, KeepsRoom, IsStopped};
 ghost use Rattle.disk_base.specs.Files.Stop.{Unarmed, Armed};
 ghost use Rattle.disk_base.specs.Count.{HasCause};
+ghost use Rattle.disk_base.specs.declared.disks.FileNo.{FileNo};
+ghost use Rattle.disk_base.specs.Crash.{Torn, CutShort, InFile, Follows, Narrows, Only, OnlyIn, Elapses, LeavesSame};
 
 use crate::memory_calls::{MemCalls, Passage};
 use crate::memory_files::MemFile;
+use crate::moments::Moments;
+use crate::touches::Touch;
 use crate::{Disk, DiskEnd, FileNo, Fill, LenEnd, RoomEnd, StopDisk};
 use std::alloc::Global;
 use ubik_types::NoMemory;
@@ -19,12 +23,14 @@ pub(crate) struct MemFiles {
 }
 
 impl MemFiles {
-    ghost use Rattle.disk_base.specs.MemDisk.{file_at, now_in, synced_in, room_in, IsLeftOf};
+    ghost use Rattle.disk_base.specs.MemDisk.{file_at, now_in, synced_in, moment_in, room_in, IsLeftOf};
+    ghost use Rattle.disk_base.specs.Moments.{state_of, with_state, touched, at_rest, all_at_rest};
 
     /// Three empty files.
     fn new(alloc: Global) -> MemFiles
         ensures now { now_in result ≡ no_files }
         ensures synced { synced_in result ≡ no_files }
+        ensures moment { moment_in result ≡ all_at_rest no_files }
     {
         MemFiles {
             database: MemFile::new(alloc),
@@ -47,6 +53,7 @@ impl MemFiles {
         ensures reserved { OnOk result (len ≤ room_in self.new f) }
         ensures now { now_in self.new ≡ now_in self.old }
         ensures synced { synced_in self.new ≡ synced_in self.old }
+        ensures moment { moment_in self.new ≡ moment_in self.old }
         ensures room { KeepsRoom (room_in self.old) (room_in self.new) }
     {
         match f {
@@ -57,10 +64,14 @@ impl MemFiles {
     }
 
     fn write_at(&mut self, f: FileNo, at: u64, bytes: &[u8]) -> Result<(), NoMemory>
-        requires { at ≤ length (file_of (now_in self.old) f) }
+        requires begins { at ≤ length (file_of (now_in self.old) f) }
+        requires fits { at + length bytes.now ≤ room_in self.old f }
         ensures ok { OnOk result (now_in self.new
             ≡ with_file (now_in self.old) f (laid (file_of (now_in self.old) f) at bytes.now)) }
         ensures err { OnErr result (now_in self.new ≡ now_in self.old) }
+        ensures marked { OnOk result (moment_in self.new ≡ with_state (moment_in self.old) f
+            (touched (state_of (moment_in self.old) f) (Touch.Wrote at (length bytes.now)))) }
+        ensures unmarked { OnErr result (moment_in self.new ≡ moment_in self.old) }
         ensures synced { synced_in self.new ≡ synced_in self.old }
         ensures room { KeepsRoom (room_in self.old) (room_in self.new) }
     {
@@ -75,6 +86,9 @@ impl MemFiles {
         ensures ok { OnOk result (now_in self.new
             ≡ with_file (now_in self.old) f (take len (file_of (now_in self.old) f))) }
         ensures err { OnErr result (now_in self.new ≡ now_in self.old) }
+        ensures marked { OnOk result (moment_in self.new ≡ with_state (moment_in self.old) f
+            (touched (state_of (moment_in self.old) f) (Touch.Cut len))) }
+        ensures unmarked { OnErr result (moment_in self.new ≡ moment_in self.old) }
         ensures synced { synced_in self.new ≡ synced_in self.old }
         ensures room { KeepsRoom (room_in self.old) (room_in self.new) }
     {
@@ -89,6 +103,8 @@ impl MemFiles {
         ensures now { now_in self.new ≡ now_in self.old }
         ensures synced { synced_in self.new
             ≡ with_file (synced_in self.old) f (file_of (now_in self.old) f) }
+        ensures moment { moment_in self.new
+            ≡ with_state (moment_in self.old) f (at_rest (file_of (now_in self.old) f)) }
         ensures room { KeepsRoom (room_in self.old) (room_in self.new) }
     {
         match f {
@@ -101,6 +117,7 @@ impl MemFiles {
     fn revive(&mut self, fill: Fill)
         ensures left { IsLeftOf fill self.old (now_in self.new) }
         ensures synced { synced_in self.new ≡ now_in self.new }
+        ensures moment { moment_in self.new ≡ all_at_rest (now_in self.new) }
         ensures room { KeepsRoom (room_in self.old) (room_in self.new) }
     {
         self.database.revive(fill);
@@ -114,17 +131,21 @@ impl MemFiles {
 pub struct MemDisk {
     files: MemFiles,
     calls: MemCalls,
+    moments: Moments,
 }
 
 impl MemDisk {
-    ghost use Rattle.disk_base.specs.Plan.{IsFresh};
-    ghost use Rattle.disk_base.specs.MemDisk.{now_of, last_synced, disk_stop, disk_plan, disk_steps, disk_faults};
+    ghost use Rattle.disk_base.specs.Plan.{IsFresh, after_call};
+    ghost use Rattle.disk_base.specs.MemCalls.{after_change};
+    ghost use Rattle.disk_base.specs.MemDisk.{now_of, last_synced, moment_of, disk_may_leave, disk_passage, disk_stop, disk_plan, disk_steps, disk_faults, disk_tells};
 
     /// A disk of three empty files, unarmed. Its call number k fails where k is in `fails`; calls of `len`, `read`,
     /// `write_at`, `cut` and `sync` are counted, from 1. A call that fails by its number changes no file.
     pub fn new(alloc: Global, fails: &[u64]) -> Result<MemDisk, NoMemory>
         ensures files { IfOk result (λ disk. now_of disk ≡ no_files) }
         ensures synced { IfOk result (λ disk. last_synced disk ≡ no_files) }
+        ensures settled { IfOk result (λ disk. Only no_files (disk_may_leave disk)) }
+        ensures tells { IfOk result (λ disk. disk_tells disk ≡ true) }
         ensures fails { IfOk result (λ disk. IsFresh fails.now (disk_plan disk)) }
         ensures stop { IfOk result (λ disk. disk_stop disk ≡ Unarmed) }
         ensures steps { IfOk result (λ disk. disk_steps disk ≡ 0) }
@@ -133,7 +154,22 @@ impl MemDisk {
         Ok(MemDisk {
             files: MemFiles::new(alloc),
             calls: MemCalls::new(alloc, fails)?,
+            moments: Moments::new(),
         })
+    }
+
+    /// Begins a call that changes a file, and says whether it passes. The moment before it is then an earlier one.
+    fn begin_change(&mut self) -> Passage
+        ensures passage { result ≡ disk_passage self.old }
+        ensures cause { HasCause (disk_faults self.old) (disk_faults self.new) (result ≢ Passage.Passes) }
+        ensures files { self.new.files ≡ self.old.files }
+        ensures moments { self.new.moments.earlier ≡ moment_of self.old ∷ self.old.moments.earlier }
+        ensures steps { disk_steps self.new ≡ disk_steps self.old + 1 }
+        ensures stop { disk_stop self.new ≡ after_change (disk_stop self.old) }
+        ensures plan { disk_plan self.new ≡ after_call (disk_plan self.old) }
+    {
+        self.moments = self.moments.next(&self.files);
+        self.calls.begin_change()
     }
 
     /// Ends a changing call that passed, and failed only for want of memory.
@@ -142,6 +178,7 @@ impl MemDisk {
         ensures err { OnErr done (result ≡ DiskEnd.Failed) }
         ensures cause { HasCause (disk_faults self.old) (disk_faults self.new) (result ≡ DiskEnd.Failed) }
         ensures files { self.new.files ≡ self.old.files }
+        ensures moments { self.new.moments ≡ self.old.moments }
         ensures steps { disk_steps self.new ≡ disk_steps self.old }
         ensures stop { disk_stop self.new ≡ disk_stop self.old }
         ensures plan { disk_plan self.new ≡ disk_plan self.old }
@@ -160,7 +197,9 @@ impl Disk for MemDisk {
     ghost use Rattle.disk_base.specs.Plan.{after_call};
     ghost use Rattle.disk_base.specs.MemCalls.{after_change};
     ghost use Rattle.disk_base.specs.MemDisk.{now_of, last_synced, disk_room, disk_stop, disk_plan, disk_steps, disk_faults};
+    ghost use Rattle.disk_base.specs.MemDisk.{disk_may_leave, disk_left_since, disk_tells};
     ghost use Rattle.disk_base.specs.MemDisk.{disk_fails, disk_passage, done_unless, known_unless, end_of, FailsUnlessPassed, FailedWrite};
+    ghost use Rattle.disk_base.specs.MemLaws.{counts_now, only_now, may_be_read};
 
     ghost files = { λ disk. Some (now_of disk) };
 
@@ -170,11 +209,25 @@ impl Disk for MemDisk {
 
     ghost faults = { disk_faults };
 
+    ghost tells = { disk_tells };
+
+    ghost may_leave = { disk_may_leave };
+
+    ghost left_since = { disk_left_since };
+
+    ghost counts_now = { counts_now };
+
+    ghost only_now = { only_now };
+
+    ghost may_be_read = { may_be_read };
+
     fn len(&mut self, f: FileNo) -> LenEnd
         ensures length { OnKnown result (λ n. n ≡ length (file_of (now_of self.old) f)) }
         ensures files { OnKnown result (λ _. Some (now_of self.new) ≡ Some (now_of self.old)) }
         ensures room { KeepsRoom (disk_room self.old) (disk_room self.new) }
         ensures steps { disk_steps self.new ≡ disk_steps self.old }
+        ensures crash { LeavesSame (disk_may_leave self.old) (disk_may_leave self.new) (disk_left_since self.old) (disk_left_since self.new) }
+        ensures tells { disk_tells self.new ≡ disk_tells self.old }
         ensures cause { HasCause (disk_faults self.old) (disk_faults self.new) (result ≡ LenEnd.Failed) }
         ensures exact { result ≡ known_unless (disk_fails self.old) (length (file_of (now_of self.old) f)) }
         ensures unchanged { now_of self.new ≡ now_of self.old }
@@ -193,6 +246,8 @@ impl Disk for MemDisk {
         ensures files { Some (now_of self.new) ≡ Some (now_of self.old) }
         ensures room { KeepsRoom (disk_room self.old) (disk_room self.new) }
         ensures steps { disk_steps self.new ≡ disk_steps self.old }
+        ensures crash { LeavesSame (disk_may_leave self.old) (disk_may_leave self.new) (disk_left_since self.old) (disk_left_since self.new) }
+        ensures tells { disk_tells self.new ≡ disk_tells self.old }
         ensures faults { disk_faults self.new ≡ disk_faults self.old }
         ensures synced { last_synced self.new ≡ last_synced self.old }
         ensures stop { disk_stop self.new ≡ disk_stop self.old }
@@ -211,6 +266,8 @@ impl Disk for MemDisk {
         ensures files { OnDone result (Some (now_of self.new) ≡ Some (now_of self.old)) }
         ensures room { KeepsRoom (disk_room self.old) (disk_room self.new) }
         ensures steps { disk_steps self.new ≡ disk_steps self.old }
+        ensures crash { LeavesSame (disk_may_leave self.old) (disk_may_leave self.new) (disk_left_since self.old) (disk_left_since self.new) }
+        ensures tells { disk_tells self.new ≡ disk_tells self.old }
         ensures cause { HasCause (disk_faults self.old) (disk_faults self.new) (result ≡ DiskEnd.Failed) }
         ensures exact { result ≡ done_unless (disk_fails self.old) }
         ensures unchanged { now_of self.new ≡ now_of self.old }
@@ -232,6 +289,9 @@ impl Disk for MemDisk {
             ≡ Some (with_file (now_of self.old) f (laid (file_of (now_of self.old) f) at bytes.now))) }
         ensures room { KeepsRoom (disk_room self.old) (disk_room self.new) }
         ensures steps { disk_steps self.new ≡ disk_steps self.old + 1 }
+        ensures crash { Follows (InFile f (Torn at (length bytes.now))) (disk_may_leave self.old) (disk_may_leave self.new) }
+        ensures time { Elapses (disk_steps self.old) (disk_left_since self.old) (disk_left_since self.new) (disk_may_leave self.new) }
+        ensures tells { disk_tells self.new ≡ disk_tells self.old }
         ensures cause { HasCause (disk_faults self.old) (disk_faults self.new) (result ≡ DiskEnd.Failed) }
         ensures fails { FailsUnlessPassed (disk_passage self.old) result }
         ensures failed { FailedWrite (disk_passage self.old) result (now_of self.old) (now_of self.new)
@@ -240,7 +300,7 @@ impl Disk for MemDisk {
         ensures stop { disk_stop self.new ≡ after_change (disk_stop self.old) }
         ensures counted { disk_plan self.new ≡ after_call (disk_plan self.old) }
     {
-        let passage = self.calls.begin_change();
+        let passage = self.begin_change();
         if passage == Passage::Fails {
             return DiskEnd::Failed;
         }
@@ -257,6 +317,9 @@ impl Disk for MemDisk {
             ≡ Some (with_file (now_of self.old) f (take len (file_of (now_of self.old) f)))) }
         ensures room { KeepsRoom (disk_room self.old) (disk_room self.new) }
         ensures steps { disk_steps self.new ≡ disk_steps self.old + 1 }
+        ensures crash { Follows (InFile f (CutShort len)) (disk_may_leave self.old) (disk_may_leave self.new) }
+        ensures time { Elapses (disk_steps self.old) (disk_left_since self.old) (disk_left_since self.new) (disk_may_leave self.new) }
+        ensures tells { disk_tells self.new ≡ disk_tells self.old }
         ensures cause { HasCause (disk_faults self.old) (disk_faults self.new) (result ≡ DiskEnd.Failed) }
         ensures fails { FailsUnlessPassed (disk_passage self.old) result }
         ensures failed { result ≡ DiskEnd.Failed → now_of self.new ≡ now_of self.old }
@@ -264,7 +327,7 @@ impl Disk for MemDisk {
         ensures stop { disk_stop self.new ≡ after_change (disk_stop self.old) }
         ensures counted { disk_plan self.new ≡ after_call (disk_plan self.old) }
     {
-        if self.calls.begin_change() != Passage::Passes {
+        if self.begin_change() != Passage::Passes {
             return DiskEnd::Failed;
         }
         let cut = self.files.cut(f, len);
@@ -275,6 +338,10 @@ impl Disk for MemDisk {
         ensures files { OnDone result (Some (now_of self.new) ≡ Some (now_of self.old)) }
         ensures room { KeepsRoom (disk_room self.old) (disk_room self.new) }
         ensures steps { disk_steps self.new ≡ disk_steps self.old + 1 }
+        ensures durable { OnDone result (OnlyIn f (file_of (now_of self.old) f) (disk_may_leave self.new)) }
+        ensures crash { Narrows (disk_may_leave self.old) (disk_may_leave self.new) }
+        ensures time { Elapses (disk_steps self.old) (disk_left_since self.old) (disk_left_since self.new) (disk_may_leave self.new) }
+        ensures tells { disk_tells self.new ≡ disk_tells self.old }
         ensures cause { HasCause (disk_faults self.old) (disk_faults self.new) (result ≡ DiskEnd.Failed) }
         ensures exact { result ≡ end_of (disk_passage self.old) }
         ensures unchanged { now_of self.new ≡ now_of self.old }
@@ -284,7 +351,8 @@ impl Disk for MemDisk {
         ensures stop { disk_stop self.new ≡ after_change (disk_stop self.old) }
         ensures counted { disk_plan self.new ≡ after_call (disk_plan self.old) }
     {
-        if self.calls.begin_change() != Passage::Passes {
+        let passage = self.begin_change();
+        if passage != Passage::Passes {
             return DiskEnd::Failed;
         }
         self.files.sync(f);
@@ -295,6 +363,7 @@ impl Disk for MemDisk {
 impl StopDisk for MemDisk {
     ghost use Rattle.disk_base.specs.MemCalls.{fill_left};
     ghost use Rattle.disk_base.specs.MemDisk.{now_of, last_synced, disk_room, disk_stop, disk_plan, disk_steps, disk_faults, IsLeftBy};
+    ghost use Rattle.disk_base.specs.MemDisk.{disk_may_leave, disk_left_since, disk_tells};
 
     ghost stop = { disk_stop };
 
@@ -303,6 +372,8 @@ impl StopDisk for MemDisk {
         ensures files { Some (now_of self.new) ≡ Some (now_of self.old) }
         ensures room { KeepsRoom (disk_room self.old) (disk_room self.new) }
         ensures steps { disk_steps self.new ≡ disk_steps self.old }
+        ensures crash { LeavesSame (disk_may_leave self.old) (disk_may_leave self.new) (disk_left_since self.old) (disk_left_since self.new) }
+        ensures tells { disk_tells self.new ≡ disk_tells self.old }
         ensures faults { disk_faults self.new ≡ disk_faults self.old }
         ensures synced { last_synced self.new ≡ last_synced self.old }
         ensures counted { disk_plan self.new ≡ disk_plan self.old }
@@ -318,11 +389,16 @@ impl StopDisk for MemDisk {
         ensures unarmed { disk_stop self.new ≡ Unarmed }
         ensures steps { disk_steps self.new ≡ disk_steps self.old }
         ensures faults { disk_faults self.new ≡ disk_faults self.old }
-        ensures left { IsLeftBy (fill_left (disk_stop self.old)) self.old (now_of self.new) }
+        ensures left { disk_may_leave self.old (now_of self.new) × Only (now_of self.new) (disk_may_leave self.new) }
+        ensures told { disk_tells self.old ≡ true → IsSome (Some (now_of self.new)) }
+        ensures tells { disk_tells self.new ≡ disk_tells self.old }
+        ensures room { (f : FileNo) → length (file_of (now_of self.new) f) ≤ disk_room self.new f }
+        ensures exact { IsLeftBy (fill_left (disk_stop self.old)) self.old (now_of self.new) }
         ensures synced { last_synced self.new ≡ now_of self.new }
         ensures counted { disk_plan self.new ≡ disk_plan self.old }
     {
         let fill = self.calls.disarm();
         self.files.revive(fill);
+        self.moments = Moments::new();
     }
 }

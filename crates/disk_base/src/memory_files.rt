@@ -1,18 +1,12 @@
 //! One file of a disk in memory.
 ghost use Rattle.std.specs.Prelude.{◌≡◌, ◌+◌, ◌<◌, ◌≤◌, [], ◌∷◌, ◌++◌, length, take, drop, OnOk, OnErr, IsSome};
 ghost use Rattle.disk_base.specs.Files.{laid};
-ghost use Rattle.disk_base.specs.MemFile.{bytes_of, synced_of, written_of, room_of, IsLeft, IsFilled};
+ghost use Rattle.disk_base.specs.Touches.{MayBe, IsFilled, kept_or};
 
 use crate::Fill;
+use crate::touches::Touch;
 use std::alloc::Global;
 use ubik_types::NoMemory;
-
-/// A range of positions, without its end.
-#[derive(Clone, Copy)]
-pub(crate) struct Span {
-    from: usize,
-    to: usize,
-}
 
 /// The bytes of a file, and what it was when it was last synced.
 #[derive(Drop)]
@@ -21,25 +15,30 @@ pub(crate) struct MemFile {
     bytes: Vec<u8>,
     /// The bytes as last synced, kept from the first change after that on.
     synced: Option<Vec<u8>>,
-    /// The ranges that were written since.
-    written: Vec<Span>,
+    /// The changing calls since, in their order.
+    touches: Vec<Touch>,
     /// How many bytes have room.
     room: u64,
+    ghost may_be: { MayBe (kept_or synced bytes.items) touches.items bytes.items },
+    ghost has_room: { length bytes.items ≤ room },
+    ghost synced_has_room: { length (kept_or synced bytes.items) ≤ room },
 }
 
 impl MemFile {
+    ghost use Rattle.disk_base.specs.MemFile.{bytes_of, synced_of, touches_of, room_of, IsLeft};
+
     /// An empty file without room.
     pub(crate) fn new(alloc: Global) -> MemFile
         ensures bytes { bytes_of result ≡ [] }
         ensures synced { synced_of result ≡ [] }
-        ensures written { written_of result ≡ [] }
+        ensures touches { touches_of result ≡ [] }
         ensures room { room_of result ≡ 0 }
     {
         MemFile {
             alloc,
             bytes: Vec::new(alloc),
             synced: None,
-            written: Vec::new(alloc),
+            touches: Vec::new(alloc),
             room: 0,
         }
     }
@@ -56,7 +55,7 @@ impl MemFile {
         ensures room { room_of self.old ≤ room_of self.new }
         ensures bytes { bytes_of self.new ≡ bytes_of self.old }
         ensures synced { synced_of self.new ≡ synced_of self.old }
-        ensures written { written_of self.new ≡ written_of self.old }
+        ensures touches { touches_of self.new ≡ touches_of self.old }
     {
         if self.room < len {
             let missing = (len as usize).saturating_sub(self.bytes.len());
@@ -79,7 +78,7 @@ impl MemFile {
         ensures bytes { bytes_of self.new ≡ bytes_of self.old }
         ensures synced { synced_of self.new ≡ synced_of self.old }
         ensures room { room_of self.new ≡ room_of self.old }
-        ensures written { written_of self.new ≡ written_of self.old }
+        ensures touches { touches_of self.new ≡ touches_of self.old }
         ensures kept { OnOk result (IsSome self.new.synced) }
     {
         if self.synced.is_none() {
@@ -88,25 +87,24 @@ impl MemFile {
         Ok(())
     }
 
-    /// Lays bytes over the file from a position on. For want of memory its bytes stay.
+    /// Lays bytes over the file from a position on. For want of memory it stays.
     pub(crate) fn write_at(&mut self, at: u64, bytes: &[u8]) -> Result<(), NoMemory>
-        requires { at ≤ length (bytes_of self.old) }
+        requires begins { at ≤ length (bytes_of self.old) }
+        requires fits { at + length bytes.now ≤ room_of self.old }
         ensures ok { OnOk result (bytes_of self.new ≡ laid (bytes_of self.old) at bytes.now) }
         ensures err { OnErr result (bytes_of self.new ≡ bytes_of self.old) }
-        ensures marked { OnOk result (written_of self.new
-            ≡ written_of self.old ++ record { from = at; to = at + length bytes.now } ∷ []) }
-        ensures unmarked { OnErr result (written_of self.new ≡ written_of self.old) }
+        ensures marked { OnOk result (touches_of self.new
+            ≡ touches_of self.old ++ Touch.Wrote at (length bytes.now) ∷ []) }
+        ensures unmarked { OnErr result (touches_of self.new ≡ touches_of self.old) }
         ensures synced { synced_of self.new ≡ synced_of self.old }
         ensures room { room_of self.new ≡ room_of self.old }
     {
         self.keep_synced()?;
-        let from = at as usize;
-        self.written.reserve(1)?;
-        lay(&mut self.bytes, from, bytes)?;
-        let _ = self.written.push(Span {
-            from,
-            to: from + bytes.len(),
-        });
+        self.touches.reserve(1)?;
+        let at = at as usize;
+        lay(&mut self.bytes, at, bytes)?;
+        let len = bytes.len();
+        let _ = self.touches.push(Touch::Wrote { at, len });
         Ok(())
     }
 
@@ -114,12 +112,15 @@ impl MemFile {
     pub(crate) fn cut(&mut self, len: u64) -> Result<(), NoMemory>
         ensures ok { OnOk result (bytes_of self.new ≡ take len (bytes_of self.old)) }
         ensures err { OnErr result (bytes_of self.new ≡ bytes_of self.old) }
-        ensures written { written_of self.new ≡ written_of self.old }
+        ensures marked { OnOk result (touches_of self.new ≡ touches_of self.old ++ Touch.Cut len ∷ []) }
+        ensures unmarked { OnErr result (touches_of self.new ≡ touches_of self.old) }
         ensures synced { synced_of self.new ≡ synced_of self.old }
         ensures room { room_of self.new ≡ room_of self.old }
     {
         self.keep_synced()?;
-        self.bytes.truncate(len as usize);
+        let len = len as usize;
+        self.touches.push(Touch::Cut { len })?;
+        self.bytes.truncate(len);
         Ok(())
     }
 
@@ -127,18 +128,18 @@ impl MemFile {
     pub(crate) fn sync(&mut self)
         ensures bytes { bytes_of self.new ≡ bytes_of self.old }
         ensures synced { synced_of self.new ≡ bytes_of self.old }
-        ensures written { written_of self.new ≡ [] }
+        ensures touches { touches_of self.new ≡ [] }
         ensures room { room_of self.new ≡ room_of self.old }
     {
         self.synced = None;
-        self.written.clear();
+        self.touches.clear();
     }
 
     /// What a stop leaves becomes what a read gives and what was last synced.
     pub(crate) fn revive(&mut self, fill: Fill)
         ensures left { IsLeft fill self.old (bytes_of self.new) }
         ensures synced { synced_of self.new ≡ bytes_of self.new }
-        ensures written { written_of self.new ≡ [] }
+        ensures touches { touches_of self.new ≡ [] }
         ensures room { room_of self.new ≡ room_of self.old }
     {
         match fill {
@@ -148,7 +149,7 @@ impl MemFile {
                 }
             }
             Fill::New => {}
-            Fill::Byte(byte) => fill_all(&mut self.bytes, &self.written, byte),
+            Fill::Byte(byte) => fill_all(&mut self.bytes, &self.touches, byte),
         }
         self.sync();
     }
@@ -166,20 +167,29 @@ fn lay(file: &mut Vec<u8>, at: usize, bytes: &[u8]) -> Result<(), NoMemory>
     Ok(())
 }
 
-/// Writes the byte into each position of the file that one of the ranges covers.
-fn fill_all(file: &mut [u8], spans: &[Span], byte: u8)
-    ensures { IsFilled byte spans.now file.old file.new }
+/// Writes the byte into each position of the file that one of the changing calls wrote.
+fn fill_all(file: &mut [u8], touches: &[Touch], byte: u8)
+    ensures { IsFilled byte touches.now file.old file.new }
 {
-    for span in spans {
-        fill_span(file, *span, byte);
+    for touch in touches {
+        fill_touch(file, *touch, byte);
     }
 }
 
-/// Writes the byte into each position of the file that the range covers.
-fn fill_span(file: &mut [u8], span: Span, byte: u8)
-    ensures { IsFilled byte (span ∷ []) file.old file.new }
+/// Writes the byte into each position of the file that the changing call wrote.
+fn fill_touch(file: &mut [u8], touch: Touch, byte: u8)
+    ensures { IsFilled byte (touch ∷ []) file.old file.new }
 {
-    for at in span.from..span.to.min(file.len()) {
+    if let Touch::Wrote { at, len } = touch {
+        fill_from(file, at, len, byte);
+    }
+}
+
+/// Writes the byte into so many positions from one on, as far as the file goes.
+fn fill_from(file: &mut [u8], start: usize, len: usize, byte: u8)
+    ensures { IsFilled byte (Touch.Wrote start len ∷ []) file.old file.new }
+{
+    for at in start..file.len().min(start.saturating_add(len)) {
         file[at] = byte;
     }
 }

@@ -2,13 +2,13 @@
 ghost use Rattle.std.specs.Prelude.{◌≡◌, ◌+◌, ◌<◌, ◌^◌, IfOk, length};
 
 use crate::{
-    Disk, DiskEnd, FileNo, Fill, Got, LenEnd, MemDisk, MemSink, MemSource, ReaderSource, RoomEnd,
-    Sink, Source, StopDisk, WriterSink, Wrote,
+    Disk, DiskEnd, FileDisk, FileNo, Fill, Got, LenEnd, MemDisk, MemSink, MemSource, ReaderSource,
+    RoomEnd, Sink, Source, StopDisk, WriterSink, Wrote,
 };
 use std::alloc::Global;
-use std::io;
 use std::process::Abort;
 use std::test::Fail;
+use std::{env, fs, io, process};
 
 /// Reads two bytes at most, again and again, and compares how each read ends.
 fn expect_reads<S: Source>(rt: &impl Abort, source: &mut S, wanted: &[(Got, [u8; 2])]) {
@@ -28,21 +28,27 @@ fn expect_writes<K: Sink>(rt: &impl Abort, sink: &mut K, bytes: &[u8], wanted: &
     }
 }
 
-/// Writes with the room that it takes.
-fn put<D: Disk>(rt: &impl Abort, disk: &mut D, f: FileNo, at: u64, bytes: &[u8]) -> DiskEnd
+/// Writes from a position on, or at the end of a shorter file, with the room that it takes.
+pub(crate) fn put<D: Disk>(
+    rt: &impl Abort,
+    disk: &mut D,
+    f: FileNo,
+    at: u64,
+    bytes: &[u8],
+) -> DiskEnd
     requires { at + length bytes.now < 2 ^ 32 }
 {
     let len = match disk.len(f) {
         LenEnd::Known(len) => len,
         LenEnd::Failed => return DiskEnd::Failed,
     };
-    assert!(rt; at <= len);
+    let at = at.min(len);
     assert_eq!(rt; disk.reserve(f, at + bytes.len() as u64), RoomEnd::Done);
     disk.write_at(f, at, bytes)
 }
 
 /// Compares what a read of the whole file gives.
-fn expect_file<D: Disk>(
+pub(crate) fn expect_file<D: Disk>(
     rt: &impl Abort,
     alloc: Global,
     disk: &mut D,
@@ -225,5 +231,46 @@ fn the_forms_in_memory_go_to_other_threads(rt: HostRuntime) -> Result<(), Fail> 
     crosses(&MemDisk::new(rt.alloc(), &[])?);
     crosses(&MemSource::new(rt.alloc(), b"", &[])?);
     crosses(&MemSink::new(rt.alloc(), &[])?);
+    Ok(())
+}
+
+/// Writes, syncs, cuts and reads back.
+fn expect_kept<D: Disk>(rt: &impl Abort, alloc: Global, disk: &mut D) -> Result<(), Fail> {
+    assert_eq!(rt; put(rt, disk, FileNo::Log, 0, b"abcd"), DiskEnd::Done);
+    assert_eq!(rt; put(rt, disk, FileNo::Log, 3, b"XYZ"), DiskEnd::Done);
+    assert_eq!(rt; put(rt, disk, FileNo::Database, 0, b"12"), DiskEnd::Done);
+    assert_eq!(rt; disk.sync(FileNo::Log), DiskEnd::Done);
+    expect_file(rt, alloc, disk, FileNo::Log, b"abcXYZ")?;
+    expect_cut(rt, disk, FileNo::Log, 5);
+    expect_file(rt, alloc, disk, FileNo::Log, b"abcXY")?;
+    expect_file(rt, alloc, disk, FileNo::Database, b"12")?;
+    expect_file(rt, alloc, disk, FileNo::Incoming, b"")
+}
+
+/// Cuts a file that is long enough.
+fn expect_cut<D: Disk>(rt: &impl Abort, disk: &mut D, f: FileNo, len: u64) {
+    if let LenEnd::Known(known) = disk.len(f) {
+        assert!(rt; len <= known);
+        assert_eq!(rt; disk.cut(f, len), DiskEnd::Done);
+    }
+}
+
+#[test]
+fn a_folder_keeps_what_was_written(rt: HostRuntime) -> Result<(), Fail> {
+    let name = format!(in rt.alloc(); "disk_base-{}", process::id(rt.process()))?;
+    let folder = env::temp_dir(&rt)?.join(rt.alloc(), name.as_str())?;
+    let folder = folder.into_string();
+    let _ = fs::remove_dir_all(&rt, folder.as_str());
+    fs::create_dir(&rt, folder.as_str())?;
+    let mut disk = FileDisk::open(&rt, folder.as_str())?;
+    crosses(&disk);
+    expect_kept(&rt, rt.alloc(), &mut disk)?;
+    let mut again = FileDisk::open(&rt, folder.as_str())?;
+    expect_file(&rt, rt.alloc(), &mut again, FileNo::Log, b"abcXY")?;
+    expect_file(&rt, rt.alloc(), &mut again, FileNo::Database, b"12")?;
+    let mut buf = [0; 3];
+    assert_eq!(rt; again.read(FileNo::Database, 1, &mut buf), DiskEnd::Failed);
+    fs::remove_dir_all(&rt, folder.as_str())?;
+    assert!(rt; FileDisk::open(&rt, folder.as_str()).is_err());
     Ok(())
 }

@@ -1,7 +1,7 @@
 use Rattle.std.proofs.Common.{take}
-use Rattle.disk_base.specs.MemFile.{IsFilled}
+use Rattle.disk_base.specs.Touches.{IsFilled}
 use Rattle.disk_base.proofs.memory_files.fill_all.Given as goal
 
--- the ranges before this one are written
-abbrev pub invariant-loop-span : goal.invariant-loop-span
-invariant-loop-span l = IsFilled l.byte (take l.span-index l.spans) l.initial.file l.file
+-- the changing calls before this one are filled
+abbrev pub invariant-loop-touch : goal.invariant-loop-touch
+invariant-loop-touch l = IsFilled l.byte (take l.touch-index l.touches) l.initial.file l.file

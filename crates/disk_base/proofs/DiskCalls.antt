@@ -1,0 +1,149 @@
+-- What the calls of a disk in memory do to what a crash may leave of its files.
+use Rattle.std.proofs.Common.{◌≡◌, Result, Ok, Err, OnOk, OnErr, ℕ, ◌≤◌, List, [], length, subst, sym, ap, ◌∙◌, refl, arith}
+use Rattle.std.proofs.lemmas.List.{ext_get_or}
+use Rattle.disk_base.specs.declared.disks.FileNo.{FileNo}
+use Rattle.disk_base.specs.declared.disks.FileNo.TheVariants.{Database, Log, Incoming}
+use Rattle.disk_base.specs.declared.disks.Fill.{Fill}
+use Rattle.disk_base.specs.declared.disks.Fill.TheVariants.{Old, New, Byte}
+use Rattle.disk_base.specs.declared.memory_files.MemFile.{MemFile}
+use Rattle.disk_base.specs.declared.memory_disks.MemFiles.{MemFiles}
+use Rattle.disk_base.specs.declared.touches.Touch.{Touch}
+use Rattle.disk_base.specs.declared.touches.Touch.TheVariants.{Wrote, Cut}
+use Rattle.disk_base.specs.Files.{Files, file_of, with_file}
+use Rattle.disk_base.specs.Crash.{Torn, CutShort, InFile, Follows, Only, OnlyIn}
+use Rattle.disk_base.specs.Touches.{MayBe}
+use Rattle.disk_base.specs.MemFile.{bytes_of, synced_of, touches_of, IsLeft}
+use Rattle.disk_base.specs.Moments.{FileState, Moment, MayLeave, state_of, with_state, touched, at_rest, all_at_rest}
+use Rattle.disk_base.specs.MemDisk.{now_in, moment_in, IsLeftOf}
+use Rattle.disk_base.proofs.Touched.{MayBe-synced, MayBe-filled}
+use Rattle.disk_base.proofs.Idle.{Torn-idle, CutShort-idle, Follows-idle}
+use Rattle.disk_base.proofs.Left.{torn-left, cut-left}
+
+-- what may be left of a file after a call that takes each of these states to this one
+Steps : (List ℕ → List ℕ → Type 0) → FileState → FileState → Type 0
+Steps step old new = (c : List ℕ) → MayBe new.synced new.touches c → (d : List ℕ) × MayBe old.synced old.touches d × step d c
+
+-- a call that changes one file
+follows : (step : List ℕ → List ℕ → Type 0) (moment : Moment) (f : FileNo) (state : FileState) → Steps step (state_of moment f) state
+    → Follows (InFile f step) (MayLeave moment) (MayLeave (with_state moment f state))
+unfolding Steps
+follows step moment Database state steps = λ c left.
+    let r = steps c.database left.database in
+    (record c { database = r.0 }, record { database = r.1; log = left.log; incoming = left.incoming }, (refl, r.2))
+follows step moment Log state steps = λ c left.
+    let r = steps c.log left.log in
+    (record c { log = r.0 }, record { database = left.database; log = r.1; incoming = left.incoming }, (refl, r.2))
+follows step moment Incoming state steps = λ c left.
+    let r = steps c.incoming left.incoming in
+    (record c { incoming = r.0 }, record { database = left.database; log = left.log; incoming = r.1 }, (refl, r.2))
+
+-- the bytes of a file may be left of it
+may_be_of : (files : MemFiles) (f : FileNo) → MayBe (state_of (moment_in files) f).synced (state_of (moment_in files) f).touches (file_of (now_in files) f)
+may_be_of files Database = files.database.may_be
+may_be_of files Log = files.log.may_be
+may_be_of files Incoming = files.incoming.may_be
+
+write-follows : (files : MemFiles) (f : FileNo) (at len : ℕ) → at ≤ length (file_of (now_in files) f)
+    → Follows (InFile f (Torn at len)) (MayLeave (moment_in files)) (MayLeave (with_state (moment_in files) f (touched (state_of (moment_in files) f) (Wrote at len))))
+unfolding Steps
+write-follows files f at len begins =
+    let state = state_of (moment_in files) f in
+    follows (Torn at len) (moment_in files) f (touched state (Wrote at len))
+    (λ c left. torn-left state.synced state.touches at len c (omega (arith, begins, (may_be_of files f).no_longer)) left)
+
+cut-follows : (files : MemFiles) (f : FileNo) (len : ℕ)
+    → Follows (InFile f (CutShort len)) (MayLeave (moment_in files)) (MayLeave (with_state (moment_in files) f (touched (state_of (moment_in files) f) (Cut len))))
+unfolding Steps
+cut-follows files f len =
+    let state = state_of (moment_in files) f in
+    follows (CutShort len) (moment_in files) f (touched state (Cut len))
+    (λ c left. cut-left state.synced state.touches len c left)
+
+-- a call that is done, or finds no memory
+module _ (step : List ℕ → List ℕ → Type 0) (idle : (bytes : List ℕ) → step bytes bytes) (touch : Touch) (f : FileNo) where
+  done_or_not : (old new : MemFiles) {T E : Type 0} (result : Result T E)
+      → Follows (InFile f step) (MayLeave (moment_in old)) (MayLeave (with_state (moment_in old) f (touched (state_of (moment_in old) f) touch)))
+      → OnOk result (moment_in new ≡ with_state (moment_in old) f (touched (state_of (moment_in old) f) touch))
+      → OnErr result (moment_in new ≡ moment_in old)
+      → Follows (InFile f step) (MayLeave (moment_in old)) (MayLeave (moment_in new))
+  done_or_not old new (Ok v) done is same =
+      subst (λ (m : Moment). Follows (InFile f step) (MayLeave (moment_in old)) (MayLeave m)) (sym is) done
+  done_or_not old new (Err e) done is same =
+      subst (λ (m : Moment). Follows (InFile f step) (MayLeave (moment_in old)) (MayLeave m)) (sym same) (Follows-idle step idle (MayLeave (moment_in old)) f)
+
+  called : (old begun new : MemFiles) {T E : Type 0} (result : Result T E)
+      → Follows (InFile f step) (MayLeave (moment_in old)) (MayLeave (with_state (moment_in old) f (touched (state_of (moment_in old) f) touch)))
+      → begun ≡ old
+      → OnOk result (moment_in new ≡ with_state (moment_in begun) f (touched (state_of (moment_in begun) f) touch))
+      → OnErr result (moment_in new ≡ moment_in begun)
+      → Follows (InFile f step) (MayLeave (moment_in old)) (MayLeave (moment_in new))
+  called old begun new result done same ok err =
+      done_or_not old new result done
+      (subst (λ (x : MemFiles). OnOk result (moment_in new ≡ with_state (moment_in x) f (touched (state_of (moment_in x) f) touch))) same ok)
+      (subst (λ (x : MemFiles). OnErr result (moment_in new ≡ moment_in x)) same err)
+
+pub Follows-write : (old begun new : MemFiles) (f : FileNo) (at len : ℕ) {T E : Type 0} (result : Result T E) → at ≤ length (file_of (now_in old) f) → begun ≡ old
+    → OnOk result (moment_in new ≡ with_state (moment_in begun) f (touched (state_of (moment_in begun) f) (Wrote at len)))
+    → OnErr result (moment_in new ≡ moment_in begun)
+    → Follows (InFile f (Torn at len)) (MayLeave (moment_in old)) (MayLeave (moment_in new))
+Follows-write old begun new f at len result begins same ok err =
+    called (Torn at len) (Torn-idle at len) (Wrote at len) f old begun new result (write-follows old f at len begins) same ok err
+
+pub Follows-cut : (old begun new : MemFiles) (f : FileNo) (len : ℕ) {T E : Type 0} (result : Result T E) → begun ≡ old
+    → OnOk result (moment_in new ≡ with_state (moment_in begun) f (touched (state_of (moment_in begun) f) (Cut len)))
+    → OnErr result (moment_in new ≡ moment_in begun)
+    → Follows (InFile f (CutShort len)) (MayLeave (moment_in old)) (MayLeave (moment_in new))
+Follows-cut old begun new f len result same ok err =
+    called (CutShort len) (CutShort-idle len) (Cut len) f old begun new result (cut-follows old f len) same ok err
+
+-- of a file at rest its bytes alone may be left
+only-rest : (bytes c : List ℕ) → MayBe bytes [] c → c ≡ bytes
+only-rest bytes c left =
+    let low = left.no_shorter in
+    let high = left.no_longer in
+    ext_get_or 0 c bytes (omega arith) (λ k h. left.untouched k h refl)
+
+only_in_rest : (moment : Moment) (f : FileNo) (bytes : List ℕ) → OnlyIn f bytes (MayLeave (with_state moment f (at_rest bytes)))
+only_in_rest moment Database bytes = λ c left. only-rest bytes c.database left.database
+only_in_rest moment Log bytes = λ c left. only-rest bytes c.log left.log
+only_in_rest moment Incoming bytes = λ c left. only-rest bytes c.incoming left.incoming
+
+-- a sync that was done
+pub OnlyIn-synced : (old files new : MemFiles) (f : FileNo) → files ≡ old
+    → moment_in new ≡ with_state (moment_in files) f (at_rest (file_of (now_in files) f))
+    → OnlyIn f (file_of (now_in old) f) (MayLeave (moment_in new))
+OnlyIn-synced old files new f same is =
+    subst (λ (m : Moment). OnlyIn f (file_of (now_in old) f) (MayLeave m))
+    (ap (λ (x : MemFiles). with_state (moment_in x) f (at_rest (file_of (now_in x) f))) (sym same) ∙ sym is)
+    (only_in_rest (moment_in old) f (file_of (now_in old) f))
+
+-- files whose three contents are the same
+same_files : (c fs : Files) → c.database ≡ fs.database → c.log ≡ fs.log → c.incoming ≡ fs.incoming → c ≡ fs
+same_files c fs database log incoming =
+    ap (λ (bytes : List ℕ). with_file c Database bytes) database
+    ∙ ap (λ (bytes : List ℕ). with_file (with_file c Database fs.database) Log bytes) log
+    ∙ ap (λ (bytes : List ℕ). with_file fs Incoming bytes) incoming
+
+pub Only-rest : (fs : Files) → Only fs (MayLeave (all_at_rest fs))
+Only-rest fs = λ c left.
+    same_files c fs (only-rest fs.database c.database left.database) (only-rest fs.log c.log left.log)
+    (only-rest fs.incoming c.incoming left.incoming)
+
+-- what a stop leaves of a file may be left of it
+left-by : (fill : Fill) (file : MemFile) (after : List ℕ) → IsLeft fill file after → MayBe (synced_of file) (touches_of file) after
+left-by Old file after is = subst (MayBe (synced_of file) (touches_of file)) (sym is) (MayBe-synced (synced_of file) (touches_of file))
+left-by New file after is = subst (MayBe (synced_of file) (touches_of file)) (sym is) file.may_be
+left-by (Byte byte) file after is = MayBe-filled byte (synced_of file) (touches_of file) (bytes_of file) after file.may_be is
+
+MayLeave-left : (fill : Fill) (files : MemFiles) (after : Files) → IsLeftOf fill files after → MayLeave (moment_in files) after
+MayLeave-left fill files after is = record {
+  database = left-by fill files.database after.database is.database;
+  log = left-by fill files.log after.log is.log;
+  incoming = left-by fill files.incoming after.incoming is.incoming;
+}
+
+-- what a stop leaves, and what a crash may leave once it is all synced
+pub left-alone : (fill : Fill) (old new : MemFiles) → IsLeftOf fill old (now_in new) → moment_in new ≡ all_at_rest (now_in new)
+    → MayLeave (moment_in old) (now_in new) × Only (now_in new) (MayLeave (moment_in new))
+left-alone fill old new left rest =
+    (MayLeave-left fill old (now_in new) left, subst (λ (m : Moment). Only (now_in new) (MayLeave m)) (sym rest) (Only-rest (now_in new)))
