@@ -96,9 +96,11 @@ pub trait Disk {
         ensures tells { tells self.new ≡ tells self.old }
         ensures cause { HasCause (faults self.old) (faults self.new) (result ≡ LenEnd.Failed) };
 
-    /// Makes room for the first `len` bytes of a file. For want of memory nothing changes.
+    /// Makes room for the first `len` bytes of a file. It takes no memory where there is room. For want of memory
+    /// nothing changes.
     fn reserve(&mut self, f: FileNo, len: u64) -> RoomEnd
         ensures reserved { result ≡ RoomEnd.Done → len ≤ room self.new f }
+        ensures no_memory { result ≡ RoomEnd.NoMemory → room self.old f < len }
         ensures files { files self.new ≡ files self.old }
         ensures room { KeepsRoom (room self.old) (room self.new) }
         ensures steps { steps self.new ≡ steps self.old }

@@ -51,6 +51,7 @@ impl MemFiles {
 
     fn reserve(&mut self, f: FileNo, len: u64) -> Result<(), NoMemory>
         ensures reserved { OnOk result (len ≤ room_in self.new f) }
+        ensures no_memory { OnErr result (room_in self.old f < len) }
         ensures now { now_in self.new ≡ now_in self.old }
         ensures synced { synced_in self.new ≡ synced_in self.old }
         ensures moment { moment_in self.new ≡ moment_in self.old }
@@ -243,6 +244,7 @@ impl Disk for MemDisk {
 
     fn reserve(&mut self, f: FileNo, len: u64) -> RoomEnd
         ensures reserved { result ≡ RoomEnd.Done → len ≤ disk_room self.new f }
+        ensures no_memory { result ≡ RoomEnd.NoMemory → disk_room self.old f < len }
         ensures files { Some (now_of self.new) ≡ Some (now_of self.old) }
         ensures room { KeepsRoom (disk_room self.old) (disk_room self.new) }
         ensures steps { disk_steps self.new ≡ disk_steps self.old }

@@ -52,6 +52,7 @@ impl MemFile {
     /// Takes memory for the first `len` bytes.
     pub(crate) fn reserve(&mut self, len: u64) -> Result<(), NoMemory>
         ensures reserved { OnOk result (len ≤ room_of self.new) }
+        ensures no_memory { OnErr result (room_of self.old < len) }
         ensures room { room_of self.old ≤ room_of self.new }
         ensures bytes { bytes_of self.new ≡ bytes_of self.old }
         ensures synced { synced_of self.new ≡ synced_of self.old }
