@@ -1,3 +1,4 @@
 pub mod Fronts
+pub mod Gates
 pub mod OneReading
 pub mod WholeLogs

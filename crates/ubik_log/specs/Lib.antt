@@ -1,3 +1,4 @@
+pub mod Gate
 pub mod Laws
 pub mod LogGrammar
 pub mod Reading

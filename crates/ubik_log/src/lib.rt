@@ -10,7 +10,10 @@ mod states;
 mod writers;
 
 pub use codec::{encode_log, parse_log};
-pub use laws::{closed_gate_is_discarded, log_has_one_reading, no_log_begins_another};
+pub use laws::{
+    closed_gate_is_discarded, gate_decides, log_has_one_reading, no_log_begins_another,
+    short_log_is_discarded, zero_word_is_discarded,
+};
 pub use states::LogState;
 
 #[cfg(test)]
