@@ -1,4 +1,5 @@
 pub mod Gate
 pub mod Laws
+pub mod LogFile
 pub mod LogGrammar
 pub mod Reading
