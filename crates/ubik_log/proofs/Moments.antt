@@ -1,7 +1,7 @@
 -- How a run of disk calls goes on, and what runs in a row leave.
-use Rattle.std.proofs.Common.{inl, inr, ⊎_elim, ℕ, arith}
+use Rattle.std.proofs.Common.{◌≡◌, inl, inr, ⊎_elim, ℕ, arith}
 use Rattle.disk_base.specs.Files.{Files}
-use Rattle.disk_base.specs.Crash.{LeavesOnly}
+use Rattle.disk_base.specs.Crash.{LeavesOnly, LeavesSame}
 
 module _ {D : Type 0} (steps : D → ℕ) (left_since : D → ℕ → Files → Type 0) where
   -- a run leaves what has P, which is what has Q
@@ -10,4 +10,21 @@ module _ {D : Type 0} (steps : D → ℕ) (left_since : D → ℕ → Files → 
     later = run.later;
     each = λ c left. wider c (run.each c left);
     before = λ t c le left. ⊎_elim (λ past. inl past) (λ here. inr (wider c here)) (run.before t c le left);
+  }
+
+  -- one run after another
+  pub joined : (old mid new : D) (P : Files → Type 0) → LeavesOnly steps left_since old mid P → LeavesOnly steps left_since mid new P → LeavesOnly steps left_since old new P
+  joined old mid new P first second = record {
+    later = omega (arith, first.later, second.later);
+    each = λ c left. ⊎_elim (first.each c) (λ here. here) (second.before (steps old) c first.later left);
+    before = λ t c le left. ⊎_elim (first.before t c le) (λ here. inr here) (second.before t c (omega (arith, le, first.later)) left);
+  }
+
+  -- a call that changes no file
+  pub rested : (old new : D) (P before now : Files → Type 0) → steps new ≡ steps old → LeavesSame before now (left_since old) (left_since new)
+      → ((c : Files) → left_since old (steps old) c → before c) → ((c : Files) → before c → P c) → LeavesOnly steps left_since old new P
+  rested old new P before now same rest only here = record {
+    later = omega (arith, same);
+    each = λ c left. here c (only c (rest.since_no_more (steps old) c left));
+    before = λ t c le left. inl (rest.since_no_more t c left);
   }

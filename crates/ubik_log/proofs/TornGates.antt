@@ -1,12 +1,12 @@
 -- What a crash in the write of one byte at the gate leaves.
-use Rattle.std.proofs.Common.{◌≡◌, ◌⊎◌, inl, inr, ℕ, List, [], ◌∷◌, ◌++◌, length, get_or, take, drop, sym, ap, ◌∙◌, subst, arith, take-append-drop}
+use Rattle.std.proofs.Common.{◌≡◌, ◌⊎◌, inl, inr, ℕ, List, [], ◌∷◌, ◌++◌, length, get_or, take, drop, sym, ap, ◌∙◌, arith, take-append-drop}
 use Rattle.std.proofs.lemmas.Bool.{cases_lt}
 use Rattle.std.proofs.lemmas.List.{take_all, drop_more, append_assoc}
 use Rattle.disk_base.specs.declared.disks.FileNo.TheVariants.{Log}
 use Rattle.disk_base.specs.Files.{Files}
 use Rattle.disk_base.specs.Crash.{Torn, InFile}
 use Rattle.ubik_log.specs.Gate.{with_gate}
-use Rattle.ubik_log.specs.LogFile.{with_log, gate_set, HasAnyGate, After}
+use Rattle.ubik_log.specs.LogFile.{with_log, HasAnyGate, After}
 
 torn_gate : (old new : List ℕ) → Torn 3 1 old new → (new ≡ old) ⊎ ((byte : ℕ) × (new ≡ with_gate byte old))
 torn_gate old new torn = elim (cases_lt (length new) 4) [

@@ -2,6 +2,7 @@
 use Rattle.std.specs.Prelude.{◌≡◌, ◌⊎◌, ℕ, List}
 use Rattle.disk_base.specs.Files.{Files}
 use Rattle.ubik_log.specs.Gate.{with_gate}
+use Rattle.ubik_log.specs.LogGrammar.{IsDiscarded}
 
 -- the files with another log
 abbrev pub with_log : List ℕ → Files → Files
@@ -14,6 +15,10 @@ gate_set byte fs = with_log (with_gate byte fs.log) fs
 -- the files are as they were, or there is some byte at the gate of the log
 abbrev pub HasAnyGate : Files → Files → Type 0
 HasAnyGate before after = (after ≡ before) ⊎ ((byte : ℕ) × (after ≡ gate_set byte before))
+
+-- the log is a discarded one, and the other files are as they were
+abbrev pub HasDiscarded : Files → Files → Type 0
+HasDiscarded before after = IsDiscarded after.log × (after ≡ with_log after.log before)
 
 -- files that a crash might have left before, after a step
 abbrev pub After : (Files → Files → Type 0) → (Files → Type 0) → Files → Type 0

@@ -1,13 +1,17 @@
 //! The log file of a disk.
-ghost use Rattle.std.specs.Prelude.{◌≡◌, ◌+◌, ◌≤◌, [], ◌∷◌, length, IfSome, IsErrOf, OnOk};
+ghost use Rattle.std.specs.Prelude.{◌≡◌, ◌+◌, ◌<◌, ◌≤◌, [], ◌∷◌, length, IfOk, IfSome, IsErrOf, OnOk};
 ghost use Rattle.std.specs.Option.{option_map};
 ghost use Rattle.disk_base.specs.Count.{HasCause};
-ghost use Rattle.disk_base.specs.Crash.{Torn, InFile, Follows, OnlyIn, IsSettled, LeavesOnly};
-ghost use Rattle.disk_base.specs.Files.{laid, OnDone, KeepsRoom};
-ghost use Rattle.ubik_log.specs.Gate.{with_gate};
-ghost use Rattle.ubik_log.specs.LogFile.{with_log, gate_set, HasAnyGate, After};
+ghost use Rattle.disk_base.specs.Crash.{Torn, InFile, Follows, OnlyIn, IsSettled, LeavesOnly, LeavesSame};
+ghost use Rattle.disk_base.specs.Files.{Files, laid, OnDone, KeepsRoom};
+ghost use Rattle.ubik_log.specs.Gate.{BeginsWithZero, closed, with_gate};
+ghost use Rattle.ubik_log.specs.LogFile.{with_log, gate_set, HasAnyGate, HasDiscarded, After};
+ghost use Rattle.ubik_log.specs.Reading.{IsStateOf};
 
-use disk_base::{Disk, DiskEnd, FileNo};
+use crate::codec::parse_log;
+use crate::states::LogState;
+use disk_base::{Disk, DiskEnd, FileNo, LenEnd, RoomEnd};
+use std::alloc::Global;
 use thiserror::Error;
 
 /// Why a call on the log file did not succeed.
@@ -20,6 +24,34 @@ pub enum LogFault {
     #[error("out of memory")]
     NoMemory,
 }
+
+/// Reads the log file, and says what stands there. It is read whole: a log may say any number of changes, so no
+/// length is too long for one.
+pub fn read_log<D: Disk>(alloc: Global, disk: &mut D) -> Result<LogState, LogFault>
+    ensures state { IfOk result (λ state. IfSome (D.files disk.old) (λ fs. IsStateOf fs.log state)) }
+    ensures files { OnOk result (D.files disk.new ≡ D.files disk.old) }
+    ensures no_memory { IsErrOf result LogFault.NoMemory → D.files disk.new ≡ D.files disk.old }
+    ensures room { KeepsRoom (D.room disk.old) (D.room disk.new) }
+    ensures steps { D.steps disk.new ≡ D.steps disk.old }
+    ensures crash { LeavesSame (D.may_leave disk.old) (D.may_leave disk.new) (D.left_since disk.old) (D.left_since disk.new) }
+    ensures tells { D.tells disk.new ≡ D.tells disk.old }
+    ensures cause { HasCause (D.faults disk.old) (D.faults disk.new) (IsErrOf result LogFault.DiskFault) }
+{
+    let len = match disk.len(FileNo::Log) {
+        LenEnd::Known(len) => len as usize,
+        LenEnd::Failed => return Err(LogFault::DiskFault),
+    };
+    let Ok(mut log) = vec![in alloc; 0u8; len] else {
+        return Err(LogFault::NoMemory);
+    };
+    if let DiskEnd::Failed = disk.read(FileNo::Log, 0, &mut log) {
+        return Err(LogFault::DiskFault);
+    }
+    parse_log(alloc, &log).map_err(|_| LogFault::NoMemory)
+}
+
+/// The length of LOGNEW, the first word.
+const WORD: usize = 4;
 
 /// The place of the gate: the last byte of LOGNEW.
 const GATE: u64 = 3;
@@ -48,6 +80,62 @@ fn put_synced<D: Disk>(disk: &mut D, at: u64, bytes: &[u8]) -> DiskEnd
     }
 }
 
+/// Writes a log over the empty log file, first its first word as zero, and then the rest behind that word.
+fn put_closed<D: Disk>(disk: &mut D, log: &[u8]) -> DiskEnd
+    requires header { 4 ≤ length log.now }
+    requires empty { IfSome (D.files disk.old) (λ fs. fs.log ≡ []) }
+    requires fits { length log.now ≤ D.room disk.old FileNo.Log }
+    ensures kept { OnDone result (D.files disk.new ≡ option_map (with_log (closed log.now)) (D.files disk.old)) }
+    ensures durable { OnDone result (IfSome (D.files disk.old) (λ _. Follows (λ d c. c ≡ with_log (closed log.now) d) (D.may_leave disk.old) (D.may_leave disk.new))) }
+    ensures moments { IfSome (D.files disk.old) (λ _. OnlyIn FileNo.Log [] (D.may_leave disk.old)
+        → LeavesOnly D.steps D.left_since disk.old disk.new (After HasDiscarded (D.may_leave disk.old))) }
+    ensures since_sync { IfSome (D.files disk.old) (λ _. D.steps disk.old + 3 ≤ D.steps disk.new
+        → (c : Files) → D.left_since disk.new (D.steps disk.old + 2) c → BeginsWithZero c.log) }
+    ensures steps { OnDone result (D.steps disk.new ≡ D.steps disk.old + 4) }
+    ensures fewer { D.steps disk.new ≤ D.steps disk.old + 4 }
+    ensures room { KeepsRoom (D.room disk.old) (D.room disk.new) }
+    ensures tells { D.tells disk.new ≡ D.tells disk.old }
+    ensures cause { HasCause (D.faults disk.old) (D.faults disk.new) (result ≡ DiskEnd.Failed) }
+{
+    let (_, rest) = log.split_at(WORD);
+    match put_synced(disk, 0, &[0; WORD]) {
+        DiskEnd::Done => put_synced(disk, WORD as u64, rest),
+        DiskEnd::Failed => DiskEnd::Failed,
+    }
+}
+
+/// Puts a log with a closed gate into the empty log file. It makes the room of the whole log first: for want of
+/// memory nothing changes.
+pub fn keep_log<D: Disk>(disk: &mut D, log: &[u8]) -> Result<(), LogFault>
+    requires header { 4 ≤ length log.now }
+    requires empty { IfSome (D.files disk.old) (λ fs. fs.log ≡ []) }
+    ensures kept { OnOk result (D.files disk.new ≡ option_map (with_log (closed log.now)) (D.files disk.old)) }
+    ensures durable { OnOk result (IfSome (D.files disk.old) (λ _. Follows (λ d c. c ≡ with_log (closed log.now) d) (D.may_leave disk.old) (D.may_leave disk.new))) }
+    ensures moments { IfSome (D.files disk.old) (λ _. OnlyIn FileNo.Log [] (D.may_leave disk.old)
+        → LeavesOnly D.steps D.left_since disk.old disk.new (After HasDiscarded (D.may_leave disk.old))) }
+    ensures since_sync { IfSome (D.files disk.old) (λ _. D.steps disk.old + 3 ≤ D.steps disk.new
+        → (c : Files) → D.left_since disk.new (D.steps disk.old + 2) c → BeginsWithZero c.log) }
+    ensures settled { OnOk result (IsSettled (D.files disk.old) (D.may_leave disk.old) → IsSettled (D.files disk.new) (D.may_leave disk.new)) }
+    ensures steps { OnOk result (D.steps disk.new ≡ D.steps disk.old + 4) }
+    ensures fewer { D.steps disk.new ≤ D.steps disk.old + 4 }
+    ensures room { KeepsRoom (D.room disk.old) (D.room disk.new) }
+    ensures reserved { OnOk result (length log.now ≤ D.room disk.new FileNo.Log) }
+    ensures tells { D.tells disk.new ≡ D.tells disk.old }
+    ensures cause { HasCause (D.faults disk.old) (D.faults disk.new) (IsErrOf result LogFault.DiskFault) }
+    ensures no_memory { IsErrOf result LogFault.NoMemory → D.room disk.old FileNo.Log < length log.now }
+    ensures unchanged { IsErrOf result LogFault.NoMemory → (D.files disk.new ≡ D.files disk.old) × (D.steps disk.new ≡ D.steps disk.old)
+        × (D.faults disk.new ≡ D.faults disk.old)
+        × LeavesSame (D.may_leave disk.old) (D.may_leave disk.new) (D.left_since disk.old) (D.left_since disk.new) }
+{
+    if let RoomEnd::NoMemory = disk.reserve(FileNo::Log, log.len() as u64) {
+        return Err(LogFault::NoMemory);
+    }
+    match put_closed(disk, log) {
+        DiskEnd::Done => Ok(()),
+        DiskEnd::Failed => Err(LogFault::DiskFault),
+    }
+}
+
 /// Writes this byte at the gate, and syncs the log file.
 fn set_gate<D: Disk>(disk: &mut D, byte: u8) -> Result<(), LogFault>
     requires there { IfSome (D.files disk.old) (λ fs. 4 ≤ length fs.log) }
@@ -62,7 +150,7 @@ fn set_gate<D: Disk>(disk: &mut D, byte: u8) -> Result<(), LogFault>
     ensures room { KeepsRoom (D.room disk.old) (D.room disk.new) }
     ensures tells { D.tells disk.new ≡ D.tells disk.old }
     ensures cause { HasCause (D.faults disk.old) (D.faults disk.new) (IsErrOf result LogFault.DiskFault) }
-    ensures memory { IsErrOf result LogFault.NoMemory → ⊥ }
+    ensures no_memory { IsErrOf result LogFault.NoMemory → ⊥ }
 {
     match put_synced(disk, GATE, &[byte]) {
         DiskEnd::Done => Ok(()),
@@ -84,7 +172,7 @@ pub fn open_gate<D: Disk>(disk: &mut D) -> Result<(), LogFault>
     ensures room { KeepsRoom (D.room disk.old) (D.room disk.new) }
     ensures tells { D.tells disk.new ≡ D.tells disk.old }
     ensures cause { HasCause (D.faults disk.old) (D.faults disk.new) (IsErrOf result LogFault.DiskFault) }
-    ensures memory { IsErrOf result LogFault.NoMemory → ⊥ }
+    ensures no_memory { IsErrOf result LogFault.NoMemory → ⊥ }
 {
     set_gate(disk, OPEN)
 }
@@ -103,7 +191,7 @@ pub fn close_gate<D: Disk>(disk: &mut D) -> Result<(), LogFault>
     ensures room { KeepsRoom (D.room disk.old) (D.room disk.new) }
     ensures tells { D.tells disk.new ≡ D.tells disk.old }
     ensures cause { HasCause (D.faults disk.old) (D.faults disk.new) (IsErrOf result LogFault.DiskFault) }
-    ensures memory { IsErrOf result LogFault.NoMemory → ⊥ }
+    ensures no_memory { IsErrOf result LogFault.NoMemory → ⊥ }
 {
     set_gate(disk, 0)
 }
