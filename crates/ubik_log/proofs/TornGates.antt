@@ -1,12 +1,16 @@
 -- What a crash in the write of one byte at the gate leaves.
-use Rattle.std.proofs.Common.{◌≡◌, ◌⊎◌, inl, inr, ℕ, List, [], ◌∷◌, ◌++◌, length, get_or, take, drop, sym, ap, ◌∙◌, arith, take-append-drop}
+use Rattle.std.proofs.Common.{◌≡◌, ◌⊎◌, inl, inr, ℕ, List, [], ◌∷◌, ◌++◌, length, get_or, take, drop, refl, sym, ap, ◌∙◌, subst, arith, take-append-drop}
 use Rattle.std.proofs.lemmas.Bool.{cases_lt}
-use Rattle.std.proofs.lemmas.List.{take_all, drop_more, append_assoc}
+use Rattle.std.proofs.lemmas.List.{take_all, take_at, drop_more, append_assoc}
 use Rattle.disk_base.specs.declared.disks.FileNo.TheVariants.{Log}
 use Rattle.disk_base.specs.Files.{Files}
-use Rattle.disk_base.specs.Crash.{Torn, InFile}
-use Rattle.ubik_log.specs.Gate.{with_gate}
-use Rattle.ubik_log.specs.LogFile.{with_log, HasAnyGate, After}
+use Rattle.disk_base.specs.Crash.{Torn, InFile, OnlyIn}
+use Rattle.ubik_types.specs.declared.images.Change.{Change}
+use Rattle.ubik_types.specs.declared.versions.Version.{Version}
+use Rattle.ubik_log.specs.LogGrammar.{field, IsCommitted, IsDiscarded}
+use Rattle.ubik_log.specs.Gate.{IsOpen, closed, with_gate}
+use Rattle.ubik_log.specs.LogFile.{with_log, HasAnyGate, HasLogOrNone, After}
+use Rattle.ubik_log.proofs.Gates.{zero_word_is_discarded, open_gate_decides, closed_log_decides}
 
 torn_gate : (old new : List ℕ) → Torn 3 1 old new → (new ≡ old) ⊎ ((byte : ℕ) × (new ≡ with_gate byte old))
 torn_gate old new torn = elim (cases_lt (length new) 4) [
@@ -26,3 +30,28 @@ any_gate d c step = elim (torn_gate d.log c.log step.1) [
 -- the gate of files that a crash might have left before
 pub left_gate : (before : Files → Type 0) (c : Files) → After (InFile Log (Torn 3 1)) before c → After HasAnyGate before c
 left_gate before c from = (from.0, from.1, any_gate from.0 c from.2)
+
+-- over a log that any byte at the gate leaves as a given one or discards, beside the other files
+gate_over : (kept log : List ℕ) → ((kept ≡ log) ⊎ IsDiscarded kept) → ((byte : ℕ) → (with_gate byte kept ≡ log) ⊎ IsDiscarded (with_gate byte kept))
+    → (before : Files → Type 0) → OnlyIn Log kept before → (c : Files) → After HasAnyGate before c → After (HasLogOrNone log) before c
+gate_over kept log as_it_was decides before only c from =
+    let is : from.0.log ≡ kept = only from.0 from.1 in
+    let IsEither : List ℕ → Type 0 = λ x. (x ≡ log) ⊎ IsDiscarded x in
+    elim from.2 [
+      | inl same ↦
+          let log_is : c.log ≡ from.0.log = ap (λ (f : Files). f.log) same in
+          (from.0, from.1, (subst IsEither (sym (log_is ∙ is)) as_it_was, same ∙ ap (λ (x : List ℕ). with_log x from.0) (sym log_is)))
+      | inr other ↦
+          let log_is : c.log ≡ with_gate other.0 from.0.log = ap (λ (f : Files). f.log) other.1 in
+          (from.0, from.1, (subst IsEither (sym (log_is ∙ ap (with_gate other.0) is)) (decides other.0), other.1 ∙ ap (λ (x : List ℕ). with_log x from.0) (sym log_is)))
+    ]
+
+-- a committed log that was kept closed
+pub either_kept : (log : List ℕ) (changes : List Change) (version : Version) → IsCommitted log changes version
+    → (before : Files → Type 0) → OnlyIn Log (closed log) before → (c : Files) → After HasAnyGate before c → After (HasLogOrNone log) before c
+either_kept log changes version committed =
+    gate_over (closed log) log (inr (zero_word_is_discarded (closed log) (take_at (field 0) (drop 4 log) 4 refl))) (λ byte. closed_log_decides log changes version byte committed)
+
+-- a log whose gate is open
+pub either_open : (log : List ℕ) → IsOpen log → (before : Files → Type 0) → OnlyIn Log log before → (c : Files) → After HasAnyGate before c → After (HasLogOrNone log) before c
+either_open log is_open = gate_over log log (inl refl) (λ byte. open_gate_decides log byte is_open)

@@ -1,11 +1,14 @@
 //! The log file of a disk.
-ghost use Rattle.std.specs.Prelude.{◌≡◌, ◌+◌, ◌<◌, ◌≤◌, [], ◌∷◌, length, IfOk, IfSome, IsErrOf, OnOk};
+ghost use Rattle.std.specs.Prelude.{◌≡◌, ◌+◌, ◌<◌, ◌≤◌, [], ◌∷◌, ℕ, List, length, IfOk, IfSome, IsErrOf, OnOk};
 ghost use Rattle.std.specs.Option.{option_map};
 ghost use Rattle.disk_base.specs.Count.{HasCause};
 ghost use Rattle.disk_base.specs.Crash.{Torn, InFile, Follows, OnlyIn, IsSettled, LeavesOnly, LeavesSame};
 ghost use Rattle.disk_base.specs.Files.{Files, laid, OnDone, KeepsRoom};
-ghost use Rattle.ubik_log.specs.Gate.{BeginsWithZero, closed, with_gate};
-ghost use Rattle.ubik_log.specs.LogFile.{with_log, gate_set, HasAnyGate, HasDiscarded, After};
+ghost use Rattle.ubik_types.specs.declared.images.Change.{Change};
+ghost use Rattle.ubik_types.specs.declared.versions.Version.{Version};
+ghost use Rattle.ubik_log.specs.Gate.{IsOpen, BeginsWithZero, closed, with_gate};
+ghost use Rattle.ubik_log.specs.LogGrammar.{IsCommitted};
+ghost use Rattle.ubik_log.specs.LogFile.{with_log, gate_set, HasAnyGate, HasDiscarded, HasLogOrNone, After, RisesAtMost};
 ghost use Rattle.ubik_log.specs.Reading.{IsStateOf};
 
 use crate::codec::parse_log;
@@ -24,6 +27,15 @@ pub enum LogFault {
     #[error("out of memory")]
     NoMemory,
 }
+
+/// The length of LOGNEW, the first word.
+const WORD: usize = 4;
+
+/// The place of the gate: the last byte of LOGNEW.
+const GATE: u64 = 3;
+
+/// The byte of an open gate.
+const OPEN: u8 = 0x64;
 
 /// Reads the log file, and says what stands there. It is read whole: a log may say any number of changes, so no
 /// length is too long for one.
@@ -50,14 +62,80 @@ pub fn read_log<D: Disk>(alloc: Global, disk: &mut D) -> Result<LogState, LogFau
     parse_log(alloc, &log).map_err(|_| LogFault::NoMemory)
 }
 
-/// The length of LOGNEW, the first word.
-const WORD: usize = 4;
+/// Puts a log with a closed gate into the empty log file. It makes the room of the whole log first: for want of
+/// memory nothing changes.
+pub fn keep_log<D: Disk>(disk: &mut D, log: &[u8]) -> Result<(), LogFault>
+    requires header { 4 ≤ length log.now }
+    requires empty { IfSome (D.files disk.old) (λ fs. fs.log ≡ []) }
+    ensures kept { OnOk result (D.files disk.new ≡ option_map (with_log (closed log.now)) (D.files disk.old)) }
+    ensures durable { OnOk result (IfSome (D.files disk.old) (λ _. Follows (λ d c. c ≡ with_log (closed log.now) d) (D.may_leave disk.old) (D.may_leave disk.new))) }
+    ensures moments { IfSome (D.files disk.old) (λ _. OnlyIn FileNo.Log [] (D.may_leave disk.old)
+        → LeavesOnly D.steps D.left_since disk.old disk.new (After HasDiscarded (D.may_leave disk.old))) }
+    ensures since_sync { IfSome (D.files disk.old) (λ _. D.steps disk.old + 3 ≤ D.steps disk.new
+        → (c : Files) → D.left_since disk.new (D.steps disk.old + 2) c → BeginsWithZero c.log) }
+    ensures settled { OnOk result (IsSettled (D.files disk.old) (D.may_leave disk.old) → IsSettled (D.files disk.new) (D.may_leave disk.new)) }
+    ensures steps { OnOk result (D.steps disk.new ≡ D.steps disk.old + 4) }
+    ensures at_most { RisesAtMost 4 (D.steps disk.old) (D.steps disk.new) }
+    ensures room { KeepsRoom (D.room disk.old) (D.room disk.new) }
+    ensures reserved { OnOk result (length log.now ≤ D.room disk.new FileNo.Log) }
+    ensures tells { D.tells disk.new ≡ D.tells disk.old }
+    ensures cause { HasCause (D.faults disk.old) (D.faults disk.new) (IsErrOf result LogFault.DiskFault) }
+    ensures no_memory { IsErrOf result LogFault.NoMemory → D.room disk.old FileNo.Log < length log.now }
+    ensures unchanged { IsErrOf result LogFault.NoMemory → (D.files disk.new ≡ D.files disk.old) × (D.steps disk.new ≡ D.steps disk.old)
+        × (D.faults disk.new ≡ D.faults disk.old)
+        × LeavesSame (D.may_leave disk.old) (D.may_leave disk.new) (D.left_since disk.old) (D.left_since disk.new) }
+{
+    if let RoomEnd::NoMemory = disk.reserve(FileNo::Log, log.len() as u64) {
+        return Err(LogFault::NoMemory);
+    }
+    match put_closed(disk, log) {
+        DiskEnd::Done => Ok(()),
+        DiskEnd::Failed => Err(LogFault::DiskFault),
+    }
+}
 
-/// The place of the gate: the last byte of LOGNEW.
-const GATE: u64 = 3;
+/// Opens the gate of the log: a kept log is committed once this is `Ok`.
+pub fn open_gate<D: Disk>(disk: &mut D) -> Result<(), LogFault>
+    requires there { IfSome (D.files disk.old) (λ fs. 4 ≤ length fs.log) }
+    requires fits { 4 ≤ D.room disk.old FileNo.Log }
+    ensures gate { OnOk result (D.files disk.new ≡ option_map (gate_set 100) (D.files disk.old)) }
+    ensures durable { OnOk result (IfSome (D.files disk.old) (λ fs. OnlyIn FileNo.Log (with_gate 100 fs.log) (D.may_leave disk.new))) }
+    ensures left { OnOk result (IfSome (D.files disk.old) (λ _. Follows (λ d c. c ≡ gate_set 100 d) (D.may_leave disk.old) (D.may_leave disk.new))) }
+    ensures settled { OnOk result (IsSettled (D.files disk.old) (D.may_leave disk.old) → IsSettled (D.files disk.new) (D.may_leave disk.new)) }
+    ensures moments { LeavesOnly D.steps D.left_since disk.old disk.new (After HasAnyGate (D.may_leave disk.old)) }
+    ensures either { (log : List ℕ) (changes : List Change) (version : Version) → IsCommitted log changes version
+        → OnlyIn FileNo.Log (closed log) (D.may_leave disk.old)
+        → LeavesOnly D.steps D.left_since disk.old disk.new (After (HasLogOrNone log) (D.may_leave disk.old)) }
+    ensures steps { OnOk result (D.steps disk.new ≡ D.steps disk.old + 2) }
+    ensures at_most { RisesAtMost 2 (D.steps disk.old) (D.steps disk.new) }
+    ensures room { KeepsRoom (D.room disk.old) (D.room disk.new) }
+    ensures tells { D.tells disk.new ≡ D.tells disk.old }
+    ensures cause { HasCause (D.faults disk.old) (D.faults disk.new) (IsErrOf result LogFault.DiskFault) }
+    ensures no_memory { IsErrOf result LogFault.NoMemory → ⊥ }
+{
+    set_gate(disk, OPEN)
+}
 
-/// The byte of an open gate.
-const OPEN: u8 = 0x64;
+/// Closes the gate of the log: a log that is read after this is discarded.
+pub fn close_gate<D: Disk>(disk: &mut D) -> Result<(), LogFault>
+    requires there { IfSome (D.files disk.old) (λ fs. 4 ≤ length fs.log) }
+    requires fits { 4 ≤ D.room disk.old FileNo.Log }
+    ensures gate { OnOk result (D.files disk.new ≡ option_map (gate_set 0) (D.files disk.old)) }
+    ensures durable { OnOk result (IfSome (D.files disk.old) (λ fs. OnlyIn FileNo.Log (with_gate 0 fs.log) (D.may_leave disk.new))) }
+    ensures left { OnOk result (IfSome (D.files disk.old) (λ _. Follows (λ d c. c ≡ gate_set 0 d) (D.may_leave disk.old) (D.may_leave disk.new))) }
+    ensures settled { OnOk result (IsSettled (D.files disk.old) (D.may_leave disk.old) → IsSettled (D.files disk.new) (D.may_leave disk.new)) }
+    ensures moments { LeavesOnly D.steps D.left_since disk.old disk.new (After HasAnyGate (D.may_leave disk.old)) }
+    ensures either { (log : List ℕ) → IsOpen log → OnlyIn FileNo.Log log (D.may_leave disk.old)
+        → LeavesOnly D.steps D.left_since disk.old disk.new (After (HasLogOrNone log) (D.may_leave disk.old)) }
+    ensures steps { OnOk result (D.steps disk.new ≡ D.steps disk.old + 2) }
+    ensures at_most { RisesAtMost 2 (D.steps disk.old) (D.steps disk.new) }
+    ensures room { KeepsRoom (D.room disk.old) (D.room disk.new) }
+    ensures tells { D.tells disk.new ≡ D.tells disk.old }
+    ensures cause { HasCause (D.faults disk.old) (D.faults disk.new) (IsErrOf result LogFault.DiskFault) }
+    ensures no_memory { IsErrOf result LogFault.NoMemory → ⊥ }
+{
+    set_gate(disk, 0)
+}
 
 /// Writes bytes over the log file from a position on, and syncs it.
 fn put_synced<D: Disk>(disk: &mut D, at: u64, bytes: &[u8]) -> DiskEnd
@@ -69,7 +147,7 @@ fn put_synced<D: Disk>(disk: &mut D, at: u64, bytes: &[u8]) -> DiskEnd
     ensures moments { LeavesOnly D.steps D.left_since disk.old disk.new
         (After (InFile FileNo.Log (Torn at (length bytes.now))) (D.may_leave disk.old)) }
     ensures steps { OnDone result (D.steps disk.new ≡ D.steps disk.old + 2) }
-    ensures fewer { D.steps disk.new ≤ D.steps disk.old + 2 }
+    ensures at_most { RisesAtMost 2 (D.steps disk.old) (D.steps disk.new) }
     ensures room { KeepsRoom (D.room disk.old) (D.room disk.new) }
     ensures tells { D.tells disk.new ≡ D.tells disk.old }
     ensures cause { HasCause (D.faults disk.old) (D.faults disk.new) (result ≡ DiskEnd.Failed) }
@@ -92,7 +170,7 @@ fn put_closed<D: Disk>(disk: &mut D, log: &[u8]) -> DiskEnd
     ensures since_sync { IfSome (D.files disk.old) (λ _. D.steps disk.old + 3 ≤ D.steps disk.new
         → (c : Files) → D.left_since disk.new (D.steps disk.old + 2) c → BeginsWithZero c.log) }
     ensures steps { OnDone result (D.steps disk.new ≡ D.steps disk.old + 4) }
-    ensures fewer { D.steps disk.new ≤ D.steps disk.old + 4 }
+    ensures at_most { RisesAtMost 4 (D.steps disk.old) (D.steps disk.new) }
     ensures room { KeepsRoom (D.room disk.old) (D.room disk.new) }
     ensures tells { D.tells disk.new ≡ D.tells disk.old }
     ensures cause { HasCause (D.faults disk.old) (D.faults disk.new) (result ≡ DiskEnd.Failed) }
@@ -101,38 +179,6 @@ fn put_closed<D: Disk>(disk: &mut D, log: &[u8]) -> DiskEnd
     match put_synced(disk, 0, &[0; WORD]) {
         DiskEnd::Done => put_synced(disk, WORD as u64, rest),
         DiskEnd::Failed => DiskEnd::Failed,
-    }
-}
-
-/// Puts a log with a closed gate into the empty log file. It makes the room of the whole log first: for want of
-/// memory nothing changes.
-pub fn keep_log<D: Disk>(disk: &mut D, log: &[u8]) -> Result<(), LogFault>
-    requires header { 4 ≤ length log.now }
-    requires empty { IfSome (D.files disk.old) (λ fs. fs.log ≡ []) }
-    ensures kept { OnOk result (D.files disk.new ≡ option_map (with_log (closed log.now)) (D.files disk.old)) }
-    ensures durable { OnOk result (IfSome (D.files disk.old) (λ _. Follows (λ d c. c ≡ with_log (closed log.now) d) (D.may_leave disk.old) (D.may_leave disk.new))) }
-    ensures moments { IfSome (D.files disk.old) (λ _. OnlyIn FileNo.Log [] (D.may_leave disk.old)
-        → LeavesOnly D.steps D.left_since disk.old disk.new (After HasDiscarded (D.may_leave disk.old))) }
-    ensures since_sync { IfSome (D.files disk.old) (λ _. D.steps disk.old + 3 ≤ D.steps disk.new
-        → (c : Files) → D.left_since disk.new (D.steps disk.old + 2) c → BeginsWithZero c.log) }
-    ensures settled { OnOk result (IsSettled (D.files disk.old) (D.may_leave disk.old) → IsSettled (D.files disk.new) (D.may_leave disk.new)) }
-    ensures steps { OnOk result (D.steps disk.new ≡ D.steps disk.old + 4) }
-    ensures fewer { D.steps disk.new ≤ D.steps disk.old + 4 }
-    ensures room { KeepsRoom (D.room disk.old) (D.room disk.new) }
-    ensures reserved { OnOk result (length log.now ≤ D.room disk.new FileNo.Log) }
-    ensures tells { D.tells disk.new ≡ D.tells disk.old }
-    ensures cause { HasCause (D.faults disk.old) (D.faults disk.new) (IsErrOf result LogFault.DiskFault) }
-    ensures no_memory { IsErrOf result LogFault.NoMemory → D.room disk.old FileNo.Log < length log.now }
-    ensures unchanged { IsErrOf result LogFault.NoMemory → (D.files disk.new ≡ D.files disk.old) × (D.steps disk.new ≡ D.steps disk.old)
-        × (D.faults disk.new ≡ D.faults disk.old)
-        × LeavesSame (D.may_leave disk.old) (D.may_leave disk.new) (D.left_since disk.old) (D.left_since disk.new) }
-{
-    if let RoomEnd::NoMemory = disk.reserve(FileNo::Log, log.len() as u64) {
-        return Err(LogFault::NoMemory);
-    }
-    match put_closed(disk, log) {
-        DiskEnd::Done => Ok(()),
-        DiskEnd::Failed => Err(LogFault::DiskFault),
     }
 }
 
@@ -146,7 +192,7 @@ fn set_gate<D: Disk>(disk: &mut D, byte: u8) -> Result<(), LogFault>
     ensures settled { OnOk result (IsSettled (D.files disk.old) (D.may_leave disk.old) → IsSettled (D.files disk.new) (D.may_leave disk.new)) }
     ensures moments { LeavesOnly D.steps D.left_since disk.old disk.new (After HasAnyGate (D.may_leave disk.old)) }
     ensures steps { OnOk result (D.steps disk.new ≡ D.steps disk.old + 2) }
-    ensures fewer { D.steps disk.new ≤ D.steps disk.old + 2 }
+    ensures at_most { RisesAtMost 2 (D.steps disk.old) (D.steps disk.new) }
     ensures room { KeepsRoom (D.room disk.old) (D.room disk.new) }
     ensures tells { D.tells disk.new ≡ D.tells disk.old }
     ensures cause { HasCause (D.faults disk.old) (D.faults disk.new) (IsErrOf result LogFault.DiskFault) }
@@ -156,42 +202,4 @@ fn set_gate<D: Disk>(disk: &mut D, byte: u8) -> Result<(), LogFault>
         DiskEnd::Done => Ok(()),
         DiskEnd::Failed => Err(LogFault::DiskFault),
     }
-}
-
-/// Opens the gate of the log: a kept log is committed once this is `Ok`.
-pub fn open_gate<D: Disk>(disk: &mut D) -> Result<(), LogFault>
-    requires there { IfSome (D.files disk.old) (λ fs. 4 ≤ length fs.log) }
-    requires fits { 4 ≤ D.room disk.old FileNo.Log }
-    ensures gate { OnOk result (D.files disk.new ≡ option_map (gate_set 100) (D.files disk.old)) }
-    ensures durable { OnOk result (IfSome (D.files disk.old) (λ fs. OnlyIn FileNo.Log (with_gate 100 fs.log) (D.may_leave disk.new))) }
-    ensures left { OnOk result (IfSome (D.files disk.old) (λ _. Follows (λ d c. c ≡ gate_set 100 d) (D.may_leave disk.old) (D.may_leave disk.new))) }
-    ensures settled { OnOk result (IsSettled (D.files disk.old) (D.may_leave disk.old) → IsSettled (D.files disk.new) (D.may_leave disk.new)) }
-    ensures moments { LeavesOnly D.steps D.left_since disk.old disk.new (After HasAnyGate (D.may_leave disk.old)) }
-    ensures steps { OnOk result (D.steps disk.new ≡ D.steps disk.old + 2) }
-    ensures fewer { D.steps disk.new ≤ D.steps disk.old + 2 }
-    ensures room { KeepsRoom (D.room disk.old) (D.room disk.new) }
-    ensures tells { D.tells disk.new ≡ D.tells disk.old }
-    ensures cause { HasCause (D.faults disk.old) (D.faults disk.new) (IsErrOf result LogFault.DiskFault) }
-    ensures no_memory { IsErrOf result LogFault.NoMemory → ⊥ }
-{
-    set_gate(disk, OPEN)
-}
-
-/// Closes the gate of the log: a log that is read after this is discarded.
-pub fn close_gate<D: Disk>(disk: &mut D) -> Result<(), LogFault>
-    requires there { IfSome (D.files disk.old) (λ fs. 4 ≤ length fs.log) }
-    requires fits { 4 ≤ D.room disk.old FileNo.Log }
-    ensures gate { OnOk result (D.files disk.new ≡ option_map (gate_set 0) (D.files disk.old)) }
-    ensures durable { OnOk result (IfSome (D.files disk.old) (λ fs. OnlyIn FileNo.Log (with_gate 0 fs.log) (D.may_leave disk.new))) }
-    ensures left { OnOk result (IfSome (D.files disk.old) (λ _. Follows (λ d c. c ≡ gate_set 0 d) (D.may_leave disk.old) (D.may_leave disk.new))) }
-    ensures settled { OnOk result (IsSettled (D.files disk.old) (D.may_leave disk.old) → IsSettled (D.files disk.new) (D.may_leave disk.new)) }
-    ensures moments { LeavesOnly D.steps D.left_since disk.old disk.new (After HasAnyGate (D.may_leave disk.old)) }
-    ensures steps { OnOk result (D.steps disk.new ≡ D.steps disk.old + 2) }
-    ensures fewer { D.steps disk.new ≤ D.steps disk.old + 2 }
-    ensures room { KeepsRoom (D.room disk.old) (D.room disk.new) }
-    ensures tells { D.tells disk.new ≡ D.tells disk.old }
-    ensures cause { HasCause (D.faults disk.old) (D.faults disk.new) (IsErrOf result LogFault.DiskFault) }
-    ensures no_memory { IsErrOf result LogFault.NoMemory → ⊥ }
-{
-    set_gate(disk, 0)
 }
