@@ -19,4 +19,6 @@ pub use laws::{
 pub use states::LogState;
 
 #[cfg(test)]
+mod disk_tests;
+#[cfg(test)]
 mod tests;
