@@ -1,4 +1,5 @@
-//! The log file of a disk.
+//! The log file of a disk: a log is kept there with a closed gate, and one byte then makes it the committed one.
+//! After a disk fault nothing more is said of what a read gives, until the disk is opened anew.
 ghost use Rattle.std.specs.Prelude.{◌≡◌, ◌+◌, ◌<◌, ◌≤◌, [], ◌∷◌, ℕ, List, length, IfOk, IfSome, IsErrOf, OnOk};
 ghost use Rattle.std.specs.Option.{option_map};
 ghost use Rattle.disk_base.specs.Count.{HasCause};
@@ -45,7 +46,8 @@ pub fn read_log<D: Disk>(alloc: Global, disk: &mut D) -> Result<LogState, LogFau
     ensures no_memory { IsErrOf result LogFault.NoMemory → D.files disk.new ≡ D.files disk.old }
     ensures room { KeepsRoom (D.room disk.old) (D.room disk.new) }
     ensures steps { D.steps disk.new ≡ D.steps disk.old }
-    ensures crash { LeavesSame (D.may_leave disk.old) (D.may_leave disk.new) (D.left_since disk.old) (D.left_since disk.new) }
+    ensures crash { LeavesSame (D.may_leave disk.old) (D.may_leave disk.new)
+        (D.left_since disk.old) (D.left_since disk.new) }
     ensures tells { D.tells disk.new ≡ D.tells disk.old }
     ensures cause { HasCause (D.faults disk.old) (D.faults disk.new) (IsErrOf result LogFault.DiskFault) }
 {
@@ -68,12 +70,16 @@ pub fn keep_log<D: Disk>(disk: &mut D, log: &[u8]) -> Result<(), LogFault>
     requires header { 4 ≤ length log.now }
     requires empty { IfSome (D.files disk.old) (λ fs. fs.log ≡ []) }
     ensures kept { OnOk result (D.files disk.new ≡ option_map (with_log (closed log.now)) (D.files disk.old)) }
-    ensures durable { OnOk result (IfSome (D.files disk.old) (λ _. Follows (λ d c. c ≡ with_log (closed log.now) d) (D.may_leave disk.old) (D.may_leave disk.new))) }
+    ensures durable { OnOk result (IfSome (D.files disk.old) (λ _.
+        Follows (λ d c. c ≡ with_log (closed log.now) d) (D.may_leave disk.old) (D.may_leave disk.new))) }
+    // A crash at any moment of the call leaves a discarded log.
     ensures moments { IfSome (D.files disk.old) (λ _. OnlyIn FileNo.Log [] (D.may_leave disk.old)
         → LeavesOnly D.steps D.left_since disk.old disk.new (After HasDiscarded (D.may_leave disk.old))) }
+    // Each crash since the first sync, the second step, leaves a closed gate, also where a later step failed.
     ensures since_sync { IfSome (D.files disk.old) (λ _. D.steps disk.old + 3 ≤ D.steps disk.new
         → (c : Files) → D.left_since disk.new (D.steps disk.old + 2) c → BeginsWithZero c.log) }
-    ensures settled { OnOk result (IsSettled (D.files disk.old) (D.may_leave disk.old) → IsSettled (D.files disk.new) (D.may_leave disk.new)) }
+    ensures settled { OnOk result (IsSettled (D.files disk.old) (D.may_leave disk.old)
+        → IsSettled (D.files disk.new) (D.may_leave disk.new)) }
     ensures steps { OnOk result (D.steps disk.new ≡ D.steps disk.old + 4) }
     ensures at_most { RisesAtMost 4 (D.steps disk.old) (D.steps disk.new) }
     ensures room { KeepsRoom (D.room disk.old) (D.room disk.new) }
@@ -81,9 +87,10 @@ pub fn keep_log<D: Disk>(disk: &mut D, log: &[u8]) -> Result<(), LogFault>
     ensures tells { D.tells disk.new ≡ D.tells disk.old }
     ensures cause { HasCause (D.faults disk.old) (D.faults disk.new) (IsErrOf result LogFault.DiskFault) }
     ensures no_memory { IsErrOf result LogFault.NoMemory → D.room disk.old FileNo.Log < length log.now }
-    ensures unchanged { IsErrOf result LogFault.NoMemory → (D.files disk.new ≡ D.files disk.old) × (D.steps disk.new ≡ D.steps disk.old)
-        × (D.faults disk.new ≡ D.faults disk.old)
-        × LeavesSame (D.may_leave disk.old) (D.may_leave disk.new) (D.left_since disk.old) (D.left_since disk.new) }
+    ensures unchanged { IsErrOf result LogFault.NoMemory → (D.files disk.new ≡ D.files disk.old)
+        × (D.steps disk.new ≡ D.steps disk.old) × (D.faults disk.new ≡ D.faults disk.old)
+        × LeavesSame (D.may_leave disk.old) (D.may_leave disk.new)
+        (D.left_since disk.old) (D.left_since disk.new) }
 {
     if let RoomEnd::NoMemory = disk.reserve(FileNo::Log, log.len() as u64) {
         return Err(LogFault::NoMemory);
@@ -99,10 +106,15 @@ pub fn open_gate<D: Disk>(disk: &mut D) -> Result<(), LogFault>
     requires there { IfSome (D.files disk.old) (λ fs. 4 ≤ length fs.log) }
     requires fits { 4 ≤ D.room disk.old FileNo.Log }
     ensures gate { OnOk result (D.files disk.new ≡ option_map (gate_set 100) (D.files disk.old)) }
-    ensures durable { OnOk result (IfSome (D.files disk.old) (λ fs. OnlyIn FileNo.Log (with_gate 100 fs.log) (D.may_leave disk.new))) }
-    ensures left { OnOk result (IfSome (D.files disk.old) (λ _. Follows (λ d c. c ≡ gate_set 100 d) (D.may_leave disk.old) (D.may_leave disk.new))) }
-    ensures settled { OnOk result (IsSettled (D.files disk.old) (D.may_leave disk.old) → IsSettled (D.files disk.new) (D.may_leave disk.new)) }
+    ensures durable { OnOk result (IfSome (D.files disk.old) (λ fs.
+        OnlyIn FileNo.Log (with_gate 100 fs.log) (D.may_leave disk.new))) }
+    ensures left { OnOk result (IfSome (D.files disk.old) (λ _.
+        Follows (λ d c. c ≡ gate_set 100 d) (D.may_leave disk.old) (D.may_leave disk.new))) }
+    ensures settled { OnOk result (IsSettled (D.files disk.old) (D.may_leave disk.old)
+        → IsSettled (D.files disk.new) (D.may_leave disk.new)) }
+    // A crash at any moment of the call leaves the gate as it was, or with any byte.
     ensures moments { LeavesOnly D.steps D.left_since disk.old disk.new (After HasAnyGate (D.may_leave disk.old)) }
+    // Over a log that was kept, it leaves that log committed, or a discarded one.
     ensures either { (log : List ℕ) (changes : List Change) (version : Version) → IsCommitted log changes version
         → OnlyIn FileNo.Log (closed log) (D.may_leave disk.old)
         → LeavesOnly D.steps D.left_since disk.old disk.new (After (HasLogOrNone log) (D.may_leave disk.old)) }
@@ -121,10 +133,15 @@ pub fn close_gate<D: Disk>(disk: &mut D) -> Result<(), LogFault>
     requires there { IfSome (D.files disk.old) (λ fs. 4 ≤ length fs.log) }
     requires fits { 4 ≤ D.room disk.old FileNo.Log }
     ensures gate { OnOk result (D.files disk.new ≡ option_map (gate_set 0) (D.files disk.old)) }
-    ensures durable { OnOk result (IfSome (D.files disk.old) (λ fs. OnlyIn FileNo.Log (with_gate 0 fs.log) (D.may_leave disk.new))) }
-    ensures left { OnOk result (IfSome (D.files disk.old) (λ _. Follows (λ d c. c ≡ gate_set 0 d) (D.may_leave disk.old) (D.may_leave disk.new))) }
-    ensures settled { OnOk result (IsSettled (D.files disk.old) (D.may_leave disk.old) → IsSettled (D.files disk.new) (D.may_leave disk.new)) }
+    ensures durable { OnOk result (IfSome (D.files disk.old) (λ fs.
+        OnlyIn FileNo.Log (with_gate 0 fs.log) (D.may_leave disk.new))) }
+    ensures left { OnOk result (IfSome (D.files disk.old) (λ _.
+        Follows (λ d c. c ≡ gate_set 0 d) (D.may_leave disk.old) (D.may_leave disk.new))) }
+    ensures settled { OnOk result (IsSettled (D.files disk.old) (D.may_leave disk.old)
+        → IsSettled (D.files disk.new) (D.may_leave disk.new)) }
+    // A crash at any moment of the call leaves the gate as it was, or with any byte.
     ensures moments { LeavesOnly D.steps D.left_since disk.old disk.new (After HasAnyGate (D.may_leave disk.old)) }
+    // Over a log with an open gate, it leaves that log, or a discarded one.
     ensures either { (log : List ℕ) → IsOpen log → OnlyIn FileNo.Log log (D.may_leave disk.old)
         → LeavesOnly D.steps D.left_since disk.old disk.new (After (HasLogOrNone log) (D.may_leave disk.old)) }
     ensures steps { OnOk result (D.steps disk.new ≡ D.steps disk.old + 2) }
@@ -141,9 +158,12 @@ pub fn close_gate<D: Disk>(disk: &mut D) -> Result<(), LogFault>
 fn put_synced<D: Disk>(disk: &mut D, at: u64, bytes: &[u8]) -> DiskEnd
     requires begins { IfSome (D.files disk.old) (λ fs. at ≤ length fs.log) }
     requires fits { at + length bytes.now ≤ D.room disk.old FileNo.Log }
-    ensures written { OnDone result (D.files disk.new ≡ option_map (λ fs. with_log (laid fs.log at bytes.now) fs) (D.files disk.old)) }
-    ensures durable { OnDone result (IfSome (D.files disk.old) (λ fs. OnlyIn FileNo.Log (laid fs.log at bytes.now) (D.may_leave disk.new))) }
-    ensures crash { Follows (InFile FileNo.Log (Torn at (length bytes.now))) (D.may_leave disk.old) (D.may_leave disk.new) }
+    ensures written { OnDone result (D.files disk.new
+        ≡ option_map (λ fs. with_log (laid fs.log at bytes.now) fs) (D.files disk.old)) }
+    ensures durable { OnDone result (IfSome (D.files disk.old) (λ fs.
+        OnlyIn FileNo.Log (laid fs.log at bytes.now) (D.may_leave disk.new))) }
+    ensures crash { Follows (InFile FileNo.Log (Torn at (length bytes.now)))
+        (D.may_leave disk.old) (D.may_leave disk.new) }
     ensures moments { LeavesOnly D.steps D.left_since disk.old disk.new
         (After (InFile FileNo.Log (Torn at (length bytes.now))) (D.may_leave disk.old)) }
     ensures steps { OnDone result (D.steps disk.new ≡ D.steps disk.old + 2) }
@@ -164,7 +184,8 @@ fn put_closed<D: Disk>(disk: &mut D, log: &[u8]) -> DiskEnd
     requires empty { IfSome (D.files disk.old) (λ fs. fs.log ≡ []) }
     requires fits { length log.now ≤ D.room disk.old FileNo.Log }
     ensures kept { OnDone result (D.files disk.new ≡ option_map (with_log (closed log.now)) (D.files disk.old)) }
-    ensures durable { OnDone result (IfSome (D.files disk.old) (λ _. Follows (λ d c. c ≡ with_log (closed log.now) d) (D.may_leave disk.old) (D.may_leave disk.new))) }
+    ensures durable { OnDone result (IfSome (D.files disk.old) (λ _.
+        Follows (λ d c. c ≡ with_log (closed log.now) d) (D.may_leave disk.old) (D.may_leave disk.new))) }
     ensures moments { IfSome (D.files disk.old) (λ _. OnlyIn FileNo.Log [] (D.may_leave disk.old)
         → LeavesOnly D.steps D.left_since disk.old disk.new (After HasDiscarded (D.may_leave disk.old))) }
     ensures since_sync { IfSome (D.files disk.old) (λ _. D.steps disk.old + 3 ≤ D.steps disk.new
@@ -187,9 +208,12 @@ fn set_gate<D: Disk>(disk: &mut D, byte: u8) -> Result<(), LogFault>
     requires there { IfSome (D.files disk.old) (λ fs. 4 ≤ length fs.log) }
     requires fits { 4 ≤ D.room disk.old FileNo.Log }
     ensures gate { OnOk result (D.files disk.new ≡ option_map (gate_set byte) (D.files disk.old)) }
-    ensures durable { OnOk result (IfSome (D.files disk.old) (λ fs. OnlyIn FileNo.Log (with_gate byte fs.log) (D.may_leave disk.new))) }
-    ensures left { OnOk result (IfSome (D.files disk.old) (λ _. Follows (λ d c. c ≡ gate_set byte d) (D.may_leave disk.old) (D.may_leave disk.new))) }
-    ensures settled { OnOk result (IsSettled (D.files disk.old) (D.may_leave disk.old) → IsSettled (D.files disk.new) (D.may_leave disk.new)) }
+    ensures durable { OnOk result (IfSome (D.files disk.old) (λ fs.
+        OnlyIn FileNo.Log (with_gate byte fs.log) (D.may_leave disk.new))) }
+    ensures left { OnOk result (IfSome (D.files disk.old) (λ _.
+        Follows (λ d c. c ≡ gate_set byte d) (D.may_leave disk.old) (D.may_leave disk.new))) }
+    ensures settled { OnOk result (IsSettled (D.files disk.old) (D.may_leave disk.old)
+        → IsSettled (D.files disk.new) (D.may_leave disk.new)) }
     ensures moments { LeavesOnly D.steps D.left_since disk.old disk.new (After HasAnyGate (D.may_leave disk.old)) }
     ensures steps { OnOk result (D.steps disk.new ≡ D.steps disk.old + 2) }
     ensures at_most { RisesAtMost 2 (D.steps disk.old) (D.steps disk.new) }

@@ -1,5 +1,5 @@
-//! The log of a server, as bytes: what a transaction writes before it touches the database, and what is read
-//! after a stop. The definitions in `specs/` say which bytes are a committed log, and of which changes.
+//! The log of a server, as bytes and on a disk: what a transaction writes before it touches the database, and what
+//! is read after a stop. The definitions in `specs/` say which bytes are a committed log, and of which changes.
 #![tactic(auto)]
 
 mod codec;
