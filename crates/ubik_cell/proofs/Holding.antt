@@ -12,9 +12,9 @@ use Rattle.ubik_cell.specs.declared.scripts.CellRun.{CellRun}
 use Rattle.ubik_cell.specs.declared.sites.Site.{Site}
 use Rattle.ubik_cell.specs.declared.sites.Site.TheVariants as site
 use Rattle.ubik_cell.specs.Lines.{HasDisk, HasOnlyDatabase, HasWorld, IsAt, IsSound, Stands}
-use Rattle.ubik_cell.specs.Run.{Holds, Reads, ReadsAs, SitesRead}
+use Rattle.ubik_cell.specs.Run.{Holds}
 use Rattle.ubik_cell.specs.Script.{Stage}
-use Rattle.ubik_cell.specs.Sites.{one_world, IsOneWorld, site_disk, site_held}
+use Rattle.ubik_cell.specs.Sites.{Reads, ReadsAs, SitesRead, site_disk, site_held}
 
 -- two facts of what may be told
 both : {X : Type 0} (P Q R : X → Type 0) (o : Option X) → IfSome o P → IfSome o Q → ((x : X) → P x → Q x → R x) → IfSome o R

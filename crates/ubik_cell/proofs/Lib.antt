@@ -9,6 +9,7 @@ pub mod OneStep
 pub mod OpenedLine
 pub mod Opening
 pub mod Refusals
+pub mod Shortage
 pub mod Starting
 pub mod SteppedLine
 pub mod Telling

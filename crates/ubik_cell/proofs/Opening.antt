@@ -1,5 +1,5 @@
 -- The opening of a server over an empty disk.
-use Rattle.std.proofs.Common.{if◌then◌else◌, ◌≡◌, ◌≢◌, ◌<◌, ℕ, Bool, true, false, List, [], Option, Some, None, IfSome, refl, sym, subst, ◌∙◌, arith}
+use Rattle.std.proofs.Common.{if◌then◌else◌, ◌≡◌, ◌≢◌, ◌<◌, ◌≤◌, ℕ, Bool, true, false, List, [], Option, Some, None, IfSome, refl, sym, subst, ◌∙◌, arith}
 use Rattle.ubik_types.specs.Moment.{IsMoment}
 use Rattle.disk_base.specs.Files.{Files, no_files}
 use Rattle.cell_model.specs.Durable.{Durable, no_database}
@@ -12,7 +12,7 @@ use Rattle.ubik_node.specs.Fault.{IsFaultOf}
 use Rattle.ubik_node.specs.Database.{durable_of}
 use Rattle.ubik_cell.specs.declared.sites.Site.{Site}
 use Rattle.ubik_cell.specs.declared.sites.Site.TheVariants as site
-use Rattle.ubik_cell.specs.Sites.{DownTold, OpenTold}
+use Rattle.ubik_cell.specs.Sites.{DownTold, OpenTold, IsReadAs, site_disk, site_held}
 use Rattle.ubik_cell.specs.Lines.{HasDisk, IsSound}
 
 empty_file : durable_of [] ≡ Some no_database
@@ -63,3 +63,13 @@ fresh_disk files faults disk n t empty up stored kept =
           subst P (sym (kept ∙ empty)) (refl, refl);
       cause = λ halted. absurd (not_halted n.halted (up_server n) t up halted);
     }
+
+-- an opening of which nothing was told for want of memory left the disk as it was, or the disk failed
+pub short_open : {D : Type 0} (files : D → Option Files) (faults : D → ℕ) (disk kept : D) (s : Site D) (why : StoreFault) → files disk ≡ Some no_files → IfSome (files disk) (λ fs. IsFaultOf fs.database why) → (why ≡ DiskFault → faults disk < faults kept) → ((why ≡ DiskFault → ⊥) → files kept ≡ files disk) → (why ≡ NoMemory → files (site_disk s) ≡ files kept) → faults kept ≤ faults (site_disk s) → IsReadAs (site_held files faults s) None
+short_open files faults disk kept s DiskFault empty found rose same left more = λ none. let up = rose refl in absurd (omega (arith, up, more, none))
+short_open files faults disk kept s (BadLabel len head) empty found rose same left more =
+    let fault : BadLabel len head ≡ DiskFault = refused_by_fault (files disk) (BadLabel len head) empty found (λ is. cc) in absurd cc
+short_open files faults disk kept s NoMemory empty found rose same left more = λ none.
+    let there : files (site_disk s) ≡ Some no_files = left refl ∙ same (λ is. let never : NoMemory ≡ DiskFault = is in cc) ∙ empty in
+    let P : Option Files → Type 0 = λ f. IfSome f (λ fs. fs ≡ no_files) in
+    subst P (sym there) refl

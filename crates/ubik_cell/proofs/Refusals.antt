@@ -97,7 +97,7 @@ ends_past st bytes past = λ luck.
     ap (λ (b : Bool). cond b (Err (Limit Lines)) (or_refused (meaning_run protection st luck (line_of bytes)))) full
 
 -- a line before it
-result_is : (st : Stage) (bytes : List ℕ) (luck : Luck) (meaning : Result Line Why) → st.lines < 20000 → line_of bytes ≡ meaning → line_result protection st (record { line = bytes; luck = luck }) ≡ or_refused (meaning_run protection st luck meaning)
+pub result_is : (st : Stage) (bytes : List ℕ) (luck : Luck) (meaning : Result Line Why) → st.lines < 20000 → line_of bytes ≡ meaning → line_result protection st (record { line = bytes; luck = luck }) ≡ or_refused (meaning_run protection st luck meaning)
 result_is st bytes luck meaning few is =
     let more : nat_le 20000 st.lines ≡ false = grind (arith, nat_tests) in
     ap (λ (b : Bool). cond b (Err (Limit Lines)) (or_refused (meaning_run protection st luck (line_of bytes)))) more

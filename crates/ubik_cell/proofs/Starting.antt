@@ -1,12 +1,12 @@
 -- How a run of a script starts.
-use Rattle.std.proofs.Common.{ℕ, List, [], Option, Some, None, IfSome, inl, refl, sym, ap, arith}
+use Rattle.std.proofs.Common.{ℕ, List, [], Option, Some, None, IfSome, inl, refl, sym, ap, subst, ◌≡◌, arith}
 use Rattle.std.proofs.lemmas.List.{append-nil}
 use Rattle.std.proofs.lemmas.List.Elements.{All-nil}
 use Rattle.db_image.specs.Database.{Database}
-use Rattle.disk_base.specs.Files.{Files}
+use Rattle.disk_base.specs.Files.{Files, no_files}
 use Rattle.ubik_cell.specs.declared.scripts.CellRun.{CellRun}
 use Rattle.ubik_cell.specs.Lines.{IsAt, IsSound}
-use Rattle.ubik_cell.specs.Sites.{Held}
+use Rattle.ubik_cell.specs.Sites.{Held, IsReadAs, held}
 use Rattle.ubik_cell.specs.Run.{SoFar, RanShort}
 use Rattle.ubik_cell.specs.Script.{first_stage}
 
@@ -32,8 +32,8 @@ first_so_far db files faults run at sound script before =
     }
 
 -- memory ran out before the first line
-pub short_at_once : (db : Database) (disk : Held) (script before : List ℕ) → RanShort db script (Some script) before (Some before) disk
-short_at_once db disk script before =
+pub short_at_once : (db : Database) (disk : Held) → IsReadAs disk None → (script before : List ℕ) → RanShort db script (Some script) before (Some before) disk
+short_at_once db disk reads script before =
     record {
       readings = [];
       read = [];
@@ -46,4 +46,10 @@ short_at_once db disk script before =
       good = refl;
       wrote = ap Some (sym (append-nil before));
       causes = omega arith;
+      holds = inl reads;
     }
+
+-- an empty disk, where no cell stands
+pub empty_at_once : {D : Type 0} (files : D → Option Files) (faults : D → ℕ) (disk : D) → files disk ≡ Some no_files → IsReadAs (held files faults disk) None
+empty_at_once files faults disk empty = λ none.
+    let P : Option Files → Type 0 = λ f. IfSome f (λ fs. fs ≡ no_files) in subst P (sym empty) refl

@@ -28,7 +28,7 @@ no_world clock (site.Down disk) opened stands = let never = stands.there in cc
 no_world clock (site.Up node) opened stands = let never = stands.there in cc
 
 -- a server that is there and up makes its step
-does_step : (st : Stage) (luck : Luck) (number : ℕ) (event : NodeEvent) (r : Run) → is_there r.world.sites number ≡ true → is_up_at r.world.sites (number - 1) ≡ true → stepped protection st luck number event r ≡ Ok (with_event protection st r (event_at luck r number event))
+pub does_step : (st : Stage) (luck : Luck) (number : ℕ) (event : NodeEvent) (r : Run) → is_there r.world.sites number ≡ true → is_up_at r.world.sites (number - 1) ≡ true → stepped protection st luck number event r ≡ Ok (with_event protection st r (event_at luck r number event))
 does_step st luck number event r there up =
     let made : Result Line_run Why = Ok (with_event protection st r (event_at luck r number event)) in
     ap (λ (b : Bool). cond b (cond (is_up_at r.world.sites (number - 1)) made (Err why.State)) (Err why.Server)) there

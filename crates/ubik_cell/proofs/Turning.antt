@@ -1,5 +1,5 @@
 -- How a run goes on, or ends, at a line.
-use Rattle.std.proofs.Common.{◌<◌, take, drop, ◌≡◌, ◌≢◌, ◌≤◌, ℕ, List, [], ◌∷◌, ◌++◌, length, Option, Some, None, IfSome, Result, Ok, refl, sym, ap, subst, ◌∙◌, arith, append_assoc, length-append}
+use Rattle.std.proofs.Common.{◌<◌, take, drop, ◌≡◌, ◌≢◌, ◌≤◌, ◌⊎◌, inl, inr, ℕ, List, [], ◌∷◌, ◌++◌, length, Option, Some, None, IfSome, Result, Ok, refl, sym, ap, subst, ◌∙◌, arith, append_assoc, length-append}
 use Rattle.std.proofs.Math.Seq.{take-append_seam}
 use Rattle.std.proofs.lemmas.List.{take-append-drop, take_all}
 use Rattle.db_image.specs.Database.{Database}
@@ -13,7 +13,7 @@ use Rattle.ubik_cell.specs.declared.sites.LineDone.TheVariants as done_as
 use Rattle.ubik_cell.specs.Script.{Stage, Luck, Reading, Line_run, Told, told, line_result}
 use Rattle.ubik_cell.specs.Run.{Holds, Runs, AtLine, AtEnding, SoFar, RanToTheEnd, RanToFault, RanInPart, RanShort, read_lines, IsConsumed}
 use Rattle.ubik_cell.specs.Lines.{LineTold, Ends, IsAt, IsSound}
-use Rattle.ubik_cell.specs.Sites.{site_faults, site_held}
+use Rattle.ubik_cell.specs.Sites.{LineShort, site_faults, site_held}
 use Rattle.ubik_cell.specs.Trace.{trace}
 use Rattle.ubik_cell.proofs.Telling.{told-push, same_some, read_lines-push}
 use Rattle.ubik_cell.proofs.Holding.{held_at}
@@ -77,8 +77,9 @@ part_told db files faults text left before written bytes count after run next li
     }
 
 -- memory ran out in the line
-pub short_at : {D : Type 0} (db : Database) (files : D → Option Files) (faults : D → ℕ) (text : List ℕ) (left : Option (List ℕ)) (before : List ℕ) (after : Option (List ℕ)) (run next : CellRun D) (line : List ℕ) → AtLine db files faults text left before after run line → site_faults faults run.site ≤ site_faults faults next.site → RanShort db text left before after (site_held files faults next.site)
-short_at db files faults text left before after run next line at kept =
+pub short_at : {D : Type 0} (db : Database) (files : D → Option Files) (faults : D → ℕ) (text : List ℕ) (left : Option (List ℕ)) (before : List ℕ) (after : Option (List ℕ)) (run next : CellRun D) (line : List ℕ) (at : AtLine db files faults text left before after run line) → LineShort (site_held files faults next.site) (told db at.readings).stage.run (λ luck. line_result db (told db at.readings).stage (record { line = line; luck = luck })) → site_faults faults run.site ≤ site_faults faults next.site → RanShort db text left before after (site_held files faults next.site)
+unfolding reading_of
+short_at db files faults text left before after run next line at short kept =
     record {
       readings = at.readings;
       read = at.read;
@@ -91,7 +92,18 @@ short_at db files faults text left before after run next line at kept =
       good = at.good;
       wrote = at.wrote;
       causes = omega (arith, at.causes, kept);
+      holds = held_by short;
     }
+  where
+    held_by : LineShort (site_held files faults next.site) (told db at.readings).stage.run (λ luck. line_result db (told db at.readings).stage (record { line = line; luck = luck })) →
+        Holds (site_held files faults next.site) (told db at.readings).stage
+        ⊎ ((last : Reading) × (line ∷ [] ≡ last.line ∷ []) × Holds (site_held files faults next.site) (told db (at.readings ++ last ∷ [])).stage)
+    held_by (inl so_far) = inl so_far
+    held_by (inr (luck, ran, is, reads)) =
+        let r : Reading = record { line = line; luck = luck } in
+        let more = told-push db at.readings r (Ok ran) at.good is in
+        let P : Told → Type 0 = λ d. Holds (site_held files faults next.site) d.stage in
+        inr (r, refl, subst P (sym more) reads)
 
 -- a line of so few bytes is read whole
 whole_of : (line : List ℕ) → length line ≤ 1024 → take 1025 line ≡ line

@@ -1,5 +1,5 @@
 -- The lines of a script are a run of a cell of one server, and the laws of such runs are theirs.
-use Rattle.std.proofs.Common.{◌≡◌, ◌⊎◌, inl, inr, ℕ, Bool, List, [], ◌∷◌, ◌++◌, Option, Some, None, IfSome, Result, Ok, Err, refl, sym, ap, subst, ◌∙◌, append_assoc}
+use Rattle.std.proofs.Common.{◌≡◌, ◌⊎◌, inl, inr, ℕ, Bool, List, [], ◌∷◌, ◌++◌, Option, Some, None, IfSome, Result, Ok, Err, refl, sym, ap, subst, ◌∙◌, append_assoc, arith}
 use Rattle.std.proofs.lemmas.List.{append-nil}
 use Rattle.std.specs.Prelude.{All, Contains}
 use Rattle.std.proofs.lemmas.List.Elements.{All-weaker}
@@ -13,10 +13,10 @@ use Rattle.cell_model.specs.World.{Site, World, Event, Happening, happens, first
 use Rattle.ubik_cell.specs.declared.cells.CellKind.{CellKind}
 use Rattle.ubik_cell.specs.declared.cells.CellKind.TheVariants as kind
 use Rattle.ubik_cell.specs.declared.cells.Ending.{Ending}
-use Rattle.ubik_cell.specs.OneCopy.{IsRunOf, HasOneOrder, IsKept, HasSingleReplies, OfOpening, OfRun, OfEachRun, ReadsDurable, ReadsRun, IsTold, DiskHolds, readings_of}
-use Rattle.ubik_cell.specs.Run.{Holds, Reads, ReadsAs, SitesRead, Runs}
+use Rattle.ubik_cell.specs.OneCopy.{IsRunOf, HasOneOrder, IsKept, HasSingleReplies, OfOpening, OfRun, OfEachRun, ReadsDurable, ReadsRun, IsMore, IsBegun, DiskHolds, readings_of}
+use Rattle.ubik_cell.specs.Run.{Holds, Runs}
 use Rattle.ubik_cell.specs.Script.{Reading, Stage, Line_run, Stop, Told, first_told, told_with, told_unless, told_after, told_from, told, line_result}
-use Rattle.ubik_cell.specs.Sites.{Held}
+use Rattle.ubik_cell.specs.Sites.{Held, Reads, ReadsAs, SitesRead}
 use Rattle.ubik_cell.specs.Trace.{trace}
 use Rattle.ubik_cell.proofs.LineKinds.{IsQuiet, IsOpening, IsBringing, IsKind, result_kind}
 use Rattle.ubik_cell.proofs.OneStep.{trace-append}
@@ -226,16 +226,35 @@ run_durable law db readings fs reads = by (may_run db readings)
 holds_durable : DatabaseIsDurable → (db : Database) (readings : List Reading) (disk : Held) → Holds disk (told db readings).stage → disk.faults ≡ 0 → IfSome disk.files (ReadsRun (told db readings).stage.run)
 holds_durable law db readings disk holds none = over_told (Reads (told db readings).stage.run) (ReadsRun (told db readings).stage.run) disk.files (holds none) (λ fs. run_durable law db readings fs)
 
-disk_of_run : DatabaseIsDurable → (k : CellKind) (db : Database) (script : List ℕ) (left : Option (List ℕ)) (before : List ℕ) (after : Option (List ℕ)) (disk : Held) (runs : Runs k db script left before after disk) → IsTold k → disk.faults ≡ 0 → IfSome disk.files (ReadsRun (told db (readings_of k db script left before after disk runs)).stage.run)
-disk_of_run law kind.Done db script left before after disk runs told none = holds_durable law db runs.readings disk runs.holds none
-disk_of_run law (kind.ScriptRefused line why) db script left before after disk runs told none = holds_durable law db runs.readings disk runs.holds none
-disk_of_run law kind.ReadFault db script left before after disk runs told none = holds_durable law db runs.readings disk runs.holds none
-disk_of_run law kind.WriteFault db script left before after disk runs told none = holds_durable law db (runs.readings ++ runs.last ∷ []) disk runs.holds none
-disk_of_run law (kind.Limit line which) db script left before after disk runs told none = holds_durable law db runs.readings disk runs.holds none
-disk_of_run law kind.NoMemory db script left before after disk runs told none = absurd told
-disk_of_run law (kind.Words place) db script left before after disk runs told none = absurd told
+-- what the disk reads as, after the lines that were told and perhaps one more
+HeldAs : CellKind → Database → List Reading → Held → Type 0
+HeldAs k db readings disk = (more : List Reading) × IsMore k more × IfSome disk.files (ReadsRun (told db (readings ++ more)).stage.run)
+
+held_whole : DatabaseIsDurable → (k : CellKind) → IsMore k [] → (db : Database) (readings : List Reading) (disk : Held) → Holds disk (told db readings).stage → disk.faults ≡ 0 → HeldAs k db readings disk
+unfolding HeldAs
+held_whole law k none_more db readings disk holds none =
+    let P : List Reading → Type 0 = λ l. IfSome disk.files (ReadsRun (told db l).stage.run) in
+    ([], none_more, subst P (sym (append-nil readings)) (holds_durable law db readings disk holds none))
+
+held_short : DatabaseIsDurable → (db : Database) (readings : List Reading) (more : List (List ℕ)) (disk : Held) → Holds disk (told db readings).stage ⊎ ((last : Reading) × (more ≡ last.line ∷ []) × Holds disk (told db (readings ++ last ∷ [])).stage) → disk.faults ≡ 0 → HeldAs kind.NoMemory db readings disk
+unfolding HeldAs
+held_short law db readings more disk (inl holds) none =
+    let P : List Reading → Type 0 = λ l. IfSome disk.files (ReadsRun (told db l).stage.run) in
+    ([], omega arith, subst P (sym (append-nil readings)) (holds_durable law db readings disk holds none))
+held_short law db readings more disk (inr (last, is, holds)) none =
+    (last ∷ [], omega arith, holds_durable law db (readings ++ last ∷ []) disk holds none)
+
+disk_of_run : DatabaseIsDurable → (k : CellKind) (db : Database) (script : List ℕ) (left : Option (List ℕ)) (before : List ℕ) (after : Option (List ℕ)) (disk : Held) (runs : Runs k db script left before after disk) → IsBegun k → disk.faults ≡ 0 → HeldAs k db (readings_of k db script left before after disk runs) disk
+disk_of_run law kind.Done db script left before after disk runs begun none = held_whole law kind.Done refl db runs.readings disk runs.holds none
+disk_of_run law (kind.ScriptRefused line why) db script left before after disk runs begun none = held_whole law (kind.ScriptRefused line why) refl db runs.readings disk runs.holds none
+disk_of_run law kind.ReadFault db script left before after disk runs begun none = held_whole law kind.ReadFault refl db runs.readings disk runs.holds none
+disk_of_run law kind.WriteFault db script left before after disk runs begun none = held_whole law kind.WriteFault refl db (runs.readings ++ runs.last ∷ []) disk runs.holds none
+disk_of_run law (kind.Limit line which) db script left before after disk runs begun none = held_whole law (kind.Limit line which) refl db runs.readings disk runs.holds none
+disk_of_run law kind.NoMemory db script left before after disk runs begun none = held_short law db runs.readings runs.more disk runs.holds none
+disk_of_run law (kind.Words place) db script left before after disk runs begun none = absurd begun
 
 pub disk_holds : DatabaseIsDurable → (k : CellKind) (db : Database) (left later written after : Option (List ℕ)) (disk : Held) → DiskHolds k db left later written after disk
+unfolding HeldAs
 disk_holds law k db None later written after disk = tt
 disk_holds law k db (Some script) later None after disk = tt
-disk_holds law k db (Some script) later (Some before) after disk = λ runs told none. disk_of_run law k db script later before after disk runs told none
+disk_holds law k db (Some script) later (Some before) after disk = λ runs begun none. disk_of_run law k db script later before after disk runs begun none

@@ -1,6 +1,6 @@
 -- What the run of a script's lines is worth: one order of the committed transactions, what was acknowledged stays in it,
 -- and each database and each reply is that of a single copy.
-use Rattle.std.specs.Prelude.{◌≡◌, ℕ, Bool, true, Option, Some, None, IfSome, List, [], ◌∷◌, ◌++◌, All, Contains}
+use Rattle.std.specs.Prelude.{◌≡◌, ◌≤◌, ℕ, Bool, true, Option, Some, None, IfSome, List, [], ◌∷◌, ◌++◌, length, All, Contains}
 use Rattle.db_image.specs.Database.{Database}
 use Rattle.disk_base.specs.Files.{Files, no_files}
 use Rattle.cell_model.specs.Book.{Run, order_of}
@@ -87,15 +87,19 @@ abbrev pub ReadsRun : Option Run → Files → Type 0
 ReadsRun None fs = fs ≡ no_files
 ReadsRun (Some r) fs = ReadsDurable r.world.sites fs
 
--- lines were run, and what they did was told, or its telling began. Want of memory may have come after the durable
--- calls of a step of which nothing was told.
-abbrev pub IsTold : CellKind → Type 0
-IsTold kind.NoMemory = ⊥
-IsTold (kind.Words place) = ⊥
-IsTold _ = Unit {0}
+-- of a run that ended for want of memory one line more may have been run, of which nothing was told
+abbrev pub IsMore : CellKind → List Reading → Type 0
+IsMore kind.NoMemory more = length more ≤ 1
+IsMore _ more = more ≡ []
+
+-- where a word was given, no run was begun
+abbrev pub IsBegun : CellKind → Type 0
+IsBegun (kind.Words place) = ⊥
+IsBegun _ = Unit {0}
 
 -- where its count of faults stands at 0, the first disk reads as the durable state of each such run
 abbrev pub DiskHolds : CellKind → Database → Option (List ℕ) → Option (List ℕ) → Option (List ℕ) → Option (List ℕ) → Held → Type 0
 DiskHolds k db left later written after disk =
-    IfSome left (λ script. IfSome written (λ before. (runs : Runs k db script later before after disk) → IsTold k → disk.faults ≡ 0 →
-    IfSome disk.files (ReadsRun (told db (readings_of k db script later before after disk runs)).stage.run)))
+    IfSome left (λ script. IfSome written (λ before. (runs : Runs k db script later before after disk) → IsBegun k → disk.faults ≡ 0 →
+    (more : List Reading) × IsMore k more
+    × IfSome disk.files (ReadsRun (told db (readings_of k db script later before after disk runs ++ more)).stage.run)))

@@ -1,18 +1,13 @@
 -- What a run of a script has written when it ends.
-use Rattle.std.specs.Prelude.{◌≡◌, ◌⊎◌, ◌≤◌, ℕ, Option, Some, None, IfSome, Err, List, [], ◌∷◌, ◌++◌, map, length, take}
+use Rattle.std.specs.Prelude.{◌≡◌, ◌⊎◌, ◌≤◌, ℕ, Option, Some, None, Err, List, [], ◌∷◌, ◌++◌, map, length, take}
 use Rattle.db_image.specs.Database.{Database}
-use Rattle.disk_base.specs.Files.{Files, no_files}
-use Rattle.cell_model.specs.Book.{Run}
-use Rattle.cell_model.specs.Durable.{durable}
-use Rattle.cell_model.specs.Node.{Node, Down, Halted, Up}
-use Rattle.cell_model.specs.World.{Site}
-use Rattle.ubik_node.specs.Database.{durable_of}
+use Rattle.disk_base.specs.Files.{Files}
 use Rattle.std.specs.List.{All}
 use Rattle.cell_script.specs.Lines.{HasNoLf, lines_of, whole_lines}
 use Rattle.cell_script.specs.LineLaws.{text_of}
 use Rattle.ubik_cell.specs.declared.scripts.CellRun.{CellRun}
 use Rattle.ubik_cell.specs.Lines.{IsAt, IsSound}
-use Rattle.ubik_cell.specs.Sites.{Held, site_faults, site_held}
+use Rattle.ubik_cell.specs.Sites.{Held, IsReadAs, site_faults, site_held}
 use Rattle.ubik_cell.specs.declared.cells.CellKind.{CellKind}
 use Rattle.ubik_cell.specs.declared.cells.CellKind.TheVariants as kind
 use Rattle.ubik_cell.specs.declared.cells.Ending.{Ending}
@@ -27,23 +22,9 @@ read_lines readings = map (λ r. r.line) readings
 abbrev pub Wrote : List ℕ → Option (List ℕ) → List ℕ → Type 0
 Wrote before after bytes = after ≡ Some (before ++ bytes)
 
--- where the disk never failed, the server is up, and the disk reads as its version and its image; where no cell
--- stands, the disk is empty
-abbrev pub ReadsAs : Node → Files → Type 0
-ReadsAs Down fs = ⊥
-ReadsAs (Halted h) fs = ⊥
-ReadsAs (Up s) fs = (durable_of fs.database ≡ Some (durable s.version s.image)) × (fs.log ≡ []) × (fs.incoming ≡ [])
-
-abbrev pub SitesRead : List Site → Files → Type 0
-SitesRead (site ∷ []) fs = ReadsAs site.node fs
-SitesRead _ fs = ⊥
-
-abbrev pub Reads : Option Run → Files → Type 0
-Reads None fs = fs ≡ no_files
-Reads (Some r) fs = SitesRead r.world.sites fs
-
+-- where the disk never failed, it reads as the run of the stage
 abbrev pub Holds : Held → Stage → Type 0
-Holds disk st = disk.faults ≡ 0 → IfSome disk.files (Reads st.run)
+Holds disk st = IsReadAs disk st.run
 
 -- the lines of the whole text, none of which is refused, and their trace
 pub record RanToTheEnd (db : Database) (text : List ℕ) (left : Option (List ℕ)) (before : List ℕ) (after : Option (List ℕ)) (disk : Held) : Type 0 where
@@ -108,7 +89,8 @@ pub record RanInPart (db : Database) (text : List ℕ) (left : Option (List ℕ)
   pub causes : (told db (readings ++ last ∷ [])).faults ≤ disk.faults
   pub holds : Holds disk (told db (readings ++ last ∷ [])).stage
 
--- the trace of the lines before the one in which memory ran out, if in any; nothing was written of that line
+-- the trace of the lines before the one in which memory ran out, if in any; nothing was written of that line, which may
+-- have been run
 pub record RanShort (db : Database) (text : List ℕ) (left : Option (List ℕ)) (before : List ℕ) (after : Option (List ℕ)) (disk : Held) : Type 0 where
   pub readings : List Reading
   pub read : List ℕ
@@ -121,6 +103,8 @@ pub record RanShort (db : Database) (text : List ℕ) (left : Option (List ℕ))
   pub good : (told db readings).stop ≡ None
   pub wrote : Wrote before after (told db readings).text
   pub causes : (told db readings).faults ≤ disk.faults
+  pub holds : Holds disk (told db readings).stage
+      ⊎ ((last : Reading) × (more ≡ last.line ∷ []) × Holds disk (told db (readings ++ last ∷ [])).stage)
 
 -- what was read and written by a run that ended so
 abbrev pub Runs : CellKind → Database → List ℕ → Option (List ℕ) → List ℕ → Option (List ℕ) → Held → Type 0

@@ -1,15 +1,17 @@
 -- What the one server of a cell puts out.
-use Rattle.std.specs.Prelude.{◌≡◌, ◌+◌, ◌<◌, ◌≤◌, ℕ, Option, List, [], ◌∷◌, ◌++◌, map}
+use Rattle.std.specs.Prelude.{◌≡◌, ◌⊎◌, ◌+◌, ◌-◌, ◌<◌, ◌≤◌, ℕ, Bool, true, Option, Some, None, IfSome, Result, Ok, List, [], ◌∷◌, ◌++◌, map}
 use Rattle.db_image.specs.Database.{Database}
-use Rattle.disk_base.specs.Files.{Files}
+use Rattle.disk_base.specs.Files.{Files, no_files}
 use Rattle.cell_model.specs.declared.events.NodeEvent.{NodeEvent}
-use Rattle.cell_model.specs.Durable.{Durable, no_database}
-use Rattle.cell_model.specs.Node.{Node, Up, opened_server}
-use Rattle.cell_model.specs.World.{World, Stays_down, happens}
+use Rattle.cell_model.specs.Book.{Run, run_after}
+use Rattle.cell_model.specs.Durable.{Durable, durable, no_database}
+use Rattle.cell_model.specs.Node.{Node, Down, Halted, Up, opened_server}
+use Rattle.cell_model.specs.World.{Site as ModelSite, World, Stays_down, happens}
+use Rattle.ubik_node.specs.Database.{durable_of}
 use Rattle.ubik_node.specs.Node.{node_of}
 use Rattle.ubik_cell.specs.declared.sites.Site.{Site}
 use Rattle.ubik_cell.specs.declared.sites.Site.TheVariants as site
-use Rattle.ubik_cell.specs.Script.{Luck, step_event, fault_count}
+use Rattle.ubik_cell.specs.Script.{Luck, Sound, Line_run, step_event, event_at, is_there, is_up_at, fault_count}
 use Rattle.ubik_cell.specs.Trace.{trace}
 use Rattle.cell_model.specs.declared.events.Output.{Output}
 use Rattle.cell_model.specs.declared.events.Output.TheVariants as output
@@ -72,6 +74,48 @@ held files faults disk = record { files = files disk; faults = faults disk }
 
 abbrev pub site_held : {D : Type 0} → (D → Option Files) → (D → ℕ) → Site D → Held
 site_held files faults s = held files faults (site_disk s)
+
+-- a server that is up, and a disk that reads as its version and its image, with no log and no incoming file
+abbrev pub ReadsAs : Node → Files → Type 0
+ReadsAs Down fs = ⊥
+ReadsAs (Halted h) fs = ⊥
+ReadsAs (Up s) fs = (durable_of fs.database ≡ Some (durable s.version s.image)) × (fs.log ≡ []) × (fs.incoming ≡ [])
+
+abbrev pub SitesRead : List ModelSite → Files → Type 0
+SitesRead (site ∷ []) fs = ReadsAs site.node fs
+SitesRead _ fs = ⊥
+
+-- so of the server of a run; where no cell stands, the disk is empty
+abbrev pub Reads : Option Run → Files → Type 0
+Reads None fs = fs ≡ no_files
+Reads (Some r) fs = SitesRead r.world.sites fs
+
+-- where it never failed, and tells its files, a disk reads as a run
+abbrev pub IsReadAs : Held → Option Run → Type 0
+IsReadAs disk run = disk.faults ≡ 0 → IfSome disk.files (Reads run)
+
+-- the server has the version and the image that it had, or is halted
+abbrev pub SameDatabase : Node → Node → Type 0
+SameDatabase (Up s) (Up t) = (t.version ≡ s.version) × (t.image ≡ s.image)
+SameDatabase before (Halted h) = Unit {0}
+SameDatabase before after = ⊥
+
+-- a step of which nothing was told for want of memory: it left the database as it was, or it was made
+abbrev pub StepShort : Database → ℕ → NodeEvent → Node → Node → Type 0
+StepShort db clock event before after =
+    SameDatabase before after ⊎ ((seen : List Happening) × StepIs db Sound clock event before after seen)
+
+-- such a step after a run: the disk reads as that run, or as the one after the step
+abbrev pub SiteShort : Database → Held → ℕ → NodeEvent → Run → Type 0
+SiteShort db disk number event r =
+    IsReadAs disk (Some r)
+    ⊎ ((is_there r.world.sites number ≡ true) × (is_up_at r.world.sites (number - 1) ≡ true)
+    × IsReadAs disk (Some (run_after db r (event_at Sound r number event))))
+
+-- a line of which nothing was told for want of memory: the disk reads as the run before it, or as the one after it
+abbrev pub LineShort : {E : Type 0} → Held → Option Run → (Luck → Result Line_run E) → Type 0
+LineShort disk run result =
+    IsReadAs disk run ⊎ ((luck : Luck) × (ran : Line_run) × (result luck ≡ Ok ran) × IsReadAs disk ran.stage.run)
 
 -- a server that stays down, and tells so
 abbrev pub DownTold : {D : Type 0} → (D → ℕ) → D → Site D → List ℕ → List ℕ → Type 0

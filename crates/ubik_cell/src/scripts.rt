@@ -62,7 +62,7 @@ impl<D: StopDisk> CellRun<D> {
     ghost use Rattle.ubik_types.specs.Moment.{IsMoment};
     ghost use Rattle.cell_script.specs.Meaning.{line_of, HasBounds};
     ghost use Rattle.ubik_cell.specs.Script.{Stage, Reading, first_stage, in_run, stepped, line_run, line_result};
-    ghost use Rattle.ubik_cell.specs.Sites.{site_disk, site_faults};
+    ghost use Rattle.ubik_cell.specs.Sites.{LineShort, site_disk, site_faults, site_held};
     ghost use Rattle.ubik_cell.specs.Lines.{IsSound, IsAt, StepsFrom, LineTold, IsRefused, Ends};
 
     /// A run before its first line, over the disk of the one server.
@@ -110,6 +110,8 @@ impl<D: StopDisk> CellRun<D> {
             LineTold D.faults (λ luck. line_run protection st luck (Line.Cell clock)) self result.0 (string_bytes text.old) (string_bytes text.new) }
         ensures refused { (e : Ending) → result.1 ≡ LineDone.Ended e → (st : Stage) → IsAt self st →
             IsRefused e (λ luck. line_run protection st luck (Line.Cell clock)) }
+        ensures short { result.1 ≡ LineDone.NoMemory → (st : Stage) → IsAt self st →
+            LineShort (site_held D.files D.faults result.0.site) st.run (λ luck. line_run protection st luck (Line.Cell clock)) }
         ensures longer { result.1 ≡ LineDone.Told → result.0.counts.lines ≡ self.counts.lines + 1 }
         ensures kept { (e : Ending) → result.1 ≡ LineDone.Ended e → result.0 ≡ self }
         ensures never_falls { site_faults D.faults self.site ≤ site_faults D.faults result.0.site }
@@ -153,6 +155,7 @@ impl<D: StopDisk> CellRun<D> {
             LineTold D.faults (λ luck. line_run protection st luck (Line.TickAll seconds)) self result.0 text text }
         ensures refused { (e : Ending) → result.1 ≡ LineDone.Ended e → (st : Stage) → IsAt self st →
             IsRefused e (λ luck. line_run protection st luck (Line.TickAll seconds)) }
+        ensures taken { result.1 ≢ LineDone.NoMemory }
         ensures longer { result.1 ≡ LineDone.Told → result.0.counts.lines ≡ self.counts.lines + 1 }
         ensures kept { (e : Ending) → result.1 ≡ LineDone.Ended e → result.0 ≡ self }
         ensures never_falls { site_faults D.faults self.site ≤ site_faults D.faults result.0.site }
@@ -201,6 +204,8 @@ impl<D: StopDisk> CellRun<D> {
         ensures refused { (e : Ending) → result.1 ≡ LineDone.Ended e → (st : Stage) → StepsFrom self asks st →
             IsRefused e (λ luck. in_run (stepped protection st luck number event) st.run) }
         ensures kept { (e : Ending) → result.1 ≡ LineDone.Ended e → result.0 ≡ self }
+        ensures short { result.1 ≡ LineDone.NoMemory → (st : Stage) → StepsFrom self asks st →
+            LineShort (site_held D.files D.faults result.0.site) st.run (λ luck. in_run (stepped protection st luck number event) st.run) }
         ensures longer { result.1 ≡ LineDone.Told → result.0.counts.lines ≡ self.counts.lines + 1 }
         ensures never_falls { site_faults D.faults self.site ≤ site_faults D.faults result.0.site }
     {
@@ -243,6 +248,8 @@ impl<D: StopDisk> CellRun<D> {
             LineTold D.faults (λ luck. line_run protection st luck (Line.Ask server words.now)) self result.0 (string_bytes text.old) (string_bytes text.new) }
         ensures refused { (e : Ending) → result.1 ≡ LineDone.Ended e → (st : Stage) → IsAt self st →
             IsRefused e (λ luck. line_run protection st luck (Line.Ask server words.now)) }
+        ensures short { result.1 ≡ LineDone.NoMemory → (st : Stage) → IsAt self st →
+            LineShort (site_held D.files D.faults result.0.site) st.run (λ luck. line_run protection st luck (Line.Ask server words.now)) }
         ensures longer { result.1 ≡ LineDone.Told → result.0.counts.lines ≡ self.counts.lines + 1 }
         ensures kept { (e : Ending) → result.1 ≡ LineDone.Ended e → result.0 ≡ self }
         ensures never_falls { site_faults D.faults self.site ≤ site_faults D.faults result.0.site }
@@ -301,6 +308,8 @@ impl<D: StopDisk> CellRun<D> {
             LineTold D.faults (λ luck. line_run protection st luck line.now) self result.0 (string_bytes text.old) (string_bytes text.new) }
         ensures refused { (e : Ending) → result.1 ≡ LineDone.Ended e → (st : Stage) → IsAt self st →
             IsRefused e (λ luck. line_run protection st luck line.now) }
+        ensures short { result.1 ≡ LineDone.NoMemory → (st : Stage) → IsAt self st →
+            LineShort (site_held D.files D.faults result.0.site) st.run (λ luck. line_run protection st luck line.now) }
         ensures longer { result.1 ≡ LineDone.Told → result.0.counts.lines ≡ self.counts.lines + 1 }
         ensures kept { (e : Ending) → result.1 ≡ LineDone.Ended e → result.0 ≡ self }
         ensures never_falls { site_faults D.faults self.site ≤ site_faults D.faults result.0.site }
@@ -326,6 +335,8 @@ impl<D: StopDisk> CellRun<D> {
         ensures ended { (e : Ending) → result.1 ≡ LineDone.Ended e → (st : Stage) → IsAt self st →
             Ends e (λ luck. line_result protection st (record { line = line.now; luck = luck })) }
         ensures few { result.1 ≡ LineDone.Told → self.counts.lines < 20000 }
+        ensures short { result.1 ≡ LineDone.NoMemory → (st : Stage) → IsAt self st →
+            LineShort (site_held D.files D.faults result.0.site) st.run (λ luck. line_result protection st (record { line = line.now; luck = luck })) }
         ensures longer { result.1 ≡ LineDone.Told → result.0.counts.lines ≡ self.counts.lines + 1 }
         ensures kept { (e : Ending) → result.1 ≡ LineDone.Ended e → result.0 ≡ self }
         ensures never_falls { site_faults D.faults self.site ≤ site_faults D.faults result.0.site }

@@ -1,5 +1,5 @@
 //! The one server of a cell, with its disk.
-ghost use Rattle.std.specs.Prelude.{◌≡◌, ◌≢◌, ◌+◌, ◌≤◌, ◌++◌, ℕ, List, OnOk, OnErr, Some, Bool, false, [], ◌∷◌, if◌then◌else◌};
+ghost use Rattle.std.specs.Prelude.{◌≡◌, ◌≢◌, ◌+◌, ◌≤◌, ◌++◌, ℕ, List, OnOk, OnErr, Some, None, Bool, false, [], ◌∷◌, if◌then◌else◌};
 ghost use Rattle.std.specs.String.{string_bytes};
 ghost use Rattle.cell_model.specs.World.{Halts};
 ghost use Rattle.ubik_cell.specs.Trace.{trace};
@@ -8,7 +8,7 @@ ghost use Rattle.ubik_types.specs.Moment.{IsMoment};
 ghost use Rattle.ubik_node.specs.Node.{node_of};
 ghost use Rattle.cell_model.specs.Book.{Run};
 ghost use Rattle.ubik_cell.specs.Lines.{HasDisk, IsOpened, IsSound, Stands, SiteTold, SiteRefuses};
-ghost use Rattle.ubik_cell.specs.Sites.{puts, HasNoShort, StepTold, OpenTold, DownTold, site_disk, site_faults};
+ghost use Rattle.ubik_cell.specs.Sites.{puts, HasNoShort, StepTold, OpenTold, DownTold, IsReadAs, SiteShort, StepShort, site_disk, site_faults, site_held};
 ghost use Rattle.disk_base.specs.Files.{no_files};
 
 use crate::cells::Ending;
@@ -99,7 +99,8 @@ fn step_node<D: StopDisk>(
         (string_bytes text.old) (string_bytes text.new) (D.faults node.disk) (D.faults result.0.disk) }
     ensures taken { (e : Ending) → result.1 ≢ LineDone.Ended e }
     ensures last { result.0.last ≤ clock }
-    ensures disk { result.1 ≡ LineDone.Told → HasDisk D.files D.faults node → HasDisk D.files D.faults result.0 }
+    ensures disk { HasDisk D.files D.faults node → HasDisk D.files D.faults result.0 }
+    ensures short { result.1 ≡ LineDone.NoMemory → StepShort protection clock event (node_of node) (node_of result.0) }
     ensures never_falls { D.faults node.disk ≤ D.faults result.0.disk }
 {
     let mut node = node;
@@ -143,7 +144,9 @@ pub fn step_site<D: StopDisk>(
     text: &mut String,
 ) -> (Site<D>, LineDone)
     requires { IsSound D.files D.faults clock site }
-    ensures sound { result.1 ≢ LineDone.NoMemory → IsSound D.files D.faults clock result.0 }
+    ensures sound { IsSound D.files D.faults clock result.0 }
+    ensures short { result.1 ≡ LineDone.NoMemory → IsOpened site × ((r : Run) → Stands clock site (Some r) →
+        SiteShort protection (site_held D.files D.faults result.0) number event r) }
     ensures told { result.1 ≡ LineDone.Told → (r : Run) → Stands clock site (Some r) →
         SiteTold protection D.faults clock number event site result.0 r (string_bytes text.old) (string_bytes text.new) }
     ensures up { result.1 ≡ LineDone.Told → IsOpened site }
@@ -173,6 +176,7 @@ pub fn open_node<D: StopDisk>(
     requires empty { D.files disk ≡ Some no_files }
     ensures told { result.1 ≡ LineDone.Told → OpenTold D.faults clock disk result.0 (string_bytes text.old) (string_bytes text.new) }
     ensures sound { result.1 ≡ LineDone.Told → IsSound D.files D.faults clock result.0 }
+    ensures short { result.1 ≡ LineDone.NoMemory → IsReadAs (site_held D.files D.faults result.0) None }
     ensures taken { (e : Ending) → result.1 ≢ LineDone.Ended e }
     ensures never_falls { D.faults disk ≤ site_faults D.faults result.0 }
 {
@@ -188,6 +192,7 @@ pub fn open_node<D: StopDisk>(
 /// Keeps a server down whose opening was refused.
 fn keep_down<D: StopDisk>(refused: Refused<D, StoreFault>, text: &mut String) -> (Site<D>, LineDone)
     ensures told { result.1 ≡ LineDone.Told → (refused.why ≢ StoreFault.NoMemory) × DownTold D.faults refused.disk result.0 (string_bytes text.old) (string_bytes text.new) }
+    ensures short { result.1 ≡ LineDone.NoMemory → refused.why ≡ StoreFault.NoMemory → D.files (site_disk result.0) ≡ D.files refused.disk }
     ensures taken { (e : Ending) → result.1 ≢ LineDone.Ended e }
     ensures never_falls { D.faults refused.disk ≤ site_faults D.faults result.0 }
 {

@@ -3,7 +3,7 @@ use Rattle.std.specs.String.{string_bytes}
 use Rattle.std.proofs.lemmas.List.Sorted.{length_permutation}
 use Rattle.cell_model.specs.Durable.{Durable}
 use Rattle.cell_model.specs.Node as model
-use Rattle.ubik_cell.proofs.Opening.{fresh_durable, refused_by_fault, down_after_fault, sound_down, fresh_disk}
+use Rattle.ubik_cell.proofs.Opening.{fresh_durable, refused_by_fault, down_after_fault, sound_down, fresh_disk, short_open}
 use Rattle.ubik_cell.proofs.sites.open_node.Goals as goal
 
 pub open-requires-clause-alone : goal.open-requires-clause-alone
@@ -32,3 +32,7 @@ returns-in-Err-clause-sound g c = λ told.
     let down = c.keep_down.ensures.told told in
     let fault = refused_by_fault _ c.in-Err.refused.why c.requires.empty c.in-Err.ensures.refused down.0 in
     sound_down g.D.Disk.files g.D.Disk.faults c.args.clock c.args.disk c.in-Err.refused.disk c.keep_down.result.0 (string_bytes c.args.text.now) (string_bytes c.keep_down.new.text) c.requires.moment (c.in-Err.ensures.fault fault) down.1
+
+pub returns-in-Err-clause-short : goal.returns-in-Err-clause-short
+returns-in-Err-clause-short g c = λ short.
+    short_open g.D.Disk.files g.D.Disk.faults c.args.disk c.in-Err.refused.disk c.keep_down.result.0 c.in-Err.refused.why c.requires.empty c.in-Err.ensures.refused c.in-Err.ensures.fault c.in-Err.ensures.same (c.keep_down.ensures.short short) c.keep_down.ensures.never_falls

@@ -2,13 +2,13 @@ use Rattle.std.proofs.Common.{arith}
 use Rattle.prdb_entries.specs.Protection.{protection}
 use Rattle.ubik_cell.specs.Run.{SoFar, RanShort}
 use Rattle.ubik_cell.specs.Sites.{held}
-use Rattle.ubik_cell.proofs.Starting.{of_both, first_so_far, short_at_once}
+use Rattle.ubik_cell.proofs.Starting.{of_both, first_so_far, short_at_once, empty_at_once}
 use Rattle.ubik_cell.proofs.tops.run_script.Goals as goal
 
 pub returns-in_default-clause-runs : goal.returns-in_default-clause-runs
 returns-in_default-clause-runs g c =
     of_both (λ script left before written. RanShort protection script left before written (held g.D.Disk.files g.D.Disk.faults c.args.disk)) _ _
-    (short_at_once protection (held g.D.Disk.files g.D.Disk.faults c.args.disk))
+    (short_at_once protection (held g.D.Disk.files g.D.Disk.faults c.args.disk) (empty_at_once g.D.Disk.files g.D.Disk.faults c.args.disk c.requires))
 
 pub loop-kind-init : goal.loop-kind-init
 loop-kind-init g c =

@@ -5,7 +5,9 @@ use Rattle.prdb_entries.specs.Words.{call_of_words}
 use Rattle.cell_script.specs.declared.lines.Line.TheVariants as line
 use Rattle.ubik_cell.specs.Lines.{LineTold, IsRefused}
 use Rattle.ubik_cell.specs.Script.{line_run}
+use Rattle.ubik_cell.specs.Sites.{LineShort, site_held}
 use Rattle.ubik_cell.proofs.Refusals.{refused_as}
+use Rattle.ubik_cell.proofs.Shortage.{short_as}
 use Rattle.ubik_cell.proofs.SteppedLine.{asks_from, ask_is, ask_told, opened_unless}
 use Rattle.ubik_cell.proofs.scripts.CellRun.ask.Goals as goal
 
@@ -28,3 +30,14 @@ returns-clause-refused g c = λ e ended st at.
     subst P (sym c.in-Some-server.is)
     (refused_as e _ _ (λ luck. ask_is st c.args.self c.in-Some-server.number _ c.in-Some.call c.args.words.now luck (opened_unless _ c.in_default.not-Unopened) at words next)
     (c.step.ensures.refused e ended _ (asks_from c.args.self st c.in-Some.call _ at (λ i. c.args.self.counts.asks + 1))))
+
+pub returns-clause-short : goal.returns-clause-short
+returns-clause-short g c = λ short st at.
+    let words : Some c.in-Some.call ≡ call_of_words c.args.words.now =
+    sym c.in-Some.is ∙ c.in-Ok.ensures ∙ ap call_of_words c.as_slice.ensures in
+    let next = ap (λ (n : ℕ). n + 1) (sym at.asks) in
+    let disk = site_held g.D.Disk.files g.D.Disk.faults c.step.result.0.site in
+    let P : Option ℕ → Type 0 = λ o. LineShort disk st.run (λ luck. line_run protection st luck (line.Ask o c.args.words.now)) in
+    subst P (sym c.in-Some-server.is)
+    (short_as disk st.run _ _ (λ luck. ask_is st c.args.self c.in-Some-server.number _ c.in-Some.call c.args.words.now luck (opened_unless _ c.in_default.not-Unopened) at words next)
+    (c.step.ensures.short short _ (asks_from c.args.self st c.in-Some.call _ at (λ i. c.args.self.counts.asks + 1))))
