@@ -1,3 +1,4 @@
 pub mod Read
 pub mod Relabelled
+pub mod Settling
 pub mod Steps

@@ -1,5 +1,6 @@
 -- What a node stands for, and what a step of it is.
 use Rattle.std.specs.Prelude.{◌≡◌, ◌⊎◌, option_map, ◌+◌, ◌*◌, ℕ, Bool, false, if◌then◌else◌, Option, Some, IfSome, List, [], length}
+use Rattle.disk_base.specs.Crash.{IsSettled}
 use Rattle.disk_base.specs.Files.{Files}
 use Rattle.db_image.specs.Database.{Database}
 use Rattle.cell_model.specs.declared.events.NodeEvent.{NodeEvent}
@@ -30,6 +31,10 @@ IsStored files n =
 -- the disk keeps its files, and no changing call of it was made
 abbrev pub KeepsDisk : {D V : Type 0} → (D → Option Files) → (D → ℕ) → Node D V → Node D V → Type 0
 KeepsDisk files steps before after = (files after.disk ≡ files before.disk) × (steps after.disk ≡ steps before.disk)
+
+-- a crash leaves what a read of the disk gives
+abbrev pub NothingPending : {D V : Type 0} → (D → Option Files) → (D → Files → Type 0) → Node D V → Type 0
+NothingPending files may_leave n = IsSettled (files n.disk) (may_leave n.disk)
 
 -- of the files of the disk no other than the database file was changed
 abbrev pub OnlyDatabase : {D V : Type 0} → (D → Option Files) → Node D V → Node D V → Type 0

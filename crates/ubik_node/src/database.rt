@@ -2,6 +2,7 @@
 ghost use Rattle.std.specs.Prelude.{Some, ◌-◌, replicate, ◌≡◌, ◌+◌, ◌<◌, ◌≤◌, ◌++◌, length, drop, OnOk, IfOk, IfErr, IfSome, IsErrOf};
 ghost use Rattle.std.specs.Option.{option_map};
 ghost use Rattle.page_file.specs.Label.{label, IsHeadOf};
+ghost use Rattle.disk_base.specs.Crash.{IsSettled};
 ghost use Rattle.ubik_node.specs.Database.{with_database, durable_of};
 ghost use Rattle.ubik_node.specs.Fault.{IsNoLabelFault, IsFaultOf};
 ghost use Rattle.cell_model.specs.Durable.{durable};
@@ -34,8 +35,8 @@ pub enum WriteFault {
     NoMemory,
 }
 
-/// Writes the database file anew: cuts it to nothing, writes label and image, and syncs. It takes its
-/// memory first: for want of it nothing changes.
+/// Writes the database file anew: cuts it to nothing, writes label and image, and syncs. Where nothing was pending,
+/// nothing is pending after it. It takes its memory first: for want of it nothing changes.
 pub fn write_database<D: Disk>(
     disk: &mut D,
     version: Version,
@@ -43,6 +44,8 @@ pub fn write_database<D: Disk>(
 ) -> Result<(), WriteFault>
     requires { length image.now ≤ 16777216 }
     ensures written { OnOk result (D.files disk.new ≡ option_map (with_database (label version ++ image.now)) (D.files disk.old)) }
+    ensures settled { OnOk result (IsSettled (D.files disk.old) (D.may_leave disk.old) → IsSettled (D.files disk.new) (D.may_leave disk.new)) }
+    ensures still { IsErrOf result WriteFault.NoMemory → IsSettled (D.files disk.old) (D.may_leave disk.old) → IsSettled (D.files disk.new) (D.may_leave disk.new) }
     ensures steps { OnOk result (D.steps disk.new ≡ D.steps disk.old + 4) }
     ensures fewer { D.steps disk.new ≤ D.steps disk.old + 4 }
     ensures never_falls { D.faults disk.old ≤ D.faults disk.new }

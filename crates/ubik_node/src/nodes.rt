@@ -53,7 +53,7 @@ impl<D: Disk, V: Service> Node<D, V> {
     ghost use Rattle.ubik_node.specs.Verdict.{Judges};
     ghost use Rattle.ubik_node.specs.Serving.{IsServing, Served, Asked};
     ghost use Rattle.ubik_node.specs.Progress.{phase_record, own_poll, own_spread};
-    ghost use Rattle.ubik_node.specs.Node.{OnlyDatabase, node_of, up_server, IsStored, KeepsDisk, Makes, Steps, last_after};
+    ghost use Rattle.ubik_node.specs.Node.{NothingPending, OnlyDatabase, node_of, up_server, IsStored, KeepsDisk, Makes, Steps, last_after};
 
     /// Opens a server over its disk, at a moment in seconds. A cell has one server today, so `me` is 0. An
     /// empty database file is an empty database of version 0.0. No changing call of the disk is made. A
@@ -101,7 +101,8 @@ impl<D: Disk, V: Service> Node<D, V> {
     /// One step: what an event makes of the server at a moment in seconds, not below the last one. An id of a
     /// call is new since the opening. `out` is empty before it, and has what the step put out after it. Only
     /// a recovery turn can end for want of memory: a call that finds none is answered so. A step makes at
-    /// most four changing calls of the disk, and a halted server none; it changes no file but the database file.
+    /// most four changing calls of the disk, and a halted server none; it changes no file but the database file, and
+    /// where nothing was pending on the disk, nothing is pending after a step that was done.
     pub fn step(&mut self, now: u32, event: NodeEvent, out: &mut Outputs) -> StepEnd
         requires moment { IsMoment now }
         requires order { self.old.last ≤ now }
@@ -110,6 +111,7 @@ impl<D: Disk, V: Service> Node<D, V> {
             (D.steps self.old.disk) (D.steps self.new.disk) }
         ensures stored { IsStored D.files self.old → IsStored D.files self.new }
         ensures others { result ≡ StepEnd.Done → OnlyDatabase D.files self.old self.new }
+        ensures settled { result ≡ StepEnd.Done → NothingPending D.files D.may_leave self.old → NothingPending D.files D.may_leave self.new }
         ensures beacon { event ≡ events.BeaconTurn → result ≢ StepEnd.NoMemory }
         ensures told { (id : ℕ) (call : List ℕ) → event ≡ events.Ask id call → result ≢ StepEnd.NoMemory }
         ensures no_memory { result ≡ StepEnd.NoMemory → KeepsDisk D.files D.steps self.old self.new }
@@ -183,6 +185,7 @@ impl<D: Disk, V: Service> Node<D, V> {
             (D.steps self.old.disk) (D.steps self.new.disk) }
         ensures stored { IsStored D.files self.old → IsStored D.files self.new }
         ensures others { result ≡ StepEnd.Done → OnlyDatabase D.files self.old self.new }
+        ensures settled { result ≡ StepEnd.Done → NothingPending D.files D.may_leave self.old → NothingPending D.files D.may_leave self.new }
         ensures beacon { event.now ≡ events.BeaconTurn → result ≢ StepEnd.NoMemory }
         ensures told { (id : ℕ) (call : List ℕ) → event.now ≡ events.Ask id call → result ≢ StepEnd.NoMemory }
         ensures no_memory { result ≡ StepEnd.NoMemory → KeepsDisk D.files D.steps self.old self.new }
@@ -211,6 +214,7 @@ impl<D: Disk, V: Service> Node<D, V> {
             (D.steps self.old.disk) (D.steps self.new.disk) }
         ensures stored { IsStored D.files self.old → IsStored D.files self.new }
         ensures others { result ≡ StepEnd.Done → OnlyDatabase D.files self.old self.new }
+        ensures settled { result ≡ StepEnd.Done → NothingPending D.files D.may_leave self.old → NothingPending D.files D.may_leave self.new }
         ensures no_memory { result ≡ StepEnd.NoMemory → KeepsDisk D.files D.steps self.old self.new }
         ensures fewer { D.steps self.new.disk ≤ D.steps self.old.disk + 4 }
         ensures fault { result ≡ StepEnd.Halted → D.faults self.old.disk < D.faults self.new.disk }
@@ -263,6 +267,8 @@ impl<D: Disk, V: Service> Node<D, V> {
             (node_of self.new) out.new (D.steps self.old.disk) (D.steps self.new.disk)) }
         ensures stored { OnOk result (IsStored D.files self.old → IsStored D.files self.new) }
         ensures others { OnOk result (OnlyDatabase D.files self.old self.new) }
+        ensures settled { OnOk result (NothingPending D.files D.may_leave self.old → NothingPending D.files D.may_leave self.new) }
+        ensures still { IsErrOf result WriteFault.NoMemory → NothingPending D.files D.may_leave self.old → NothingPending D.files D.may_leave self.new }
         ensures same { OnErr result ((self.new.state ≡ self.old.state) × (self.new.halted ≡ self.old.halted) × (out.new ≡ [])) }
         ensures no_memory { IsErrOf result WriteFault.NoMemory → KeepsDisk D.files D.steps self.old self.new }
         ensures fewer { D.steps self.new.disk ≤ D.steps self.old.disk + 4 }
@@ -319,6 +325,7 @@ impl<D: Disk, V: Service> Node<D, V> {
         ensures fewer { D.steps self.new.disk ≤ D.steps self.old.disk + 4 }
         ensures stored { IsStored D.files self.old → IsStored D.files self.new }
         ensures others { result ≡ StepEnd.Done → OnlyDatabase D.files self.old self.new }
+        ensures settled { result ≡ StepEnd.Done → NothingPending D.files D.may_leave self.old → NothingPending D.files D.may_leave self.new }
         ensures fault { result ≡ StepEnd.Halted → D.faults self.old.disk < D.faults self.new.disk }
         ensures never_falls { D.faults self.old.disk ≤ D.faults self.new.disk }
         ensures last { self.new.last ≡ self.old.last }
@@ -359,6 +366,7 @@ impl<D: Disk, V: Service> Node<D, V> {
         ensures fewer { D.steps self.new.disk ≤ D.steps self.old.disk + 4 }
         ensures stored { IsStored D.files self.old → IsStored D.files self.new }
         ensures others { result ≡ StepEnd.Done → OnlyDatabase D.files self.old self.new }
+        ensures settled { result ≡ StepEnd.Done → NothingPending D.files D.may_leave self.old → NothingPending D.files D.may_leave self.new }
         ensures fault { result ≡ StepEnd.Halted → D.faults self.old.disk < D.faults self.new.disk }
         ensures never_falls { D.faults self.old.disk ≤ D.faults self.new.disk }
         ensures last { self.new.last ≡ self.old.last }
