@@ -79,6 +79,55 @@ fn calls_of_words(rt: HostRuntime) -> Result<(), Fail> {
     Ok(())
 }
 
+/// The bytes of the only name in a call of nametoid, where these words are one.
+fn only_name(alloc: Global, word: &str) -> Result<Option<Bytes>, NoMemory> {
+    let call = words(alloc, &["nametoid", "1", word])?;
+    match call_words(alloc, &call)? {
+        None => Ok(None),
+        Some(bytes) => {
+            let bytes = bytes.as_slice();
+            let len = bytes.get(11).copied().unwrap_or(0) as usize;
+            Ok(Some(bytes_of(alloc, bytes.get(12..12 + len).unwrap_or(b"?"))?))
+        }
+    }
+}
+
+#[test]
+fn strings_of_words(rt: HostRuntime) -> Result<(), Fail> {
+    for (word, want) in [
+        ("smith", Some("smith")),
+        ("\"", Some("\"")),
+        ("\"\"", Some("")),
+        ("\"\"\"", None),
+        ("\"\"\"\"", Some("\"\"")),
+        ("\"\"\"\"\"", Some("\"\"\"")),
+        ("\"a\"", Some("\"a\"")),
+        ("a\u{1f}", None),
+        ("a!", Some("a!")),
+        ("", None),
+    ] {
+        let name = only_name(rt.alloc(), word)?;
+        assert_eq!(rt;
+            name.as_ref().map(Bytes::as_slice),
+            want.map(str::as_bytes),
+            "at {word}"
+        );
+    }
+    Ok(())
+}
+
+#[test]
+fn a_string_has_255_bytes_at_most(rt: HostRuntime) -> Result<(), Fail> {
+    let mut word = String::new(rt.alloc());
+    for _ in 0..255 {
+        word.push_str("a")?;
+    }
+    assert!(rt; only_name(rt.alloc(), &word)?.is_some());
+    word.push_str("a")?;
+    assert!(rt; only_name(rt.alloc(), &word)?.is_none());
+    Ok(())
+}
+
 #[test]
 fn calls_that_are_not_built(rt: HostRuntime) -> Result<(), Fail> {
     for (texts, want) in [
@@ -95,7 +144,15 @@ fn calls_that_are_not_built(rt: HostRuntime) -> Result<(), Fail> {
         (["probe", "1", "1", "1"], false),
     ] {
         let call = words(rt.alloc(), &texts)?;
-        assert_eq!(rt; is_unbuilt(&call), want, "at {}", texts[0]);
+        assert_eq!(rt;
+            is_unbuilt(&call),
+            want,
+            "at {} {} {} {}",
+            texts[0],
+            texts[1],
+            texts[2],
+            texts[3]
+        );
     }
     Ok(())
 }

@@ -18,6 +18,7 @@ short_step_line st before asks number event disk from opened short = by there.0 
   where
     there : (r : Run) × (st.run ≡ Some r)
     there = has_run before.counts.clock before.site st.run opened from.stands
+
     by : (r : Run) → st.run ≡ Some r → SiteShort protection disk number event r → LineShort disk st.run (λ luck. in_run (stepped protection st luck number event) st.run)
     by r is (inl same) = inl (subst (IsReadAs disk) (sym is) same)
     by r is (inr (there, up, reads)) =

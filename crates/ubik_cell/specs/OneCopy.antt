@@ -34,7 +34,7 @@ HasOneOrder db clock failed events = Grows (run_of_one db clock failed events).a
 pub record IsKept (db : Database) (clock : ℕ) (failed : Bool) (events : List Event) : Type 0 where
   pub stays : (front middle back : List Event) → events ≡ (front ++ middle) ++ back →
       All (λ a. IsAt (order_of (run_of_one db clock failed (front ++ middle)).announcements) a)
-          (run_of_one db clock failed front).acknowledged
+      (run_of_one db clock failed front).acknowledged
   pub sites : (front back : List Event) → events ≡ front ++ back →
       let r = run_of_one db clock failed front in
       All (λ site. IsSingle db (order_of r.announcements) 1 site.clock site.node) r.world.sites

@@ -5,7 +5,7 @@ ghost use Rattle.disk_base.specs.MemDisk.{now_of, disk_stop, disk_faults};
 ghost use Rattle.ubik_cell.specs.Disks.{AllFresh};
 
 use super::*;
-use disk_base::{MemDisk, MemSink, MemSource};
+use disk_base::{MemDisk, MemSink, MemSource, Sink, Wrote};
 use std::alloc::Global;
 use std::process::Abort;
 use std::test::Fail;
@@ -251,7 +251,21 @@ fn first_line_that_counts(bytes: &[u8]) -> Option<u32> {
     None
 }
 
-/// Bytes that no rule of scripts has made: none of these lines has a meaning but the empty ones and comments.
+/// A byte by chance: an LF, a mark of a comment, a blank, a digit, a CR, a NUL, a capital, or one above 127.
+fn byte_by_chance(chance: u8) -> u8 {
+    match chance {
+        0..40 => b'\n',
+        40..60 => b'#',
+        60..80 => b' ',
+        80..110 => b'0' + chance % 10,
+        110..120 => b'\r',
+        120..130 => 0,
+        130..160 => b'A' + chance % 26,
+        _ => chance,
+    }
+}
+
+/// No line of these bytes has a first word of the language: what is not empty and no comment is refused.
 #[test]
 fn bytes_by_chance_are_no_lines(rt: HostRuntime) -> Result<(), Fail> {
     let mut state = 1u32;
@@ -259,14 +273,7 @@ fn bytes_by_chance_are_no_lines(rt: HostRuntime) -> Result<(), Fail> {
         let mut bytes = Vec::new(rt.alloc());
         for _ in 0..24 {
             state = state.wrapping_mul(1_664_525).wrapping_add(1_013_904_223);
-            let byte = (state >> 24) as u8;
-            bytes.push(if byte < 64 {
-                b'\n'
-            } else if byte < 96 {
-                b'#'
-            } else {
-                byte
-            })?;
+            bytes.push(byte_by_chance((state >> 24) as u8))?;
         }
         match first_line_that_counts(&bytes) {
             Some(line) => expect_refused(&rt, rt.alloc(), &bytes, &[], line, Why::Syntax, "")?,
@@ -276,6 +283,52 @@ fn bytes_by_chance_are_no_lines(rt: HostRuntime) -> Result<(), Fail> {
             }
         }
     }
+    Ok(())
+}
+
+/// Takes a byte at a time while it has room, and then fails so many times. It does not tell what it holds.
+#[derive(Drop)]
+struct Tape {
+    bytes: [u8; 24],
+    len: usize,
+    failures: u8,
+}
+
+impl Sink for Tape {
+    ghost use Rattle.std.specs.Prelude.{◌-◌, None};
+
+    ghost written = { λ _. None };
+
+    ghost faults = { λ s. 255 - s.failures };
+
+    fn write(&mut self, bytes: &[u8]) -> Wrote {
+        if self.len < 24 {
+            self.bytes[self.len] = bytes[0];
+            self.len += 1;
+        } else if self.failures > 0 {
+            self.failures -= 1;
+            return Wrote::Failed;
+        }
+        Wrote::Bytes(1)
+    }
+}
+
+#[test]
+fn a_sink_that_fails_within_a_line_has_its_front(rt: HostRuntime) -> Result<(), Fail> {
+    let mut source = MemSource::new(rt.alloc(), FIRST_USER.as_bytes(), &[])?;
+    let mut tape = Tape {
+        bytes: [0; 24],
+        len: 0,
+        failures: 1,
+    };
+    let mut disks = fresh_disks(rt.alloc(), &[])?;
+    let end = cell_top(rt.alloc(), &[], &mut source, &mut tape, &mut disks);
+    let (status, kind) = (3, CellKind::WriteFault);
+    assert_eq!(rt; end, CellEnd { status, kind });
+    assert_eq!(rt;
+        tape.bytes.as_slice(),
+        b"announce 1 1076.1\nannoun".as_slice()
+    );
     Ok(())
 }
 
