@@ -160,22 +160,14 @@ impl<D: StopDisk> CellRun<D> {
         ensures kept { (e : Ending) → result.1 ≡ LineDone.Ended e → result.0 ≡ self }
         ensures never_falls { site_faults D.faults self.site ≤ site_faults D.faults result.0.site }
     {
+        if let Site::Unopened(_) = &self.site {
+            return (self, LineDone::refused(Why::Cell));
+        }
         let CellRun {
             alloc,
             counts,
             site,
         } = self;
-        if let Site::Unopened(disk) = site {
-            let site = Site::Unopened(disk);
-            return (
-                CellRun {
-                    alloc,
-                    counts,
-                    site,
-                },
-                LineDone::refused(Why::Cell),
-            );
-        }
         let counts = counts.after_line(counts.asks, counts.clock + seconds);
         (
             CellRun {

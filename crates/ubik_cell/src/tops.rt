@@ -217,7 +217,7 @@ pub fn cell_top<S: Source, K: Sink, D: StopDisk>(
     ensures read_cause { HasCause (S.faults input.old) (S.faults input.new) (result.kind ≡ CellKind.ReadFault) }
     ensures write_cause { HasCause (K.faults out.old) (K.faults out.new) (result.kind ≡ CellKind.WriteFault) }
     ensures words { 0 < length words.now → result.kind ≡ CellKind.Words 1 }
-    ensures no_words { (place : ℕ) → result.kind ≡ CellKind.Words place →
+    ensures word_cause { (place : ℕ) → result.kind ≡ CellKind.Words place →
         (0 < length words.now) × (input.new ≡ input.old) × (out.new ≡ out.old) × (disks.new ≡ disks.old) }
     ensures twenty { vec_len disks.new ≡ 20 }
     ensures others { drop 1 disks.new.items ≡ drop 1 disks.old.items }
