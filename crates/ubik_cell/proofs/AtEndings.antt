@@ -1,5 +1,5 @@
 -- How a run ends at a line at which its script ends.
-use Rattle.std.proofs.Common.{take, drop, ◌≡◌, ◌+◌, ℕ, List, [], ◌∷◌, ◌++◌, Option, Some, None, Err, inl, sym, ap, subst, ◌∙◌, arith, append_assoc}
+use Rattle.std.proofs.Common.{take, drop, ◌≡◌, ◌+◌, ℕ, List, [], ◌∷◌, ◌++◌, Option, Some, Err, inl, sym, ap, subst, ◌∙◌, arith, append_assoc}
 use Rattle.std.proofs.lemmas.List.{take-append-drop}
 use Rattle.db_image.specs.Database.{Database}
 use Rattle.disk_base.specs.Files.{Files}

@@ -1,12 +1,12 @@
 -- A script inside the language is run to its end where nothing fails.
-use Rattle.std.proofs.Common.{◌≡◌, ◌≢◌, ◌≤◌, ◌+◌, ℕ, List, [], ◌∷◌, ◌++◌, map, Option, Some, None, IfSome, Result, Ok, Err, refl, sym, ap, subst, ◌∙◌, arith, append_assoc}
+use Rattle.std.proofs.Common.{◌≡◌, ◌≢◌, ◌≤◌, ℕ, List, [], ◌∷◌, ◌++◌, Option, Some, None, IfSome, Result, Ok, Err, refl, sym, ap, ◌∙◌, arith, append_assoc}
 use Rattle.db_image.specs.Database.{Database}
 use Rattle.cell_script.specs.Lines.{lines_of}
 use Rattle.ubik_cell.specs.declared.cells.CellKind.{CellKind}
 use Rattle.ubik_cell.specs.declared.cells.CellKind.TheVariants as kind
 use Rattle.ubik_cell.specs.declared.cells.Ending.{Ending}
 use Rattle.ubik_cell.specs.declared.cells.Ending.TheVariants.{Refused, Limit}
-use Rattle.ubik_cell.specs.Script.{Luck, Sound, Reading, Line_run, Stop, Told, first_told, fault_count, told_with, told_unless, told_after, told_from, told, line_result, sound_readings}
+use Rattle.ubik_cell.specs.Script.{Sound, Reading, Line_run, Stop, Told, first_told, told_with, told_unless, told_after, told_from, told, line_result, sound_readings}
 use Rattle.ubik_cell.specs.Run.{Runs, RanUntil, IsInside, IsDoneOrShort, read_lines}
 use Rattle.ubik_cell.specs.Sites.{Held}
 use Rattle.ubik_cell.proofs.NoFaults.{IsFree, sound_result}

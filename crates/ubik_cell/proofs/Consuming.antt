@@ -5,7 +5,7 @@ use Rattle.std.specs.List.{All}
 use Rattle.std.proofs.lemmas.List.Elements.{All-append, All-nil}
 use Rattle.std.proofs.lemmas.Grind.{common_steps}
 use Rattle.cell_script.specs.Lines.{HasNoLf, IsFirstLine, lines_of}
-use Rattle.cell_script.specs.LineLaws.{text_of, last_line, BeginsLine, lines_of-front, lines_of-before, lines_of-text_of, whole_lines-text_of}
+use Rattle.cell_script.specs.LineLaws.{text_of, last_line, lines_of-front, lines_of-before, lines_of-text_of, whole_lines-text_of}
 use Rattle.ubik_cell.specs.Run.{IsConsumed, IsReadWhole}
 
 -- one more line of a text of lines

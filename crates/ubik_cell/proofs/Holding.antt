@@ -1,17 +1,17 @@
 -- What the disk reads as, where it never failed.
-use Rattle.std.proofs.Common.{if◌then◌else◌, ◌≡◌, ◌<◌, ℕ, Bool, true, false, List, [], Option, Some, None, IfSome, refl, sym, ap, subst, ◌∙◌, arith}
+use Rattle.std.proofs.Common.{if◌then◌else◌, ◌≡◌, ◌<◌, ℕ, Bool, true, false, [], Option, Some, None, IfSome, refl, sym, subst, arith}
 use Rattle.disk_base.specs.Files.{Files, no_files}
 use Rattle.cell_model.specs.Book.{Run}
-use Rattle.cell_model.specs.Durable.{Durable, durable}
+use Rattle.cell_model.specs.Durable.{durable}
 use Rattle.cell_model.specs.Node as model
-use Rattle.cell_model.specs.World.{Site as ModelSite, World}
+use Rattle.cell_model.specs.World.{World}
 use Rattle.ubik_node.specs.declared.nodes.Node.{Node}
 use Rattle.ubik_node.specs.Database.{durable_of}
-use Rattle.ubik_node.specs.Node.{node_of, up_server, IsStored}
+use Rattle.ubik_node.specs.Node.{node_of, up_server}
 use Rattle.ubik_cell.specs.declared.scripts.CellRun.{CellRun}
 use Rattle.ubik_cell.specs.declared.sites.Site.{Site}
 use Rattle.ubik_cell.specs.declared.sites.Site.TheVariants as site
-use Rattle.ubik_cell.specs.Lines.{HasDisk, HasOnlyDatabase, HasWorld, IsAt, IsSound, Stands}
+use Rattle.ubik_cell.specs.Lines.{HasDisk, HasWorld, IsAt, IsSound, Stands}
 use Rattle.ubik_cell.specs.Run.{Holds}
 use Rattle.ubik_cell.specs.Script.{Stage}
 use Rattle.ubik_cell.specs.Sites.{Reads, ReadsAs, SitesRead, site_disk, site_held}

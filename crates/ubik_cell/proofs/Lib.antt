@@ -3,6 +3,7 @@ pub mod Completeness
 pub mod Consuming
 pub mod Fields
 pub mod Holding
+pub mod Legal
 pub mod LineKinds
 pub mod NoFaults
 pub mod OneStep

@@ -1,7 +1,7 @@
 -- Where no fault of a disk is seen, a line does what it does where no disk fails.
-use Rattle.std.proofs.Common.{◌≡◌, ◌≤◌, ◌+◌, ◌-◌, cond, nat_le, ℕ, zero, suc, Bool, true, false, List, [], ◌∷◌, ◌++◌, length, map, Option, Some, None, IfSome, Result, Ok, Err, refl, sym, ap, ◌∙◌, arith}
+use Rattle.std.proofs.Common.{◌≡◌, ◌≤◌, ◌+◌, ◌-◌, cond, nat_le, ℕ, zero, suc, Bool, true, false, List, [], ◌∷◌, ◌++◌, length, map, Option, Some, None, Result, Ok, Err, refl, ap, ◌∙◌, arith}
 use Rattle.db_image.specs.Database.{Database}
-use Rattle.prdb_entries.specs.Words.{call_of_words, is_unbuilt}
+use Rattle.prdb_entries.specs.Words.{call_of_words}
 use Rattle.cell_model.specs.Book.{Run}
 use Rattle.cell_model.specs.declared.events.NodeEvent.{NodeEvent}
 use Rattle.cell_model.specs.declared.events.NodeEvent.TheVariants as event
@@ -17,7 +17,7 @@ use Rattle.cell_script.specs.declared.lines.Why.TheVariants as why
 use Rattle.ubik_cell.specs.declared.cells.Ending.{Ending}
 use Rattle.ubik_cell.specs.declared.cells.Ending.TheVariants.{Limit}
 use Rattle.ubik_cell.specs.declared.cells.Which.TheVariants.{Lines}
-use Rattle.ubik_cell.specs.Script.{Luck, Sound, Faulty, Reading, Stage, Line_run, with_event, step_event, event_at, node_at, in_run, is_there, is_up_at, stepped, asked_in, asked_at, ask_run, opened, line_run, meaning_run, or_refused, line_result, fault_count}
+use Rattle.ubik_cell.specs.Script.{Luck, Sound, Faulty, Stage, Line_run, with_event, step_event, event_at, node_at, in_run, is_there, is_up_at, stepped, asked_in, ask_run, opened, line_run, meaning_run, or_refused, line_result, fault_count}
 
 -- a list that ends with a halt has a fault
 halt_counts : (me : ℕ) (outputs : List Output) → fault_count (map (Puts me) outputs ++ Halts me ∷ []) ≡ 1

@@ -1,5 +1,5 @@
 -- Lines that are refused, and lines at which the script ends.
-use Rattle.std.proofs.Common.{◌≡◌, ◌≤◌, ◌<◌, ◌+◌, ◌-◌, cond, nat_le, ℕ, Bool, true, false, List, Option, Some, None, Result, Ok, Err, refl, sym, ap, subst, ◌∙◌, arith}
+use Rattle.std.proofs.Common.{◌≡◌, ◌≤◌, ◌<◌, ◌-◌, cond, nat_le, ℕ, Bool, true, false, List, Option, Some, None, Result, Ok, Err, refl, sym, ap, subst, ◌∙◌, arith}
 use Rattle.std.proofs.lemmas.Bool.Decides.{nat_tests}
 use Rattle.prdb_entries.specs.Protection.{protection}
 use Rattle.prdb_entries.specs.Words.{call_of_words, is_unbuilt}
@@ -17,7 +17,7 @@ use Rattle.ubik_cell.specs.declared.scripts.CellRun.{CellRun}
 use Rattle.ubik_cell.specs.declared.sites.Site.{Site}
 use Rattle.ubik_cell.specs.declared.sites.Site.TheVariants as site
 use Rattle.ubik_cell.specs.Lines.{NoServer, SiteRefuses, Stands, StepsFrom, IsAt, IsOpened, LineTold, IsRefused, Ends}
-use Rattle.ubik_cell.specs.Script.{Luck, Reading, Stage, Line_run, with_event, event_at, in_run, is_there, is_up_at, stepped, no_cell, asked_in, asked_at, ask_run, line_run, meaning_run, or_refused, line_result}
+use Rattle.ubik_cell.specs.Script.{Luck, Stage, Line_run, with_event, event_at, in_run, is_up_at, stepped, no_cell, asked_in, ask_run, line_run, meaning_run, or_refused, line_result}
 use Rattle.ubik_cell.proofs.SteppedLine.{has_run}
 
 -- what is refused is so whatever stands for it

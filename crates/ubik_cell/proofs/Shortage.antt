@@ -1,5 +1,5 @@
 -- Lines in which memory ran out: what the disk reads as.
-use Rattle.std.proofs.Common.{◌≡◌, ◌<◌, ◌∙◌, ◌⊎◌, inl, inr, ℕ, List, Option, Some, Result, Ok, refl, sym, ap, subst}
+use Rattle.std.proofs.Common.{◌≡◌, ◌<◌, ◌∙◌, inl, inr, ℕ, List, Option, Some, Result, Ok, sym, ap, subst}
 use Rattle.prdb_entries.specs.Protection.{protection}
 use Rattle.cell_model.specs.Book.{Run}
 use Rattle.cell_model.specs.declared.events.NodeEvent.{NodeEvent}

@@ -4,21 +4,22 @@ use Rattle.std.proofs.lemmas.List.{append-nil}
 use Rattle.std.specs.Prelude.{All, Contains}
 use Rattle.std.proofs.lemmas.List.Elements.{All-weaker}
 use Rattle.db_image.specs.Database.{Database}
-use Rattle.cell_model.specs.Book.{Run, Acknowledgement, first_run, order_of, run_after}
+use Rattle.cell_model.specs.Book.{Run, first_run, order_of, run_after}
 use Rattle.cell_model.specs.KeptLaws.{AcknowledgedStay, OksAreAcknowledged, SitesAreSingle, RepliesAreSingle, IsAt, run_of_one}
 use Rattle.cell_model.specs.Laws.{AnnouncementsGrow, DatabaseIsDurable, AllDurable, IsOf, run_through}
 use Rattle.cell_model.specs.Node.{Node, Down, Halted, Up}
 use Rattle.disk_base.specs.Files.{Files}
-use Rattle.cell_model.specs.World.{Site, World, Event, Happening, happens, first_seen, first_world, world_after, seen_of}
+use Rattle.cell_model.specs.World.{Site, World, Event, IsRun as LegalRun, IsEvent, Happening, happens, first_seen, first_world, world_after, seen_of}
 use Rattle.ubik_cell.specs.declared.cells.CellKind.{CellKind}
 use Rattle.ubik_cell.specs.declared.cells.CellKind.TheVariants as kind
 use Rattle.ubik_cell.specs.declared.cells.Ending.{Ending}
-use Rattle.ubik_cell.specs.OneCopy.{IsRunOf, HasOneOrder, IsKept, HasSingleReplies, OfOpening, OfRun, OfEachRun, ReadsDurable, ReadsRun, IsMore, IsBegun, DiskHolds, readings_of}
+use Rattle.ubik_cell.specs.OneCopy.{HasOneOrder, IsKept, HasSingleReplies, OfOpening, OfRun, OfEachRun, ReadsDurable, ReadsRun, IsMore, IsBegun, DiskHolds, readings_of}
 use Rattle.ubik_cell.specs.Run.{Holds, Runs}
-use Rattle.ubik_cell.specs.Script.{Reading, Stage, Line_run, Stop, Told, first_told, told_with, told_unless, told_after, told_from, told, line_result}
+use Rattle.ubik_cell.specs.Script.{Reading, Line_run, Stop, Told, first_told, told_with, told_unless, told_after, told_from, told, line_result}
 use Rattle.ubik_cell.specs.Sites.{Held, Reads, ReadsAs, SitesRead}
 use Rattle.ubik_cell.specs.Trace.{trace}
-use Rattle.ubik_cell.proofs.LineKinds.{IsQuiet, IsOpening, IsBringing, IsKind, result_kind}
+use Rattle.ubik_cell.proofs.LineKinds.{IsBringing, IsKind, StageFits, result_kind}
+use Rattle.ubik_cell.proofs.Legal.{run_snoc}
 use Rattle.ubik_cell.proofs.OneStep.{trace-append}
 use Rattle.ubik_cell.proofs.Telling.{over_told, same_some}
 
@@ -37,6 +38,11 @@ seen_push db r (f ∷ events) e =
     ap (λ (seen : List Happening). (happens db r.world f).seen ++ seen) (seen_push db (run_after db r f) events e)
     ∙ sym (append_assoc (happens db r.world f).seen (seen_of db (happens db r.world f).world events) (happens db (run_through db (run_after db r f) events).world e).seen)
 
+-- the world of a run
+world_of_run : (db : Database) (r : Run) (events : List Event) → (run_through db r events).world ≡ world_after db r.world events
+world_of_run db r [] = refl
+world_of_run db r (e ∷ events) = world_of_run db (run_after db r e) events
+
 -- what is told of a run
 all_seen : Database → ℕ → Bool → List Event → List Happening
 all_seen db clock failed events = first_seen 0 (failed ∷ []) ++ seen_of db (first_world clock (failed ∷ [])) events
@@ -46,6 +52,8 @@ pub record IsRun (db : Database) (t : Told) : Type 0 where
   pub failed : Bool
   pub opening : t.stage.opening ≡ Some (record { clock = clock; failed = failed })
   pub run : t.stage.run ≡ Some (run_of_one db clock failed t.stage.events)
+  pub legal : LegalRun db (first_world clock (failed ∷ [])) t.stage.events
+  pub fit : StageFits t.stage
   pub told : t.stop ≡ None → t.text ≡ trace (first_seen 0 (failed ∷ []) ++ seen_of db (first_world clock (failed ∷ [])) t.stage.events)
 
 pub record IsNoRun (t : Told) : Type 0 where
@@ -73,6 +81,11 @@ brought db t ran good brings is =
           brings.run ∙ ap (λ (r : Run). Some (run_after db r brings.event)) same
           ∙ ap Some (sym (run_push db (first_run w) events brings.event))
           ∙ ap (λ (l : List Event). Some (run_of_one db is.clock is.failed l)) (sym more);
+      legal =
+          let last : IsEvent (world_after db w events) brings.event =
+          subst (λ (v : World). IsEvent v brings.event) (ap (λ (r : Run). r.world) same ∙ world_of_run db (first_run w) events) (brings.legal is.fit) in
+          subst (LegalRun db w) (sym more) (run_snoc db w events brings.event is.legal last);
+      fit = brings.fit is.fit;
       told = λ none.
           ap (λ (text : List ℕ). text ++ trace ran.seen) (is.told good)
           ∙ ap (λ (seen : List Happening). trace (all_seen db is.clock is.failed events) ++ trace seen) (brings.seen ∙ ap (λ (r : Run). (happens db r.world brings.event).seen) same)
@@ -106,6 +119,8 @@ ran_line db t ran good (inl quiet) (inr is) =
       failed = is.failed;
       opening = quiet.opening ∙ is.opening;
       run = quiet.run ∙ is.run ∙ ap (λ (l : List Event). Some (run_of_one db is.clock is.failed l)) (sym quiet.events);
+      legal = subst (LegalRun db (first_world is.clock (is.failed ∷ []))) (sym quiet.events) is.legal;
+      fit = quiet.fit is.fit;
       told = λ stop.
           quiet_text t.text ran.seen quiet.seen ∙ is.told good
           ∙ ap (λ (l : List Event). trace (all_seen db is.clock is.failed l)) (sym quiet.events);
@@ -117,6 +132,8 @@ ran_line db t ran good (inr (inl opens)) (inl none) =
       failed = opens.failed;
       opening = opens.opening;
       run = opens.run ∙ ap (λ (l : List Event). Some (run_of_one db opens.clock opens.failed l)) (sym nothing);
+      legal = subst (LegalRun db (first_world opens.clock (opens.failed ∷ []))) (sym nothing) tt;
+      fit = opens.fit;
       told = λ stop.
           ap (λ (text : List ℕ). text ++ trace ran.seen) (none.told good) ∙ ap trace opens.seen
           ∙ ap trace (sym (append-nil (first_seen 0 (opens.failed ∷ []))))
@@ -133,7 +150,15 @@ ended_line db t e (inl none) = inl (record { opening = none.opening; events = no
     never_none : {X : Type 0} {x : X} → Some x ≡ None → ⊥
     never_none e = cc
 ended_line db t e (inr is) =
-    inr (record { clock = is.clock; failed = is.failed; opening = is.opening; run = is.run; told = λ stop. absurd (never_none stop) })
+    inr (record {
+      clock = is.clock;
+      failed = is.failed;
+      opening = is.opening;
+      run = is.run;
+      legal = is.legal;
+      fit = is.fit;
+      told = λ stop. absurd (never_none stop);
+    })
   where
     never_none : {X : Type 0} {x : X} → Some x ≡ None → ⊥
     never_none e = cc
@@ -161,7 +186,7 @@ of_run P all db readings = by (may_run db readings)
     by (inl none) = subst (OfOpening P db (told db readings)) (sym none.opening) (none.run, none.told)
     by (inr is) =
         subst (OfOpening P db (told db readings)) (sym is.opening)
-        (record { run = is.run; told = is.told }, all db is.clock is.failed (told db readings).stage.events)
+        (record { run = is.run; legal = is.legal; told = is.told }, all db is.clock is.failed (told db readings).stage.events)
 
 pub of_each_run : (P : Database → ℕ → Bool → List Event → Type 0) → ((db : Database) (clock : ℕ) (failed : Bool) (events : List Event) → P db clock failed events) → (k : CellKind) (db : Database) (left later written after : Option (List ℕ)) (disk : Held) → OfEachRun P k db left later written after disk
 of_each_run P all k db None later written after disk = tt
@@ -188,11 +213,6 @@ kept stay sites oks db clock failed events =
       sites = λ front back split. sites db clock failed front;
       recorded = λ front back server id call fields short split. oks db clock failed front server id call fields short;
     }
-
--- the world of a run
-world_of_run : (db : Database) (r : Run) (events : List Event) → (run_through db r events).world ≡ world_after db r.world events
-world_of_run db r [] = refl
-world_of_run db r (e ∷ events) = world_of_run db (run_after db r e) events
 
 -- a disk that reads as the server's version and image reads as its durable state
 site_durable : (site : Site) (node : Node) (fs : Files) → IsOf site.durable node → ReadsAs node fs → ReadsDurable (site ∷ []) fs

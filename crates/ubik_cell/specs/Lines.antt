@@ -1,5 +1,5 @@
 -- What a run of a script's lines stands for.
-use Rattle.std.specs.Prelude.{◌≡◌, ◌⊎◌, ◌+◌, ◌-◌, ◌<◌, ◌≤◌, ℕ, Bool, true, false, Option, Some, None, IfSome, Result, Ok, Err, List, [], length, ◌++◌}
+use Rattle.std.specs.Prelude.{◌≡◌, ◌+◌, ◌-◌, ◌<◌, ◌≤◌, ℕ, true, false, Option, Some, None, IfSome, Result, Ok, Err, List, [], length, ◌++◌}
 use Rattle.db_image.specs.Database.{Database}
 use Rattle.cell_model.specs.declared.events.NodeEvent.{NodeEvent}
 use Rattle.cell_model.specs.Node as model

@@ -8,8 +8,8 @@ use Rattle.cell_model.specs.declared.events.NodeEvent.TheVariants.{Ask}
 use Rattle.cell_model.specs.declared.events.Output.TheVariants as output
 use Rattle.cell_model.specs.declared.events.Reply.TheVariants as reply
 use Rattle.cell_model.specs.KeptLaws.{run_of_one, IsAt, IsSingle, IsSeenOf, IsRecorded, single_told}
-use Rattle.cell_model.specs.Laws.{AllDurable, Grows}
-use Rattle.cell_model.specs.World.{Site, Event, Step, Puts, site_of, happens, first_seen, first_world, seen_of}
+use Rattle.cell_model.specs.Laws.{Grows}
+use Rattle.cell_model.specs.World.{Site, Event, Step, Puts, IsRun, site_of, happens, first_seen, first_world, seen_of}
 use Rattle.ubik_node.specs.Database.{durable_of}
 use Rattle.ubik_cell.specs.declared.cells.CellKind.{CellKind}
 use Rattle.ubik_cell.specs.declared.cells.CellKind.TheVariants as kind
@@ -18,10 +18,11 @@ use Rattle.ubik_cell.specs.Script.{Opening, Reading, Told, told}
 use Rattle.ubik_cell.specs.Sites.{Held}
 use Rattle.ubik_cell.specs.Trace.{trace}
 
--- the run that these lines told is that of the opening and the events; what was told is what is seen of them, as long as
--- the script did not end
+-- The run that these lines told is that of the opening and the events. Each event is one of the world that those before
+-- it leave; and what was told is what is seen of them, as long as the script did not end.
 pub record IsRunOf (db : Database) (t : Told) (clock : ℕ) (failed : Bool) (events : List Event) : Type 0 where
   pub run : t.stage.run ≡ Some (run_of_one db clock failed events)
+  pub legal : IsRun db (first_world clock (failed ∷ [])) events
   pub told : t.stop ≡ None → t.text ≡ trace (first_seen 0 (failed ∷ []) ++ seen_of db (first_world clock (failed ∷ [])) events)
 
 -- the list of each announcement is a front of the list of each later one

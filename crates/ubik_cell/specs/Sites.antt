@@ -1,5 +1,5 @@
 -- What the one server of a cell puts out.
-use Rattle.std.specs.Prelude.{◌≡◌, ◌⊎◌, ◌+◌, ◌-◌, ◌<◌, ◌≤◌, ℕ, Bool, true, Option, Some, None, IfSome, Result, Ok, List, [], ◌∷◌, ◌++◌, map}
+use Rattle.std.specs.Prelude.{◌≡◌, ◌⊎◌, ◌+◌, ◌-◌, ◌<◌, ◌≤◌, ℕ, true, Option, Some, None, IfSome, Result, Ok, List, [], ◌∷◌, ◌++◌, map}
 use Rattle.db_image.specs.Database.{Database}
 use Rattle.disk_base.specs.Files.{Files, no_files}
 use Rattle.cell_model.specs.declared.events.NodeEvent.{NodeEvent}
