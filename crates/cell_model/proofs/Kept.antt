@@ -184,6 +184,19 @@ commits db s now e book ann t made stands = announced_one made.outputs
         (ap (λ (l : List Transaction). list_or_none book s.version ++ l) (sym one.one))
         (made.image_is ∙ ap (image_from db s.image) (sym one.one)) (inr (transaction, one.one)) stands
 
+-- the order after a step of the one server
+abbrev pub order_after : Book → List Announcement → Server → Stepped → List Transaction
+order_after book ann s t = order_of (announced_after 0 (book_after book s.version t) ann t)
+
+-- a transaction that is committed and announced is the next one of the order
+pub next_of_order : (db : Database) (s : Server) (now : ℕ) (e : NodeEvent) (book : Book) (ann : List Announcement) (t : Stepped) (made : Commits db 1 0 s now e t) → Announces made.new made.id made.answer (made_at now made.answered.call) t → Stands db book ann s → order_after book ann s t ≡ order_of ann ++ made_at now made.answered.call ∷ []
+next_of_order db s now e book ann t made one stands =
+    let after = book_after book s.version t in
+    let last = made_at now made.answered.call in
+    ap (λ (o : List Output). order_of (announced after (map (Puts 0) o) ann)) one.outputs
+    ∙ list_after book after made.new made.new (list_or_none book s.version ++ last ∷ []) (ap (λ (calls : List Made). entered book (entries_from s.version calls)) made.calls) refl
+    ∙ ap (λ (l : List Transaction). l ++ last ∷ []) (sym (stands.ready made.answered.ready))
+
 pub step_leaves : (db : Database) (s : Server) (now : ℕ) (e : NodeEvent) (book : Book) (ann : List Announcement) (t : Stepped) → IsStep db 1 0 s now e t → Stands db book ann s → Leaves db book ann s t
 step_leaves db s now e book ann t (inl same) stands = rests db s now e book ann t same stands
 step_leaves db s now e book ann t (inr (inl made)) stands = relabels db s book ann t made stands

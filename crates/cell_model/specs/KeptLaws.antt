@@ -7,7 +7,7 @@ use Rattle.cell_model.specs.declared.events.NodeEvent.TheVariants.{BeaconTurn, R
 use Rattle.cell_model.specs.declared.events.Output.TheVariants as output
 use Rattle.cell_model.specs.declared.events.Reply.{Reply}
 use Rattle.cell_model.specs.declared.events.Reply.TheVariants as reply
-use Rattle.cell_model.specs.Book.{Run, Acknowledgement, first_run, order_of, is_ready_site, site_database}
+use Rattle.cell_model.specs.Book.{Run, Acknowledgement, first_run, run_with, order_of, is_ready_site, site_database}
 use Rattle.cell_model.specs.Durable.{Transaction}
 use Rattle.cell_model.specs.Laws.{run_through}
 use Rattle.cell_model.specs.Node.{Node, Down, Halted, Up}
@@ -30,12 +30,14 @@ AcknowledgedStay =
     let later = run_through db r more in
     All (λ a. Contains later.acknowledged a × IsAt (order_of later.announcements) a) r.acknowledged
 
--- the transaction is the one acknowledged, or it leaves the single copy's image as it is after the order
-abbrev pub IsRecorded : Database → List Transaction → List Transaction → Transaction → Type 0
-IsRecorded db order acknowledged t = (acknowledged ≡ t ∷ []) ⊎ (image_of db (order ++ t ∷ []) ≡ image_of db order)
+-- the transaction is the one acknowledged, and the order goes on with it; or it leaves the single copy's image as it is
+-- after the order
+abbrev pub IsRecorded : Database → (before after acknowledged : List Transaction) → Transaction → Type 0
+IsRecorded db before after acknowledged t =
+    ((acknowledged ≡ t ∷ []) × (after ≡ before ++ t ∷ [])) ⊎ (image_of db (before ++ t ∷ []) ≡ image_of db before)
 
 -- After each run, where the next event asks a call that writes, and its Ok is seen, the transaction is acknowledged
--- in that event, or it changes nothing.
+-- in that event and is the next one of the order, or it changes nothing.
 abbrev pub OksAreAcknowledged : Type 0
 OksAreAcknowledged =
     (db : Database) (clock : ℕ) (failed : Bool) (events : List Event) (server id : ℕ) (call fields : List ℕ) (short : List Bool) →
@@ -43,7 +45,7 @@ OksAreAcknowledged =
     let h = happens db r.world (Step server (Ask id call) short) in
     db.writes call ≡ Some true → Contains h.seen (Puts server (output.Reply id (reply.Ok fields))) →
     IfSome (site_of r.world.sites server) (λ site.
-    IsRecorded db (order_of r.announcements) h.acknowledged (record { moment = site.clock; call = call }))
+    IsRecorded db (order_of r.announcements) (order_of (run_with r h).announcements) h.acknowledged (record { moment = site.clock; call = call }))
 
 -- a server of n that is a ready sync site has the image of the single copy after these transactions
 abbrev pub IsSingle : Database → List Transaction → ℕ → ℕ → Node → Type 0
@@ -67,15 +69,19 @@ pub record Told : Type 0 where
 abbrev pub told : ℕ → ℕ → CallReply → Told
 told server id r = record { server = server; id = id; reply = r }
 
--- what the single copy tells at an event: its reply to the call that is asked, at the clock of the server asked.
--- In all other events there is nothing to tell.
+-- what a copy tells at an event that replies so at a moment to a call: its reply to the call that is asked, at the clock of
+-- the server asked. In all other events there is nothing to tell.
+abbrev pub told_by : (ℕ → List ℕ → CallReply) → World → Event → Option Told
+told_by reply w (Tick_all seconds) = None
+told_by reply w (Step server BeaconTurn short) = None
+told_by reply w (Step server RecoverTurn short) = None
+told_by reply w (Step server (Ask id call) short) =
+    option_map (λ (site : Site). told server id (reply site.clock call)) (site_of w.sites server)
+told_by reply w (Fault server event short made) = None
+
+-- the same of the single copy after these transactions
 abbrev pub single_told : Database → List Transaction → World → Event → Option Told
-single_told db order w (Tick_all seconds) = None
-single_told db order w (Step server BeaconTurn short) = None
-single_told db order w (Step server RecoverTurn short) = None
-single_told db order w (Step server (Ask id call) short) =
-    option_map (λ (site : Site). told server id (reply_after db order site.clock call)) (site_of w.sites server)
-single_told db order w (Fault server event short made) = None
+single_told db order = told_by (reply_after db order)
 
 -- what a reply tells of the database is this. Ok, Rule and BadRecord tell of it, the others do not.
 abbrev pub IsToldBy : Option Told → ℕ → ℕ → Reply → Type 0

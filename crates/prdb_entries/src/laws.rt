@@ -1,5 +1,5 @@
 //! Laws of the definitions that the contracts cite.
-ghost use Rattle.std.specs.Prelude.{◌≡◌, ◌↔◌, ℕ, List, [], Some};
+ghost use Rattle.std.specs.Prelude.{◌≡◌, ◌↔◌, ℕ, List, [], Some, None};
 ghost use Rattle.prdb_entries.specs.Bytes.{IsBytes};
 ghost use Rattle.prdb_entries.specs.Call.{PrCall, IsPrCall, spelling};
 ghost use Rattle.prdb_entries.specs.Reading.{call_of};
@@ -7,7 +7,9 @@ ghost use Rattle.prdb_entries.specs.State.{PrState, initial_state};
 ghost use Rattle.prdb_entries.specs.Meaning.{meaning};
 ghost use Rattle.prdb_entries.specs.Layout.{StandsFor};
 ghost use Rattle.prdb_entries.specs.Agreement.{IsMeant};
-ghost use Rattle.prdb_entries.specs.Protection.{protection};
+ghost use Rattle.prdb_entries.specs.Protection.{outcome, protection};
+
+use db_image::CallReply;
 
 /// Bytes are read as a call exactly where they are its spelling, so each call has one.
 pub fn law_call_is_spelled()
@@ -15,10 +17,13 @@ pub fn law_call_is_spelled()
         → (call_of bytes ≡ Some call) ↔ ((bytes ≡ spelling call) × IsPrCall call) }
 {}
 
-/// Over every image that stands for a state, the database's outcome is what the call means for that state.
+/// Over every image that stands for a state, the database's outcome is what the call means for that state. Bytes that are no
+/// call are answered so, and leave every image.
 pub fn law_call_means()
-    ensures { (s : PrState) (image bytes : List ℕ) (now : ℕ) (call : PrCall) → StandsFor image s → call_of bytes ≡ Some call
+    ensures means { (s : PrState) (image bytes : List ℕ) (now : ℕ) (call : PrCall) → StandsFor image s → call_of bytes ≡ Some call
         → IsMeant (protection.call image now bytes) image s (meaning s now call) }
+    ensures no_call { (image bytes : List ℕ) (now : ℕ) → call_of bytes ≡ None
+        → protection.call image now bytes ≡ outcome image (CallReply.Malformed, None) }
 {}
 
 /// The empty image stands for the first state, which is valid.

@@ -1,6 +1,7 @@
 pub mod AtEndings
 pub mod Completeness
 pub mod Consuming
+pub mod Copies
 pub mod Fields
 pub mod Holding
 pub mod Legal
@@ -11,6 +12,7 @@ pub mod OpenedLine
 pub mod Opening
 pub mod Refusals
 pub mod Shortage
+pub mod SingleState
 pub mod Starting
 pub mod SteppedLine
 pub mod Telling

@@ -22,14 +22,14 @@ short_step_line st before asks number event disk from opened short = by there.0 
     by : (r : Run) → st.run ≡ Some r → SiteShort protection disk number event r → LineShort disk st.run (λ luck. in_run (stepped protection st luck number event) st.run)
     by r is (inl same) = inl (subst (IsReadAs disk) (sym is) same)
     by r is (inr (there, up, reads)) =
-        inr (Sound, with_event protection st r (event_at Sound r number event), ap (in_run (stepped protection st Sound number event)) is ∙ does_step st Sound number event r there up, reads)
+        inr (with_event protection st r (event_at Sound r number event), ap (in_run (stepped protection st Sound number event)) is ∙ does_step st Sound number event r there up, reads)
 
 -- the same by another name
 pub short_as : {E : Type 0} (disk : Held) (run : Option Run) (f g : Luck → Result Line_run E) → ((luck : Luck) → f luck ≡ g luck) → LineShort disk run g → LineShort disk run f
 short_as disk run f g same (inl so_far) = inl so_far
-short_as disk run f g same (inr (luck, ran, is, reads)) = inr (luck, ran, same luck ∙ is, reads)
+short_as disk run f g same (inr (ran, is, reads)) = inr (ran, same Sound ∙ is, reads)
 
 -- a line that was understood
 pub short_line : (disk : Held) (st : Stage) (bytes : List ℕ) (l : Line) → st.lines < 20000 → line_of bytes ≡ Ok l → LineShort disk st.run (λ luck. line_run protection st luck l) → LineShort disk st.run (λ luck. line_result protection st (record { line = bytes; luck = luck }))
 short_line disk st bytes l few is (inl so_far) = inl so_far
-short_line disk st bytes l few is (inr (luck, ran, ran_so, reads)) = inr (luck, ran, result_is st bytes luck (Ok l) few is ∙ ap or_refused ran_so, reads)
+short_line disk st bytes l few is (inr (ran, ran_so, reads)) = inr (ran, result_is st bytes Sound (Ok l) few is ∙ ap or_refused ran_so, reads)

@@ -10,7 +10,7 @@ use Rattle.ubik_cell.specs.declared.cells.Ending.{Ending}
 use Rattle.ubik_cell.specs.declared.scripts.CellRun.{CellRun}
 use Rattle.ubik_cell.specs.declared.sites.LineDone.{LineDone}
 use Rattle.ubik_cell.specs.declared.sites.LineDone.TheVariants as done_as
-use Rattle.ubik_cell.specs.Script.{Stage, Luck, Reading, Line_run, Told, told, line_result}
+use Rattle.ubik_cell.specs.Script.{Stage, Luck, Sound, Reading, Line_run, Told, told, line_result, sound_readings}
 use Rattle.ubik_cell.specs.Run.{Holds, Runs, AtLine, AtEnding, SoFar, RanToTheEnd, RanToFault, RanInPart, RanShort, read_lines, IsConsumed}
 use Rattle.ubik_cell.specs.Lines.{LineTold, Ends, IsAt, IsSound}
 use Rattle.ubik_cell.specs.Sites.{LineShort, site_faults, site_held}
@@ -97,13 +97,13 @@ short_at db files faults text left before after run next line at short kept =
   where
     held_by : LineShort (site_held files faults next.site) (told db at.readings).stage.run (λ luck. line_result db (told db at.readings).stage (record { line = line; luck = luck })) →
         Holds (site_held files faults next.site) (told db at.readings).stage
-        ⊎ ((last : Reading) × (line ∷ [] ≡ last.line ∷ []) × Holds (site_held files faults next.site) (told db (at.readings ++ last ∷ [])).stage)
+        ⊎ Holds (site_held files faults next.site) (told db (at.readings ++ sound_readings (line ∷ []))).stage
     held_by (inl so_far) = inl so_far
-    held_by (inr (luck, ran, is, reads)) =
-        let r : Reading = record { line = line; luck = luck } in
+    held_by (inr (ran, is, reads)) =
+        let r : Reading = record { line = line; luck = Sound } in
         let more = told-push db at.readings r (Ok ran) at.good is in
         let P : Told → Type 0 = λ d. Holds (site_held files faults next.site) d.stage in
-        inr (r, refl, subst P (sym more) reads)
+        inr (subst P (sym more) reads)
 
 -- a line of so few bytes is read whole
 whole_of : (line : List ℕ) → length line ≤ 1024 → take 1025 line ≡ line

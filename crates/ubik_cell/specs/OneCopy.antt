@@ -1,62 +1,77 @@
 -- What the run of a script's lines is worth: one order of the committed transactions, what was acknowledged stays in it,
 -- and each database and each reply is that of a single copy.
-use Rattle.std.specs.Prelude.{◌≡◌, ◌≤◌, ℕ, Bool, true, Option, Some, None, IfSome, List, [], ◌∷◌, ◌++◌, length, All, Contains}
+use Rattle.std.specs.Prelude.{◌≡◌, ◌⊎◌, ℕ, Bool, true, Option, Some, None, IfSome, List, [], ◌∷◌, ◌++◌, All, Contains}
 use Rattle.db_image.specs.Database.{Database}
 use Rattle.disk_base.specs.Files.{Files, no_files}
-use Rattle.cell_model.specs.Book.{Run, order_of}
+use Rattle.cell_model.specs.Book.{Run, run_with, order_of}
 use Rattle.cell_model.specs.declared.events.NodeEvent.TheVariants.{Ask}
 use Rattle.cell_model.specs.declared.events.Output.TheVariants as output
 use Rattle.cell_model.specs.declared.events.Reply.TheVariants as reply
-use Rattle.cell_model.specs.KeptLaws.{run_of_one, IsAt, IsSingle, IsSeenOf, IsRecorded, single_told}
+use Rattle.cell_model.specs.KeptLaws.{run_of_one, IsAt, IsSingle, IsSeenOf, IsRecorded, told_by}
 use Rattle.cell_model.specs.Laws.{Grows}
-use Rattle.cell_model.specs.World.{Site, Event, Step, Puts, IsRun, site_of, happens, first_seen, first_world, seen_of}
+use Rattle.cell_model.specs.World.{Site, Event, Step, Happening, Puts, IsRun, site_of, happens, first_seen, first_world, seen_of}
 use Rattle.ubik_node.specs.Database.{durable_of}
 use Rattle.ubik_cell.specs.declared.cells.CellKind.{CellKind}
 use Rattle.ubik_cell.specs.declared.cells.CellKind.TheVariants as kind
 use Rattle.ubik_cell.specs.Run.{Runs}
-use Rattle.ubik_cell.specs.Script.{Opening, Reading, Told, told}
+use Rattle.ubik_cell.specs.Script.{Opening, Reading, Stop, Told, told, sound_readings}
+use Rattle.ubik_cell.specs.SingleState.{HasState, reply_of}
 use Rattle.ubik_cell.specs.Sites.{Held}
-use Rattle.ubik_cell.specs.Trace.{trace}
+use Rattle.ubik_cell.specs.Trace.{trace, ending_text}
+
+-- the line that tells where a script ended, if it did
+abbrev pub IsLast : Option Stop → List ℕ → Type 0
+IsLast None last = last ≡ []
+IsLast (Some stop) last = last ≡ ending_text stop.line stop.ending
 
 -- The run that these lines told is that of the opening and the events. Each event is one of the world that those before
--- it leave; and what was told is what is seen of them, as long as the script did not end.
+-- it leave; and what was told is what is seen of them, and then where the script ended, if it did.
 pub record IsRunOf (db : Database) (t : Told) (clock : ℕ) (failed : Bool) (events : List Event) : Type 0 where
   pub run : t.stage.run ≡ Some (run_of_one db clock failed events)
   pub legal : IsRun db (first_world clock (failed ∷ [])) events
-  pub told : t.stop ≡ None → t.text ≡ trace (first_seen 0 (failed ∷ []) ++ seen_of db (first_world clock (failed ∷ [])) events)
+  pub last : List ℕ
+  pub told : t.text ≡ trace (first_seen 0 (failed ∷ []) ++ seen_of db (first_world clock (failed ∷ [])) events) ++ last
+  pub ended : IsLast t.stop last
 
 -- the list of each announcement is a front of the list of each later one
 abbrev pub HasOneOrder : Database → ℕ → Bool → List Event → Type 0
 HasOneOrder db clock failed events = Grows (run_of_one db clock failed events).announcements
 
 -- What was acknowledged at any place of the run is in the order at each later one, at its place; and the database of each
--- ready sync site at any place is the single copy's after the order there. Each Ok to a call that writes is acknowledged in
--- that event, or the call changes nothing.
+-- ready sync site at any place is the single copy's after the order there, and stands for the state of the order. Each Ok to a
+-- call that writes is acknowledged in that event, and is the next one of the order, or the call changes nothing.
 pub record IsKept (db : Database) (clock : ℕ) (failed : Bool) (events : List Event) : Type 0 where
   pub stays : (front middle back : List Event) → events ≡ (front ++ middle) ++ back →
       All (λ a. IsAt (order_of (run_of_one db clock failed (front ++ middle)).announcements) a)
       (run_of_one db clock failed front).acknowledged
   pub sites : (front back : List Event) → events ≡ front ++ back →
       let r = run_of_one db clock failed front in
-      All (λ site. IsSingle db (order_of r.announcements) 1 site.clock site.node) r.world.sites
+      All (λ site. IsSingle db (order_of r.announcements) 1 site.clock site.node × HasState (order_of r.announcements) 1 site.clock site.node) r.world.sites
   pub recorded : (front back : List Event) (server id : ℕ) (call fields : List ℕ) (short : List Bool) →
       events ≡ front ++ Step server (Ask id call) short ∷ back →
       let r = run_of_one db clock failed front in
       let h = happens db r.world (Step server (Ask id call) short) in
       db.writes call ≡ Some true → Contains h.seen (Puts server (output.Reply id (reply.Ok fields))) →
       IfSome (site_of r.world.sites server) (λ site.
-      IsRecorded db (order_of r.announcements) h.acknowledged (record { moment = site.clock; call = call }))
+      IsRecorded db (order_of r.announcements) (order_of (run_with r h).announcements) h.acknowledged (record { moment = site.clock; call = call }))
 
--- each reply Ok or Rule of an event is that of the single copy after the order before the event
+-- no reply is that the database is bad
+abbrev pub IsGoodRecord : Happening → Type 0
+IsGoodRecord (Puts server (output.Reply id (reply.BadRecord at))) = ⊥
+IsGoodRecord _ = Unit {0}
+
+-- Each reply Ok or Rule of an event is what its call means for the state of the order before the event, at the clock of
+-- the server; and no reply is that the database is bad.
 abbrev pub HasSingleReplies : Database → ℕ → Bool → List Event → Type 0
 HasSingleReplies db clock failed events =
     (front back : List Event) (event : Event) → events ≡ front ++ event ∷ back →
     let r = run_of_one db clock failed front in
-    All (IsSeenOf (single_told db (order_of r.announcements) r.world event)) (happens db r.world event).seen
+    All (λ seen. IsSeenOf (told_by (reply_of (order_of r.announcements)) r.world event) seen × IsGoodRecord seen)
+    (happens db r.world event).seen
 
--- no cell stands, and nothing was told; or the opening and the events of these lines make their run, and have this
+-- no cell stands, and nothing was told but where the script ended; or the opening and the events of these lines make their run, and have this
 abbrev pub OfOpening : (Database → ℕ → Bool → List Event → Type 0) → Database → Told → Option Opening → Type 0
-OfOpening P db t None = (t.stage.run ≡ None) × (t.stop ≡ None → t.text ≡ [])
+OfOpening P db t None = (t.stage.run ≡ None) × IsLast t.stop t.text
 OfOpening P db t (Some o) = IsRunOf db t o.clock o.failed t.stage.events × P db o.clock o.failed t.stage.events
 
 abbrev pub OfRun : (Database → ℕ → Bool → List Event → Type 0) → Database → List Reading → Type 0
@@ -88,19 +103,25 @@ abbrev pub ReadsRun : Option Run → Files → Type 0
 ReadsRun None fs = fs ≡ no_files
 ReadsRun (Some r) fs = ReadsDurable r.world.sites fs
 
--- of a run that ended for want of memory one line more may have been run, of which nothing was told
-abbrev pub IsMore : CellKind → List Reading → Type 0
-IsMore kind.NoMemory more = length more ≤ 1
-IsMore _ more = more ≡ []
+-- the lines of which nothing was told for want of memory: one at most
+abbrev pub untold_of : (k : CellKind) (db : Database) (script : List ℕ) (left : Option (List ℕ)) (before : List ℕ) (after : Option (List ℕ)) (disk : Held) → Runs k db script left before after disk → List (List ℕ)
+untold_of kind.NoMemory db script left before after disk runs = runs.more
+untold_of _ db script left before after disk runs = []
+
+-- none of these lines was run, or each was, and the disk served it
+abbrev pub IsMore : List (List ℕ) → List Reading → Type 0
+IsMore lines more = (more ≡ []) ⊎ (more ≡ sound_readings lines)
 
 -- where a word was given, no run was begun
 abbrev pub IsBegun : CellKind → Type 0
 IsBegun (kind.Words place) = ⊥
 IsBegun _ = Unit {0}
 
--- where its count of faults stands at 0, the first disk reads as the durable state of each such run
+-- Where its count of faults stands at 0, the first disk reads as the durable state of each such run, or, where memory ran out,
+-- perhaps of the run with the line in which it ran out; and that run keeps what was acknowledged.
 abbrev pub DiskHolds : CellKind → Database → Option (List ℕ) → Option (List ℕ) → Option (List ℕ) → Option (List ℕ) → Held → Type 0
 DiskHolds k db left later written after disk =
     IfSome left (λ script. IfSome written (λ before. (runs : Runs k db script later before after disk) → IsBegun k → disk.faults ≡ 0 →
-    (more : List Reading) × IsMore k more
-    × IfSome disk.files (ReadsRun (told db (readings_of k db script later before after disk runs ++ more)).stage.run)))
+    (more : List Reading) × IsMore (untold_of k db script later before after disk runs) more
+    × IfSome disk.files (ReadsRun (told db (readings_of k db script later before after disk runs ++ more)).stage.run)
+    × OfRun IsKept db (readings_of k db script later before after disk runs ++ more)))

@@ -104,7 +104,7 @@ pub record RanShort (db : Database) (text : List ℕ) (left : Option (List ℕ))
   pub wrote : Wrote before after (told db readings).text
   pub causes : (told db readings).faults ≤ disk.faults
   pub holds : Holds disk (told db readings).stage
-      ⊎ ((last : Reading) × (more ≡ last.line ∷ []) × Holds disk (told db (readings ++ last ∷ [])).stage)
+      ⊎ Holds disk (told db (readings ++ sound_readings more)).stage
 
 -- what was read and written by a run that ended so
 abbrev pub Runs : CellKind → Database → List ℕ → Option (List ℕ) → List ℕ → Option (List ℕ) → Held → Type 0

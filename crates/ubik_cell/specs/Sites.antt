@@ -112,10 +112,11 @@ SiteShort db disk number event r =
     ⊎ ((is_there r.world.sites number ≡ true) × (is_up_at r.world.sites (number - 1) ≡ true)
     × IsReadAs disk (Some (run_after db r (event_at Sound r number event))))
 
--- a line of which nothing was told for want of memory: the disk reads as the run before it, or as the one after it
+-- a line of which nothing was told for want of memory: the disk reads as the run before it, or, having served it, as the one
+-- after it
 abbrev pub LineShort : {E : Type 0} → Held → Option Run → (Luck → Result Line_run E) → Type 0
 LineShort disk run result =
-    IsReadAs disk run ⊎ ((luck : Luck) × (ran : Line_run) × (result luck ≡ Ok ran) × IsReadAs disk ran.stage.run)
+    IsReadAs disk run ⊎ ((ran : Line_run) × (result Sound ≡ Ok ran) × IsReadAs disk ran.stage.run)
 
 -- a server that stays down, and tells so
 abbrev pub DownTold : {D : Type 0} → (D → ℕ) → D → Site D → List ℕ → List ℕ → Type 0

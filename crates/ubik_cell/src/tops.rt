@@ -3,7 +3,13 @@ ghost use Rattle.std.specs.Prelude.{◌≡◌, ◌≢◌, ◌+◌, ◌<◌, ◌�
 ghost use Rattle.std.specs.String.{string_bytes};
 ghost use Rattle.disk_base.specs.Count.{HasCause};
 ghost use Rattle.disk_base.specs.Files.{no_files};
-ghost use Rattle.prdb_entries.specs.Protection.{protection};
+ghost use Rattle.prdb_entries.specs.Agreement.{IsMeant};
+ghost use Rattle.prdb_entries.specs.Call.{PrCall};
+ghost use Rattle.prdb_entries.specs.Layout.{StandsFor};
+ghost use Rattle.prdb_entries.specs.Meaning.{meaning};
+ghost use Rattle.prdb_entries.specs.Protection.{outcome, protection};
+ghost use Rattle.prdb_entries.specs.Reading.{call_of};
+ghost use Rattle.prdb_entries.specs.State.{PrState, initial_state};
 ghost use Rattle.ubik_cell.specs.Lines.{IsSound};
 ghost use Rattle.ubik_cell.specs.Run.{SoFar, AtLine, AtEnding, Runs, kind_at, IsInside, IsDoneOrShort};
 ghost use Rattle.ubik_cell.specs.Run as Status;
@@ -22,7 +28,9 @@ use cell_model::{
     law_replies_are_single, law_sites_are_single,
 };
 use cell_script::{LineEnd, LineReader, write_whole};
+use db_image::CallReply;
 use disk_base::{Sink, Source, StopDisk};
+use prdb_entries::{law_call_means, law_empty_is_initial};
 use std::alloc::Global;
 
 /// How a script ends that ends at this line.
@@ -170,7 +178,7 @@ fn status_of(kind: CellKind) -> u8
     }
 }
 
-/// The laws of each run of a cell of one server, which the run of a script is. It does nothing.
+/// The laws of each run of a cell of one server, which the run of a script is, and of the database. It does nothing.
 fn recall_laws()
     ensures order { AnnouncementsGrow }
     ensures stay { AcknowledgedStay }
@@ -178,7 +186,13 @@ fn recall_laws()
     ensures sites { SitesAreSingle }
     ensures replies { RepliesAreSingle }
     ensures durable { DatabaseIsDurable }
+    ensures means { (s : PrState) (image bytes : List ℕ) (now : ℕ) (call : PrCall) → StandsFor image s → call_of bytes ≡ Some call
+        → IsMeant (protection.call image now bytes) image s (meaning s now call) }
+    ensures no_call { (image bytes : List ℕ) (now : ℕ) → call_of bytes ≡ None → protection.call image now bytes ≡ outcome image (CallReply.Malformed, None) }
+    ensures first { StandsFor [] initial_state }
 {
+    law_call_means();
+    law_empty_is_initial();
     law_announcements_grow();
     law_acknowledged_stay();
     law_ok_is_acknowledged();

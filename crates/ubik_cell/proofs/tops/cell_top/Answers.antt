@@ -4,7 +4,9 @@ use Rattle.ubik_cell.specs.Disks.{first_held}
 use Rattle.ubik_cell.specs.Sites.{Held, held}
 use Rattle.ubik_cell.specs.OneCopy.{HasOneOrder, IsKept, HasSingleReplies}
 use Rattle.ubik_cell.proofs.Completeness.{complete_told}
-use Rattle.ubik_cell.proofs.Worth.{of_each_run, one_order, kept, single_replies, disk_holds}
+use Rattle.ubik_cell.proofs.Copies.{one_order, kept, single_replies}
+use Rattle.ubik_cell.proofs.SingleState.{DatabaseLaws}
+use Rattle.ubik_cell.proofs.Worth.{of_each_run, disk_holds}
 use Rattle.ubik_cell.proofs.tops.cell_top.Goals as goal
 
 pub returns-clause-complete : goal.returns-clause-complete
@@ -17,13 +19,19 @@ returns-clause-complete g c = λ none read wrote sound.
     c.run_script-disk.ensures.no_words
 
 pub returns-clause-one_order : goal.returns-clause-one_order
-returns-clause-one_order g c = of_each_run HasOneOrder (one_order c.recall_laws.ensures.order) c.run_script-disk.result.1 protection _ _ _ _ _
+returns-clause-one_order g c = of_each_run HasOneOrder protection (one_order c.recall_laws.ensures.order protection) c.run_script-disk.result.1 _ _ _ _ _
 
 pub returns-clause-kept : goal.returns-clause-kept
-returns-clause-kept g c = of_each_run IsKept (kept c.recall_laws.ensures.stay c.recall_laws.ensures.sites c.recall_laws.ensures.acknowledged) c.run_script-disk.result.1 protection _ _ _ _ _
+returns-clause-kept g c =
+    let laws : DatabaseLaws = record { means = c.recall_laws.ensures.means; no_call = c.recall_laws.ensures.no_call; first = c.recall_laws.ensures.first } in
+    of_each_run IsKept protection (kept laws c.recall_laws.ensures.stay c.recall_laws.ensures.sites c.recall_laws.ensures.acknowledged) c.run_script-disk.result.1 _ _ _ _ _
 
 pub returns-clause-single_copy : goal.returns-clause-single_copy
-returns-clause-single_copy g c = of_each_run HasSingleReplies (single_replies c.recall_laws.ensures.replies) c.run_script-disk.result.1 protection _ _ _ _ _
+returns-clause-single_copy g c =
+    let laws : DatabaseLaws = record { means = c.recall_laws.ensures.means; no_call = c.recall_laws.ensures.no_call; first = c.recall_laws.ensures.first } in
+    of_each_run HasSingleReplies protection (single_replies laws c.recall_laws.ensures.replies) c.run_script-disk.result.1 _ _ _ _ _
 
 pub returns-clause-disk : goal.returns-clause-disk
-returns-clause-disk g c = disk_holds c.recall_laws.ensures.durable c.run_script-disk.result.1 protection _ _ _ _ _
+returns-clause-disk g c =
+    let laws : DatabaseLaws = record { means = c.recall_laws.ensures.means; no_call = c.recall_laws.ensures.no_call; first = c.recall_laws.ensures.first } in
+    disk_holds c.recall_laws.ensures.durable protection (kept laws c.recall_laws.ensures.stay c.recall_laws.ensures.sites c.recall_laws.ensures.acknowledged) c.run_script-disk.result.1 _ _ _ _ _

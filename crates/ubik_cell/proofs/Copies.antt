@@ -1,0 +1,94 @@
+-- One order, what is kept, and single replies: of each run of a cell of one, by the laws of such runs and of the database.
+use Rattle.std.proofs.Common.{◌≡◌, ◌≢◌, ℕ, Bool, List, [], ◌∷◌, ◌++◌, Option, Some, None, refl, sym, ap, subst}
+use Rattle.std.specs.Prelude.{All, Contains, option_map}
+use Rattle.std.proofs.lemmas.List.Elements.{All-weaker}
+use Rattle.db_image.specs.Database.{Database}
+use Rattle.db_image.specs.declared.services.CallReply.{CallReply}
+use Rattle.db_image.specs.declared.services.CallReply.TheVariants as call_reply
+use Rattle.cell_model.specs.declared.events.NodeEvent.TheVariants as node
+use Rattle.cell_model.specs.declared.events.Output.TheVariants as output
+use Rattle.cell_model.specs.declared.events.Reply.TheVariants as reply
+use Rattle.cell_model.specs.Book.{Run, first_run, order_of}
+use Rattle.cell_model.specs.Durable.{Transaction}
+use Rattle.cell_model.specs.KeptLaws.{AcknowledgedStay, OksAreAcknowledged, SitesAreSingle, RepliesAreSingle, IsAt, IsSingle, IsSeenOf, Told as Single, told as told_as, told_by, run_of_one}
+use Rattle.cell_model.specs.Laws.{AnnouncementsGrow, run_through}
+use Rattle.cell_model.specs.Node.{Node, Down, Halted, Up}
+use Rattle.cell_model.specs.SingleCopy.{reply_after}
+use Rattle.cell_model.specs.World.{Site, World, Event, Tick_all, Step, Fault, Happening, Puts, Halts, Stays_down, site_of, happens, first_world}
+use Rattle.prdb_entries.specs.Layout.{StandsFor}
+use Rattle.prdb_entries.specs.Protection.{protection}
+use Rattle.ubik_cell.specs.OneCopy.{HasOneOrder, IsKept, HasSingleReplies, IsGoodRecord}
+use Rattle.ubik_cell.specs.SingleState.{HasState, reply_of, state_of}
+use Rattle.ubik_cell.proofs.SingleState.{DatabaseLaws, image_stands, reply_meant, never_bad}
+use Rattle.ubik_cell.proofs.Telling.{same_some}
+use Rattle.ubik_cell.proofs.Worth.{run_append}
+
+pub one_order : AnnouncementsGrow → (db : Database) (clock : ℕ) (failed : Bool) (events : List Event) → HasOneOrder db clock failed events
+one_order law db clock failed events = law db clock failed events
+
+-- what is told over images and what is told by the meaning of calls is the same, as all replies are
+same_told : (f g : ℕ → List ℕ → CallReply) → ((now : ℕ) (call : List ℕ) → f now call ≡ g now call) → (w : World) (event : Event) → told_by f w event ≡ told_by g w event
+same_told f g same w (Tick_all seconds) = refl
+same_told f g same w (Step server node.BeaconTurn short) = refl
+same_told f g same w (Step server node.RecoverTurn short) = refl
+same_told f g same w (Step server (node.Ask id call) short) = by (site_of w.sites server)
+  where
+    by : (found : Option Site) → option_map (λ (site : Site). told_as server id (f site.clock call)) found ≡ option_map (λ (site : Site). told_as server id (g site.clock call)) found
+    by None = refl
+    by (Some site) = ap (λ (r : CallReply). Some (told_as server id r)) (same site.clock call)
+same_told f g same w (Fault server event short made) = refl
+
+-- nothing that is told by the meaning of calls is that the database is bad
+never_told : (transactions : List Transaction) (w : World) (event : Event) (server id at : ℕ) → told_by (reply_of transactions) w event ≢ Some (told_as server id (call_reply.BadRecord at))
+never_told transactions w (Tick_all seconds) server id at is = cc
+never_told transactions w (Step asked node.BeaconTurn short) server id at is = cc
+never_told transactions w (Step asked node.RecoverTurn short) server id at is = cc
+never_told transactions w (Step asked (node.Ask i call) short) server id at is = by (site_of w.sites asked) is
+  where
+    by : (found : Option Site) → option_map (λ (site : Site). told_as asked i (reply_of transactions site.clock call)) found ≢ Some (told_as server id (call_reply.BadRecord at))
+    by None never = cc
+    by (Some site) same =
+        never_bad transactions site.clock call at (ap (λ (s : Single). s.reply) (same_some same))
+never_told transactions w (Fault asked event short made) server id at is = cc
+
+good_record : (transactions : List Transaction) (w : World) (event : Event) (seen : Happening) → IsSeenOf (told_by (reply_of transactions) w event) seen → IsGoodRecord seen
+good_record transactions w event (Puts server (output.Announce version)) is = tt
+good_record transactions w event (Puts server (output.Reply id (reply.BadRecord at))) is = absurd (never_told transactions w event server id at is)
+good_record transactions w event (Puts server (output.Reply id _)) is = tt
+good_record transactions w event (Halts server) is = tt
+good_record transactions w event (Stays_down server) is = tt
+
+pub single_replies : DatabaseLaws → RepliesAreSingle → (clock : ℕ) (failed : Bool) (events : List Event) → HasSingleReplies protection clock failed events
+single_replies laws law clock failed events = λ front back event split.
+    let r = run_of_one protection clock failed front in
+    let order = order_of r.announcements in
+    let P : Option Single → Type 0 = λ o. All (IsSeenOf o) (happens protection r.world event).seen in
+    let Meant : Happening → Type 0 = IsSeenOf (told_by (reply_of order) r.world event) in
+    All-weaker Meant (λ seen. Meant seen × IsGoodRecord seen) (λ seen is. (is, good_record order r.world event seen is)) (happens protection r.world event).seen
+    (subst P (same_told (reply_after protection order) (reply_of order) (reply_meant laws order) r.world event) (law protection clock failed front event))
+
+-- a ready sync site's image stands for the state of the order
+has_state : DatabaseLaws → (order : List Transaction) (n clock : ℕ) (node : Node) → IsSingle protection order n clock node → HasState order n clock node
+has_state laws order n clock Down single = tt
+has_state laws order n clock (Halted h) single = tt
+has_state laws order n clock (Up s) single = λ ready.
+    let P : List ℕ → Type 0 = λ image. StandsFor image (state_of order) in subst P (sym (single ready)) (image_stands laws order)
+
+pub kept : DatabaseLaws → AcknowledgedStay → SitesAreSingle → OksAreAcknowledged → (clock : ℕ) (failed : Bool) (events : List Event) → IsKept protection clock failed events
+kept laws stay sites oks clock failed events =
+    record {
+      stays = λ front middle back split.
+          let r = run_of_one protection clock failed front in
+          let later = run_through protection r middle in
+          let whole : later ≡ run_of_one protection clock failed (front ++ middle) =
+          sym (run_append protection (first_run (first_world clock (failed ∷ []))) front middle) in
+          let P : Run → Type 0 = λ x. All (λ a. IsAt (order_of x.announcements) a) r.acknowledged in
+          subst P whole
+          (All-weaker (λ a. Contains later.acknowledged a × IsAt (order_of later.announcements) a) (λ a. IsAt (order_of later.announcements) a) (λ a both. both.1) r.acknowledged (stay protection clock failed front middle));
+      sites = λ front back split.
+          let r = run_of_one protection clock failed front in
+          let order = order_of r.announcements in
+          All-weaker (λ site. IsSingle protection order 1 site.clock site.node) (λ site. IsSingle protection order 1 site.clock site.node × HasState order 1 site.clock site.node)
+          (λ site single. (single, has_state laws order 1 site.clock site.node single)) r.world.sites (sites protection clock failed front);
+      recorded = λ front back server id call fields short split. oks protection clock failed front server id call fields short;
+    }

@@ -1,0 +1,74 @@
+-- The image of a list of transactions stands for the state of the list, so the single copy replies what calls mean there.
+use Rattle.std.proofs.Common.{◌≡◌, ◌≢◌, ℕ, Bool, true, false, cond, not, List, [], ◌∷◌, Option, Some, None, refl, sym, ap, subst, ◌∙◌}
+use Rattle.std.specs.Prelude.{All}
+use Rattle.db_image.specs.declared.services.CallReply.{CallReply}
+use Rattle.db_image.specs.declared.services.CallReply.TheVariants.{Done, Rule, Malformed, BadRecord}
+use Rattle.db_image.specs.Database.{Outcome}
+use Rattle.cell_model.specs.Durable.{Transaction}
+use Rattle.cell_model.specs.SingleCopy.{image_from, image_of, reply_after}
+use Rattle.prdb_entries.specs.Agreement.{IsMeant}
+use Rattle.prdb_entries.specs.Call.{PrCall, NewUser, NameToId}
+use Rattle.prdb_entries.specs.Layout.{StandsFor}
+use Rattle.prdb_entries.specs.Meaning.{Meaning, meaning, refused, made, has_name, next_user_id}
+use Rattle.prdb_entries.specs.Names.{is_user_name, lowered}
+use Rattle.prdb_entries.specs.Protection.{protection, outcome}
+use Rattle.prdb_entries.specs.Reading.{call_of}
+use Rattle.prdb_entries.specs.State.{PrState, initial_state}
+use Rattle.ubik_cell.specs.SingleState.{state_after, state_from, state_of, reply_in, reply_of}
+
+-- the laws of the protection database
+pub record DatabaseLaws : Type 0 where
+  pub means : (s : PrState) (image bytes : List ℕ) (now : ℕ) (call : PrCall) → StandsFor image s → call_of bytes ≡ Some call → IsMeant (protection.call image now bytes) image s (meaning s now call)
+  pub no_call : (image bytes : List ℕ) (now : ℕ) → call_of bytes ≡ None → protection.call image now bytes ≡ outcome image (Malformed, None)
+  pub first : StandsFor [] initial_state
+
+stands_after : DatabaseLaws → (image : List ℕ) (s : PrState) (now : ℕ) (bytes : List ℕ) (call : Option PrCall) → call_of bytes ≡ call → StandsFor image s → StandsFor (protection.call image now bytes).image (state_after s now call)
+stands_after laws image s now bytes None is stands =
+    subst (λ (o : Outcome). StandsFor o.image s) (sym (laws.no_call image bytes now is)) stands
+stands_after laws image s now bytes (Some call) is stands = (laws.means s image bytes now call stands is).stands
+
+stands_from : DatabaseLaws → (image : List ℕ) (s : PrState) (transactions : List Transaction) → StandsFor image s → StandsFor (image_from protection image transactions) (state_from s transactions)
+stands_from laws image s [] stands = stands
+stands_from laws image s (t ∷ transactions) stands =
+    stands_from laws (protection.call image t.moment t.call).image (state_after s t.moment (call_of t.call)) transactions
+    (stands_after laws image s t.moment t.call (call_of t.call) refl stands)
+
+pub image_stands : DatabaseLaws → (transactions : List Transaction) → StandsFor (image_of protection transactions) (state_of transactions)
+image_stands laws transactions = stands_from laws [] initial_state transactions laws.first
+
+replied : DatabaseLaws → (image : List ℕ) (s : PrState) (now : ℕ) (bytes : List ℕ) (call : Option PrCall) → call_of bytes ≡ call → StandsFor image s → (protection.call image now bytes).reply ≡ reply_in s now call
+replied laws image s now bytes None is stands = ap (λ (o : Outcome). o.reply) (laws.no_call image bytes now is)
+replied laws image s now bytes (Some call) is stands = (laws.means s image bytes now call stands is).reply
+
+-- the single copy over images replies what the call means
+pub reply_meant : DatabaseLaws → (transactions : List Transaction) (now : ℕ) (bytes : List ℕ) → reply_after protection transactions now bytes ≡ reply_of transactions now bytes
+reply_meant laws transactions now bytes =
+    replied laws (image_of protection transactions) (state_of transactions) now bytes (call_of bytes) refl (image_stands laws transactions)
+
+-- a reply that is not for a bad record
+abbrev IsGood : CallReply → Type 0
+IsGood (BadRecord at) = ⊥
+IsGood _ = Unit {0}
+
+either_good : (b : Bool) (x y : Meaning) → IsGood x.reply → IsGood y.reply → IsGood (cond b x y).reply
+either_good true x y good other = good
+either_good false x y good other = other
+
+made_good : (s : PrState) (name : List ℕ) (id : Option ℕ) → IsGood (made s name id).reply
+made_good s name None = tt
+made_good s name (Some id) = tt
+
+meaning_good : (s : PrState) (now : ℕ) (call : PrCall) → IsGood (meaning s now call).reply
+unfolding meaning
+meaning_good s now (NewUser name) =
+    either_good (not (is_user_name (lowered name))) (refused s 267272) _ tt
+    (either_good (has_name s (lowered name)) (refused s 267264) (made s (lowered name) (next_user_id s)) tt (made_good s (lowered name) (next_user_id s)))
+meaning_good s now (NameToId names) = tt
+
+reply_good : (s : PrState) (now : ℕ) (call : Option PrCall) → IsGood (reply_in s now call)
+reply_good s now None = tt
+reply_good s now (Some call) = meaning_good s now call
+
+-- no call means that the database is bad
+pub never_bad : (transactions : List Transaction) (now : ℕ) (bytes : List ℕ) (at : ℕ) → reply_of transactions now bytes ≢ BadRecord at
+never_bad transactions now bytes at is = subst IsGood is (reply_good (state_of transactions) now (call_of bytes))
