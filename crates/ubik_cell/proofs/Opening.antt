@@ -1,5 +1,5 @@
 -- The opening of a server over an empty disk.
-use Rattle.std.proofs.Common.{if◌then◌else◌, ◌≡◌, ◌≢◌, ◌<◌, ◌≤◌, ℕ, Bool, true, false, List, [], Option, Some, None, IfSome, refl, sym, subst, ◌∙◌, arith}
+use Rattle.std.proofs.Common.{if◌then◌else◌, ◌≡◌, ◌≢◌, ◌<◌, ◌≤◌, ℕ, Bool, true, false, List, [], Option, Some, None, IfSome, IsSomeAnd, refl, sym, subst, ◌∙◌, arith}
 use Rattle.ubik_types.specs.Moment.{IsMoment}
 use Rattle.disk_base.specs.Files.{Files, no_files}
 use Rattle.cell_model.specs.Durable.{Durable, no_database}
@@ -59,7 +59,7 @@ fresh_disk files faults disk n t empty up stored kept =
     record {
       stored = stored;
       alone = λ whole.
-          let P : Option Files → Type 0 = λ f. IfSome f (λ fs. (fs.log ≡ []) × (fs.incoming ≡ [])) in
+          let P : Option Files → Type 0 = λ f. IsSomeAnd f (λ fs. (fs.log ≡ []) × (fs.incoming ≡ [])) in
           subst P (sym (kept ∙ empty)) (refl, refl);
       cause = λ halted. absurd (not_halted n.halted (up_server n) t up halted);
     }
@@ -71,5 +71,5 @@ short_open files faults disk kept s (BadLabel len head) empty found rose same le
     let fault : BadLabel len head ≡ DiskFault = refused_by_fault (files disk) (BadLabel len head) empty found (λ is. cc) in absurd cc
 short_open files faults disk kept s NoMemory empty found rose same left more = λ none.
     let there : files (site_disk s) ≡ Some no_files = left refl ∙ same (λ is. let never : NoMemory ≡ DiskFault = is in cc) ∙ empty in
-    let P : Option Files → Type 0 = λ f. IfSome f (λ fs. fs ≡ no_files) in
+    let P : Option Files → Type 0 = λ f. IsSomeAnd f (λ fs. fs ≡ no_files) in
     subst P (sym there) refl

@@ -1,8 +1,7 @@
 -- The image of a list of transactions stands for the state of the list, so the single copy replies what calls mean there.
-use Rattle.std.proofs.Common.{◌≡◌, ◌≢◌, ℕ, Bool, true, false, cond, not, List, [], ◌∷◌, Option, Some, None, refl, sym, ap, subst, ◌∙◌}
-use Rattle.std.specs.Prelude.{All}
+use Rattle.std.proofs.Common.{◌≡◌, ◌≢◌, ℕ, Bool, true, false, cond, not, List, [], ◌∷◌, Option, Some, None, refl, sym, ap, subst}
 use Rattle.db_image.specs.declared.services.CallReply.{CallReply}
-use Rattle.db_image.specs.declared.services.CallReply.TheVariants.{Done, Rule, Malformed, BadRecord}
+use Rattle.db_image.specs.declared.services.CallReply.TheVariants.{Malformed, BadRecord}
 use Rattle.db_image.specs.Database.{Outcome}
 use Rattle.cell_model.specs.Durable.{Transaction}
 use Rattle.cell_model.specs.SingleCopy.{image_from, image_of, reply_after}

@@ -1,5 +1,5 @@
 -- How a run of a script starts.
-use Rattle.std.proofs.Common.{ℕ, List, [], Option, Some, None, IfSome, inl, refl, sym, ap, subst, ◌≡◌, arith}
+use Rattle.std.proofs.Common.{ℕ, List, [], Option, Some, None, IfSome, IsSomeAnd, inl, refl, sym, ap, subst, ◌≡◌, arith}
 use Rattle.std.proofs.lemmas.List.{append-nil}
 use Rattle.std.proofs.lemmas.List.Elements.{All-nil}
 use Rattle.db_image.specs.Database.{Database}
@@ -52,4 +52,4 @@ short_at_once db disk reads script before =
 -- an empty disk, where no cell stands
 pub empty_at_once : {D : Type 0} (files : D → Option Files) (faults : D → ℕ) (disk : D) → files disk ≡ Some no_files → IsReadAs (held files faults disk) None
 empty_at_once files faults disk empty = λ none.
-    let P : Option Files → Type 0 = λ f. IfSome f (λ fs. fs ≡ no_files) in subst P (sym empty) refl
+    let P : Option Files → Type 0 = λ f. IsSomeAnd f (λ fs. fs ≡ no_files) in subst P (sym empty) refl

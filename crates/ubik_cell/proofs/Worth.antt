@@ -1,5 +1,5 @@
 -- The lines of a script are a run of a cell of one server, and the laws of such runs are theirs.
-use Rattle.std.proofs.Common.{◌≡◌, ◌⊎◌, ◌+◌, inl, inr, ℕ, Bool, List, [], ◌∷◌, ◌++◌, Option, Some, None, IfSome, Result, Ok, Err, refl, sym, ap, subst, ◌∙◌, append_assoc, arith}
+use Rattle.std.proofs.Common.{◌≡◌, ◌⊎◌, ◌+◌, inl, inr, ℕ, Bool, List, [], ◌∷◌, ◌++◌, Option, Some, None, IsSomeAnd, Result, Ok, Err, refl, sym, ap, subst, ◌∙◌, append_assoc}
 use Rattle.std.proofs.lemmas.List.{append-nil}
 use Rattle.db_image.specs.Database.{Database}
 use Rattle.cell_model.specs.Book.{Run, first_run, run_after}
@@ -19,7 +19,7 @@ use Rattle.ubik_cell.specs.Trace.{trace, ending_text}
 use Rattle.ubik_cell.proofs.LineKinds.{IsBringing, IsKind, StageFits, result_kind}
 use Rattle.ubik_cell.proofs.Legal.{run_snoc}
 use Rattle.ubik_cell.proofs.OneStep.{trace-append}
-use Rattle.ubik_cell.proofs.Telling.{over_told, same_some}
+use Rattle.ubik_cell.proofs.Telling.{same_some}
 
 -- one more event
 run_push : (db : Database) (r : Run) (events : List Event) (e : Event) → run_through db r (events ++ e ∷ []) ≡ run_after db (run_through db r events) e
@@ -247,13 +247,17 @@ run_durable law db readings fs reads = by (may_run db readings)
         subst (λ (v : World). AllDurable v.sites) (sym (world_of_run db (first_run w) events)) (law db is.clock (is.failed ∷ []) events) in
         subst Q (sym is.run) (sites_durable r.world.sites fs all (subst P is.run reads))
 
-holds_durable : DatabaseIsDurable → (db : Database) (readings : List Reading) (disk : Held) → Holds disk (told db readings).stage → disk.faults ≡ 0 → IfSome disk.files (ReadsRun (told db readings).stage.run)
-holds_durable law db readings disk holds none = over_told (Reads (told db readings).stage.run) (ReadsRun (told db readings).stage.run) disk.files (holds none) (λ fs. run_durable law db readings fs)
+there_so : {X : Type 0} (P Q : X → Type 0) (o : Option X) → IsSomeAnd o P → ((x : X) → P x → Q x) → IsSomeAnd o Q
+there_so P Q None there so = absurd there
+there_so P Q (Some x) there so = so x there
+
+holds_durable : DatabaseIsDurable → (db : Database) (readings : List Reading) (disk : Held) → Holds disk (told db readings).stage → disk.faults ≡ 0 → IsSomeAnd disk.files (ReadsRun (told db readings).stage.run)
+holds_durable law db readings disk holds none = there_so (Reads (told db readings).stage.run) (ReadsRun (told db readings).stage.run) disk.files (holds none) (λ fs. run_durable law db readings fs)
 
 -- what the disk reads as, after the lines that were told and perhaps more; and what that run keeps
 HeldAs : Database → List (List ℕ) → List Reading → Held → Type 0
 HeldAs db untold readings disk =
-    (more : List Reading) × IsMore untold more × IfSome disk.files (ReadsRun (told db (readings ++ more)).stage.run) × OfRun IsKept db (readings ++ more)
+    (more : List Reading) × IsMore untold more × IsSomeAnd disk.files (ReadsRun (told db (readings ++ more)).stage.run) × OfRun IsKept db (readings ++ more)
 
 -- each run of these lines keeps what was acknowledged
 abbrev Keeps : Database → Type 0
@@ -262,7 +266,7 @@ Keeps db = (clock : ℕ) (failed : Bool) (events : List Event) → IsKept db clo
 held_whole : DatabaseIsDurable → (db : Database) → Keeps db → (untold : List (List ℕ)) (readings : List Reading) (disk : Held) → Holds disk (told db readings).stage → disk.faults ≡ 0 → HeldAs db untold readings disk
 unfolding HeldAs
 held_whole law db keeps untold readings disk holds none =
-    let P : List Reading → Type 0 = λ l. IfSome disk.files (ReadsRun (told db l).stage.run) in
+    let P : List Reading → Type 0 = λ l. IsSomeAnd disk.files (ReadsRun (told db l).stage.run) in
     ([], inl refl, subst P (sym (append-nil readings)) (holds_durable law db readings disk holds none), of_run IsKept db keeps (readings ++ []))
 
 held_short : DatabaseIsDurable → (db : Database) → Keeps db → (readings : List Reading) (untold : List (List ℕ)) (disk : Held) → Holds disk (told db readings).stage ⊎ Holds disk (told db (readings ++ sound_readings untold)).stage → disk.faults ≡ 0 → HeldAs db untold readings disk

@@ -1,5 +1,5 @@
 -- What a run of a script's lines stands for.
-use Rattle.std.specs.Prelude.{◌≡◌, ◌+◌, ◌-◌, ◌<◌, ◌≤◌, ℕ, true, false, Option, Some, None, IfSome, Result, Ok, Err, List, [], length, ◌++◌}
+use Rattle.std.specs.Prelude.{◌≡◌, ◌+◌, ◌-◌, ◌<◌, ◌≤◌, ℕ, true, false, Option, Some, None, IsSomeAnd, Result, Ok, Err, List, [], length, ◌++◌}
 use Rattle.db_image.specs.Database.{Database}
 use Rattle.cell_model.specs.declared.events.NodeEvent.{NodeEvent}
 use Rattle.cell_model.specs.Node as model
@@ -32,10 +32,10 @@ IsOpened (site.Unopened disk) = ⊥
 IsOpened (site.Down disk) = Unit {0}
 IsOpened (site.Up node) = Unit {0}
 
--- where the disk of a server that is not halted tells its files, the log and the incoming file are empty
+-- the disk of a server that is not halted tells its files, and the log and the incoming file are empty
 abbrev pub HasOnlyDatabase : {D V : Type 0} → (D → Option Files) → Node D V → Type 0
 HasOnlyDatabase files n =
-    n.halted ≡ false → IfSome (files n.disk) (λ fs. (fs.log ≡ []) × (fs.incoming ≡ []))
+    n.halted ≡ false → IsSomeAnd (files n.disk) (λ fs. (fs.log ≡ []) × (fs.incoming ≡ []))
 
 -- The disk of a server that is up has its database and nothing else, or the server is halted, since the disk failed.
 pub record HasDisk {D V : Type 0} (files : D → Option Files) (faults : D → ℕ) (n : Node D V) : Type 0 where

@@ -1,6 +1,6 @@
 -- What the run of a script's lines is worth: one order of the committed transactions, what was acknowledged stays in it,
 -- and each database and each reply is that of a single copy.
-use Rattle.std.specs.Prelude.{◌≡◌, ◌⊎◌, ℕ, Bool, true, Option, Some, None, IfSome, List, [], ◌∷◌, ◌++◌, All, Contains}
+use Rattle.std.specs.Prelude.{◌≡◌, ◌⊎◌, ℕ, Bool, true, Option, Some, None, IfSome, IsSomeAnd, List, [], ◌∷◌, ◌++◌, All, Contains}
 use Rattle.db_image.specs.Database.{Database}
 use Rattle.disk_base.specs.Files.{Files, no_files}
 use Rattle.cell_model.specs.Book.{Run, run_with, order_of}
@@ -123,5 +123,5 @@ abbrev pub DiskHolds : CellKind → Database → Option (List ℕ) → Option (L
 DiskHolds k db left later written after disk =
     IfSome left (λ script. IfSome written (λ before. (runs : Runs k db script later before after disk) → IsBegun k → disk.faults ≡ 0 →
     (more : List Reading) × IsMore (untold_of k db script later before after disk runs) more
-    × IfSome disk.files (ReadsRun (told db (readings_of k db script later before after disk runs ++ more)).stage.run)
+    × IsSomeAnd disk.files (ReadsRun (told db (readings_of k db script later before after disk runs ++ more)).stage.run)
     × OfRun IsKept db (readings_of k db script later before after disk runs ++ more)))

@@ -1,6 +1,6 @@
 -- The state of the single copy: what the calls of a list of transactions mean, one after the other; and what it replies
 -- by that state (own).
-use Rattle.std.specs.Prelude.{◌≡◌, ℕ, Bool, true, Option, Some, None, List, [], ◌∷◌}
+use Rattle.std.specs.Prelude.{◌≡◌, ℕ, true, Option, Some, None, List, [], ◌∷◌}
 use Rattle.db_image.specs.declared.services.CallReply.{CallReply}
 use Rattle.db_image.specs.declared.services.CallReply.TheVariants.{Malformed}
 use Rattle.cell_model.specs.Book.{is_ready_site, site_database}

@@ -1,5 +1,5 @@
 -- What the one server of a cell puts out.
-use Rattle.std.specs.Prelude.{◌≡◌, ◌⊎◌, ◌+◌, ◌-◌, ◌<◌, ◌≤◌, ℕ, true, Option, Some, None, IfSome, Result, Ok, List, [], ◌∷◌, ◌++◌, map}
+use Rattle.std.specs.Prelude.{◌≡◌, ◌⊎◌, ◌+◌, ◌-◌, ◌<◌, ◌≤◌, ℕ, true, Option, Some, None, IsSomeAnd, Result, Ok, List, [], ◌∷◌, ◌++◌, map}
 use Rattle.db_image.specs.Database.{Database}
 use Rattle.disk_base.specs.Files.{Files, no_files}
 use Rattle.cell_model.specs.declared.events.NodeEvent.{NodeEvent}
@@ -90,9 +90,9 @@ abbrev pub Reads : Option Run → Files → Type 0
 Reads None fs = fs ≡ no_files
 Reads (Some r) fs = SitesRead r.world.sites fs
 
--- where it never failed, and tells its files, a disk reads as a run
+-- where it never failed, a disk tells its files, and reads as a run
 abbrev pub IsReadAs : Held → Option Run → Type 0
-IsReadAs disk run = disk.faults ≡ 0 → IfSome disk.files (Reads run)
+IsReadAs disk run = disk.faults ≡ 0 → IsSomeAnd disk.files (Reads run)
 
 -- the server has the version and the image that it had, or is halted
 abbrev pub SameDatabase : Node → Node → Type 0
