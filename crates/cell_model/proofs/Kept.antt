@@ -12,7 +12,7 @@ use Rattle.cell_model.specs.declared.events.Output.{Output}
 use Rattle.cell_model.specs.declared.events.Output.TheVariants as output
 use Rattle.cell_model.specs.Book.{Book, Announcement, acknowledged_at, list_or_none, entered, announced, order_of, is_ready}
 use Rattle.cell_model.specs.Durable.{Transaction, Made}
-use Rattle.cell_model.specs.KeptLaws.{IsAt}
+use Rattle.cell_model.specs.KeptLaws.{IsPlaced}
 use Rattle.cell_model.specs.Laws.{Begins}
 use Rattle.cell_model.specs.Node.{Node, Down, Halted, Up, Server}
 use Rattle.cell_model.specs.NodeRule.{Stepped, leased, phase_in_lease, lapsed}
@@ -43,7 +43,7 @@ ready_image db book ann s stands ready = stands.image_is ∙ ap (image_of db) (s
 -- the order goes on, and what is acknowledged then is in it
 abbrev pub Moves : List Transaction → List Announcement → List Transaction → Type 0
 Moves before ann acknowledged =
-    Begins before (order_of ann) × All (IsAt (order_of ann)) (map (acknowledged_at (length (order_of ann) - 1)) acknowledged)
+    Begins before (order_of ann) × All (IsPlaced (order_of ann)) (map (acknowledged_at (length (order_of ann) - 1)) acknowledged)
 
 pub image_from-append : (db : Database) (image : List ℕ) (front more : List Transaction) → image_from db image (front ++ more) ≡ image_from db (image_from db image front) more
 image_from-append db image [] more = refl
@@ -62,16 +62,16 @@ slice_get-front (x ∷ front) rest (suc k) t at = slice_get-front front rest k t
 abbrev IsOneAtMost : List Transaction → Type 0
 IsOneAtMost list = (list ≡ []) ⊎ ((t : Transaction) × (list ≡ t ∷ []))
 
-none_placed : (order acknowledged : List Transaction) → acknowledged ≡ [] → All (IsAt order) (map (acknowledged_at (length order - 1)) acknowledged)
+none_placed : (order acknowledged : List Transaction) → acknowledged ≡ [] → All (IsPlaced order) (map (acknowledged_at (length order - 1)) acknowledged)
 none_placed order acknowledged none =
-    let P : List Transaction → Type 0 = λ l. All (IsAt order) (map (acknowledged_at (length order - 1)) l) in
-    subst P (sym none) (All-nil (IsAt order))
+    let P : List Transaction → Type 0 = λ l. All (IsPlaced order) (map (acknowledged_at (length order - 1)) l) in
+    subst P (sym none) (All-nil (IsPlaced order))
 
-placed : (order list acknowledged : List Transaction) → IsOneAtMost acknowledged → order ≡ list ++ acknowledged → All (IsAt order) (map (acknowledged_at (length order - 1)) acknowledged)
+placed : (order list acknowledged : List Transaction) → IsOneAtMost acknowledged → order ≡ list ++ acknowledged → All (IsPlaced order) (map (acknowledged_at (length order - 1)) acknowledged)
 placed order list acknowledged (inl none) is = none_placed order acknowledged none
 placed order list acknowledged (inr (t, one)) is =
-    let P : List Transaction → Type 0 = λ l. All (IsAt order) (map (acknowledged_at (length order - 1)) l) in
-    subst P (sym one) (All-cons (IsAt order) (acknowledged_at (length order - 1) t) [] at (All-nil (IsAt order)))
+    let P : List Transaction → Type 0 = λ l. All (IsPlaced order) (map (acknowledged_at (length order - 1)) l) in
+    subst P (sym one) (All-cons (IsPlaced order) (acknowledged_at (length order - 1) t) [] at (All-nil (IsPlaced order)))
   where
     whole : order ≡ list ++ t ∷ []
     whole = is ∙ ap (λ (l : List Transaction). list ++ l) one

@@ -7,7 +7,7 @@ use Rattle.db_image.specs.Database.{Database}
 use Rattle.cell_model.specs.declared.events.NodeEvent.{NodeEvent}
 use Rattle.cell_model.specs.Book.{Book, Announcement, Acknowledgement, Run, acknowledged_at, entered, announced, order_of, first_run, run_after, is_ready}
 use Rattle.cell_model.specs.Durable.{Transaction}
-use Rattle.cell_model.specs.KeptLaws.{run_of_one, IsAt, AcknowledgedStay, IsSingle, SitesAreSingle}
+use Rattle.cell_model.specs.KeptLaws.{run_of_one, IsPlaced, AcknowledgedStay, IsSingle, SitesAreSingle}
 use Rattle.cell_model.specs.Laws.{run_through, Begins}
 use Rattle.cell_model.specs.Node.{HaltedServer, Node, Down, Halted, Up}
 use Rattle.cell_model.specs.NodeRule.{leased, lapsed, step_of, refusals}
@@ -18,7 +18,7 @@ use Rattle.cell_model.proofs.StepKinds.{step_is}
 
 -- nothing is announced or acknowledged
 still : (ann later : List Announcement) → later ≡ ann → Moves (order_of ann) later []
-still ann later is = (([], ap order_of is ∙ sym (append-nil _)), All-nil (IsAt (order_of later)))
+still ann later is = (([], ap order_of is ∙ sym (append-nil _)), All-nil (IsPlaced (order_of later)))
 
 -- what an event leaves of the one server's site
 abbrev LeavesSite : Database → Book → List Announcement → Site_happened → Type 0
@@ -74,10 +74,10 @@ happened db book ann (site ∷ other ∷ sites) e stands = absurd stands
 
 -- the one server stands, and what is acknowledged is in the order
 abbrev pub IsKept : Database → Run → Type 0
-IsKept db r = StandsSites db r.book r.announcements r.world.sites × All (IsAt (order_of r.announcements)) r.acknowledged
+IsKept db r = StandsSites db r.book r.announcements r.world.sites × All (IsPlaced (order_of r.announcements)) r.acknowledged
 
 -- a place in a list is one in each list that it begins
-at_begins : (front whole : List Transaction) (a : Acknowledgement) → Begins front whole → IsAt front a → IsAt whole a
+at_begins : (front whole : List Transaction) (a : Acknowledgement) → Begins front whole → IsPlaced front a → IsPlaced whole a
 at_begins front whole a begins at = ap (λ (l : List Transaction). slice_get l a.place) begins.1 ∙ slice_get-front front begins.0 a.place a.transaction at
 
 goes_on : (db : Database) (r : Run) (e : Event) → IsKept db r → IsKept db (run_after db r e)
@@ -85,8 +85,8 @@ goes_on db r e kept =
     let h = happened db r.book r.announcements r.world.sites e kept.0 in
     let order = order_of (run_after db r e).announcements in (
       h.0,
-      All-append (IsAt order) _ r.acknowledged h.1.1
-          (All-weaker (IsAt (order_of r.announcements)) (IsAt order) (λ a at. at_begins (order_of r.announcements) order a h.1.0 at) r.acknowledged kept.1),
+      All-append (IsPlaced order) _ r.acknowledged h.1.1
+          (All-weaker (IsPlaced (order_of r.announcements)) (IsPlaced order) (λ a at. at_begins (order_of r.announcements) order a h.1.0 at) r.acknowledged kept.1),
     )
 
 along : (db : Database) (r : Run) (events : List Event) → IsKept db r → IsKept db (run_through db r events)
@@ -94,8 +94,8 @@ along db r [] kept = kept
 along db r (e ∷ events) kept = along db (run_after db r e) events (goes_on db r e kept)
 
 first_kept : (db : Database) (clock : ℕ) (failed : Bool) → IsKept db (first_run (first_world clock (failed ∷ [])))
-first_kept db clock true = (tt, All-nil (IsAt []))
-first_kept db clock false = (record { begins = ([], refl); image_is = refl; ready = λ is. refl }, All-nil (IsAt []))
+first_kept db clock true = (tt, All-nil (IsPlaced []))
+first_kept db clock false = (record { begins = ([], refl); image_is = refl; ready = λ is. refl }, All-nil (IsPlaced []))
 
 pub run_kept : (db : Database) (clock : ℕ) (failed : Bool) (events : List Event) → IsKept db (run_of_one db clock failed events)
 run_kept db clock failed events = along db (first_run (first_world clock (failed ∷ []))) events (first_kept db clock failed)
@@ -121,7 +121,7 @@ acknowledged_stay db clock failed events more =
     let r = run_of_one db clock failed events in
     let later = run_through db r more in
     let ends = later_ends db r more in
-    all_of_end (IsAt (order_of later.announcements)) later.acknowledged ends.0 r.acknowledged ends.1 (along db r more (run_kept db clock failed events)).1
+    all_of_end (IsPlaced (order_of later.announcements)) later.acknowledged ends.0 r.acknowledged ends.1 (along db r more (run_kept db clock failed events)).1
 
 node_single : (db : Database) (book : Book) (ann : List Announcement) (clock : ℕ) (node : Node) → StandsNode db book ann node → IsSingle db (order_of ann) 1 clock node
 node_single db book ann clock Down stands = tt

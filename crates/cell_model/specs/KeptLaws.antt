@@ -19,8 +19,8 @@ abbrev pub run_of_one : Database → ℕ → Bool → List Event → Run
 run_of_one db clock failed events = run_through db (first_run (first_world clock (failed ∷ []))) events
 
 -- an acknowledged transaction is in this order, at its place
-abbrev pub IsAt : List Transaction → Acknowledgement → Type 0
-IsAt order a = slice_get order a.place ≡ Some a.transaction
+abbrev pub IsPlaced : List Transaction → Acknowledgement → Type 0
+IsPlaced order a = slice_get order a.place ≡ Some a.transaction
 
 -- In each run each transaction that was acknowledged before still is, and is in the order at its place.
 abbrev pub AcknowledgedStay : Type 0
@@ -28,7 +28,7 @@ AcknowledgedStay =
     (db : Database) (clock : ℕ) (failed : Bool) (events more : List Event) →
     let r = run_of_one db clock failed events in
     let later = run_through db r more in
-    All (λ a. Contains later.acknowledged a × IsAt (order_of later.announcements) a) r.acknowledged
+    All (λ a. Contains later.acknowledged a × IsPlaced (order_of later.announcements) a) r.acknowledged
 
 -- the transaction is the one acknowledged, and the order goes on with it; or it leaves the single copy's image as it is
 -- after the order
@@ -60,40 +60,40 @@ SitesAreSingle =
     let r = run_of_one db clock failed events in
     All (λ site. IsSingle db (order_of r.announcements) 1 site.clock site.node) r.world.sites
 
--- what a server tells of the database, and under which id
-pub record Told : Type 0 where
+-- what a server answers of the database, and under which id
+pub record Answered : Type 0 where
   pub server : ℕ
   pub id : ℕ
   pub reply : CallReply
 
-abbrev pub told : ℕ → ℕ → CallReply → Told
-told server id r = record { server = server; id = id; reply = r }
+abbrev pub answered : ℕ → ℕ → CallReply → Answered
+answered server id r = record { server = server; id = id; reply = r }
 
--- what a copy tells at an event that replies so at a moment to a call: its reply to the call that is asked, at the clock of
--- the server asked. In all other events there is nothing to tell.
-abbrev pub told_by : (ℕ → List ℕ → CallReply) → World → Event → Option Told
-told_by reply w (Tick_all seconds) = None
-told_by reply w (Step server BeaconTurn short) = None
-told_by reply w (Step server RecoverTurn short) = None
-told_by reply w (Step server (Ask id call) short) =
-    option_map (λ (site : Site). told server id (reply site.clock call)) (site_of w.sites server)
-told_by reply w (Fault server event short made) = None
+-- what a copy answers at an event, if it replies so at a moment to a call: its reply to the call that is asked, at the clock of
+-- the server asked. In all other events there is nothing to answer.
+abbrev pub answered_by : (ℕ → List ℕ → CallReply) → World → Event → Option Answered
+answered_by reply w (Tick_all seconds) = None
+answered_by reply w (Step server BeaconTurn short) = None
+answered_by reply w (Step server RecoverTurn short) = None
+answered_by reply w (Step server (Ask id call) short) =
+    option_map (λ (site : Site). answered server id (reply site.clock call)) (site_of w.sites server)
+answered_by reply w (Fault server event short made) = None
 
 -- the same of the single copy after these transactions
-abbrev pub single_told : Database → List Transaction → World → Event → Option Told
-single_told db order = told_by (reply_after db order)
+abbrev pub single_answer : Database → List Transaction → World → Event → Option Answered
+single_answer db order = answered_by (reply_after db order)
 
--- what a reply tells of the database is this. Ok, Rule and BadRecord tell of it, the others do not.
-abbrev pub IsToldBy : Option Told → ℕ → ℕ → Reply → Type 0
-IsToldBy single server id (reply.Ok fields) = single ≡ Some (told server id (call_reply.Done fields))
-IsToldBy single server id (reply.Rule number) = single ≡ Some (told server id (call_reply.Rule number))
-IsToldBy single server id (reply.BadRecord at) = single ≡ Some (told server id (call_reply.BadRecord at))
-IsToldBy single server id _ = Unit {0}
+-- what a reply says of the database is this answer. Ok, Rule and BadRecord say something of it, the others do not.
+abbrev pub IsAnsweredBy : Option Answered → ℕ → ℕ → Reply → Type 0
+IsAnsweredBy single server id (reply.Ok fields) = single ≡ Some (answered server id (call_reply.Done fields))
+IsAnsweredBy single server id (reply.Rule number) = single ≡ Some (answered server id (call_reply.Rule number))
+IsAnsweredBy single server id (reply.BadRecord at) = single ≡ Some (answered server id (call_reply.BadRecord at))
+IsAnsweredBy single server id _ = Unit {0}
 
 -- the same of what is seen
-abbrev pub IsSeenOf : Option Told → Happening → Type 0
+abbrev pub IsSeenOf : Option Answered → Happening → Type 0
 IsSeenOf single (Puts server (output.Announce version)) = Unit {0}
-IsSeenOf single (Puts server (output.Reply id r)) = IsToldBy single server id r
+IsSeenOf single (Puts server (output.Reply id r)) = IsAnsweredBy single server id r
 IsSeenOf single (Halts server) = Unit {0}
 IsSeenOf single (Stays_down server) = Unit {0}
 
@@ -103,4 +103,4 @@ abbrev pub RepliesAreSingle : Type 0
 RepliesAreSingle =
     (db : Database) (clock : ℕ) (failed : Bool) (events : List Event) (event : Event) →
     let r = run_of_one db clock failed events in
-    All (IsSeenOf (single_told db (order_of r.announcements) r.world event)) (happens db r.world event).seen
+    All (IsSeenOf (single_answer db (order_of r.announcements) r.world event)) (happens db r.world event).seen

@@ -10,7 +10,7 @@ use Rattle.cell_model.specs.declared.events.Output.TheVariants as output
 use Rattle.cell_model.specs.declared.events.Reply.TheVariants as reply
 use Rattle.cell_model.specs.Book.{Run, first_run, order_of}
 use Rattle.cell_model.specs.Durable.{Transaction}
-use Rattle.cell_model.specs.KeptLaws.{AcknowledgedStay, OksAreAcknowledged, SitesAreSingle, RepliesAreSingle, IsAt, IsSingle, IsSeenOf, Told as Single, told as told_as, told_by, run_of_one}
+use Rattle.cell_model.specs.KeptLaws.{AcknowledgedStay, OksAreAcknowledged, SitesAreSingle, RepliesAreSingle, IsPlaced, IsSingle, IsSeenOf, Answered, answered, answered_by, run_of_one}
 use Rattle.cell_model.specs.Laws.{AnnouncementsGrow, run_through}
 use Rattle.cell_model.specs.Node.{Node, Down, Halted, Up}
 use Rattle.cell_model.specs.SingleCopy.{reply_after}
@@ -27,33 +27,33 @@ pub one_order : AnnouncementsGrow → (db : Database) (clock : ℕ) (failed : Bo
 one_order law db clock failed events = law db clock failed events
 
 -- what is told over images and what is told by the meaning of calls is the same, as all replies are
-same_told : (f g : ℕ → List ℕ → CallReply) → ((now : ℕ) (call : List ℕ) → f now call ≡ g now call) → (w : World) (event : Event) → told_by f w event ≡ told_by g w event
-same_told f g same w (Tick_all seconds) = refl
-same_told f g same w (Step server node.BeaconTurn short) = refl
-same_told f g same w (Step server node.RecoverTurn short) = refl
-same_told f g same w (Step server (node.Ask id call) short) = by (site_of w.sites server)
+same_answer : (f g : ℕ → List ℕ → CallReply) → ((now : ℕ) (call : List ℕ) → f now call ≡ g now call) → (w : World) (event : Event) → answered_by f w event ≡ answered_by g w event
+same_answer f g same w (Tick_all seconds) = refl
+same_answer f g same w (Step server node.BeaconTurn short) = refl
+same_answer f g same w (Step server node.RecoverTurn short) = refl
+same_answer f g same w (Step server (node.Ask id call) short) = by (site_of w.sites server)
   where
-    by : (found : Option Site) → option_map (λ (site : Site). told_as server id (f site.clock call)) found ≡ option_map (λ (site : Site). told_as server id (g site.clock call)) found
+    by : (found : Option Site) → option_map (λ (site : Site). answered server id (f site.clock call)) found ≡ option_map (λ (site : Site). answered server id (g site.clock call)) found
     by None = refl
-    by (Some site) = ap (λ (r : CallReply). Some (told_as server id r)) (same site.clock call)
-same_told f g same w (Fault server event short made) = refl
+    by (Some site) = ap (λ (r : CallReply). Some (answered server id r)) (same site.clock call)
+same_answer f g same w (Fault server event short made) = refl
 
 -- nothing that is told by the meaning of calls is that the database is bad
-never_told : (transactions : List Transaction) (w : World) (event : Event) (server id at : ℕ) → told_by (reply_of transactions) w event ≢ Some (told_as server id (call_reply.BadRecord at))
-never_told transactions w (Tick_all seconds) server id at is = cc
-never_told transactions w (Step asked node.BeaconTurn short) server id at is = cc
-never_told transactions w (Step asked node.RecoverTurn short) server id at is = cc
-never_told transactions w (Step asked (node.Ask i call) short) server id at is = by (site_of w.sites asked) is
+never_bad_record : (transactions : List Transaction) (w : World) (event : Event) (server id at : ℕ) → answered_by (reply_of transactions) w event ≢ Some (answered server id (call_reply.BadRecord at))
+never_bad_record transactions w (Tick_all seconds) server id at is = cc
+never_bad_record transactions w (Step asked node.BeaconTurn short) server id at is = cc
+never_bad_record transactions w (Step asked node.RecoverTurn short) server id at is = cc
+never_bad_record transactions w (Step asked (node.Ask i call) short) server id at is = by (site_of w.sites asked) is
   where
-    by : (found : Option Site) → option_map (λ (site : Site). told_as asked i (reply_of transactions site.clock call)) found ≢ Some (told_as server id (call_reply.BadRecord at))
+    by : (found : Option Site) → option_map (λ (site : Site). answered asked i (reply_of transactions site.clock call)) found ≢ Some (answered server id (call_reply.BadRecord at))
     by None never = cc
     by (Some site) same =
-        never_bad transactions site.clock call at (ap (λ (s : Single). s.reply) (same_some same))
-never_told transactions w (Fault asked event short made) server id at is = cc
+        never_bad transactions site.clock call at (ap (λ (s : Answered). s.reply) (same_some same))
+never_bad_record transactions w (Fault asked event short made) server id at is = cc
 
-good_record : (transactions : List Transaction) (w : World) (event : Event) (seen : Happening) → IsSeenOf (told_by (reply_of transactions) w event) seen → IsGoodRecord seen
+good_record : (transactions : List Transaction) (w : World) (event : Event) (seen : Happening) → IsSeenOf (answered_by (reply_of transactions) w event) seen → IsGoodRecord seen
 good_record transactions w event (Puts server (output.Announce version)) is = tt
-good_record transactions w event (Puts server (output.Reply id (reply.BadRecord at))) is = absurd (never_told transactions w event server id at is)
+good_record transactions w event (Puts server (output.Reply id (reply.BadRecord at))) is = absurd (never_bad_record transactions w event server id at is)
 good_record transactions w event (Puts server (output.Reply id _)) is = tt
 good_record transactions w event (Halts server) is = tt
 good_record transactions w event (Stays_down server) is = tt
@@ -62,10 +62,10 @@ pub single_replies : DatabaseLaws → RepliesAreSingle → (clock : ℕ) (failed
 single_replies laws law clock failed events = λ front back event split.
     let r = run_of_one protection clock failed front in
     let order = order_of r.announcements in
-    let P : Option Single → Type 0 = λ o. All (IsSeenOf o) (happens protection r.world event).seen in
-    let Meant : Happening → Type 0 = IsSeenOf (told_by (reply_of order) r.world event) in
+    let P : Option Answered → Type 0 = λ o. All (IsSeenOf o) (happens protection r.world event).seen in
+    let Meant : Happening → Type 0 = IsSeenOf (answered_by (reply_of order) r.world event) in
     All-weaker Meant (λ seen. Meant seen × IsGoodRecord seen) (λ seen is. (is, good_record order r.world event seen is)) (happens protection r.world event).seen
-    (subst P (same_told (reply_after protection order) (reply_of order) (reply_meant laws order) r.world event) (law protection clock failed front event))
+    (subst P (same_answer (reply_after protection order) (reply_of order) (reply_meant laws order) r.world event) (law protection clock failed front event))
 
 -- a ready sync site's image stands for the state of the order
 has_state : DatabaseLaws → (order : List Transaction) (n clock : ℕ) (node : Node) → IsSingle protection order n clock node → HasState order n clock node
@@ -82,9 +82,9 @@ kept laws stay sites oks clock failed events =
           let later = run_through protection r middle in
           let whole : later ≡ run_of_one protection clock failed (front ++ middle) =
           sym (run_append protection (first_run (first_world clock (failed ∷ []))) front middle) in
-          let P : Run → Type 0 = λ x. All (λ a. IsAt (order_of x.announcements) a) r.acknowledged in
+          let P : Run → Type 0 = λ x. All (λ a. IsPlaced (order_of x.announcements) a) r.acknowledged in
           subst P whole
-          (All-weaker (λ a. Contains later.acknowledged a × IsAt (order_of later.announcements) a) (λ a. IsAt (order_of later.announcements) a) (λ a both. both.1) r.acknowledged (stay protection clock failed front middle));
+          (All-weaker (λ a. Contains later.acknowledged a × IsPlaced (order_of later.announcements) a) (λ a. IsPlaced (order_of later.announcements) a) (λ a both. both.1) r.acknowledged (stay protection clock failed front middle));
       sites = λ front back split.
           let r = run_of_one protection clock failed front in
           let order = order_of r.announcements in

@@ -7,7 +7,7 @@ use Rattle.cell_model.specs.Book.{Run, run_with, order_of}
 use Rattle.cell_model.specs.declared.events.NodeEvent.TheVariants.{Ask}
 use Rattle.cell_model.specs.declared.events.Output.TheVariants as output
 use Rattle.cell_model.specs.declared.events.Reply.TheVariants as reply
-use Rattle.cell_model.specs.KeptLaws.{run_of_one, IsAt, IsSingle, IsSeenOf, IsRecorded, told_by}
+use Rattle.cell_model.specs.KeptLaws.{run_of_one, IsPlaced, IsSingle, IsSeenOf, IsRecorded, answered_by}
 use Rattle.cell_model.specs.Laws.{Grows}
 use Rattle.cell_model.specs.World.{Site, Event, Step, Happening, Puts, IsRun, site_of, happens, first_seen, first_world, seen_of}
 use Rattle.ubik_node.specs.Database.{durable_of}
@@ -42,7 +42,7 @@ HasOneOrder db clock failed events = Grows (run_of_one db clock failed events).a
 -- call that writes is acknowledged in that event, and is the next one of the order, or the call changes nothing.
 pub record IsKept (db : Database) (clock : ℕ) (failed : Bool) (events : List Event) : Type 0 where
   pub stays : (front middle back : List Event) → events ≡ (front ++ middle) ++ back →
-      All (λ a. IsAt (order_of (run_of_one db clock failed (front ++ middle)).announcements) a)
+      All (λ a. IsPlaced (order_of (run_of_one db clock failed (front ++ middle)).announcements) a)
       (run_of_one db clock failed front).acknowledged
   pub sites : (front back : List Event) → events ≡ front ++ back →
       let r = run_of_one db clock failed front in
@@ -66,7 +66,7 @@ abbrev pub HasSingleReplies : Database → ℕ → Bool → List Event → Type 
 HasSingleReplies db clock failed events =
     (front back : List Event) (event : Event) → events ≡ front ++ event ∷ back →
     let r = run_of_one db clock failed front in
-    All (λ seen. IsSeenOf (told_by (reply_of (order_of r.announcements)) r.world event) seen × IsGoodRecord seen)
+    All (λ seen. IsSeenOf (answered_by (reply_of (order_of r.announcements)) r.world event) seen × IsGoodRecord seen)
     (happens db r.world event).seen
 
 -- no cell stands, and nothing was told but where the script ended; or the opening and the events of these lines make their run, and have this
