@@ -1,7 +1,7 @@
 //! A disk in memory, whose calls fail by their numbers, and which can be told to stop.
 ghost use Rattle.std.specs.Prelude.{◌≡◌, ◌≢◌, ◌+◌, ◌<◌, ◌≤◌, ℕ, List, ◌∷◌, Some, Option, Bool, true, IfOk, IfSome, IsSome, IsTrue, OnOk, OnErr, length, take, drop, ◌↔◌};
 ghost use Rattle.disk_base.specs.Files.{no_files, file_of, with_file, laid, OnDone, OnKnown, KeepsRoom, IsStopped};
-ghost use Rattle.disk_base.specs.Files.Stop.{Unarmed, Armed};
+ghost use Rattle.disk_base.specs.Files.Stop.{Unarmed};
 ghost use Rattle.disk_base.specs.Count.{HasCause};
 ghost use Rattle.disk_base.specs.declared.disks.FileNo.{FileNo};
 ghost use Rattle.disk_base.specs.Crash.{Torn, CutShort, InFile, Follows, Narrows, Only, OnlyIn, Elapses, LeavesSame};
@@ -137,7 +137,7 @@ pub struct MemDisk {
 
 impl MemDisk {
     ghost use Rattle.disk_base.specs.Plan.{IsFresh, after_call};
-    ghost use Rattle.disk_base.specs.MemCalls.{after_change};
+    ghost use Rattle.disk_base.specs.Stops.{after_change};
     ghost use Rattle.disk_base.specs.MemDisk.{now_of, last_synced, moment_of, disk_may_leave, disk_passage, disk_stop, disk_plan, disk_steps, disk_faults, disk_tells};
 
     /// A disk of three empty files, unarmed. Its call number k fails where k is in `fails`; calls of `len`, `read`,
@@ -162,6 +162,7 @@ impl MemDisk {
     /// Begins a call that changes a file, and says whether it passes. The moment before it is then an earlier one.
     fn begin_change(&mut self) -> Passage
         ensures passage { result ≡ disk_passage self.old }
+        ensures stopped { IsStopped (disk_stop self.new) → result ≢ Passage.Passes }
         ensures cause { HasCause (disk_faults self.old) (disk_faults self.new) (result ≢ Passage.Passes) }
         ensures files { self.new.files ≡ self.old.files }
         ensures moments { self.new.moments.earlier ≡ moment_of self.old ∷ self.old.moments.earlier }
@@ -196,11 +197,11 @@ impl MemDisk {
 
 impl Disk for MemDisk {
     ghost use Rattle.disk_base.specs.Plan.{after_call};
-    ghost use Rattle.disk_base.specs.MemCalls.{after_change};
+    ghost use Rattle.disk_base.specs.Stops.{after_change};
     ghost use Rattle.disk_base.specs.MemDisk.{now_of, last_synced, disk_room, disk_stop, disk_plan, disk_steps, disk_faults};
     ghost use Rattle.disk_base.specs.MemDisk.{disk_may_leave, disk_left_since, disk_tells};
     ghost use Rattle.disk_base.specs.MemDisk.{disk_fails, disk_passage, done_unless, known_unless, end_of, FailsUnlessPassed, FailedWrite};
-    ghost use Rattle.disk_base.specs.MemLaws.{counts_now, only_now, may_be_read};
+    ghost use Rattle.disk_base.specs.MemLaws.{counts_now, only_now, may_be_read, has_room};
 
     ghost files = { λ disk. Some (now_of disk) };
 
@@ -209,6 +210,8 @@ impl Disk for MemDisk {
     ghost steps = { disk_steps };
 
     ghost faults = { disk_faults };
+
+    ghost stop = { disk_stop };
 
     ghost tells = { disk_tells };
 
@@ -222,6 +225,8 @@ impl Disk for MemDisk {
 
     ghost may_be_read = { may_be_read };
 
+    ghost has_room = { has_room };
+
     fn len(&mut self, f: FileNo) -> LenEnd
         ensures length { OnKnown result (λ n. n ≡ length (file_of (now_of self.old) f)) }
         ensures files { OnKnown result (λ _. Some (now_of self.new) ≡ Some (now_of self.old)) }
@@ -234,6 +239,7 @@ impl Disk for MemDisk {
         ensures unchanged { now_of self.new ≡ now_of self.old }
         ensures synced { last_synced self.new ≡ last_synced self.old }
         ensures stop { disk_stop self.new ≡ disk_stop self.old }
+        ensures stopped { IsStopped (disk_stop self.old) → result ≡ LenEnd.Failed }
         ensures counted { disk_plan self.new ≡ after_call (disk_plan self.old) }
     {
         if self.calls.begin() {
@@ -275,6 +281,7 @@ impl Disk for MemDisk {
         ensures unchanged { now_of self.new ≡ now_of self.old }
         ensures synced { last_synced self.new ≡ last_synced self.old }
         ensures stop { disk_stop self.new ≡ disk_stop self.old }
+        ensures stopped { IsStopped (disk_stop self.old) → result ≡ DiskEnd.Failed }
         ensures counted { disk_plan self.new ≡ after_call (disk_plan self.old) }
     {
         if self.calls.begin() {
@@ -300,6 +307,7 @@ impl Disk for MemDisk {
             (with_file (now_of self.old) f (laid (file_of (now_of self.old) f) at bytes.now)) }
         ensures synced { last_synced self.new ≡ last_synced self.old }
         ensures stop { disk_stop self.new ≡ after_change (disk_stop self.old) }
+        ensures stopped { IsStopped (disk_stop self.new) → result ≡ DiskEnd.Failed }
         ensures counted { disk_plan self.new ≡ after_call (disk_plan self.old) }
     {
         let passage = self.begin_change();
@@ -327,6 +335,7 @@ impl Disk for MemDisk {
         ensures failed { result ≡ DiskEnd.Failed → now_of self.new ≡ now_of self.old }
         ensures synced { last_synced self.new ≡ last_synced self.old }
         ensures stop { disk_stop self.new ≡ after_change (disk_stop self.old) }
+        ensures stopped { IsStopped (disk_stop self.new) → result ≡ DiskEnd.Failed }
         ensures counted { disk_plan self.new ≡ after_call (disk_plan self.old) }
     {
         if self.begin_change() != Passage::Passes {
@@ -351,6 +360,7 @@ impl Disk for MemDisk {
             ≡ with_file (last_synced self.old) f (file_of (now_of self.old) f)) }
         ensures failed { result ≡ DiskEnd.Failed → last_synced self.new ≡ last_synced self.old }
         ensures stop { disk_stop self.new ≡ after_change (disk_stop self.old) }
+        ensures stopped { IsStopped (disk_stop self.new) → result ≡ DiskEnd.Failed }
         ensures counted { disk_plan self.new ≡ after_call (disk_plan self.old) }
     {
         let passage = self.begin_change();
@@ -363,14 +373,12 @@ impl Disk for MemDisk {
 }
 
 impl StopDisk for MemDisk {
-    ghost use Rattle.disk_base.specs.MemCalls.{fill_left};
+    ghost use Rattle.disk_base.specs.Stops.{armed, fill_left};
     ghost use Rattle.disk_base.specs.MemDisk.{now_of, last_synced, disk_room, disk_stop, disk_plan, disk_steps, disk_faults, IsLeftBy};
     ghost use Rattle.disk_base.specs.MemDisk.{disk_may_leave, disk_left_since, disk_tells};
 
-    ghost stop = { disk_stop };
-
     fn arm(&mut self, calls: u32, fill: Fill)
-        ensures armed { disk_stop self.new ≡ Armed calls fill }
+        ensures armed { disk_stop self.new ≡ armed (disk_stop self.old) calls fill }
         ensures files { Some (now_of self.new) ≡ Some (now_of self.old) }
         ensures room { KeepsRoom (disk_room self.old) (disk_room self.new) }
         ensures steps { disk_steps self.new ≡ disk_steps self.old }
@@ -394,7 +402,6 @@ impl StopDisk for MemDisk {
         ensures left { disk_may_leave self.old (now_of self.new) × Only (now_of self.new) (disk_may_leave self.new) }
         ensures told { disk_tells self.old ≡ true → IsSome (Some (now_of self.new)) }
         ensures tells { disk_tells self.new ≡ disk_tells self.old }
-        ensures room { (f : FileNo) → length (file_of (now_of self.new) f) ≤ disk_room self.new f }
         ensures exact { IsLeftBy (fill_left (disk_stop self.old)) self.old (now_of self.new) }
         ensures synced { last_synced self.new ≡ now_of self.new }
         ensures counted { disk_plan self.new ≡ disk_plan self.old }
