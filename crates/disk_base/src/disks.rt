@@ -1,11 +1,12 @@
 //! The disk of a server: three files, written and synced.
-ghost use Rattle.std.specs.Prelude.{◌≡◌, ◌+◌, ◌<◌, ◌≤◌, ℕ, List, Option, Bool, IsTrue, true, Some, IsSome, IfSome, length, take, drop, ◌↔◌};
+ghost use Rattle.std.specs.Prelude.{◌≡◌, ◌+◌, ◌<◌, ◌≤◌, ◌⊎◌, ℕ, List, Option, Bool, IsTrue, true, Some, IsSome, IfSome, length, take, drop, ◌↔◌};
 ghost use Rattle.std.specs.Option.{option_map};
 ghost use Rattle.disk_base.specs.Files.{Files, file_of, with_file, laid, OnDone, OnKnown, KeepsRoom, Stop, IsStopped};
 ghost use Rattle.disk_base.specs.Files.Stop.{Unarmed};
-ghost use Rattle.disk_base.specs.Stops.{after_change, armed};
+ghost use Rattle.disk_base.specs.Stops.{after_change, armed, fill_left, StopsNext, IsLeftBy, Keeps, IsWritten};
 ghost use Rattle.disk_base.specs.Count.{HasCause};
 ghost use Rattle.disk_base.specs.Crash.{Torn, CutShort, InFile, Follows, Narrows, Only, OnlyIn, Elapses, LeavesSame};
+ghost use Rattle.disk_base.specs.Moments.{Moment, MayLeave, after_write, after_cut, after_sync, all_at_rest};
 ghost use Rattle.disk_base.specs.declared.disks.FileNo.{FileNo};
 
 /// One of the three files of a server.
@@ -55,7 +56,8 @@ pub struct Refused<D, F> {
     pub why: F,
 }
 
-/// Three files. After `Failed` nothing more is promised of what a read gives, until the files are opened anew.
+/// Three files. After `Failed` nothing more is promised of what a read gives, until the files are opened anew,
+/// but on a disk that tells what is pending.
 /// A disk may have been told to stop in one of its next changing calls: that one then fails, and so does each
 /// call after it.
 pub trait Disk {
@@ -73,6 +75,9 @@ pub trait Disk {
 
     /// Whether it is to stop in one of its next calls of `write_at`, `cut` and `sync`, or has stopped.
     ghost stop: { Self → Stop };
+
+    /// What was last synced of each file, and the changing calls since, where the disk tells it.
+    ghost pending: { Self → Option Moment };
 
     /// Whether the disk tells its files, once they are opened anew after a failure. It never changes.
     ghost tells: { Self → Bool };
@@ -95,6 +100,12 @@ pub trait Disk {
     /// A file has room for what a read gives.
     ghost has_room: { (disk : Self) (f : FileNo) → IfSome (files disk) (λ fs. length (file_of fs f) ≤ room disk f) };
 
+    /// A disk that tells what is pending tells its files.
+    ghost tells_both: { (disk : Self) → IsSome (pending disk) → IsSome (files disk) };
+
+    /// A crash may leave what the pending calls make of what was last synced, and nothing else.
+    ghost leaves_pending: { (disk : Self) → IfSome (pending disk) (λ moment. (c : Files) → may_leave disk c ↔ MayLeave moment c) };
+
     /// The length of a file, in bytes.
     fn len(&mut self, f: FileNo) -> LenEnd
         ensures length { OnKnown result (λ n. IfSome (files self.old) (λ fs. n ≡ length (file_of fs f))) }
@@ -104,6 +115,8 @@ pub trait Disk {
         ensures crash { LeavesSame (may_leave self.old) (may_leave self.new) (left_since self.old) (left_since self.new) }
         ensures stop { stop self.new ≡ stop self.old }
         ensures stopped { IsStopped (stop self.old) → result ≡ LenEnd.Failed }
+        ensures pending { pending self.new ≡ pending self.old }
+        ensures failed { IsSome (pending self.old) → files self.new ≡ files self.old }
         ensures tells { tells self.new ≡ tells self.old }
         ensures cause { HasCause (faults self.old) (faults self.new) (result ≡ LenEnd.Failed) };
 
@@ -117,6 +130,7 @@ pub trait Disk {
         ensures steps { steps self.new ≡ steps self.old }
         ensures crash { LeavesSame (may_leave self.old) (may_leave self.new) (left_since self.old) (left_since self.new) }
         ensures stop { stop self.new ≡ stop self.old }
+        ensures pending { pending self.new ≡ pending self.old }
         ensures tells { tells self.new ≡ tells self.old }
         ensures faults { faults self.new ≡ faults self.old };
 
@@ -130,6 +144,8 @@ pub trait Disk {
         ensures crash { LeavesSame (may_leave self.old) (may_leave self.new) (left_since self.old) (left_since self.new) }
         ensures stop { stop self.new ≡ stop self.old }
         ensures stopped { IsStopped (stop self.old) → result ≡ DiskEnd.Failed }
+        ensures pending { pending self.new ≡ pending self.old }
+        ensures failed { IsSome (pending self.old) → files self.new ≡ files self.old }
         ensures tells { tells self.new ≡ tells self.old }
         ensures cause { HasCause (faults self.old) (faults self.new) (result ≡ DiskEnd.Failed) };
 
@@ -144,6 +160,10 @@ pub trait Disk {
         ensures time { Elapses (steps self.old) (left_since self.old) (left_since self.new) (may_leave self.new) }
         ensures stop { stop self.new ≡ after_change (stop self.old) }
         ensures stopped { IsStopped (stop self.new) → result ≡ DiskEnd.Failed }
+        ensures pending { OnDone result (pending self.new ≡ option_map (after_write f at (length bytes.now)) (pending self.old)) }
+        ensures failed { IsSome (pending self.old) → result ≡ DiskEnd.Failed
+            → Keeps (files self.old) (files self.new) (pending self.old) (pending self.new)
+            ⊎ (StopsNext (stop self.old) × IsWritten f at bytes.now (files self.old) (files self.new) (pending self.old) (pending self.new)) }
         ensures tells { tells self.new ≡ tells self.old }
         ensures cause { HasCause (faults self.old) (faults self.new) (result ≡ DiskEnd.Failed) };
 
@@ -157,6 +177,8 @@ pub trait Disk {
         ensures time { Elapses (steps self.old) (left_since self.old) (left_since self.new) (may_leave self.new) }
         ensures stop { stop self.new ≡ after_change (stop self.old) }
         ensures stopped { IsStopped (stop self.new) → result ≡ DiskEnd.Failed }
+        ensures pending { OnDone result (pending self.new ≡ option_map (after_cut f len) (pending self.old)) }
+        ensures failed { IsSome (pending self.old) → result ≡ DiskEnd.Failed → Keeps (files self.old) (files self.new) (pending self.old) (pending self.new) }
         ensures tells { tells self.new ≡ tells self.old }
         ensures cause { HasCause (faults self.old) (faults self.new) (result ≡ DiskEnd.Failed) };
 
@@ -170,6 +192,8 @@ pub trait Disk {
         ensures time { Elapses (steps self.old) (left_since self.old) (left_since self.new) (may_leave self.new) }
         ensures stop { stop self.new ≡ after_change (stop self.old) }
         ensures stopped { IsStopped (stop self.new) → result ≡ DiskEnd.Failed }
+        ensures pending { OnDone result (IfSome (files self.old) (λ fs. pending self.new ≡ option_map (after_sync f (file_of fs f)) (pending self.old))) }
+        ensures failed { IsSome (pending self.old) → result ≡ DiskEnd.Failed → Keeps (files self.old) (files self.new) (pending self.old) (pending self.new) }
         ensures tells { tells self.new ≡ tells self.old }
         ensures cause { HasCause (faults self.old) (faults self.new) (result ≡ DiskEnd.Failed) };
 }
@@ -183,6 +207,7 @@ pub trait StopDisk: Disk {
         ensures files { Self.files self.new ≡ Self.files self.old }
         ensures room { KeepsRoom (Self.room self.old) (Self.room self.new) }
         ensures steps { Self.steps self.new ≡ Self.steps self.old }
+        ensures pending { Self.pending self.new ≡ Self.pending self.old }
         ensures crash { LeavesSame (Self.may_leave self.old) (Self.may_leave self.new) (Self.left_since self.old) (Self.left_since self.new) }
         ensures tells { Self.tells self.new ≡ Self.tells self.old }
         ensures faults { Self.faults self.new ≡ Self.faults self.old };
@@ -191,10 +216,14 @@ pub trait StopDisk: Disk {
     fn stopped(&self) -> bool
         ensures { IsTrue result ↔ IsStopped (Self.stop self.now) };
 
-    /// Ends the stop: the files are opened anew. A disk that did not stop is revived as with `Fill::Old`.
+    /// Ends the stop: the files are opened anew, and are all synced. A disk that did not stop is revived as with
+    /// `Fill::Old`.
     fn revive(&mut self)
         ensures unarmed { Self.stop self.new ≡ Unarmed }
         ensures left { IfSome (Self.files self.new) (λ fs. Self.may_leave self.old fs × Only fs (Self.may_leave self.new)) }
+        ensures by_fill { IfSome (Self.pending self.old) (λ moment. IfSome (Self.files self.old) (λ now. IfSome (Self.files self.new)
+            (λ fs. IsLeftBy (fill_left (Self.stop self.old)) moment now fs))) }
+        ensures at_rest { IsSome (Self.pending self.old) → Self.pending self.new ≡ option_map all_at_rest (Self.files self.new) }
         ensures told { Self.tells self.old ≡ true → IsSome (Self.files self.new) }
         ensures tells { Self.tells self.new ≡ Self.tells self.old }
         ensures steps { Self.steps self.new ≡ Self.steps self.old }

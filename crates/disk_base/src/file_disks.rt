@@ -132,6 +132,8 @@ impl Disk for FileDisk {
 
     ghost stop = { λ disk. Unarmed };
 
+    ghost pending = { λ disk. None };
+
     ghost tells = { λ disk. false };
 
     ghost may_leave = { λ disk c. Unit {0} };
@@ -145,6 +147,10 @@ impl Disk for FileDisk {
     ghost may_be_read = { λ disk fs told. tt };
 
     ghost has_room = { λ disk f. tt };
+
+    ghost tells_both = { λ disk told. told };
+
+    ghost leaves_pending = { λ disk. tt };
 
     fn len(&mut self, f: FileNo) -> LenEnd {
         match self.file(f).metadata() {
