@@ -12,9 +12,10 @@ use Rattle.disk_base.specs.declared.touches.Touch.TheVariants.{Wrote, Cut}
 use Rattle.disk_base.specs.Files.{Files, file_of, with_file}
 use Rattle.disk_base.specs.Crash.{Torn, CutShort, InFile, Follows, Only, OnlyIn}
 use Rattle.disk_base.specs.Touches.{MayBe}
-use Rattle.disk_base.specs.MemFile.{bytes_of, synced_of, touches_of, IsLeft}
+use Rattle.disk_base.specs.MemFile.{bytes_of, synced_of, touches_of, state_in}
+use Rattle.disk_base.specs.Stops.{IsLeft, IsLeftBy}
 use Rattle.disk_base.specs.Moments.{FileState, Moment, MayLeave, state_of, with_state, touched, at_rest, all_at_rest}
-use Rattle.disk_base.specs.MemDisk.{now_in, moment_in, IsLeftOf}
+use Rattle.disk_base.specs.MemDisk.{now_in, moment_in}
 use Rattle.disk_base.proofs.Touched.{MayBe-synced, MayBe-filled}
 use Rattle.disk_base.proofs.Idle.{Torn-idle, CutShort-idle, Follows-idle}
 use Rattle.disk_base.proofs.Left.{torn-left, cut-left}
@@ -130,12 +131,12 @@ Only-rest fs = λ c left.
     (only-rest fs.incoming c.incoming left.incoming)
 
 -- what a stop leaves of a file may be left of it
-left-by : (fill : Fill) (file : MemFile) (after : List ℕ) → IsLeft fill file after → MayBe (synced_of file) (touches_of file) after
+left-by : (fill : Fill) (file : MemFile) (after : List ℕ) → IsLeft fill (state_in file) (bytes_of file) after → MayBe (synced_of file) (touches_of file) after
 left-by Old file after is = subst (MayBe (synced_of file) (touches_of file)) (sym is) (MayBe-synced (synced_of file) (touches_of file))
 left-by New file after is = subst (MayBe (synced_of file) (touches_of file)) (sym is) file.may_be
 left-by (Byte byte) file after is = MayBe-filled byte (synced_of file) (touches_of file) (bytes_of file) after file.may_be is
 
-MayLeave-left : (fill : Fill) (files : MemFiles) (after : Files) → IsLeftOf fill files after → MayLeave (moment_in files) after
+MayLeave-left : (fill : Fill) (files : MemFiles) (after : Files) → IsLeftBy fill (moment_in files) (now_in files) after → MayLeave (moment_in files) after
 MayLeave-left fill files after is = record {
   database = left-by fill files.database after.database is.database;
   log = left-by fill files.log after.log is.log;
@@ -143,7 +144,7 @@ MayLeave-left fill files after is = record {
 }
 
 -- what a stop leaves, and what a crash may leave once it is all synced
-pub left-alone : (fill : Fill) (old new : MemFiles) → IsLeftOf fill old (now_in new) → moment_in new ≡ all_at_rest (now_in new)
+pub left-alone : (fill : Fill) (old new : MemFiles) → IsLeftBy fill (moment_in old) (now_in old) (now_in new) → moment_in new ≡ all_at_rest (now_in new)
     → MayLeave (moment_in old) (now_in new) × Only (now_in new) (MayLeave (moment_in new))
 left-alone fill old new left rest =
     (MayLeave-left fill old (now_in new) left, subst (λ (m : Moment). Only (now_in new) (MayLeave m)) (sym rest) (Only-rest (now_in new)))

@@ -13,4 +13,5 @@ pub mod Moments
 pub mod Plan
 pub mod Sink
 pub mod Source
+pub mod Stops
 pub mod Touches

@@ -1,7 +1,5 @@
 -- Which calls of a disk in memory fail, and in which it stops.
-use Rattle.std.specs.Prelude.{◌≡◌, ◌-◌, Bool, true, false, ◌||◌, ◌==◌, if◌then◌else◌}
-use Rattle.disk_base.specs.declared.disks.Fill.{Fill}
-use Rattle.disk_base.specs.declared.disks.Fill.TheVariants.{Old}
+use Rattle.std.specs.Prelude.{◌≡◌, Bool, true, false, ◌||◌, ◌==◌, if◌then◌else◌}
 use Rattle.disk_base.specs.declared.memory_calls.MemCalls.{MemCalls}
 use Rattle.disk_base.specs.declared.memory_calls.StopState.{StopState}
 use Rattle.disk_base.specs.declared.memory_calls.StopState.TheVariants as states
@@ -43,18 +41,6 @@ passage (Stopped _) planned = Fails
 -- what becomes of the next call, if it changes a file
 abbrev pub passage_of : MemCalls → Passage
 passage_of calls = passage (stop_of calls) (fails_next calls.plan)
-
--- the stop after one more changing call
-abbrev pub after_change : Stop → Stop
-after_change Unarmed = Unarmed
-after_change (Armed calls fill) = if calls == 0 then Stopped fill else Armed (calls - 1) fill
-after_change (Stopped fill) = Stopped fill
-
--- what a stop leaves; a disk that did not stop leaves what was last synced
-abbrev pub fill_left : Stop → Fill
-fill_left Unarmed = Old
-fill_left (Armed _ _) = Old
-fill_left (Stopped fill) = fill
 
 -- the counts of changing calls and of faults stay
 pub record KeepsTallies (before after : MemCalls) : Type 0 where

@@ -1,12 +1,11 @@
 -- What a disk in memory holds, and how its calls end.
-use Rattle.std.specs.Prelude.{◌≡◌, ℕ, Bool, true, ◌⊎◌, ◌∷◌, if◌then◌else◌}
+use Rattle.std.specs.Prelude.{◌≡◌, ℕ, Bool, true, ◌∷◌, if◌then◌else◌}
 use Rattle.disk_base.specs.declared.disks.FileNo.{FileNo}
 use Rattle.disk_base.specs.declared.disks.FileNo.TheVariants.{Database, Log, Incoming}
 use Rattle.disk_base.specs.declared.disks.DiskEnd.{DiskEnd}
 use Rattle.disk_base.specs.declared.disks.DiskEnd.TheVariants as ends
 use Rattle.disk_base.specs.declared.disks.LenEnd.{LenEnd}
 use Rattle.disk_base.specs.declared.disks.LenEnd.TheVariants as lens
-use Rattle.disk_base.specs.declared.disks.Fill.{Fill}
 use Rattle.disk_base.specs.declared.memory_calls.Passage.{Passage}
 use Rattle.disk_base.specs.declared.memory_calls.Passage.TheVariants.{Passes, Stops, Fails}
 use Rattle.disk_base.specs.declared.memory_files.MemFile.{MemFile}
@@ -14,9 +13,9 @@ use Rattle.disk_base.specs.declared.memory_disks.MemFiles.{MemFiles}
 use Rattle.disk_base.specs.declared.memory_disks.MemDisk.{MemDisk}
 use Rattle.disk_base.specs.declared.plans.Plan.{Plan}
 use Rattle.disk_base.specs.Files.{Files, Stop}
-use Rattle.disk_base.specs.MemFile.{bytes_of, synced_of, touches_of, room_of, IsLeft}
+use Rattle.disk_base.specs.MemFile.{bytes_of, room_of, state_in}
 use Rattle.disk_base.specs.MemCalls.{stop_of, passage_of, fails_now}
-use Rattle.disk_base.specs.Moments.{FileState, Moment, MayLeave, LeftSince}
+use Rattle.disk_base.specs.Moments.{Moment, MayLeave, LeftSince}
 
 abbrev pub file_at : MemFiles → FileNo → MemFile
 file_at files Database = files.database
@@ -30,18 +29,6 @@ now_in files = record {
   log = bytes_of files.log;
   incoming = bytes_of files.incoming;
 }
-
--- what was last synced
-abbrev pub synced_in : MemFiles → Files
-synced_in files = record {
-  database = synced_of files.database;
-  log = synced_of files.log;
-  incoming = synced_of files.incoming;
-}
-
--- what was last synced of a file, and the changing calls since
-abbrev pub state_in : MemFile → FileState
-state_in file = record { synced = synced_of file; touches = touches_of file }
 
 -- what decides on what a crash now may leave
 abbrev pub moment_in : MemFiles → Moment
@@ -57,9 +44,6 @@ room_in files f = room_of (file_at files f)
 
 abbrev pub now_of : MemDisk → Files
 now_of disk = now_in disk.files
-
-abbrev pub last_synced : MemDisk → Files
-last_synced disk = synced_in disk.files
 
 abbrev pub disk_room : MemDisk → FileNo → ℕ
 disk_room disk f = room_in disk.files f
@@ -118,18 +102,3 @@ abbrev pub FailsUnlessPassed : Passage → DiskEnd → Type 0
 FailsUnlessPassed Passes end = Unit {0}
 FailsUnlessPassed Stops end = end ≡ ends.Failed
 FailsUnlessPassed Fails end = end ≡ ends.Failed
-
--- what a stop leaves of the three files
-pub record IsLeftOf (fill : Fill) (files : MemFiles) (after : Files) : Type 0 where
-  pub database : IsLeft fill files.database after.database
-  pub log : IsLeft fill files.log after.log
-  pub incoming : IsLeft fill files.incoming after.incoming
-
-abbrev pub IsLeftBy : Fill → MemDisk → Files → Type 0
-IsLeftBy fill disk after = IsLeftOf fill disk.files after
-
--- a write that fails changes no file, but one in which the disk stops and finds memory is written
-abbrev pub FailedWrite : Passage → DiskEnd → (before after written : Files) → Type 0
-FailedWrite Passes end before after written = end ≡ ends.Failed → after ≡ before
-FailedWrite Stops end before after written = (after ≡ written) ⊎ (after ≡ before)
-FailedWrite Fails end before after written = after ≡ before

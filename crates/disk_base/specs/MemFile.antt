@@ -1,10 +1,9 @@
--- What a file in memory holds, and what a stop leaves of it.
-use Rattle.std.specs.Prelude.{◌≡◌, ℕ, List}
+-- What a file in memory holds.
+use Rattle.std.specs.Prelude.{ℕ, List}
 use Rattle.disk_base.specs.declared.memory_files.MemFile.{MemFile}
 use Rattle.disk_base.specs.declared.touches.Touch.{Touch}
-use Rattle.disk_base.specs.declared.disks.Fill.{Fill}
-use Rattle.disk_base.specs.declared.disks.Fill.TheVariants.{Old, New, Byte}
-use Rattle.disk_base.specs.Touches.{kept_or, IsFilled}
+use Rattle.disk_base.specs.Touches.{kept_or}
+use Rattle.disk_base.specs.Moments.{FileState}
 
 -- what a read gives
 abbrev pub bytes_of : MemFile → List ℕ
@@ -22,8 +21,6 @@ touches_of file = file.touches.items
 abbrev pub room_of : MemFile → ℕ
 room_of file = file.room
 
--- what a stop leaves of a file
-abbrev pub IsLeft : Fill → MemFile → List ℕ → Type 0
-IsLeft Old file after = after ≡ synced_of file
-IsLeft New file after = after ≡ bytes_of file
-IsLeft (Byte byte) file after = IsFilled byte (touches_of file) (bytes_of file) after
+-- what was last synced, and the changing calls since
+abbrev pub state_in : MemFile → FileState
+state_in file = record { synced = synced_of file; touches = touches_of file }

@@ -1,13 +1,15 @@
--- The laws of a disk in memory: its moments, and that a crash may leave what a read gives.
-use Rattle.std.specs.Prelude.{◌≡◌, ℕ, ◌+◌, ◌<◌, ◌≤◌, List, [], ◌∷◌, Some}
+-- The laws of a disk in memory: its moments, that a crash may leave what a read gives, and that it has room for it.
+use Rattle.std.specs.Prelude.{◌≡◌, ℕ, ◌+◌, ◌<◌, ◌≤◌, List, [], ◌∷◌, Some, IsSome, IfSome, length, ◌↔◌}
 use Rattle.std.proofs.Common.{subst, inl, inr}
 use Rattle.std.proofs.Math.Nat.{not-le_of_lt, lt_of_lt_of_le, le_of_lt}
 use Rattle.std.proofs.Math.Numerals.{lt-add-one}
 use Rattle.std.proofs.lemmas.Option.{same_Some}
 use Rattle.disk_base.specs.declared.memory_disks.MemDisk.{MemDisk}
-use Rattle.disk_base.specs.Files.{Files}
-use Rattle.disk_base.specs.Moments.{Moment, LeftSince}
-use Rattle.disk_base.specs.MemDisk.{now_of, disk_steps, disk_may_leave, disk_left_since}
+use Rattle.disk_base.specs.declared.disks.FileNo.{FileNo}
+use Rattle.disk_base.specs.declared.disks.FileNo.TheVariants.{Database, Log, Incoming}
+use Rattle.disk_base.specs.Files.{Files, file_of}
+use Rattle.disk_base.specs.Moments.{Moment, MayLeave, LeftSince}
+use Rattle.disk_base.specs.MemDisk.{now_of, moment_of, disk_room, disk_steps, disk_may_leave, disk_left_since}
 
 -- a moment since then is now
 pub counts_now : (disk : MemDisk) (t : ℕ) (c : Files) → t ≤ disk_steps disk → disk_may_leave disk c → disk_left_since disk t c
@@ -33,3 +35,17 @@ may_be_read disk fs same = subst (λ (c : Files). disk_may_leave disk c) (same_S
   log = disk.files.log.may_be;
   incoming = disk.files.incoming.may_be;
 })
+
+-- each file has room
+pub has_room : (disk : MemDisk) (f : FileNo) → IfSome (Some (now_of disk)) (λ fs. length (file_of fs f) ≤ disk_room disk f)
+has_room disk Database = disk.files.database.has_room
+has_room disk Log = disk.files.log.has_room
+has_room disk Incoming = disk.files.incoming.has_room
+
+-- it tells both
+pub tells_both : (disk : MemDisk) → IsSome (Some (moment_of disk)) → IsSome (Some (now_of disk))
+tells_both disk told = told
+
+-- a crash may leave what the pending calls make of what was last synced, and nothing else
+pub leaves_pending : (disk : MemDisk) → IfSome (Some (moment_of disk)) (λ moment. (c : Files) → disk_may_leave disk c ↔ MayLeave moment c)
+leaves_pending disk = λ c. (λ left. left, λ left. left)

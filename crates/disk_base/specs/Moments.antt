@@ -1,8 +1,9 @@
--- The moments of a disk in memory, and what a crash may have left at them.
+-- The moments of a disk, and what a crash may have left at them.
 use Rattle.std.specs.Prelude.{◌⊎◌, ℕ, ◌+◌, ◌≤◌, List, [], ◌∷◌, ◌++◌}
 use Rattle.disk_base.specs.declared.disks.FileNo.{FileNo}
 use Rattle.disk_base.specs.declared.disks.FileNo.TheVariants.{Database, Log, Incoming}
 use Rattle.disk_base.specs.declared.touches.Touch.{Touch}
+use Rattle.disk_base.specs.declared.touches.Touch.TheVariants.{Wrote, Cut}
 use Rattle.disk_base.specs.Files.{Files}
 use Rattle.disk_base.specs.Touches.{MayBe}
 
@@ -35,6 +36,18 @@ touched state touch = record state { touches = state.touches ++ touch ∷ [] }
 -- the state of a file with these bytes, all of them synced
 abbrev pub at_rest : List ℕ → FileState
 at_rest bytes = record { synced = bytes; touches = [] }
+
+-- the moment after a write of so many bytes of a file, from a position on
+abbrev pub after_write : FileNo → (at len : ℕ) → Moment → Moment
+after_write f at len moment = with_state moment f (touched (state_of moment f) (Wrote at len))
+
+-- the moment after a cut of a file to a length
+abbrev pub after_cut : FileNo → (len : ℕ) → Moment → Moment
+after_cut f len moment = with_state moment f (touched (state_of moment f) (Cut len))
+
+-- the moment after a sync of a file that has these bytes
+abbrev pub after_sync : FileNo → List ℕ → Moment → Moment
+after_sync f bytes moment = with_state moment f (at_rest bytes)
 
 -- the moment at which these files are synced
 abbrev pub all_at_rest : Files → Moment

@@ -1,10 +1,12 @@
 //! The disk of a server: three files, written and synced.
-ghost use Rattle.std.specs.Prelude.{◌≡◌, ◌+◌, ◌<◌, ◌≤◌, ℕ, List, Option, Bool, IsTrue, true, Some, IsSome, IfSome, length, take, drop, ◌↔◌};
+ghost use Rattle.std.specs.Prelude.{◌≡◌, ◌+◌, ◌<◌, ◌≤◌, ◌⊎◌, ℕ, List, Option, Bool, IsTrue, true, Some, IsSome, IfSome, length, take, drop, ◌↔◌};
 ghost use Rattle.std.specs.Option.{option_map};
 ghost use Rattle.disk_base.specs.Files.{Files, file_of, with_file, laid, OnDone, OnKnown, KeepsRoom, Stop, IsStopped};
-ghost use Rattle.disk_base.specs.Files.Stop.{Unarmed, Armed};
+ghost use Rattle.disk_base.specs.Files.Stop.{Unarmed};
+ghost use Rattle.disk_base.specs.Stops.{after_change, armed, fill_left, StopsNext, IsLeftBy, Keeps, IsWritten};
 ghost use Rattle.disk_base.specs.Count.{HasCause};
 ghost use Rattle.disk_base.specs.Crash.{Torn, CutShort, InFile, Follows, Narrows, Only, OnlyIn, Elapses, LeavesSame};
+ghost use Rattle.disk_base.specs.Moments.{Moment, MayLeave, after_write, after_cut, after_sync, all_at_rest};
 ghost use Rattle.disk_base.specs.declared.disks.FileNo.{FileNo};
 
 /// One of the three files of a server.
@@ -54,7 +56,10 @@ pub struct Refused<D, F> {
     pub why: F,
 }
 
-/// Three files. After `Failed` nothing more is promised of what a read gives, until the files are opened anew.
+/// Three files. After `Failed` nothing more is promised of what a read gives, until the files are opened anew,
+/// but on a disk that tells what is pending.
+/// A disk may have been told to stop in one of its next changing calls: that one then fails, and so does each
+/// call after it.
 pub trait Disk {
     /// What reads give, where the disk tells it.
     ghost files: { Self → Option Files };
@@ -67,6 +72,12 @@ pub trait Disk {
 
     /// How often a call has failed. It never falls.
     ghost faults: { Self → ℕ };
+
+    /// Whether it is to stop in one of its next calls of `write_at`, `cut` and `sync`, or has stopped.
+    ghost stop: { Self → Stop };
+
+    /// What was last synced of each file, and the changing calls since, where the disk tells it.
+    ghost pending: { Self → Option Moment };
 
     /// Whether the disk tells its files, once they are opened anew after a failure. It never changes.
     ghost tells: { Self → Bool };
@@ -86,6 +97,15 @@ pub trait Disk {
     /// A crash may leave what a read gives.
     ghost may_be_read: { (disk : Self) (fs : Files) → files disk ≡ Some fs → may_leave disk fs };
 
+    /// A file has room for what a read gives.
+    ghost has_room: { (disk : Self) (f : FileNo) → IfSome (files disk) (λ fs. length (file_of fs f) ≤ room disk f) };
+
+    /// A disk that tells what is pending tells its files.
+    ghost tells_both: { (disk : Self) → IsSome (pending disk) → IsSome (files disk) };
+
+    /// A crash may leave what the pending calls make of what was last synced, and nothing else.
+    ghost leaves_pending: { (disk : Self) → IfSome (pending disk) (λ moment. (c : Files) → may_leave disk c ↔ MayLeave moment c) };
+
     /// The length of a file, in bytes.
     fn len(&mut self, f: FileNo) -> LenEnd
         ensures length { OnKnown result (λ n. IfSome (files self.old) (λ fs. n ≡ length (file_of fs f))) }
@@ -93,6 +113,10 @@ pub trait Disk {
         ensures room { KeepsRoom (room self.old) (room self.new) }
         ensures steps { steps self.new ≡ steps self.old }
         ensures crash { LeavesSame (may_leave self.old) (may_leave self.new) (left_since self.old) (left_since self.new) }
+        ensures stop { stop self.new ≡ stop self.old }
+        ensures stopped { IsStopped (stop self.old) → result ≡ LenEnd.Failed }
+        ensures pending { pending self.new ≡ pending self.old }
+        ensures failed { IsSome (pending self.old) → files self.new ≡ files self.old }
         ensures tells { tells self.new ≡ tells self.old }
         ensures cause { HasCause (faults self.old) (faults self.new) (result ≡ LenEnd.Failed) };
 
@@ -105,6 +129,8 @@ pub trait Disk {
         ensures room { KeepsRoom (room self.old) (room self.new) }
         ensures steps { steps self.new ≡ steps self.old }
         ensures crash { LeavesSame (may_leave self.old) (may_leave self.new) (left_since self.old) (left_since self.new) }
+        ensures stop { stop self.new ≡ stop self.old }
+        ensures pending { pending self.new ≡ pending self.old }
         ensures tells { tells self.new ≡ tells self.old }
         ensures faults { faults self.new ≡ faults self.old };
 
@@ -116,6 +142,10 @@ pub trait Disk {
         ensures room { KeepsRoom (room self.old) (room self.new) }
         ensures steps { steps self.new ≡ steps self.old }
         ensures crash { LeavesSame (may_leave self.old) (may_leave self.new) (left_since self.old) (left_since self.new) }
+        ensures stop { stop self.new ≡ stop self.old }
+        ensures stopped { IsStopped (stop self.old) → result ≡ DiskEnd.Failed }
+        ensures pending { pending self.new ≡ pending self.old }
+        ensures failed { IsSome (pending self.old) → files self.new ≡ files self.old }
         ensures tells { tells self.new ≡ tells self.old }
         ensures cause { HasCause (faults self.old) (faults self.new) (result ≡ DiskEnd.Failed) };
 
@@ -128,6 +158,12 @@ pub trait Disk {
         ensures steps { steps self.new ≡ steps self.old + 1 }
         ensures crash { Follows (InFile f (Torn at (length bytes.now))) (may_leave self.old) (may_leave self.new) }
         ensures time { Elapses (steps self.old) (left_since self.old) (left_since self.new) (may_leave self.new) }
+        ensures stop { stop self.new ≡ after_change (stop self.old) }
+        ensures stopped { IsStopped (stop self.new) → result ≡ DiskEnd.Failed }
+        ensures pending { OnDone result (pending self.new ≡ option_map (after_write f at (length bytes.now)) (pending self.old)) }
+        ensures failed { IsSome (pending self.old) → result ≡ DiskEnd.Failed
+            → Keeps (files self.old) (files self.new) (pending self.old) (pending self.new)
+            ⊎ (StopsNext (stop self.old) × IsWritten f at bytes.now (files self.old) (files self.new) (pending self.old) (pending self.new)) }
         ensures tells { tells self.new ≡ tells self.old }
         ensures cause { HasCause (faults self.old) (faults self.new) (result ≡ DiskEnd.Failed) };
 
@@ -139,6 +175,10 @@ pub trait Disk {
         ensures steps { steps self.new ≡ steps self.old + 1 }
         ensures crash { Follows (InFile f (CutShort len)) (may_leave self.old) (may_leave self.new) }
         ensures time { Elapses (steps self.old) (left_since self.old) (left_since self.new) (may_leave self.new) }
+        ensures stop { stop self.new ≡ after_change (stop self.old) }
+        ensures stopped { IsStopped (stop self.new) → result ≡ DiskEnd.Failed }
+        ensures pending { OnDone result (pending self.new ≡ option_map (after_cut f len) (pending self.old)) }
+        ensures failed { IsSome (pending self.old) → result ≡ DiskEnd.Failed → Keeps (files self.old) (files self.new) (pending self.old) (pending self.new) }
         ensures tells { tells self.new ≡ tells self.old }
         ensures cause { HasCause (faults self.old) (faults self.new) (result ≡ DiskEnd.Failed) };
 
@@ -150,37 +190,42 @@ pub trait Disk {
         ensures durable { OnDone result (IfSome (files self.old) (λ fs. OnlyIn f (file_of fs f) (may_leave self.new))) }
         ensures crash { Narrows (may_leave self.old) (may_leave self.new) }
         ensures time { Elapses (steps self.old) (left_since self.old) (left_since self.new) (may_leave self.new) }
+        ensures stop { stop self.new ≡ after_change (stop self.old) }
+        ensures stopped { IsStopped (stop self.new) → result ≡ DiskEnd.Failed }
+        ensures pending { OnDone result (IfSome (files self.old) (λ fs. pending self.new ≡ option_map (after_sync f (file_of fs f)) (pending self.old))) }
+        ensures failed { IsSome (pending self.old) → result ≡ DiskEnd.Failed → Keeps (files self.old) (files self.new) (pending self.old) (pending self.new) }
         ensures tells { tells self.new ≡ tells self.old }
         ensures cause { HasCause (faults self.old) (faults self.new) (result ≡ DiskEnd.Failed) };
 }
 
 /// A disk that can be told to stop in one of its next changing calls.
 pub trait StopDisk: Disk {
-    /// Whether it is to stop, or has stopped.
-    ghost stop: { Self → Stop };
-
-    /// Lets so many further calls of `write_at`, `cut` and `sync` pass, and stops in the next one. A stopped
-    /// disk fails in every call.
+    /// Lets so many further calls of `write_at`, `cut` and `sync` pass, and stops in the next one. A disk that has
+    /// stopped stays so.
     fn arm(&mut self, calls: u32, fill: Fill)
-        ensures armed { stop self.new ≡ Armed calls fill }
+        ensures armed { Self.stop self.new ≡ armed (Self.stop self.old) calls fill }
         ensures files { Self.files self.new ≡ Self.files self.old }
         ensures room { KeepsRoom (Self.room self.old) (Self.room self.new) }
         ensures steps { Self.steps self.new ≡ Self.steps self.old }
+        ensures pending { Self.pending self.new ≡ Self.pending self.old }
         ensures crash { LeavesSame (Self.may_leave self.old) (Self.may_leave self.new) (Self.left_since self.old) (Self.left_since self.new) }
         ensures tells { Self.tells self.new ≡ Self.tells self.old }
         ensures faults { Self.faults self.new ≡ Self.faults self.old };
 
     /// Whether it has stopped.
     fn stopped(&self) -> bool
-        ensures { IsTrue result ↔ IsStopped (stop self.now) };
+        ensures { IsTrue result ↔ IsStopped (Self.stop self.now) };
 
-    /// Ends the stop: the files are opened anew. A disk that did not stop is revived as with `Fill::Old`.
+    /// Ends the stop: the files are opened anew, and are all synced. A disk that did not stop is revived as with
+    /// `Fill::Old`.
     fn revive(&mut self)
-        ensures unarmed { stop self.new ≡ Unarmed }
+        ensures unarmed { Self.stop self.new ≡ Unarmed }
         ensures left { IfSome (Self.files self.new) (λ fs. Self.may_leave self.old fs × Only fs (Self.may_leave self.new)) }
+        ensures by_fill { IfSome (Self.pending self.old) (λ moment. IfSome (Self.files self.old) (λ now. IfSome (Self.files self.new)
+            (λ fs. IsLeftBy (fill_left (Self.stop self.old)) moment now fs))) }
+        ensures at_rest { IsSome (Self.pending self.old) → Self.pending self.new ≡ option_map all_at_rest (Self.files self.new) }
         ensures told { Self.tells self.old ≡ true → IsSome (Self.files self.new) }
         ensures tells { Self.tells self.new ≡ Self.tells self.old }
-        ensures room { (f : FileNo) → IfSome (Self.files self.new) (λ fs. length (file_of fs f) ≤ Self.room self.new f) }
         ensures steps { Self.steps self.new ≡ Self.steps self.old }
         ensures faults { Self.faults self.new ≡ Self.faults self.old };
 }

@@ -119,6 +119,7 @@ fn open_file<R: Files<File = File> + AllocGlobal>(
 }
 
 impl Disk for FileDisk {
+    ghost use Rattle.disk_base.specs.Files.Stop.{Unarmed};
     ghost use Rattle.disk_base.specs.FileDisk.{file_steps, file_faults};
 
     ghost files = { λ disk. None };
@@ -128,6 +129,10 @@ impl Disk for FileDisk {
     ghost steps = { file_steps };
 
     ghost faults = { file_faults };
+
+    ghost stop = { λ disk. Unarmed };
+
+    ghost pending = { λ disk. None };
 
     ghost tells = { λ disk. false };
 
@@ -140,6 +145,12 @@ impl Disk for FileDisk {
     ghost only_now = { λ disk c left. tt };
 
     ghost may_be_read = { λ disk fs told. tt };
+
+    ghost has_room = { λ disk f. tt };
+
+    ghost tells_both = { λ disk told. told };
+
+    ghost leaves_pending = { λ disk. tt };
 
     fn len(&mut self, f: FileNo) -> LenEnd {
         match self.file(f).metadata() {

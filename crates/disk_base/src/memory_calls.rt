@@ -3,8 +3,9 @@ ghost use Rattle.std.specs.Prelude.{◌≡◌, ◌≢◌, ◌+◌, ◌<◌, ◌�
 ghost use Rattle.disk_base.specs.Plan.{IsFresh, after_call};
 ghost use Rattle.disk_base.specs.Count.{HasCause};
 ghost use Rattle.disk_base.specs.Files.{IsStopped};
-ghost use Rattle.disk_base.specs.Files.Stop.{Unarmed, Armed};
-ghost use Rattle.disk_base.specs.MemCalls.{stop_of, fails_now, after_change, passage_of, fill_left, unless, KeepsTallies};
+ghost use Rattle.disk_base.specs.Files.Stop.{Unarmed};
+ghost use Rattle.disk_base.specs.Stops.{after_change, armed, fill_left};
+ghost use Rattle.disk_base.specs.MemCalls.{stop_of, fails_now, passage_of, unless, KeepsTallies};
 
 use crate::Fill;
 use crate::plans::Plan;
@@ -61,12 +62,18 @@ impl MemCalls {
         matches!(self.stop, StopState::Stopped { .. })
     }
 
+    /// Arms a stop, unless there was one.
     pub(crate) fn arm(&mut self, calls: u32, fill: Fill)
-        ensures stop { stop_of self.new ≡ Armed calls fill }
+        ensures stop { stop_of self.new ≡ armed (stop_of self.old) calls fill }
         ensures plan { self.new.plan ≡ self.old.plan }
         ensures tallies { KeepsTallies self.old self.new }
     {
-        self.stop = StopState::Armed { calls, fill };
+        match self.stop {
+            StopState::Stopped { .. } => {}
+            StopState::Unarmed | StopState::Armed { .. } => {
+                self.stop = StopState::Armed { calls, fill };
+            }
+        }
     }
 
     /// Ends the stop, and says what it left: `Fill::Old` where there was none.
@@ -97,6 +104,7 @@ impl MemCalls {
     /// Begins a call that changes no file, and says whether it fails.
     pub(crate) fn begin(&mut self) -> bool
         ensures fails { result ≡ fails_now self.old }
+        ensures stopped { IsStopped (stop_of self.old) → IsTrue result }
         ensures cause { HasCause self.old.faults.count self.new.faults.count (IsTrue result) }
         ensures steps { self.new.steps.count ≡ self.old.steps.count }
         ensures stop { stop_of self.new ≡ stop_of self.old }
@@ -113,6 +121,7 @@ impl MemCalls {
     /// Begins a call that changes a file, and says whether it passes.
     pub(crate) fn begin_change(&mut self) -> Passage
         ensures passage { result ≡ passage_of self.old }
+        ensures stopped { IsStopped (stop_of self.new) → result ≢ Passage.Passes }
         ensures cause { HasCause self.old.faults.count self.new.faults.count (result ≢ Passage.Passes) }
         ensures steps { self.new.steps.count ≡ self.old.steps.count + 1 }
         ensures stop { stop_of self.new ≡ after_change (stop_of self.old) }

@@ -1,7 +1,7 @@
 //! A disk in memory, whose calls fail by their numbers, and which can be told to stop.
-ghost use Rattle.std.specs.Prelude.{◌≡◌, ◌≢◌, ◌+◌, ◌<◌, ◌≤◌, ℕ, List, ◌∷◌, Some, Option, Bool, true, IfOk, IfSome, IsSome, IsTrue, OnOk, OnErr, length, take, drop, ◌↔◌};
+ghost use Rattle.std.specs.Prelude.{◌≡◌, ◌≢◌, ◌+◌, ◌<◌, ◌≤◌, ◌⊎◌, ℕ, List, ◌∷◌, Some, Option, Bool, true, IfOk, IfSome, IsSome, IsTrue, OnOk, OnErr, length, take, drop, ◌↔◌};
 ghost use Rattle.disk_base.specs.Files.{no_files, file_of, with_file, laid, OnDone, OnKnown, KeepsRoom, IsStopped};
-ghost use Rattle.disk_base.specs.Files.Stop.{Unarmed, Armed};
+ghost use Rattle.disk_base.specs.Files.Stop.{Unarmed};
 ghost use Rattle.disk_base.specs.Count.{HasCause};
 ghost use Rattle.disk_base.specs.declared.disks.FileNo.{FileNo};
 ghost use Rattle.disk_base.specs.Crash.{Torn, CutShort, InFile, Follows, Narrows, Only, OnlyIn, Elapses, LeavesSame};
@@ -9,7 +9,6 @@ ghost use Rattle.disk_base.specs.Crash.{Torn, CutShort, InFile, Follows, Narrows
 use crate::memory_calls::{MemCalls, Passage};
 use crate::memory_files::MemFile;
 use crate::moments::Moments;
-use crate::touches::Touch;
 use crate::{Disk, DiskEnd, FileNo, Fill, LenEnd, RoomEnd, StopDisk};
 use std::alloc::Global;
 use ubik_types::NoMemory;
@@ -23,13 +22,13 @@ pub(crate) struct MemFiles {
 }
 
 impl MemFiles {
-    ghost use Rattle.disk_base.specs.MemDisk.{file_at, now_in, synced_in, moment_in, room_in, IsLeftOf};
-    ghost use Rattle.disk_base.specs.Moments.{state_of, with_state, touched, at_rest, all_at_rest};
+    ghost use Rattle.disk_base.specs.MemDisk.{file_at, now_in, moment_in, room_in};
+    ghost use Rattle.disk_base.specs.Stops.{IsLeftBy};
+    ghost use Rattle.disk_base.specs.Moments.{after_write, after_cut, after_sync, all_at_rest};
 
     /// Three empty files.
     fn new(alloc: Global) -> MemFiles
         ensures now { now_in result ≡ no_files }
-        ensures synced { synced_in result ≡ no_files }
         ensures moment { moment_in result ≡ all_at_rest no_files }
     {
         MemFiles {
@@ -53,7 +52,6 @@ impl MemFiles {
         ensures reserved { OnOk result (len ≤ room_in self.new f) }
         ensures no_memory { OnErr result (room_in self.old f < len) }
         ensures now { now_in self.new ≡ now_in self.old }
-        ensures synced { synced_in self.new ≡ synced_in self.old }
         ensures moment { moment_in self.new ≡ moment_in self.old }
         ensures room { KeepsRoom (room_in self.old) (room_in self.new) }
     {
@@ -70,10 +68,8 @@ impl MemFiles {
         ensures ok { OnOk result (now_in self.new
             ≡ with_file (now_in self.old) f (laid (file_of (now_in self.old) f) at bytes.now)) }
         ensures err { OnErr result (now_in self.new ≡ now_in self.old) }
-        ensures marked { OnOk result (moment_in self.new ≡ with_state (moment_in self.old) f
-            (touched (state_of (moment_in self.old) f) (Touch.Wrote at (length bytes.now)))) }
+        ensures marked { OnOk result (moment_in self.new ≡ after_write f at (length bytes.now) (moment_in self.old)) }
         ensures unmarked { OnErr result (moment_in self.new ≡ moment_in self.old) }
-        ensures synced { synced_in self.new ≡ synced_in self.old }
         ensures room { KeepsRoom (room_in self.old) (room_in self.new) }
     {
         match f {
@@ -87,10 +83,8 @@ impl MemFiles {
         ensures ok { OnOk result (now_in self.new
             ≡ with_file (now_in self.old) f (take len (file_of (now_in self.old) f))) }
         ensures err { OnErr result (now_in self.new ≡ now_in self.old) }
-        ensures marked { OnOk result (moment_in self.new ≡ with_state (moment_in self.old) f
-            (touched (state_of (moment_in self.old) f) (Touch.Cut len))) }
+        ensures marked { OnOk result (moment_in self.new ≡ after_cut f len (moment_in self.old)) }
         ensures unmarked { OnErr result (moment_in self.new ≡ moment_in self.old) }
-        ensures synced { synced_in self.new ≡ synced_in self.old }
         ensures room { KeepsRoom (room_in self.old) (room_in self.new) }
     {
         match f {
@@ -102,10 +96,7 @@ impl MemFiles {
 
     fn sync(&mut self, f: FileNo)
         ensures now { now_in self.new ≡ now_in self.old }
-        ensures synced { synced_in self.new
-            ≡ with_file (synced_in self.old) f (file_of (now_in self.old) f) }
-        ensures moment { moment_in self.new
-            ≡ with_state (moment_in self.old) f (at_rest (file_of (now_in self.old) f)) }
+        ensures moment { moment_in self.new ≡ after_sync f (file_of (now_in self.old) f) (moment_in self.old) }
         ensures room { KeepsRoom (room_in self.old) (room_in self.new) }
     {
         match f {
@@ -116,8 +107,7 @@ impl MemFiles {
     }
 
     fn revive(&mut self, fill: Fill)
-        ensures left { IsLeftOf fill self.old (now_in self.new) }
-        ensures synced { synced_in self.new ≡ now_in self.new }
+        ensures left { IsLeftBy fill (moment_in self.old) (now_in self.old) (now_in self.new) }
         ensures moment { moment_in self.new ≡ all_at_rest (now_in self.new) }
         ensures room { KeepsRoom (room_in self.old) (room_in self.new) }
     {
@@ -136,15 +126,16 @@ pub struct MemDisk {
 }
 
 impl MemDisk {
+    ghost use Rattle.disk_base.specs.Moments.{all_at_rest};
     ghost use Rattle.disk_base.specs.Plan.{IsFresh, after_call};
-    ghost use Rattle.disk_base.specs.MemCalls.{after_change};
-    ghost use Rattle.disk_base.specs.MemDisk.{now_of, last_synced, moment_of, disk_may_leave, disk_passage, disk_stop, disk_plan, disk_steps, disk_faults, disk_tells};
+    ghost use Rattle.disk_base.specs.Stops.{after_change};
+    ghost use Rattle.disk_base.specs.MemDisk.{now_of, moment_of, disk_may_leave, disk_passage, disk_stop, disk_plan, disk_steps, disk_faults, disk_tells};
 
     /// A disk of three empty files, unarmed. Its call number k fails where k is in `fails`; calls of `len`, `read`,
     /// `write_at`, `cut` and `sync` are counted, from 1. A call that fails by its number changes no file.
     pub fn new(alloc: Global, fails: &[u64]) -> Result<MemDisk, NoMemory>
         ensures files { IfOk result (λ disk. now_of disk ≡ no_files) }
-        ensures synced { IfOk result (λ disk. last_synced disk ≡ no_files) }
+        ensures pending { IfOk result (λ disk. moment_of disk ≡ all_at_rest no_files) }
         ensures settled { IfOk result (λ disk. Only no_files (disk_may_leave disk)) }
         ensures tells { IfOk result (λ disk. disk_tells disk ≡ true) }
         ensures fails { IfOk result (λ disk. IsFresh fails.now (disk_plan disk)) }
@@ -162,6 +153,7 @@ impl MemDisk {
     /// Begins a call that changes a file, and says whether it passes. The moment before it is then an earlier one.
     fn begin_change(&mut self) -> Passage
         ensures passage { result ≡ disk_passage self.old }
+        ensures stopped { IsStopped (disk_stop self.new) → result ≢ Passage.Passes }
         ensures cause { HasCause (disk_faults self.old) (disk_faults self.new) (result ≢ Passage.Passes) }
         ensures files { self.new.files ≡ self.old.files }
         ensures moments { self.new.moments.earlier ≡ moment_of self.old ∷ self.old.moments.earlier }
@@ -196,11 +188,12 @@ impl MemDisk {
 
 impl Disk for MemDisk {
     ghost use Rattle.disk_base.specs.Plan.{after_call};
-    ghost use Rattle.disk_base.specs.MemCalls.{after_change};
-    ghost use Rattle.disk_base.specs.MemDisk.{now_of, last_synced, disk_room, disk_stop, disk_plan, disk_steps, disk_faults};
+    ghost use Rattle.disk_base.specs.Stops.{after_change, StopsNext, Keeps, IsWritten};
+    ghost use Rattle.disk_base.specs.Moments.{after_write, after_cut, after_sync};
+    ghost use Rattle.disk_base.specs.MemDisk.{now_of, moment_of, disk_room, disk_stop, disk_plan, disk_steps, disk_faults};
     ghost use Rattle.disk_base.specs.MemDisk.{disk_may_leave, disk_left_since, disk_tells};
-    ghost use Rattle.disk_base.specs.MemDisk.{disk_fails, disk_passage, done_unless, known_unless, end_of, FailsUnlessPassed, FailedWrite};
-    ghost use Rattle.disk_base.specs.MemLaws.{counts_now, only_now, may_be_read};
+    ghost use Rattle.disk_base.specs.MemDisk.{disk_fails, disk_passage, done_unless, known_unless, end_of, FailsUnlessPassed};
+    ghost use Rattle.disk_base.specs.MemLaws.{counts_now, only_now, may_be_read, has_room, tells_both, leaves_pending};
 
     ghost files = { λ disk. Some (now_of disk) };
 
@@ -209,6 +202,10 @@ impl Disk for MemDisk {
     ghost steps = { disk_steps };
 
     ghost faults = { disk_faults };
+
+    ghost stop = { disk_stop };
+
+    ghost pending = { λ disk. Some (moment_of disk) };
 
     ghost tells = { disk_tells };
 
@@ -222,18 +219,25 @@ impl Disk for MemDisk {
 
     ghost may_be_read = { may_be_read };
 
+    ghost has_room = { has_room };
+
+    ghost tells_both = { tells_both };
+
+    ghost leaves_pending = { leaves_pending };
+
     fn len(&mut self, f: FileNo) -> LenEnd
         ensures length { OnKnown result (λ n. n ≡ length (file_of (now_of self.old) f)) }
         ensures files { OnKnown result (λ _. Some (now_of self.new) ≡ Some (now_of self.old)) }
         ensures room { KeepsRoom (disk_room self.old) (disk_room self.new) }
         ensures steps { disk_steps self.new ≡ disk_steps self.old }
         ensures crash { LeavesSame (disk_may_leave self.old) (disk_may_leave self.new) (disk_left_since self.old) (disk_left_since self.new) }
+        ensures pending { Some (moment_of self.new) ≡ Some (moment_of self.old) }
+        ensures failed { Some (now_of self.new) ≡ Some (now_of self.old) }
         ensures tells { disk_tells self.new ≡ disk_tells self.old }
         ensures cause { HasCause (disk_faults self.old) (disk_faults self.new) (result ≡ LenEnd.Failed) }
         ensures exact { result ≡ known_unless (disk_fails self.old) (length (file_of (now_of self.old) f)) }
-        ensures unchanged { now_of self.new ≡ now_of self.old }
-        ensures synced { last_synced self.new ≡ last_synced self.old }
         ensures stop { disk_stop self.new ≡ disk_stop self.old }
+        ensures stopped { IsStopped (disk_stop self.old) → result ≡ LenEnd.Failed }
         ensures counted { disk_plan self.new ≡ after_call (disk_plan self.old) }
     {
         if self.calls.begin() {
@@ -249,9 +253,9 @@ impl Disk for MemDisk {
         ensures room { KeepsRoom (disk_room self.old) (disk_room self.new) }
         ensures steps { disk_steps self.new ≡ disk_steps self.old }
         ensures crash { LeavesSame (disk_may_leave self.old) (disk_may_leave self.new) (disk_left_since self.old) (disk_left_since self.new) }
+        ensures pending { Some (moment_of self.new) ≡ Some (moment_of self.old) }
         ensures tells { disk_tells self.new ≡ disk_tells self.old }
         ensures faults { disk_faults self.new ≡ disk_faults self.old }
-        ensures synced { last_synced self.new ≡ last_synced self.old }
         ensures stop { disk_stop self.new ≡ disk_stop self.old }
         ensures counted { disk_plan self.new ≡ disk_plan self.old }
     {
@@ -269,12 +273,13 @@ impl Disk for MemDisk {
         ensures room { KeepsRoom (disk_room self.old) (disk_room self.new) }
         ensures steps { disk_steps self.new ≡ disk_steps self.old }
         ensures crash { LeavesSame (disk_may_leave self.old) (disk_may_leave self.new) (disk_left_since self.old) (disk_left_since self.new) }
+        ensures pending { Some (moment_of self.new) ≡ Some (moment_of self.old) }
+        ensures failed { Some (now_of self.new) ≡ Some (now_of self.old) }
         ensures tells { disk_tells self.new ≡ disk_tells self.old }
         ensures cause { HasCause (disk_faults self.old) (disk_faults self.new) (result ≡ DiskEnd.Failed) }
         ensures exact { result ≡ done_unless (disk_fails self.old) }
-        ensures unchanged { now_of self.new ≡ now_of self.old }
-        ensures synced { last_synced self.new ≡ last_synced self.old }
         ensures stop { disk_stop self.new ≡ disk_stop self.old }
+        ensures stopped { IsStopped (disk_stop self.old) → result ≡ DiskEnd.Failed }
         ensures counted { disk_plan self.new ≡ after_call (disk_plan self.old) }
     {
         if self.calls.begin() {
@@ -293,13 +298,14 @@ impl Disk for MemDisk {
         ensures steps { disk_steps self.new ≡ disk_steps self.old + 1 }
         ensures crash { Follows (InFile f (Torn at (length bytes.now))) (disk_may_leave self.old) (disk_may_leave self.new) }
         ensures time { Elapses (disk_steps self.old) (disk_left_since self.old) (disk_left_since self.new) (disk_may_leave self.new) }
+        ensures pending { OnDone result (Some (moment_of self.new) ≡ Some (after_write f at (length bytes.now) (moment_of self.old))) }
+        ensures failed { result ≡ DiskEnd.Failed → Keeps (Some (now_of self.old)) (Some (now_of self.new)) (Some (moment_of self.old)) (Some (moment_of self.new))
+            ⊎ (StopsNext (disk_stop self.old) × IsWritten f at bytes.now (Some (now_of self.old)) (Some (now_of self.new)) (Some (moment_of self.old)) (Some (moment_of self.new))) }
         ensures tells { disk_tells self.new ≡ disk_tells self.old }
         ensures cause { HasCause (disk_faults self.old) (disk_faults self.new) (result ≡ DiskEnd.Failed) }
         ensures fails { FailsUnlessPassed (disk_passage self.old) result }
-        ensures failed { FailedWrite (disk_passage self.old) result (now_of self.old) (now_of self.new)
-            (with_file (now_of self.old) f (laid (file_of (now_of self.old) f) at bytes.now)) }
-        ensures synced { last_synced self.new ≡ last_synced self.old }
         ensures stop { disk_stop self.new ≡ after_change (disk_stop self.old) }
+        ensures stopped { IsStopped (disk_stop self.new) → result ≡ DiskEnd.Failed }
         ensures counted { disk_plan self.new ≡ after_call (disk_plan self.old) }
     {
         let passage = self.begin_change();
@@ -321,12 +327,13 @@ impl Disk for MemDisk {
         ensures steps { disk_steps self.new ≡ disk_steps self.old + 1 }
         ensures crash { Follows (InFile f (CutShort len)) (disk_may_leave self.old) (disk_may_leave self.new) }
         ensures time { Elapses (disk_steps self.old) (disk_left_since self.old) (disk_left_since self.new) (disk_may_leave self.new) }
+        ensures pending { OnDone result (Some (moment_of self.new) ≡ Some (after_cut f len (moment_of self.old))) }
+        ensures failed { result ≡ DiskEnd.Failed → Keeps (Some (now_of self.old)) (Some (now_of self.new)) (Some (moment_of self.old)) (Some (moment_of self.new)) }
         ensures tells { disk_tells self.new ≡ disk_tells self.old }
         ensures cause { HasCause (disk_faults self.old) (disk_faults self.new) (result ≡ DiskEnd.Failed) }
         ensures fails { FailsUnlessPassed (disk_passage self.old) result }
-        ensures failed { result ≡ DiskEnd.Failed → now_of self.new ≡ now_of self.old }
-        ensures synced { last_synced self.new ≡ last_synced self.old }
         ensures stop { disk_stop self.new ≡ after_change (disk_stop self.old) }
+        ensures stopped { IsStopped (disk_stop self.new) → result ≡ DiskEnd.Failed }
         ensures counted { disk_plan self.new ≡ after_call (disk_plan self.old) }
     {
         if self.begin_change() != Passage::Passes {
@@ -343,14 +350,13 @@ impl Disk for MemDisk {
         ensures durable { OnDone result (OnlyIn f (file_of (now_of self.old) f) (disk_may_leave self.new)) }
         ensures crash { Narrows (disk_may_leave self.old) (disk_may_leave self.new) }
         ensures time { Elapses (disk_steps self.old) (disk_left_since self.old) (disk_left_since self.new) (disk_may_leave self.new) }
+        ensures pending { OnDone result (Some (moment_of self.new) ≡ Some (after_sync f (file_of (now_of self.old) f) (moment_of self.old))) }
+        ensures failed { result ≡ DiskEnd.Failed → Keeps (Some (now_of self.old)) (Some (now_of self.new)) (Some (moment_of self.old)) (Some (moment_of self.new)) }
         ensures tells { disk_tells self.new ≡ disk_tells self.old }
         ensures cause { HasCause (disk_faults self.old) (disk_faults self.new) (result ≡ DiskEnd.Failed) }
         ensures exact { result ≡ end_of (disk_passage self.old) }
-        ensures unchanged { now_of self.new ≡ now_of self.old }
-        ensures synced { OnDone result (last_synced self.new
-            ≡ with_file (last_synced self.old) f (file_of (now_of self.old) f)) }
-        ensures failed { result ≡ DiskEnd.Failed → last_synced self.new ≡ last_synced self.old }
         ensures stop { disk_stop self.new ≡ after_change (disk_stop self.old) }
+        ensures stopped { IsStopped (disk_stop self.new) → result ≡ DiskEnd.Failed }
         ensures counted { disk_plan self.new ≡ after_call (disk_plan self.old) }
     {
         let passage = self.begin_change();
@@ -363,21 +369,20 @@ impl Disk for MemDisk {
 }
 
 impl StopDisk for MemDisk {
-    ghost use Rattle.disk_base.specs.MemCalls.{fill_left};
-    ghost use Rattle.disk_base.specs.MemDisk.{now_of, last_synced, disk_room, disk_stop, disk_plan, disk_steps, disk_faults, IsLeftBy};
+    ghost use Rattle.disk_base.specs.Stops.{armed, fill_left, IsLeftBy};
+    ghost use Rattle.disk_base.specs.Moments.{all_at_rest};
+    ghost use Rattle.disk_base.specs.MemDisk.{now_of, moment_of, disk_room, disk_stop, disk_plan, disk_steps, disk_faults};
     ghost use Rattle.disk_base.specs.MemDisk.{disk_may_leave, disk_left_since, disk_tells};
 
-    ghost stop = { disk_stop };
-
     fn arm(&mut self, calls: u32, fill: Fill)
-        ensures armed { disk_stop self.new ≡ Armed calls fill }
+        ensures armed { disk_stop self.new ≡ armed (disk_stop self.old) calls fill }
         ensures files { Some (now_of self.new) ≡ Some (now_of self.old) }
         ensures room { KeepsRoom (disk_room self.old) (disk_room self.new) }
         ensures steps { disk_steps self.new ≡ disk_steps self.old }
+        ensures pending { Some (moment_of self.new) ≡ Some (moment_of self.old) }
         ensures crash { LeavesSame (disk_may_leave self.old) (disk_may_leave self.new) (disk_left_since self.old) (disk_left_since self.new) }
         ensures tells { disk_tells self.new ≡ disk_tells self.old }
         ensures faults { disk_faults self.new ≡ disk_faults self.old }
-        ensures synced { last_synced self.new ≡ last_synced self.old }
         ensures counted { disk_plan self.new ≡ disk_plan self.old }
     {
         self.calls.arm(calls, fill);
@@ -392,11 +397,10 @@ impl StopDisk for MemDisk {
         ensures steps { disk_steps self.new ≡ disk_steps self.old }
         ensures faults { disk_faults self.new ≡ disk_faults self.old }
         ensures left { disk_may_leave self.old (now_of self.new) × Only (now_of self.new) (disk_may_leave self.new) }
+        ensures by_fill { IsLeftBy (fill_left (disk_stop self.old)) (moment_of self.old) (now_of self.old) (now_of self.new) }
+        ensures at_rest { Some (moment_of self.new) ≡ Some (all_at_rest (now_of self.new)) }
         ensures told { disk_tells self.old ≡ true → IsSome (Some (now_of self.new)) }
         ensures tells { disk_tells self.new ≡ disk_tells self.old }
-        ensures room { (f : FileNo) → length (file_of (now_of self.new) f) ≤ disk_room self.new f }
-        ensures exact { IsLeftBy (fill_left (disk_stop self.old)) self.old (now_of self.new) }
-        ensures synced { last_synced self.new ≡ now_of self.new }
         ensures counted { disk_plan self.new ≡ disk_plan self.old }
     {
         let fill = self.calls.disarm();

@@ -25,7 +25,8 @@ pub(crate) struct MemFile {
 }
 
 impl MemFile {
-    ghost use Rattle.disk_base.specs.MemFile.{bytes_of, synced_of, touches_of, room_of, IsLeft};
+    ghost use Rattle.disk_base.specs.MemFile.{bytes_of, synced_of, touches_of, room_of, state_in};
+    ghost use Rattle.disk_base.specs.Stops.{IsLeft};
 
     /// An empty file without room.
     pub(crate) fn new(alloc: Global) -> MemFile
@@ -138,7 +139,7 @@ impl MemFile {
 
     /// What a stop leaves becomes what a read gives and what was last synced.
     pub(crate) fn revive(&mut self, fill: Fill)
-        ensures left { IsLeft fill self.old (bytes_of self.new) }
+        ensures left { IsLeft fill (state_in self.old) (bytes_of self.old) (bytes_of self.new) }
         ensures synced { synced_of self.new ≡ bytes_of self.new }
         ensures touches { touches_of self.new ≡ [] }
         ensures room { room_of self.new ≡ room_of self.old }

@@ -213,3 +213,81 @@ fn each_failed_call_changes_nothing(rt: HostRuntime) -> Result<(), Fail> {
     }
     Ok(())
 }
+
+/// Fewer changes, which make `CALLS` calls where none fails.
+fn short_history() -> [Change; 4] {
+    [
+        Change::Write(FileNo::Database, 0, b"abc"),
+        Change::Sync(FileNo::Database),
+        Change::Write(FileNo::Database, 1, b"XYZ"),
+        Change::Cut(FileNo::Database, 2),
+    ]
+}
+
+const CALLS: u64 = 7;
+
+/// The numbers whose place in the set is one, the lowest first.
+fn numbers_of(alloc: Global, set: u32) -> Result<Vec<u64>, AllocError> {
+    let mut rest = set;
+    let mut numbers = Vec::new(alloc);
+    for number in 1..CALLS + 1 {
+        if rest % 2 == 1 {
+            numbers.push(number)?;
+        }
+        rest /= 2;
+    }
+    Ok(numbers)
+}
+
+/// The calls that were made, and the numbers of those that fail.
+#[derive(Drop)]
+struct Planned<'a> {
+    fails: &'a [u64],
+    made: u64,
+}
+
+impl Planned<'_> {
+    fn next_fails(&mut self) -> bool {
+        self.made = self.made.saturating_add(1);
+        self.fails.contains(&self.made)
+    }
+
+    /// A change fails in its call of `len`, where it makes one, or in its own.
+    fn change_fails(&mut self, change: Change) -> bool {
+        !matches!(change, Change::Sync(_)) && self.next_fails() || self.next_fails()
+    }
+}
+
+/// The disk fails in each of its calls whose number is in the set.
+fn expect_failures(rt: &impl Abort, alloc: Global, set: u32) -> Result<(), Fail> {
+    let fails = numbers_of(alloc, set)?;
+    let mut disk = MemDisk::new(alloc, &fails)?;
+    let mut planned = Planned {
+        fails: &fails,
+        made: 0,
+    };
+    let mut replay = Replay::new(alloc);
+    for change in short_history() {
+        let fails = planned.change_fails(change);
+        let failed = call(rt, &mut disk, change) == DiskEnd::Failed;
+        assert_eq!(rt; failed, fails, "set {set}");
+        if !fails {
+            replay.apply(change)?;
+        }
+    }
+    for _ in 0..CALLS {
+        let failed = disk.len(FileNo::Log) == LenEnd::Failed;
+        assert_eq!(rt; failed, planned.next_fails(), "set {set}");
+    }
+    expect_files(rt, alloc, &mut disk, &replay, Fill::New)?;
+    disk.revive();
+    expect_files(rt, alloc, &mut disk, &replay, Fill::Old)
+}
+
+#[test]
+fn each_set_of_failed_calls_changes_nothing(rt: HostRuntime) -> Result<(), Fail> {
+    for set in 0..1 << CALLS {
+        expect_failures(&rt, rt.alloc(), set)?;
+    }
+    Ok(())
+}

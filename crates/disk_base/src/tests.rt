@@ -148,6 +148,24 @@ fn a_cut_that_stops_is_not_done(rt: HostRuntime) -> Result<(), Fail> {
     expect_file(&rt, rt.alloc(), &mut disk, FileNo::Log, b"ab")
 }
 
+/// A disk that has stopped is armed again, and then written.
+fn expect_still_stopped<D: StopDisk>(rt: &impl Abort, disk: &mut D) {
+    disk.arm(0, Fill::New);
+    assert_eq!(rt; put(rt, disk, FileNo::Log, 0, b"ab"), DiskEnd::Failed);
+    disk.arm(9, Fill::Old);
+    assert!(rt; disk.stopped());
+    assert_eq!(rt; disk.sync(FileNo::Log), DiskEnd::Failed);
+    assert_eq!(rt; disk.len(FileNo::Log), LenEnd::Failed);
+    disk.revive();
+}
+
+#[test]
+fn a_stopped_disk_that_is_armed_again_stays_stopped(rt: HostRuntime) -> Result<(), Fail> {
+    let mut disk = MemDisk::new(rt.alloc(), &[])?;
+    expect_still_stopped(&rt, &mut disk);
+    expect_file(&rt, rt.alloc(), &mut disk, FileNo::Log, b"ab")
+}
+
 #[test]
 fn a_disk_that_did_not_stop_is_revived_as_it_was_synced(rt: HostRuntime) -> Result<(), Fail> {
     let mut disk = MemDisk::new(rt.alloc(), &[])?;

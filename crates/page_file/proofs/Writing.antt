@@ -15,6 +15,11 @@ pub within_image : (files : Option Files) (pages : Known) (n : ℕ) → AgreesIn
 within_image None pages n agrees within headed = tt
 within_image (Some fs) pages n agrees within headed = omega (arith, agrees.len, length-drop 64 fs.database)
 
+-- a file that is told has room, and of one that is not the caller knows it
+pub has_room : (files : Option Files) (n room : ℕ) → (files ≡ None → n ≤ room) → IfSome files (λ fs. n ≤ length fs.database) → IfSome files (λ fs. length fs.database ≤ room) → n ≤ room
+has_room None n room untold headed has = untold refl
+has_room (Some fs) n room untold headed has = omega (arith, headed, has)
+
 length-laid : (file bytes : List ℕ) (at : ℕ) → at ≤ length file → length (laid file at bytes) ≡ max (length file) (at + length bytes)
 length-laid file bytes at within = grind (arith, common_steps)
 

@@ -226,7 +226,7 @@ impl Pages {
     pub fn set_label<D: Disk>(&mut self, disk: &mut D, v: Version) -> Result<(), PageFault>
         requires agrees { AgreesIn self.old (D.files disk.old) }
         requires version { IsVersion v }
-        requires fits { 64 ≤ D.room disk.old FileNo.Database }
+        requires fits { D.files disk.old ≡ None → 64 ≤ D.room disk.old FileNo.Database }
         requires headed { IfSome (D.files disk.old) (λ fs. 64 ≤ length fs.database) }
         ensures written { OnOk result (D.files disk.new ≡ option_map (λ fs. with_file fs FileNo.Database (laid fs.database 0 (label v))) (D.files disk.old)) }
         ensures version { OnOk result (self.new.version ≡ Some v) }

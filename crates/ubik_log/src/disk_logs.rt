@@ -104,7 +104,7 @@ pub fn keep_log<D: Disk>(disk: &mut D, log: &[u8]) -> Result<(), LogFault>
 /// Opens the gate of the log: a kept log is committed once this is `Ok`.
 pub fn open_gate<D: Disk>(disk: &mut D) -> Result<(), LogFault>
     requires there { IfSome (D.files disk.old) (λ fs. 4 ≤ length fs.log) }
-    requires fits { 4 ≤ D.room disk.old FileNo.Log }
+    requires fits { D.files disk.old ≡ None → 4 ≤ D.room disk.old FileNo.Log }
     ensures gate { OnOk result (D.files disk.new ≡ option_map (gate_set 100) (D.files disk.old)) }
     ensures durable { OnOk result (IfSome (D.files disk.old) (λ fs.
         OnlyIn FileNo.Log (with_gate 100 fs.log) (D.may_leave disk.new))) }
@@ -131,7 +131,7 @@ pub fn open_gate<D: Disk>(disk: &mut D) -> Result<(), LogFault>
 /// Closes the gate of the log: a log that is read after this is discarded.
 pub fn close_gate<D: Disk>(disk: &mut D) -> Result<(), LogFault>
     requires there { IfSome (D.files disk.old) (λ fs. 4 ≤ length fs.log) }
-    requires fits { 4 ≤ D.room disk.old FileNo.Log }
+    requires fits { D.files disk.old ≡ None → 4 ≤ D.room disk.old FileNo.Log }
     ensures gate { OnOk result (D.files disk.new ≡ option_map (gate_set 0) (D.files disk.old)) }
     ensures durable { OnOk result (IfSome (D.files disk.old) (λ fs.
         OnlyIn FileNo.Log (with_gate 0 fs.log) (D.may_leave disk.new))) }
@@ -206,7 +206,7 @@ fn put_closed<D: Disk>(disk: &mut D, log: &[u8]) -> DiskEnd
 /// Writes this byte at the gate, and syncs the log file.
 fn set_gate<D: Disk>(disk: &mut D, byte: u8) -> Result<(), LogFault>
     requires there { IfSome (D.files disk.old) (λ fs. 4 ≤ length fs.log) }
-    requires fits { 4 ≤ D.room disk.old FileNo.Log }
+    requires fits { D.files disk.old ≡ None → 4 ≤ D.room disk.old FileNo.Log }
     ensures gate { OnOk result (D.files disk.new ≡ option_map (gate_set byte) (D.files disk.old)) }
     ensures durable { OnOk result (IfSome (D.files disk.old) (λ fs.
         OnlyIn FileNo.Log (with_gate byte fs.log) (D.may_leave disk.new))) }

@@ -6,4 +6,4 @@ pub write_range-requires-2-clause-fits : goal.write_range-requires-2-clause-fits
 write_range-requires-2-clause-fits g c = omega (arith, c.in_ok-reserve.ensures.reserved, c.write_range.ensures.room Database)
 
 pub set_label-requires-clause-fits : goal.set_label-requires-clause-fits
-set_label-requires-clause-fits g c = omega (arith, c.in_ok-reserve.ensures.reserved, c.write_range.ensures.room Database, c.write_range-2.ensures.room Database, c.read_range.ensures.room Database, c.cut.ensures.room Database)
+set_label-requires-clause-fits g c = λ untold. omega (arith, c.in_ok-reserve.ensures.reserved, c.write_range.ensures.room Database, c.write_range-2.ensures.room Database, c.read_range.ensures.room Database, c.cut.ensures.room Database)

@@ -1,6 +1,20 @@
+use Rattle.std.proofs.Common.{◌≡◌, ◌≤◌, ℕ, Option, Some, None, IfSome, length, refl, arith}
+use Rattle.disk_base.specs.declared.disks.FileNo.TheVariants.{Log}
+use Rattle.disk_base.specs.Files.{Files}
 use Rattle.ubik_log.proofs.Moments.{widened}
 use Rattle.ubik_log.proofs.TornGates.{left_gate}
 use Rattle.ubik_log.proofs.disk_logs.set_gate.Goals as goal
+
+-- a file that is told has room, and of one that is not the caller knows it
+has_room : (files : Option Files) (n room : ℕ) → (files ≡ None → n ≤ room) → IfSome files (λ fs. n ≤ length fs.log) → IfSome files (λ fs. length fs.log ≤ room) → n ≤ room
+has_room None n room untold there has = untold refl
+has_room (Some fs) n room untold there has = omega (arith, there, has)
+
+pub put_synced-requires-clause-fits : goal.put_synced-requires-clause-fits
+put_synced-requires-clause-fits g c =
+    let disk = c.args.disk.now in
+    let room : 4 ≤ g.D.Disk.room disk Log = has_room (g.D.Disk.files disk) 4 _ c.requires.fits c.requires.there (g.D.Disk.has_room disk Log) in
+    omega arith
 
 pub returns-in-Done-clause-moments : goal.returns-in-Done-clause-moments
 returns-in-Done-clause-moments g c =

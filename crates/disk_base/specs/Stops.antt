@@ -1,0 +1,56 @@
+-- When a disk stops, and what a stop leaves.
+use Rattle.std.specs.Prelude.{◌≡◌, ℕ, ◌-◌, ◌==◌, if◌then◌else◌, List, length, Option}
+use Rattle.std.specs.Option.{option_map}
+use Rattle.disk_base.specs.declared.disks.FileNo.{FileNo}
+use Rattle.disk_base.specs.declared.disks.Fill.{Fill}
+use Rattle.disk_base.specs.declared.disks.Fill.TheVariants.{Old, New, Byte}
+use Rattle.disk_base.specs.Files.{Files, file_of, with_file, laid, Stop}
+use Rattle.disk_base.specs.Files.Stop.{Unarmed, Armed, Stopped}
+use Rattle.disk_base.specs.Moments.{FileState, Moment, after_write}
+use Rattle.disk_base.specs.Touches.{IsFilled}
+
+-- the stop after one more changing call
+abbrev pub after_change : Stop → Stop
+after_change Unarmed = Unarmed
+after_change (Armed calls fill) = if calls == 0 then Stopped fill else Armed (calls - 1) fill
+after_change (Stopped fill) = Stopped fill
+
+-- the disk stops in its next changing call
+abbrev pub StopsNext : Stop → Type 0
+StopsNext Unarmed = ⊥
+StopsNext (Armed calls _) = calls ≡ 0
+StopsNext (Stopped _) = ⊥
+
+-- the stop once it is armed; a disk that has stopped stays so
+abbrev pub armed : Stop → ℕ → Fill → Stop
+armed Unarmed calls fill = Armed calls fill
+armed (Armed _ _) calls fill = Armed calls fill
+armed (Stopped left) calls fill = Stopped left
+
+-- what a stop leaves; a disk that did not stop leaves what was last synced
+abbrev pub fill_left : Stop → Fill
+fill_left Unarmed = Old
+fill_left (Armed _ _) = Old
+fill_left (Stopped fill) = fill
+
+-- what a stop leaves of a file
+abbrev pub IsLeft : Fill → FileState → (now after : List ℕ) → Type 0
+IsLeft Old state now after = after ≡ state.synced
+IsLeft New state now after = after ≡ now
+IsLeft (Byte byte) state now after = IsFilled byte state.touches now after
+
+-- what a stop leaves of the three files, at a moment at which reads gave these
+pub record IsLeftBy (fill : Fill) (moment : Moment) (now after : Files) : Type 0 where
+  pub database : IsLeft fill moment.database now.database after.database
+  pub log : IsLeft fill moment.log now.log after.log
+  pub incoming : IsLeft fill moment.incoming now.incoming after.incoming
+
+-- what reads give stays, and what is pending
+pub record Keeps (fs fs' : Option Files) (moment moment' : Option Moment) : Type 0 where
+  pub files : fs' ≡ fs
+  pub pending : moment' ≡ moment
+
+-- a write counts as done, and is pending
+pub record IsWritten (f : FileNo) (at : ℕ) (bytes : List ℕ) (fs fs' : Option Files) (moment moment' : Option Moment) : Type 0 where
+  pub files : fs' ≡ option_map (λ files. with_file files f (laid (file_of files f) at bytes)) fs
+  pub pending : moment' ≡ option_map (after_write f at (length bytes)) moment
