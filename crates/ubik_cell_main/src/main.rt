@@ -1,16 +1,19 @@
 //! `ubik_cell`: runs the script on standard input, and prints its exact trace on standard output.
 #![tactic(auto)]
 
-ghost use Rattle.std.specs.Prelude.{◌≡◌, Some, IfOk, vec_len};
+ghost use Rattle.std.specs.Prelude.{◌≡◌, ◌≢◌, ◌<◌, ◌≤◌, ◌⊎◌, ℕ, Some, IfOk, IfErr, IsTrue, vec_len, length, drop};
+ghost use Rattle.std.specs.IoError.{error_kind};
+ghost use Rattle.std.specs.Vec.Iter.{into_iter_items};
 ghost use Rattle.disk_base.specs.MemDisk.{now_of, disk_stop, disk_faults};
 ghost use Rattle.ubik_cell.specs.Disks.{AllFresh};
+ghost use Rattle.ubik_cell.specs.Run.{status_of};
 
 use disk_base::{MemDisk, ReaderSource, WriterSink};
 use std::alloc::Global;
-use std::env;
-use std::io::{self, BufReader, BufWriter, Write};
+use std::env::{self, Args};
+use std::io::{self, BufReader, BufWriter, ErrorKind, Write};
 use std::process::ExitCode;
-use ubik_cell::cell_top;
+use ubik_cell::{CellEnd, CellKind, cell_top};
 use ubik_types::{MAXSERVERS, NoMemory};
 
 /// The trace could not be written whole.
@@ -21,6 +24,13 @@ const NO_MEMORY: u8 = 5;
 
 /// There is a word that is not UTF-8, and the program takes none.
 const WORDS: u8 = 6;
+
+/// How the script ended, and whether all of its trace went out with the last flush.
+#[derive(Clone, Copy)]
+struct Ended {
+    end: CellEnd,
+    flushed: bool,
+}
 
 /// The empty disks of a cell, in memory.
 fn fresh_disks(alloc: Global) -> Result<Vec<MemDisk>, NoMemory>
@@ -34,19 +44,12 @@ fn fresh_disks(alloc: Global) -> Result<Vec<MemDisk>, NoMemory>
     Ok(disks)
 }
 
-/// The words that the program was given, behind its name. One that is not UTF-8 is invalid data.
-fn words(rt: &HostRuntime) -> io::Result<Vec<String>> {
-    let mut words = Vec::new(rt.alloc());
-    for word in env::args(rt)?.skip(1) {
-        if words.push(word).is_err() {
-            return Err(io::Error::from(io::ErrorKind::OutOfMemory));
-        }
-    }
-    Ok(words)
-}
-
 /// Runs the script. The trace is buffered, and what is left of it goes out at every end.
-fn run(rt: &HostRuntime, words: &[String]) -> Result<u8, NoMemory> {
+fn run(rt: &HostRuntime, words: &[String]) -> Result<Ended, NoMemory>
+    ensures words { IfOk result (λ ended. 0 < length words.now → ended.end.kind ≡ CellKind.Words 1) }
+    ensures word_cause { IfOk result (λ ended. (place : ℕ) → ended.end.kind ≡ CellKind.Words place → 0 < length words.now) }
+    ensures status { IfOk result (λ ended. ended.end.status ≡ status_of ended.end.kind) }
+{
     let alloc = rt.alloc();
     let mut disks = fresh_disks(alloc)?;
     let Ok(reader) = BufReader::new(alloc, rt.reader()) else {
@@ -58,20 +61,58 @@ fn run(rt: &HostRuntime, words: &[String]) -> Result<u8, NoMemory> {
     let mut input = ReaderSource::new(reader);
     let mut out = WriterSink::new(writer);
     let end = cell_top(alloc, words, &mut input, &mut out, &mut disks);
-    match out.into_inner().flush() {
-        Ok(()) => Ok(end.status),
-        Err(_) => Ok(WRITE_FAULT),
+    let flushed = out.into_inner().flush().is_ok();
+    Ok(Ended { end, flushed })
+}
+
+/// The exit status. A trace that did not go out whole is a write fault, whatever the end of its script.
+fn exit_status(ended: Ended) -> u8
+    ensures whole { IsTrue ended.flushed → result ≡ ended.end.status }
+    ensures cut_off { ¬ IsTrue ended.flushed → result ≡ 3 }
+{
+    if ended.flushed {
+        ended.end.status
+    } else {
+        WRITE_FAULT
+    }
+}
+
+/// The words behind the name of the program, which is the first of these.
+fn behind_name(alloc: Global, mut args: Args) -> Result<Vec<String>, NoMemory>
+    ensures { IfOk result (λ words. words.items ≡ drop 1 (into_iter_items args)) }
+{
+    let _name = args.next();
+    let mut words = Vec::new(alloc);
+    for word in args {
+        words.push(word)?;
+    }
+    Ok(words)
+}
+
+/// The exit status of the program, which is given these words and its name before them. A word that is not UTF-8
+/// is invalid data.
+fn status(rt: &HostRuntime, given: io::Result<Args>) -> u8
+    // A word is status 6, but memory may run out, and the last flush fail.
+    ensures words { IfOk given (λ args. 1 < length (into_iter_items args) →
+        (result ≡ 6) ⊎ (result ≡ NO_MEMORY) ⊎ (result ≡ WRITE_FAULT)) }
+    ensures no_words { IfOk given (λ args. length (into_iter_items args) ≤ 1 → result ≢ 6) }
+    ensures not_text { IfErr given (λ error. error_kind error ≡ ErrorKind.InvalidData → result ≡ 6) }
+    ensures no_memory { IfErr given (λ error. error_kind error ≢ ErrorKind.InvalidData → result ≡ 5) }
+{
+    let args = match given {
+        Ok(args) => args,
+        Err(error) if error.kind() == ErrorKind::InvalidData => return WORDS,
+        Err(_) => return NO_MEMORY,
+    };
+    let Ok(words) = behind_name(rt.alloc(), args) else {
+        return NO_MEMORY;
+    };
+    match run(rt, &words) {
+        Ok(ended) => exit_status(ended),
+        Err(NoMemory) => NO_MEMORY,
     }
 }
 
 fn main(rt: HostRuntime) -> ExitCode {
-    let words = match words(&rt) {
-        Ok(words) => words,
-        Err(error) if error.kind() == io::ErrorKind::InvalidData => return ExitCode::from(WORDS),
-        Err(_) => return ExitCode::from(NO_MEMORY),
-    };
-    match run(&rt, &words) {
-        Ok(status) => ExitCode::from(status),
-        Err(NoMemory) => ExitCode::from(NO_MEMORY),
-    }
+    ExitCode::from(status(&rt, env::args(&rt)))
 }
