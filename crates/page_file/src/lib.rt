@@ -14,4 +14,8 @@ pub use pages::Pages;
 pub use reads::PAGE_LEN;
 
 #[cfg(test)]
+mod call_tests;
+#[cfg(test)]
+mod label_tests;
+#[cfg(test)]
 mod tests;

@@ -13,21 +13,26 @@ const LABEL_FRONT: [u8; 16] = [
     0, 0x35, 0x45, 0x45, 0, 0, 0, 0x40, 0, 0, 0x07, 0xd0, 0, 0, 0, 1,
 ];
 
-const fn version(epoch: u32, counter: u32) -> Version
+pub(crate) const fn version(epoch: u32, counter: u32) -> Version
     ensures { (result.epoch ≡ epoch) × (result.counter ≡ counter) }
 {
     Version { epoch, counter }
 }
 
 /// The label of version 2000.1.
-fn label() -> [u8; 64] {
+pub(crate) fn label() -> [u8; 64] {
     let mut label = [0; 64];
     label[..16].copy_from_slice(&LABEL_FRONT);
     label
 }
 
 /// A disk whose database file has these bytes. Its calls fail by their numbers, the first after these as 3.
-fn disk_with(rt: &impl Abort, alloc: Global, bytes: &[u8], fails: &[u64]) -> Result<MemDisk, Fail> {
+pub(crate) fn disk_with(
+    rt: &impl Abort,
+    alloc: Global,
+    bytes: &[u8],
+    fails: &[u64],
+) -> Result<MemDisk, Fail> {
     let mut disk = MemDisk::new(alloc, fails)?;
     let file = FileNo::Database;
     let room = disk.reserve(file, bytes.len() as u64);
@@ -72,7 +77,7 @@ fn a_part_of_a_label_is_refused(rt: HostRuntime) -> Result<(), Fail> {
 }
 
 /// The database file has room for a label.
-fn expect_headed<D: Disk>(rt: &impl Abort, disk: &mut D)
+pub(crate) fn expect_headed<D: Disk>(rt: &impl Abort, disk: &mut D)
     ensures headed { IfSome (D.files disk.new) (λ fs. 64 ≤ length fs.database) }
     ensures files { D.files disk.new ≡ D.files disk.old }
 {

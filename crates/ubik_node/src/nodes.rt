@@ -101,8 +101,8 @@ impl<D: Disk, V: Service> Node<D, V> {
     /// One step: what an event makes of the server at a moment in seconds, not below the last one. An id of a
     /// call is new since the opening. `out` is empty before it, and has what the step put out after it. Only
     /// a recovery turn can end for want of memory: a call that finds none is answered so. A step makes at
-    /// most four changing calls of the disk, and a halted server none; it changes no file but the database file, and
-    /// where nothing was pending on the disk, nothing is pending after a step that was done.
+    /// most four changing calls of the disk, and a halted server none. A step that does not halt the server
+    /// changes no file but the database file, and where nothing was pending on the disk, nothing is after it.
     pub fn step(&mut self, now: u32, event: NodeEvent, out: &mut Outputs) -> StepEnd
         requires moment { IsMoment now }
         requires order { self.old.last ≤ now }
@@ -110,8 +110,8 @@ impl<D: Disk, V: Service> Node<D, V> {
         ensures step { Steps V.database result event now (node_of self.old) (node_of self.new) out.new
             (D.steps self.old.disk) (D.steps self.new.disk) }
         ensures stored { IsStored D.files self.old → IsStored D.files self.new }
-        ensures others { result ≡ StepEnd.Done → OnlyDatabase D.files self.old self.new }
-        ensures settled { result ≡ StepEnd.Done → NothingPending D.files D.may_leave self.old → NothingPending D.files D.may_leave self.new }
+        ensures others { result ≢ StepEnd.Halted → OnlyDatabase D.files self.old self.new }
+        ensures settled { result ≢ StepEnd.Halted → NothingPending D.files D.may_leave self.old → NothingPending D.files D.may_leave self.new }
         ensures beacon { event ≡ events.BeaconTurn → result ≢ StepEnd.NoMemory }
         ensures told { (id : ℕ) (call : List ℕ) → event ≡ events.Ask id call → result ≢ StepEnd.NoMemory }
         ensures no_memory { result ≡ StepEnd.NoMemory → KeepsDisk D.files D.steps self.old self.new }
@@ -184,8 +184,8 @@ impl<D: Disk, V: Service> Node<D, V> {
         ensures step { Steps V.database result event.now now (node_of self.old) (node_of self.new) out.new
             (D.steps self.old.disk) (D.steps self.new.disk) }
         ensures stored { IsStored D.files self.old → IsStored D.files self.new }
-        ensures others { result ≡ StepEnd.Done → OnlyDatabase D.files self.old self.new }
-        ensures settled { result ≡ StepEnd.Done → NothingPending D.files D.may_leave self.old → NothingPending D.files D.may_leave self.new }
+        ensures others { result ≢ StepEnd.Halted → OnlyDatabase D.files self.old self.new }
+        ensures settled { result ≢ StepEnd.Halted → NothingPending D.files D.may_leave self.old → NothingPending D.files D.may_leave self.new }
         ensures beacon { event.now ≡ events.BeaconTurn → result ≢ StepEnd.NoMemory }
         ensures told { (id : ℕ) (call : List ℕ) → event.now ≡ events.Ask id call → result ≢ StepEnd.NoMemory }
         ensures no_memory { result ≡ StepEnd.NoMemory → KeepsDisk D.files D.steps self.old self.new }
@@ -213,8 +213,8 @@ impl<D: Disk, V: Service> Node<D, V> {
         ensures step { Steps V.database result events.RecoverTurn now (node_of self.old) (node_of self.new) out.new
             (D.steps self.old.disk) (D.steps self.new.disk) }
         ensures stored { IsStored D.files self.old → IsStored D.files self.new }
-        ensures others { result ≡ StepEnd.Done → OnlyDatabase D.files self.old self.new }
-        ensures settled { result ≡ StepEnd.Done → NothingPending D.files D.may_leave self.old → NothingPending D.files D.may_leave self.new }
+        ensures others { result ≢ StepEnd.Halted → OnlyDatabase D.files self.old self.new }
+        ensures settled { result ≢ StepEnd.Halted → NothingPending D.files D.may_leave self.old → NothingPending D.files D.may_leave self.new }
         ensures no_memory { result ≡ StepEnd.NoMemory → KeepsDisk D.files D.steps self.old self.new }
         ensures fewer { D.steps self.new.disk ≤ D.steps self.old.disk + 4 }
         ensures fault { result ≡ StepEnd.Halted → D.faults self.old.disk < D.faults self.new.disk }
@@ -324,8 +324,8 @@ impl<D: Disk, V: Service> Node<D, V> {
         ensures told { result ≢ StepEnd.NoMemory }
         ensures fewer { D.steps self.new.disk ≤ D.steps self.old.disk + 4 }
         ensures stored { IsStored D.files self.old → IsStored D.files self.new }
-        ensures others { result ≡ StepEnd.Done → OnlyDatabase D.files self.old self.new }
-        ensures settled { result ≡ StepEnd.Done → NothingPending D.files D.may_leave self.old → NothingPending D.files D.may_leave self.new }
+        ensures others { result ≢ StepEnd.Halted → OnlyDatabase D.files self.old self.new }
+        ensures settled { result ≢ StepEnd.Halted → NothingPending D.files D.may_leave self.old → NothingPending D.files D.may_leave self.new }
         ensures fault { result ≡ StepEnd.Halted → D.faults self.old.disk < D.faults self.new.disk }
         ensures never_falls { D.faults self.old.disk ≤ D.faults self.new.disk }
         ensures last { self.new.last ≡ self.old.last }
@@ -365,8 +365,8 @@ impl<D: Disk, V: Service> Node<D, V> {
         ensures told { result ≢ StepEnd.NoMemory }
         ensures fewer { D.steps self.new.disk ≤ D.steps self.old.disk + 4 }
         ensures stored { IsStored D.files self.old → IsStored D.files self.new }
-        ensures others { result ≡ StepEnd.Done → OnlyDatabase D.files self.old self.new }
-        ensures settled { result ≡ StepEnd.Done → NothingPending D.files D.may_leave self.old → NothingPending D.files D.may_leave self.new }
+        ensures others { result ≢ StepEnd.Halted → OnlyDatabase D.files self.old self.new }
+        ensures settled { result ≢ StepEnd.Halted → NothingPending D.files D.may_leave self.old → NothingPending D.files D.may_leave self.new }
         ensures fault { result ≡ StepEnd.Halted → D.faults self.old.disk < D.faults self.new.disk }
         ensures never_falls { D.faults self.old.disk ≤ D.faults self.new.disk }
         ensures last { self.new.last ≡ self.old.last }
