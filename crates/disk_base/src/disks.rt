@@ -56,10 +56,9 @@ pub struct Refused<D, F> {
     pub why: F,
 }
 
-/// Three files. After `Failed` nothing more is promised of what a read gives, until the files are opened anew,
-/// but on a disk that tells what is pending.
-/// A disk may have been told to stop in one of its next changing calls: that one then fails, and so does each
-/// call after it.
+/// Three files. After `Failed` nothing more is promised of what a read gives, until the files are opened anew. A
+/// disk that tells what is pending promises that such a call has changed nothing, but for a write in which it stops.
+/// A disk that was told to stop fails in the changing call in which it stops, and in each call after it.
 pub trait Disk {
     /// What reads give, where the disk tells it.
     ghost files: { Self → Option Files };

@@ -1,5 +1,8 @@
 //! The forms in memory, and the adapters, each through its trait.
-ghost use Rattle.std.specs.Prelude.{◌≡◌, ◌+◌, ◌<◌, ◌^◌, IfOk, length};
+ghost use Rattle.std.specs.Prelude.{◌≡◌, ◌+◌, ◌<◌, ◌^◌, IfOk, IsSome, true, length};
+ghost use Rattle.std.specs.Option.{option_map};
+ghost use Rattle.disk_base.specs.Files.Stop.{Unarmed, Stopped};
+ghost use Rattle.disk_base.specs.Moments.{all_at_rest};
 
 use crate::{
     Disk, DiskEnd, FileDisk, FileNo, Fill, Got, LenEnd, MemDisk, MemSink, MemSource, ReaderSource,
@@ -144,6 +147,40 @@ fn a_cut_that_stops_is_not_done(rt: HostRuntime) -> Result<(), Fail> {
     assert_eq!(rt; put(&rt, &mut disk, FileNo::Log, 0, b"ab"), DiskEnd::Done);
     disk.arm(0, Fill::New);
     assert_eq!(rt; disk.cut(FileNo::Log, 0), DiskEnd::Failed);
+    disk.revive();
+    expect_file(&rt, rt.alloc(), &mut disk, FileNo::Log, b"ab")
+}
+
+/// Stops a disk in a sync.
+fn stop_in_sync<D: StopDisk>(disk: &mut D, fill: Fill) -> DiskEnd
+    requires { D.stop disk.old ≡ Unarmed }
+    ensures failed { result ≡ DiskEnd.Failed }
+    ensures stopped { D.stop disk.new ≡ Stopped fill }
+    ensures files { IsSome (D.pending disk.old) → D.files disk.new ≡ D.files disk.old }
+    ensures pending { IsSome (D.pending disk.old) → D.pending disk.new ≡ D.pending disk.old }
+    ensures tells { D.tells disk.new ≡ D.tells disk.old }
+{
+    disk.arm(0, fill);
+    disk.sync(FileNo::Log)
+}
+
+/// A stop that leaves what reads gave changes no file.
+fn stop_and_revive<D: StopDisk>(disk: &mut D)
+    requires { D.stop disk.old ≡ Unarmed }
+    ensures files { IsSome (D.pending disk.old) → D.tells disk.old ≡ true → D.files disk.new ≡ D.files disk.old }
+    ensures pending { IsSome (D.pending disk.old) → D.pending disk.new ≡ option_map all_at_rest (D.files disk.new) }
+{
+    let _ = stop_in_sync(disk, Fill::New);
+    disk.revive();
+}
+
+#[test]
+fn a_stop_in_a_sync_may_leave_all(rt: HostRuntime) -> Result<(), Fail> {
+    let mut disk = MemDisk::new(rt.alloc(), &[])?;
+    stop_and_revive(&mut disk);
+    assert_eq!(rt; put(&rt, &mut disk, FileNo::Log, 0, b"ab"), DiskEnd::Done);
+    disk.arm(0, Fill::New);
+    assert_eq!(rt; disk.sync(FileNo::Log), DiskEnd::Failed);
     disk.revive();
     expect_file(&rt, rt.alloc(), &mut disk, FileNo::Log, b"ab")
 }
