@@ -11,6 +11,9 @@ use std::process::Abort;
 use std::test::Fail;
 use ubik_types::{MAXSERVERS, NoMemory};
 
+mod chance;
+mod refusals;
+
 /// A user is made and looked up.
 const FIRST_USER: &str =
     "cell 1 1000 pt\ntickall 76\nbeacon 1\nrecover 1\nask 1 newentry smith 0 0\nask 1 nametoid 1 smith\n";
@@ -124,103 +127,12 @@ fn a_taken_name_is_refused_and_an_unknown_one_is_anonymous(rt: HostRuntime) -> R
     Ok(())
 }
 
-/// Each reason, where no cell stands.
+/// A line that is refused ends the script behind what was told before it.
 #[test]
-fn a_first_line_is_refused_for_its_first_reason(rt: HostRuntime) -> Result<(), Fail> {
-    for (script, why) in [
-        (b"dance 1".as_slice(), Why::Syntax),
-        (b" ".as_slice(), Why::Syntax),
-        (b"beacon 1 \n".as_slice(), Why::Syntax),
-        (b"tickall 1 1".as_slice(), Why::Syntax),
-        (b"ask 0".as_slice(), Why::Syntax),
-        (b"cell 1 1000 pt\r\n".as_slice(), Why::Syntax),
-        (b"cell 1 1000 pt\0\n".as_slice(), Why::Syntax),
-        (b"cell 0 0 \xff\n".as_slice(), Why::Syntax),
-        (b"show 1".as_slice(), Why::Unbuilt),
-        (b"tick 0 0".as_slice(), Why::Unbuilt),
-        (b"cell 2 0 pt".as_slice(), Why::Unbuilt),
-        (b"cell x x vl".as_slice(), Why::Unbuilt),
-        (b"cell 21 1000 pt".as_slice(), Why::Number),
-        (b"cell 1 01 pt".as_slice(), Why::Number),
-        (b"beacon 0".as_slice(), Why::Number),
-        (b"recover 1\r\n".as_slice(), Why::Number),
-        (b"tickall 50001".as_slice(), Why::Number),
-        (b"ask 0 dance".as_slice(), Why::Number),
-        (b"beacon 18446744073709551616".as_slice(), Why::Number),
-        (b"beacon 18446744073709551615".as_slice(), Why::Cell),
-        (b"tickall 1".as_slice(), Why::Cell),
-        (b"recover 21".as_slice(), Why::Cell),
-        (b"ask 1 dance".as_slice(), Why::Cell),
-        (b"ask 1 listmax".as_slice(), Why::Cell),
-    ] {
-        expect_refused(&rt, rt.alloc(), script, &[], 1, why, "")?;
-    }
-    Ok(())
-}
-
-/// Each reason, once a cell stands, of a third line.
-#[test]
-fn a_later_line_is_refused_for_its_first_reason(rt: HostRuntime) -> Result<(), Fail> {
-    for (line, why) in [
-        ("ask x dance 1", Why::Syntax),
-        ("ask 0 newentry smith 0", Why::Syntax),
-        ("ask 2 newentry smith 00 0", Why::Syntax),
-        ("ask 1 newentry smith 0 -0", Why::Syntax),
-        ("ask 1 nametoid 2 smith", Why::Syntax),
-        ("ask 1 nametoid", Why::Syntax),
-        ("ask 0 listmax", Why::Unbuilt),
-        ("ask x newentry staff 2 -204", Why::Unbuilt),
-        ("restart 0", Why::Unbuilt),
-        ("ask 0 nametoid 0", Why::Number),
-        ("ask 01 newentry smith 0 0", Why::Number),
-        ("cell 1 0 pt", Why::Number),
-        ("cell 1 1000 pt", Why::Cell),
-        ("beacon 2", Why::Server),
-        ("ask 21 nametoid 0", Why::Server),
-    ] {
-        let script = format!(in rt.alloc(); "cell 1 1000 pt\n\n{line}\nbeacon 1\n")?;
-        expect_refused(&rt, rt.alloc(), script.as_bytes(), &[], 3, why, "")?;
-    }
-    let script = b"cell 1 1000 pt\ntickall 76\nbeacon 1\nrecover 1\ndance 1\nrecover 1\n";
-    expect_refused(
-        &rt,
-        rt.alloc(),
-        script,
-        &[],
-        5,
-        Why::Syntax,
-        "announce 1 1076.1\n",
-    )
-}
-
-/// The first call of the disk is that of the opening.
-#[test]
-fn a_line_at_a_server_that_is_down_is_refused(rt: HostRuntime) -> Result<(), Fail> {
-    let down = "restarted 1 diskfault\n";
-    for (script, why) in [
-        ("cell 1 1000 pt\nbeacon 1\n", Why::State),
-        ("cell 1 1000 pt\nask 1 nametoid 0\n", Why::State),
-        ("cell 1 1000 pt\nask 1 listmax\n", Why::Unbuilt),
-        ("cell 1 1000 pt\nrecover 2\n", Why::Server),
-    ] {
-        expect_refused(&rt, rt.alloc(), script.as_bytes(), &[1], 2, why, down)?;
-    }
-    let seen = run_on(rt.alloc(), b"cell 1 1000 pt\ntickall 1\n", &[], &[], &[1])?;
-    expect(&rt, &seen, 0, CellKind::Done, down);
-    Ok(())
-}
-
-#[test]
-fn a_line_has_1024_bytes_at_most(rt: HostRuntime) -> Result<(), Fail> {
-    let mut script = String::new(rt.alloc());
-    script.push_str("#")?;
-    for _ in 0..1023 {
-        script.push_str("a")?;
-    }
-    let seen = run_on(rt.alloc(), script.as_bytes(), &[], &[], &[])?;
-    expect(&rt, &seen, 0, CellKind::Done, "");
-    script.push_str("a\n")?;
-    expect_refused(&rt, rt.alloc(), script.as_bytes(), &[], 1, Why::Syntax, "")
+fn a_refusal_keeps_the_trace_before_it(rt: HostRuntime) -> Result<(), Fail> {
+    let script = b"cell 1 1000 pt\ntickall 76\n\nbeacon 1\nrecover 1\ndance 1\nrecover 1\n";
+    let before = "announce 1 1076.1\n";
+    expect_refused(&rt, rt.alloc(), script, &[], 6, Why::Syntax, before)
 }
 
 #[test]
@@ -236,53 +148,6 @@ fn a_script_has_20000_lines_at_most(rt: HostRuntime) -> Result<(), Fail> {
     let (line, which) = (20_001, Which::Lines);
     let text = "limit line 20001 lines\n";
     expect(&rt, &seen, 4, CellKind::Limit { line, which }, text);
-    Ok(())
-}
-
-/// The number of the first line of these bytes that is neither empty nor a comment.
-fn first_line_that_counts(bytes: &[u8]) -> Option<u32> {
-    let mut number = 0u32;
-    for line in bytes.split(|byte| *byte == b'\n') {
-        number = number.saturating_add(1);
-        if !line.is_empty() && line[0] != b'#' {
-            return Some(number);
-        }
-    }
-    None
-}
-
-/// A byte by chance: an LF, a mark of a comment, a blank, a digit, a CR, a NUL, a capital, or one above 127.
-fn byte_by_chance(chance: u8) -> u8 {
-    match chance {
-        0..40 => b'\n',
-        40..60 => b'#',
-        60..80 => b' ',
-        80..110 => b'0' + chance % 10,
-        110..120 => b'\r',
-        120..130 => 0,
-        130..160 => b'A' + chance % 26,
-        _ => chance,
-    }
-}
-
-/// No line of these bytes has a first word of the language: what is not empty and no comment is refused.
-#[test]
-fn bytes_by_chance_are_no_lines(rt: HostRuntime) -> Result<(), Fail> {
-    let mut state = 1u32;
-    for _ in 0..300 {
-        let mut bytes = Vec::new(rt.alloc());
-        for _ in 0..24 {
-            state = state.wrapping_mul(1_664_525).wrapping_add(1_013_904_223);
-            bytes.push(byte_by_chance((state >> 24) as u8))?;
-        }
-        match first_line_that_counts(&bytes) {
-            Some(line) => expect_refused(&rt, rt.alloc(), &bytes, &[], line, Why::Syntax, "")?,
-            None => {
-                let seen = run_on(rt.alloc(), &bytes, &[], &[], &[])?;
-                expect(&rt, &seen, 0, CellKind::Done, "");
-            }
-        }
-    }
     Ok(())
 }
 

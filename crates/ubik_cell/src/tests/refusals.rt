@@ -1,0 +1,418 @@
+//! Each reason of a refused line, in each place where it can come first.
+use super::*;
+
+/// A cell stands, and its server is up unless the disk fails in the opening.
+const OPENED: &str = "cell 1 1000 pt\n";
+
+/// The disk failed in its first call, that of the opening, and the server is down.
+const DOWN: &str = "restarted 1 diskfault\n";
+
+/// A server without a quorum answers so.
+const NO_QUORUM: &str = "reply 1 1 noquorum 0 none no\n";
+
+/// A line behind these lines, which told this: it is the last, and tells a text or is refused.
+fn expect_line(
+    rt: &impl Abort,
+    alloc: Global,
+    (front, told, disk_fails): (&str, &str, &[u64]),
+    line: &[u8],
+    want: Result<&str, Why>,
+) -> Result<(), Fail> {
+    let mut script = front.as_bytes().to_vec(alloc)?;
+    script.extend_from_slice(line)?;
+    script.push(b'\n')?;
+    match want {
+        Ok(text) => {
+            let seen = run_on(alloc, &script, &[], &[], disk_fails)?;
+            let text = format!(in alloc; "{told}{text}")?;
+            expect(rt, &seen, 0, CellKind::Done, &text);
+            Ok(())
+        }
+        Err(why) => {
+            let mut number = 1u32;
+            for byte in front.as_bytes() {
+                number = number.saturating_add(u32::from(*byte == b'\n'));
+            }
+            expect_refused(rt, alloc, &script, disk_fails, number, why, told)
+        }
+    }
+}
+
+/// What a line does as the first one, at a server that is up, and at one that is down.
+fn expect_in_each_place(
+    rt: &impl Abort,
+    alloc: Global,
+    line: &[u8],
+    [first, up, down]: [Result<&str, Why>; 3],
+) -> Result<(), Fail> {
+    expect_line(rt, alloc, ("", "", &[]), line, first)?;
+    expect_line(rt, alloc, (OPENED, "", &[]), line, up)?;
+    expect_line(rt, alloc, (OPENED, DOWN, &[1]), line, down)
+}
+
+fn expect_everywhere(rt: &impl Abort, alloc: Global, line: &[u8], why: Why) -> Result<(), Fail> {
+    expect_in_each_place(rt, alloc, line, [Err(why), Err(why), Err(why)])
+}
+
+/// What a server without a quorum does with a call, behind the number of the server.
+fn expect_call(
+    rt: &impl Abort,
+    alloc: Global,
+    call: &[u8],
+    want: Result<&str, Why>,
+) -> Result<(), Fail> {
+    let mut line = b"ask 1 ".to_vec(alloc)?;
+    line.extend_from_slice(call)?;
+    expect_line(rt, alloc, (OPENED, "", &[]), &line, want)
+}
+
+/// Lines that are taken in some place, and a reason in the others.
+#[test]
+fn a_line_is_taken_or_refused_by_its_place(rt: HostRuntime) -> Result<(), Fail> {
+    for (line, places) in [
+        ("cell 1 1000 pt", [Ok(""), Err(Why::Cell), Err(Why::Cell)]),
+        ("cell 1 1 pt", [Ok(""), Err(Why::Cell), Err(Why::Cell)]),
+        (
+            "cell 1 1000000000 pt",
+            [Ok(""), Err(Why::Cell), Err(Why::Cell)],
+        ),
+        ("tickall 1", [Err(Why::Cell), Ok(""), Ok("")]),
+        ("tickall 50000", [Err(Why::Cell), Ok(""), Ok("")]),
+        ("beacon 1", [Err(Why::Cell), Ok(""), Err(Why::State)]),
+        ("recover 1", [Err(Why::Cell), Ok(""), Err(Why::State)]),
+        (
+            "ask 1 newentry smith 0 0",
+            [Err(Why::Cell), Ok(NO_QUORUM), Err(Why::State)],
+        ),
+        (
+            "ask 1 nametoid 1 smith",
+            [Err(Why::Cell), Ok(NO_QUORUM), Err(Why::State)],
+        ),
+        ("", [Ok(""), Ok(""), Ok("")]),
+        ("# dance \r", [Ok(""), Ok(""), Ok("")]),
+        ("beacon \t 1", [Err(Why::Cell), Ok(""), Err(Why::State)]),
+    ] {
+        expect_in_each_place(&rt, rt.alloc(), line.as_bytes(), places)?;
+    }
+    Ok(())
+}
+
+/// Lines for which another reason comes first before a cell stands.
+#[test]
+fn a_line_has_its_first_reason_in_each_place(rt: HostRuntime) -> Result<(), Fail> {
+    for (line, first, later) in [
+        ("beacon 2", Why::Cell, Why::Server),
+        ("recover 2", Why::Cell, Why::Server),
+        ("recover 21", Why::Cell, Why::Server),
+        ("beacon 18446744073709551615", Why::Cell, Why::Server),
+        ("ask 2 newentry smith 0 0", Why::Cell, Why::Server),
+        (
+            "ask 18446744073709551615 nametoid 0",
+            Why::Cell,
+            Why::Server,
+        ),
+        ("ask 1 listmax", Why::Cell, Why::Unbuilt),
+        ("ask 2 listmax 1", Why::Cell, Why::Unbuilt),
+        ("ask 0 listmax", Why::Number, Why::Unbuilt),
+        ("ask x newentry staff 2 -204", Why::Number, Why::Unbuilt),
+        ("ask 1 dance", Why::Cell, Why::Syntax),
+        ("ask 2 nametoid 2 smith", Why::Cell, Why::Syntax),
+        ("ask 0 dance", Why::Number, Why::Syntax),
+        ("ask 01 newentry smith 0", Why::Number, Why::Syntax),
+    ] {
+        expect_in_each_place(
+            &rt,
+            rt.alloc(),
+            line.as_bytes(),
+            [Err(first), Err(later), Err(later)],
+        )?;
+    }
+    Ok(())
+}
+
+/// Numbers that are written well, and out of range.
+#[test]
+fn a_number_out_of_range_is_refused_in_each_place(rt: HostRuntime) -> Result<(), Fail> {
+    for line in [
+        "cell 0 1000 pt",
+        "cell 21 1000 pt",
+        "cell 1 0 pt",
+        "cell 1 1000000001 pt",
+        "cell 18446744073709551617 1000 pt",
+        "tickall 0",
+        "tickall 50001",
+        "tickall 4294967297",
+        "beacon 0",
+        "recover 0",
+        "ask 0 nametoid 0",
+        "beacon 18446744073709551616",
+        "recover 18446744073709551616",
+        "ask 18446744073709551616 nametoid 0",
+    ] {
+        expect_everywhere(&rt, rt.alloc(), line.as_bytes(), Why::Number)?;
+    }
+    Ok(())
+}
+
+/// Words that write no number, in each place of a number.
+#[test]
+fn a_number_has_decimal_digits_alone(rt: HostRuntime) -> Result<(), Fail> {
+    for word in [
+        "01", "00", "+1", "-1", "-0", "1x", "x", "0x1", "1.", "1\r", "\"",
+    ] {
+        for (before, behind) in [
+            ("cell ", " 1000 pt"),
+            ("cell 1 ", " pt"),
+            ("tickall ", ""),
+            ("beacon ", ""),
+            ("recover ", ""),
+            ("ask ", " nametoid 0"),
+        ] {
+            let line = format!(in rt.alloc(); "{before}{word}{behind}")?;
+            expect_everywhere(&rt, rt.alloc(), line.as_bytes(), Why::Number)?;
+        }
+    }
+    Ok(())
+}
+
+/// A line of this first word with so many further words.
+fn line_of(alloc: Global, first: &str, words: usize) -> Result<String, Fail> {
+    let mut line = first.to_string(alloc)?;
+    for _ in 0..words {
+        line.push_str(" 1")?;
+    }
+    Ok(line)
+}
+
+/// Each first word of the language with none to four further words. An `ask` has two or more.
+#[test]
+fn a_line_has_its_count_of_words(rt: HostRuntime) -> Result<(), Fail> {
+    for (first, count, built) in [
+        ("cell", 3, true),
+        ("tick", 2, false),
+        ("tickall", 1, true),
+        ("beacon", 1, true),
+        ("recover", 1, true),
+        ("deliver", 1, false),
+        ("drop", 1, false),
+        ("dropall", 1, false),
+        ("deliverall", 0, false),
+        ("stop", 3, false),
+        ("crash", 1, false),
+        ("restart", 1, false),
+        ("show", 1, false),
+    ] {
+        for words in 0..5 {
+            let line = line_of(rt.alloc(), first, words)?;
+            if words != count {
+                expect_everywhere(&rt, rt.alloc(), line.as_bytes(), Why::Syntax)?;
+            } else if !built {
+                expect_everywhere(&rt, rt.alloc(), line.as_bytes(), Why::Unbuilt)?;
+            }
+        }
+    }
+    expect_everywhere(&rt, rt.alloc(), b"ask", Why::Syntax)?;
+    expect_everywhere(&rt, rt.alloc(), b"ask 1", Why::Syntax)
+}
+
+/// Lines of the language that are not built, whatever their numbers.
+#[test]
+fn a_line_that_is_not_built_is_not_judged_by_its_numbers(rt: HostRuntime) -> Result<(), Fail> {
+    for line in [
+        "cell 1 1000 vl",
+        "cell 0 01 vl",
+        "cell x x vl",
+        "cell 2 1000 pt",
+        "cell 20 0 pt",
+        "cell 2 x pt",
+        "tick 0 x",
+        "deliver x",
+        "drop 0",
+        "dropall -1",
+        "stop 2 x mad",
+        "crash 0",
+        "restart 21",
+        "show 00",
+    ] {
+        expect_everywhere(&rt, rt.alloc(), line.as_bytes(), Why::Unbuilt)?;
+    }
+    Ok(())
+}
+
+/// Lines that are no lines of the language, whatever stands.
+#[test]
+fn a_line_outside_the_language_is_syntax(rt: HostRuntime) -> Result<(), Fail> {
+    for line in [
+        b" ".as_slice(),
+        b"\t".as_slice(),
+        b"\r".as_slice(),
+        b" beacon 1".as_slice(),
+        b"\tbeacon 1".as_slice(),
+        b"beacon 1 ".as_slice(),
+        b"beacon 1\t".as_slice(),
+        b" # dance".as_slice(),
+        b"dance".as_slice(),
+        b"Beacon 1".as_slice(),
+        b"beacon\x001".as_slice(),
+        b"beacon\xa01".as_slice(),
+        b"\xff".as_slice(),
+        b"cell 1 1000 ka".as_slice(),
+        b"cell 1 1000 PT".as_slice(),
+        b"cell 0 0 p".as_slice(),
+        b"cell 1 1000 pt\r".as_slice(),
+        b"cell 1 1000 pt\0".as_slice(),
+    ] {
+        expect_everywhere(&rt, rt.alloc(), line, Why::Syntax)?;
+    }
+    Ok(())
+}
+
+/// Names of a user, and lists of names, in words.
+#[test]
+fn a_call_has_its_names_in_the_word_form(rt: HostRuntime) -> Result<(), Fail> {
+    for (call, want) in [
+        (b"newentry \xc3\xa9 0 0".as_slice(), Ok(NO_QUORUM)),
+        (b"newentry \xff 0 0".as_slice(), Ok(NO_QUORUM)),
+        (b"newentry ! 0 0".as_slice(), Ok(NO_QUORUM)),
+        (b"newentry \x1f 0 0".as_slice(), Err(Why::Syntax)),
+        (b"newentry smi\0th 0 0".as_slice(), Err(Why::Syntax)),
+        (b"newentry \" 0 0".as_slice(), Ok(NO_QUORUM)),
+        (b"newentry \"\" 0 0".as_slice(), Ok(NO_QUORUM)),
+        (b"newentry \"\"\" 0 0".as_slice(), Err(Why::Syntax)),
+        (b"newentry \"\"\"\" 0 0".as_slice(), Ok(NO_QUORUM)),
+        (b"newentry smith 0".as_slice(), Err(Why::Syntax)),
+        (b"newentry smith 0 0 0".as_slice(), Err(Why::Syntax)),
+        (b"nametoid".as_slice(), Err(Why::Syntax)),
+        (b"nametoid 0".as_slice(), Ok(NO_QUORUM)),
+        (b"nametoid 00".as_slice(), Err(Why::Syntax)),
+        (b"nametoid -0".as_slice(), Err(Why::Syntax)),
+        (b"nametoid 01 smith".as_slice(), Err(Why::Syntax)),
+        (b"nametoid 2 smith".as_slice(), Err(Why::Syntax)),
+        (b"nametoid 1 smith nobody".as_slice(), Err(Why::Syntax)),
+        (b"nametoid 2 \xff smith".as_slice(), Ok(NO_QUORUM)),
+        (b"nametoid 2 smith \"\"\"".as_slice(), Err(Why::Syntax)),
+    ] {
+        expect_call(&rt, rt.alloc(), call, want)?;
+    }
+    Ok(())
+}
+
+/// The kind of an entry has no sign, and its owner may have a minus.
+#[test]
+fn an_entry_has_its_kind_and_owner_in_the_word_form(rt: HostRuntime) -> Result<(), Fail> {
+    for (numbers, why) in [
+        ("1 0", Why::Unbuilt),
+        ("2 0", Why::Unbuilt),
+        ("4294967295 0", Why::Unbuilt),
+        ("4294967296 0", Why::Syntax),
+        ("-1 0", Why::Syntax),
+        ("-0 0", Why::Syntax),
+        ("+0 0", Why::Syntax),
+        ("00 0", Why::Syntax),
+        ("x 0", Why::Syntax),
+        ("0 -204", Why::Unbuilt),
+        ("0 2147483647", Why::Unbuilt),
+        ("0 2147483648", Why::Syntax),
+        ("0 -2147483648", Why::Unbuilt),
+        ("0 -2147483649", Why::Syntax),
+        ("0 -0", Why::Syntax),
+        ("0 +1", Why::Syntax),
+        ("0 01", Why::Syntax),
+        ("0 -01", Why::Syntax),
+        ("0 -", Why::Syntax),
+    ] {
+        let call = format!(in rt.alloc(); "newentry smith {numbers}")?;
+        expect_call(&rt, rt.alloc(), call.as_bytes(), Err(why))?;
+    }
+    Ok(())
+}
+
+/// The other calls of the database are known by their names, whatever their words.
+#[test]
+fn a_call_that_is_not_built_is_known_by_its_name(rt: HostRuntime) -> Result<(), Fail> {
+    for name in [
+        "inewentry",
+        "idtoname",
+        "delete",
+        "addtogroup",
+        "removefromgroup",
+        "getcps",
+        "listmax",
+        "setmax",
+        "listentry",
+        "listentries",
+        "changeentry",
+        "setfields",
+        "listelements",
+        "ismemberof",
+        "listowned",
+    ] {
+        for words in 0..3 {
+            let call = line_of(rt.alloc(), name, words)?;
+            expect_call(&rt, rt.alloc(), call.as_bytes(), Err(Why::Unbuilt))?;
+        }
+    }
+    for call in [
+        "newentr smith 0 0",
+        "NEWENTRY smith 0 0",
+        "listmax\r",
+        "getentrybyid 1",
+        "\"\"",
+    ] {
+        expect_call(&rt, rt.alloc(), call.as_bytes(), Err(Why::Syntax))?;
+    }
+    Ok(())
+}
+
+/// Names of 255 and 256 bytes.
+#[test]
+fn a_name_has_255_bytes_at_most(rt: HostRuntime) -> Result<(), Fail> {
+    let mut name = String::new(rt.alloc());
+    for _ in 0..255 {
+        name.push_str("a")?;
+    }
+    let call = format!(in rt.alloc(); "newentry {name} 0 0")?;
+    expect_call(&rt, rt.alloc(), call.as_bytes(), Ok(NO_QUORUM))?;
+    let call = format!(in rt.alloc(); "newentry {name}a 0 0")?;
+    expect_call(&rt, rt.alloc(), call.as_bytes(), Err(Why::Syntax))?;
+    let call = format!(in rt.alloc(); "nametoid 2 smith {name}a")?;
+    expect_call(&rt, rt.alloc(), call.as_bytes(), Err(Why::Syntax))
+}
+
+/// A name in the word form that is not that of a user is refused by the database.
+#[test]
+fn a_name_that_is_no_users_is_a_rule(rt: HostRuntime) -> Result<(), Fail> {
+    let front = "cell 1 1000 pt\ntickall 76\nbeacon 1\nrecover 1\n";
+    for name in [
+        b"\"\"".as_slice(),
+        b"a:b".as_slice(),
+        b"\xc3\xa9".as_slice(),
+        b"\x7f".as_slice(),
+    ] {
+        let mut line = b"ask 1 newentry ".to_vec(rt.alloc())?;
+        line.extend_from_slice(name)?;
+        line.extend_from_slice(b" 0 0")?;
+        let place = (front, "announce 1 1076.1\n", [].as_slice());
+        expect_line(&rt, rt.alloc(), place, &line, Ok("reply 1 1 rule 267272\n"))?;
+    }
+    Ok(())
+}
+
+/// A comment, and a call, of 1,024 and 1,025 bytes.
+#[test]
+fn a_long_line_is_syntax_in_each_place(rt: HostRuntime) -> Result<(), Fail> {
+    let mut comment = b"#".to_vec(rt.alloc())?;
+    let mut beacon = b"beacon ".to_vec(rt.alloc())?;
+    for _ in 0..1023 {
+        comment.push(b' ')?;
+    }
+    for _ in 0..1017 {
+        beacon.push(b'1')?;
+    }
+    expect_in_each_place(&rt, rt.alloc(), &comment, [Ok(""), Ok(""), Ok("")])?;
+    expect_everywhere(&rt, rt.alloc(), &beacon, Why::Number)?;
+    comment.push(b' ')?;
+    beacon.push(b'1')?;
+    expect_everywhere(&rt, rt.alloc(), &comment, Why::Syntax)?;
+    expect_everywhere(&rt, rt.alloc(), &beacon, Why::Syntax)
+}
