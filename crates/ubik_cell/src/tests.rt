@@ -151,6 +151,25 @@ fn a_script_has_20000_lines_at_most(rt: HostRuntime) -> Result<(), Fail> {
     Ok(())
 }
 
+/// Line 20,001 is read before it is over the limit, as far as a line may be long. Each line before has two bytes.
+#[test]
+fn line_20001_is_read_and_not_judged(rt: HostRuntime) -> Result<(), Fail> {
+    let mut script = String::new(rt.alloc());
+    for _ in 0..20_000 {
+        script.push_str("#\n")?;
+    }
+    for _ in 0..1025 {
+        script.push_str("a")?;
+    }
+    let seen = run_on(rt.alloc(), script.as_bytes(), &[], &[], &[])?;
+    let (line, which) = (20_001, Which::Lines);
+    let text = "limit line 20001 lines\n";
+    expect(&rt, &seen, 4, CellKind::Limit { line, which }, text);
+    let seen = run_on(rt.alloc(), script.as_bytes(), &[40_002], &[], &[])?;
+    expect(&rt, &seen, 2, CellKind::ReadFault, "");
+    Ok(())
+}
+
 /// Takes a byte at a time while it has room, and then fails so many times. It does not tell what it holds.
 #[derive(Drop)]
 struct Tape {
