@@ -1,5 +1,5 @@
 //! Pages over the database file of a disk.
-ghost use Rattle.std.specs.Prelude.{◌≡◌, ◌+◌, ◌-◌, ◌≤◌, ◌^◌, Some, None, IsSome, IfSome, OnOk, OnErr, IfOk, IfErr, IsErr, IsErrOf, length, take, drop, max, min, unwrap_or};
+ghost use Rattle.std.specs.Prelude.{◌≡◌, ◌+◌, ◌-◌, ◌<◌, ◌≤◌, ◌^◌, Some, None, IsSome, IfSome, OnOk, OnErr, IfOk, IfErr, IsErr, IsErrOf, length, take, drop, max, min, unwrap_or};
 ghost use Rattle.std.specs.Option.{option_map};
 ghost use Rattle.ubik_types.specs.Version.{IsVersion, zero_version};
 ghost use Rattle.disk_base.specs.Files.{with_file, laid, KeepsRoom};
@@ -127,8 +127,8 @@ impl Pages {
         requires within { at + length buf.old ≤ self.old.len }
         ensures bytes { OnOk result (IfSome (D.files disk.old) (λ fs. buf.new ≡ take (length buf.old) (drop at (image_of fs.database)))) }
         ensures pages { self.new ≡ self.old }
-        ensures agrees { OnOk result (AgreesIn self.new (D.files disk.new)) }
-        ensures files { OnOk result (D.files disk.new ≡ D.files disk.old) }
+        ensures agrees { ¬ IsErrOf result PageFault.DiskFault → AgreesIn self.new (D.files disk.new) }
+        ensures files { ¬ IsErrOf result PageFault.DiskFault → D.files disk.new ≡ D.files disk.old }
         ensures room { KeepsRoom (D.room disk.old) (D.room disk.new) }
         ensures steps { D.steps disk.new ≡ D.steps disk.old }
         ensures crash { LeavesSame (D.may_leave disk.old) (D.may_leave disk.new) (D.left_since disk.old) (D.left_since disk.new) }
@@ -139,10 +139,12 @@ impl Pages {
         read_pages(disk, at, buf)
     }
 
-    /// Makes room in the database file for an image of `len` bytes. For want of memory nothing changes.
+    /// Makes room in the database file for an image of `len` bytes, and takes no memory where there is room. For want
+    /// of memory nothing changes.
     pub fn reserve<D: Disk>(&mut self, disk: &mut D, len: u32) -> Result<(), NoMemory>
         requires agrees { AgreesIn self.old (D.files disk.old) }
         ensures reserved { OnOk result (64 + len ≤ D.room disk.new FileNo.Database) }
+        ensures no_memory { OnErr result (D.room disk.old FileNo.Database < 64 + len) }
         ensures pages { self.new ≡ self.old }
         ensures agrees { AgreesIn self.new (D.files disk.new) }
         ensures files { D.files disk.new ≡ D.files disk.old }
