@@ -1,4 +1,4 @@
--- The label of a database file (Kazar, "Ubik"; its bytes are own): 64 bytes in front of the image.
+-- The label of a database file (Ubik): 64 bytes in front of the image.
 use Rattle.std.specs.Prelude.{◌≡◌, ◌<◌, slice_index, ℕ, ◌+◌, ◌==◌, ◌&&◌, nat_lt, nat_le, if◌then◌else◌, Option, Some, None, List, ◌∷◌, ◌++◌, length, take, drop, replicate}
 use Rattle.std.specs.Int.{w32, to_be_bytes, from_be_bytes}
 use Rattle.std.specs.Str.{bytes_eq}

@@ -10,7 +10,7 @@ use crate::faults::PageFault;
 use crate::label::LABEL_LEN;
 use disk_base::{Disk, DiskEnd, FileNo, LenEnd};
 
-/// The length of a page of the image, in bytes (own).
+/// The length of a page of the image, in bytes (Ubik).
 pub const PAGE_LEN: usize = 1024;
 
 /// The length of the database file, in bytes.
