@@ -1,5 +1,6 @@
-//! Writes a log and reads it back, for `bench/log_text`. Its words are how far a log goes, `changes`, `written` or
-//! `read`, and how many kibibytes it has: sixteen puts of 48 bytes each. Without words it does nothing.
+//! Writes a log and reads it back, for `bench/log_text`. Its words are how many kibibytes the log has, sixteen puts of
+//! 48 bytes each, how often it is written after the first time, and how often it is read. Without words it does
+//! nothing.
 #![tactic(auto)]
 
 ghost use Rattle.std.specs.Prelude.{◌≡◌, ◌↔◌, ◌*◌, ◌≤◌, IfOk, IsTrue, true};
@@ -15,7 +16,7 @@ use ubik_types::{Bytes, Change, Changes, NoMemory, Version, bytes_of, changes_ne
 /// The log was not read back as it was written, or could not be written.
 const FAILED: u8 = 1;
 
-/// The words are not how far, and a number of kibibytes.
+/// The words are not three numbers.
 const WORDS: u8 = 6;
 
 /// The bytes of each put.
@@ -29,29 +30,6 @@ const VERSION: Version = Version {
     epoch: 1076,
     counter: 2,
 };
-
-/// How far a log goes.
-#[derive(Clone, Copy, Debug, PartialEq, Eq)]
-enum Way {
-    /// Its changes are made.
-    Changes,
-    /// They are written.
-    Written,
-    /// They are written and read back.
-    Read,
-}
-
-impl Way {
-    /// The way that a word names.
-    fn named(word: &str) -> Option<Way> {
-        match word {
-            "changes" => Some(Way::Changes),
-            "written" => Some(Way::Written),
-            "read" => Some(Way::Read),
-            _ => None,
-        }
-    }
-}
 
 /// So many puts.
 fn long_list(alloc: Global, count: u32) -> Result<Changes, NoMemory>
@@ -119,36 +97,47 @@ fn says_puts(alloc: Global, log: &[u8], count: u32) -> Result<bool, NoMemory>
     })
 }
 
-/// Whether a log of so many kibibytes goes so far, as it does.
-fn goes(alloc: Global, way: Way, kibibytes: u16) -> Result<bool, NoMemory>
+/// Whether a log is so many times found to say so many puts, as it is.
+fn reads_back(alloc: Global, log: &[u8], count: u32, times: u16) -> Result<bool, NoMemory>
+    requires { IsCommitted log.now (puts count) VERSION }
+    ensures { IfOk result (λ whole. whole ≡ true) }
+{
+    for _ in 0..times {
+        if !says_puts(alloc, log, count)? {
+            return Ok(false);
+        }
+    }
+    Ok(true)
+}
+
+/// Whether a log of so many kibibytes, which is written so often after the first time, is so often read back, as it is.
+fn goes_both_ways(alloc: Global, kibibytes: u16, writes: u16, reads: u16) -> Result<bool, NoMemory>
     ensures { IfOk result (λ whole. whole ≡ true) }
 {
     let count = u32::from(kibibytes) * PUTS;
     let changes = long_list(alloc, count)?;
-    if way == Way::Changes {
-        return Ok(are_puts(changes.as_slice(), count));
+    let mut log = long_log(alloc, &changes, count)?;
+    for _ in 0..writes {
+        log = long_log(alloc, &changes, count)?;
     }
-    let log = long_log(alloc, &changes, count)?;
-    match way {
-        Way::Read => says_puts(alloc, log.as_slice(), count),
-        _ => Ok(true),
-    }
+    reads_back(alloc, log.as_slice(), count, reads)
 }
 
 fn main(rt: HostRuntime) -> ExitCode {
     let Ok(mut words) = env::args(&rt) else {
         return ExitCode::from(WORDS);
     };
-    let Some(far) = words.nth(1) else {
+    let Some(size) = words.nth(1) else {
         return ExitCode::SUCCESS;
     };
-    let (Some(way), Some(size)) = (Way::named(&far), words.next()) else {
+    let (Some(writes), Some(reads)) = (words.next(), words.next()) else {
         return ExitCode::from(WORDS);
     };
-    let Ok(kibibytes) = size.parse::<u16>() else {
+    let (Ok(kibibytes), Ok(writes), Ok(reads)) = (size.parse(), writes.parse(), reads.parse())
+    else {
         return ExitCode::from(WORDS);
     };
-    match goes(rt.alloc(), way, kibibytes) {
+    match goes_both_ways(rt.alloc(), kibibytes, writes, reads) {
         Ok(true) => ExitCode::SUCCESS,
         _ => ExitCode::from(FAILED),
     }
