@@ -1,5 +1,5 @@
 -- The lines of a script are a run of a cell of one server, and the laws of such runs are theirs.
-use Rattle.std.proofs.Common.{◌≡◌, ◌⊎◌, ◌+◌, inl, inr, ℕ, Bool, List, [], ◌∷◌, ◌++◌, Option, Some, None, IsSomeAnd, Result, Ok, Err, refl, sym, ap, subst, ◌∙◌, append_assoc}
+use Rattle.std.proofs.Common.{◌≡◌, ◌⊎◌, ◌+◌, inl, inr, ℕ, Bool, List, [], ◌∷◌, ◌++◌, Option, Some, None, IfSome, IsSomeAnd, Result, Ok, Err, refl, sym, ap, subst, ◌∙◌, append_assoc}
 use Rattle.std.proofs.lemmas.List.{append-nil}
 use Rattle.db_image.specs.Database.{Database}
 use Rattle.cell_model.specs.Book.{Run, first_run, run_after}
@@ -11,7 +11,7 @@ use Rattle.cell_model.specs.World.{Site, World, Event, IsRun as LegalRun, IsEven
 use Rattle.ubik_cell.specs.declared.cells.CellKind.{CellKind}
 use Rattle.ubik_cell.specs.declared.cells.CellKind.TheVariants as kind
 use Rattle.ubik_cell.specs.declared.cells.Ending.{Ending}
-use Rattle.ubik_cell.specs.OneCopy.{IsLast, IsKept, OfOpening, OfRun, OfEachRun, ReadsDurable, ReadsRun, IsMore, IsBegun, DiskHolds, readings_of, untold_of}
+use Rattle.ubik_cell.specs.OneCopy.{IsLast, IsKept, OfOpening, OfRun, OfTheRun, ReadsDurable, ReadsRun, IsMore, IsBegun, DiskHolds, readings_of, untold_of}
 use Rattle.ubik_cell.specs.Run.{Holds, Runs}
 use Rattle.ubik_cell.specs.Script.{Reading, Line_run, Stop, Told, first_told, told_with, told_unless, told_after, told_from, told, line_result, sound_readings}
 use Rattle.ubik_cell.specs.Sites.{Held, Reads, ReadsAs, SitesRead}
@@ -213,10 +213,19 @@ of_run P db all readings = by (may_run db readings)
         subst (OfOpening P db (told db readings)) (sym is.opening)
         (record { run = is.run; legal = is.legal; last = is.last; told = is.told; ended = is.ended }, all is.clock is.failed (told db readings).stage.events)
 
-pub of_each_run : (P : Database → ℕ → Bool → List Event → Type 0) (db : Database) → ((clock : ℕ) (failed : Bool) (events : List Event) → P db clock failed events) → (k : CellKind) (left later written after : Option (List ℕ)) (disk : Held) → OfEachRun P k db left later written after disk
-of_each_run P db all k None later written after disk = tt
-of_each_run P db all k (Some script) later None after disk = tt
-of_each_run P db all k (Some script) later (Some before) after disk = λ runs. of_run P db all (readings_of k db script later before after disk runs)
+-- that there is a run, where both ends tell their content
+abbrev pub HasRun : CellKind → Database → Option (List ℕ) → Option (List ℕ) → Option (List ℕ) → Option (List ℕ) → Held → Type 0
+HasRun k db left later written after disk = IfSome left (λ script. IfSome written (λ before. Runs k db script later before after disk))
+
+-- the disk is the one that was there at the end of the run
+pub of_the_run : (P : Database → ℕ → Bool → List Event → Type 0) (db : Database) → ((clock : ℕ) (failed : Bool) (events : List Event) → P db clock failed events) → (k : CellKind) (left later written after : Option (List ℕ)) (disk there : Held) → disk ≡ there → HasRun k db left later written after there → OfTheRun P k db left later written after disk
+of_the_run P db all k left later written after disk there same ran =
+    let Q : Held → Type 0 = λ d. OfTheRun P k db left later written after d in subst Q (sym same) (by left written ran)
+  where
+    by : (left written : Option (List ℕ)) → HasRun k db left later written after there → OfTheRun P k db left later written after there
+    by None written ran = tt
+    by (Some script) None ran = tt
+    by (Some script) (Some before) ran = (ran, of_run P db all (readings_of k db script later before after there ran))
 
 -- a disk that reads as the server's version and image reads as its durable state
 site_durable : (site : Site) (node : Node) (fs : Files) → IsOf site.durable node → ReadsAs node fs → ReadsDurable (site ∷ []) fs
@@ -288,8 +297,12 @@ disk_of_run law (kind.Limit line which) db keeps script left before after disk r
 disk_of_run law kind.NoMemory db keeps script left before after disk runs begun none = held_short law db keeps runs.readings runs.more disk runs.holds none
 disk_of_run law (kind.Words place) db keeps script left before after disk runs begun none = absurd begun
 
-pub disk_holds : DatabaseIsDurable → (db : Database) → Keeps db → (k : CellKind) (left later written after : Option (List ℕ)) (disk : Held) → DiskHolds k db left later written after disk
+pub disk_holds : DatabaseIsDurable → (db : Database) → Keeps db → (k : CellKind) (left later written after : Option (List ℕ)) (disk there : Held) → disk ≡ there → HasRun k db left later written after there → DiskHolds k db left later written after disk
 unfolding HeldAs
-disk_holds law db keeps k None later written after disk = tt
-disk_holds law db keeps k (Some script) later None after disk = tt
-disk_holds law db keeps k (Some script) later (Some before) after disk = λ runs begun none. disk_of_run law k db keeps script later before after disk runs begun none
+disk_holds law db keeps k left later written after disk there same ran =
+    let Q : Held → Type 0 = λ d. DiskHolds k db left later written after d in subst Q (sym same) (by left written ran)
+  where
+    by : (left written : Option (List ℕ)) → HasRun k db left later written after there → DiskHolds k db left later written after there
+    by None written ran = tt
+    by (Some script) None ran = tt
+    by (Some script) (Some before) ran = (ran, λ begun none. disk_of_run law k db keeps script later before after there ran begun none)

@@ -87,12 +87,11 @@ readings_of (kind.Limit line which) db script left before after disk runs = runs
 readings_of kind.NoMemory db script left before after disk runs = runs.readings
 readings_of (kind.Words place) db script left before after disk runs = []
 
--- So of each run of which the bytes that were written are the trace, as `Runs` says; that there is one, another clause
--- says.
-abbrev pub OfEachRun : (Database → ℕ → Bool → List Event → Type 0) → CellKind → Database → Option (List ℕ) → Option (List ℕ) → Option (List ℕ) → Option (List ℕ) → Held → Type 0
-OfEachRun P k db left later written after disk =
+-- there is a run of which the bytes that were written are the trace, as `Runs` says, and it has this
+abbrev pub OfTheRun : (Database → ℕ → Bool → List Event → Type 0) → CellKind → Database → Option (List ℕ) → Option (List ℕ) → Option (List ℕ) → Option (List ℕ) → Held → Type 0
+OfTheRun P k db left later written after disk =
     IfSome left (λ script. IfSome written (λ before.
-    (runs : Runs k db script later before after disk) → OfRun P db (readings_of k db script later before after disk runs)))
+    (runs : Runs k db script later before after disk) × OfRun P db (readings_of k db script later before after disk runs)))
 
 -- the disk of the one server reads as its durable state, and has no log and no incoming file
 abbrev pub ReadsDurable : List Site → Files → Type 0
@@ -117,11 +116,11 @@ abbrev pub IsBegun : CellKind → Type 0
 IsBegun (kind.Words place) = ⊥
 IsBegun _ = Unit {0}
 
--- Where its count of faults stands at 0, the first disk reads as the durable state of each such run, or, where memory ran out,
--- perhaps of the run with the line in which it ran out; and that run keeps what was acknowledged.
+-- There is such a run, and where the first disk's count of faults stands at 0 it reads as the durable state of that run, or, where
+-- memory ran out, perhaps of the run with the line in which it ran out; and that run keeps what was acknowledged.
 abbrev pub DiskHolds : CellKind → Database → Option (List ℕ) → Option (List ℕ) → Option (List ℕ) → Option (List ℕ) → Held → Type 0
 DiskHolds k db left later written after disk =
-    IfSome left (λ script. IfSome written (λ before. (runs : Runs k db script later before after disk) → IsBegun k → disk.faults ≡ 0 →
+    IfSome left (λ script. IfSome written (λ before. (runs : Runs k db script later before after disk) × (IsBegun k → disk.faults ≡ 0 →
     (more : List Reading) × IsMore (untold_of k db script later before after disk runs) more
     × IsSomeAnd disk.files (ReadsRun (told db (readings_of k db script later before after disk runs ++ more)).stage.run)
-    × OfRun IsKept db (readings_of k db script later before after disk runs ++ more)))
+    × OfRun IsKept db (readings_of k db script later before after disk runs ++ more))))

@@ -1,7 +1,9 @@
 -- What the one server of a cell puts out.
 use Rattle.std.specs.Prelude.{◌≡◌, ◌⊎◌, ◌+◌, ◌-◌, ◌<◌, ◌≤◌, ℕ, true, Option, Some, None, IsSomeAnd, Result, Ok, List, [], ◌∷◌, ◌++◌, map}
 use Rattle.db_image.specs.Database.{Database}
-use Rattle.disk_base.specs.Files.{Files, no_files}
+use Rattle.disk_base.specs.Crash.{IsSettled}
+use Rattle.disk_base.specs.Files.{Files, no_files, Stop}
+use Rattle.disk_base.specs.Files.Stop.{Unarmed}
 use Rattle.cell_model.specs.declared.events.NodeEvent.{NodeEvent}
 use Rattle.cell_model.specs.Book.{Run, run_after}
 use Rattle.cell_model.specs.Durable.{Durable, durable, no_database}
@@ -117,6 +119,10 @@ SiteShort db disk number event r =
 abbrev pub LineShort : {E : Type 0} → Held → Option Run → (Luck → Result Line_run E) → Type 0
 LineShort disk run result =
     IsReadAs disk run ⊎ ((ran : Line_run) × (result Sound ≡ Ok ran) × IsReadAs disk ran.stage.run)
+
+-- a disk that was opened anew: it is unarmed, and nothing is pending on it
+abbrev pub IsRevived : {D : Type 0} → (D → Stop) → (D → Option Files) → (D → Files → Type 0) → D → Type 0
+IsRevived stop files may_leave disk = (stop disk ≡ Unarmed) × IsSettled (files disk) (may_leave disk)
 
 -- a server that stays down, and tells so
 abbrev pub DownTold : {D : Type 0} → (D → ℕ) → D → Site D → List ℕ → List ℕ → Type 0

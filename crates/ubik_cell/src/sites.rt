@@ -8,7 +8,7 @@ ghost use Rattle.ubik_types.specs.Moment.{IsMoment};
 ghost use Rattle.ubik_node.specs.Node.{node_of};
 ghost use Rattle.cell_model.specs.Book.{Run};
 ghost use Rattle.ubik_cell.specs.Lines.{HasDisk, IsOpened, IsSound, Stands, SiteTold, SiteRefuses};
-ghost use Rattle.ubik_cell.specs.Sites.{puts, HasNoShort, StepTold, OpenTold, DownTold, IsReadAs, SiteShort, StepShort, site_disk, site_faults, site_held};
+ghost use Rattle.ubik_cell.specs.Sites.{puts, HasNoShort, StepTold, OpenTold, DownTold, IsReadAs, IsRevived, SiteShort, StepShort, site_disk, site_faults, site_held};
 ghost use Rattle.disk_base.specs.Files.{no_files};
 
 use crate::cells::Ending;
@@ -178,6 +178,7 @@ pub fn open_node<D: StopDisk>(
     ensures sound { result.1 ≡ LineDone.Told → IsSound D.files D.faults clock result.0 }
     ensures short { result.1 ≡ LineDone.NoMemory → IsReadAs (site_held D.files D.faults result.0) None }
     ensures taken { (e : Ending) → result.1 ≢ LineDone.Ended e }
+    ensures revived { (down : D) → result.0 ≡ Site.Down down → IsRevived D.stop D.files D.may_leave down }
     ensures never_falls { D.faults disk ≤ site_faults D.faults result.0 }
 {
     let Ok(cell) = Cell::new(alloc, &[FIRST_HOST]) else {
@@ -194,6 +195,7 @@ fn keep_down<D: StopDisk>(refused: Refused<D, StoreFault>, text: &mut String) ->
     ensures told { result.1 ≡ LineDone.Told → (refused.why ≢ StoreFault.NoMemory) × DownTold D.faults refused.disk result.0 (string_bytes text.old) (string_bytes text.new) }
     ensures short { result.1 ≡ LineDone.NoMemory → refused.why ≡ StoreFault.NoMemory → D.files (site_disk result.0) ≡ D.files refused.disk }
     ensures taken { (e : Ending) → result.1 ≢ LineDone.Ended e }
+    ensures revived { (down : D) → result.0 ≡ Site.Down down → IsRevived D.stop D.files D.may_leave down }
     ensures never_falls { D.faults refused.disk ≤ site_faults D.faults result.0 }
 {
     let Refused { disk, why } = refused;

@@ -15,7 +15,7 @@ ghost use Rattle.ubik_cell.specs.Run.{SoFar, AtLine, AtEnding, Runs, kind_at, Is
 ghost use Rattle.ubik_cell.specs.Run as Status;
 ghost use Rattle.cell_model.specs.KeptLaws.{AcknowledgedStay, OksAreAcknowledged, RepliesAreSingle, SitesAreSingle};
 ghost use Rattle.cell_model.specs.Laws.{AnnouncementsGrow, DatabaseIsDurable};
-ghost use Rattle.ubik_cell.specs.OneCopy.{DiskHolds, HasOneOrder, HasSingleReplies, IsKept, OfEachRun};
+ghost use Rattle.ubik_cell.specs.OneCopy.{DiskHolds, HasOneOrder, HasSingleReplies, IsKept, OfTheRun};
 ghost use Rattle.ubik_cell.specs.Disks.{AllFresh, first_held};
 ghost use Rattle.ubik_cell.specs.Sites.{site_faults, held, site_held};
 
@@ -215,11 +215,11 @@ pub fn cell_top<S: Source, K: Sink, D: StopDisk>(
     requires fresh { AllFresh D.files D.stop D.faults disks.old.items }
     ensures run { IfSome (S.left input.old) (λ script. IfSome (K.written out.old) (λ before.
         Runs result.kind protection script (S.left input.new) before (K.written out.new) (first_held D.files D.faults disks.new.items))) }
-    ensures one_order { OfEachRun HasOneOrder result.kind protection (S.left input.old) (S.left input.new) (K.written out.old) (K.written out.new)
+    ensures one_order { OfTheRun HasOneOrder result.kind protection (S.left input.old) (S.left input.new) (K.written out.old) (K.written out.new)
         (first_held D.files D.faults disks.new.items) }
-    ensures kept { OfEachRun IsKept result.kind protection (S.left input.old) (S.left input.new) (K.written out.old) (K.written out.new)
+    ensures kept { OfTheRun IsKept result.kind protection (S.left input.old) (S.left input.new) (K.written out.old) (K.written out.new)
         (first_held D.files D.faults disks.new.items) }
-    ensures single_copy { OfEachRun HasSingleReplies result.kind protection (S.left input.old) (S.left input.new) (K.written out.old) (K.written out.new)
+    ensures single_copy { OfTheRun HasSingleReplies result.kind protection (S.left input.old) (S.left input.new) (K.written out.old) (K.written out.new)
         (first_held D.files D.faults disks.new.items) }
     ensures disk { DiskHolds result.kind protection (S.left input.old) (S.left input.new) (K.written out.old) (K.written out.new)
         (first_held D.files D.faults disks.new.items) }
