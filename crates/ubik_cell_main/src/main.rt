@@ -1,7 +1,8 @@
 //! `ubik_cell`: runs the script on standard input, and prints its exact trace on standard output.
 #![tactic(auto)]
 
-ghost use Rattle.std.specs.Prelude.{◌≡◌, ◌≢◌, ◌<◌, ◌≤◌, ◌⊎◌, ℕ, Some, IfOk, IfErr, IsTrue, vec_len, length, drop};
+ghost use Rattle.std.specs.Prelude.{◌≡◌, ◌≢◌, ◌<◌, ◌≤◌, ◌⊎◌, ℕ, Some, IfOk, IfErr, IsTrue, [], vec_len, length, drop};
+ghost use Rattle.std.specs.Io.Buffered.{writer_buffer};
 ghost use Rattle.std.specs.IoError.{error_kind};
 ghost use Rattle.std.specs.Vec.Iter.{into_iter_items};
 ghost use Rattle.disk_base.specs.MemDisk.{now_of, disk_stop, disk_faults};
@@ -11,7 +12,7 @@ ghost use Rattle.ubik_cell.specs.Run.{status_of};
 use disk_base::{MemDisk, ReaderSource, WriterSink};
 use std::alloc::Global;
 use std::env::{self, Args};
-use std::io::{self, BufReader, BufWriter, ErrorKind, Write};
+use std::io::{self, BufReader, BufWriter, ErrorKind, Read, Write};
 use std::process::ExitCode;
 use ubik_cell::{CellEnd, CellKind, cell_top};
 use ubik_types::{MAXSERVERS, NoMemory};
@@ -44,7 +45,30 @@ fn fresh_disks(alloc: Global) -> Result<Vec<MemDisk>, NoMemory>
     Ok(disks)
 }
 
-/// Runs the script. The trace is buffered, and what is left of it goes out at every end.
+/// Runs the script, and has what is left of its trace in the buffer go out at every end.
+fn run_buffered<R: Read + Drop, W: Write + Drop>(
+    alloc: Global,
+    words: &[String],
+    reader: R,
+    writer: BufWriter<W>,
+    disks: &mut Vec<MemDisk>,
+) -> (Ended, BufWriter<W>)
+    requires twenty { vec_len disks.old ≡ 20 }
+    requires fresh { AllFresh (λ disk. Some (now_of disk)) disk_stop disk_faults disks.old.items }
+    ensures words { 0 < length words.now → result.0.end.kind ≡ CellKind.Words 1 }
+    ensures word_cause { (place : ℕ) → result.0.end.kind ≡ CellKind.Words place → 0 < length words.now }
+    ensures status { result.0.end.status ≡ status_of result.0.end.kind }
+    ensures flushed { IsTrue result.0.flushed → writer_buffer result.1 ≡ [] }
+{
+    let mut input = ReaderSource::new(reader);
+    let mut out = WriterSink::new(writer);
+    let end = cell_top(alloc, words, &mut input, &mut out, disks);
+    let mut writer = out.into_inner();
+    let flushed = writer.flush().is_ok();
+    (Ended { end, flushed }, writer)
+}
+
+/// Runs the script over standard input and output, and disks in memory.
 fn run(rt: &HostRuntime, words: &[String]) -> Result<Ended, NoMemory>
     ensures words { IfOk result (λ ended. 0 < length words.now → ended.end.kind ≡ CellKind.Words 1) }
     ensures word_cause { IfOk result (λ ended. (place : ℕ) → ended.end.kind ≡ CellKind.Words place → 0 < length words.now) }
@@ -58,11 +82,8 @@ fn run(rt: &HostRuntime, words: &[String]) -> Result<Ended, NoMemory>
     let Ok(writer) = BufWriter::new(alloc, io::writer(rt)) else {
         return Err(NoMemory);
     };
-    let mut input = ReaderSource::new(reader);
-    let mut out = WriterSink::new(writer);
-    let end = cell_top(alloc, words, &mut input, &mut out, &mut disks);
-    let flushed = out.into_inner().flush().is_ok();
-    Ok(Ended { end, flushed })
+    let (ended, _writer) = run_buffered(alloc, words, reader, writer, &mut disks);
+    Ok(ended)
 }
 
 /// The exit status. A trace that did not go out whole is a write fault, whatever the end of its script.
