@@ -1,4 +1,5 @@
 pub mod Announcing
+pub mod Causes
 pub mod Durability
 pub mod Growth
 pub mod Kept

@@ -1,4 +1,5 @@
 pub mod Book
+pub mod Causes
 pub mod Durable
 pub mod KeptLaws
 pub mod Laws

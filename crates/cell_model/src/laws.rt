@@ -1,4 +1,5 @@
 //! Laws of the world: each is the clause of a call that does nothing.
+ghost use Rattle.cell_model.specs.Causes.{RepliesHaveCauses};
 ghost use Rattle.cell_model.specs.KeptLaws.{
   AcknowledgedStay,
   OksAreAcknowledged,
@@ -41,4 +42,10 @@ pub fn law_sites_are_single()
 /// is what the single copy replies to it after the order before the event, at the clock of the server.
 pub fn law_replies_are_single()
     ensures { RepliesAreSingle }
+{}
+
+/// In each world a reply Malformed comes only to bytes that are no call, or to which the database replies so; and a reply
+/// NoMemory only where the event says that its call found no memory.
+pub fn law_replies_have_causes()
+    ensures { RepliesHaveCauses }
 {}
