@@ -61,11 +61,11 @@ new_user_again name short =
     (ap number_at (sym (append-nil (word 0))) ∙ number_again 0 [] (omega arith))
 
 -- a test that passed
-cond_yes : {A : Type 0} (b : Bool) (o : Option A) (y : A) → cond b o None ≡ Some y → (b ≡ true) × (o ≡ Some y)
+pub cond_yes : {A : Type 0} (b : Bool) (o : Option A) (y : A) → cond b o None ≡ Some y → (b ≡ true) × (o ≡ Some y)
 cond_yes true o y e = (refl, e)
 cond_yes false o y e = absurd cc
 
-option_map_some : {A B : Type 0} (f : A → B) (o : Option A) (y : B) → option_map f o ≡ Some y → (x : A) × (o ≡ Some x) × (f x ≡ y)
+pub option_map_some : {A B : Type 0} (f : A → B) (o : Option A) (y : B) → option_map f o ≡ Some y → (x : A) × (o ≡ Some x) × (f x ≡ y)
 option_map_some f (Some x) y e = (x, refl, some_is (f x) y e)
 option_map_some f None y e = absurd cc
 
@@ -98,7 +98,7 @@ name_to_id_again names fits =
     ∙ ap (λ (o : Option (List (List ℕ) × List ℕ)). option_map NameToId (o >>= λ n. cond (eqb (length n.1) 0) (Some n.0) None)) read
 
 -- which of the two calls it is
-chosen_by : (a b : Bool) (x y : Option PrCall) (call : PrCall) → cond a x (cond b y None) ≡ Some call → ((a ≡ true) × (x ≡ Some call)) ⊎ ((b ≡ true) × (y ≡ Some call))
+pub chosen_by : (a b : Bool) (x y : Option PrCall) (call : PrCall) → cond a x (cond b y None) ≡ Some call → ((a ≡ true) × (x ≡ Some call)) ⊎ ((b ≡ true) × (y ≡ Some call))
 chosen_by true b x y call e = inl (refl, e)
 chosen_by false true x y call e = inr (refl, e)
 chosen_by false false x y call e = absurd cc

@@ -11,4 +11,5 @@ pub mod Strings
 pub mod LayoutRead
 pub mod Means
 pub mod UserAdded
+pub mod WordCalls
 pub mod InitialState

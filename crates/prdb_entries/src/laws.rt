@@ -7,6 +7,7 @@ ghost use Rattle.prdb_entries.specs.State.{PrState, initial_state};
 ghost use Rattle.prdb_entries.specs.Meaning.{meaning};
 ghost use Rattle.prdb_entries.specs.Layout.{StandsFor};
 ghost use Rattle.prdb_entries.specs.Agreement.{IsMeant};
+ghost use Rattle.prdb_entries.specs.Words.{call_in};
 ghost use Rattle.prdb_entries.specs.Protection.{outcome, protection};
 
 use db_image::CallReply;
@@ -24,6 +25,11 @@ pub fn law_call_means()
         → IsMeant (protection.call image now bytes) image s (meaning s now call) }
     ensures no_call { (image bytes : List ℕ) (now : ℕ) → call_of bytes ≡ None
         → protection.call image now bytes ≡ outcome image (CallReply.Malformed, None) }
+{}
+
+/// A call that words name is the one that its spelling is read as: words never name bytes that are no call.
+pub fn law_words_name_a_call()
+    ensures { (words : List (List ℕ)) (call : PrCall) → call_in words ≡ Some call → call_of (spelling call) ≡ Some call }
 {}
 
 /// The empty image stands for the first state, which is valid.
