@@ -1,10 +1,15 @@
 -- A line is quiet, or opens the cell, or brings one event.
-use Rattle.std.proofs.Common.{◌≡◌, ◌⊎◌, inl, inr, cond, nat_le, nat_lt, ◌≤◌, ◌<◌, ◌-◌, ◌+◌, ℕ, Bool, true, false, List, [], ◌∷◌, ◌++◌, length, Option, Some, None, Result, Ok, Err, IfOk, refl, sym, ap, subst, arith}
+use Rattle.std.proofs.Common.{◌≡◌, ◌⊎◌, inl, inr, cond, nat_le, nat_lt, ◌≤◌, ◌<◌, ◌-◌, ◌+◌, ℕ, Bool, true, false, List, [], ◌∷◌, ◌++◌, length, Option, Some, None, Result, Ok, Err, IfOk, IsSome, refl, sym, ap, subst, ◌∙◌, arith}
 use Rattle.std.proofs.lemmas.Bool.Decides.{nat_tests}
 use Rattle.std.proofs.lemmas.List.{length_push}
 use Rattle.ubik_types.specs.Moment.{IsMoment}
 use Rattle.db_image.specs.Database.{Database}
-use Rattle.prdb_entries.specs.Words.{call_of_words, is_unbuilt}
+use Rattle.prdb_entries.specs.Call.{PrCall, spelling}
+use Rattle.prdb_entries.specs.Reading.{call_of}
+use Rattle.prdb_entries.specs.Words.{call_in, call_of_words, is_unbuilt}
+use Rattle.prdb_entries.proofs.CallLaw.{option_map_some}
+use Rattle.prdb_entries.proofs.WordCalls.{words_name_a_call}
+use Rattle.cell_model.specs.Node.{Node, Down, Halted, Up}
 use Rattle.cell_model.specs.Book.{Run, first_run, run_after}
 use Rattle.cell_model.specs.declared.events.NodeEvent.{NodeEvent}
 use Rattle.cell_model.specs.declared.events.NodeEvent.TheVariants as event
@@ -15,7 +20,7 @@ use Rattle.cell_script.specs.Words.{words_of}
 use Rattle.cell_script.specs.declared.lines.Line.{Line}
 use Rattle.cell_script.specs.declared.lines.Line.TheVariants as line
 use Rattle.cell_script.specs.declared.lines.Why.{Why}
-use Rattle.ubik_cell.specs.Script.{Luck, Reading, Stage, Line_run, with_event, event_at, has_failed, in_run, is_there, is_up_at, stepped, no_cell, asked_in, ask_run, opened, line_run, meaning_run, or_refused, line_result}
+use Rattle.ubik_cell.specs.Script.{Luck, Sound, Faulty, AsksACall, IsScripted, step_event, node_at, Reading, Stage, Line_run, with_event, event_at, has_failed, in_run, is_there, is_up_at, stepped, no_cell, asked_in, ask_run, opened, line_run, meaning_run, or_refused, line_result}
 use Rattle.ubik_cell.proofs.Legal.{EventFits, IsLegal, SitesFit, first_fit, quiet_fit, step_legal, tick_legal}
 
 -- the run of a stage has clocks and ids that its lines and its calls may have led to
@@ -54,6 +59,7 @@ pub record IsBringing (db : Database) (st : Stage) (ran : Line_run) : Type 0 whe
   pub events : ran.stage.events ≡ st.events ++ event ∷ []
   pub run : ran.stage.run ≡ Some (run_after db r event)
   pub seen : ran.seen ≡ (happens db r.world event).seen
+  pub scripted : IsScripted event
   pub legal : StageFits st → IsEvent r.world event
   pub fit : StageFits st → StageFits ran.stage
 
@@ -70,9 +76,9 @@ unfolding StageFits RunFits
 fits_at st r there fit = subst (RunFits st.lines (length st.calls)) there fit
 
 -- an event that is one of the world
-brings : (db : Database) (st after : Stage) (r : Run) (e : Event) → st.run ≡ Some r → after.opening ≡ st.opening → after.events ≡ st.events → after.lines ≡ st.lines → (SitesFit st.lines (length st.calls) r.world.sites → IsLegal db st.lines (length after.calls) r.world e) → IsKind {E = Why} db st (Ok (with_event db after r e))
+brings : (db : Database) (st after : Stage) (r : Run) (e : Event) → st.run ≡ Some r → after.opening ≡ st.opening → after.events ≡ st.events → after.lines ≡ st.lines → IsScripted e → (SitesFit st.lines (length st.calls) r.world.sites → IsLegal db st.lines (length after.calls) r.world e) → IsKind {E = Why} db st (Ok (with_event db after r e))
 unfolding StageFits RunFits
-brings db st after r e there opening events lines legal =
+brings db st after r e there opening events lines scripted legal =
     inr (inr (record {
       r = r;
       event = e;
@@ -81,34 +87,49 @@ brings db st after r e there opening events lines legal =
       events = ap (λ (l : List Event). l ++ e ∷ []) events;
       run = refl;
       seen = refl;
+      scripted = scripted;
       legal = λ fit. (legal (subst (RunFits st.lines (length st.calls)) there fit)).event;
       fit = λ fit.
           let is = legal (subst (RunFits st.lines (length st.calls)) there fit) in
           subst (λ (n : ℕ). SitesFit n (length after.calls) (happens db r.world e).world.sites) (ap (λ (n : ℕ). n + 1) (sym lines)) is.fit;
     }))
 
-step_kind : (db : Database) (st after : Stage) (luck : Luck) (number : ℕ) (e : NodeEvent) (r : Run) → st.run ≡ Some r → after.opening ≡ st.opening → after.events ≡ st.events → after.lines ≡ st.lines → EventFits (length st.calls) (length after.calls) e → IsKind db st (stepped db after luck number e r)
-step_kind db st after luck number e r there opening events lines fits =
+-- a step brings what it asks
+step_scripted : (luck : Luck) (node : Node) (server : ℕ) (e : NodeEvent) → AsksACall e → IsScripted (step_event luck node server e)
+step_scripted Sound node server e asks = (asks, refl)
+step_scripted (Faulty made) Down server e asks = (asks, refl)
+step_scripted (Faulty made) (Halted h) server e asks = (asks, refl)
+step_scripted (Faulty made) (Up s) server e asks = (asks, refl)
+
+step_kind : (db : Database) (st after : Stage) (luck : Luck) (number : ℕ) (e : NodeEvent) (r : Run) → st.run ≡ Some r → after.opening ≡ st.opening → after.events ≡ st.events → after.lines ≡ st.lines → AsksACall e → EventFits (length st.calls) (length after.calls) e → IsKind db st (stepped db after luck number e r)
+step_kind db st after luck number e r there opening events lines asks fits =
     if_kind db st (is_there r.world.sites number) _ _
     (λ here. if_kind db st (is_up_at r.world.sites (number - 1)) _ _
-    (λ up. brings db st after r (event_at luck r number e) there opening events lines
+    (λ up. brings db st after r (event_at luck r number e) there opening events lines (step_scripted luck (node_at r.world.sites (number - 1)) (number - 1) e asks)
     (λ fit. step_legal db st.lines (length st.calls) (length after.calls) r.world.sites (number - 1) e luck up fits fit))
     (λ down. tt))
     (λ none. tt)
 
-turn_kind : (db : Database) (st : Stage) (luck : Luck) (number : ℕ) (e : NodeEvent) (run : Option Run) → st.run ≡ run → EventFits (length st.calls) (length st.calls) e → IsKind db st (in_run (stepped db st luck number e) run)
-turn_kind db st luck number e None there fits = tt
-turn_kind db st luck number e (Some r) there fits = step_kind db st st luck number e r there refl refl refl fits
+turn_kind : (db : Database) (st : Stage) (luck : Luck) (number : ℕ) (e : NodeEvent) (run : Option Run) → st.run ≡ run → AsksACall e → EventFits (length st.calls) (length st.calls) e → IsKind db st (in_run (stepped db st luck number e) run)
+turn_kind db st luck number e None there asks fits = tt
+turn_kind db st luck number e (Some r) there asks fits = step_kind db st st luck number e r there refl refl refl asks fits
 
 call_fits : (calls : List (List ℕ)) (call : List ℕ) → EventFits (length calls) (length (calls ++ call ∷ [])) (event.Ask (length calls + 1) call)
 unfolding EventFits
 call_fits calls call = (sym (length_push calls call), length_push calls call)
 
-call_kind : (db : Database) (st : Stage) (luck : Luck) (server : Option ℕ) (words : List (List ℕ)) (call : Option (List ℕ)) (r : Run) → st.run ≡ Some r → IsKind db st (asked_in db st luck server words call r)
-call_kind db st luck server words None r there = if_kind db st (is_unbuilt words) _ _ (λ b. tt) (λ b. tt)
-call_kind db st luck None words (Some call) r there = tt
-call_kind db st luck (Some number) words (Some call) r there =
-    step_kind db st (record st { calls = st.calls ++ call ∷ [] }) luck number (event.Ask (length st.calls + 1) call) r there refl refl refl (call_fits st.calls call)
+-- words that spell a call name one
+named : (words : List (List ℕ)) (call : List ℕ) → call_of_words words ≡ Some call → IsSome (call_of call)
+named words call is =
+    let c = option_map_some spelling (call_in words) call is in
+    let P : Option PrCall → Type 0 = λ o. IsSome o in
+    subst P (sym (ap call_of (sym c.2) ∙ words_name_a_call words c.0 c.1)) refl
+
+call_kind : (db : Database) (st : Stage) (luck : Luck) (server : Option ℕ) (words : List (List ℕ)) (call : Option (List ℕ)) (r : Run) → st.run ≡ Some r → call_of_words words ≡ call → IsKind db st (asked_in db st luck server words call r)
+call_kind db st luck server words None r there is = if_kind db st (is_unbuilt words) _ _ (λ b. tt) (λ b. tt)
+call_kind db st luck None words (Some call) r there is = tt
+call_kind db st luck (Some number) words (Some call) r there is =
+    step_kind db st (record st { calls = st.calls ++ call ∷ [] }) luck number (event.Ask (length st.calls + 1) call) r there refl refl refl (named words call is) (call_fits st.calls call)
 
 no_cell_kind : (db : Database) (st : Stage) (server : Option ℕ) → IsKind db st (no_cell server)
 no_cell_kind db st None = tt
@@ -116,7 +137,7 @@ no_cell_kind db st (Some number) = tt
 
 ask_kind : (db : Database) (st : Stage) (luck : Luck) (server : Option ℕ) (words : List (List ℕ)) (run : Option Run) → st.run ≡ run → IsKind db st (ask_run db st luck server words run)
 ask_kind db st luck server words None there = no_cell_kind db st server
-ask_kind db st luck server words (Some r) there = call_kind db st luck server words (call_of_words words) r there
+ask_kind db st luck server words (Some r) there = call_kind db st luck server words (call_of_words words) r there refl
 
 open_kind : (db : Database) (st : Stage) (luck : Luck) (clock : ℕ) (run : Option Run) → st.run ≡ run → IsMoment clock → clock ≤ 1000000000 → IsKind db st (opened st luck clock run)
 unfolding StageFits RunFits
@@ -136,7 +157,7 @@ open_kind db st luck clock (Some r) there moment bound = tt
 tick_kind : (db : Database) (st : Stage) (seconds : ℕ) (run : Option Run) → st.run ≡ run → st.lines < 20000 → seconds ≤ 50000 → IsKind {E = Why} db st (in_run (λ r. Ok (with_event db st r (Tick_all seconds))) run)
 tick_kind db st seconds None there few bound = tt
 tick_kind db st seconds (Some r) there few bound =
-    brings db st st r (Tick_all seconds) there refl refl refl (λ fit. tick_legal db st.lines (length st.calls) seconds r.world.sites few bound fit)
+    brings db st st r (Tick_all seconds) there refl refl refl tt (λ fit. tick_legal db st.lines (length st.calls) seconds r.world.sites few bound fit)
 
 still : (lines calls : ℕ) (run : Option Run) → RunFits lines calls run → RunFits (lines + 1) calls run
 unfolding RunFits
@@ -152,8 +173,8 @@ unfolding StageFits
 line_kind db st luck line.Nothing few bounds = inl (record { opening = refl; events = refl; run = refl; seen = refl; fit = λ fit. still st.lines (length st.calls) st.run fit })
 line_kind db st luck (line.Cell clock) few bounds = open_kind db st luck clock st.run refl bounds.0 bounds.1
 line_kind db st luck (line.TickAll seconds) few bounds = tick_kind db st seconds st.run refl few bounds
-line_kind db st luck (line.Beacon server) few bounds = turn_kind db st luck server event.BeaconTurn st.run refl (turn_fits (length st.calls)).0
-line_kind db st luck (line.Recover server) few bounds = turn_kind db st luck server event.RecoverTurn st.run refl (turn_fits (length st.calls)).1
+line_kind db st luck (line.Beacon server) few bounds = turn_kind db st luck server event.BeaconTurn st.run refl tt (turn_fits (length st.calls)).0
+line_kind db st luck (line.Recover server) few bounds = turn_kind db st luck server event.RecoverTurn st.run refl tt (turn_fits (length st.calls)).1
 line_kind db st luck (line.Ask server words) few bounds = ask_kind db st luck server words st.run refl
 
 meaning_kind : (db : Database) (st : Stage) (luck : Luck) (meaning : Result Line Why) → st.lines < 20000 → IfOk meaning HasBounds → IsKind db st (meaning_run db st luck meaning)

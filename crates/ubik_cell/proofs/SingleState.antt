@@ -1,5 +1,5 @@
 -- The image of a list of transactions stands for the state of the list, so the single copy replies what calls mean there.
-use Rattle.std.proofs.Common.{◌≡◌, ◌≢◌, ℕ, Bool, true, false, cond, not, List, [], ◌∷◌, Option, Some, None, refl, sym, ap, subst}
+use Rattle.std.proofs.Common.{◌≡◌, ◌≢◌, ℕ, Bool, true, false, cond, not, eqb, length, List, [], ◌∷◌, Option, Some, None, refl, sym, ap, subst}
 use Rattle.db_image.specs.declared.services.CallReply.{CallReply}
 use Rattle.db_image.specs.declared.services.CallReply.TheVariants.{Malformed, BadRecord}
 use Rattle.db_image.specs.Database.{Outcome}
@@ -7,10 +7,11 @@ use Rattle.cell_model.specs.Durable.{Transaction}
 use Rattle.cell_model.specs.SingleCopy.{image_from, image_of, reply_after}
 use Rattle.prdb_entries.specs.Agreement.{IsMeant}
 use Rattle.prdb_entries.specs.Call.{PrCall, NewUser, NameToId}
-use Rattle.prdb_entries.specs.Layout.{StandsFor}
+use Rattle.prdb_entries.specs.Layout.{StandsFor, layout}
 use Rattle.prdb_entries.specs.Meaning.{Meaning, meaning, refused, made, has_name, next_user_id}
 use Rattle.prdb_entries.specs.Names.{is_user_name, lowered}
-use Rattle.prdb_entries.specs.Protection.{protection, outcome}
+use Rattle.prdb_entries.specs.Blocks.{blocks_of, has_whole_blocks, name_among}
+use Rattle.prdb_entries.specs.Protection.{Answer, added, answer, answer_new_user, answer_over, next_id, protection, outcome, refusal}
 use Rattle.prdb_entries.specs.Reading.{call_of}
 use Rattle.prdb_entries.specs.State.{PrState, initial_state}
 use Rattle.ubik_cell.specs.SingleState.{state_after, state_from, state_of, reply_in, reply_of}
@@ -71,3 +72,37 @@ reply_good s now (Some call) = meaning_good s now call
 -- no call means that the database is bad
 pub never_bad : (transactions : List Transaction) (now : ℕ) (bytes : List ℕ) (at : ℕ) → reply_of transactions now bytes ≢ BadRecord at
 never_bad transactions now bytes at is = subst IsGood is (reply_good (state_of transactions) now (call_of bytes))
+
+-- a reply that is not that the bytes asked are no call
+abbrev IsToACall : CallReply → Type 0
+IsToACall Malformed = ⊥
+IsToACall _ = Unit {0}
+
+either_answer : (b : Bool) (x y : Answer) → IsToACall x.0 → IsToACall y.0 → IsToACall (cond b x y).0
+either_answer true x y first second = first
+either_answer false x y first second = second
+
+added_answers : (image name : List ℕ) (id : Option ℕ) → IsToACall (added image name id).0
+added_answers image name None = tt
+added_answers image name (Some id) = tt
+
+new_user_answers : (image name : List ℕ) → IsToACall (answer_new_user image name).0
+unfolding answer_new_user
+new_user_answers image name =
+    either_answer (not (is_user_name name)) (refusal 267272) _ tt
+    (either_answer (name_among (blocks_of image) name) (refusal 267264) (added image name (next_id image)) tt (added_answers image name (next_id image)))
+
+answers : (image : List ℕ) (call : PrCall) → IsToACall (answer image call).0
+answers image (NewUser name) = new_user_answers image (lowered name)
+answers image (NameToId names) = tt
+
+answers_over : (image : List ℕ) (call : PrCall) → IsToACall (answer_over image (Some call)).0
+unfolding answer_over
+answers_over image call =
+    either_answer (eqb (length image) 0) (answer (layout initial_state) call) _ (answers (layout initial_state) call)
+    (either_answer (has_whole_blocks image) (answer image call) (BadRecord (length image), None) (answers image call) tt)
+
+-- over no image the reply to a call is that it is none
+pub over_call : (image : List ℕ) (now : ℕ) (bytes : List ℕ) (call : PrCall) → call_of bytes ≡ Some call → (protection.call image now bytes).reply ≢ Malformed
+over_call image now bytes call is malformed =
+    let P : Option PrCall → Type 0 = λ o. IsToACall (answer_over image o).0 in subst IsToACall malformed (subst P (sym is) (answers_over image call))

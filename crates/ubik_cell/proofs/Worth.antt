@@ -1,6 +1,8 @@
 -- The lines of a script are a run of a cell of one server, and the laws of such runs are theirs.
 use Rattle.std.proofs.Common.{◌≡◌, ◌⊎◌, ◌+◌, inl, inr, ℕ, Bool, List, [], ◌∷◌, ◌++◌, Option, Some, None, IfSome, IsSomeAnd, Result, Ok, Err, refl, sym, ap, subst, ◌∙◌, append_assoc}
 use Rattle.std.proofs.lemmas.List.{append-nil}
+use Rattle.std.proofs.lemmas.List.Elements.{All-nil, All-cons, All-append}
+use Rattle.std.specs.Prelude.{All}
 use Rattle.db_image.specs.Database.{Database}
 use Rattle.cell_model.specs.Book.{Run, first_run, run_after}
 use Rattle.cell_model.specs.KeptLaws.{run_of_one}
@@ -13,7 +15,7 @@ use Rattle.ubik_cell.specs.declared.cells.CellKind.TheVariants as kind
 use Rattle.ubik_cell.specs.declared.cells.Ending.{Ending}
 use Rattle.ubik_cell.specs.OneCopy.{IsLast, IsKept, OfOpening, OfRun, OfTheRun, ReadsDurable, ReadsRun, IsMore, IsBegun, DiskHolds, readings_of, untold_of}
 use Rattle.ubik_cell.specs.Run.{Holds, Runs}
-use Rattle.ubik_cell.specs.Script.{Reading, Line_run, Stop, Told, first_told, told_with, told_unless, told_after, told_from, told, line_result, sound_readings}
+use Rattle.ubik_cell.specs.Script.{IsScripted, Reading, Line_run, Stop, Told, first_told, told_with, told_unless, told_after, told_from, told, line_result, sound_readings}
 use Rattle.ubik_cell.specs.Sites.{Held, Reads, ReadsAs, SitesRead}
 use Rattle.ubik_cell.specs.Trace.{trace, ending_text}
 use Rattle.ubik_cell.proofs.LineKinds.{IsBringing, IsKind, StageFits, result_kind}
@@ -50,6 +52,7 @@ pub record IsRun (db : Database) (t : Told) : Type 0 where
   pub failed : Bool
   pub opening : t.stage.opening ≡ Some (record { clock = clock; failed = failed })
   pub run : t.stage.run ≡ Some (run_of_one db clock failed t.stage.events)
+  pub scripted : All IsScripted t.stage.events
   pub legal : LegalRun db (first_world clock (failed ∷ [])) t.stage.events
   pub fit : StageFits t.stage
   pub last : List ℕ
@@ -95,6 +98,7 @@ brought db t ran good brings is =
           brings.run ∙ ap (λ (r : Run). Some (run_after db r brings.event)) same
           ∙ ap Some (sym (run_push db (first_run w) events brings.event))
           ∙ ap (λ (l : List Event). Some (run_of_one db is.clock is.failed l)) (sym more);
+      scripted = subst (All IsScripted) (sym more) (All-append IsScripted events (brings.event ∷ []) is.scripted (All-cons IsScripted brings.event [] brings.scripted (All-nil IsScripted)));
       legal =
           let last : IsEvent (world_after db w events) brings.event =
           subst (λ (v : World). IsEvent v brings.event) (ap (λ (r : Run). r.world) same ∙ world_of_run db (first_run w) events) (brings.legal is.fit) in
@@ -136,6 +140,7 @@ ran_line db t ran good (inl quiet) (inr is) =
       failed = is.failed;
       opening = quiet.opening ∙ is.opening;
       run = quiet.run ∙ is.run ∙ ap (λ (l : List Event). Some (run_of_one db is.clock is.failed l)) (sym quiet.events);
+      scripted = subst (All IsScripted) (sym quiet.events) is.scripted;
       legal = subst (LegalRun db (first_world is.clock (is.failed ∷ []))) (sym quiet.events) is.legal;
       fit = quiet.fit is.fit;
       last = is.last;
@@ -151,6 +156,7 @@ ran_line db t ran good (inr (inl opens)) (inl none) =
       failed = opens.failed;
       opening = opens.opening;
       run = opens.run ∙ ap (λ (l : List Event). Some (run_of_one db opens.clock opens.failed l)) (sym nothing);
+      scripted = subst (All IsScripted) (sym nothing) (All-nil IsScripted);
       legal = subst (LegalRun db (first_world opens.clock (opens.failed ∷ []))) (sym nothing) tt;
       fit = opens.fit;
       last = [];
@@ -181,6 +187,7 @@ ended_line db t e good (inr is) =
       failed = is.failed;
       opening = is.opening;
       run = is.run;
+      scripted = is.scripted;
       legal = is.legal;
       fit = is.fit;
       last = ending_text (t.stage.lines + 1) e;
@@ -203,22 +210,26 @@ from_lines db t (r ∷ readings) may = from_lines db (told_after db t r) reading
 may_run : (db : Database) (readings : List Reading) → MayRun db (told db readings)
 may_run db readings = from_lines db first_told readings (inl (record { opening = refl; events = refl; run = refl; told = refl }))
 
--- what each run of a cell of one has, the run of these lines has
-of_run : (P : Database → ℕ → Bool → List Event → Type 0) (db : Database) → ((clock : ℕ) (failed : Bool) (events : List Event) → P db clock failed events) → (readings : List Reading) → OfRun P db readings
+-- what each run of a cell of one has whose events a script may bring
+abbrev pub EachHas : (Database → ℕ → Bool → List Event → Type 0) → Database → Type 0
+EachHas P db = (clock : ℕ) (failed : Bool) (events : List Event) → All IsScripted events → P db clock failed events
+
+-- the run of these lines has it
+of_run : (P : Database → ℕ → Bool → List Event → Type 0) (db : Database) → EachHas P db → (readings : List Reading) → OfRun P db readings
 of_run P db all readings = by (may_run db readings)
   where
     by : MayRun db (told db readings) → OfRun P db readings
     by (inl none) = subst (OfOpening P db (told db readings)) (sym none.opening) (none.run, none.told)
     by (inr is) =
         subst (OfOpening P db (told db readings)) (sym is.opening)
-        (record { run = is.run; legal = is.legal; last = is.last; told = is.told; ended = is.ended }, all is.clock is.failed (told db readings).stage.events)
+        (record { run = is.run; scripted = is.scripted; legal = is.legal; last = is.last; told = is.told; ended = is.ended }, all is.clock is.failed (told db readings).stage.events is.scripted)
 
 -- that there is a run, where both ends tell their content
 abbrev pub HasRun : CellKind → Database → Option (List ℕ) → Option (List ℕ) → Option (List ℕ) → Option (List ℕ) → Held → Type 0
 HasRun k db left later written after disk = IfSome left (λ script. IfSome written (λ before. Runs k db script later before after disk))
 
 -- the disk is the one that was there at the end of the run
-pub of_the_run : (P : Database → ℕ → Bool → List Event → Type 0) (db : Database) → ((clock : ℕ) (failed : Bool) (events : List Event) → P db clock failed events) → (k : CellKind) (left later written after : Option (List ℕ)) (disk there : Held) → disk ≡ there → HasRun k db left later written after there → OfTheRun P k db left later written after disk
+pub of_the_run : (P : Database → ℕ → Bool → List Event → Type 0) (db : Database) → EachHas P db → (k : CellKind) (left later written after : Option (List ℕ)) (disk there : Held) → disk ≡ there → HasRun k db left later written after there → OfTheRun P k db left later written after disk
 of_the_run P db all k left later written after disk there same ran =
     let Q : Held → Type 0 = λ d. OfTheRun P k db left later written after d in subst Q (sym same) (by left written ran)
   where
@@ -268,17 +279,13 @@ HeldAs : Database → List (List ℕ) → List Reading → Held → Type 0
 HeldAs db untold readings disk =
     (more : List Reading) × IsMore untold more × IsSomeAnd disk.files (ReadsRun (told db (readings ++ more)).stage.run) × OfRun IsKept db (readings ++ more)
 
--- each run of these lines keeps what was acknowledged
-abbrev Keeps : Database → Type 0
-Keeps db = (clock : ℕ) (failed : Bool) (events : List Event) → IsKept db clock failed events
-
-held_whole : DatabaseIsDurable → (db : Database) → Keeps db → (untold : List (List ℕ)) (readings : List Reading) (disk : Held) → Holds disk (told db readings).stage → disk.faults ≡ 0 → HeldAs db untold readings disk
+held_whole : DatabaseIsDurable → (db : Database) → EachHas IsKept db → (untold : List (List ℕ)) (readings : List Reading) (disk : Held) → Holds disk (told db readings).stage → disk.faults ≡ 0 → HeldAs db untold readings disk
 unfolding HeldAs
 held_whole law db keeps untold readings disk holds none =
     let P : List Reading → Type 0 = λ l. IsSomeAnd disk.files (ReadsRun (told db l).stage.run) in
     ([], inl refl, subst P (sym (append-nil readings)) (holds_durable law db readings disk holds none), of_run IsKept db keeps (readings ++ []))
 
-held_short : DatabaseIsDurable → (db : Database) → Keeps db → (readings : List Reading) (untold : List (List ℕ)) (disk : Held) → Holds disk (told db readings).stage ⊎ Holds disk (told db (readings ++ sound_readings untold)).stage → disk.faults ≡ 0 → HeldAs db untold readings disk
+held_short : DatabaseIsDurable → (db : Database) → EachHas IsKept db → (readings : List Reading) (untold : List (List ℕ)) (disk : Held) → Holds disk (told db readings).stage ⊎ Holds disk (told db (readings ++ sound_readings untold)).stage → disk.faults ≡ 0 → HeldAs db untold readings disk
 unfolding HeldAs
 held_short law db keeps readings untold disk (inl holds) none = held_whole law db keeps untold readings disk holds none
 held_short law db keeps readings untold disk (inr holds) none = (
@@ -288,7 +295,7 @@ held_short law db keeps readings untold disk (inr holds) none = (
   of_run IsKept db keeps (readings ++ sound_readings untold),
 )
 
-disk_of_run : DatabaseIsDurable → (k : CellKind) (db : Database) → Keeps db → (script : List ℕ) (left : Option (List ℕ)) (before : List ℕ) (after : Option (List ℕ)) (disk : Held) (runs : Runs k db script left before after disk) → IsBegun k → disk.faults ≡ 0 → HeldAs db (untold_of k db script left before after disk runs) (readings_of k db script left before after disk runs) disk
+disk_of_run : DatabaseIsDurable → (k : CellKind) (db : Database) → EachHas IsKept db → (script : List ℕ) (left : Option (List ℕ)) (before : List ℕ) (after : Option (List ℕ)) (disk : Held) (runs : Runs k db script left before after disk) → IsBegun k → disk.faults ≡ 0 → HeldAs db (untold_of k db script left before after disk runs) (readings_of k db script left before after disk runs) disk
 disk_of_run law kind.Done db keeps script left before after disk runs begun none = held_whole law db keeps [] runs.readings disk runs.holds none
 disk_of_run law (kind.ScriptRefused line why) db keeps script left before after disk runs begun none = held_whole law db keeps [] runs.readings disk runs.holds none
 disk_of_run law kind.ReadFault db keeps script left before after disk runs begun none = held_whole law db keeps [] runs.readings disk runs.holds none
@@ -297,7 +304,7 @@ disk_of_run law (kind.Limit line which) db keeps script left before after disk r
 disk_of_run law kind.NoMemory db keeps script left before after disk runs begun none = held_short law db keeps runs.readings runs.more disk runs.holds none
 disk_of_run law (kind.Words place) db keeps script left before after disk runs begun none = absurd begun
 
-pub disk_holds : DatabaseIsDurable → (db : Database) → Keeps db → (k : CellKind) (left later written after : Option (List ℕ)) (disk there : Held) → disk ≡ there → HasRun k db left later written after there → DiskHolds k db left later written after disk
+pub disk_holds : DatabaseIsDurable → (db : Database) → EachHas IsKept db → (k : CellKind) (left later written after : Option (List ℕ)) (disk there : Held) → disk ≡ there → HasRun k db left later written after there → DiskHolds k db left later written after disk
 unfolding HeldAs
 disk_holds law db keeps k left later written after disk there same ran =
     let Q : Held → Type 0 = λ d. DiskHolds k db left later written after d in subst Q (sym same) (by left written ran)

@@ -14,7 +14,7 @@ use Rattle.ubik_node.specs.Database.{durable_of}
 use Rattle.ubik_cell.specs.declared.cells.CellKind.{CellKind}
 use Rattle.ubik_cell.specs.declared.cells.CellKind.TheVariants as kind
 use Rattle.ubik_cell.specs.Run.{Runs}
-use Rattle.ubik_cell.specs.Script.{Opening, Reading, Stop, Told, told, sound_readings}
+use Rattle.ubik_cell.specs.Script.{IsScripted, Opening, Reading, Stop, Told, told, sound_readings}
 use Rattle.ubik_cell.specs.SingleState.{HasState, reply_of}
 use Rattle.ubik_cell.specs.Sites.{Held}
 use Rattle.ubik_cell.specs.Trace.{trace, ending_text}
@@ -24,10 +24,11 @@ abbrev pub IsLast : Option Stop → List ℕ → Type 0
 IsLast None last = last ≡ []
 IsLast (Some stop) last = last ≡ ending_text stop.line stop.ending
 
--- The run that these lines told is that of the opening and the events. Each event is one of the world that those before
--- it leave; and what was told is what is seen of them, and then where the script ended, if it did.
+-- The run that these lines told is that of the opening and the events. Each event is one that a script may bring, and one of
+-- the world that those before it leave; and what was told is what is seen of them, and then where the script ended, if it did.
 pub record IsRunOf (db : Database) (t : Told) (clock : ℕ) (failed : Bool) (events : List Event) : Type 0 where
   pub run : t.stage.run ≡ Some (run_of_one db clock failed events)
+  pub scripted : All IsScripted events
   pub legal : IsRun db (first_world clock (failed ∷ [])) events
   pub last : List ℕ
   pub told : t.text ≡ trace (first_seen 0 (failed ∷ []) ++ seen_of db (first_world clock (failed ∷ [])) events) ++ last
@@ -55,18 +56,20 @@ pub record IsKept (db : Database) (clock : ℕ) (failed : Bool) (events : List E
       IfSome (site_of r.world.sites server) (λ site.
       IsRecorded db (order_of r.announcements) (order_of (run_with r h).announcements) h.acknowledged (record { moment = site.clock; call = call }))
 
--- no reply is that the database is bad
-abbrev pub IsGoodRecord : Happening → Type 0
-IsGoodRecord (Puts server (output.Reply id (reply.BadRecord at))) = ⊥
-IsGoodRecord _ = Unit {0}
+-- no reply is that the bytes asked are no call, that the database is bad, or that memory ran out
+abbrev pub IsProper : Happening → Type 0
+IsProper (Puts server (output.Reply id reply.Malformed)) = ⊥
+IsProper (Puts server (output.Reply id (reply.BadRecord at))) = ⊥
+IsProper (Puts server (output.Reply id reply.NoMemory)) = ⊥
+IsProper _ = Unit {0}
 
 -- Each reply Ok or Rule of an event is what its call means for the state of the order before the event, at the clock of
--- the server; and no reply is that the database is bad.
+-- the server; and no reply is Malformed, BadRecord or NoMemory.
 abbrev pub HasSingleReplies : Database → ℕ → Bool → List Event → Type 0
 HasSingleReplies db clock failed events =
     (front back : List Event) (event : Event) → events ≡ front ++ event ∷ back →
     let r = run_of_one db clock failed front in
-    All (λ seen. IsSeenOf (answered_by (reply_of (order_of r.announcements)) r.world event) seen × IsGoodRecord seen)
+    All (λ seen. IsSeenOf (answered_by (reply_of (order_of r.announcements)) r.world event) seen × IsProper seen)
     (happens db r.world event).seen
 
 -- no cell stands, and nothing was told but where the script ended; or the opening and the events of these lines make their run, and have this

@@ -1,6 +1,6 @@
 -- What a script means: each line is a list of events of the world, given what the lines before it left, or the
 -- script ends there. What met a fault of a disk is the only free choice.
-use Rattle.std.specs.Prelude.{ℕ, ◌+◌, ◌-◌, Bool, true, false, ◌&&◌, nat_lt, nat_le, if◌then◌else◌, Option, Some, None, Result, Ok, Err, List, [], ◌∷◌, ◌++◌, length, map}
+use Rattle.std.specs.Prelude.{◌≡◌, IsSome, ℕ, ◌+◌, ◌-◌, Bool, true, false, ◌&&◌, nat_lt, nat_le, if◌then◌else◌, Option, Some, None, Result, Ok, Err, List, [], ◌∷◌, ◌++◌, length, map}
 use Rattle.db_image.specs.Database.{Database}
 use Rattle.cell_model.specs.Book.{Run, first_run, run_after}
 use Rattle.cell_model.specs.declared.events.NodeEvent.{NodeEvent}
@@ -12,6 +12,7 @@ use Rattle.cell_script.specs.declared.lines.Line.TheVariants as line
 use Rattle.cell_script.specs.declared.lines.Why.{Why}
 use Rattle.cell_script.specs.declared.lines.Why.TheVariants as why
 use Rattle.cell_script.specs.Meaning.{line_of}
+use Rattle.prdb_entries.specs.Reading.{call_of}
 use Rattle.prdb_entries.specs.Words.{call_of_words, is_unbuilt}
 use Rattle.ubik_cell.specs.declared.cells.Ending.{Ending}
 use Rattle.ubik_cell.specs.declared.cells.Ending.TheVariants.{Refused, Limit}
@@ -66,6 +67,18 @@ abbrev pub step_event : Luck → Node → ℕ → NodeEvent → Event
 step_event Sound node server e = Step server e []
 step_event (Faulty made) (Up s) server e = Fault server e [] made
 step_event (Faulty made) node server e = Step server e []
+
+-- what a script asks is a call
+abbrev pub AsksACall : NodeEvent → Type 0
+AsksACall event.BeaconTurn = Unit {0}
+AsksACall event.RecoverTurn = Unit {0}
+AsksACall (event.Ask id call) = IsSome (call_of call)
+
+-- an event that a script may bring: what it asks is a call, and no reply in it is for want of memory
+abbrev pub IsScripted : Event → Type 0
+IsScripted (Tick_all seconds) = Unit {0}
+IsScripted (Step server e short) = AsksACall e × (short ≡ [])
+IsScripted (Fault server e short made) = AsksACall e × (short ≡ [])
 
 abbrev pub is_up : Node → Bool
 is_up Down = false

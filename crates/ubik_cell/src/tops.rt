@@ -13,6 +13,7 @@ ghost use Rattle.prdb_entries.specs.State.{PrState, initial_state};
 ghost use Rattle.ubik_cell.specs.Lines.{IsSound};
 ghost use Rattle.ubik_cell.specs.Run.{SoFar, AtLine, AtEnding, Runs, kind_at, IsInside, IsDoneOrShort};
 ghost use Rattle.ubik_cell.specs.Run as Status;
+ghost use Rattle.cell_model.specs.Causes.{RepliesHaveCauses};
 ghost use Rattle.cell_model.specs.KeptLaws.{AcknowledgedStay, OksAreAcknowledged, RepliesAreSingle, SitesAreSingle};
 ghost use Rattle.cell_model.specs.Laws.{AnnouncementsGrow, DatabaseIsDurable};
 ghost use Rattle.ubik_cell.specs.OneCopy.{DiskHolds, HasOneOrder, HasSingleReplies, IsKept, OfTheRun};
@@ -25,7 +26,7 @@ use crate::sites::LineDone;
 use crate::traces::tell_ending;
 use cell_model::{
     law_acknowledged_stay, law_announcements_grow, law_database_is_durable, law_ok_is_acknowledged,
-    law_replies_are_single, law_sites_are_single,
+    law_replies_are_single, law_replies_have_causes, law_sites_are_single,
 };
 use cell_script::{LineEnd, LineReader, write_whole};
 use db_image::CallReply;
@@ -185,6 +186,7 @@ fn recall_laws()
     ensures acknowledged { OksAreAcknowledged }
     ensures sites { SitesAreSingle }
     ensures replies { RepliesAreSingle }
+    ensures causes { RepliesHaveCauses }
     ensures durable { DatabaseIsDurable }
     ensures means { (s : PrState) (image bytes : List ℕ) (now : ℕ) (call : PrCall) → StandsFor image s → call_of bytes ≡ Some call
         → IsMeant (protection.call image now bytes) image s (meaning s now call) }
@@ -198,6 +200,7 @@ fn recall_laws()
     law_ok_is_acknowledged();
     law_sites_are_single();
     law_replies_are_single();
+    law_replies_have_causes();
     law_database_is_durable();
 }
 

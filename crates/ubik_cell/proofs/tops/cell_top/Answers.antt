@@ -36,7 +36,7 @@ returns-clause-single_copy g c =
     let first : first_held g.D.Disk.files g.D.Disk.faults c.insert.new.self.items ≡ held g.D.Disk.files g.D.Disk.faults c.run_script-disk.result.0 =
     search (rules, c.insert.ensures, c.unwrap.ensures) in
     let laws : DatabaseLaws = record { means = c.recall_laws.ensures.means; no_call = c.recall_laws.ensures.no_call; first = c.recall_laws.ensures.first } in
-    of_the_run HasSingleReplies protection (single_replies laws c.recall_laws.ensures.replies) c.run_script-disk.result.1 _ _ _ _ _ _ first c.run_script-disk.ensures.runs
+    of_the_run HasSingleReplies protection (single_replies laws c.recall_laws.ensures.replies c.recall_laws.ensures.causes) c.run_script-disk.result.1 _ _ _ _ _ _ first c.run_script-disk.ensures.runs
 
 pub returns-clause-disk : goal.returns-clause-disk
 returns-clause-disk g c =
