@@ -45,6 +45,10 @@ pub record Elapses (before : ℕ) (past since : ℕ → Files → Type 0) (may_l
   pub nothing_else : (t : ℕ) (c : Files) → t ≤ before → since t c → past t c ⊎ may_leave c
   pub keeps : (t : ℕ) (c : Files) → t ≤ before → past t c → since t c
 
+-- The moments begin anew: what a crash may have left since any step count is what one may leave now.
+abbrev pub BeginsAnew : (since : ℕ → Files → Type 0) → (may_leave : Files → Type 0) → Type 0
+BeginsAnew since may_leave = (t : ℕ) (c : Files) → since t c → may_leave c
+
 -- a call that changes no file leaves what a crash may leave, and what one may have left
 pub record LeavesSame (before now : Files → Type 0) (past since : ℕ → Files → Type 0) : Type 0 where
   pub no_more : (c : Files) → now c → before c

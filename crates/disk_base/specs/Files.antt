@@ -6,7 +6,6 @@ use Rattle.disk_base.specs.declared.disks.DiskEnd.{DiskEnd}
 use Rattle.disk_base.specs.declared.disks.DiskEnd.TheVariants as ends
 use Rattle.disk_base.specs.declared.disks.LenEnd.{LenEnd}
 use Rattle.disk_base.specs.declared.disks.LenEnd.TheVariants as lens
-use Rattle.disk_base.specs.declared.disks.Fill.{Fill}
 
 pub record Files : Type 0 where
   pub database : List ℕ
@@ -43,14 +42,3 @@ OnKnown lens.Failed P = Unit {0}
 -- no file loses room
 abbrev pub KeepsRoom : (FileNo → ℕ) → (FileNo → ℕ) → Type 0
 KeepsRoom before after = (f : FileNo) → before f ≤ after f
-
--- whether a disk is to stop, after how many changing calls, and what it then leaves
-pub data Stop : Type 0 where
-  Unarmed : Stop
-  Armed : (calls : ℕ) → (fill : Fill) → Stop
-  Stopped : (fill : Fill) → Stop
-
-abbrev pub IsStopped : Stop → Type 0
-IsStopped Unarmed = ⊥
-IsStopped (Armed _ _) = ⊥
-IsStopped (Stopped _) = Unit {0}

@@ -3,6 +3,7 @@ pub mod Count
 pub mod Crash
 pub mod FileDisk
 pub mod Files
+pub mod LendsFile
 pub mod MemCalls
 pub mod MemDisk
 pub mod MemFile

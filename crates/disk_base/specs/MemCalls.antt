@@ -5,9 +5,9 @@ use Rattle.disk_base.specs.declared.memory_calls.StopState.{StopState}
 use Rattle.disk_base.specs.declared.memory_calls.StopState.TheVariants as states
 use Rattle.disk_base.specs.declared.memory_calls.Passage.{Passage}
 use Rattle.disk_base.specs.declared.memory_calls.Passage.TheVariants.{Passes, Stops, Fails}
-use Rattle.disk_base.specs.Files.{Stop}
-use Rattle.disk_base.specs.Files.Stop.{Unarmed, Armed, Stopped}
 use Rattle.disk_base.specs.Plan.{fails_next}
+use Rattle.disk_base.specs.Stops.{Stop}
+use Rattle.disk_base.specs.Stops.Stop.{Unarmed, Armed, Stopped}
 
 -- a state as the disk's meaning sees it
 abbrev pub stop_in : StopState → Stop

@@ -12,10 +12,11 @@ use Rattle.disk_base.specs.declared.memory_files.MemFile.{MemFile}
 use Rattle.disk_base.specs.declared.memory_disks.MemFiles.{MemFiles}
 use Rattle.disk_base.specs.declared.memory_disks.MemDisk.{MemDisk}
 use Rattle.disk_base.specs.declared.plans.Plan.{Plan}
-use Rattle.disk_base.specs.Files.{Files, Stop}
+use Rattle.disk_base.specs.Files.{Files}
 use Rattle.disk_base.specs.MemFile.{bytes_of, room_of, state_in}
 use Rattle.disk_base.specs.MemCalls.{stop_of, passage_of, fails_now}
 use Rattle.disk_base.specs.Moments.{Moment, MayLeave, LeftSince}
+use Rattle.disk_base.specs.Stops.{Stop}
 
 abbrev pub file_at : MemFiles → FileNo → MemFile
 file_at files Database = files.database

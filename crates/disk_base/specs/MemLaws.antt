@@ -1,6 +1,6 @@
 -- The laws of a disk in memory: its moments, that a crash may leave what a read gives, and that it has room for it.
-use Rattle.std.specs.Prelude.{◌≡◌, ℕ, ◌+◌, ◌<◌, ◌≤◌, List, [], ◌∷◌, Some, IsSome, IfSome, length, ◌↔◌}
-use Rattle.std.proofs.Common.{subst, inl, inr}
+use Rattle.std.specs.Prelude.{◌≡◌, ℕ, ◌+◌, ◌<◌, ◌≤◌, Bool, true, List, [], ◌∷◌, Some, IsSome, IfSome, length, ◌↔◌}
+use Rattle.std.proofs.Common.{subst, inl, inr, refl}
 use Rattle.std.proofs.Math.Nat.{not-le_of_lt, lt_of_lt_of_le, le_of_lt}
 use Rattle.std.proofs.Math.Numerals.{lt-add-one}
 use Rattle.std.proofs.lemmas.Option.{same_Some}
@@ -9,7 +9,7 @@ use Rattle.disk_base.specs.declared.disks.FileNo.{FileNo}
 use Rattle.disk_base.specs.declared.disks.FileNo.TheVariants.{Database, Log, Incoming}
 use Rattle.disk_base.specs.Files.{Files, file_of}
 use Rattle.disk_base.specs.Moments.{Moment, MayLeave, LeftSince}
-use Rattle.disk_base.specs.MemDisk.{now_of, moment_of, disk_room, disk_steps, disk_may_leave, disk_left_since}
+use Rattle.disk_base.specs.MemDisk.{now_of, moment_of, disk_room, disk_steps, disk_may_leave, disk_left_since, disk_tells}
 
 -- a moment since then is now
 pub counts_now : (disk : MemDisk) (t : ℕ) (c : Files) → t ≤ disk_steps disk → disk_may_leave disk c → disk_left_since disk t c
@@ -45,6 +45,10 @@ has_room disk Incoming = disk.files.incoming.has_room
 -- it tells both
 pub tells_both : (disk : MemDisk) → IsSome (Some (moment_of disk)) → IsSome (Some (now_of disk))
 tells_both disk told = told
+
+-- it tells its files at all times
+pub tells_now : (disk : MemDisk) → IsSome (Some (now_of disk)) → disk_tells disk ≡ true
+tells_now disk told = refl
 
 -- a crash may leave what the pending calls make of what was last synced, and nothing else
 pub leaves_pending : (disk : MemDisk) → IfSome (Some (moment_of disk)) (λ moment. (c : Files) → disk_may_leave disk c ↔ MayLeave moment c)

@@ -4,10 +4,20 @@ use Rattle.std.specs.Option.{option_map}
 use Rattle.disk_base.specs.declared.disks.FileNo.{FileNo}
 use Rattle.disk_base.specs.declared.disks.Fill.{Fill}
 use Rattle.disk_base.specs.declared.disks.Fill.TheVariants.{Old, New, Byte}
-use Rattle.disk_base.specs.Files.{Files, file_of, with_file, laid, Stop}
-use Rattle.disk_base.specs.Files.Stop.{Unarmed, Armed, Stopped}
+use Rattle.disk_base.specs.Files.{Files, file_of, with_file, laid}
 use Rattle.disk_base.specs.Moments.{FileState, Moment, after_write}
 use Rattle.disk_base.specs.Touches.{IsFilled}
+
+-- whether a disk is to stop, after how many changing calls, and what it then leaves
+pub data Stop : Type 0 where
+  Unarmed : Stop
+  Armed : (calls : ℕ) → (fill : Fill) → Stop
+  Stopped : (fill : Fill) → Stop
+
+abbrev pub IsStopped : Stop → Type 0
+IsStopped Unarmed = ⊥
+IsStopped (Armed _ _) = ⊥
+IsStopped (Stopped _) = Unit {0}
 
 -- the stop after one more changing call
 abbrev pub after_change : Stop → Stop

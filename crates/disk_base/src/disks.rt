@@ -1,11 +1,11 @@
 //! The disk of a server: three files, written and synced.
 ghost use Rattle.std.specs.Prelude.{◌≡◌, ◌+◌, ◌<◌, ◌≤◌, ◌⊎◌, ℕ, List, Option, Bool, IsTrue, true, Some, IsSome, IfSome, length, take, drop, ◌↔◌};
 ghost use Rattle.std.specs.Option.{option_map};
-ghost use Rattle.disk_base.specs.Files.{Files, file_of, with_file, laid, OnDone, OnKnown, KeepsRoom, Stop, IsStopped};
-ghost use Rattle.disk_base.specs.Files.Stop.{Unarmed};
-ghost use Rattle.disk_base.specs.Stops.{after_change, armed, fill_left, StopsNext, IsLeftBy, Keeps, IsWritten};
+ghost use Rattle.disk_base.specs.Files.{Files, file_of, with_file, laid, OnDone, OnKnown, KeepsRoom};
+ghost use Rattle.disk_base.specs.Stops.Stop.{Unarmed};
+ghost use Rattle.disk_base.specs.Stops.{Stop, IsStopped, after_change, armed, fill_left, StopsNext, IsLeftBy, Keeps, IsWritten};
 ghost use Rattle.disk_base.specs.Count.{HasCause};
-ghost use Rattle.disk_base.specs.Crash.{Torn, CutShort, InFile, Follows, Narrows, Only, OnlyIn, Elapses, LeavesSame};
+ghost use Rattle.disk_base.specs.Crash.{Torn, CutShort, InFile, Follows, Narrows, Only, OnlyIn, Elapses, LeavesSame, BeginsAnew};
 ghost use Rattle.disk_base.specs.Moments.{Moment, MayLeave, after_write, after_cut, after_sync, all_at_rest};
 ghost use Rattle.disk_base.specs.declared.disks.FileNo.{FileNo};
 
@@ -101,6 +101,9 @@ pub trait Disk {
 
     /// A disk that tells what is pending tells its files.
     ghost tells_both: { (disk : Self) → IsSome (pending disk) → IsSome (files disk) };
+
+    /// A disk that tells its files now is one that tells them.
+    ghost tells_now: { (disk : Self) → IsSome (files disk) → tells disk ≡ true };
 
     /// A crash may leave what the pending calls make of what was last synced, and nothing else.
     ghost leaves_pending: { (disk : Self) → IfSome (pending disk) (λ moment. (c : Files) → may_leave disk c ↔ MayLeave moment c) };
@@ -215,8 +218,8 @@ pub trait StopDisk: Disk {
     fn stopped(&self) -> bool
         ensures { IsTrue result ↔ IsStopped (Self.stop self.now) };
 
-    /// Ends the stop: the files are opened anew, and are all synced. A disk that did not stop is revived as with
-    /// `Fill::Old`.
+    /// Ends the stop: the files are opened anew, and are all synced. Its moments begin anew, and what was reserved
+    /// is not kept. A disk that did not stop is revived as with `Fill::Old`.
     fn revive(&mut self)
         ensures unarmed { Self.stop self.new ≡ Unarmed }
         ensures left { IfSome (Self.files self.new) (λ fs. Self.may_leave self.old fs × Only fs (Self.may_leave self.new)) }
@@ -224,6 +227,7 @@ pub trait StopDisk: Disk {
             (λ fs. IsLeftBy (fill_left (Self.stop self.old)) moment now fs))) }
         ensures at_rest { IsSome (Self.pending self.old) → Self.pending self.new ≡ option_map all_at_rest (Self.files self.new) }
         ensures told { Self.tells self.old ≡ true → IsSome (Self.files self.new) }
+        ensures begins_anew { BeginsAnew (Self.left_since self.new) (Self.may_leave self.new) }
         ensures tells { Self.tells self.new ≡ Self.tells self.old }
         ensures steps { Self.steps self.new ≡ Self.steps self.old }
         ensures faults { Self.faults self.new ≡ Self.faults self.old };

@@ -119,7 +119,7 @@ fn open_file<R: Files<File = File> + AllocGlobal>(
 }
 
 impl Disk for FileDisk {
-    ghost use Rattle.disk_base.specs.Files.Stop.{Unarmed};
+    ghost use Rattle.disk_base.specs.Stops.Stop.{Unarmed};
     ghost use Rattle.disk_base.specs.FileDisk.{file_steps, file_faults};
 
     ghost files = { λ disk. None };
@@ -149,6 +149,8 @@ impl Disk for FileDisk {
     ghost has_room = { λ disk f. tt };
 
     ghost tells_both = { λ disk told. told };
+
+    ghost tells_now = { λ disk told. told };
 
     ghost leaves_pending = { λ disk. tt };
 

@@ -2,9 +2,8 @@
 ghost use Rattle.std.specs.Prelude.{◌≡◌, ◌≢◌, ◌+◌, ◌<◌, ◌≤◌, IfOk, IsTrue, ◌↔◌};
 ghost use Rattle.disk_base.specs.Plan.{IsFresh, after_call};
 ghost use Rattle.disk_base.specs.Count.{HasCause};
-ghost use Rattle.disk_base.specs.Files.{IsStopped};
-ghost use Rattle.disk_base.specs.Files.Stop.{Unarmed};
-ghost use Rattle.disk_base.specs.Stops.{after_change, armed, fill_left};
+ghost use Rattle.disk_base.specs.Stops.{IsStopped, after_change, armed, fill_left};
+ghost use Rattle.disk_base.specs.Stops.Stop.{Unarmed};
 ghost use Rattle.disk_base.specs.MemCalls.{stop_of, fails_now, passage_of, unless, KeepsTallies};
 
 use crate::Fill;

@@ -1,10 +1,12 @@
 //! A disk in memory, whose calls fail by their numbers, and which can be told to stop.
 ghost use Rattle.std.specs.Prelude.{◌≡◌, ◌≢◌, ◌+◌, ◌<◌, ◌≤◌, ◌⊎◌, ℕ, List, ◌∷◌, Some, Option, Bool, true, IfOk, IfSome, IsSome, IsTrue, OnOk, OnErr, length, take, drop, ◌↔◌};
-ghost use Rattle.disk_base.specs.Files.{no_files, file_of, with_file, laid, OnDone, OnKnown, KeepsRoom, IsStopped};
-ghost use Rattle.disk_base.specs.Files.Stop.{Unarmed};
+ghost use Rattle.disk_base.specs.Files.{no_files, file_of, with_file, laid, OnDone, OnKnown, KeepsRoom};
+ghost use Rattle.disk_base.specs.Stops.{IsStopped};
+ghost use Rattle.disk_base.specs.Stops.Stop.{Unarmed};
+ghost use Rattle.std.specs.Borrow.{sem};
 ghost use Rattle.disk_base.specs.Count.{HasCause};
 ghost use Rattle.disk_base.specs.declared.disks.FileNo.{FileNo};
-ghost use Rattle.disk_base.specs.Crash.{Torn, CutShort, InFile, Follows, Narrows, Only, OnlyIn, Elapses, LeavesSame};
+ghost use Rattle.disk_base.specs.Crash.{Torn, CutShort, InFile, Follows, Narrows, Only, OnlyIn, Elapses, LeavesSame, BeginsAnew};
 
 use crate::memory_calls::{MemCalls, Passage};
 use crate::memory_files::MemFile;
@@ -22,6 +24,7 @@ pub(crate) struct MemFiles {
 }
 
 impl MemFiles {
+    ghost use Rattle.disk_base.specs.LendsFile.{LendsFile};
     ghost use Rattle.disk_base.specs.MemDisk.{file_at, now_in, moment_in, room_in};
     ghost use Rattle.disk_base.specs.Stops.{IsLeftBy};
     ghost use Rattle.disk_base.specs.Moments.{after_write, after_cut, after_sync, all_at_rest};
@@ -35,6 +38,18 @@ impl MemFiles {
             database: MemFile::new(alloc),
             log: MemFile::new(alloc),
             incoming: MemFile::new(alloc),
+        }
+    }
+
+    /// The caller changes the file in its place.
+    fn file_mut(&mut self, f: FileNo) -> &mut MemFile
+        ensures* lends { sem 𝓛 (LendsFile self.entry f result) }
+        ensures now { result.now ≡ file_at self.old f }
+    {
+        match f {
+            FileNo::Database => &mut self.database,
+            FileNo::Log => &mut self.log,
+            FileNo::Incoming => &mut self.incoming,
         }
     }
 
@@ -55,11 +70,7 @@ impl MemFiles {
         ensures moment { moment_in self.new ≡ moment_in self.old }
         ensures room { KeepsRoom (room_in self.old) (room_in self.new) }
     {
-        match f {
-            FileNo::Database => self.database.reserve(len),
-            FileNo::Log => self.log.reserve(len),
-            FileNo::Incoming => self.incoming.reserve(len),
-        }
+        self.file_mut(f).reserve(len)
     }
 
     fn write_at(&mut self, f: FileNo, at: u64, bytes: &[u8]) -> Result<(), NoMemory>
@@ -72,11 +83,7 @@ impl MemFiles {
         ensures unmarked { OnErr result (moment_in self.new ≡ moment_in self.old) }
         ensures room { KeepsRoom (room_in self.old) (room_in self.new) }
     {
-        match f {
-            FileNo::Database => self.database.write_at(at, bytes),
-            FileNo::Log => self.log.write_at(at, bytes),
-            FileNo::Incoming => self.incoming.write_at(at, bytes),
-        }
+        self.file_mut(f).write_at(at, bytes)
     }
 
     fn cut(&mut self, f: FileNo, len: u64) -> Result<(), NoMemory>
@@ -87,11 +94,7 @@ impl MemFiles {
         ensures unmarked { OnErr result (moment_in self.new ≡ moment_in self.old) }
         ensures room { KeepsRoom (room_in self.old) (room_in self.new) }
     {
-        match f {
-            FileNo::Database => self.database.cut(len),
-            FileNo::Log => self.log.cut(len),
-            FileNo::Incoming => self.incoming.cut(len),
-        }
+        self.file_mut(f).cut(len)
     }
 
     fn sync(&mut self, f: FileNo)
@@ -99,17 +102,13 @@ impl MemFiles {
         ensures moment { moment_in self.new ≡ after_sync f (file_of (now_in self.old) f) (moment_in self.old) }
         ensures room { KeepsRoom (room_in self.old) (room_in self.new) }
     {
-        match f {
-            FileNo::Database => self.database.sync(),
-            FileNo::Log => self.log.sync(),
-            FileNo::Incoming => self.incoming.sync(),
-        }
+        self.file_mut(f).sync()
     }
 
     fn revive(&mut self, fill: Fill)
         ensures left { IsLeftBy fill (moment_in self.old) (now_in self.old) (now_in self.new) }
         ensures moment { moment_in self.new ≡ all_at_rest (now_in self.new) }
-        ensures room { KeepsRoom (room_in self.old) (room_in self.new) }
+        ensures room { (f : FileNo) → room_in self.new f ≡ length (file_of (now_in self.new) f) }
     {
         self.database.revive(fill);
         self.log.revive(fill);
@@ -193,7 +192,7 @@ impl Disk for MemDisk {
     ghost use Rattle.disk_base.specs.MemDisk.{now_of, moment_of, disk_room, disk_stop, disk_plan, disk_steps, disk_faults};
     ghost use Rattle.disk_base.specs.MemDisk.{disk_may_leave, disk_left_since, disk_tells};
     ghost use Rattle.disk_base.specs.MemDisk.{disk_fails, disk_passage, done_unless, known_unless, end_of, FailsUnlessPassed};
-    ghost use Rattle.disk_base.specs.MemLaws.{counts_now, only_now, may_be_read, has_room, tells_both, leaves_pending};
+    ghost use Rattle.disk_base.specs.MemLaws.{counts_now, only_now, may_be_read, has_room, tells_both, tells_now, leaves_pending};
 
     ghost files = { λ disk. Some (now_of disk) };
 
@@ -222,6 +221,8 @@ impl Disk for MemDisk {
     ghost has_room = { has_room };
 
     ghost tells_both = { tells_both };
+
+    ghost tells_now = { tells_now };
 
     ghost leaves_pending = { leaves_pending };
 
@@ -400,6 +401,8 @@ impl StopDisk for MemDisk {
         ensures by_fill { IsLeftBy (fill_left (disk_stop self.old)) (moment_of self.old) (now_of self.old) (now_of self.new) }
         ensures at_rest { Some (moment_of self.new) ≡ Some (all_at_rest (now_of self.new)) }
         ensures told { disk_tells self.old ≡ true → IsSome (Some (now_of self.new)) }
+        ensures begins_anew { BeginsAnew (disk_left_since self.new) (disk_may_leave self.new) }
+        ensures room { (f : FileNo) → disk_room self.new f ≡ length (file_of (now_of self.new) f) }
         ensures tells { disk_tells self.new ≡ disk_tells self.old }
         ensures counted { disk_plan self.new ≡ disk_plan self.old }
     {

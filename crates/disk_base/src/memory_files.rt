@@ -106,6 +106,7 @@ impl MemFile {
         let at = at as usize;
         lay(&mut self.bytes, at, bytes)?;
         let len = bytes.len();
+        // Its place was reserved above, so it needs no memory.
         let _ = self.touches.push(Touch::Wrote { at, len });
         Ok(())
     }
@@ -137,12 +138,13 @@ impl MemFile {
         self.touches.clear();
     }
 
-    /// What a stop leaves becomes what a read gives and what was last synced.
+    /// What a stop leaves becomes what a read gives and what was last synced. What was reserved past it is not
+    /// kept: the bytes that were last synced have memory of their own.
     pub(crate) fn revive(&mut self, fill: Fill)
         ensures left { IsLeft fill (state_in self.old) (bytes_of self.old) (bytes_of self.new) }
         ensures synced { synced_of self.new ≡ bytes_of self.new }
         ensures touches { touches_of self.new ≡ [] }
-        ensures room { room_of self.new ≡ room_of self.old }
+        ensures room { room_of self.new ≡ length (bytes_of self.new) }
     {
         match fill {
             Fill::Old => {
@@ -154,6 +156,7 @@ impl MemFile {
             Fill::Byte(byte) => fill_all(&mut self.bytes, &self.touches, byte),
         }
         self.sync();
+        self.room = self.bytes.len() as u64;
     }
 }
 

@@ -14,15 +14,19 @@ enum Change {
     Sync(FileNo),
 }
 
-/// Two files, of which the one is written, cut and written again between its syncs.
-fn history() -> [Change; 8] {
+/// Three files, of which the first is written, cut and written again between its syncs, and the third is synced
+/// between its writes.
+fn history() -> [Change; 11] {
     [
         Change::Write(FileNo::Database, 0, b"abcdef"),
         Change::Write(FileNo::Log, 0, b"12"),
         Change::Sync(FileNo::Database),
         Change::Write(FileNo::Database, 1, b"WX"),
+        Change::Write(FileNo::Incoming, 0, b"pqr"),
         Change::Cut(FileNo::Database, 2),
+        Change::Sync(FileNo::Incoming),
         Change::Write(FileNo::Database, 2, b"YZ"),
+        Change::Write(FileNo::Incoming, 2, b"RS"),
         Change::Sync(FileNo::Log),
         Change::Write(FileNo::Log, 1, b"345"),
     ]
@@ -84,11 +88,12 @@ impl Plain {
     }
 }
 
-/// The two files of the history.
+/// The three files of the history.
 #[derive(Drop)]
 struct Replay {
     database: Plain,
     log: Plain,
+    incoming: Plain,
 }
 
 impl Replay {
@@ -96,13 +101,15 @@ impl Replay {
         Replay {
             database: Plain::new(alloc),
             log: Plain::new(alloc),
+            incoming: Plain::new(alloc),
         }
     }
 
     fn file(&mut self, f: FileNo) -> &mut Plain {
         match f {
+            FileNo::Database => &mut self.database,
             FileNo::Log => &mut self.log,
-            FileNo::Database | FileNo::Incoming => &mut self.database,
+            FileNo::Incoming => &mut self.incoming,
         }
     }
 
@@ -134,7 +141,7 @@ fn call<D: Disk>(rt: &impl Abort, disk: &mut D, change: Change) -> DiskEnd {
     }
 }
 
-/// Compares what the two files hold.
+/// Compares what the three files hold.
 fn expect_files<D: Disk>(
     rt: &impl Abort,
     alloc: Global,
@@ -144,8 +151,10 @@ fn expect_files<D: Disk>(
 ) -> Result<(), Fail> {
     let database = replay.database.left(fill)?;
     let log = replay.log.left(fill)?;
+    let incoming = replay.incoming.left(fill)?;
     expect_file(rt, alloc, disk, FileNo::Database, &database)?;
-    expect_file(rt, alloc, disk, FileNo::Log, &log)
+    expect_file(rt, alloc, disk, FileNo::Log, &log)?;
+    expect_file(rt, alloc, disk, FileNo::Incoming, &incoming)
 }
 
 /// The disk stops in the changing call of this number, counted from 0. A write that stops is done.
@@ -173,7 +182,7 @@ fn expect_stop(rt: &impl Abort, alloc: Global, number: u32, fill: Fill) -> Resul
 
 #[test]
 fn a_stop_in_each_call_leaves_what_its_fill_says(rt: HostRuntime) -> Result<(), Fail> {
-    for number in 0..8 {
+    for number in 0..11 {
         for fill in [Fill::Old, Fill::New, Fill::Byte(b'.')] {
             expect_stop(&rt, rt.alloc(), number, fill)?;
         }
@@ -208,7 +217,7 @@ fn expect_failure(rt: &impl Abort, alloc: Global, number: u64) -> Result<(), Fai
 
 #[test]
 fn each_failed_call_changes_nothing(rt: HostRuntime) -> Result<(), Fail> {
-    for number in 1..15 {
+    for number in 1..20 {
         expect_failure(&rt, rt.alloc(), number)?;
     }
     Ok(())

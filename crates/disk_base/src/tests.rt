@@ -1,7 +1,7 @@
 //! The forms in memory, and the adapters, each through its trait.
 ghost use Rattle.std.specs.Prelude.{◌≡◌, ◌+◌, ◌<◌, ◌^◌, IfOk, IsSome, true, length};
 ghost use Rattle.std.specs.Option.{option_map};
-ghost use Rattle.disk_base.specs.Files.Stop.{Unarmed, Stopped};
+ghost use Rattle.disk_base.specs.Stops.Stop.{Unarmed, Stopped};
 ghost use Rattle.disk_base.specs.Moments.{all_at_rest};
 
 use crate::{
@@ -149,6 +149,38 @@ fn a_cut_that_stops_is_not_done(rt: HostRuntime) -> Result<(), Fail> {
     assert_eq!(rt; disk.cut(FileNo::Log, 0), DiskEnd::Failed);
     disk.revive();
     expect_file(&rt, rt.alloc(), &mut disk, FileNo::Log, b"ab")
+}
+
+/// A disk whose fifth call, a write, fails by its number, and which stops after so many changing calls more. The
+/// sync that follows fails in each case, and the files are left as they were read.
+fn expect_planned_and_armed(
+    rt: &impl Abort,
+    alloc: Global,
+    calls: u32,
+    stopped: bool,
+    wanted: &[u8],
+) -> Result<(), Fail> {
+    let f = FileNo::Log;
+    let mut disk = MemDisk::new(alloc, &[5])?;
+    assert_eq!(rt; put(rt, &mut disk, f, 0, b"ab"), DiskEnd::Done);
+    assert_eq!(rt; disk.sync(f), DiskEnd::Done);
+    disk.arm(calls, Fill::New);
+    assert_eq!(rt; put(rt, &mut disk, f, 2, b"c"), DiskEnd::Failed);
+    assert_eq!(rt; disk.stopped(), stopped);
+    assert_eq!(rt; disk.sync(f), DiskEnd::Failed);
+    assert!(rt; disk.stopped());
+    disk.revive();
+    expect_file(rt, alloc, &mut disk, f, wanted)
+}
+
+#[test]
+fn a_stop_comes_in_the_call_that_fails_by_its_number(rt: HostRuntime) -> Result<(), Fail> {
+    expect_planned_and_armed(&rt, rt.alloc(), 0, true, b"abc")
+}
+
+#[test]
+fn a_call_that_failed_by_its_number_was_let_pass(rt: HostRuntime) -> Result<(), Fail> {
+    expect_planned_and_armed(&rt, rt.alloc(), 1, false, b"ab")
 }
 
 /// Stops a disk in a sync.

@@ -1,8 +1,9 @@
 -- The disks of a cell before its script.
 use Rattle.std.specs.Prelude.{◌≡◌, ℕ, Option, Some, None, List, [], ◌∷◌}
 use Rattle.std.specs.List.{All}
-use Rattle.disk_base.specs.Files.{Files, no_files, Stop}
-use Rattle.disk_base.specs.Files.Stop.{Unarmed}
+use Rattle.disk_base.specs.Files.{Files, no_files}
+use Rattle.disk_base.specs.Stops.{Stop}
+use Rattle.disk_base.specs.Stops.Stop.{Unarmed}
 use Rattle.ubik_cell.specs.Sites.{Held, held}
 
 -- an empty disk that is not to stop, and has not failed
