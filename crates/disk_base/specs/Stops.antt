@@ -1,5 +1,5 @@
 -- When a disk stops, and what a stop leaves.
-use Rattle.std.specs.Prelude.{◌≡◌, ℕ, ◌-◌, ◌==◌, if◌then◌else◌, List, length, Option}
+use Rattle.std.specs.Prelude.{◌≡◌, ℕ, zero, suc, ◌+◌, ◌-◌, ◌==◌, if◌then◌else◌, List, length, Option}
 use Rattle.std.specs.Option.{option_map}
 use Rattle.disk_base.specs.declared.disks.FileNo.{FileNo}
 use Rattle.disk_base.specs.declared.disks.Fill.{Fill}
@@ -24,6 +24,17 @@ abbrev pub after_change : Stop → Stop
 after_change Unarmed = Unarmed
 after_change (Armed calls fill) = if calls == 0 then Stopped fill else Armed (calls - 1) fill
 after_change (Stopped fill) = Stopped fill
+
+-- the stop after so many changing calls
+abbrev pub after_changes : ℕ → Stop → Stop
+after_changes zero stop = stop
+after_changes (suc calls) stop = after_change (after_changes calls stop)
+
+-- a run of calls, by the step count before and after it: the stop is that after each of its changing calls
+pub record Advances (before after : ℕ) (old new : Stop) : Type 0 where
+  pub calls : ℕ
+  pub steps : after ≡ before + calls
+  pub stop : new ≡ after_changes calls old
 
 -- the disk stops in its next changing call
 abbrev pub StopsNext : Stop → Type 0

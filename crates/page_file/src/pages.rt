@@ -2,7 +2,8 @@
 ghost use Rattle.std.specs.Prelude.{◌≡◌, ◌+◌, ◌-◌, ◌<◌, ◌≤◌, ◌^◌, Some, None, IsSome, IfSome, OnOk, OnErr, IfOk, IfErr, IsErr, IsErrOf, length, take, drop, max, min, unwrap_or};
 ghost use Rattle.std.specs.Option.{option_map};
 ghost use Rattle.ubik_types.specs.Version.{IsVersion, zero_version};
-ghost use Rattle.disk_base.specs.Files.{with_file, laid, KeepsRoom};
+ghost use Rattle.disk_base.specs.Files.{with_file, laid, KeepsRoom, IsStopped};
+ghost use Rattle.disk_base.specs.Stops.{after_change};
 ghost use Rattle.disk_base.specs.Count.{HasCause};
 ghost use Rattle.disk_base.specs.Crash.{Torn, CutShort, InFile, OnlyIn, Follows, Narrows, Elapses, LeavesSame};
 ghost use Rattle.page_file.specs.Label.{label, version_of_database};
@@ -54,6 +55,8 @@ impl Pages {
         ensures room { KeepsRoom (D.room disk.old) (D.room disk.new) }
         ensures steps { D.steps disk.new ≡ D.steps disk.old }
         ensures crash { LeavesSame (D.may_leave disk.old) (D.may_leave disk.new) (D.left_since disk.old) (D.left_since disk.new) }
+        ensures stop { D.stop disk.new ≡ D.stop disk.old }
+        ensures stopped { IsStopped (D.stop disk.old) → IsErrOf result PageFault.DiskFault }
         ensures tells { D.tells disk.new ≡ D.tells disk.old }
         ensures no_memory { ¬ IsErrOf result PageFault.NoMemory }
         ensures cause { HasCause (D.faults disk.old) (D.faults disk.new) (IsErrOf result PageFault.DiskFault) }
@@ -87,6 +90,8 @@ impl Pages {
         ensures room { KeepsRoom (D.room disk.old) (D.room disk.new) }
         ensures steps { D.steps disk.new ≡ D.steps disk.old }
         ensures crash { LeavesSame (D.may_leave disk.old) (D.may_leave disk.new) (D.left_since disk.old) (D.left_since disk.new) }
+        ensures stop { D.stop disk.new ≡ D.stop disk.old }
+        ensures stopped { IsStopped (D.stop disk.old) → IsErrOf result PageFault.DiskFault }
         ensures tells { D.tells disk.new ≡ D.tells disk.old }
         ensures no_memory { ¬ IsErrOf result PageFault.NoMemory }
         ensures cause { HasCause (D.faults disk.old) (D.faults disk.new) (IsErrOf result PageFault.DiskFault) }
@@ -132,6 +137,8 @@ impl Pages {
         ensures room { KeepsRoom (D.room disk.old) (D.room disk.new) }
         ensures steps { D.steps disk.new ≡ D.steps disk.old }
         ensures crash { LeavesSame (D.may_leave disk.old) (D.may_leave disk.new) (D.left_since disk.old) (D.left_since disk.new) }
+        ensures stop { D.stop disk.new ≡ D.stop disk.old }
+        ensures stopped { 0 < length buf.old → IsStopped (D.stop disk.old) → IsErrOf result PageFault.DiskFault }
         ensures tells { D.tells disk.new ≡ D.tells disk.old }
         ensures fault { IfErr result IsNoLabelFault }
         ensures cause { HasCause (D.faults disk.old) (D.faults disk.new) (IsErrOf result PageFault.DiskFault) }
@@ -151,6 +158,7 @@ impl Pages {
         ensures room { KeepsRoom (D.room disk.old) (D.room disk.new) }
         ensures steps { D.steps disk.new ≡ D.steps disk.old }
         ensures crash { LeavesSame (D.may_leave disk.old) (D.may_leave disk.new) (D.left_since disk.old) (D.left_since disk.new) }
+        ensures stop { D.stop disk.new ≡ D.stop disk.old }
         ensures tells { D.tells disk.new ≡ D.tells disk.old }
         ensures faults { D.faults disk.new ≡ D.faults disk.old }
     {
@@ -181,6 +189,8 @@ impl Pages {
         ensures steps { D.steps disk.new ≡ D.steps disk.old + 1 }
         ensures crash { Follows (InFile FileNo.Database (Torn (64 + at) (length bytes.now))) (D.may_leave disk.old) (D.may_leave disk.new) }
         ensures time { Elapses (D.steps disk.old) (D.left_since disk.old) (D.left_since disk.new) (D.may_leave disk.new) }
+        ensures stop { D.stop disk.new ≡ after_change (D.stop disk.old) }
+        ensures stopped { IsStopped (D.stop disk.new) → IsErrOf result PageFault.DiskFault }
         ensures tells { D.tells disk.new ≡ D.tells disk.old }
         ensures fault { IfErr result (λ fault. fault ≡ PageFault.DiskFault) }
         ensures cause { HasCause (D.faults disk.old) (D.faults disk.new) (IsErr result) }
@@ -210,6 +220,8 @@ impl Pages {
         ensures steps { D.steps disk.new ≡ D.steps disk.old + 1 }
         ensures crash { Follows (InFile FileNo.Database (CutShort (64 + len))) (D.may_leave disk.old) (D.may_leave disk.new) }
         ensures time { Elapses (D.steps disk.old) (D.left_since disk.old) (D.left_since disk.new) (D.may_leave disk.new) }
+        ensures stop { D.stop disk.new ≡ after_change (D.stop disk.old) }
+        ensures stopped { IsStopped (D.stop disk.new) → IsErrOf result PageFault.DiskFault }
         ensures tells { D.tells disk.new ≡ D.tells disk.old }
         ensures fault { IfErr result (λ fault. fault ≡ PageFault.DiskFault) }
         ensures cause { HasCause (D.faults disk.old) (D.faults disk.new) (IsErr result) }
@@ -240,6 +252,8 @@ impl Pages {
         ensures steps { D.steps disk.new ≡ D.steps disk.old + 1 }
         ensures crash { Follows (InFile FileNo.Database (Torn 0 64)) (D.may_leave disk.old) (D.may_leave disk.new) }
         ensures time { Elapses (D.steps disk.old) (D.left_since disk.old) (D.left_since disk.new) (D.may_leave disk.new) }
+        ensures stop { D.stop disk.new ≡ after_change (D.stop disk.old) }
+        ensures stopped { IsStopped (D.stop disk.new) → IsErrOf result PageFault.DiskFault }
         ensures tells { D.tells disk.new ≡ D.tells disk.old }
         ensures fault { IfErr result (λ fault. fault ≡ PageFault.DiskFault) }
         ensures cause { HasCause (D.faults disk.old) (D.faults disk.new) (IsErr result) }
@@ -264,6 +278,8 @@ impl Pages {
         ensures durable { OnOk result (IfSome (D.files disk.old) (λ fs. OnlyIn FileNo.Database fs.database (D.may_leave disk.new))) }
         ensures crash { Narrows (D.may_leave disk.old) (D.may_leave disk.new) }
         ensures time { Elapses (D.steps disk.old) (D.left_since disk.old) (D.left_since disk.new) (D.may_leave disk.new) }
+        ensures stop { D.stop disk.new ≡ after_change (D.stop disk.old) }
+        ensures stopped { IsStopped (D.stop disk.new) → IsErrOf result PageFault.DiskFault }
         ensures tells { D.tells disk.new ≡ D.tells disk.old }
         ensures fault { IfErr result (λ fault. fault ≡ PageFault.DiskFault) }
         ensures cause { HasCause (D.faults disk.old) (D.faults disk.new) (IsErr result) }

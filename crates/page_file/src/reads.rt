@@ -1,6 +1,6 @@
 //! What is read of the database file: its length, its head, and parts of it.
 ghost use Rattle.std.specs.Prelude.{◌≡◌, ◌+◌, ◌≤◌, ◌<◌, ◌^◌, IfSome, OnOk, IfOk, IfErr, IsErr, length, take, drop};
-ghost use Rattle.disk_base.specs.Files.{KeepsRoom};
+ghost use Rattle.disk_base.specs.Files.{KeepsRoom, IsStopped};
 ghost use Rattle.disk_base.specs.Count.{HasCause};
 ghost use Rattle.disk_base.specs.Crash.{LeavesSame};
 ghost use Rattle.page_file.specs.Label.{IsHeadOf};
@@ -20,6 +20,8 @@ pub(crate) fn file_len<D: Disk>(disk: &mut D) -> Result<u64, PageFault>
     ensures room { KeepsRoom (D.room disk.old) (D.room disk.new) }
     ensures steps { D.steps disk.new ≡ D.steps disk.old }
     ensures crash { LeavesSame (D.may_leave disk.old) (D.may_leave disk.new) (D.left_since disk.old) (D.left_since disk.new) }
+    ensures stop { D.stop disk.new ≡ D.stop disk.old }
+    ensures stopped { IsStopped (D.stop disk.old) → IsErr result }
     ensures tells { D.tells disk.new ≡ D.tells disk.old }
     ensures fault { IfErr result (λ fault. fault ≡ PageFault.DiskFault) }
     ensures cause { HasCause (D.faults disk.old) (D.faults disk.new) (IsErr result) }
@@ -38,6 +40,8 @@ pub(crate) fn read_head<D: Disk>(disk: &mut D, len: u64) -> Result<[u8; 64], Pag
     ensures room { KeepsRoom (D.room disk.old) (D.room disk.new) }
     ensures steps { D.steps disk.new ≡ D.steps disk.old }
     ensures crash { LeavesSame (D.may_leave disk.old) (D.may_leave disk.new) (D.left_since disk.old) (D.left_since disk.new) }
+    ensures stop { D.stop disk.new ≡ D.stop disk.old }
+    ensures stopped { IsStopped (D.stop disk.old) → IsErr result }
     ensures tells { D.tells disk.new ≡ D.tells disk.old }
     ensures fault { IfErr result (λ fault. fault ≡ PageFault.DiskFault) }
     ensures cause { HasCause (D.faults disk.old) (D.faults disk.new) (IsErr result) }
@@ -60,6 +64,8 @@ fn read_image<D: Disk>(disk: &mut D, at: u64, buf: &mut [u8]) -> Result<(), Page
     ensures room { KeepsRoom (D.room disk.old) (D.room disk.new) }
     ensures steps { D.steps disk.new ≡ D.steps disk.old }
     ensures crash { LeavesSame (D.may_leave disk.old) (D.may_leave disk.new) (D.left_since disk.old) (D.left_since disk.new) }
+    ensures stop { D.stop disk.new ≡ D.stop disk.old }
+    ensures stopped { IsStopped (D.stop disk.old) → IsErr result }
     ensures tells { D.tells disk.new ≡ D.tells disk.old }
     ensures fault { IfErr result (λ fault. fault ≡ PageFault.DiskFault) }
     ensures cause { HasCause (D.faults disk.old) (D.faults disk.new) (IsErr result) }
@@ -78,6 +84,8 @@ pub(crate) fn read_pages<D: Disk>(disk: &mut D, at: u32, buf: &mut [u8]) -> Resu
     ensures room { KeepsRoom (D.room disk.old) (D.room disk.new) }
     ensures steps { D.steps disk.new ≡ D.steps disk.old }
     ensures crash { LeavesSame (D.may_leave disk.old) (D.may_leave disk.new) (D.left_since disk.old) (D.left_since disk.new) }
+    ensures stop { D.stop disk.new ≡ D.stop disk.old }
+    ensures stopped { 0 < length buf.old → IsStopped (D.stop disk.old) → IsErr result }
     ensures tells { D.tells disk.new ≡ D.tells disk.old }
     ensures fault { IfErr result (λ fault. fault ≡ PageFault.DiskFault) }
     ensures cause { HasCause (D.faults disk.old) (D.faults disk.new) (IsErr result) }

@@ -4,7 +4,8 @@ ghost use Rattle.std.specs.Prelude.{◌≡◌, ◌+◌, ◌<◌, ◌≤◌, [], 
 ghost use Rattle.std.specs.Option.{option_map};
 ghost use Rattle.disk_base.specs.Count.{HasCause};
 ghost use Rattle.disk_base.specs.Crash.{Torn, InFile, Follows, OnlyIn, IsSettled, LeavesOnly, LeavesSame};
-ghost use Rattle.disk_base.specs.Files.{Files, laid, OnDone, KeepsRoom};
+ghost use Rattle.disk_base.specs.Files.{Files, laid, OnDone, KeepsRoom, IsStopped};
+ghost use Rattle.disk_base.specs.Stops.{after_changes, Advances};
 ghost use Rattle.ubik_types.specs.declared.images.Change.{Change};
 ghost use Rattle.ubik_types.specs.declared.versions.Version.{Version};
 ghost use Rattle.ubik_log.specs.Gate.{IsOpen, BeginsWithZero, closed, with_gate};
@@ -15,8 +16,9 @@ ghost use Rattle.ubik_log.specs.Reading.{IsStateOf};
 use crate::codec::parse_log;
 use crate::states::LogState;
 use disk_base::{Disk, DiskEnd, FileNo, LenEnd, RoomEnd};
-use std::alloc::Global;
+use std::alloc::{AllocError, Global};
 use thiserror::Error;
+use ubik_types::NoMemory;
 
 /// Why a call on the log file did not succeed.
 #[derive(Clone, Copy, Debug, PartialEq, Eq, Error)]
@@ -27,6 +29,28 @@ pub enum LogFault {
     /// Memory ran out.
     #[error("out of memory")]
     NoMemory,
+}
+
+impl From<AllocError> for LogFault {
+    ghost use Rattle.std.specs.Prelude.{◌≡◌};
+    ghost use Rattle.ubik_log.specs.declared.disk_logs.LogFault.TheVariants as fault;
+
+    ghost from_gives = { λ _ e. e ≡ fault.NoMemory };
+
+    fn from(_: AllocError) -> Self {
+        LogFault::NoMemory
+    }
+}
+
+impl From<NoMemory> for LogFault {
+    ghost use Rattle.std.specs.Prelude.{◌≡◌};
+    ghost use Rattle.ubik_log.specs.declared.disk_logs.LogFault.TheVariants as fault;
+
+    ghost from_gives = { λ _ e. e ≡ fault.NoMemory };
+
+    fn from(_: NoMemory) -> Self {
+        LogFault::NoMemory
+    }
 }
 
 /// The length of LOGNEW, the first word.
@@ -48,6 +72,8 @@ pub fn read_log<D: Disk>(alloc: Global, disk: &mut D) -> Result<LogState, LogFau
     ensures steps { D.steps disk.new ≡ D.steps disk.old }
     ensures crash { LeavesSame (D.may_leave disk.old) (D.may_leave disk.new)
         (D.left_since disk.old) (D.left_since disk.new) }
+    ensures stop { D.stop disk.new ≡ D.stop disk.old }
+    ensures stopped { IsStopped (D.stop disk.old) → IsErrOf result LogFault.DiskFault }
     ensures tells { D.tells disk.new ≡ D.tells disk.old }
     ensures cause { HasCause (D.faults disk.old) (D.faults disk.new) (IsErrOf result LogFault.DiskFault) }
 {
@@ -55,13 +81,11 @@ pub fn read_log<D: Disk>(alloc: Global, disk: &mut D) -> Result<LogState, LogFau
         LenEnd::Known(len) => len as usize,
         LenEnd::Failed => return Err(LogFault::DiskFault),
     };
-    let Ok(mut log) = vec![in alloc; 0u8; len] else {
-        return Err(LogFault::NoMemory);
-    };
+    let mut log = vec![in alloc; 0u8; len]?;
     if let DiskEnd::Failed = disk.read(FileNo::Log, 0, &mut log) {
         return Err(LogFault::DiskFault);
     }
-    parse_log(alloc, &log).map_err(|_| LogFault::NoMemory)
+    Ok(parse_log(alloc, &log)?)
 }
 
 /// Puts a log with a closed gate into the empty log file. It makes the room of the whole log first: for want of
@@ -84,9 +108,13 @@ pub fn keep_log<D: Disk>(disk: &mut D, log: &[u8]) -> Result<(), LogFault>
     ensures at_most { RisesAtMost 4 (D.steps disk.old) (D.steps disk.new) }
     ensures room { KeepsRoom (D.room disk.old) (D.room disk.new) }
     ensures reserved { OnOk result (length log.now ≤ D.room disk.new FileNo.Log) }
+    ensures stop { OnOk result (D.stop disk.new ≡ after_changes 4 (D.stop disk.old)) }
+    ensures advances { Advances (D.steps disk.old) (D.steps disk.new) (D.stop disk.old) (D.stop disk.new) }
+    ensures stopped { IsStopped (D.stop disk.new) → ¬ IsErrOf result LogFault.NoMemory → IsErrOf result LogFault.DiskFault }
     ensures tells { D.tells disk.new ≡ D.tells disk.old }
     ensures cause { HasCause (D.faults disk.old) (D.faults disk.new) (IsErrOf result LogFault.DiskFault) }
     ensures no_memory { IsErrOf result LogFault.NoMemory → D.room disk.old FileNo.Log < length log.now }
+    ensures not_stopped { IsErrOf result LogFault.NoMemory → D.stop disk.new ≡ D.stop disk.old }
     ensures unchanged { IsErrOf result LogFault.NoMemory → (D.files disk.new ≡ D.files disk.old)
         × (D.steps disk.new ≡ D.steps disk.old) × (D.faults disk.new ≡ D.faults disk.old)
         × LeavesSame (D.may_leave disk.old) (D.may_leave disk.new)
@@ -121,9 +149,12 @@ pub fn open_gate<D: Disk>(disk: &mut D) -> Result<(), LogFault>
     ensures steps { OnOk result (D.steps disk.new ≡ D.steps disk.old + 2) }
     ensures at_most { RisesAtMost 2 (D.steps disk.old) (D.steps disk.new) }
     ensures room { KeepsRoom (D.room disk.old) (D.room disk.new) }
+    ensures stop { OnOk result (D.stop disk.new ≡ after_changes 2 (D.stop disk.old)) }
+    ensures advances { Advances (D.steps disk.old) (D.steps disk.new) (D.stop disk.old) (D.stop disk.new) }
+    ensures stopped { IsStopped (D.stop disk.new) → IsErrOf result LogFault.DiskFault }
     ensures tells { D.tells disk.new ≡ D.tells disk.old }
     ensures cause { HasCause (D.faults disk.old) (D.faults disk.new) (IsErrOf result LogFault.DiskFault) }
-    ensures no_memory { IsErrOf result LogFault.NoMemory → ⊥ }
+    ensures no_memory { ¬ IsErrOf result LogFault.NoMemory }
 {
     set_gate(disk, OPEN)
 }
@@ -147,9 +178,12 @@ pub fn close_gate<D: Disk>(disk: &mut D) -> Result<(), LogFault>
     ensures steps { OnOk result (D.steps disk.new ≡ D.steps disk.old + 2) }
     ensures at_most { RisesAtMost 2 (D.steps disk.old) (D.steps disk.new) }
     ensures room { KeepsRoom (D.room disk.old) (D.room disk.new) }
+    ensures stop { OnOk result (D.stop disk.new ≡ after_changes 2 (D.stop disk.old)) }
+    ensures advances { Advances (D.steps disk.old) (D.steps disk.new) (D.stop disk.old) (D.stop disk.new) }
+    ensures stopped { IsStopped (D.stop disk.new) → IsErrOf result LogFault.DiskFault }
     ensures tells { D.tells disk.new ≡ D.tells disk.old }
     ensures cause { HasCause (D.faults disk.old) (D.faults disk.new) (IsErrOf result LogFault.DiskFault) }
-    ensures no_memory { IsErrOf result LogFault.NoMemory → ⊥ }
+    ensures no_memory { ¬ IsErrOf result LogFault.NoMemory }
 {
     set_gate(disk, 0)
 }
@@ -169,6 +203,9 @@ fn put_synced<D: Disk>(disk: &mut D, at: u64, bytes: &[u8]) -> DiskEnd
     ensures steps { OnDone result (D.steps disk.new ≡ D.steps disk.old + 2) }
     ensures at_most { RisesAtMost 2 (D.steps disk.old) (D.steps disk.new) }
     ensures room { KeepsRoom (D.room disk.old) (D.room disk.new) }
+    ensures stop { OnDone result (D.stop disk.new ≡ after_changes 2 (D.stop disk.old)) }
+    ensures advances { Advances (D.steps disk.old) (D.steps disk.new) (D.stop disk.old) (D.stop disk.new) }
+    ensures stopped { IsStopped (D.stop disk.new) → result ≡ DiskEnd.Failed }
     ensures tells { D.tells disk.new ≡ D.tells disk.old }
     ensures cause { HasCause (D.faults disk.old) (D.faults disk.new) (result ≡ DiskEnd.Failed) }
 {
@@ -193,6 +230,9 @@ fn put_closed<D: Disk>(disk: &mut D, log: &[u8]) -> DiskEnd
     ensures steps { OnDone result (D.steps disk.new ≡ D.steps disk.old + 4) }
     ensures at_most { RisesAtMost 4 (D.steps disk.old) (D.steps disk.new) }
     ensures room { KeepsRoom (D.room disk.old) (D.room disk.new) }
+    ensures stop { OnDone result (D.stop disk.new ≡ after_changes 4 (D.stop disk.old)) }
+    ensures advances { Advances (D.steps disk.old) (D.steps disk.new) (D.stop disk.old) (D.stop disk.new) }
+    ensures stopped { IsStopped (D.stop disk.new) → result ≡ DiskEnd.Failed }
     ensures tells { D.tells disk.new ≡ D.tells disk.old }
     ensures cause { HasCause (D.faults disk.old) (D.faults disk.new) (result ≡ DiskEnd.Failed) }
 {
@@ -218,9 +258,12 @@ fn set_gate<D: Disk>(disk: &mut D, byte: u8) -> Result<(), LogFault>
     ensures steps { OnOk result (D.steps disk.new ≡ D.steps disk.old + 2) }
     ensures at_most { RisesAtMost 2 (D.steps disk.old) (D.steps disk.new) }
     ensures room { KeepsRoom (D.room disk.old) (D.room disk.new) }
+    ensures stop { OnOk result (D.stop disk.new ≡ after_changes 2 (D.stop disk.old)) }
+    ensures advances { Advances (D.steps disk.old) (D.steps disk.new) (D.stop disk.old) (D.stop disk.new) }
+    ensures stopped { IsStopped (D.stop disk.new) → IsErrOf result LogFault.DiskFault }
     ensures tells { D.tells disk.new ≡ D.tells disk.old }
     ensures cause { HasCause (D.faults disk.old) (D.faults disk.new) (IsErrOf result LogFault.DiskFault) }
-    ensures no_memory { IsErrOf result LogFault.NoMemory → ⊥ }
+    ensures no_memory { ¬ IsErrOf result LogFault.NoMemory }
 {
     match put_synced(disk, GATE, &[byte]) {
         DiskEnd::Done => Ok(()),

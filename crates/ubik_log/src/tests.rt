@@ -83,9 +83,11 @@ fn discards_what_is_no_whole_log(rt: HostRuntime) -> Result<(), Fail> {
     for len in 0..LOG.len() {
         assert_eq!(rt; told(parse_log(rt.alloc(), &LOG[..len])?), None, "at {len}");
     }
-    let mut longer = LOG.to_vec(rt.alloc())?;
-    longer.push(0)?;
-    assert_eq!(rt; told(parse_log(rt.alloc(), &longer)?), None);
+    for byte in [0, 1, 100, 103, 255] {
+        let mut longer = LOG.to_vec(rt.alloc())?;
+        longer.push(byte)?;
+        assert_eq!(rt; told(parse_log(rt.alloc(), &longer)?), None, "{byte}");
+    }
     let mut closed = LOG;
     closed[3] = 0;
     assert_eq!(rt; told(parse_log(rt.alloc(), &closed)?), None);

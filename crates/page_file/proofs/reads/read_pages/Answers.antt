@@ -1,4 +1,6 @@
-use Rattle.std.proofs.Common.{◌≤◌, ◌+◌, length, rules, arith, ◌∙◌}
+use Rattle.std.proofs.Common.{◌≤◌, ◌+◌, length, rules, arith, ◌∙◌, sym, subst}
+use Rattle.std.proofs.lemmas.Bool.{false≢true}
+use Rattle.disk_base.specs.Files.{IsStopped}
 use Rattle.page_file.proofs.Reading.{length_piece, range_read}
 use Rattle.page_file.proofs.Staying.{LeavesSame-trans, KeepsRoom-trans}
 use Rattle.page_file.proofs.reads.read_pages.Goals as goal
@@ -16,6 +18,8 @@ loop-done-preserved g c =
       room = KeepsRoom-trans _ _ _ i.room kept.room;
       steps = kept.steps ∙ i.steps;
       crash = LeavesSame-trans i.crash kept.crash;
+      stop = kept.stop ∙ i.stop;
+      none_stopped = λ some is. false≢true (kept.stopped (subst IsStopped (sym i.stop) is));
       tells = kept.tells ∙ i.tells;
       never_falls = omega (arith, i.never_falls, kept.cause.never_falls);
     }

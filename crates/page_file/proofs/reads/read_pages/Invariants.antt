@@ -1,5 +1,5 @@
-use Rattle.std.proofs.Common.{◌≡◌, ◌-◌, ◌≤◌, length, take, drop, IfSome}
-use Rattle.disk_base.specs.Files.{KeepsRoom}
+use Rattle.std.proofs.Common.{◌≡◌, ◌-◌, ◌≤◌, ◌<◌, length, take, drop, IfSome}
+use Rattle.disk_base.specs.Files.{KeepsRoom, IsStopped}
 use Rattle.disk_base.specs.Crash.{LeavesSame}
 use Rattle.page_file.specs.Pages.{image_of}
 use Rattle.page_file.proofs.reads.read_pages.Given as goal
@@ -13,6 +13,8 @@ invariant-loop-done g l =
       room : KeepsRoom (g.D.Disk.room l.initial.disk) (g.D.Disk.room l.disk);
       steps : g.D.Disk.steps l.disk ≡ g.D.Disk.steps l.initial.disk;
       crash : LeavesSame (g.D.Disk.may_leave l.initial.disk) (g.D.Disk.may_leave l.disk) (g.D.Disk.left_since l.initial.disk) (g.D.Disk.left_since l.disk);
+      stop : g.D.Disk.stop l.disk ≡ g.D.Disk.stop l.initial.disk;
+      none_stopped : 0 < l.done → ¬ IsStopped (g.D.Disk.stop l.initial.disk);
       tells : g.D.Disk.tells l.disk ≡ g.D.Disk.tells l.initial.disk;
       never_falls : g.D.Disk.faults l.initial.disk ≤ g.D.Disk.faults l.disk;
     }

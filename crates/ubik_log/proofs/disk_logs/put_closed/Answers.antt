@@ -1,4 +1,5 @@
 use Rattle.std.proofs.Common.{◌∙◌, length}
+use Rattle.disk_base.proofs.Stopping.{advances_joined}
 use Rattle.ubik_log.proofs.Moments.{widened, joined}
 use Rattle.ubik_log.proofs.KeptLogs.{on_done, told_or_not, under, kept, durable, first_run, zero_only, second_run}
 use Rattle.ubik_log.proofs.disk_logs.put_closed.Goals as goal
@@ -27,3 +28,6 @@ pub returns-in-Failed-clause-moments : goal.returns-in-Failed-clause-moments
 returns-in-Failed-clause-moments g c =
     let before = g.D.Disk.may_leave c.args.disk.now in
     told_or_not (g.D.Disk.files c.args.disk.now) _ (λ only. widened g.D.Disk.steps g.D.Disk.left_since _ _ _ _ (first_run before only) c.put_synced.ensures.moments)
+
+pub returns-in-Done-clause-advances : goal.returns-in-Done-clause-advances
+returns-in-Done-clause-advances g c = advances_joined c.put_synced.ensures.advances c.put_synced-in-Done.ensures.advances

@@ -1,6 +1,7 @@
 use Rattle.std.proofs.Common.{length}
 use Rattle.disk_base.specs.declared.disks.FileNo.TheVariants.{Log}
 use Rattle.disk_base.specs.Crash.{Torn, InFile}
+use Rattle.disk_base.proofs.Stopping.{advances_one, advances_joined}
 use Rattle.ubik_log.specs.LogFile.{After}
 use Rattle.ubik_log.proofs.Moments.{untouched, called, joined}
 use Rattle.ubik_log.proofs.disk_logs.put_synced.Goals as goal
@@ -18,3 +19,7 @@ returns-in-Done-clause-moments g c =
     (untouched c.args.at (length c.args.bytes.now) (disk.may_leave old)) torn)
     (called disk.steps disk.left_since mid new P (disk.may_leave mid) (disk.may_leave new) c.sync.ensures.steps c.sync.ensures.time (disk.only_now mid)
     torn (λ files left. torn files (c.sync.ensures.crash files left)))
+
+pub returns-in-Done-clause-advances : goal.returns-in-Done-clause-advances
+returns-in-Done-clause-advances g c =
+    advances_joined (advances_one c.write_at.ensures.steps c.write_at.ensures.stop) (advances_one c.sync.ensures.steps c.sync.ensures.stop)
