@@ -3,10 +3,12 @@ use Rattle.std.proofs.Common.{◌≡◌, ◌≢◌, ◌⊎◌, inl, inr, ℕ, Li
 use Rattle.std.proofs.lemmas.Bool.{cases_eq}
 use Rattle.std.proofs.lemmas.List.{get_or-take}
 use Rattle.std.specs.List.{flat_map}
-use Rattle.ubik_log.specs.LogGrammar.{change_record, new_record, end_record, records_of, IsDiscarded}
+use Rattle.ubik_log.specs.LogGrammar.{new_record, IsDiscarded}
+use Rattle.ubik_log.specs.Records.{change_record, end_record}
 use Rattle.ubik_log.specs.Gate.{IsOpen, IsClosed, closed, with_gate}
 use Rattle.ubik_log.specs.Laws.{ZeroWordIsDiscarded, ShortLogIsDiscarded, OtherGateIsDiscarded, OpenGateDecides, ClosedLogDecides, OpenedLogIsCommitted}
 use Rattle.ubik_log.proofs.OneReading.{closed_gate_is_discarded}
+use Rattle.ubik_log.proofs.Spelled.{records_of, text_is}
 
 pub zero_word_is_discarded : ZeroWordIsDiscarded
 zero_word_is_discarded log zero =
@@ -14,7 +16,7 @@ zero_word_is_discarded log zero =
 
 pub short_log_is_discarded : ShortLogIsDiscarded
 short_log_is_discarded log short changes version committed =
-    omega (arith, ap length committed.text_is, length-append new_record (records_of changes version), length-append (flat_map change_record changes) (end_record version))
+    omega (arith, ap length (text_is committed), length-append new_record (records_of changes version), length-append (flat_map change_record changes) (end_record version))
 
 other_gate_is_closed : (log : List ℕ) (byte : ℕ) → byte ≢ 100 → IsClosed (with_gate byte log)
 other_gate_is_closed [] byte other is_open = omega arith
@@ -45,8 +47,7 @@ open_gate_decides log byte is_open = decides log log byte (same_gate log is_open
 
 pub opened_log_is_committed : OpenedLogIsCommitted
 opened_log_is_committed log changes version committed =
-    let records = records_of changes version in
-    ap (λ (x : List ℕ). new_record ++ drop 4 x) committed.text_is ∙ sym committed.text_is
+    ap (λ (x : List ℕ). new_record ++ drop 4 x) committed.begins ∙ sym committed.begins
 
 pub closed_log_decides : ClosedLogDecides
 closed_log_decides log changes version byte committed = decides (closed log) log byte (opened_log_is_committed log changes version committed)

@@ -3,5 +3,6 @@ pub mod Gates
 pub mod KeptLogs
 pub mod Moments
 pub mod OneReading
+pub mod Spelled
 pub mod TornGates
 pub mod WholeLogs

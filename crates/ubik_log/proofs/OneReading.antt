@@ -3,16 +3,17 @@ use Rattle.std.proofs.Common.{◌≡◌, ℕ, ◌^◌, ◌<◌, List, [], ◌∷
 use Rattle.std.specs.Int.{w32, from_be_bytes}
 use Rattle.std.specs.List.{All, flat_map}
 use Rattle.std.proofs.lemmas.List.{take_at, drop_at, length-append, nil_from_length}
-use Rattle.std.proofs.lemmas.List.Concat.{flat_map-cons}
 use Rattle.std.proofs.lemmas.List.Elements.{All-head, All-tail}
 use Rattle.std.proofs.lemmas.Nat.{from_be_bytes-to_be_bytes_4}
 use Rattle.ubik_types.specs.declared.images.Change.{Change}
 use Rattle.ubik_types.specs.declared.images.Change.TheVariants.{Put, Cut}
 use Rattle.ubik_types.specs.declared.versions.Version.{Version}
 use Rattle.ubik_types.specs.Version.{IsVersion}
-use Rattle.ubik_log.specs.LogGrammar.{field, change_record, new_record, end_record, records_of, IsWithinImage}
+use Rattle.ubik_log.specs.LogGrammar.{field, new_record, IsWithinImage}
+use Rattle.ubik_log.specs.Records.{change_record, end_record}
 use Rattle.ubik_log.specs.Reading.{BeginsWithChange}
 use Rattle.ubik_log.specs.Laws.{HasOneReading, NoneBeginsAnother, ClosedGateIsDiscarded}
+use Rattle.ubik_log.proofs.Spelled.{records_of, first_record, text_is}
 
 pub fields_differ : (a b : ℕ) (x y : List ℕ) → a < 2 ^ 32 → b < 2 ^ 32 → field a ++ x ≡ field b ++ y → (a ≡ b) × (x ≡ y)
 fields_differ a b x y p q e =
@@ -78,16 +79,14 @@ all_are_read [] [] rest version p q none e = (refl, e)
 all_are_read [] (b ∷ bs) rest version p q none e =
     absurd (none b (flat_map change_record bs ++ end_record version) (record {
       within_image = All-head IsWithinImage b bs q;
-      record_is = e ∙ ap (λ x. x ++ end_record version) (flat_map-cons change_record b bs) ∙ append_assoc (change_record b) (flat_map change_record bs) (end_record version);
+      record_is = e ∙ first_record b bs (end_record version);
     }))
 all_are_read (a ∷ cs) [] rest version p q none e =
     absurd (end_is_no_change version [] a (flat_map change_record cs ++ rest)
-    (sym e ∙ ap (λ x. x ++ rest) (flat_map-cons change_record a cs) ∙ append_assoc (change_record a) (flat_map change_record cs) rest))
+    (sym e ∙ first_record a cs rest))
 all_are_read (a ∷ cs) (b ∷ bs) rest version p q none e =
-    let left = ap (λ x. x ++ rest) (flat_map-cons change_record a cs) ∙ append_assoc (change_record a) (flat_map change_record cs) rest in
-    let right = ap (λ x. x ++ end_record version) (flat_map-cons change_record b bs) ∙ append_assoc (change_record b) (flat_map change_record bs) (end_record version) in
     let first = changes_differ a b (flat_map change_record cs ++ rest) (flat_map change_record bs ++ end_record version)
-    (All-head IsWithinImage a cs p) (All-head IsWithinImage b bs q) (sym left ∙ e ∙ right) in
+    (All-head IsWithinImage a cs p) (All-head IsWithinImage b bs q) (sym (first_record a cs rest) ∙ e ∙ first_record b bs (end_record version)) in
     let others = all_are_read cs bs rest version (All-tail IsWithinImage a cs p) (All-tail IsWithinImage b bs q) none first.1 in
     let head : a ≡ b = first.0 in
     let tail : cs ≡ bs = others.0 in
@@ -97,17 +96,17 @@ pub log_has_one_reading : HasOneReading
 log_has_one_reading log a b v w p q =
     let same = all_are_read a b (end_record v) w p.told.within_image q.told.within_image
     (λ change after begins. end_is_no_change v [] change after begins.record_is)
-    (same_behind 100 (records_of a v) (records_of b w) (sym p.text_is ∙ q.text_is)) in
+    (same_behind 100 (records_of a v) (records_of b w) (sym (text_is p) ∙ text_is q)) in
     (same.0, ends_differ v w p.told.is_version q.told.is_version same.1)
 
 pub no_log_begins_another : NoneBeginsAnother
 no_log_begins_another log more a b v w p q =
     let longer : log ++ more ≡ new_record ++ (flat_map change_record a ++ (end_record v ++ more)) =
-    ap (λ (x : List ℕ). x ++ more) p.text_is ∙ ap (λ (x : List ℕ). new_record ++ x) (append_assoc (flat_map change_record a) (end_record v) more) in
+    ap (λ (x : List ℕ). x ++ more) (text_is p) ∙ ap (λ (x : List ℕ). new_record ++ x) (append_assoc (flat_map change_record a) (end_record v) more) in
     let same = all_are_read a b (end_record v ++ more) w p.told.within_image q.told.within_image
     (λ change after begins. end_is_no_change v more change after begins.record_is)
-    (same_behind 100 (flat_map change_record a ++ (end_record v ++ more)) (records_of b w) (sym longer ∙ q.text_is)) in
+    (same_behind 100 (flat_map change_record a ++ (end_record v ++ more)) (records_of b w) (sym longer ∙ text_is q)) in
     nil_from_length more (omega (arith, ap length same.1, length-append (end_record v) more))
 
 pub closed_gate_is_discarded : ClosedGateIsDiscarded
-closed_gate_is_discarded log closed changes version committed = closed (ap (λ (x : List ℕ). slice_index x 3) committed.text_is)
+closed_gate_is_discarded log closed changes version committed = closed (ap (λ (x : List ℕ). slice_index x 3) committed.begins)

@@ -3,3 +3,4 @@ pub mod Laws
 pub mod LogFile
 pub mod LogGrammar
 pub mod Reading
+pub mod Records

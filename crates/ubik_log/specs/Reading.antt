@@ -2,7 +2,8 @@
 use Rattle.std.specs.Prelude.{◌≡◌, ℕ, List, ◌++◌}
 use Rattle.ubik_types.specs.declared.images.Change.{Change}
 use Rattle.ubik_types.specs.declared.images.Change.TheVariants.{Put, Cut}
-use Rattle.ubik_log.specs.LogGrammar.{change_record, IsWithinImage, IsCommitted, IsDiscarded}
+use Rattle.ubik_log.specs.LogGrammar.{IsWithinImage, IsCommitted, IsDiscarded}
+use Rattle.ubik_log.specs.Records.{change_record}
 use Rattle.ubik_log.specs.declared.states.LogState.{LogState}
 use Rattle.ubik_log.specs.declared.states.LogState.TheVariants.{Committed, Discarded}
 use Rattle.ubik_log.specs.declared.readers.Edit.{Edit}

@@ -3,8 +3,9 @@ ghost use Rattle.std.specs.Prelude.{◌≡◌, ◌≢◌, ℕ, ◌+◌, ◌^◌,
 ghost use Rattle.ubik_types.specs.declared.images.Change.{Change as ChangeSeen};
 ghost use Rattle.ubik_types.specs.declared.versions.Version.{Version as VersionSeen};
 ghost use Rattle.ubik_types.specs.Version.{IsVersion};
-ghost use Rattle.ubik_log.specs.LogGrammar.{field, end_record, change_record};
+ghost use Rattle.ubik_log.specs.LogGrammar.{field};
 ghost use Rattle.ubik_log.specs.Reading.{change_of, BeginsWithChange};
+ghost use Rattle.ubik_log.specs.Records.{end_record};
 
 use crate::opcodes::{FILE, LOGDATA, LOGEND, LOGTRUNCATE};
 use std::alloc::Global;
@@ -58,7 +59,7 @@ pub fn behind(bytes: &[u8], expected: u32) -> Option<&[u8]>
 /// The change whose fields behind LOGDATA stand first, and the bytes behind it.
 fn lay_at(fields: &[u8]) -> Option<(Edit<'_>, &[u8])>
     ensures found { IfSome result (λ r. BeginsWithChange (field 103 ++ fields.now) (change_of r.0) r.1.now) }
-    ensures none { IfNone result ((at : ℕ) (bytes after : List ℕ) → at + length bytes ≤ 16777216
+    ensures none { IfNone result ((at : ℕ) (bytes after : List ℕ) → at + length bytes ≤ MAX_IMAGE
         → fields.now ≢ field 0 ++ (field at ++ (field (length bytes) ++ (bytes ++ after)))) }
 {
     let fields = behind(fields, FILE)?;
@@ -76,7 +77,7 @@ fn lay_at(fields: &[u8]) -> Option<(Edit<'_>, &[u8])>
 /// The change whose fields behind LOGTRUNCATE stand first, and the bytes behind it.
 fn keep_at(fields: &[u8]) -> Option<(Edit<'_>, &[u8])>
     ensures found { IfSome result (λ r. BeginsWithChange (field 104 ++ fields.now) (change_of r.0) r.1.now) }
-    ensures none { IfNone result ((len : ℕ) (after : List ℕ) → len ≤ 16777216 → fields.now ≢ field 0 ++ (field len ++ after)) }
+    ensures none { IfNone result ((len : ℕ) (after : List ℕ) → len ≤ MAX_IMAGE → fields.now ≢ field 0 ++ (field len ++ after)) }
 {
     let fields = behind(fields, FILE)?;
     let (len, rest) = number(fields)?;

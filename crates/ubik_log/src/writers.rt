@@ -1,7 +1,8 @@
 //! Writes the records of a log.
 ghost use Rattle.std.specs.Prelude.{◌≡◌, ◌++◌, OnOk};
 ghost use Rattle.std.specs.List.{flat_map};
-ghost use Rattle.ubik_log.specs.LogGrammar.{field, change_record, end_record, IsWithinImage};
+ghost use Rattle.ubik_log.specs.LogGrammar.{field, IsWithinImage};
+ghost use Rattle.ubik_log.specs.Records.{change_record, end_record};
 
 use crate::opcodes::{FILE, LOGDATA, LOGEND, LOGTRUNCATE};
 use std::alloc::AllocError;

@@ -1,6 +1,7 @@
 use Rattle.std.proofs.Common.{◌≡◌, ◌++◌, length}
 use Rattle.std.specs.List.{All, flat_map}
-use Rattle.ubik_log.specs.LogGrammar.{change_record, IsWithinImage}
+use Rattle.ubik_log.specs.LogGrammar.{IsWithinImage}
+use Rattle.ubik_log.specs.Records.{change_record}
 use Rattle.ubik_log.proofs.codec.parse_records.Given as goal
 
 abbrev pub invariant-loop-edit : goal.invariant-loop-edit
