@@ -186,7 +186,5 @@ with_user-valid s name id h good new_name new_id more le =
       max_group = h.max_group;
     }
 
-pub with_user-other : (s : PrState) (name : List ℕ) (id : ℕ) → with_user s name id ≢ s
-with_user-other s name id e =
-    let same : length (s.entries ++ new_user name id ∷ []) ≡ length s.entries = ap (λ (t : PrState). length t.entries) e in
-    omega (arith, same, length-append s.entries (new_user name id ∷ []))
+pub one_more : (s : PrState) (name : List ℕ) (id : ℕ) → length (with_user s name id).entries ≡ length s.entries + 1
+one_more s name id = omega (arith, length-append s.entries (new_user name id ∷ []))
