@@ -13,7 +13,7 @@ mod words;
 
 pub use calls::writes;
 pub use images::call_image;
-pub use laws::{law_call_is_spelled, law_call_means, law_empty_is_initial};
+pub use laws::{law_answers_are_words, law_call_is_spelled, law_call_means, law_empty_is_initial};
 pub use service::PrService;
 pub use words::{call_words, is_unbuilt, reply_words};
 
