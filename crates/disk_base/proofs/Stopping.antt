@@ -3,8 +3,8 @@ use Rattle.std.proofs.Common.{◌≡◌, ◌<◌, ◌≤◌, ◌∙◌, inl, inr
 use Rattle.std.proofs.lemmas.Bool.{cases_lt}
 use Rattle.std.proofs.lemmas.Bool.Decides.{nat_tests}
 use Rattle.disk_base.specs.declared.disks.Fill.{Fill}
-use Rattle.disk_base.specs.Files.{Stop, IsStopped}
-use Rattle.disk_base.specs.Files.Stop.{Unarmed, Armed, Stopped}
+use Rattle.disk_base.specs.Stops.{Stop, IsStopped}
+use Rattle.disk_base.specs.Stops.Stop.{Unarmed, Armed, Stopped}
 use Rattle.disk_base.specs.Stops.{after_change, after_changes, Advances}
 
 pub after_changes-add : (m n : ℕ) (stop : Stop) → after_changes m (after_changes n stop) ≡ after_changes (n + m) stop

@@ -1,5 +1,5 @@
 -- The first state is valid.
-use Rattle.std.proofs.Common.{◌≡◌, ◌≢◌, ℕ, ℤ, zero, suc, ◌^◌, ◌<◌, ◌≤◌, Bool, true, false, not, ◌&&◌, leb, List, [], ◌∷◌, length, map, refl, arith, inl, inr, Decides}
+use Rattle.std.proofs.Common.{◌≡◌, ◌≢◌, ℕ, ℤ, pos, negsuc, zero, suc, ◌^◌, ◌<◌, ◌≤◌, Bool, true, false, not, ◌&&◌, ◌||◌, leb, List, [], ◌∷◌, length, map, refl, arith, inl, inr, Decides}
 use Rattle.std.specs.Ordering.{int_eq}
 use Rattle.std.specs.Str.{bytes_eq}
 use Rattle.std.specs.List.{list_all, All, AllPairs, AllByRecursion, Contains}
@@ -8,7 +8,7 @@ use Rattle.std.proofs.lemmas.Bool.Decides.{Decides-int_eq}
 use Rattle.std.proofs.lemmas.Slice.Eq.{bytes_eq-Decides}
 use Rattle.std.proofs.lemmas.List.{get_or_past}
 use Rattle.std.proofs.lemmas.List.Elements.{All-from_recursion}
-use Rattle.prdb_entries.specs.State.{IsId, IsPrEntry, IsPrState, IsIdOrNone, fixed, fixed_entries, initial_state, administrators}
+use Rattle.prdb_entries.specs.State.{PrEntry, IsId, IsGroupId, IsNamedAfter, front_of, IsPrEntry, IsPrState, IsIdOrNone, fixed, fixed_entries, initial_state, administrators}
 use Rattle.prdb_entries.specs.Layout.{StandsFor}
 
 -- ---- distinct elements, by a test
@@ -107,6 +107,45 @@ creators_are : AllByRecursion (λ e. Contains (map (λ f. f.id) fixed_entries) e
 unfolding fixed_entries
 creators_are = let a = administrators_in in (a, (a, (a, (a, (a, (a, tt))))))
 
+-- ---- each fixed group begins as the entry does that owns it
+
+is_user_id : ℤ → Bool
+is_user_id (pos n) = true
+is_user_id (negsuc n) = false
+
+begins_so : PrEntry → PrEntry → Bool
+begins_so e owner = is_user_id e.id || (not (int_eq owner.id e.owner) || bytes_eq (front_of e.name) (front_of owner.name))
+
+all_begin_so : list_all (λ e. list_all (begins_so e) fixed_entries) fixed_entries ≡ true
+unfolding begins_so is_user_id fixed_entries
+all_begin_so = refl
+
+then_true : (a b : Bool) → (not a || b) ≡ true → a ≡ true → b ≡ true
+then_true true b e is = e
+then_true false b e is = absurd cc
+
+chosen : (id : ℤ) (a b : Bool) (A B : Type 0) → Decides a A → Decides b B → (is_user_id id || (not a || b)) ≡ true → IsGroupId id → A → B
+unfolding is_user_id
+chosen (pos n) a b A B is-a is-b e group h = absurd group
+chosen (negsuc n) a b A B is-a is-b e group h = is-b.0 (then_true a b e (is-a.1 h))
+
+named_after : (e owner : PrEntry) → begins_so e owner ≡ true → IsNamedAfter e owner
+unfolding begins_so
+named_after e owner passes = λ group colon owned. chosen e.id (int_eq owner.id e.owner) (bytes_eq (front_of e.name) (front_of owner.name)) (owner.id ≡ e.owner) (front_of e.name ≡ front_of owner.name)
+    (Decides-int_eq owner.id e.owner) (bytes_eq-Decides (front_of e.name) (front_of owner.name)) passes group owned
+
+all_named : (e : PrEntry) (owners : List PrEntry) → list_all (begins_so e) owners ≡ true → AllByRecursion (IsNamedAfter e) owners
+all_named e [] passes = tt
+all_named e (owner ∷ owners) passes =
+    let p = and_parts (begins_so e owner) (list_all (begins_so e) owners) passes in
+    (named_after e owner p.0, all_named e owners p.1)
+
+groups_named : (es owners : List PrEntry) → list_all (λ e. list_all (begins_so e) owners) es ≡ true → AllByRecursion (λ e. All (IsNamedAfter e) owners) es
+groups_named [] owners passes = tt
+groups_named (e ∷ es) owners passes =
+    let p = and_parts (list_all (begins_so e) owners) (list_all (λ x. list_all (begins_so x) owners) es) passes in
+    (All-from_recursion (IsNamedAfter e) owners (all_named e owners p.0), groups_named es owners p.1)
+
 initial-valid : IsPrState initial_state
 unfolding fixed_entries
 initial-valid = record {
@@ -115,6 +154,7 @@ initial-valid = record {
   ids = pairs_differ int_eq Decides-int_eq (map (λ e. e.id) fixed_entries) ids_distinct;
   fixed_first = refl;
   owners = All-from_recursion (λ e. IsIdOrNone fixed_entries e.owner) fixed_entries owners_are;
+  groups = All-from_recursion (λ e. All (IsNamedAfter e) fixed_entries) fixed_entries (groups_named fixed_entries fixed_entries all_begin_so);
   creators = All-from_recursion (λ e. Contains (map (λ f. f.id) fixed_entries) e.creator) fixed_entries creators_are;
   max_user = omega arith;
   max_group = (204, refl, omega arith);

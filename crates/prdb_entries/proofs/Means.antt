@@ -16,12 +16,12 @@ use Rattle.prdb_entries.specs.Blocks.{has_whole_blocks, blocks_of, id_among, nam
 use Rattle.prdb_entries.specs.Agreement.{IsMeant}
 use Rattle.prdb_entries.specs.Protection.{Answer, answer, answer_new_user, answer_over, added, ids_of, next_id, outcome, refusal}
 use Rattle.prdb_entries.proofs.LayoutRead.{AreEntries, length-layout, blocks-layout, id-found, name-found, next_id-layout}
-use Rattle.prdb_entries.proofs.UserAdded.{HasForm, form, next_is_new, with_block-layout, with_user-valid, with_user-other}
+use Rattle.prdb_entries.proofs.UserAdded.{HasForm, form, next_is_new, with_block-layout, with_user-valid, one_more}
 
--- the image after an answer, where it changed, stands for the state after
+-- the image after an answer, where it changed, stands for the state after, which has one entry more
 abbrev pub Leaves : Option (List ℕ) → PrState → PrState → Type 0
 Leaves None s after = after ≡ s
-Leaves (Some image) s after = (image ≡ layout after) × IsPrState after × (after ≢ s)
+Leaves (Some image) s after = (image ≡ layout after) × IsPrState after × (length after.entries ≡ length s.entries + 1)
 
 pub record Agrees (a : Answer) (s : PrState) (m : Meaning) : Type 0 where
   pub reply : a.0 ≡ m.reply
@@ -37,7 +37,7 @@ added-agrees : (s : PrState) (name : List ℕ) (id : Option ℕ) → IsPrState s
 added-agrees s name None h good new e = refusal-agrees s 267266
 added-agrees s name (Some id) h good new e =
     let unused = next_is_new s id e in
-    record { reply = refl; image = (with_block-layout s name id (entries_of s h), with_user-valid s name id h good new unused.0 unused.1 unused.2, with_user-other s name id) }
+    record { reply = refl; image = (with_block-layout s name id (entries_of s h), with_user-valid s name id h good new unused.0 unused.1 unused.2, one_more s name id) }
 
 by_name : (s : PrState) (name : List ℕ) (taken : Bool) → IsPrState s → HasForm name → has_name s name ≡ taken
     → Agrees (cond taken (refusal 267264) (added (layout s) name (next_user_id s))) s (cond taken (refused s 267264) (made s name (next_user_id s)))
@@ -98,10 +98,29 @@ answer_over-empty : (call : PrCall) → answer_over [] (Some call) ≡ answer (l
 unfolding answer_over
 answer_over-empty call = refl
 
+other_state : (s after : PrState) → length after.entries ≡ length s.entries + 1 → after ≢ s
+other_state s after more e =
+    let same : length after.entries ≡ length s.entries = ap (λ (t : PrState). length t.entries) e in
+    omega (arith, more, same)
+
+-- a layout is not the image of a state with fewer entries, and is not empty
+other_image : (image : List ℕ) (s after : PrState) → StandsFor image s → IsPrState after → length after.entries ≡ length s.entries + 1 → layout after ≢ image
+other_image image s after h valid more e =
+    let len = length-layout after (entries_of after valid) in
+    elim h.bytes [
+      | inl laid ↦ omega (arith, more, len, length-layout s (entries_of s h.valid), ap length e, ap length laid)
+      | inr none ↦ omega (arith, len, ap length e, ap length none.0)
+    ]
+
 settle : (image : List ℕ) (s : PrState) (r : CallReply) (after : Option (List ℕ)) (m : Meaning) → StandsFor image s → r ≡ m.reply → Leaves after s m.state
     → IsMeant (outcome image (r, after)) image s m
-settle image s r None m h reply same = record { reply = reply; stands = subst (λ (t : PrState). StandsFor image t) (sym same) h; stays = λ _. refl }
-settle image s r (Some i) m h reply leaves = record { reply = reply; stands = record { valid = leaves.1; bytes = inl leaves.0 }; stays = λ e. absurd (leaves.2 e) }
+settle image s r None m h reply same = record { reply = reply; stands = subst (λ (t : PrState). StandsFor image t) (sym same) h; stays = λ _. refl; moves = λ _. same }
+settle image s r (Some i) m h reply leaves = record {
+  reply = reply;
+  stands = record { valid = leaves.1; bytes = inl leaves.0 };
+  stays = λ e. absurd (other_state s m.state leaves.2 e);
+  moves = λ e. absurd (other_image image s m.state h leaves.1 leaves.2 (sym leaves.0 ∙ e));
+}
 
 over-agrees : (s : PrState) (image : List ℕ) (now : ℕ) (call : PrCall) → IsPrState s → (image ≡ layout s) ⊎ ((image ≡ []) × (s ≡ initial_state)) → Agrees (answer_over image (Some call)) s (meaning s now call)
 over-agrees s image now call h (inl e) =

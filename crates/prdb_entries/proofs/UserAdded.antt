@@ -1,5 +1,5 @@
 -- A valid state stays valid when a user is added, and its image is the state's image with one block more.
-use Rattle.std.proofs.Common.{◌≡◌, ◌≢◌, ℕ, ℤ, pos, zero, suc, ◌+◌, ◌-◌, ◌/◌, ◌<◌, ◌≤◌, Bool, true, false, cond, not, ◌&&◌, ◌||◌, eqb, leb, List, [], ◌∷◌, ◌++◌, length, take, drop, map, Option, Some, refl, sym, ap, subst, ◌∙◌, append_assoc, arith, inl, inr}
+use Rattle.std.proofs.Common.{◌≡◌, ◌≢◌, ℕ, ℤ, pos, zero, suc, ◌+◌, ◌-◌, ◌/◌, ◌<◌, ◌≤◌, Bool, true, false, cond, not, ◌&&◌, ◌||◌, eqb, leb, List, [], ◌∷◌, ◌++◌, length, get_or, take, drop, map, Option, Some, refl, sym, ap, subst, ◌∙◌, append_assoc, arith, inl, inr}
 use Rattle.std.specs.Prelude.{IfSome, codes}
 use Rattle.std.specs.Ordering.{int_eq}
 use Rattle.std.specs.Str.{bytes_eq}
@@ -13,7 +13,7 @@ use Rattle.std.proofs.lemmas.List.Elements.{All-from_recursion, All-push, All-we
 use Rattle.std.proofs.lemmas.List.Quantifiers.{all_pairs_push}
 use Rattle.prdb_entries.specs.Bytes.{IsBytes, bits, words, zeros}
 use Rattle.prdb_entries.specs.Names.{is_name_byte, is_user_name}
-use Rattle.prdb_entries.specs.State.{PrEntry, PrState, IsPrEntry, IsPrState, IsIdOrNone, key, fixed_entries, administrators, anonymous}
+use Rattle.prdb_entries.specs.State.{PrEntry, PrState, IsPrEntry, IsPrState, IsIdOrNone, IsNamedAfter, key, fixed_entries, administrators, anonymous}
 use Rattle.prdb_entries.specs.Meaning.{has_name, has_id, ids_above, next_user_id, new_user, with_user}
 use Rattle.prdb_entries.specs.Layout.{head_of, block_of, layout}
 use Rattle.prdb_entries.specs.Protection.{with_numbers, with_block}
@@ -159,6 +159,23 @@ keeps_owner es u id (inl none) = inl none
 keeps_owner es u id (inr there) =
     inr (subst (λ (l : List ℤ). Contains l id) (sym (map-append (λ e. e.id) es (u ∷ []))) (Contains-append_left (map (λ e. e.id) es) (u.id ∷ []) id there))
 
+-- no entry was owned by the id before it was given
+not_owner : (es : List PrEntry) (id : ℕ) (owner : ℤ) → IsIdOrNone es owner → list_any (λ e. int_eq e.id (pos id)) es ≡ false → 0 < id → pos id ≢ owner
+not_owner es id owner (inl none) new more e =
+    let same : id ≡ 0 = cc in
+    omega (arith, same)
+not_owner es id owner (inr there) new more e =
+    All-from_recursion (λ n. n ≢ pos id) (map (λ e. e.id) es) (other_ids es (pos id) new) there.0 owner there.1 (there.2 ∙ sym e)
+
+named_after : (s : PrState) (name : List ℕ) (id : ℕ) → IsPrState s → has_id s (pos id) ≡ false → 0 < id
+    → All (λ e. All (IsNamedAfter e) (s.entries ++ new_user name id ∷ [])) (s.entries ++ new_user name id ∷ [])
+named_after s name id h new_id more =
+    let u = new_user name id in
+    All-push (λ e. All (IsNamedAfter e) (s.entries ++ u ∷ [])) s.entries u
+    (λ k d lt. All-push (IsNamedAfter (get_or s.entries k d)) s.entries u (h.groups k d lt)
+    (λ group colon owned. absurd (not_owner s.entries id (get_or s.entries k d).owner (h.owners k d lt) new_id more owned)))
+    (λ k d lt group colon owned. absurd group)
+
 pub with_user-valid : (s : PrState) (name : List ℕ) (id : ℕ) → IsPrState s → HasForm name → has_name s name ≡ false → has_id s (pos id) ≡ false → 0 < id → id ≤ 2147483647 → IsPrState (with_user s name id)
 with_user-valid s name id h good new_name new_id more le =
     let entry : IsPrEntry (new_user name id) = record {
@@ -181,12 +198,11 @@ with_user-valid s name id h good new_name new_id more le =
       fixed_first = ap (map key) (take-append-le 6 s.entries (new_user name id ∷ []) (at_least_six s.entries h.fixed_first)) ∙ h.fixed_first;
       owners = All-push (λ e. IsIdOrNone (s.entries ++ new_user name id ∷ []) e.owner) s.entries (new_user name id)
           (All-weaker (λ e. IsIdOrNone s.entries e.owner) (λ e. IsIdOrNone (s.entries ++ new_user name id ∷ []) e.owner) (λ e. keeps_owner s.entries (new_user name id) e.owner) s.entries h.owners) administered;
+      groups = named_after s name id h new_id more;
       creators = All-push (λ e. Contains (map (λ f. f.id) fixed_entries) e.creator) s.entries (new_user name id) h.creators anonymous_fixed;
       max_user = omega arith;
       max_group = h.max_group;
     }
 
-pub with_user-other : (s : PrState) (name : List ℕ) (id : ℕ) → with_user s name id ≢ s
-with_user-other s name id e =
-    let same : length (s.entries ++ new_user name id ∷ []) ≡ length s.entries = ap (λ (t : PrState). length t.entries) e in
-    omega (arith, same, length-append s.entries (new_user name id ∷ []))
+pub one_more : (s : PrState) (name : List ℕ) (id : ℕ) → length (with_user s name id).entries ≡ length s.entries + 1
+one_more s name id = omega (arith, length-append s.entries (new_user name id ∷ []))

@@ -1,7 +1,7 @@
 -- The protection database's state: its entries in the order of their blocks, and the two maxima (ptserver).
-use Rattle.std.specs.Prelude.{ℕ, ℤ, pos, negsuc, ◌≡◌, ◌<◌, ◌≤◌, ◌^◌, ◌⊎◌, ◌≢◌, List, [], ◌∷◌, length, map, take, codes, FitsSigned, All, Contains}
+use Rattle.std.specs.Prelude.{ℕ, ℤ, pos, negsuc, ◌≡◌, ◌<◌, ◌≤◌, ◌^◌, ◌==◌, ◌⊎◌, ◌≢◌, List, [], ◌∷◌, length, map, take, codes, FitsSigned, All, Contains}
 use Rattle.std.specs.Int.{w32}
-use Rattle.std.specs.List.{AllPairs}
+use Rattle.std.specs.List.{AllPairs, before_first}
 use Rattle.prdb_entries.specs.Bytes.{IsBytes}
 
 -- an entry: its name, its flags, its id, the ids of its owner and its creator, and its quota
@@ -60,6 +60,19 @@ abbrev pub IsId : ℤ → Type 0
 IsId (pos n) = (0 < n) × (n ≤ 2147483647)
 IsId (negsuc n) = n < 2147483647
 
+-- an id below 0, which is a group's
+abbrev pub IsGroupId : ℤ → Type 0
+IsGroupId (pos n) = ⊥
+IsGroupId (negsuc n) = Unit {0}
+
+-- a name before its first `:`, or all of it where it has none
+abbrev pub front_of : List ℕ → List ℕ
+front_of name = before_first (λ b. b == 58) name
+
+-- a group with a `:` in its name that this entry owns has the front of the owner's name before its first `:`
+abbrev pub IsNamedAfter : PrEntry → PrEntry → Type 0
+IsNamedAfter e owner = IsGroupId e.id → Contains e.name 58 → owner.id ≡ e.owner → front_of e.name ≡ front_of owner.name
+
 -- an entry whose fields have a place in a block: a name without zero bytes, and words
 pub record IsPrEntry (e : PrEntry) : Type 0 where
   pub name_bytes : IsBytes e.name
@@ -71,14 +84,15 @@ pub record IsPrEntry (e : PrEntry) : Type 0 where
   pub creator : FitsSigned w32 e.creator
   pub quota : FitsSigned w32 e.quota
 
--- a valid state: names and ids are distinct, the fixed entries come first, each owner is none or an entry, each
--- creator is a fixed entry, and the maxima are in range
+-- a valid state: names and ids are distinct, the fixed entries come first, each owner is none or an entry, groups with a `:`
+-- are named after their owners, each creator is a fixed entry, and the maxima are in range
 pub record IsPrState (s : PrState) : Type 0 where
   pub entries : All IsPrEntry s.entries
   pub names : AllPairs (λ a b. a ≢ b) (map (λ e. e.name) s.entries)
   pub ids : AllPairs (λ a b. a ≢ b) (map (λ e. e.id) s.entries)
   pub fixed_first : map key (take 6 s.entries) ≡ map key fixed_entries
   pub owners : All (λ e. IsIdOrNone s.entries e.owner) s.entries
+  pub groups : All (λ e. All (IsNamedAfter e) s.entries) s.entries
   pub creators : All (λ e. Contains (map (λ f. f.id) fixed_entries) e.creator) s.entries
   pub max_user : s.max_user < 2 ^ 31
   pub max_group : (k : ℕ) × (s.max_group ≡ negsuc k) × (k < 2147483647)

@@ -1,8 +1,8 @@
 -- Calls and answers as words of a script.
 use Rattle.std.specs.Prelude.{ℕ, ℤ, pos, zero, suc, Bool, false, not, is_some, ◌&&◌, ◌||◌, List, [], ◌∷◌, ◌++◌, length, drop, Option, Some, None, nat_lt, nat_le, ◌==◌, if◌then◌else◌, codes}
 use Rattle.std.specs.Fmt.{decimal, signed_decimal}
-use Rattle.std.specs.Int.{w32, cast_signed}
-use Rattle.std.specs.List.{list_all}
+use Rattle.std.specs.Int.{w32, from_be_bytes, cast_signed}
+use Rattle.std.specs.List.{flat_map, list_all}
 use Rattle.std.specs.Option.{option_map}
 use Rattle.std.specs.Ordering.{int_eq}
 use Rattle.std.specs.Str.{bytes_eq}
@@ -126,3 +126,13 @@ answer_text (NameToId names) reply = id_list_text reply
 
 abbrev pub reply_in_words : List ℕ → List ℕ → Option (List ℕ)
 reply_in_words call reply = call_of call >>= λ c. answer_text c reply
+
+-- each word of four bytes, in its order, as a decimal number with a sign; what is left behind whole words has none
+unfoldable pub number_words : List ℕ → List (List ℕ)
+number_words (a ∷ b ∷ c ∷ d ∷ rest) = signed_decimal (cast_signed w32 (from_be_bytes w32 (a ∷ b ∷ c ∷ d ∷ []))) ∷ number_words rest
+number_words rest = []
+
+-- words, joined by blanks
+abbrev pub joined : List (List ℕ) → List ℕ
+joined [] = []
+joined (word ∷ words) = word ++ flat_map (λ w. 32 ∷ w) words

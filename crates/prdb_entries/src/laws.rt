@@ -9,6 +9,7 @@ ghost use Rattle.prdb_entries.specs.Layout.{StandsFor};
 ghost use Rattle.prdb_entries.specs.Agreement.{IsMeant};
 ghost use Rattle.prdb_entries.specs.Words.{call_in};
 ghost use Rattle.prdb_entries.specs.Protection.{outcome, protection};
+ghost use Rattle.prdb_entries.specs.Words.{number_words, joined, reply_in_words};
 
 use db_image::CallReply;
 
@@ -35,4 +36,12 @@ pub fn law_words_name_a_call()
 /// The empty image stands for the first state, which is valid.
 pub fn law_empty_is_initial()
     ensures { StandsFor [] initial_state }
+{}
+
+/// The words of an answer are its numbers: each word of four bytes in its order, as a decimal number with a sign. So who prints
+/// an answer without knowing its call prints the same words.
+pub fn law_answers_are_words()
+    ensures { (s : PrState) (now : ℕ) (call : PrCall) (fields : List ℕ) → IsPrCall call
+        → (meaning s now call).reply ≡ CallReply.Done fields
+        → reply_in_words (spelling call) fields ≡ Some (joined (number_words fields)) }
 {}

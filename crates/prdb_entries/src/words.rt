@@ -309,7 +309,8 @@ fn push_ids(mut out: String, count: u32, bytes: &[u8]) -> Result<Option<String>,
 }
 
 /// The words of the answer to a call, joined by blanks; None exactly where the bytes are no call of this
-/// database, or no answer to it.
+/// database, or the answer has not the form of this kind of call: one id, or a number and so many ids. The
+/// names in the call are not looked at, so a list may have more ids than the call has names, or fewer.
 pub fn reply_words(alloc: Global, call: &[u8], reply: &[u8]) -> Result<Option<Bytes>, NoMemory>
     ensures { IfOk result (λ r. r ≡ reply_in_words call.now reply.now) }
 {

@@ -2,8 +2,9 @@
 use Rattle.std.specs.Prelude.{◌≡◌, ◌⊎◌, ◌+◌, ◌-◌, ◌<◌, ◌≤◌, ℕ, true, Option, Some, None, IsSomeAnd, Result, Ok, List, [], ◌∷◌, ◌++◌, map}
 use Rattle.db_image.specs.Database.{Database}
 use Rattle.disk_base.specs.Crash.{IsSettled}
-use Rattle.disk_base.specs.Files.{Files, no_files, Stop}
-use Rattle.disk_base.specs.Files.Stop.{Unarmed}
+use Rattle.disk_base.specs.Files.{Files, no_files}
+use Rattle.disk_base.specs.Stops.{Stop}
+use Rattle.disk_base.specs.Stops.Stop.{Unarmed}
 use Rattle.cell_model.specs.declared.events.NodeEvent.{NodeEvent}
 use Rattle.cell_model.specs.Book.{Run, run_after}
 use Rattle.cell_model.specs.Durable.{Durable, durable, no_database}

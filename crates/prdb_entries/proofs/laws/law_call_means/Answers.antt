@@ -1,4 +1,4 @@
-use Rattle.std.proofs.Common.{List, ℕ, ap}
+use Rattle.std.proofs.Common.{ap}
 use Rattle.prdb_entries.specs.Protection.{Answer, outcome}
 use Rattle.prdb_entries.specs.Reading.{call_of}
 use Rattle.prdb_entries.proofs.Means.{call-means}
