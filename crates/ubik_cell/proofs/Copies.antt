@@ -9,10 +9,10 @@ use Rattle.cell_model.specs.declared.events.NodeEvent.TheVariants as node
 use Rattle.cell_model.specs.declared.events.Output.TheVariants as output
 use Rattle.cell_model.specs.declared.events.Reply.{Reply}
 use Rattle.cell_model.specs.declared.events.Reply.TheVariants as reply
-use Rattle.cell_model.specs.Book.{Run, first_run, order_of}
+use Rattle.cell_model.specs.Book.{Run, first_run, run_with, order_of}
 use Rattle.cell_model.specs.Causes.{MayBeMalformed, IsReplyOf, HasCause, RepliesHaveCauses}
 use Rattle.cell_model.specs.Durable.{Transaction}
-use Rattle.cell_model.specs.KeptLaws.{AcknowledgedStay, OksAreAcknowledged, SitesAreSingle, RepliesAreSingle, IsPlaced, IsSingle, IsSeenOf, Answered, answered, answered_by, run_of_one}
+use Rattle.cell_model.specs.KeptLaws.{AcknowledgedStay, OksAreAcknowledged, SitesAreSingle, RepliesAreSingle, IsPlaced, IsRecorded, IsSingle, IsSeenOf, Answered, answered, answered_by, run_of_one}
 use Rattle.cell_model.specs.Laws.{AnnouncementsGrow, run_through}
 use Rattle.cell_model.specs.Node.{Node, Down, Halted, Up}
 use Rattle.cell_model.specs.NodeRule.{is_short}
@@ -24,9 +24,9 @@ use Rattle.prdb_entries.specs.Protection.{protection}
 use Rattle.prdb_entries.specs.Reading.{call_of}
 use Rattle.ubik_cell.specs.OneCopy.{HasOneOrder, IsKept, HasSingleReplies, IsProper}
 use Rattle.ubik_cell.specs.Script.{IsScripted}
-use Rattle.ubik_cell.specs.SingleState.{HasState, reply_of, state_of}
-use Rattle.ubik_cell.proofs.SingleState.{DatabaseLaws, image_stands, reply_meant, never_bad, over_call}
-use Rattle.ubik_cell.proofs.Telling.{same_some}
+use Rattle.ubik_cell.specs.SingleState.{HasState, IsCounted, reply_of, state_of}
+use Rattle.ubik_cell.proofs.SingleState.{DatabaseLaws, image_stands, reply_meant, never_bad, over_call, counted}
+use Rattle.ubik_cell.proofs.Telling.{over_told, same_some}
 use Rattle.ubik_cell.proofs.Worth.{EachHas, run_append}
 
 pub one_order : AnnouncementsGrow → (db : Database) → EachHas HasOneOrder db
@@ -139,5 +139,12 @@ kept laws stay sites oks clock failed events scripted =
           let order = order_of r.announcements in
           All-weaker (λ site. IsSingle protection order 1 site.clock site.node) (λ site. IsSingle protection order 1 site.clock site.node × HasState order 1 site.clock site.node)
           (λ site single. (single, has_state laws order 1 site.clock site.node single)) r.world.sites (sites protection clock failed front);
-      recorded = λ front back server id call fields short split. oks protection clock failed front server id call fields short;
+      recorded = λ front back server id call fields short split writes seen.
+          let r = run_of_one protection clock failed front in
+          let h = happens protection r.world (Step server (node.Ask id call) short) in
+          let before = order_of r.announcements in
+          let after = order_of (run_with r h).announcements in
+          let asked : Site → Transaction = λ site. record { moment = site.clock; call = call } in
+          over_told (λ site. IsRecorded protection before after h.acknowledged (asked site)) (λ site. IsCounted before after h.acknowledged (asked site)) (site_of r.world.sites server)
+          (oks protection clock failed front server id call fields short writes seen) (λ site. counted laws before after h.acknowledged (asked site));
     }

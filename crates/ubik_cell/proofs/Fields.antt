@@ -3,6 +3,7 @@ use Rattle.std.proofs.Common.{◌≡◌, ℕ, ◌-◌, ◌≤◌, ◌<◌, List,
 use Rattle.std.proofs.lemmas.List.{take_rest, append-nil}
 use Rattle.std.specs.Fmt.{signed_decimal}
 use Rattle.std.specs.Int.{w32, from_be_bytes, cast_signed}
+use Rattle.prdb_entries.specs.Words.{number_words}
 use Rattle.ubik_cell.specs.Trace.{fields_text}
 
 -- a field behind its blank
@@ -16,7 +17,7 @@ abbrev pub behind_first : List ℕ → List ℕ
 behind_first s = take (length s - 4) (drop 4 s)
 
 first_field : (s : List ℕ) → 4 ≤ length s → fields_text s ≡ first_text s ++ fields_text (behind_first s)
-unfolding fields_text
+unfolding fields_text number_words
 first_field [] h = absurd (omega (arith, h))
 first_field (a ∷ []) h = absurd (omega (arith, h))
 first_field (a ∷ b ∷ []) h = absurd (omega (arith, h))
@@ -24,7 +25,7 @@ first_field (a ∷ b ∷ c ∷ []) h = absurd (omega (arith, h))
 first_field (a ∷ b ∷ c ∷ d ∷ rest) h = ap (λ (left : List ℕ). field_text a b c d ++ fields_text left) (sym (take_rest (a ∷ b ∷ c ∷ d ∷ rest) 4))
 
 no_field : (s : List ℕ) → length s < 4 → fields_text s ≡ []
-unfolding fields_text
+unfolding fields_text number_words
 no_field [] h = refl
 no_field (a ∷ []) h = refl
 no_field (a ∷ b ∷ []) h = refl

@@ -1,9 +1,10 @@
 -- The image of a list of transactions stands for the state of the list, so the single copy replies what calls mean there.
-use Rattle.std.proofs.Common.{◌≡◌, ◌≢◌, ℕ, Bool, true, false, cond, not, eqb, length, List, [], ◌∷◌, Option, Some, None, refl, sym, ap, subst}
+use Rattle.std.proofs.Common.{◌≡◌, ◌≢◌, ℕ, Bool, true, false, cond, not, eqb, length, List, [], ◌∷◌, ◌++◌, Option, Some, None, inl, inr, refl, sym, ap, subst, ◌∙◌}
 use Rattle.db_image.specs.declared.services.CallReply.{CallReply}
 use Rattle.db_image.specs.declared.services.CallReply.TheVariants.{Malformed, BadRecord}
 use Rattle.db_image.specs.Database.{Outcome}
 use Rattle.cell_model.specs.Durable.{Transaction}
+use Rattle.cell_model.specs.KeptLaws.{IsRecorded}
 use Rattle.cell_model.specs.SingleCopy.{image_from, image_of, reply_after}
 use Rattle.prdb_entries.specs.Agreement.{IsMeant}
 use Rattle.prdb_entries.specs.Call.{PrCall, NewUser, NameToId}
@@ -14,7 +15,7 @@ use Rattle.prdb_entries.specs.Blocks.{blocks_of, has_whole_blocks, name_among}
 use Rattle.prdb_entries.specs.Protection.{Answer, added, answer, answer_new_user, answer_over, next_id, protection, outcome, refusal}
 use Rattle.prdb_entries.specs.Reading.{call_of}
 use Rattle.prdb_entries.specs.State.{PrState, initial_state}
-use Rattle.ubik_cell.specs.SingleState.{state_after, state_from, state_of, reply_in, reply_of}
+use Rattle.ubik_cell.specs.SingleState.{IsCounted, state_after, state_from, state_of, reply_in, reply_of}
 
 -- the laws of the protection database
 pub record DatabaseLaws : Type 0 where
@@ -44,6 +45,28 @@ replied laws image s now bytes (Some call) is stands = (laws.means s image bytes
 pub reply_meant : DatabaseLaws → (transactions : List Transaction) (now : ℕ) (bytes : List ℕ) → reply_after protection transactions now bytes ≡ reply_of transactions now bytes
 reply_meant laws transactions now bytes =
     replied laws (image_of protection transactions) (state_of transactions) now bytes (call_of bytes) refl (image_stands laws transactions)
+
+state_from-append : (s : PrState) (front more : List Transaction) → state_from s (front ++ more) ≡ state_from (state_from s front) more
+state_from-append s [] more = refl
+state_from-append s (t ∷ front) more = state_from-append (state_after s t.moment (call_of t.call)) front more
+
+image_from-append : (image : List ℕ) (front more : List Transaction) → image_from protection image (front ++ more) ≡ image_from protection (image_from protection image front) more
+image_from-append image [] more = refl
+image_from-append image (t ∷ front) more = image_from-append (protection.call image t.moment t.call).image front more
+
+still : DatabaseLaws → (image : List ℕ) (s : PrState) (now : ℕ) (bytes : List ℕ) (call : Option PrCall) → call_of bytes ≡ call → StandsFor image s → (protection.call image now bytes).image ≡ image → state_after s now call ≡ s
+still laws image s now bytes None is stands same = refl
+still laws image s now bytes (Some call) is stands same = (laws.means s image bytes now call stands is).moves same
+
+-- a transaction that leaves the image leaves the state
+unmoved : DatabaseLaws → (order : List Transaction) (t : Transaction) → image_of protection (order ++ t ∷ []) ≡ image_of protection order → state_of (order ++ t ∷ []) ≡ state_of order
+unmoved laws order t same =
+    state_from-append initial_state order (t ∷ [])
+    ∙ still laws (image_of protection order) (state_of order) t.moment t.call (call_of t.call) refl (image_stands laws order) (sym (image_from-append [] order (t ∷ [])) ∙ same)
+
+pub counted : DatabaseLaws → (before after acknowledged : List Transaction) (t : Transaction) → IsRecorded protection before after acknowledged t → IsCounted before after acknowledged t
+counted laws before after acknowledged t (inl made) = inl made
+counted laws before after acknowledged t (inr same) = inr (unmoved laws before t same)
 
 -- a reply that is not for a bad record
 abbrev IsGood : CallReply → Type 0

@@ -7,7 +7,7 @@ use Rattle.cell_model.specs.Book.{Run, run_with, order_of}
 use Rattle.cell_model.specs.declared.events.NodeEvent.TheVariants.{Ask}
 use Rattle.cell_model.specs.declared.events.Output.TheVariants as output
 use Rattle.cell_model.specs.declared.events.Reply.TheVariants as reply
-use Rattle.cell_model.specs.KeptLaws.{run_of_one, IsPlaced, IsSingle, IsSeenOf, IsRecorded, answered_by}
+use Rattle.cell_model.specs.KeptLaws.{run_of_one, IsPlaced, IsSingle, IsSeenOf, answered_by}
 use Rattle.cell_model.specs.Laws.{Grows}
 use Rattle.cell_model.specs.World.{Site, Event, Step, Happening, Puts, IsRun, site_of, happens, first_seen, first_world, seen_of}
 use Rattle.ubik_node.specs.Database.{durable_of}
@@ -15,7 +15,7 @@ use Rattle.ubik_cell.specs.declared.cells.CellKind.{CellKind}
 use Rattle.ubik_cell.specs.declared.cells.CellKind.TheVariants as kind
 use Rattle.ubik_cell.specs.Run.{Runs}
 use Rattle.ubik_cell.specs.Script.{IsScripted, Opening, Reading, Stop, Told, told, sound_readings}
-use Rattle.ubik_cell.specs.SingleState.{HasState, reply_of}
+use Rattle.ubik_cell.specs.SingleState.{HasState, IsCounted, reply_of}
 use Rattle.ubik_cell.specs.Sites.{Held}
 use Rattle.ubik_cell.specs.Trace.{trace, ending_text}
 
@@ -40,7 +40,7 @@ HasOneOrder db clock failed events = Grows (run_of_one db clock failed events).a
 
 -- What was acknowledged at any place of the run is in the order at each later one, at its place; and the database of each
 -- ready sync site at any place is the single copy's after the order there, and stands for the state of the order. Each Ok to a
--- call that writes is acknowledged in that event, and is the next one of the order, or the call changes nothing.
+-- call that writes is acknowledged in that event, and is the next one of the order, or the call leaves the state of the order.
 pub record IsKept (db : Database) (clock : ℕ) (failed : Bool) (events : List Event) : Type 0 where
   pub stays : (front middle back : List Event) → events ≡ (front ++ middle) ++ back →
       All (λ a. IsPlaced (order_of (run_of_one db clock failed (front ++ middle)).announcements) a)
@@ -54,7 +54,7 @@ pub record IsKept (db : Database) (clock : ℕ) (failed : Bool) (events : List E
       let h = happens db r.world (Step server (Ask id call) short) in
       db.writes call ≡ Some true → Contains h.seen (Puts server (output.Reply id (reply.Ok fields))) →
       IfSome (site_of r.world.sites server) (λ site.
-      IsRecorded db (order_of r.announcements) (order_of (run_with r h).announcements) h.acknowledged (record { moment = site.clock; call = call }))
+      IsCounted (order_of r.announcements) (order_of (run_with r h).announcements) h.acknowledged (record { moment = site.clock; call = call }))
 
 -- no reply is that the bytes asked are no call, that the database is bad, or that memory ran out
 abbrev pub IsProper : Happening → Type 0

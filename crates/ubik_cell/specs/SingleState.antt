@@ -1,6 +1,6 @@
 -- The state of the single copy: what the calls of a list of transactions mean, one after the other; and what it replies
 -- by that state (own).
-use Rattle.std.specs.Prelude.{◌≡◌, ℕ, true, Option, Some, None, List, [], ◌∷◌}
+use Rattle.std.specs.Prelude.{◌≡◌, ◌⊎◌, ◌++◌, ℕ, true, Option, Some, None, List, [], ◌∷◌}
 use Rattle.db_image.specs.declared.services.CallReply.{CallReply}
 use Rattle.db_image.specs.declared.services.CallReply.TheVariants.{Malformed}
 use Rattle.cell_model.specs.Book.{is_ready_site, site_database}
@@ -34,6 +34,11 @@ reply_in s now (Some call) = (meaning s now call).reply
 -- what the single copy replies to a call after these transactions
 abbrev pub reply_of : List Transaction → ℕ → List ℕ → CallReply
 reply_of transactions now call = reply_in (state_of transactions) now (call_of call)
+
+-- the transaction is the one acknowledged, and the order goes on with it; or it leaves the state of the order as it is
+abbrev pub IsCounted : (before after acknowledged : List Transaction) → Transaction → Type 0
+IsCounted before after acknowledged t =
+    ((acknowledged ≡ t ∷ []) × (after ≡ before ++ t ∷ [])) ⊎ (state_of (before ++ t ∷ []) ≡ state_of before)
 
 -- the database of a server of n that is a ready sync site stands for the state after these transactions
 abbrev pub HasState : List Transaction → ℕ → ℕ → Node → Type 0

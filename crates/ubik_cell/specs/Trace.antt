@@ -1,9 +1,9 @@
 -- The trace of a run: the text of what is seen, a line for each, in its order. Server k of the world's list
 -- is printed as k + 1.
 use Rattle.std.specs.Prelude.{ℕ, ◌+◌, List, [], ◌∷◌, ◌++◌, codes}
-use Rattle.std.specs.Fmt.{decimal, signed_decimal}
-use Rattle.std.specs.Int.{w32, from_be_bytes, cast_signed}
+use Rattle.std.specs.Fmt.{decimal}
 use Rattle.std.specs.List.{flat_map}
+use Rattle.prdb_entries.specs.Words.{number_words}
 use Rattle.ubik_types.specs.declared.versions.Version.{Version}
 use Rattle.ubik_types.specs.declared.phases.Phase.{Phase}
 use Rattle.ubik_types.specs.declared.phases.Phase.TheVariants as phases
@@ -33,10 +33,9 @@ abbrev pub applied_word : Applied → List ℕ
 applied_word applied.No = codes "no"
 applied_word applied.Unknown = codes "unknown"
 
--- the answer fields, which are numbers today: each behind a blank
+-- the answer fields, which are numbers today: the word of each behind a blank
 unfoldable pub fields_text : List ℕ → List ℕ
-fields_text (a ∷ b ∷ c ∷ d ∷ rest) = 32 ∷ signed_decimal (cast_signed w32 (from_be_bytes w32 (a ∷ b ∷ c ∷ d ∷ []))) ++ fields_text rest
-fields_text rest = []
+fields_text fields = flat_map (λ word. 32 ∷ word) (number_words fields)
 
 abbrev pub version_text : Version → List ℕ
 version_text v = decimal v.epoch ++ 46 ∷ decimal v.counter
