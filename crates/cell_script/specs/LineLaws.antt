@@ -1,10 +1,10 @@
 -- Laws of the lines of a text.
 use Rattle.std.specs.Prelude.{◌≡◌, ◌≢◌, if◌then◌else◌, ℕ, Bool, List, [], ◌∷◌, ◌++◌, refl}
 use Rattle.std.specs.List.{All, flat_map, onto_first}
-use Rattle.std.proofs.Common.{ap, sym, ◌∙◌, inl, inr, append_assoc}
+use Rattle.std.proofs.Common.{ap, sym, ◌∙◌, append_assoc}
 use Rattle.std.proofs.lemmas.Bool.{ne_eqb}
 use Rattle.std.proofs.lemmas.List.Elements.{All-head, All-tail}
-use Rattle.cell_script.specs.Lines.{HasNoLf, IsFirstLine, lines_of, whole_lines, longer_first}
+use Rattle.cell_script.specs.Lines.{HasNoLf, lines_of, whole_lines, longer_first}
 
 -- the text of these lines, each ended by an LF
 abbrev pub text_of : List (List ℕ) → List ℕ
@@ -68,15 +68,6 @@ whole_lines-part [] none = refl
 whole_lines-part (b ∷ part) none =
     whole_lines-cons b part (no_lf-head b part none)
     ∙ ap (λ lines. longer_first b lines) (whole_lines-part part (no_lf-tail b part none))
-
--- what stands first in a text, and what is left after it
-pub lines_of-first : (text line rest : List ℕ) → HasNoLf line → IsFirstLine text line rest → lines_of text ≡ line ∷ lines_of rest
-lines_of-first text line rest none (inl read) = ap lines_of read ∙ lines_of-line line rest none
-lines_of-first text [] rest none (inr last) = elim last.2 [ ]
-lines_of-first text (b ∷ line) rest none (inr last) =
-    ap lines_of last.0
-    ∙ lines_of-part (b ∷ line) none
-    ∙ ap (λ bytes. (b ∷ line) ∷ lines_of bytes) (sym last.1)
 
 -- a line, and the lines after it, that a text has from a front of a line on
 pub record BeginsLine (text front : List ℕ) : Type 0 where

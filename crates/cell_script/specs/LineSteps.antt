@@ -1,5 +1,5 @@
 -- The reading of a line, byte by byte.
-use Rattle.std.specs.Prelude.{◌≡◌, ◌≢◌, ◌<◌, ℕ, List, [], ◌∷◌, ◌++◌, length, Option, Some, None, ◌⊎◌}
+use Rattle.std.specs.Prelude.{◌≡◌, ◌≢◌, ◌<◌, ℕ, Bool, true, false, List, [], ◌∷◌, ◌++◌, length, Option, Some, None}
 use Rattle.cell_script.specs.Lines.{HasNoLf}
 use Rattle.cell_script.specs.declared.readers.LineEnd.{LineEnd}
 use Rattle.cell_script.specs.declared.readers.LineEnd.TheVariants.{Line, TooLong, End, Failed}
@@ -32,17 +32,18 @@ pub record Overflows (text : List ℕ) (after : Option (List ℕ)) (line : List 
   pub full : length line ≡ 1024
   pub taken : TakesFirst byte text after
 
--- an LF was taken, or nothing was left and the line is not empty
-abbrev pub EndsLine : List ℕ → Option (List ℕ) → List ℕ → Type 0
-EndsLine text after line = TakesFirst 10 text after ⊎ (text ≡ []) × (after ≡ Some []) × (0 < length line)
+-- an LF was taken, or the source ended behind a line that is not empty
+abbrev pub EndsLine : Bool → List ℕ → Option (List ℕ) → List ℕ → Type 0
+EndsLine false text after line = TakesFirst 10 text after
+EndsLine true text after line = (text ≡ []) × (after ≡ Some []) × (0 < length line)
 
--- one step of the reading of a line
-abbrev pub Extends : Option LineEnd → List ℕ → Option (List ℕ) → List ℕ → List ℕ → Type 0
-Extends None text after old new = AddsByte text after old new
-Extends (Some Line) text after old new = (new ≡ old) × EndsLine text after old
-Extends (Some TooLong) text after old new = Overflows text after old
-Extends (Some End) text after old new = (old ≡ []) × (new ≡ []) × (text ≡ []) × (after ≡ Some [])
-Extends (Some Failed) text after old new = after ≡ Some text
+-- one step of the reading of a line, after which the source has ended or not
+abbrev pub Extends : Option LineEnd → List ℕ → Option (List ℕ) → List ℕ → List ℕ → Bool → Type 0
+Extends None text after old new ended = AddsByte text after old new
+Extends (Some Line) text after old new ended = (new ≡ old) × EndsLine ended text after old
+Extends (Some TooLong) text after old new ended = (ended ≡ false) × Overflows text after old
+Extends (Some End) text after old new ended = (ended ≡ true) × (old ≡ []) × (text ≡ []) × (after ≡ Some [])
+Extends (Some Failed) text after old new ended = (ended ≡ false) × (after ≡ Some text)
 
 -- a part of a line was read from a text
 pub record HasRead (text : List ℕ) (after : Option (List ℕ)) (line : List ℕ) : Type 0 where

@@ -1,5 +1,5 @@
 //! Reading a text line by line.
-ghost use Rattle.std.specs.Prelude.{◌≡◌, ◌+◌, ◌<◌, ◌≤◌, ℕ, List, [], length, IfSome, IfOk, vec_len, vec_capacity};
+ghost use Rattle.std.specs.Prelude.{◌≡◌, ◌+◌, ◌<◌, ◌≤◌, ℕ, true, false, List, [], length, IfSome, IfOk, vec_len, vec_capacity};
 ghost use Rattle.disk_base.specs.Count.{HasCause};
 ghost use Rattle.cell_script.specs.Lines.{ReadsLine};
 ghost use Rattle.cell_script.specs.LineSteps.{TakesByte, Extends};
@@ -29,18 +29,21 @@ pub enum LineEnd {
 }
 
 /// Reads the lines of a source, one at a time. It takes all its memory when it is made, and holds one line
-/// at most. Contracts see the line that was read last.
+/// at most. Contracts see the line that was read last, and whether the source has ended, behind which it is not
+/// asked again.
 #[derive(Drop)]
 pub struct LineReader {
     line: Vec<u8>,
+    ended: bool,
 }
 
 impl Model for LineReader {
-    ghost use Rattle.std.specs.Prelude.{ℕ, List, length, ◌≤◌, vec_capacity};
+    ghost use Rattle.std.specs.Prelude.{length, ◌≤◌, vec_capacity};
+    ghost use Rattle.cell_script.specs.Reader.{ReaderState};
 
-    ghost Value = { List ℕ };
+    ghost Value = { ReaderState };
 
-    ghost view = { λ r. r.line.items };
+    ghost view = { λ r. record { line = r.line.items; ended = r.ended } };
 
     ghost invariant = { λ r. (1024 ≤ vec_capacity r.line) × (length r.line.items ≤ 1024) };
 }
@@ -48,29 +51,36 @@ impl Model for LineReader {
 impl LineReader {
     /// A reader with room for one line, which holds the empty line. The error is want of memory.
     pub fn new(alloc: Global) -> Result<LineReader, NoMemory>
-        ensures { IfOk result (λ r. r ≡ []) }
+        ensures { IfOk result (λ r. r ≡ record { line = []; ended = false }) }
     {
         let line = Vec::with_capacity(alloc, MAX_LINE)?;
-        Ok(LineReader { line })
+        let ended = false;
+        Ok(LineReader { line, ended })
     }
 
     /// The line that was read last, without its LF. It says nothing after an end other than
     /// [`LineEnd::Line`].
     pub fn line(&self) -> &[u8]
-        ensures line { result.now ≡ self.now }
+        ensures line { result.now ≡ self.now.line }
         ensures short { length result.now ≤ 1024 }
     {
         self.line.as_slice()
     }
 
-    /// Reads the next line, without its LF. It reads a byte at a time, since the source is the buffer.
+    /// Reads the next line, without its LF. It reads a byte at a time, since the source is the buffer. Once the source
+    /// has ended, be it behind a line that lacks its LF, nothing more is read.
     pub fn next_line<S: Source>(&mut self, source: &mut S) -> LineEnd
-        ensures told { IfSome (S.left source.old) (λ text. ReadsLine result text (S.left source.new) self.new) }
+        ensures told { self.old.ended ≡ false →
+            IfSome (S.left source.old) (λ text. ReadsLine result text (S.left source.new) self.new.line self.new.ended) }
+        ensures ended { self.old.ended ≡ true → (result ≡ LineEnd.End) × (source.new ≡ source.old) × (self.new ≡ self.old) }
         ensures cause { HasCause (S.faults source.old) (S.faults source.new) (result ≡ LineEnd.Failed) }
     {
+        if self.ended {
+            return LineEnd::End;
+        }
         self.line.clear();
         loop {
-            if let Some(end) = extend_line(&mut self.line, source) {
+            if let Some(end) = extend_line(&mut self.line, &mut self.ended, source) {
                 return end;
             }
         }
@@ -97,15 +107,18 @@ fn next_byte<S: Source>(source: &mut S) -> Next
     }
 }
 
-/// Reads one byte of a line. It says how the line ended, or nothing where the byte was added to it.
-fn extend_line<S: Source>(line: &mut Vec<u8>, source: &mut S) -> Option<LineEnd>
+/// Reads one byte of a line, or notes that the source has ended. It says how the line ended, or nothing where the byte
+/// was added to it.
+fn extend_line<S: Source>(line: &mut Vec<u8>, ended: &mut bool, source: &mut S) -> Option<LineEnd>
     requires room { 1024 ≤ vec_capacity line.old }
     requires short { length line.old.items ≤ 1024 }
+    requires going { ended.old ≡ false }
     ensures told { IfSome (S.left source.old)
-        (λ text. Extends result text (S.left source.new) line.old.items line.new.items) }
+        (λ text. Extends result text (S.left source.new) line.old.items line.new.items ended.new) }
     ensures room { 1024 ≤ vec_capacity line.new }
     ensures short { length line.new.items ≤ 1024 }
     ensures longer { result ≡ None → length line.new.items ≡ length line.old.items + 1 }
+    ensures going { result ≡ None → ended.new ≡ false }
     ensures cause { HasCause (S.faults source.old) (S.faults source.new) (result ≡ Some LineEnd.Failed) }
 {
     match next_byte(source) {
@@ -115,8 +128,14 @@ fn extend_line<S: Source>(line: &mut Vec<u8>, source: &mut S) -> Option<LineEnd>
             line.push(byte).unwrap();
             None
         }
-        Next::End if line.is_empty() => Some(LineEnd::End),
-        Next::End => Some(LineEnd::Line),
+        Next::End => {
+            *ended = true;
+            Some(if line.is_empty() {
+                LineEnd::End
+            } else {
+                LineEnd::Line
+            })
+        }
         Next::Failed => Some(LineEnd::Failed),
     }
 }
@@ -124,6 +143,8 @@ fn extend_line<S: Source>(line: &mut Vec<u8>, source: &mut S) -> Option<LineEnd>
 #[cfg(test)]
 mod tests {
     use super::*;
+    use disk_base::MemSource;
+    use std::process::Abort;
     use std::test::Fail;
 
     /// A text that is given a byte at a time, and then fails so many times.
@@ -172,8 +193,8 @@ mod tests {
 
     #[test]
     fn reads_long_lines(rt: HostRuntime) -> Result<(), Fail> {
-        let mut reader = LineReader::new(rt.alloc())?;
         for (len, end) in [(1024usize, LineEnd::Line), (1025, LineEnd::TooLong)] {
+            let mut reader = LineReader::new(rt.alloc())?;
             let line = vec![in rt.alloc(); b'a'; len]?;
             let mut text = Text {
                 rest: &line,
@@ -181,6 +202,42 @@ mod tests {
             };
             assert_eq!(rt; reader.next_line(&mut text), end, "at {len}");
             assert_eq!(rt; reader.next_line(&mut text), LineEnd::End, "after {len}");
+        }
+        Ok(())
+    }
+
+    /// How the lines of a text end, one after the other, where this call of its source fails.
+    fn expect_ends(
+        rt: &impl Abort,
+        alloc: Global,
+        text: &[u8],
+        fails: u64,
+        ends: &[LineEnd],
+    ) -> Result<(), Fail> {
+        let mut source = MemSource::new(alloc, text, &[fails])?;
+        let mut reader = LineReader::new(alloc)?;
+        for end in ends {
+            assert_eq!(rt; reader.next_line(&mut source), *end, "call {fails} fails");
+        }
+        Ok(())
+    }
+
+    /// Each byte is a call, and the end is one more. Behind the end the source is not asked again.
+    #[test]
+    fn a_source_fails_before_at_and_behind_the_end(rt: HostRuntime) -> Result<(), Fail> {
+        let (line, end, failed) = (LineEnd::Line, LineEnd::End, LineEnd::Failed);
+        for (text, fails, ends) in [
+            ("a\nb", 1u64, [failed, line, line, end]),
+            ("a\nb", 3, [line, failed, line, end]),
+            ("a\nb", 4, [line, failed, end, end]),
+            ("a\nb", 5, [line, line, end, end]),
+            ("a\nb\n", 4, [line, failed, line, end]),
+            ("a\nb\n", 5, [line, line, failed, end]),
+            ("a\nb\n", 6, [line, line, end, end]),
+            ("", 1, [failed, end, end, end]),
+            ("", 2, [end, end, end, end]),
+        ] {
+            expect_ends(&rt, rt.alloc(), text.as_bytes(), fails, ends.as_slice())?;
         }
         Ok(())
     }

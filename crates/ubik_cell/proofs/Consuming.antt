@@ -1,12 +1,12 @@
 -- How the lines that were read of a text grow.
-use Rattle.std.proofs.Common.{rules, ◌≡◌, ◌<◌, ℕ, List, [], ◌∷◌, ◌++◌, length, inl, inr, refl, sym, ap, ◌∙◌, arith, append_assoc, length-append}
+use Rattle.std.proofs.Common.{rules, ◌≡◌, ◌<◌, ℕ, List, [], ◌∷◌, ◌++◌, length, Bool, true, false, refl, sym, ap, ◌∙◌, arith, append_assoc, length-append}
 use Rattle.std.proofs.lemmas.List.{append-nil}
 use Rattle.std.specs.List.{All}
 use Rattle.std.proofs.lemmas.List.Elements.{All-append, All-nil}
 use Rattle.std.proofs.lemmas.Grind.{common_steps}
-use Rattle.cell_script.specs.Lines.{HasNoLf, IsFirstLine, lines_of}
+use Rattle.cell_script.specs.Lines.{HasNoLf, IsFirstLine, lines_of, whole_lines}
 use Rattle.cell_script.specs.LineLaws.{text_of, last_line, lines_of-front, lines_of-before, lines_of-text_of, whole_lines-text_of}
-use Rattle.ubik_cell.specs.Run.{IsConsumed, IsReadWhole}
+use Rattle.ubik_cell.specs.Run.{IsConsumed}
 
 -- one more line of a text of lines
 text_of-push : (lines : List (List ℕ)) (line : List ℕ) → text_of (lines ++ line ∷ []) ≡ text_of lines ++ line ++ 10 ∷ []
@@ -27,14 +27,14 @@ pub record IsRead (text left : List ℕ) (lines : List (List ℕ)) : Type 0 wher
   pub split : text ≡ read ++ left
   pub all : lines_of read ≡ lines
 
-pub read_so_far : (text left : List ℕ) (lines : List (List ℕ)) → IsConsumed text left lines → IsRead text left lines
-read_so_far text left lines (inl whole) = record { read = text_of lines; split = whole.0; all = lines_of-whole lines whole.1 }
-read_so_far text left lines (inr end) = record { read = text; split = sym (append-nil text) ∙ ap (λ (l : List ℕ). text ++ l) (sym end.0); all = end.1 }
+pub read_so_far : (ended : Bool) (text left : List ℕ) (lines : List (List ℕ)) → IsConsumed ended text left lines → IsRead text left lines
+read_so_far false text left lines whole = record { read = text_of lines; split = whole.0; all = lines_of-whole lines whole.1 }
+read_so_far true text left lines end = record { read = text; split = sym (append-nil text) ∙ ap (λ (l : List ℕ). text ++ l) (sym end.0); all = end.1 }
 
 -- the lines of a text are those that were read, and later ones
-pub later_lines : (text left : List ℕ) (lines : List (List ℕ)) → IsConsumed text left lines → (later : List (List ℕ)) × (lines_of text ≡ lines ++ later)
-later_lines text left lines (inl whole) = (lines_of left, ap lines_of whole.0 ∙ lines_of-before lines left whole.1)
-later_lines text left lines (inr end) = ([], end.1 ∙ sym (append-nil lines))
+pub later_lines : (ended : Bool) (text left : List ℕ) (lines : List (List ℕ)) → IsConsumed ended text left lines → (later : List (List ℕ)) × (lines_of text ≡ lines ++ later)
+later_lines false text left lines whole = (lines_of left, ap lines_of whole.0 ∙ lines_of-before lines left whole.1)
+later_lines true text left lines end = ([], end.1 ∙ sym (append-nil lines))
 
 -- a part of a line was read behind these lines: that line whole, and those after it
 pub record InLine (text part : List ℕ) (lines : List (List ℕ)) : Type 0 where
@@ -42,9 +42,9 @@ pub record InLine (text part : List ℕ) (lines : List (List ℕ)) : Type 0 wher
   pub later : List (List ℕ)
   pub all : lines_of text ≡ lines ++ (part ++ more) ∷ later
 
-pub in_line : (text left part rest : List ℕ) (lines : List (List ℕ)) → HasNoLf part → left ≡ part ++ rest → 0 < length part → IsConsumed text left lines → InLine text part lines
+pub in_line : (text left part rest : List ℕ) (lines : List (List ℕ)) → HasNoLf part → left ≡ part ++ rest → 0 < length part → IsConsumed false text left lines → InLine text part lines
 in_line text left [] rest lines none first some consumed = absurd (omega (arith, some))
-in_line text left (b ∷ part) rest lines none first some (inl whole) =
+in_line text left (b ∷ part) rest lines none first some whole =
     let line = lines_of-front b part rest none in
     record {
       more = line.more;
@@ -54,15 +54,12 @@ in_line text left (b ∷ part) rest lines none first some (inl whole) =
           ∙ ap (λ (l : List ℕ). lines ++ lines_of l) first
           ∙ ap (λ (l : List (List ℕ)). lines ++ l) line.lines;
     }
-in_line text left (b ∷ part) rest lines none first some (inr end) =
-    let nothing : (b ∷ part) ++ rest ≡ [] = sym first ∙ end.0 in
-    absurd cc
 
 -- the lines of a text that was read to its end
-pub all_lines : (text left : List ℕ) (lines : List (List ℕ)) → IsConsumed text left lines → left ≡ [] → lines_of text ≡ lines
-all_lines text left lines (inl whole) none =
+pub all_lines : (ended : Bool) (text left : List ℕ) (lines : List (List ℕ)) → IsConsumed ended text left lines → left ≡ [] → lines_of text ≡ lines
+all_lines false text left lines whole none =
     ap lines_of (whole.0 ∙ ap (λ (l : List ℕ). text_of lines ++ l) none ∙ append-nil (text_of lines)) ∙ lines_of-whole lines whole.1
-all_lines text left lines (inr end) none = end.1
+all_lines true text left lines end none = end.1
 
 one_line : (line : List ℕ) → HasNoLf line → All HasNoLf (line ∷ [])
 one_line line none = search (rules, common_steps)
@@ -74,56 +71,36 @@ last_line-some : (line : List ℕ) → 0 < length line → last_line line ≡ li
 last_line-some [] some = elim some [ ]
 last_line-some (b ∷ line) some = refl
 
-nothing_first : (line rest : List ℕ) → [] ≡ line ++ 10 ∷ rest → ⊥
-nothing_first [] rest is = cc
-nothing_first (b ∷ line) rest is = cc
-
 -- lines and a part behind them
-pub lines_and_part : (text left part rest : List ℕ) (lines : List (List ℕ)) → HasNoLf part → left ≡ part ++ rest → 0 < length part → IsConsumed text left lines → IsRead text rest (lines ++ part ∷ [])
-lines_and_part text left part rest lines none first some (inl whole) =
+pub lines_and_part : (text left part rest : List ℕ) (lines : List (List ℕ)) → HasNoLf part → left ≡ part ++ rest → 0 < length part → IsConsumed false text left lines → IsRead text rest (lines ++ part ∷ [])
+lines_and_part text left part rest lines none first some whole =
     record {
       read = text_of lines ++ part;
       split = whole.0 ∙ ap (λ (l : List ℕ). text_of lines ++ l) first ∙ sym (append_assoc (text_of lines) part rest);
       all = lines_of-text_of lines part whole.1 none ∙ ap (λ (l : List (List ℕ)). lines ++ l) (last_line-some part some);
     }
-lines_and_part text left part rest lines none first some (inr end) =
-    let nothing : part ++ rest ≡ [] = sym first ∙ end.0 in
-    absurd (omega (arith, length-append part rest, ap length nothing))
 
 -- one more line
-pub consumed-push : (text left line rest : List ℕ) (lines : List (List ℕ)) → HasNoLf line → IsFirstLine left line rest → IsConsumed text left lines → IsConsumed text rest (lines ++ line ∷ [])
-consumed-push text left line rest lines none (inl first) (inl whole) =
-    inl (
-      whole.0
-          ∙ ap (λ (l : List ℕ). text_of lines ++ l) first
-          ∙ ap (λ (l : List ℕ). text_of lines ++ l) (sym (append_assoc line (10 ∷ []) rest))
-          ∙ sym (append_assoc (text_of lines) (line ++ 10 ∷ []) rest)
-          ∙ ap (λ (l : List ℕ). l ++ rest) (sym (append_assoc (text_of lines) line (10 ∷ [])) ∙ sym (text_of-push lines line)),
-      no_lfs-push lines line whole.1 none,
-    )
-consumed-push text left line rest lines none (inr last) (inl whole) =
-    inr (
-      last.1,
-      ap lines_of (whole.0 ∙ ap (λ (l : List ℕ). text_of lines ++ l) last.0)
-          ∙ lines_of-text_of lines line whole.1 none
-          ∙ ap (λ (l : List (List ℕ)). lines ++ l) (last_line-some line last.2),
-    )
-consumed-push text left line rest lines none (inl first) (inr end) = absurd (nothing_first line rest (sym end.0 ∙ first))
-consumed-push text left line rest lines none (inr last) (inr end) =
-    let nothing : line ≡ [] = sym last.0 ∙ end.0 in
-    absurd (omega (arith, last.2, ap length nothing))
+pub consumed-push : (ended : Bool) (text left line rest : List ℕ) (lines : List (List ℕ)) → HasNoLf line → IsFirstLine ended left line rest → IsConsumed false text left lines → IsConsumed ended text rest (lines ++ line ∷ [])
+consumed-push false text left line rest lines none first whole = (
+  whole.0
+      ∙ ap (λ (l : List ℕ). text_of lines ++ l) first
+      ∙ ap (λ (l : List ℕ). text_of lines ++ l) (sym (append_assoc line (10 ∷ []) rest))
+      ∙ sym (append_assoc (text_of lines) (line ++ 10 ∷ []) rest)
+      ∙ ap (λ (l : List ℕ). l ++ rest) (sym (append_assoc (text_of lines) line (10 ∷ [])) ∙ sym (text_of-push lines line)),
+  no_lfs-push lines line whole.1 none,
+)
+consumed-push true text left line rest lines none last whole = (
+  last.1,
+  ap lines_of (whole.0 ∙ ap (λ (l : List ℕ). text_of lines ++ l) last.0)
+      ∙ lines_of-text_of lines line whole.1 none
+      ∙ ap (λ (l : List (List ℕ)). lines ++ l) (last_line-some line last.2),
+)
 
 -- the whole lines before a part in which the source failed
-pub whole_before : (text left part rest : List ℕ) (lines : List (List ℕ)) → HasNoLf part → left ≡ part ++ rest → IsConsumed text left lines → (read : List ℕ) × (text ≡ read ++ rest) × IsReadWhole read rest lines
-whole_before text left part rest lines none first (inl whole) = (
+pub whole_before : (text left part rest : List ℕ) (lines : List (List ℕ)) → HasNoLf part → left ≡ part ++ rest → IsConsumed false text left lines → (read : List ℕ) × (text ≡ read ++ rest) × (lines ≡ whole_lines read)
+whole_before text left part rest lines none first whole = (
   text_of lines ++ part,
   whole.0 ∙ ap (λ (l : List ℕ). text_of lines ++ l) first ∙ sym (append_assoc (text_of lines) part rest),
-  inl (sym (whole_lines-text_of lines part whole.1 none)),
+  sym (whole_lines-text_of lines part whole.1 none),
 )
-whole_before text left part rest lines none first (inr end) =
-    let nothing : rest ≡ [] = no_rest part rest (sym end.0 ∙ first) in
-    (text, sym (append-nil text) ∙ ap (λ (l : List ℕ). text ++ l) (sym nothing), inr (nothing, sym end.1))
-  where
-    no_rest : (part rest : List ℕ) → [] ≡ part ++ rest → rest ≡ []
-    no_rest [] rest is = sym is
-    no_rest (b ∷ part) rest is = absurd cc

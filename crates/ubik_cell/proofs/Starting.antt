@@ -1,5 +1,5 @@
 -- How a run of a script starts.
-use Rattle.std.proofs.Common.{ℕ, List, [], Option, Some, None, IfSome, IsSomeAnd, inl, refl, sym, ap, subst, ◌≡◌, arith}
+use Rattle.std.proofs.Common.{ℕ, Bool, false, List, [], Option, Some, None, IfSome, IsSomeAnd, inl, refl, sym, ap, subst, ◌≡◌, arith}
 use Rattle.std.proofs.lemmas.List.{append-nil}
 use Rattle.std.proofs.lemmas.List.Elements.{All-nil}
 use Rattle.db_image.specs.Database.{Database}
@@ -7,7 +7,7 @@ use Rattle.disk_base.specs.Files.{Files, no_files}
 use Rattle.ubik_cell.specs.declared.scripts.CellRun.{CellRun}
 use Rattle.ubik_cell.specs.Lines.{IsAt, IsSound}
 use Rattle.ubik_cell.specs.Sites.{Held, IsReadAs, held}
-use Rattle.ubik_cell.specs.Run.{SoFar, RanShort}
+use Rattle.ubik_cell.specs.Run.{SoFar, RanShort, IsConsumed}
 use Rattle.ubik_cell.specs.Script.{first_stage}
 
 -- a fact of a source and of a sink of which nothing was taken, and to which nothing was given
@@ -17,13 +17,14 @@ of_both Q (Some script) None all = tt
 of_both Q (Some script) (Some before) all = all script before
 
 -- before the first line
-pub first_so_far : {D : Type 0} (db : Database) (files : D → Option Files) (faults : D → ℕ) (run : CellRun D) → IsAt run first_stage → IsSound files faults run.counts.clock run.site → (script before : List ℕ) → SoFar db files faults script (Some script) before (Some before) run
-first_so_far db files faults run at sound script before =
+pub first_so_far : {D : Type 0} (db : Database) (files : D → Option Files) (faults : D → ℕ) (ended : Bool) (run : CellRun D) → ended ≡ false → IsAt run first_stage → IsSound files faults run.counts.clock run.site → (script before : List ℕ) → SoFar db files faults script ended (Some script) before (Some before) run
+first_so_far db files faults ended run going at sound script before =
+    let P : Bool → Type 0 = λ b. IsConsumed b script script [] in
     record {
       readings = [];
       rest = script;
       remains = refl;
-      consumed = inl (refl, All-nil _);
+      consumed = subst P (sym going) (refl, All-nil _);
       good = refl;
       at = at;
       wrote = ap Some (sym (append-nil before));

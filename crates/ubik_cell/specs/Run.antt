@@ -1,5 +1,5 @@
 -- What a run of a script has written when it ends.
-use Rattle.std.specs.Prelude.{◌≡◌, ◌⊎◌, ◌≤◌, ℕ, Option, Some, None, Err, List, [], ◌∷◌, ◌++◌, map, length, take}
+use Rattle.std.specs.Prelude.{◌≡◌, ◌⊎◌, ◌≤◌, ℕ, Bool, true, false, Option, Some, None, Err, List, [], ◌∷◌, ◌++◌, map, length, take}
 use Rattle.db_image.specs.Database.{Database}
 use Rattle.disk_base.specs.Files.{Files}
 use Rattle.std.specs.List.{All}
@@ -54,19 +54,15 @@ pub record RanUntil (db : Database) (line : ℕ) (ending : Ending) (text : List 
   pub causes : (told db (readings ++ last ∷ [])).faults ≤ disk.faults
   pub holds : Holds disk (told db readings).stage
 
--- the lines before the fault: those that an LF ends, or all of a text that was given whole before the source
--- failed to say so
-abbrev pub IsReadWhole : List ℕ → List ℕ → List (List ℕ) → Type 0
-IsReadWhole read rest lines = (lines ≡ whole_lines read) ⊎ ((rest ≡ []) × (lines ≡ lines_of read))
-
--- the whole lines before a fault of the source, none of which is refused, and their trace
+-- the lines before a fault of the source, which are those that an LF ends in what was read; none of them is refused.
+-- And their trace.
 pub record RanToFault (db : Database) (text : List ℕ) (left : Option (List ℕ)) (before : List ℕ) (after : Option (List ℕ)) (disk : Held) : Type 0 where
   pub readings : List Reading
   pub read : List ℕ
   pub rest : List ℕ
   pub split : text ≡ read ++ rest
   pub remains : left ≡ Some rest
-  pub all : IsReadWhole read rest (read_lines readings)
+  pub all : read_lines readings ≡ whole_lines read
   pub good : (told db readings).stop ≡ None
   pub wrote : Wrote before after (told db readings).text
   pub causes : (told db readings).faults ≤ disk.faults
@@ -141,16 +137,17 @@ IsDoneOrShort _ = ⊥
 abbrev pub IsInside : Database → List ℕ → Type 0
 IsInside db text = (told db (sound_readings (lines_of text))).stop ≡ None
 
--- so far these lines of a text were read: each with its LF; or all of the text, whose last line lacks it
-abbrev pub IsConsumed : List ℕ → List ℕ → List (List ℕ) → Type 0
-IsConsumed text left lines = ((text ≡ text_of lines ++ left) × All HasNoLf lines) ⊎ ((left ≡ []) × (lines_of text ≡ lines))
+-- so far these lines of a text were read, each with its LF; or all of the text, whose end was met
+abbrev pub IsConsumed : Bool → List ℕ → List ℕ → List (List ℕ) → Type 0
+IsConsumed false text left lines = (text ≡ text_of lines ++ left) × All HasNoLf lines
+IsConsumed true text left lines = (left ≡ []) × (lines_of text ≡ lines)
 
--- a run between two lines
-pub record SoFar {D : Type 0} (db : Database) (files : D → Option Files) (faults : D → ℕ) (text : List ℕ) (left : Option (List ℕ)) (before : List ℕ) (after : Option (List ℕ)) (run : CellRun D) : Type 0 where
+-- a run between two lines, where the source has ended or not
+pub record SoFar {D : Type 0} (db : Database) (files : D → Option Files) (faults : D → ℕ) (text : List ℕ) (ended : Bool) (left : Option (List ℕ)) (before : List ℕ) (after : Option (List ℕ)) (run : CellRun D) : Type 0 where
   pub readings : List Reading
   pub rest : List ℕ
   pub remains : left ≡ Some rest
-  pub consumed : IsConsumed text rest (read_lines readings)
+  pub consumed : IsConsumed ended text rest (read_lines readings)
   pub good : (told db readings).stop ≡ None
   pub at : IsAt run (told db readings).stage
   pub wrote : Wrote before after (told db readings).text
@@ -176,8 +173,8 @@ pub record AtEnding {D : Type 0} (db : Database) (files : D → Option Files) (f
   pub causes : (told db readings).faults ≤ site_faults faults run.site
   pub holds : Holds (site_held files faults run.site) (told db readings).stage
 
--- a run before a line that was read
-pub record AtLine {D : Type 0} (db : Database) (files : D → Option Files) (faults : D → ℕ) (text : List ℕ) (left : Option (List ℕ)) (before : List ℕ) (after : Option (List ℕ)) (run : CellRun D) (line : List ℕ) : Type 0 where
+-- a run before a line that was read, with which the source has ended or not
+pub record AtLine {D : Type 0} (db : Database) (files : D → Option Files) (faults : D → ℕ) (text : List ℕ) (ended : Bool) (left : Option (List ℕ)) (before : List ℕ) (after : Option (List ℕ)) (run : CellRun D) (line : List ℕ) : Type 0 where
   pub readings : List Reading
   pub read : List ℕ
   pub rest : List ℕ
@@ -185,7 +182,7 @@ pub record AtLine {D : Type 0} (db : Database) (files : D → Option Files) (fau
   pub remains : left ≡ Some rest
   pub all : lines_of read ≡ read_lines readings ++ line ∷ []
   pub short : length line ≤ 1024
-  pub consumed : IsConsumed text rest (read_lines readings ++ line ∷ [])
+  pub consumed : IsConsumed ended text rest (read_lines readings ++ line ∷ [])
   pub good : (told db readings).stop ≡ None
   pub at : IsAt run (told db readings).stage
   pub wrote : Wrote before after (told db readings).text

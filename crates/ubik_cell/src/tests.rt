@@ -229,16 +229,26 @@ fn a_word_ends_all_before_it_begins(rt: HostRuntime) -> Result<(), Fail> {
     Ok(())
 }
 
+/// Each byte is a call, and the end is one more, also behind a line that lacks its LF. No call comes after it.
 #[test]
 fn a_source_that_fails_ends_the_script_before_the_line(rt: HostRuntime) -> Result<(), Fail> {
-    for (call, text) in [
-        (1, ""),
-        (45, ""),
-        (46, "announce 1 1076.1\n"),
-        (60, "announce 1 1076.1\n"),
+    let (fault, done) = ((2u8, CellKind::ReadFault), (0u8, CellKind::Done));
+    let no_quorum = "reply 1 1 noquorum 0 none no\n";
+    for (script, call, (status, kind), text) in [
+        (FIRST_USER, 1, fault, ""),
+        (FIRST_USER, 45, fault, ""),
+        (FIRST_USER, 46, fault, "announce 1 1076.1\n"),
+        (FIRST_USER, 60, fault, "announce 1 1076.1\n"),
+        (FIRST_USER, 94, fault, FIRST_TRACE),
+        (FIRST_USER, 95, done, FIRST_TRACE),
+        (TOO_EARLY, 69, fault, ""),
+        (TOO_EARLY, 70, fault, ""),
+        (TOO_EARLY, 71, done, no_quorum),
+        ("", 1, fault, ""),
+        ("", 2, done, ""),
     ] {
-        let seen = run_on(rt.alloc(), FIRST_USER.as_bytes(), &[call], &[], &[])?;
-        expect(&rt, &seen, 2, CellKind::ReadFault, text);
+        let seen = run_on(rt.alloc(), script.as_bytes(), &[call], &[], &[])?;
+        expect(&rt, &seen, status, kind, text);
     }
     Ok(())
 }

@@ -1,5 +1,5 @@
 //! A whole script: read line by line, each line run and told.
-ghost use Rattle.std.specs.Prelude.{◌≡◌, ◌≢◌, ◌+◌, ◌<◌, ◌≤◌, ℕ, List, Option, Some, None, IsSome, IfSome, MatchOption, [], vec_len, length, drop, All};
+ghost use Rattle.std.specs.Prelude.{◌≡◌, ◌≢◌, ◌+◌, ◌<◌, ◌≤◌, ℕ, Bool, List, Option, Some, None, IsSome, IfSome, MatchOption, [], vec_len, length, drop, All};
 ghost use Rattle.std.specs.String.{string_bytes};
 ghost use Rattle.disk_base.specs.Count.{HasCause};
 ghost use Rattle.disk_base.specs.Files.{no_files};
@@ -79,11 +79,11 @@ fn tell_line<K: Sink, D: StopDisk>(
     text: &mut String,
 ) -> (CellRun<D>, Option<CellKind>)
     requires sound { IsSound D.files D.faults run.counts.clock run.site }
-    ensures goes { result.1 ≡ None → IfSome (K.written out.old) (λ written. (script before : List ℕ) (left : Option (List ℕ)) →
-        AtLine protection D.files D.faults script left before (Some written) run line.now →
-        SoFar protection D.files D.faults script left before (K.written out.new) result.0) }
-    ensures ends { IfSome result.1 (λ kind. IfSome (K.written out.old) (λ written. (script before : List ℕ) (left : Option (List ℕ)) →
-        AtLine protection D.files D.faults script left before (Some written) run line.now →
+    ensures goes { result.1 ≡ None → IfSome (K.written out.old) (λ written. (script before : List ℕ) (ended : Bool) (left : Option (List ℕ)) →
+        AtLine protection D.files D.faults script ended left before (Some written) run line.now →
+        SoFar protection D.files D.faults script ended left before (K.written out.new) result.0) }
+    ensures ends { IfSome result.1 (λ kind. IfSome (K.written out.old) (λ written. (script before : List ℕ) (ended : Bool) (left : Option (List ℕ)) →
+        AtLine protection D.files D.faults script ended left before (Some written) run line.now →
         Runs kind protection script left before (K.written out.new) (site_held D.files D.faults result.0.site))) }
     ensures sound { result.1 ≡ None → IsSound D.files D.faults result.0.counts.clock result.0.site }
     ensures longer { result.1 ≡ None → result.0.counts.lines ≡ run.counts.lines + 1 }
@@ -114,10 +114,10 @@ fn turn<S: Source, K: Sink, D: StopDisk>(
 ) -> (CellRun<D>, Option<CellKind>)
     requires sound { IsSound D.files D.faults run.counts.clock run.site }
     ensures goes { result.1 ≡ None → IfSome (K.written out.old) (λ written. (script before : List ℕ) →
-        SoFar protection D.files D.faults script (S.left input.old) before (Some written) run →
-        SoFar protection D.files D.faults script (S.left input.new) before (K.written out.new) result.0) }
+        SoFar protection D.files D.faults script reader.old.ended (S.left input.old) before (Some written) run →
+        SoFar protection D.files D.faults script reader.new.ended (S.left input.new) before (K.written out.new) result.0) }
     ensures ends { IfSome result.1 (λ kind. IfSome (K.written out.old) (λ written. (script before : List ℕ) →
-        SoFar protection D.files D.faults script (S.left input.old) before (Some written) run →
+        SoFar protection D.files D.faults script reader.old.ended (S.left input.old) before (Some written) run →
         Runs kind protection script (S.left input.new) before (K.written out.new) (site_held D.files D.faults result.0.site))) }
     ensures sound { result.1 ≡ None → IsSound D.files D.faults result.0.counts.clock result.0.site }
     ensures longer { result.1 ≡ None → result.0.counts.lines ≡ run.counts.lines + 1 }

@@ -1,5 +1,6 @@
-use Rattle.std.proofs.Common.{arith}
+use Rattle.std.proofs.Common.{ap, arith}
 use Rattle.prdb_entries.specs.Protection.{protection}
+use Rattle.cell_script.specs.Reader.{ReaderState}
 use Rattle.ubik_cell.specs.Run.{SoFar, RanShort}
 use Rattle.ubik_cell.specs.Sites.{held}
 use Rattle.ubik_cell.proofs.Starting.{of_both, first_so_far, short_at_once, empty_at_once}
@@ -13,8 +14,8 @@ returns-in_default-clause-runs g c =
 pub loop-kind-init : goal.loop-kind-init
 loop-kind-init g c =
     record {
-      so_far = of_both (λ script left before written. SoFar protection g.D.Disk.files g.D.Disk.faults script left before written c.new-run.result) _ _
-          (first_so_far protection g.D.Disk.files g.D.Disk.faults c.new-run.result c.new-run.ensures.at c.new-run.ensures.sound);
+      so_far = of_both (λ script left before written. SoFar protection g.D.Disk.files g.D.Disk.faults script c.in-Ok.reader.ended left before written c.new-run.result) _ _
+          (first_so_far protection g.D.Disk.files g.D.Disk.faults c.in-Ok.reader.ended c.new-run.result (ap (λ (r : ReaderState). r.ended) c.in-Ok.ensures) c.new-run.ensures.at c.new-run.ensures.sound);
       sound = c.new-run.ensures.sound;
       read = omega arith;
       wrote = omega arith;

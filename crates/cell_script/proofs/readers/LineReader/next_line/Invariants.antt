@@ -1,4 +1,4 @@
-use Rattle.std.proofs.Common.{◌≤◌, ◌-◌, length, IfSome, vec_capacity}
+use Rattle.std.proofs.Common.{◌≡◌, ◌≤◌, ◌-◌, false, length, IfSome, vec_capacity}
 use Rattle.cell_script.specs.LineSteps.{HasRead}
 use Rattle.cell_script.proofs.readers.LineReader.next_line.Given as goal
 
@@ -6,6 +6,7 @@ abbrev pub invariant-loop-end : goal.invariant-loop-end
 invariant-loop-end g l = record {
   told : IfSome (g.S.Source.left l.fn.source)
       (λ text. HasRead text (g.S.Source.left l.source) l.self-inside.line.items);
+  going : l.self-inside.ended ≡ false;
   room : 1024 ≤ vec_capacity l.self-inside.line;
   short : length l.self-inside.line.items ≤ 1024;
   faults : g.S.Source.faults l.fn.source ≤ g.S.Source.faults l.source;
