@@ -114,7 +114,7 @@ pub fn keep_log<D: Disk>(disk: &mut D, log: &[u8]) -> Result<(), LogFault>
     ensures tells { D.tells disk.new ≡ D.tells disk.old }
     ensures cause { HasCause (D.faults disk.old) (D.faults disk.new) (IsErrOf result LogFault.DiskFault) }
     ensures no_memory { IsErrOf result LogFault.NoMemory → D.room disk.old FileNo.Log < length log.now }
-    ensures not_stopped { IsErrOf result LogFault.NoMemory → D.stop disk.new ≡ D.stop disk.old }
+    ensures stop_stays { IsErrOf result LogFault.NoMemory → D.stop disk.new ≡ D.stop disk.old }
     ensures unchanged { IsErrOf result LogFault.NoMemory → (D.files disk.new ≡ D.files disk.old)
         × (D.steps disk.new ≡ D.steps disk.old) × (D.faults disk.new ≡ D.faults disk.old)
         × LeavesSame (D.may_leave disk.old) (D.may_leave disk.new)
