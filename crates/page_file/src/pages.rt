@@ -2,8 +2,8 @@
 ghost use Rattle.std.specs.Prelude.{◌≡◌, ◌+◌, ◌-◌, ◌<◌, ◌≤◌, ◌^◌, Some, None, IsSome, IfSome, OnOk, OnErr, IfOk, IfErr, IsErr, IsErrOf, length, take, drop, max, min, unwrap_or};
 ghost use Rattle.std.specs.Option.{option_map};
 ghost use Rattle.ubik_types.specs.Version.{IsVersion, zero_version};
-ghost use Rattle.disk_base.specs.Files.{with_file, laid, KeepsRoom, IsStopped};
-ghost use Rattle.disk_base.specs.Stops.{after_change};
+ghost use Rattle.disk_base.specs.Files.{with_file, laid, KeepsRoom};
+ghost use Rattle.disk_base.specs.Stops.{IsStopped, after_change};
 ghost use Rattle.disk_base.specs.Count.{HasCause};
 ghost use Rattle.disk_base.specs.Crash.{Torn, CutShort, InFile, OnlyIn, Follows, Narrows, Elapses, LeavesSame};
 ghost use Rattle.page_file.specs.Label.{label, version_of_database};

@@ -1,6 +1,7 @@
 //! What is read of the database file: its length, its head, and parts of it.
 ghost use Rattle.std.specs.Prelude.{◌≡◌, ◌+◌, ◌≤◌, ◌<◌, ◌^◌, IfSome, OnOk, IfOk, IfErr, IsErr, length, take, drop};
-ghost use Rattle.disk_base.specs.Files.{KeepsRoom, IsStopped};
+ghost use Rattle.disk_base.specs.Files.{KeepsRoom};
+ghost use Rattle.disk_base.specs.Stops.{IsStopped};
 ghost use Rattle.disk_base.specs.Count.{HasCause};
 ghost use Rattle.disk_base.specs.Crash.{LeavesSame};
 ghost use Rattle.page_file.specs.Label.{IsHeadOf};

@@ -4,8 +4,8 @@ ghost use Rattle.std.specs.Prelude.{◌≡◌, ◌+◌, ◌<◌, ◌≤◌, [], 
 ghost use Rattle.std.specs.Option.{option_map};
 ghost use Rattle.disk_base.specs.Count.{HasCause};
 ghost use Rattle.disk_base.specs.Crash.{Torn, InFile, Follows, OnlyIn, IsSettled, LeavesOnly, LeavesSame};
-ghost use Rattle.disk_base.specs.Files.{Files, laid, OnDone, KeepsRoom, IsStopped};
-ghost use Rattle.disk_base.specs.Stops.{after_changes, Advances};
+ghost use Rattle.disk_base.specs.Files.{Files, laid, OnDone, KeepsRoom};
+ghost use Rattle.disk_base.specs.Stops.{IsStopped, after_changes, Advances};
 ghost use Rattle.ubik_types.specs.declared.images.Change.{Change};
 ghost use Rattle.ubik_types.specs.declared.versions.Version.{Version};
 ghost use Rattle.ubik_log.specs.Gate.{IsOpen, BeginsWithZero, closed, with_gate};

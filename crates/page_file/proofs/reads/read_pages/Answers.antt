@@ -1,6 +1,6 @@
 use Rattle.std.proofs.Common.{◌≤◌, ◌+◌, length, rules, arith, ◌∙◌, sym, subst}
 use Rattle.std.proofs.lemmas.Bool.{false≢true}
-use Rattle.disk_base.specs.Files.{IsStopped}
+use Rattle.disk_base.specs.Stops.{IsStopped}
 use Rattle.page_file.proofs.Reading.{length_piece, range_read}
 use Rattle.page_file.proofs.Staying.{LeavesSame-trans, KeepsRoom-trans}
 use Rattle.page_file.proofs.reads.read_pages.Goals as goal

@@ -1,5 +1,6 @@
 use Rattle.std.proofs.Common.{◌≡◌, ◌-◌, ◌≤◌, ◌<◌, length, take, drop, IfSome}
-use Rattle.disk_base.specs.Files.{KeepsRoom, IsStopped}
+use Rattle.disk_base.specs.Files.{KeepsRoom}
+use Rattle.disk_base.specs.Stops.{IsStopped}
 use Rattle.disk_base.specs.Crash.{LeavesSame}
 use Rattle.page_file.specs.Pages.{image_of}
 use Rattle.page_file.proofs.reads.read_pages.Given as goal
