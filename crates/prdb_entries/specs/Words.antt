@@ -7,6 +7,7 @@ use Rattle.std.specs.Option.{option_map}
 use Rattle.std.specs.Ordering.{int_eq}
 use Rattle.std.specs.Str.{bytes_eq}
 use Rattle.script_words.specs.Numbers.{number_within, signed_of}
+use Rattle.prdb_entries.specs.declared.calls.TheConstants.{MAX_NAME, MAX_LIST}
 use Rattle.prdb_entries.specs.Call.{PrCall, NewUser, NameToId, spelling}
 use Rattle.prdb_entries.specs.Reading.{◌>>=◌, number_at, call_of}
 
@@ -24,11 +25,11 @@ unquoted word =
     if is_quotes word then (if length word == 1 then Some word else (if length word == 3 then None else Some (drop 2 word)))
     else (if is_plain word then Some word else None)
 
--- the string of at most 255 bytes that a word stands for
+-- the string of at most MAX_NAME bytes that a word stands for
 unfoldable pub string_of_word : List ℕ → Option (List ℕ)
 string_of_word word = do
   text ← unquoted word
-  if nat_le (length text) 255 then Some text else None
+  if nat_le (length text) MAX_NAME then Some text else None
 
 -- the strings that the words stand for, each for one
 unfoldable pub strings_of_words : List (List ℕ) → Option (List (List ℕ))
@@ -47,7 +48,7 @@ new_user_in words = None
 abbrev pub name_to_id_in : List (List ℕ) → Option PrCall
 name_to_id_in [] = None
 name_to_id_in (count ∷ names) =
-    if nat_le (length names) 5000 && bytes_eq count (decimal (length names)) then option_map NameToId (strings_of_words names) else None
+    if nat_le (length names) MAX_LIST && bytes_eq count (decimal (length names)) then option_map NameToId (strings_of_words names) else None
 
 -- the call that words name
 abbrev pub call_in : List (List ℕ) → Option PrCall

@@ -10,17 +10,11 @@ ghost use Rattle.prdb_entries.specs.Call.{NewUser, NameToId, spelling};
 ghost use Rattle.prdb_entries.specs.Reading.{Gives};
 ghost use Rattle.prdb_entries.specs.Words.{is_quotes, is_plain, unquoted, string_of_word, strings_of_words, new_user_in, name_to_id_in, call_of_words, is_later_entry_call, is_later_group_call, is_later_id_call, is_later_name, is_given, is_other_entry, is_unbuilt, id_text, ids_text, id_list_text, one_id_text, reply_in_words};
 
-use crate::calls::{Call, NO_OWNER, USER_KIND, number, read_call, zeros_after};
+use crate::calls::{Call, MAX_LIST, MAX_NAME, NO_OWNER, USER_KIND, number, read_call, zeros_after};
 use crate::entries::{push_words, push_zeros};
 use script_words::{number_within, signed_number};
 use std::alloc::Global;
 use ubik_types::{Bytes, NoMemory};
-
-/// A string in a call has at most so many bytes.
-const MAX_STRING: usize = 255;
-
-/// A list in a call has at most so many items.
-const MAX_LIST: usize = 5000;
 
 // The names of the calls, and the word of the number 0.
 const NEWENTRY: &[u8] = b"newentry";
@@ -85,10 +79,10 @@ fn unquoted(word: &[u8]) -> Option<&[u8]>
 #[tactic(auto, unfolding(crate::specs::Words::string_of_word))]
 fn string_of_word(word: &[u8]) -> Option<&[u8]>
     ensures value { Gives (λ text. text.now) result (string_of_word word.now) }
-    ensures short { IfSome result (λ text. length text.now ≤ 255) }
+    ensures short { IfSome result (λ text. length text.now ≤ MAX_NAME) }
 {
     let text = unquoted(word)?;
-    if text.len() <= MAX_STRING {
+    if text.len() <= MAX_NAME {
         Some(text)
     } else {
         None
@@ -97,7 +91,7 @@ fn string_of_word(word: &[u8]) -> Option<&[u8]>
 
 /// Writes a string at the end: its length, its bytes and its padding.
 fn push_string(out: &mut Vec<u8>, text: &[u8]) -> Result<(), NoMemory>
-    requires { length text.now ≤ 255 }
+    requires { length text.now ≤ MAX_NAME }
     ensures { OnOk result (out.new.items ≡ out.old.items ++ string text.now) }
 {
     let length = text.len() as u32;
@@ -109,7 +103,7 @@ fn push_string(out: &mut Vec<u8>, text: &[u8]) -> Result<(), NoMemory>
 
 /// The call that makes a user, as bytes.
 fn spell_new_user(alloc: Global, name: &[u8]) -> Result<Bytes, NoMemory>
-    requires { length name.now ≤ 255 }
+    requires { length name.now ≤ MAX_NAME }
     ensures { IfOk result (λ bytes. bytes ≡ spelling (NewUser name.now)) }
 {
     let mut out = Vec::new(alloc);
@@ -121,7 +115,7 @@ fn spell_new_user(alloc: Global, name: &[u8]) -> Result<Bytes, NoMemory>
 
 /// The call that translates the names that these words stand for, as bytes.
 fn spell_names(alloc: Global, names: &[Bytes]) -> Result<Option<Bytes>, NoMemory>
-    requires { length names.now ≤ 5000 }
+    requires { length names.now ≤ MAX_LIST }
     ensures { IfOk result (λ r. r ≡ option_map (λ list. spelling (NameToId list)) (strings_of_words names.now)) }
 {
     let mut out = Vec::new(alloc);
