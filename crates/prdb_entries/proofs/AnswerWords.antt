@@ -10,6 +10,7 @@ use Rattle.std.proofs.lemmas.List.Concat.{flat_map-cons}
 use Rattle.std.proofs.lemmas.Nat.{from_be_bytes-to_be_bytes_4}
 use Rattle.db_image.specs.declared.services.CallReply.TheVariants.{Done}
 use Rattle.prdb_entries.specs.Bytes.{bits, word, words}
+use Rattle.prdb_entries.specs.declared.calls.TheConstants.{MAX_LIST}
 use Rattle.prdb_entries.specs.Call.{PrCall, NewUser, NameToId, IsPrCall, spelling}
 use Rattle.prdb_entries.specs.Names.{lowered, is_user_name}
 use Rattle.prdb_entries.specs.State.{PrState}
@@ -47,10 +48,10 @@ unfolding ids_text number_words words
 ids_are [] = refl
 ids_are (id ∷ ids) = subst (λ (b : List ℕ). ids_text (suc (length ids)) b ≡ Some (behind_blanks (number_words b))) (sym (words_cons id ids)) (one_more id (length ids) (words ids) (ids_are ids))
 
-small : (n : ℕ) → n ≤ 5000 → id_text (from_be_bytes w32 (word n)) ≡ decimal n
+small : (n : ℕ) → n ≤ MAX_LIST → id_text (from_be_bytes w32 (word n)) ≡ decimal n
 small n le = ap id_text (from_be_bytes-to_be_bytes_4 n (omega arith)) ∙ ap signed_decimal (to_z_pos w32 n (omega arith))
 
-list_words : (ids : List ℕ) → length ids ≤ 5000 → id_list_text (word (length ids) ++ words ids) ≡ Some (joined (number_words (word (length ids) ++ words ids)))
+list_words : (ids : List ℕ) → length ids ≤ MAX_LIST → id_list_text (word (length ids) ++ words ids) ≡ Some (joined (number_words (word (length ids) ++ words ids)))
 unfolding id_list_text
 list_words ids le =
     ap (λ (o : Option (ℕ × List ℕ)). o >>= λ count. option_map (λ texts. decimal count.0 ++ texts) (ids_text count.0 count.1)) (number_again (length ids) (words ids) (omega (arith, le)))

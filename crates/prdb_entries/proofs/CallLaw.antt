@@ -7,6 +7,7 @@ use Rattle.std.proofs.lemmas.Bool.{leb-true, le-leb, eqb-true, and_parts}
 use Rattle.std.proofs.lemmas.Option.{cond_some}
 use Rattle.std.proofs.lemmas.List.{append-nil, nil_from_length}
 use Rattle.prdb_entries.specs.Bytes.{IsBytes, word, words, string}
+use Rattle.prdb_entries.specs.declared.calls.TheConstants.{MAX_LIST}
 use Rattle.prdb_entries.specs.Call.{PrCall, NewUser, NameToId, IsCallName, IsPrCall, spelling}
 use Rattle.prdb_entries.specs.Reading.{◌>>=◌, number_at, string_at, strings_at, new_user_of, names_of, name_to_id_of, call_of}
 use Rattle.prdb_entries.proofs.Ids.{bind_some}
@@ -72,8 +73,8 @@ option_map_some f None y e = absurd cc
 name_to_id_takes : (bytes : List ℕ) (call : PrCall) → IsBytes bytes → name_to_id_of bytes ≡ Some call → Spells bytes 3 call
 unfolding name_to_id_of names_of
 name_to_id_takes bytes call fits e =
-    let a = bind_some (number_at bytes) (λ count. cond (leb count.0 5000) (option_map NameToId (names_of count.0 count.1)) None) call e in
-    let g = cond_yes (leb a.0.0 5000) (option_map NameToId (names_of a.0.0 a.0.1)) call a.2 in
+    let a = bind_some (number_at bytes) (λ count. cond (leb count.0 MAX_LIST) (option_map NameToId (names_of count.0 count.1)) None) call e in
+    let g = cond_yes (leb a.0.0 MAX_LIST) (option_map NameToId (names_of a.0.0 a.0.1)) call a.2 in
     let m = option_map_some NameToId (names_of a.0.0 a.0.1) call g.1 in
     let s = bind_some (strings_at a.0.0 a.0.1) (λ names. cond (eqb (length names.1) 0) (Some names.0) None) m.0 m.1 in
     let h = cond_some (eqb (length s.0.1) 0) s.0.0 m.0 s.2 in
@@ -84,16 +85,16 @@ name_to_id_takes bytes call fits e =
     let counted : bytes ≡ word (length s.0.0) ++ flat_map string s.0.0 = whole ∙ ap (λ (n : ℕ). word n ++ flat_map string s.0.0) (sym ts.1) in
     let text : word 3 ++ bytes ≡ spelling (NameToId s.0.0) =
     ap (λ (b : List ℕ). word 3 ++ b) counted ∙ sym (append_assoc (word 3) (word (length s.0.0)) (flat_map string s.0.0)) ∙ ap (λ (w : List ℕ). w ++ flat_map string s.0.0) (sym (words_two 3 (length s.0.0))) in
-    let few : a.0.0 ≤ 5000 = leb-true a.0.0 5000 g.0 in
+    let few : a.0.0 ≤ MAX_LIST = leb-true a.0.0 MAX_LIST g.0 in
     let same : NameToId s.0.0 ≡ call = ap NameToId h.1 ∙ m.2 in
     subst (λ (c : PrCall). Spells bytes 3 c) same (record { text = text; fits = (omega (arith, ts.1), ts.2) })
 
 name_to_id_again : (names : List (List ℕ)) → IsPrCall (NameToId names) → name_to_id_of (word (length names) ++ flat_map string names) ≡ Some (NameToId names)
 unfolding name_to_id_of names_of
 name_to_id_again names fits =
-    let few = le-leb (length names) 5000 fits.0 in
+    let few = le-leb (length names) MAX_LIST fits.0 in
     let read : strings_at (length names) (flat_map string names) ≡ Some (names, []) = ap (strings_at (length names)) (sym (append-nil (flat_map string names))) ∙ strings_again names [] fits.1 in
-    ap (λ (o : Option (ℕ × List ℕ)). o >>= λ count. cond (leb count.0 5000) (option_map NameToId (names_of count.0 count.1)) None) (number_again (length names) (flat_map string names) (omega (arith, fits.0)))
+    ap (λ (o : Option (ℕ × List ℕ)). o >>= λ count. cond (leb count.0 MAX_LIST) (option_map NameToId (names_of count.0 count.1)) None) (number_again (length names) (flat_map string names) (omega (arith, fits.0)))
     ∙ ap (λ (b : Bool). cond b (option_map NameToId (names_of (length names) (flat_map string names))) None) few
     ∙ ap (λ (o : Option (List (List ℕ) × List ℕ)). option_map NameToId (o >>= λ n. cond (eqb (length n.1) 0) (Some n.0) None)) read
 

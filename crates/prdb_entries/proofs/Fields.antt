@@ -8,6 +8,7 @@ use Rattle.std.proofs.lemmas.List.{take_at, drop_at, take-append-drop, length-ap
 use Rattle.std.proofs.lemmas.List.Concat.{flat_map-cons}
 use Rattle.std.proofs.lemmas.Nat.{be_bytes_4, from_be_bytes-to_be_bytes_4}
 use Rattle.prdb_entries.specs.Bytes.{IsBytes, word, padding, zeros, string}
+use Rattle.prdb_entries.specs.declared.calls.TheConstants.{MAX_NAME}
 use Rattle.prdb_entries.specs.Call.{IsCallName}
 use Rattle.prdb_entries.specs.Reading.{◌>>=◌, front_at, number_at, string_at, strings_at}
 use Rattle.prdb_entries.proofs.Ids.{bind_some}
@@ -94,15 +95,15 @@ length-zeros (suc n) = ap suc (length-zeros n)
 pub string_takes : (bytes : List ℕ) (x : List ℕ × List ℕ) → IsBytes bytes → string_at bytes ≡ Some x → Takes bytes (string x.0) x.1 × IsCallName x.0
 unfolding string_at
 string_takes bytes x fits e =
-    let a = bind_some (number_at bytes) (λ len. front_at len.0 len.1 >>= λ text. front_at (padding len.0) text.1 >>= λ zs. cond (leb len.0 255 && list_all (λ b. eqb b 0) zs.0) (Some (text.0, zs.1)) None) x e in
-    let b = bind_some (front_at a.0.0 a.0.1) (λ text. front_at (padding a.0.0) text.1 >>= λ zs. cond (leb a.0.0 255 && list_all (λ b. eqb b 0) zs.0) (Some (text.0, zs.1)) None) x a.2 in
-    let c = bind_some (front_at (padding a.0.0) b.0.1) (λ zs. cond (leb a.0.0 255 && list_all (λ b. eqb b 0) zs.0) (Some (b.0.0, zs.1)) None) x b.2 in
-    let g = cond_some (leb a.0.0 255 && list_all (λ b. eqb b 0) c.0.0) (b.0.0, c.0.1) x c.2 in
-    let tests = and_parts (leb a.0.0 255) (list_all (λ b. eqb b 0) c.0.0) g.0 in
+    let a = bind_some (number_at bytes) (λ len. front_at len.0 len.1 >>= λ text. front_at (padding len.0) text.1 >>= λ zs. cond (leb len.0 MAX_NAME && list_all (λ b. eqb b 0) zs.0) (Some (text.0, zs.1)) None) x e in
+    let b = bind_some (front_at a.0.0 a.0.1) (λ text. front_at (padding a.0.0) text.1 >>= λ zs. cond (leb a.0.0 MAX_NAME && list_all (λ b. eqb b 0) zs.0) (Some (text.0, zs.1)) None) x a.2 in
+    let c = bind_some (front_at (padding a.0.0) b.0.1) (λ zs. cond (leb a.0.0 MAX_NAME && list_all (λ b. eqb b 0) zs.0) (Some (b.0.0, zs.1)) None) x b.2 in
+    let g = cond_some (leb a.0.0 MAX_NAME && list_all (λ b. eqb b 0) c.0.0) (b.0.0, c.0.1) x c.2 in
+    let tests = and_parts (leb a.0.0 MAX_NAME) (list_all (λ b. eqb b 0) c.0.0) g.0 in
     let ta = number_takes bytes a.0 fits a.1 in
     let tb = front_takes a.0.0 a.0.1 b.0 ta.0.rest_fits b.1 in
     let tc = front_takes (padding a.0.0) b.0.1 c.0 tb.0.rest_fits c.1 in
-    let short : a.0.0 ≤ 255 = leb-true a.0.0 255 tests.0 in
+    let short : a.0.0 ≤ MAX_NAME = leb-true a.0.0 MAX_NAME tests.0 in
     let zs : c.0.0 ≡ zeros (padding (length b.0.0)) = zeros-from_test c.0.0 tests.1 ∙ ap zeros tc.1 ∙ ap (λ (n : ℕ). zeros (padding n)) (sym tb.1) in
     let one = Takes-then bytes (word a.0.0) a.0.1 b.0.0 b.0.1 ta.0 tb.0 in
     let two = Takes-then bytes (word a.0.0 ++ b.0.0) b.0.1 c.0.0 c.0.1 one tc.0 in
@@ -116,13 +117,13 @@ string_again text rest short =
     let pad : List ℕ = zeros (padding (length text)) in
     let regrouped : string text ++ rest ≡ word (length text) ++ (text ++ (zeros (padding (length text)) ++ rest)) =
     append_assoc (word (length text) ++ text) (zeros (padding (length text))) rest ∙ append_assoc (word (length text)) text (zeros (padding (length text)) ++ rest) in
-    let test : (leb (length text) 255 && list_all (λ b. eqb b 0) (zeros (padding (length text)))) ≡ true = and_from _ _ (le-leb (length text) 255 short) (test-zeros (padding (length text))) in
+    let test : (leb (length text) MAX_NAME && list_all (λ b. eqb b 0) (zeros (padding (length text)))) ≡ true = and_from _ _ (le-leb (length text) MAX_NAME short) (test-zeros (padding (length text))) in
     ap string_at regrouped
-    ∙ ap (λ (o : Option (ℕ × List ℕ)). o >>= λ len. front_at len.0 len.1 >>= λ t. front_at (padding len.0) t.1 >>= λ zs. cond (leb len.0 255 && list_all (λ b. eqb b 0) zs.0) (Some (t.0, zs.1)) None)
+    ∙ ap (λ (o : Option (ℕ × List ℕ)). o >>= λ len. front_at len.0 len.1 >>= λ t. front_at (padding len.0) t.1 >>= λ zs. cond (leb len.0 MAX_NAME && list_all (λ b. eqb b 0) zs.0) (Some (t.0, zs.1)) None)
     (number_again (length text) (text ++ (zeros (padding (length text)) ++ rest)) (omega arith))
-    ∙ ap (λ (o : Option (List ℕ × List ℕ)). o >>= λ t. front_at (padding (length text)) t.1 >>= λ zs. cond (leb (length text) 255 && list_all (λ b. eqb b 0) zs.0) (Some (t.0, zs.1)) None)
+    ∙ ap (λ (o : Option (List ℕ × List ℕ)). o >>= λ t. front_at (padding (length text)) t.1 >>= λ zs. cond (leb (length text) MAX_NAME && list_all (λ b. eqb b 0) zs.0) (Some (t.0, zs.1)) None)
     (front_again (length text) text (zeros (padding (length text)) ++ rest) refl)
-    ∙ ap (λ (o : Option (List ℕ × List ℕ)). o >>= λ zs. cond (leb (length text) 255 && list_all (λ b. eqb b 0) zs.0) (Some (text, zs.1)) None)
+    ∙ ap (λ (o : Option (List ℕ × List ℕ)). o >>= λ zs. cond (leb (length text) MAX_NAME && list_all (λ b. eqb b 0) zs.0) (Some (text, zs.1)) None)
     (front_again (padding (length text)) (zeros (padding (length text))) rest (length-zeros (padding (length text))))
     ∙ ap (λ (b : Bool). cond b (Some (text, rest)) None) test
 

@@ -112,8 +112,8 @@ max-layout s h = from_be_bytes-to_be_bytes_4 s.max_user (omega arith)
 -- ---- what is found
 
 id_step : (b : Bool) (x : List ℕ) (e : PrEntry) (r : Option (List ℕ)) (q : Option PrEntry) → block_id x ≡ bits e.id
-    → unwrap_or (option_map block_id r) 32766 ≡ bits (unwrap_or (option_map (λ y. y.id) q) anonymous)
-    → unwrap_or (option_map block_id (cond b (Some x) r)) 32766 ≡ bits (unwrap_or (option_map (λ y. y.id) (cond b (Some e) q)) anonymous)
+    → unwrap_or (option_map block_id r) (bits anonymous) ≡ bits (unwrap_or (option_map (λ y. y.id) q) anonymous)
+    → unwrap_or (option_map block_id (cond b (Some x) r)) (bits anonymous) ≡ bits (unwrap_or (option_map (λ y. y.id) (cond b (Some e) q)) anonymous)
 id_step true x e r q here later = here
 id_step false x e r q here later = later
 
@@ -121,7 +121,7 @@ pub id-found : (es : List PrEntry) (name : List ℕ) → AreEntries es
     → id_among (map block_of es) name ≡ bits (unwrap_or (option_map (λ e. e.id) (find (λ e. bytes_eq e.name name) es)) anonymous)
 id-found [] name h = refl
 id-found (e ∷ es) name h =
-    ap (λ (n : List ℕ). unwrap_or (option_map block_id (cond (bytes_eq n name) (Some (block_of e)) (find (λ block. bytes_eq (block_name block) name) (map block_of es)))) 32766) (block_name-block_of e h.0)
+    ap (λ (n : List ℕ). unwrap_or (option_map block_id (cond (bytes_eq n name) (Some (block_of e)) (find (λ block. bytes_eq (block_name block) name) (map block_of es)))) (bits anonymous)) (block_name-block_of e h.0)
     ∙ id_step (bytes_eq e.name name) (block_of e) e (find (λ block. bytes_eq (block_name block) name) (map block_of es)) (find (λ y. bytes_eq y.name name) es) (block_id-block_of e h.0) (id-found es name h.1)
 
 pub name-found : (es : List PrEntry) (name : List ℕ) → AreEntries es → name_among (map block_of es) name ≡ list_any (λ e. bytes_eq e.name name) es

@@ -4,7 +4,8 @@ use Rattle.std.specs.List.{before_first, find, list_any}
 use Rattle.std.specs.Option.{option_map}
 use Rattle.std.specs.Simd.{first_chunks}
 use Rattle.std.specs.Str.{bytes_eq}
-use Rattle.prdb_entries.specs.Bytes.{word_at}
+use Rattle.prdb_entries.specs.Bytes.{bits, word_at}
+use Rattle.prdb_entries.specs.State.{anonymous}
 use Rattle.prdb_entries.specs.Layout.{head_len, block_len}
 
 -- a head, and whole blocks behind it
@@ -29,7 +30,7 @@ block_id block = word_at block 8
 
 -- the id word of the first block with this name, or that of `anonymous`
 abbrev pub id_among : List (List ℕ) → List ℕ → ℕ
-id_among blocks name = unwrap_or (option_map block_id (find (λ block. bytes_eq (block_name block) name) blocks)) 32766
+id_among blocks name = unwrap_or (option_map block_id (find (λ block. bytes_eq (block_name block) name) blocks)) (bits anonymous)
 
 abbrev pub name_among : List (List ℕ) → List ℕ → Bool
 name_among blocks name = list_any (λ block. bytes_eq (block_name block) name) blocks

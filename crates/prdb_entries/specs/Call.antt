@@ -2,6 +2,7 @@
 use Rattle.std.specs.Prelude.{ℕ, ◌≤◌, Bool, true, false, List, [], ◌∷◌, ◌++◌, length}
 use Rattle.std.specs.List.{flat_map, AllByRecursion}
 use Rattle.prdb_entries.specs.Bytes.{words, string}
+use Rattle.prdb_entries.specs.declared.calls.TheConstants.{MAX_NAME, MAX_LIST}
 
 -- a call: the name of a user to be made, without a given owner, or the names to be translated to ids
 pub data PrCall : Type 0 where
@@ -20,14 +21,14 @@ abbrev pub spelling : PrCall → List ℕ
 spelling (NewUser name) = words (1 ∷ []) ++ string name ++ words (user_kind ∷ no_owner ∷ [])
 spelling (NameToId names) = words (3 ∷ length names ∷ []) ++ flat_map string names
 
--- a name in a call has at most 255 bytes
+-- a name in a call has at most MAX_NAME bytes
 abbrev pub IsCallName : List ℕ → Type 0
-IsCallName name = length name ≤ 255
+IsCallName name = length name ≤ MAX_NAME
 
--- a list in a call has at most 5,000 items
+-- a list in a call has at most MAX_LIST items
 abbrev pub IsPrCall : PrCall → Type 0
 IsPrCall (NewUser name) = IsCallName name
-IsPrCall (NameToId names) = (length names ≤ 5000) × AllByRecursion IsCallName names
+IsPrCall (NameToId names) = (length names ≤ MAX_LIST) × AllByRecursion IsCallName names
 
 -- whether a call writes
 abbrev pub is_write : PrCall → Bool

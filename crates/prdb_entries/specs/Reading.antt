@@ -5,6 +5,7 @@ use Rattle.std.specs.List.{list_all}
 use Rattle.std.specs.Option.{option_map}
 use Rattle.prdb_entries.specs.Bytes.{padding}
 use Rattle.prdb_entries.specs.Call.{PrCall, NewUser, NameToId, user_kind, no_owner}
+use Rattle.prdb_entries.specs.declared.calls.TheConstants.{MAX_NAME, MAX_LIST}
 use Rattle.prdb_entries.specs.declared.calls.Call.{Call}
 use Rattle.prdb_entries.specs.declared.calls.Call.TheVariants as code
 
@@ -27,13 +28,13 @@ number_at bytes = do
   front ← front_at 4 bytes
   Some (from_be_bytes w32 front.0, front.1)
 
--- a string of at most 255 bytes, whose padding is zero
+-- a string of at most MAX_NAME bytes, whose padding is zero
 unfoldable pub string_at : List ℕ → Option (List ℕ × List ℕ)
 string_at bytes = do
   len ← number_at bytes
   text ← front_at len.0 len.1
   zeros ← front_at (padding len.0) text.1
-  if nat_le len.0 255 && list_all (λ b. b == 0) zeros.0 then Some (text.0, zeros.1) else None
+  if nat_le len.0 MAX_NAME && list_all (λ b. b == 0) zeros.0 then Some (text.0, zeros.1) else None
 
 -- so many strings
 unfoldable pub strings_at : ℕ → List ℕ → Option (List (List ℕ) × List ℕ)
@@ -61,7 +62,7 @@ names_of count bytes = do
 unfoldable pub name_to_id_of : List ℕ → Option PrCall
 name_to_id_of bytes = do
   count ← number_at bytes
-  if nat_le count.0 5000 then option_map NameToId (names_of count.0 count.1) else None
+  if nat_le count.0 MAX_LIST then option_map NameToId (names_of count.0 count.1) else None
 
 -- the call that the bytes spell
 unfoldable pub call_of : List ℕ → Option PrCall

@@ -10,8 +10,9 @@ pub const HEAD_LEN: usize = 2112;
 /// The length of a block, in bytes.
 pub const BLOCK_LEN: usize = 192;
 
-/// The id of the entry `anonymous`.
-pub const ANONYMOUS: u32 = 32766;
+/// The id of the entry `anonymous`, which a name has that is no entry's, and for which a call is made
+/// that is not signed in.
+pub const ANONYMOUS: i32 = 32766;
 
 pub type Block = [u8; BLOCK_LEN];
 
@@ -75,7 +76,7 @@ pub fn id_of(blocks: &[Block], name: &[u8]) -> u32
     blocks
         .iter()
         .find(|block| block_name(block) == name)
-        .map_or(ANONYMOUS, |block| block_id(block))
+        .map_or(ANONYMOUS.cast_unsigned(), |block| block_id(block))
 }
 
 /// Whether an entry has this name.

@@ -7,10 +7,10 @@ ghost use Rattle.prdb_entries.specs.Protection.{protection};
 ghost use Rattle.prdb_entries.specs.Reading.{Gives, front_at, number_at, string_at, strings_at, new_user_of, names_of, name_to_id_of, call_of, StandsForCall};
 
 /// The most bytes of a name in a call.
-const MAX_NAME: u32 = 255;
+pub const MAX_NAME: usize = 255;
 
 /// The most items of a list in a call.
-const MAX_LIST: u32 = 5000;
+pub const MAX_LIST: usize = 5000;
 
 /// A user's kind in a call.
 pub const USER_KIND: u32 = 0;
@@ -67,7 +67,7 @@ pub fn string(bytes: &[u8]) -> Option<(&[u8], &[u8])>
     let (length, rest) = number(bytes)?;
     let (text, rest) = front(length as usize, rest)?;
     let (zeros, rest) = front(zeros_after(length), rest)?;
-    if length <= MAX_NAME && are_zero(zeros) {
+    if length as usize <= MAX_NAME && are_zero(zeros) {
         Some((text, rest))
     } else {
         None
@@ -108,7 +108,7 @@ fn name_to_id(bytes: &[u8]) -> Option<Call<'_>>
         (λ call. (c : PrCall) × (name_to_id_of bytes.now ≡ Some c) × StandsForCall call c) }
 {
     let (count, names) = number(bytes)?;
-    if count > MAX_LIST {
+    if count as usize > MAX_LIST {
         return None;
     }
     let rest = after_strings(count, names)?;

@@ -6,6 +6,7 @@ ghost use Rattle.prdb_entries.specs.State.{fixed, fixed_entries, administrators,
 ghost use Rattle.prdb_entries.specs.Meaning.{new_user};
 ghost use Rattle.prdb_entries.specs.Layout.{head_of, numbers_of, block_of, layout, entry_of};
 
+use crate::blocks::ANONYMOUS;
 use std::alloc::{AllocError, Global};
 
 /// A block of an entry begins with this word.
@@ -26,9 +27,6 @@ const GROUP_FLAGS: u32 = 131_584;
 
 /// The id of `system:administrators`, which owns what has no other owner.
 const ADMINISTRATORS: i32 = -204;
-
-/// The id of `anonymous`, for whom a call is made that is not signed in.
-const ANONYMOUS: i32 = 32766;
 
 /// How many groups a user may still make at first.
 const USER_QUOTA: i32 = 20;

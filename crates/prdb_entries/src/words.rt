@@ -2,30 +2,43 @@
 ghost use Rattle.std.specs.Prelude.{◌≡◌, ◌≤◌, ◌<◌, ◌++◌, ◌∷◌, ◌==◌, nat_le, length, IsTrue, IfSome, OnOk, IfOk};
 ghost use Rattle.std.specs.Fmt.{decimal};
 ghost use Rattle.std.specs.Str.{bytes_eq};
-ghost use Rattle.std.specs.List.{list_all};
+ghost use Rattle.std.specs.List.{list_all, list_any};
 ghost use Rattle.std.specs.Option.{option_map};
 ghost use Rattle.std.specs.String.{string_bytes};
 ghost use Rattle.prdb_entries.specs.Bytes.{string, zeros};
 ghost use Rattle.prdb_entries.specs.Call.{NewUser, NameToId, spelling};
 ghost use Rattle.prdb_entries.specs.Reading.{Gives};
-ghost use Rattle.prdb_entries.specs.Words.{is_quotes, is_plain, unquoted, string_of_word, strings_of_words, new_user_in, name_to_id_in, call_of_words, is_later_entry_call, is_later_group_call, is_later_id_call, is_later_name, is_given, is_other_entry, is_unbuilt, id_text, ids_text, id_list_text, one_id_text, reply_in_words};
+ghost use Rattle.prdb_entries.specs.Words.{is_quotes, is_plain, unquoted, string_of_word, strings_of_words, new_user_in, name_to_id_in, call_of_words, is_later_name, is_given, is_other_entry, is_unbuilt, id_text, ids_text, id_list_text, one_id_text, reply_in_words};
 
-use crate::calls::{Call, NO_OWNER, USER_KIND, number, read_call, zeros_after};
+use crate::calls::{Call, MAX_LIST, MAX_NAME, NO_OWNER, USER_KIND, number, read_call, zeros_after};
 use crate::entries::{push_words, push_zeros};
 use script_words::{number_within, signed_number};
 use std::alloc::Global;
 use ubik_types::{Bytes, NoMemory};
 
-/// A string in a call has at most so many bytes.
-const MAX_STRING: usize = 255;
-
-/// A list in a call has at most so many items.
-const MAX_LIST: usize = 5000;
-
 // The names of the calls, and the word of the number 0.
 const NEWENTRY: &[u8] = b"newentry";
 
 const NAMETOID: &[u8] = b"nametoid";
+
+/// The names of the calls of which no form is built yet.
+const LATER_NAMES: [&[u8]; 15] = [
+    b"inewentry",
+    b"idtoname",
+    b"delete",
+    b"addtogroup",
+    b"removefromgroup",
+    b"listmax",
+    b"setmax",
+    b"listentry",
+    b"listentries",
+    b"changeentry",
+    b"setfields",
+    b"getcps",
+    b"listelements",
+    b"ismemberof",
+    b"listowned",
+];
 
 const ZERO: &[u8] = b"0";
 
@@ -85,10 +98,10 @@ fn unquoted(word: &[u8]) -> Option<&[u8]>
 #[tactic(auto, unfolding(crate::specs::Words::string_of_word))]
 fn string_of_word(word: &[u8]) -> Option<&[u8]>
     ensures value { Gives (λ text. text.now) result (string_of_word word.now) }
-    ensures short { IfSome result (λ text. length text.now ≤ 255) }
+    ensures short { IfSome result (λ text. length text.now ≤ MAX_NAME) }
 {
     let text = unquoted(word)?;
-    if text.len() <= MAX_STRING {
+    if text.len() <= MAX_NAME {
         Some(text)
     } else {
         None
@@ -97,7 +110,7 @@ fn string_of_word(word: &[u8]) -> Option<&[u8]>
 
 /// Writes a string at the end: its length, its bytes and its padding.
 fn push_string(out: &mut Vec<u8>, text: &[u8]) -> Result<(), NoMemory>
-    requires { length text.now ≤ 255 }
+    requires { length text.now ≤ MAX_NAME }
     ensures { OnOk result (out.new.items ≡ out.old.items ++ string text.now) }
 {
     let length = text.len() as u32;
@@ -109,7 +122,7 @@ fn push_string(out: &mut Vec<u8>, text: &[u8]) -> Result<(), NoMemory>
 
 /// The call that makes a user, as bytes.
 fn spell_new_user(alloc: Global, name: &[u8]) -> Result<Bytes, NoMemory>
-    requires { length name.now ≤ 255 }
+    requires { length name.now ≤ MAX_NAME }
     ensures { IfOk result (λ bytes. bytes ≡ spelling (NewUser name.now)) }
 {
     let mut out = Vec::new(alloc);
@@ -121,7 +134,7 @@ fn spell_new_user(alloc: Global, name: &[u8]) -> Result<Bytes, NoMemory>
 
 /// The call that translates the names that these words stand for, as bytes.
 fn spell_names(alloc: Global, names: &[Bytes]) -> Result<Option<Bytes>, NoMemory>
-    requires { length names.now ≤ 5000 }
+    requires { length names.now ≤ MAX_LIST }
     ensures { IfOk result (λ r. r ≡ option_map (λ list. spelling (NameToId list)) (strings_of_words names.now)) }
 {
     let mut out = Vec::new(alloc);
@@ -209,42 +222,17 @@ fn is_other_entry(fields: &[Bytes]) -> bool
         )
 }
 
-/// Whether a word is the name of a call on entries that is not built yet.
-fn is_later_entry_call(name: &[u8]) -> bool
-    ensures { result ≡ is_later_entry_call name.now }
+fn is_among(name: &[u8], names: &[&[u8]]) -> bool
+    ensures { result ≡ list_any (λ other. bytes_eq name.now other.now) names.now }
 {
-    name == b"inewentry".as_slice()
-        || name == b"delete".as_slice()
-        || name == b"listentry".as_slice()
-        || name == b"listentries".as_slice()
-        || name == b"changeentry".as_slice()
-        || name == b"setfields".as_slice()
-}
-
-/// Whether a word is the name of a call on members and owners, none of which is built yet.
-fn is_later_group_call(name: &[u8]) -> bool
-    ensures { result ≡ is_later_group_call name.now }
-{
-    name == b"addtogroup".as_slice()
-        || name == b"removefromgroup".as_slice()
-        || name == b"getcps".as_slice()
-        || name == b"listelements".as_slice()
-        || name == b"ismemberof".as_slice()
-        || name == b"listowned".as_slice()
-}
-
-/// Whether a word is the name of a call on ids that is not built yet.
-fn is_later_id_call(name: &[u8]) -> bool
-    ensures { result ≡ is_later_id_call name.now }
-{
-    name == b"idtoname".as_slice() || name == b"listmax".as_slice() || name == b"setmax".as_slice()
+    names.iter().any(|other| name == *other)
 }
 
 /// Whether a word is the name of a call of which no form is built yet.
 fn is_later_name(name: &[u8]) -> bool
     ensures { result ≡ is_later_name name.now }
 {
-    is_later_entry_call(name) || is_later_group_call(name) || is_later_id_call(name)
+    is_among(name, &LATER_NAMES)
 }
 
 /// Whether the words name a call of this database that is not built yet: another call, by its name alone, or
