@@ -1,18 +1,17 @@
 -- The numbers of a line are within their bounds.
-use Rattle.std.proofs.Common.{Bool, true, false, cond, nat_le, ◌==◌, ◌&&◌, ◌≡◌, ◌≤◌, ℕ, List, [], ◌∷◌, length, Option, Some, None, IfSome, Result, Ok, Err, IfOk, refl, arith}
+use Rattle.std.proofs.Common.{Bool, true, false, cond, nat_le, ◌==◌, ◌&&◌, ◌≡◌, ◌≤◌, ℕ, List, [], ◌∷◌, length, Option, Some, None, IfSome, Result, IfOk, refl, arith}
 use Rattle.std.proofs.lemmas.Bool.Decides.{nat_tests}
 use Rattle.std.specs.Prelude.{codes, option_and_then}
 use Rattle.std.specs.Option.{option_or}
 use Rattle.std.specs.Str.{bytes_eq}
 use Rattle.script_words.specs.Numbers.{number_of, number_within}
-use Rattle.cell_script.specs.Meaning.{first_word_of, later_word_of, HasBounds, numbered, cell_of, cell_line, tick_all_line, turn_of, turn_line, later_line, ask_line, line_by, line_of_words, server_of}
+use Rattle.cell_script.specs.Meaning.{first_word_of, later_word_of, HasBounds, numbered, cell_of, cell_line, tick_all_line, turn_of, turn_line, ask_line, line_by, line_of_words, server_of}
 use Rattle.cell_script.specs.declared.lines.FirstWord.{FirstWord}
 use Rattle.cell_script.specs.declared.lines.FirstWord.TheVariants as word
 use Rattle.cell_script.specs.declared.lines.Turn.{Turn as LineTurn}
 use Rattle.cell_script.specs.declared.lines.Turn.TheVariants as turn
 use Rattle.cell_script.specs.declared.lines.Line.{Line}
 use Rattle.cell_script.specs.declared.lines.Line.TheVariants as line
-use Rattle.cell_script.specs.declared.lines.Why.{Why}
 
 -- what holds of each value of a function holds of what comes of an option
 then_all : {X Y : Type 0} (Q : Y → Type 0) (f : X → Option Y) (o : Option X) → ((x : X) → IfSome (f x) Q) → IfSome (option_and_then f o) Q

@@ -1,6 +1,7 @@
 -- The reading of a line, byte by byte.
 use Rattle.std.specs.Prelude.{◌≡◌, ◌≢◌, ◌<◌, ℕ, Bool, true, false, List, [], ◌∷◌, ◌++◌, length, Option, Some, None}
 use Rattle.cell_script.specs.Lines.{HasNoLf}
+use Rattle.cell_script.specs.declared.readers.TheConstants.{MAX_LINE}
 use Rattle.cell_script.specs.declared.readers.LineEnd.{LineEnd}
 use Rattle.cell_script.specs.declared.readers.LineEnd.TheVariants.{Line, TooLong, End, Failed}
 use Rattle.cell_script.specs.declared.readers.Next.{Next}
@@ -29,7 +30,7 @@ pub record AddsByte (text : List ℕ) (after : Option (List ℕ)) (old new : Lis
 pub record Overflows (text : List ℕ) (after : Option (List ℕ)) (line : List ℕ) : Type 0 where
   pub byte : ℕ
   pub no_lf : byte ≢ 10
-  pub full : length line ≡ 1024
+  pub full : length line ≡ MAX_LINE
   pub taken : TakesFirst byte text after
 
 -- an LF was taken, or the source ended behind a line that is not empty

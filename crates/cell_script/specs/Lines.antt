@@ -1,6 +1,7 @@
 -- The lines of a text, and what the reading of one line leaves of the text.
-use Rattle.std.specs.Prelude.{◌≡◌, ◌≢◌, ◌<◌, ◌≤◌, ◌==◌, if◌then◌else◌, ℕ, Bool, true, false, List, [], ◌∷◌, ◌++◌, length, Option, Some}
+use Rattle.std.specs.Prelude.{◌≡◌, ◌≢◌, ◌+◌, ◌<◌, ◌≤◌, ◌==◌, if◌then◌else◌, ℕ, Bool, true, false, List, [], ◌∷◌, ◌++◌, length, Option, Some}
 use Rattle.std.specs.List.{All, onto_first}
+use Rattle.cell_script.specs.declared.readers.TheConstants.{MAX_LINE}
 use Rattle.cell_script.specs.declared.readers.LineEnd.{LineEnd}
 use Rattle.cell_script.specs.declared.readers.LineEnd.TheVariants.{Line, TooLong, End, Failed}
 
@@ -17,7 +18,7 @@ IsFirstLine true text line rest = (text ≡ line) × (rest ≡ []) × (0 < lengt
 pub record TakesLine (text : List ℕ) (after : Option (List ℕ)) (line : List ℕ) (ended : Bool) : Type 0 where
   pub rest : List ℕ
   pub no_lf : HasNoLf line
-  pub short : length line ≤ 1024
+  pub short : length line ≤ MAX_LINE
   pub read : IsFirstLine ended text line rest
   pub left : after ≡ Some rest
 
@@ -33,9 +34,9 @@ pub record TakesPart (text : List ℕ) (after : Option (List ℕ)) : Type 0 wher
 -- bytes of one, nothing of the empty text, or at most 1024 bytes of a line
 abbrev pub ReadsLine : LineEnd → List ℕ → Option (List ℕ) → List ℕ → Bool → Type 0
 ReadsLine Line text after line ended = TakesLine text after line ended
-ReadsLine TooLong text after line ended = (ended ≡ false) × (taken : TakesPart text after) × (length taken.part ≡ 1025)
+ReadsLine TooLong text after line ended = (ended ≡ false) × (taken : TakesPart text after) × (length taken.part ≡ MAX_LINE + 1)
 ReadsLine End text after line ended = (ended ≡ true) × (text ≡ []) × (after ≡ Some [])
-ReadsLine Failed text after line ended = (ended ≡ false) × (taken : TakesPart text after) × (length taken.part ≤ 1024)
+ReadsLine Failed text after line ended = (ended ≡ false) × (taken : TakesPart text after) × (length taken.part ≤ MAX_LINE)
 
 -- the lines of a text; the last may lack its LF
 abbrev pub lines_of : List ℕ → List (List ℕ)

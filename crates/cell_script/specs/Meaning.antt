@@ -5,6 +5,8 @@ use Rattle.std.specs.Str.{bytes_eq}
 use Rattle.ubik_types.specs.Moment.{IsMoment}
 use Rattle.script_words.specs.Numbers.{number_of, number_within}
 use Rattle.cell_script.specs.Words.{words_of}
+use Rattle.cell_script.specs.declared.readers.TheConstants.{MAX_LINE}
+use Rattle.cell_script.specs.declared.lines.TheConstants.{MAX_CLOCK, MAX_TICK}
 use Rattle.cell_script.specs.declared.lines.Line.{Line}
 use Rattle.cell_script.specs.declared.lines.Line.TheVariants as line
 use Rattle.cell_script.specs.declared.lines.Why.{Why}
@@ -50,7 +52,7 @@ numbered f (Some n) = Ok (f n)
 abbrev pub cell_of : Option ℕ → List ℕ → Result Line Why
 cell_of None clock = Err Number
 cell_of (Some servers) clock =
-    if servers == 1 then numbered line.Cell (number_within 1 1000000000 clock) else Err Unbuilt
+    if servers == 1 then numbered line.Cell (number_within 1 MAX_CLOCK clock) else Err Unbuilt
 
 abbrev pub one_server : List ℕ → List ℕ → Result Line Why
 one_server servers clock = cell_of (number_within 1 20 servers) clock
@@ -64,7 +66,7 @@ cell_line _ = Err Syntax
 
 -- the seconds by which all clocks go on
 abbrev pub tick_all_line : List (List ℕ) → Result Line Why
-tick_all_line (seconds ∷ []) = numbered line.TickAll (number_within 1 50000 seconds)
+tick_all_line (seconds ∷ []) = numbered line.TickAll (number_within 1 MAX_TICK seconds)
 tick_all_line _ = Err Syntax
 
 abbrev pub turn_of : LineTurn → ℕ → Line
@@ -111,11 +113,11 @@ is_idle (b ∷ bytes) = b == 35
 -- what a line means, or why it means nothing
 abbrev pub line_of : List ℕ → Result Line Why
 line_of bytes =
-    if nat_lt 1024 (length bytes) then Err Syntax
+    if nat_lt MAX_LINE (length bytes) then Err Syntax
     else (if is_idle bytes then Ok line.Nothing else line_of_split (words_of bytes))
 
 -- the numbers of a line are within their bounds
 abbrev pub HasBounds : Line → Type 0
-HasBounds (line.Cell clock) = IsMoment clock × (clock ≤ 1000000000)
-HasBounds (line.TickAll seconds) = seconds ≤ 50000
+HasBounds (line.Cell clock) = IsMoment clock × (clock ≤ MAX_CLOCK)
+HasBounds (line.TickAll seconds) = seconds ≤ MAX_TICK
 HasBounds _ = Unit {0}

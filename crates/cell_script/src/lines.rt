@@ -8,6 +8,12 @@ use script_words::{number, number_within};
 use std::alloc::Global;
 use ubik_types::{Bytes, MAXSERVERS, NoMemory};
 
+/// The latest clock at which a cell is opened, in seconds.
+pub const MAX_CLOCK: u32 = 1_000_000_000;
+
+/// The most seconds of a line by which clocks go on.
+pub const MAX_TICK: u32 = 50_000;
+
 /// Why a line of a script is refused: the first of these that holds, in the order syntax, unbuilt, number, cell,
 /// server, state, packet, skew.
 #[derive(Clone, Copy, Debug, PartialEq, Eq)]
@@ -168,13 +174,13 @@ fn cell_line(arguments: &[Bytes]) -> Result<Line, Why>
     }
 }
 
-/// A cell of 1 to 20 servers, of which one is built, with a clock from 1 to 1000000000.
+/// A cell of 1 to 20 servers, of which one is built, with a clock from 1 to [`MAX_CLOCK`].
 fn one_server(servers: &[u8], clock: &[u8]) -> Result<Line, Why>
     ensures { result ≡ one_server servers.now clock.now }
 {
     match number_within(servers, 1, MAXSERVERS as u32) {
         None => Err(Why::Number),
-        Some(1) => match number_within(clock, 1, 1_000_000_000) {
+        Some(1) => match number_within(clock, 1, MAX_CLOCK) {
             None => Err(Why::Number),
             Some(clock) => Ok(Line::Cell { clock }),
         },
@@ -182,14 +188,14 @@ fn one_server(servers: &[u8], clock: &[u8]) -> Result<Line, Why>
     }
 }
 
-/// `tickall SECONDS`, 1 to 50000.
+/// `tickall SECONDS`, 1 to [`MAX_TICK`].
 fn tick_all_line(arguments: &[Bytes]) -> Result<Line, Why>
     ensures { result ≡ tick_all_line arguments.now }
 {
     let [seconds] = arguments else {
         return Err(Why::Syntax);
     };
-    match number_within(seconds.as_slice(), 1, 50_000) {
+    match number_within(seconds.as_slice(), 1, MAX_TICK) {
         None => Err(Why::Number),
         Some(seconds) => Ok(Line::TickAll { seconds }),
     }

@@ -40,12 +40,13 @@ pub struct LineReader {
 impl Model for LineReader {
     ghost use Rattle.std.specs.Prelude.{length, ◌≤◌, vec_capacity};
     ghost use Rattle.cell_script.specs.Reader.{ReaderState};
+    ghost use Rattle.cell_script.specs.declared.readers.TheConstants.{MAX_LINE};
 
     ghost Value = { ReaderState };
 
     ghost view = { λ r. record { line = r.line.items; ended = r.ended } };
 
-    ghost invariant = { λ r. (1024 ≤ vec_capacity r.line) × (length r.line.items ≤ 1024) };
+    ghost invariant = { λ r. (MAX_LINE ≤ vec_capacity r.line) × (length r.line.items ≤ MAX_LINE) };
 }
 
 impl LineReader {
@@ -62,7 +63,7 @@ impl LineReader {
     /// [`LineEnd::Line`].
     pub fn line(&self) -> &[u8]
         ensures line { result.now ≡ self.now.line }
-        ensures short { length result.now ≤ 1024 }
+        ensures short { length result.now ≤ MAX_LINE }
     {
         self.line.as_slice()
     }
@@ -110,13 +111,13 @@ fn next_byte<S: Source>(source: &mut S) -> Next
 /// Reads one byte of a line, or notes that the source has ended. It says how the line ended, or nothing where the byte
 /// was added to it.
 fn extend_line<S: Source>(line: &mut Vec<u8>, ended: &mut bool, source: &mut S) -> Option<LineEnd>
-    requires room { 1024 ≤ vec_capacity line.old }
-    requires short { length line.old.items ≤ 1024 }
+    requires room { MAX_LINE ≤ vec_capacity line.old }
+    requires short { length line.old.items ≤ MAX_LINE }
     requires going { ended.old ≡ false }
     ensures told { IfSome (S.left source.old)
         (λ text. Extends result text (S.left source.new) line.old.items line.new.items ended.new) }
-    ensures room { 1024 ≤ vec_capacity line.new }
-    ensures short { length line.new.items ≤ 1024 }
+    ensures room { MAX_LINE ≤ vec_capacity line.new }
+    ensures short { length line.new.items ≤ MAX_LINE }
     ensures longer { result ≡ None → length line.new.items ≡ length line.old.items + 1 }
     ensures going { result ≡ None → ended.new ≡ false }
     ensures cause { HasCause (S.faults source.old) (S.faults source.new) (result ≡ Some LineEnd.Failed) }

@@ -14,6 +14,7 @@ use Rattle.cell_script.specs.declared.lines.Why.TheVariants as why
 use Rattle.cell_script.specs.Meaning.{line_of}
 use Rattle.prdb_entries.specs.Reading.{call_of}
 use Rattle.prdb_entries.specs.Words.{call_of_words, is_unbuilt}
+use Rattle.ubik_cell.specs.declared.scripts.TheConstants.{MAX_LINES}
 use Rattle.ubik_cell.specs.declared.cells.Ending.{Ending}
 use Rattle.ubik_cell.specs.declared.cells.Ending.TheVariants.{Refused, Limit}
 use Rattle.ubik_cell.specs.declared.cells.Which.TheVariants.{Lines}
@@ -180,7 +181,7 @@ or_refused (Err w) = Err (Refused w)
 -- a line; a script has 20,000 of them at most
 abbrev pub line_result : Database → Stage → Reading → Result Line_run Ending
 line_result db st r =
-    if nat_le 20000 st.lines then Err (Limit Lines) else or_refused (meaning_run db st r.luck (line_of r.line))
+    if nat_le MAX_LINES st.lines then Err (Limit Lines) else or_refused (meaning_run db st r.luck (line_of r.line))
 
 -- how many faults of a disk are seen
 abbrev pub fault_count : List Happening → ℕ

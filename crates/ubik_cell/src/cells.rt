@@ -1,4 +1,6 @@
 //! How a run of a script ended.
+ghost use Rattle.std.specs.Prelude.{◌≡◌};
+ghost use Rattle.ubik_cell.specs.Run.{status_of};
 
 use cell_script::Why;
 
@@ -39,6 +41,23 @@ pub enum CellKind {
     NoMemory,
     /// The program takes no words, and this one, counted from 1, was given. Nothing was read or written.
     Words { place: u32 },
+}
+
+impl CellKind {
+    /// The exit status that stands for the end, 0 to 6.
+    pub fn status(self) -> u8
+        ensures { result ≡ status_of self }
+    {
+        match self {
+            CellKind::Done => 0,
+            CellKind::ScriptRefused { .. } => 1,
+            CellKind::ReadFault => 2,
+            CellKind::WriteFault => 3,
+            CellKind::Limit { .. } => 4,
+            CellKind::NoMemory => 5,
+            CellKind::Words { .. } => 6,
+        }
+    }
 }
 
 /// The end of a run, with the exit status that stands for it.

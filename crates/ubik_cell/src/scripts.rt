@@ -2,13 +2,15 @@
 ghost use Rattle.std.specs.Prelude.{◌≡◌, ◌≢◌, ◌+◌, ◌*◌, ◌<◌, ◌≤◌, ℕ, List, length, Some, Err, if◌then◌else◌};
 ghost use Rattle.std.specs.String.{string_bytes};
 ghost use Rattle.disk_base.specs.Files.{no_files};
+ghost use Rattle.cell_script.specs.declared.lines.TheConstants.{MAX_CLOCK, MAX_TICK};
 ghost use Rattle.prdb_entries.specs.Protection.{protection};
 ghost use Rattle.prdb_entries.specs.Words.{is_unbuilt};
 ghost use Rattle.ubik_cell.specs.Script.{no_cell};
+ghost use Rattle.ubik_cell.specs.declared.scripts.TheConstants.{MAX_LINES};
 
 use crate::cells::{Ending, Which};
 use crate::sites::{LineDone, Site, open_node, step_site};
-use cell_script::{Line, Why, Words, line_meaning};
+use cell_script::{Line, MAX_CLOCK, MAX_LINE, MAX_TICK, Why, Words, line_meaning};
 use disk_base::StopDisk;
 use prdb_entries::{call_words, is_unbuilt};
 use std::alloc::Global;
@@ -27,17 +29,17 @@ struct Counts {
     asks: u32,
     /// The clock of the server, in seconds; 0 where no cell stands.
     clock: u32,
-    ghost few_lines: { lines ≤ 20000 },
+    ghost few_lines: { lines ≤ MAX_LINES },
     ghost few_asks: { asks ≤ lines },
-    ghost clock_fits: { clock ≤ 1000000000 + 50000 * lines },
+    ghost clock_fits: { clock ≤ MAX_CLOCK + MAX_TICK * lines },
 }
 
 impl Counts {
     /// The counts after one more line.
     fn after_line(self, asks: u32, clock: u32) -> Counts
-        requires room { self.lines < 20000 }
+        requires room { self.lines < MAX_LINES }
         requires asks { asks ≤ self.lines + 1 }
-        requires clock { clock ≤ 1000000000 + 50000 * (self.lines + 1) }
+        requires clock { clock ≤ MAX_CLOCK + MAX_TICK * (self.lines + 1) }
         ensures lines { result.lines ≡ self.lines + 1 }
         ensures asks { result.asks ≡ asks }
         ensures clock { result.clock ≡ clock }
@@ -101,9 +103,9 @@ impl<D: StopDisk> CellRun<D> {
 
     /// The cell is opened at a clock.
     fn open(self, clock: u32, text: &mut String) -> (CellRun<D>, LineDone)
-        requires room { self.counts.lines < 20000 }
+        requires room { self.counts.lines < MAX_LINES }
         requires moment { IsMoment clock }
-        requires bound { clock ≤ 1000000000 }
+        requires bound { clock ≤ MAX_CLOCK }
         requires sound { IsSound D.files D.faults self.counts.clock self.site }
         ensures sound { result.1 ≢ LineDone.NoMemory → IsSound D.files D.faults result.0.counts.clock result.0.site }
         ensures told { result.1 ≡ LineDone.Told → (st : Stage) → IsAt self st →
@@ -147,8 +149,8 @@ impl<D: StopDisk> CellRun<D> {
 
     /// All clocks go forward.
     fn tick_all(self, seconds: u32) -> (CellRun<D>, LineDone)
-        requires room { self.counts.lines < 20000 }
-        requires bound { seconds ≤ 50000 }
+        requires room { self.counts.lines < MAX_LINES }
+        requires bound { seconds ≤ MAX_TICK }
         requires sound { IsSound D.files D.faults self.counts.clock self.site }
         ensures sound { result.1 ≢ LineDone.NoMemory → IsSound D.files D.faults result.0.counts.clock result.0.site }
         ensures told { result.1 ≡ LineDone.Told → (st : Stage) → IsAt self st → (text : List ℕ) →
@@ -187,7 +189,7 @@ impl<D: StopDisk> CellRun<D> {
         event: NodeEvent,
         text: &mut String,
     ) -> (CellRun<D>, LineDone)
-        requires room { self.counts.lines < 20000 }
+        requires room { self.counts.lines < MAX_LINES }
         requires asks { asks ≤ self.counts.lines + 1 }
         requires sound { IsSound D.files D.faults self.counts.clock self.site }
         ensures sound { result.1 ≢ LineDone.NoMemory → IsSound D.files D.faults result.0.counts.clock result.0.site }
@@ -233,7 +235,7 @@ impl<D: StopDisk> CellRun<D> {
     /// A call of a server, counted from 1, in words. Once a cell stands the words come first: the server is judged
     /// after them.
     fn ask(self, server: Option<u64>, words: &Words, text: &mut String) -> (CellRun<D>, LineDone)
-        requires room { self.counts.lines < 20000 }
+        requires room { self.counts.lines < MAX_LINES }
         requires sound { IsSound D.files D.faults self.counts.clock self.site }
         ensures sound { result.1 ≢ LineDone.NoMemory → IsSound D.files D.faults result.0.counts.clock result.0.site }
         ensures told { result.1 ≡ LineDone.Told → (st : Stage) → IsAt self st →
@@ -264,7 +266,7 @@ impl<D: StopDisk> CellRun<D> {
 
     /// An empty line, or a comment.
     fn pass(self) -> (CellRun<D>, LineDone)
-        requires room { self.counts.lines < 20000 }
+        requires room { self.counts.lines < MAX_LINES }
         requires sound { IsSound D.files D.faults self.counts.clock self.site }
         ensures sound { IsSound D.files D.faults result.0.counts.clock result.0.site }
         ensures done { result.1 ≡ LineDone.Told }
@@ -292,7 +294,7 @@ impl<D: StopDisk> CellRun<D> {
 
     /// A line that was understood.
     fn run_line(self, line: &Line, text: &mut String) -> (CellRun<D>, LineDone)
-        requires room { self.counts.lines < 20000 }
+        requires room { self.counts.lines < MAX_LINES }
         requires bounds { HasBounds line.now }
         requires sound { IsSound D.files D.faults self.counts.clock self.site }
         ensures sound { result.1 ≢ LineDone.NoMemory → IsSound D.files D.faults result.0.counts.clock result.0.site }
@@ -326,7 +328,7 @@ impl<D: StopDisk> CellRun<D> {
             LineTold D.faults (λ luck. line_result protection st (record { line = line.now; luck = luck })) self result.0 (string_bytes text.old) (string_bytes text.new) }
         ensures ended { (e : Ending) → result.1 ≡ LineDone.Ended e → (st : Stage) → IsAt self st →
             Ends e (λ luck. line_result protection st (record { line = line.now; luck = luck })) }
-        ensures few { result.1 ≡ LineDone.Told → self.counts.lines < 20000 }
+        ensures few { result.1 ≡ LineDone.Told → self.counts.lines < MAX_LINES }
         ensures short { result.1 ≡ LineDone.NoMemory → (st : Stage) → IsAt self st →
             LineShort (site_held D.files D.faults result.0.site) st.run (λ luck. line_result protection st (record { line = line.now; luck = luck })) }
         ensures longer { result.1 ≡ LineDone.Told → result.0.counts.lines ≡ self.counts.lines + 1 }
@@ -347,7 +349,7 @@ impl<D: StopDisk> CellRun<D> {
 
     /// Why the script ends at the next line, which has more bytes than a line may have.
     pub fn ending_at_long_line(&self) -> Ending
-        ensures { (st : Stage) → IsAt self.now st → (line : List ℕ) → 1024 < length line →
+        ensures { (st : Stage) → IsAt self.now st → (line : List ℕ) → MAX_LINE < length line →
             Ends result (λ luck. line_result protection st (record { line = line; luck = luck })) }
     {
         if self.counts.lines >= MAX_LINES {

@@ -11,8 +11,7 @@ ghost use Rattle.prdb_entries.specs.Protection.{outcome, protection};
 ghost use Rattle.prdb_entries.specs.Reading.{call_of};
 ghost use Rattle.prdb_entries.specs.State.{PrState, initial_state};
 ghost use Rattle.ubik_cell.specs.Lines.{IsSound};
-ghost use Rattle.ubik_cell.specs.Run.{SoFar, AtLine, AtEnding, Runs, kind_at, IsInside, IsDoneOrShort};
-ghost use Rattle.ubik_cell.specs.Run as Status;
+ghost use Rattle.ubik_cell.specs.Run.{SoFar, AtLine, AtEnding, Runs, kind_at, IsInside, IsDoneOrShort, status_of};
 ghost use Rattle.cell_model.specs.Causes.{RepliesHaveCauses};
 ghost use Rattle.cell_model.specs.KeptLaws.{AcknowledgedStay, OksAreAcknowledged, RepliesAreSingle, SitesAreSingle};
 ghost use Rattle.cell_model.specs.Laws.{AnnouncementsGrow, DatabaseIsDurable};
@@ -164,21 +163,6 @@ fn run_script<S: Source, K: Sink, D: StopDisk>(
     }
 }
 
-/// The exit status that stands for an end.
-fn status_of(kind: CellKind) -> u8
-    ensures { result ≡ Status.status_of kind }
-{
-    match kind {
-        CellKind::Done => 0,
-        CellKind::ScriptRefused { .. } => 1,
-        CellKind::ReadFault => 2,
-        CellKind::WriteFault => 3,
-        CellKind::Limit { .. } => 4,
-        CellKind::NoMemory => 5,
-        CellKind::Words { .. } => 6,
-    }
-}
-
 /// The laws of each run of a cell of one server, which the run of a script is, and of the database. It does nothing.
 fn recall_laws()
     ensures order { AnnouncementsGrow }
@@ -230,7 +214,7 @@ pub fn cell_top<S: Source, K: Sink, D: StopDisk>(
     ensures complete { length words.now ≡ 0 → S.faults input.new ≡ S.faults input.old → K.faults out.new ≡ K.faults out.old →
         (first_held D.files D.faults disks.new.items).faults ≡ 0 → IfSome (S.left input.old) (λ script. IfSome (K.written out.old) (λ before.
         IsInside protection script → IsDoneOrShort result.kind)) }
-    ensures status { result.status ≡ Status.status_of result.kind }
+    ensures status { result.status ≡ status_of result.kind }
     ensures read_cause { HasCause (S.faults input.old) (S.faults input.new) (result.kind ≡ CellKind.ReadFault) }
     ensures write_cause { HasCause (K.faults out.old) (K.faults out.new) (result.kind ≡ CellKind.WriteFault) }
     ensures words { 0 < length words.now → result.kind ≡ CellKind.Words 1 }
@@ -243,7 +227,7 @@ pub fn cell_top<S: Source, K: Sink, D: StopDisk>(
     if !words.is_empty() {
         let kind = CellKind::Words { place: 1 };
         return CellEnd {
-            status: status_of(kind),
+            status: kind.status(),
             kind,
         };
     }
@@ -251,7 +235,7 @@ pub fn cell_top<S: Source, K: Sink, D: StopDisk>(
     let (disk, kind) = run_script(alloc, input, out, disk);
     disks.insert(0, disk).unwrap();
     CellEnd {
-        status: status_of(kind),
+        status: kind.status(),
         kind,
     }
 }

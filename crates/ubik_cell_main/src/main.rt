@@ -17,15 +17,6 @@ use std::process::ExitCode;
 use ubik_cell::{CellEnd, CellKind, cell_top};
 use ubik_types::{MAXSERVERS, NoMemory};
 
-/// The trace could not be written whole.
-const WRITE_FAULT: u8 = 3;
-
-/// Memory ran out.
-const NO_MEMORY: u8 = 5;
-
-/// There is a word that is not UTF-8, and the program takes none.
-const WORDS: u8 = 6;
-
 /// How the script ended, and whether all of its trace went out with the last flush.
 #[derive(Clone, Copy)]
 struct Ended {
@@ -94,7 +85,7 @@ fn exit_status(ended: Ended) -> u8
     if ended.flushed {
         ended.end.status
     } else {
-        WRITE_FAULT
+        CellKind::WriteFault.status()
     }
 }
 
@@ -115,22 +106,24 @@ fn behind_name(alloc: Global, mut args: Args) -> Result<Vec<String>, NoMemory>
 fn status(rt: &HostRuntime, given: io::Result<Args>) -> u8
     // A word is status 6, but memory may run out, and the last flush fail.
     ensures words { IfOk given (λ args. 1 < length (into_iter_items args) →
-        (result ≡ 6) ⊎ (result ≡ NO_MEMORY) ⊎ (result ≡ WRITE_FAULT)) }
+        (result ≡ 6) ⊎ (result ≡ 5) ⊎ (result ≡ 3)) }
     ensures no_words { IfOk given (λ args. length (into_iter_items args) ≤ 1 → result ≢ 6) }
     ensures not_text { IfErr given (λ error. error_kind error ≡ ErrorKind.InvalidData → result ≡ 6) }
     ensures no_memory { IfErr given (λ error. error_kind error ≢ ErrorKind.InvalidData → result ≡ 5) }
 {
     let args = match given {
         Ok(args) => args,
-        Err(error) if error.kind() == ErrorKind::InvalidData => return WORDS,
-        Err(_) => return NO_MEMORY,
+        Err(error) if error.kind() == ErrorKind::InvalidData => {
+            return CellKind::Words { place: 1 }.status();
+        }
+        Err(_) => return CellKind::NoMemory.status(),
     };
     let Ok(words) = behind_name(rt.alloc(), args) else {
-        return NO_MEMORY;
+        return CellKind::NoMemory.status();
     };
     match run(rt, &words) {
         Ok(ended) => exit_status(ended),
-        Err(NoMemory) => NO_MEMORY,
+        Err(NoMemory) => CellKind::NoMemory.status(),
     }
 }
 

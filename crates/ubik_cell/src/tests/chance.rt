@@ -140,81 +140,186 @@ fn bytes_by_chance_are_no_lines(rt: HostRuntime) -> Result<(), Fail> {
     Ok(())
 }
 
-/// Adds a line by chance: one that fits, or a first word and one to three further ones.
-fn push_line(chance: &mut Chance, script: &mut Vec<u8>) -> Result<(), Fail> {
-    if chance.byte() < 150 {
-        let line = LINES[usize::from(chance.byte() % 16)];
-        script.extend_from_slice(line.as_bytes())?;
-    } else {
-        let first = FIRST_WORDS[usize::from(chance.byte() % 10)];
-        script.extend_from_slice(first.as_bytes())?;
-        for _ in 0..1 + chance.byte() % 3 {
-            let word = WORDS[usize::from(chance.byte() % 22)];
-            script.push(b' ')?;
-            script.extend_from_slice(word.as_bytes())?;
+/// The number that a word of these texts is, where it is one and below 2^32.
+fn value_of(word: &str) -> Option<u32> {
+    match word {
+        "0" => Some(0),
+        "1" => Some(1),
+        "2" => Some(2),
+        "50" => Some(50),
+        "76" => Some(76),
+        "1000" => Some(1000),
+        "50001" => Some(50_001),
+        _ => None,
+    }
+}
+
+/// Why a line is refused that opens a cell.
+fn cell_reason(servers: &str, clock: &str, kind: &str, opened: bool) -> Option<Why> {
+    match kind {
+        "pt" => {}
+        "vl" => return Some(Why::Unbuilt),
+        _ => return Some(Why::Syntax),
+    }
+    match value_of(servers) {
+        Some(1) => {}
+        Some(2) => return Some(Why::Unbuilt),
+        _ => return Some(Why::Number),
+    }
+    match value_of(clock) {
+        None | Some(0) => Some(Why::Number),
+        Some(_) if opened => Some(Why::Cell),
+        Some(_) => None,
+    }
+}
+
+/// Why a line is refused that brings the clocks forward.
+fn tick_reason(seconds: &str, opened: bool) -> Option<Why> {
+    match value_of(seconds) {
+        None | Some(0) | Some(50_001) => Some(Why::Number),
+        Some(_) if opened => None,
+        Some(_) => Some(Why::Cell),
+    }
+}
+
+/// Why a line is refused for the server that it names.
+fn server_reason(server: &str, opened: bool) -> Option<Why> {
+    match value_of(server) {
+        None | Some(0) => Some(Why::Number),
+        Some(_) if !opened => Some(Why::Cell),
+        Some(1) => None,
+        Some(_) => Some(Why::Server),
+    }
+}
+
+/// Why a call is refused for its words. The calls that fit are those of the lines above, and one of no name.
+fn call_reason(name: &str, arguments: &[&str]) -> Option<Why> {
+    match (name, arguments.len()) {
+        ("newentry", 3) => None,
+        ("nametoid", 2) => None,
+        ("nametoid", 3) => None,
+        ("nametoid", 1) if arguments[0] == "0" => None,
+        ("listmax", _) => Some(Why::Unbuilt),
+        ("delete", _) => Some(Why::Unbuilt),
+        _ => Some(Why::Syntax),
+    }
+}
+
+/// Why a line is refused that asks a call. Before a cell stands its call is not looked at.
+fn ask_reason(server: &str, name: &str, arguments: &[&str], opened: bool) -> Option<Why> {
+    if opened {
+        let reason = call_reason(name, arguments);
+        if reason.is_some() {
+            return reason;
         }
+    }
+    server_reason(server, opened)
+}
+
+/// Why a line of these words is refused, if it is: by its first word, the count of the others, and what they are.
+fn reason_of(line: &[&str], opened: bool) -> Option<Why> {
+    let (first, words) = line.split_first()?;
+    match (*first, words.len()) {
+        ("", _) => None,
+        ("#", _) => None,
+        ("cell", 3) => cell_reason(words[0], words[1], words[2], opened),
+        ("tickall", 1) => tick_reason(words[0], opened),
+        ("beacon", 1) => server_reason(words[0], opened),
+        ("recover", 1) => server_reason(words[0], opened),
+        ("tick", 2) => Some(Why::Unbuilt),
+        ("deliverall", 0) => Some(Why::Unbuilt),
+        ("stop", 3) => Some(Why::Unbuilt),
+        ("show", 1) => Some(Why::Unbuilt),
+        ("ask", 2..) => ask_reason(words[0], words[1], &words[2..], opened),
+        _ => Some(Why::Syntax),
+    }
+}
+
+/// Adds a line of these words.
+fn push_line(script: &mut Vec<u8>, line: &[&str]) -> Result<(), Fail> {
+    for (place, word) in line.iter().enumerate() {
+        if place > 0 {
+            script.push(b' ')?;
+        }
+        script.extend_from_slice(word.as_bytes())?;
     }
     script.push(b'\n')?;
     Ok(())
 }
 
-/// So many lines of a script, from its first.
-fn front_of(alloc: Global, script: &[u8], lines: u32) -> Result<Vec<u8>, Fail> {
-    let mut front = Vec::new(alloc);
-    let mut left = lines;
-    for byte in script {
-        if left == 0 {
-            break;
+/// A line by chance: one that fits, or a first word and one to three further ones.
+fn line_by_chance(alloc: Global, chance: &mut Chance) -> Result<Vec<&'static str>, Fail> {
+    let mut line = Vec::new(alloc);
+    if chance.byte() < 150 {
+        for word in LINES[usize::from(chance.byte() % 16)].split(' ') {
+            line.push(word)?;
         }
-        front.push(*byte)?;
-        if *byte == b'\n' {
-            left -= 1;
+        return Ok(line);
+    }
+    line.push(FIRST_WORDS[usize::from(chance.byte() % 10)])?;
+    for _ in 0..1 + chance.byte() % 3 {
+        line.push(WORDS[usize::from(chance.byte() % 22)])?;
+    }
+    Ok(line)
+}
+
+/// A script, and what is to be expected of it.
+#[derive(Drop)]
+struct Judged {
+    script: Vec<u8>,
+    /// The lines before the one that is refused, or all.
+    front: Vec<u8>,
+    lines: u32,
+    opened: bool,
+    /// The first line that is refused, counted from 1.
+    refused: Option<(u32, Why)>,
+}
+
+impl Judged {
+    fn new(alloc: Global) -> Judged {
+        Judged {
+            script: Vec::new(alloc),
+            front: Vec::new(alloc),
+            lines: 0,
+            opened: false,
+            refused: None,
         }
     }
-    Ok(front)
-}
 
-/// Whether a line of these opens a cell.
-fn opens_a_cell(script: &[u8]) -> bool {
-    script
-        .split(|byte| *byte == b'\n')
-        .any(|line| line.starts_with(b"cell "))
-}
-
-/// A script is run to its end, or refused at one of its lines: then the lines before run to their end, and tell
-/// what stands before the refusal.
-fn expect_front(rt: &impl Abort, alloc: Global, script: &[u8]) -> Result<Option<Why>, Fail> {
-    let seen = run_on(alloc, script, &[], &[], &[])?;
-    let CellKind::ScriptRefused { line, why } = seen.end.kind else {
-        assert_eq!(rt;
-            seen.end,
-            CellEnd {
-                status: 0,
-                kind: CellKind::Done
-            }
-        );
-        return Ok(None);
-    };
-    assert!(rt; line > 0);
-    let front = front_of(alloc, script, line.saturating_sub(1))?;
-    assert!(rt; front.len() < script.len());
-    let before = run_on(alloc, &front, &[], &[], &[])?;
-    assert_eq!(rt;
-        before.end,
-        CellEnd {
-            status: 0,
-            kind: CellKind::Done
+    /// One more line, judged if none was refused before it.
+    fn push(&mut self, line: &[&str]) -> Result<(), Fail> {
+        self.lines = self.lines.saturating_add(1);
+        push_line(&mut self.script, line)?;
+        if self.refused.is_some() {
+            return Ok(());
         }
-    );
-    let told = String::from_utf8(before.text);
-    match told {
-        Ok(told) => expect_refused(rt, alloc, script, &[], line, why, &told)?,
+        match reason_of(line, self.opened) {
+            Some(why) => self.refused = Some((self.lines, why)),
+            None => {
+                push_line(&mut self.front, line)?;
+                self.opened = self.opened || line.starts_with(&["cell"]);
+            }
+        }
+        Ok(())
+    }
+}
+
+/// The script is run to its end; or it is refused where it was judged to be, behind what the lines before tell.
+fn expect_judged(rt: &impl Abort, alloc: Global, judged: &Judged) -> Result<(), Fail> {
+    let done = CellEnd {
+        status: 0,
+        kind: CellKind::Done,
+    };
+    let before = run_on(alloc, &judged.front, &[], &[], &[])?;
+    assert_eq!(rt; before.end, done);
+    let Some((line, why)) = judged.refused else {
+        return Ok(());
+    };
+    match String::from_utf8(before.text) {
+        Ok(told) => expect_refused(rt, alloc, &judged.script, &[], line, why, &told)?,
         Err(_) => assert!(rt; false),
     }
-    if why == Why::Server {
-        assert!(rt; opens_a_cell(&front));
-    }
-    Ok(Some(why))
+    Ok(())
 }
 
 /// Eight lines by chance, half of the scripts behind a cell. Each reason that such a line can have comes.
@@ -223,14 +328,16 @@ fn lines_by_chance_are_run_or_refused(rt: HostRuntime) -> Result<(), Fail> {
     let mut chance = Chance { state: 7 };
     let mut reasons = Vec::new(rt.alloc());
     for text in 0..TEXTS {
-        let mut script = Vec::new(rt.alloc());
+        let mut judged = Judged::new(rt.alloc());
         if text % 2 == 1 {
-            script.extend_from_slice(b"cell 1 1000 pt\n")?;
+            judged.push(&["cell", "1", "1000", "pt"])?;
         }
         for _ in 0..8 {
-            push_line(&mut chance, &mut script)?;
+            let line = line_by_chance(rt.alloc(), &mut chance)?;
+            judged.push(&line)?;
         }
-        if let Some(why) = expect_front(&rt, rt.alloc(), &script)? {
+        expect_judged(&rt, rt.alloc(), &judged)?;
+        if let Some((_, why)) = judged.refused {
             reasons.push(why)?;
         }
     }

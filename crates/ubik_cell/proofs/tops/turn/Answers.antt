@@ -1,5 +1,4 @@
-use Rattle.std.proofs.Common.{◌≡◌, ◌≢◌, ℕ, List, Option, Some, ap}
-use Rattle.cell_script.specs.declared.readers.LineEnd.{LineEnd}
+use Rattle.std.proofs.Common.{◌≢◌, ℕ, List, Option, Some, ap}
 use Rattle.cell_script.specs.declared.readers.LineEnd.TheVariants as line_end
 use Rattle.prdb_entries.specs.Protection.{protection}
 use Rattle.ubik_cell.specs.Run.{SoFar, RanToTheEnd, RanToFault}
