@@ -38,7 +38,7 @@ armed_stops (suc n) calls fill past = elim (cases_lt calls n) [
   | inl earlier ↦ ap after_change (armed_stops n calls fill earlier)
   | inr here ↦
       let passed : after_changes n (Armed calls fill) ≡ Armed 0 fill =
-          let none : calls - n ≡ 0 = omega arith in armed_passes n calls fill (omega arith) ∙ ap (λ (k : ℕ). Armed k fill) none in
+      let none : calls - n ≡ 0 = omega arith in armed_passes n calls fill (omega arith) ∙ ap (λ (k : ℕ). Armed k fill) none in
       ap after_change passed
 ]
 
