@@ -2,7 +2,7 @@
 use Rattle.std.specs.Prelude.{ℕ, ℤ, pos, zero, suc, Bool, false, not, is_some, ◌&&◌, ◌||◌, List, [], ◌∷◌, ◌++◌, length, drop, Option, Some, None, nat_lt, nat_le, ◌==◌, if◌then◌else◌, codes}
 use Rattle.std.specs.Fmt.{decimal, signed_decimal}
 use Rattle.std.specs.Int.{w32, from_be_bytes, cast_signed}
-use Rattle.std.specs.List.{flat_map, list_all, list_any}
+use Rattle.std.specs.List.{flat_map, list_all}
 use Rattle.std.specs.Option.{option_map}
 use Rattle.std.specs.Ordering.{int_eq}
 use Rattle.std.specs.Str.{bytes_eq}
@@ -55,14 +55,26 @@ abbrev pub call_in : List (List ℕ) → Option PrCall
 call_in [] = None
 call_in (name ∷ words) = if bytes_eq name (codes "newentry") then new_user_in words else (if bytes_eq name (codes "nametoid") then name_to_id_in words else None)
 
--- the names of the calls of which no form is built yet
-abbrev pub later_names : List (List ℕ)
-later_names = codes "inewentry" ∷ codes "idtoname" ∷ codes "delete" ∷ codes "addtogroup" ∷ codes "removefromgroup" ∷ codes "listmax"
-    ∷ codes "setmax" ∷ codes "listentry" ∷ codes "listentries" ∷ codes "changeentry" ∷ codes "setfields" ∷ codes "getcps"
-    ∷ codes "listelements" ∷ codes "ismemberof" ∷ codes "listowned" ∷ []
+-- the calls on entries that are not built yet, but for newentry in its other forms
+abbrev pub is_later_entry_call : List ℕ → Bool
+is_later_entry_call name =
+    bytes_eq name (codes "inewentry") || bytes_eq name (codes "delete") || bytes_eq name (codes "listentry")
+    || bytes_eq name (codes "listentries") || bytes_eq name (codes "changeentry") || bytes_eq name (codes "setfields")
 
+-- the calls on members and owners
+abbrev pub is_later_group_call : List ℕ → Bool
+is_later_group_call name =
+    bytes_eq name (codes "addtogroup") || bytes_eq name (codes "removefromgroup") || bytes_eq name (codes "getcps")
+    || bytes_eq name (codes "listelements") || bytes_eq name (codes "ismemberof") || bytes_eq name (codes "listowned")
+
+-- the calls on ids that are not built yet
+abbrev pub is_later_id_call : List ℕ → Bool
+is_later_id_call name =
+    bytes_eq name (codes "idtoname") || bytes_eq name (codes "listmax") || bytes_eq name (codes "setmax")
+
+-- the calls of which no form is built yet
 abbrev pub is_later_name : List ℕ → Bool
-is_later_name name = list_any (λ later. bytes_eq name later) later_names
+is_later_name name = is_later_entry_call name || is_later_group_call name || is_later_id_call name
 
 -- a kind or an owner is given
 abbrev pub is_given : Option ℕ → Option ℤ → Bool

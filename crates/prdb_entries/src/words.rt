@@ -2,13 +2,13 @@
 ghost use Rattle.std.specs.Prelude.{◌≡◌, ◌≤◌, ◌<◌, ◌++◌, ◌∷◌, ◌==◌, nat_le, length, IsTrue, IfSome, OnOk, IfOk};
 ghost use Rattle.std.specs.Fmt.{decimal};
 ghost use Rattle.std.specs.Str.{bytes_eq};
-ghost use Rattle.std.specs.List.{list_all, list_any};
+ghost use Rattle.std.specs.List.{list_all};
 ghost use Rattle.std.specs.Option.{option_map};
 ghost use Rattle.std.specs.String.{string_bytes};
 ghost use Rattle.prdb_entries.specs.Bytes.{string, zeros};
 ghost use Rattle.prdb_entries.specs.Call.{NewUser, NameToId, spelling};
 ghost use Rattle.prdb_entries.specs.Reading.{Gives};
-ghost use Rattle.prdb_entries.specs.Words.{is_quotes, is_plain, unquoted, string_of_word, strings_of_words, new_user_in, name_to_id_in, call_of_words, is_later_name, is_given, is_other_entry, is_unbuilt, id_text, ids_text, id_list_text, one_id_text, reply_in_words};
+ghost use Rattle.prdb_entries.specs.Words.{is_quotes, is_plain, unquoted, string_of_word, strings_of_words, new_user_in, name_to_id_in, call_of_words, is_later_entry_call, is_later_group_call, is_later_id_call, is_later_name, is_given, is_other_entry, is_unbuilt, id_text, ids_text, id_list_text, one_id_text, reply_in_words};
 
 use crate::calls::{Call, MAX_LIST, MAX_NAME, NO_OWNER, USER_KIND, number, read_call, zeros_after};
 use crate::entries::{push_words, push_zeros};
@@ -20,25 +20,6 @@ use ubik_types::{Bytes, NoMemory};
 const NEWENTRY: &[u8] = b"newentry";
 
 const NAMETOID: &[u8] = b"nametoid";
-
-/// The names of the calls of which no form is built yet.
-const LATER_NAMES: [&[u8]; 15] = [
-    b"inewentry",
-    b"idtoname",
-    b"delete",
-    b"addtogroup",
-    b"removefromgroup",
-    b"listmax",
-    b"setmax",
-    b"listentry",
-    b"listentries",
-    b"changeentry",
-    b"setfields",
-    b"getcps",
-    b"listelements",
-    b"ismemberof",
-    b"listowned",
-];
 
 const ZERO: &[u8] = b"0";
 
@@ -222,17 +203,42 @@ fn is_other_entry(fields: &[Bytes]) -> bool
         )
 }
 
-fn is_among(name: &[u8], names: &[&[u8]]) -> bool
-    ensures { result ≡ list_any (λ other. bytes_eq name.now other.now) names.now }
+/// Whether a word is the name of a call on entries that is not built yet.
+fn is_later_entry_call(name: &[u8]) -> bool
+    ensures { result ≡ is_later_entry_call name.now }
 {
-    names.iter().any(|other| name == *other)
+    name == b"inewentry".as_slice()
+        || name == b"delete".as_slice()
+        || name == b"listentry".as_slice()
+        || name == b"listentries".as_slice()
+        || name == b"changeentry".as_slice()
+        || name == b"setfields".as_slice()
+}
+
+/// Whether a word is the name of a call on members and owners, none of which is built yet.
+fn is_later_group_call(name: &[u8]) -> bool
+    ensures { result ≡ is_later_group_call name.now }
+{
+    name == b"addtogroup".as_slice()
+        || name == b"removefromgroup".as_slice()
+        || name == b"getcps".as_slice()
+        || name == b"listelements".as_slice()
+        || name == b"ismemberof".as_slice()
+        || name == b"listowned".as_slice()
+}
+
+/// Whether a word is the name of a call on ids that is not built yet.
+fn is_later_id_call(name: &[u8]) -> bool
+    ensures { result ≡ is_later_id_call name.now }
+{
+    name == b"idtoname".as_slice() || name == b"listmax".as_slice() || name == b"setmax".as_slice()
 }
 
 /// Whether a word is the name of a call of which no form is built yet.
 fn is_later_name(name: &[u8]) -> bool
     ensures { result ≡ is_later_name name.now }
 {
-    is_among(name, &LATER_NAMES)
+    is_later_entry_call(name) || is_later_group_call(name) || is_later_id_call(name)
 }
 
 /// Whether the words name a call of this database that is not built yet: another call, by its name alone, or
