@@ -1,6 +1,7 @@
 -- The durable state of a server, and the calls that change it: each leads from one durable state to one
 -- other, whole (own).
-use Rattle.std.specs.Prelude.{ℕ, List, [], ◌∷◌}
+use Rattle.std.specs.Prelude.{ℕ, ◌+◌, Bool, if◌then◌else◌, List, [], ◌∷◌, length}
+use Rattle.ubik_types.specs.declared.images.Change.{Change}
 use Rattle.ubik_types.specs.declared.versions.Version.{Version}
 use Rattle.ubik_types.specs.Version.{zero_version}
 
@@ -16,10 +17,12 @@ abbrev pub no_database : Durable
 no_database = record { version = zero_version; image = [] }
 
 pub data DurableCall : Type 0 where
-  -- the image that a call made, under the next version
-  Commit : (version : Version) → (image : List ℕ) → DurableCall
+  -- changes, one after the other, under another version; and the image that they lead to
+  Commit : (version : Version) → (changes : List Change) → (image : List ℕ) → DurableCall
   -- the same image under another version
   Relabel : (version : Version) → DurableCall
+  -- a whole image in place of the one before, under another version
+  Install : (version : Version) → (image : List ℕ) → DurableCall
 
 -- a call of a client, and the moment at which it was evaluated
 pub record Transaction : Type 0 where
@@ -32,7 +35,7 @@ pub data Reason : Type 0 where
   Own_relabelling : Reason
   -- the server committed this transaction as the sync site
   Committed : (transaction : Transaction) → Reason
-  -- the server followed the sync site
+  -- the server took over what another one has
   Received : Reason
 
 pub record Made : Type 0 where
@@ -40,10 +43,27 @@ pub record Made : Type 0 where
   pub reason : Reason
 
 abbrev pub durable_after : Durable → DurableCall → Durable
-durable_after d (Commit version image) = record { version = version; image = image }
+durable_after d (Commit version changes image) = durable version image
 durable_after d (Relabel version) = record d { version = version }
+durable_after d (Install version image) = durable version image
 
 -- after these calls, one after the other
 abbrev pub durable_after_all : Durable → List Made → Durable
 durable_after_all d [] = d
 durable_after_all d (made ∷ calls) = durable_after_all (durable_after d made.call) calls
+
+abbrev pub version_after : DurableCall → Version
+version_after (Commit version changes image) = version
+version_after (Relabel version) = version
+version_after (Install version image) = version
+
+-- How many changes of its files a durable call asks of a disk, beside those that keep and end its log: an install cuts the
+-- image to nothing, and puts it anew.
+abbrev pub change_count : DurableCall → ℕ
+change_count (Commit version changes image) = length changes
+change_count (Relabel version) = 0
+change_count (Install version image) = 2
+
+-- How many changing calls of the disk a durable call makes: one more where the database file has no label yet.
+abbrev pub disk_calls : (has_label : Bool) → DurableCall → ℕ
+disk_calls has_label call = 13 + change_count call + (if has_label then 0 else 1)

@@ -1,6 +1,7 @@
 pub mod Hosts
 pub mod Image
 pub mod Lease
+pub mod Logged
 pub mod Moment
 pub mod Phase
 pub mod Quorum

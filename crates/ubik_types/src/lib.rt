@@ -14,7 +14,7 @@ mod versions;
 pub use hosts::{Cell, CellFault, Host};
 pub use images::{Bytes, Change, Changes, bytes_of, changes_new, changes_push};
 pub use limits::{
-    BIGTIME, MAX_IMAGE, MAX_MOMENT, MAXSERVERS, POLLTIME, RPCTIMEOUT, SKEW, SMALLTIME,
+    BIGTIME, MAX_CHANGES, MAX_IMAGE, MAX_MOMENT, MAXSERVERS, POLLTIME, RPCTIMEOUT, SKEW, SMALLTIME,
 };
 pub use memory::NoMemory;
 pub use phases::{Applied, Phase};

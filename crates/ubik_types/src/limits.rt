@@ -23,3 +23,6 @@ pub const MAX_MOMENT: u32 = 2_147_483_647;
 
 /// The longest image, in bytes (own).
 pub const MAX_IMAGE: usize = 16_777_216;
+
+/// The most bytes that the changes of one call may lay into an image, all puts together (own).
+pub const MAX_CHANGES: usize = 1_048_576;

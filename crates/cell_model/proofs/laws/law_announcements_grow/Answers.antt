@@ -1,5 +1,0 @@
-use Rattle.cell_model.proofs.Growth.{announcements_grow}
-use Rattle.cell_model.proofs.laws.law_announcements_grow.Goals as goal
-
-pub returns : goal.returns
-returns c = announcements_grow

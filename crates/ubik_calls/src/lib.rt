@@ -1,0 +1,13 @@
+//! What the servers of a cell and their clients send one another: packets, calls, replies and questions
+//! about a server, each with the length that it has on the wire.
+#![tactic(auto)]
+
+mod frames;
+mod lengths;
+mod packets;
+mod replies;
+
+pub use frames::{Frame, FrameFault};
+pub use lengths::packet_len;
+pub use packets::{Body, MAX_PIECE, MAX_PIECES, Packet};
+pub use replies::{DebugIs, Reply};
