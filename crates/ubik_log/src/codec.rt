@@ -1,9 +1,10 @@
 //! A log as bytes, both ways.
-ghost use Rattle.std.specs.Prelude.{◌++◌, IfOk};
+ghost use Rattle.std.specs.Prelude.{[], ◌++◌, IfOk};
+ghost use Rattle.ubik_types.specs.Version.{IsVersion};
 ghost use Rattle.ubik_log.specs.LogGrammar.{new_record, IsTold, IsCommitted};
 ghost use Rattle.ubik_log.specs.Reading.{IsStateOf};
 
-use crate::opcodes::LOGNEW;
+use crate::opcodes::{LOGEND, LOGNEW};
 use crate::readers::{behind, edit_at, end_at};
 use crate::states::LogState;
 use crate::writers::{push_change, push_end, push_fields};
@@ -22,6 +23,18 @@ pub fn encode_log(alloc: Global, changes: &Changes, version: Version) -> Result<
     }
     push_end(&mut log, version)?;
     Ok(Bytes::new(log))
+}
+
+/// The committed log of no change under this version, without taking memory.
+pub fn empty_log(version: Version) -> [u8; 16]
+    requires { IsVersion version }
+    ensures { IsCommitted result [] version }
+{
+    let [a, b, c, d] = LOGNEW.to_be_bytes();
+    let [e, f, g, h] = LOGEND.to_be_bytes();
+    let [i, j, k, l] = version.epoch.to_be_bytes();
+    let [m, n, o, p] = version.counter.to_be_bytes();
+    [a, b, c, d, e, f, g, h, i, j, k, l, m, n, o, p]
 }
 
 /// What the records behind LOGNEW say.

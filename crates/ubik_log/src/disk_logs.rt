@@ -14,6 +14,7 @@ ghost use Rattle.ubik_log.specs.LogFile.{with_log, gate_set, HasAnyGate, HasDisc
 ghost use Rattle.ubik_log.specs.Reading.{IsStateOf};
 
 use crate::codec::parse_log;
+use crate::opcodes::LOGNEW;
 use crate::states::LogState;
 use disk_base::{Disk, DiskEnd, FileNo, LenEnd, RoomEnd};
 use std::alloc::{AllocError, Global};
@@ -59,8 +60,11 @@ const WORD: usize = 4;
 /// The place of the gate: the last byte of LOGNEW.
 const GATE: u64 = 3;
 
-/// The byte of an open gate.
-const OPEN: u8 = 0x64;
+/// The byte of an open gate: the last of LOGNEW.
+const OPEN: u8 = LOGNEW as u8;
+
+/// The byte of a closed gate.
+const CLOSED: u8 = 0;
 
 /// Reads the log file, and says what stands there. It is read whole: a log may say any number of changes, so no
 /// length is too long for one.
@@ -89,8 +93,9 @@ pub fn read_log<D: Disk>(alloc: Global, disk: &mut D) -> Result<LogState, LogFau
 }
 
 /// Puts a log with a closed gate into the empty log file. It makes the room of the whole log first: for want of
-/// memory nothing changes.
-pub fn keep_log<D: Disk>(disk: &mut D, log: &[u8]) -> Result<(), LogFault>
+/// memory nothing changes. That room is the disk's own to find; the allocator is that of each call that can answer
+/// want of memory.
+pub fn keep_log<D: Disk>(_alloc: Global, disk: &mut D, log: &[u8]) -> Result<(), LogFault>
     requires header { 4 ≤ length log.now }
     requires empty { IfSome (D.files disk.old) (λ fs. fs.log ≡ []) }
     ensures kept { OnOk result (D.files disk.new ≡ option_map (with_log (closed log.now)) (D.files disk.old)) }
@@ -185,7 +190,7 @@ pub fn close_gate<D: Disk>(disk: &mut D) -> Result<(), LogFault>
     ensures cause { HasCause (D.faults disk.old) (D.faults disk.new) (IsErrOf result LogFault.DiskFault) }
     ensures no_memory { ¬ IsErrOf result LogFault.NoMemory }
 {
-    set_gate(disk, 0)
+    set_gate(disk, CLOSED)
 }
 
 /// Writes bytes over the log file from a position on, and syncs it.

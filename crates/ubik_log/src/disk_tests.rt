@@ -27,10 +27,10 @@ fn version_read<D: Disk>(alloc: Global, disk: &mut D) -> Result<Option<Version>,
 }
 
 /// Keeps a log, opens its gate and closes it.
-fn keep_open_close<D: Disk>(disk: &mut D) -> Result<(), LogFault>
+fn keep_open_close<D: Disk>(alloc: Global, disk: &mut D) -> Result<(), LogFault>
     requires { IfSome (D.files disk.old) (λ fs. fs.log ≡ []) }
 {
-    keep_log(disk, &LOG)?;
+    keep_log(alloc, disk, &LOG)?;
     open_gate(disk)?;
     close_gate(disk)
 }
@@ -39,7 +39,7 @@ fn keep_open_close<D: Disk>(disk: &mut D) -> Result<(), LogFault>
 fn history<D: Disk>(alloc: Global, disk: &mut D) -> Result<[Option<Version>; 3], LogFault>
     requires { IfSome (D.files disk.old) (λ fs. fs.log ≡ []) }
 {
-    keep_log(disk, &LOG)?;
+    keep_log(alloc, disk, &LOG)?;
     let kept = version_read(alloc, disk)?;
     open_gate(disk)?;
     let opened = version_read(alloc, disk)?;
@@ -108,7 +108,7 @@ fn a_stop_leaves_the_log_committed_or_discarded(rt: HostRuntime) -> Result<(), F
         for (fill, committed) in FILLS.iter().zip(row) {
             let mut disk = MemDisk::new(rt.alloc(), &[])?;
             disk.arm(calls, *fill);
-            let ended = keep_open_close(&mut disk);
+            let ended = keep_open_close(rt.alloc(), &mut disk);
             assert_eq!(rt; ended.is_err(), disk.stopped());
             disk.revive();
             let read = version_read(rt.alloc(), &mut disk);

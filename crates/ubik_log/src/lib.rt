@@ -10,7 +10,7 @@ mod readers;
 mod states;
 mod writers;
 
-pub use codec::{encode_log, parse_log};
+pub use codec::{empty_log, encode_log, parse_log};
 pub use disk_logs::{LogFault, close_gate, keep_log, open_gate, read_log};
 pub use laws::{
     closed_gate_is_discarded, gate_decides, log_has_one_reading, no_log_begins_another,

@@ -60,6 +60,19 @@ fn writes_a_log(rt: HostRuntime) -> Result<(), Fail> {
 }
 
 #[test]
+fn writes_the_log_of_no_change(rt: HostRuntime) -> Result<(), Fail> {
+    let version = Version {
+        epoch: 1076,
+        counter: 2,
+    };
+    let empty = empty_log(version);
+    assert_eq!(rt; empty, *b"\0\0\0\x64\0\0\0\x65\0\0\x04\x34\0\0\0\x02");
+    let log = encode_log(rt.alloc(), &changes_new(rt.alloc()), version)?;
+    assert_eq!(rt; log.as_slice(), empty.as_slice());
+    Ok(())
+}
+
+#[test]
 fn reads_a_log(rt: HostRuntime) -> Result<(), Fail> {
     let LogState::Committed { changes, version } = parse_log(rt.alloc(), &LOG)? else {
         panic!(rt; "discarded");

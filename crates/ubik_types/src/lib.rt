@@ -22,4 +22,4 @@ pub use quorums::{
     Marks, majorities_share_a_server, majority, vote_quorum, vote_quorums_share_a_server,
     votes_suffice,
 };
-pub use versions::{MAX_COUNTER, Version};
+pub use versions::{MAX_COUNTER, Version, versions_compare_as_defined};

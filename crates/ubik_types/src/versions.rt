@@ -1,4 +1,8 @@
 //! The version of a database.
+ghost use Rattle.std.specs.Prelude.{◌≡◌, ◌↔◌, ◌||◌, IsTrue, if◌then◌else◌};
+ghost use Rattle.std.specs.Ordering.{partial_lt, partial_le};
+ghost use Rattle.ubik_types.specs.declared.versions.Version.{Version};
+ghost use Rattle.ubik_types.specs.Version.{version_lt, version_eq};
 
 /// The greatest counter, and the greatest epoch.
 pub const MAX_COUNTER: u32 = 2_147_483_647;
@@ -9,4 +13,68 @@ pub const MAX_COUNTER: u32 = 2_147_483_647;
 pub struct Version {
     pub epoch: u32,
     pub counter: u32,
+}
+
+/// The comparisons of versions in code are those of the definitions: `a < b` tells whether `a` comes before `b`,
+/// `a <= b` whether it comes before `b` or equals it, and `a == b` whether they are one version.
+pub fn versions_compare_as_defined()
+    ensures before { (a b : Version) → partial_lt ⟦<Version as PartialOrd>⟧.partial_cmp a b ≡ version_lt a b }
+    ensures not_after { (a b : Version)
+        → partial_le ⟦<Version as PartialOrd>⟧.partial_cmp a b ≡ (version_lt a b || version_eq a b) }
+    ensures equal { (a b : Version) → ⟦<Version as PartialEq>⟧.eq a b ≡ version_eq a b }
+    ensures one { (a b : Version) → IsTrue (version_eq a b) ↔ (a ≡ b) }
+{}
+
+#[cfg(test)]
+mod tests {
+    use super::*;
+
+    // What a caller has of a comparison of two versions.
+
+    fn is_before(a: Version, b: Version) -> bool
+        ensures { result ≡ version_lt a b }
+    {
+        a < b
+    }
+
+    fn is_not_after(a: Version, b: Version) -> bool
+        ensures { result ≡ (version_lt a b || version_eq a b) }
+    {
+        a <= b
+    }
+
+    fn is_same(a: Version, b: Version) -> bool
+        ensures { result ≡ version_eq a b }
+    {
+        a == b
+    }
+
+    fn later(a: Version, b: Version) -> Version
+        ensures { result ≡ (if version_lt a b then b else a) }
+    {
+        if a < b { b } else { a }
+    }
+
+    fn version(epoch: u32, counter: u32) -> Version {
+        Version { epoch, counter }
+    }
+
+    #[test]
+    fn by_epoch_and_then_by_counter(rt: HostRuntime) {
+        let order = [
+            version(0, 0),
+            version(0, 1),
+            version(7, 0),
+            version(7, MAX_COUNTER),
+            version(8, 0),
+        ];
+        for (i, a) in order.iter().enumerate() {
+            for (k, b) in order.iter().enumerate() {
+                assert_eq!(rt; is_before(*a, *b), i < k, "{a:?} {b:?}");
+                assert_eq!(rt; is_not_after(*a, *b), i <= k, "{a:?} {b:?}");
+                assert_eq!(rt; is_same(*a, *b), i == k, "{a:?} {b:?}");
+                assert_eq!(rt; later(*a, *b), order[i.max(k)], "{a:?} {b:?}");
+            }
+        }
+    }
 }
