@@ -5,4 +5,5 @@ pub mod Left
 pub mod Stopping
 pub mod Times
 pub mod Touched
+pub mod Undoing
 pub mod Walks

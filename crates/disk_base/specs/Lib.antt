@@ -16,3 +16,4 @@ pub mod Sink
 pub mod Source
 pub mod Stops
 pub mod Touches
+pub mod Undos

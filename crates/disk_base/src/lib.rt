@@ -15,6 +15,7 @@ mod sinks;
 mod sources;
 mod tallies;
 mod touches;
+mod undos;
 
 pub use adapters::{ReaderSource, WriterSink};
 pub use disks::{Disk, DiskEnd, FileNo, Fill, LenEnd, Refused, RoomEnd, StopDisk};

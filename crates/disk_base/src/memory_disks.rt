@@ -87,6 +87,7 @@ impl MemFiles {
     }
 
     fn cut(&mut self, f: FileNo, len: u64) -> Result<(), NoMemory>
+        requires { len ≤ length (file_of (now_in self.old) f) }
         ensures ok { OnOk result (now_in self.new
             ≡ with_file (now_in self.old) f (take len (file_of (now_in self.old) f))) }
         ensures err { OnErr result (now_in self.new ≡ now_in self.old) }
