@@ -12,7 +12,7 @@ pub CutShort-idle : (len : ℕ) (bytes : List ℕ) → CutShort len bytes bytes
 CutShort-idle len bytes = inl refl
 
 -- the files with what a file holds
-same_file : (c : Files) (f : FileNo) → c ≡ with_file c f (file_of c f)
+pub same_file : (c : Files) (f : FileNo) → c ≡ with_file c f (file_of c f)
 same_file c Database = refl
 same_file c Log = refl
 same_file c Incoming = refl

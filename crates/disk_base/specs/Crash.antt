@@ -61,6 +61,14 @@ pub record LeavesSame (before now : Files → Type 0) (past since : ℕ → File
   pub since_no_more : (t : ℕ) (c : Files) → since t c → past t c
   pub since_no_less : (t : ℕ) (c : Files) → past t c → since t c
 
+-- files that a crash might have left before, after a step
+abbrev pub After : (Files → Files → Type 0) → (Files → Type 0) → Files → Type 0
+After step before c = (d : Files) × before d × step d c
+
+-- a count rises by this number at most, and does not fall
+abbrev pub RisesAtMost : ℕ → ℕ → ℕ → Type 0
+RisesAtMost most before after = (before ≤ after) × (after ≤ before + most)
+
 -- A crash at some moment from a step count on leaves files that have P: of a run of calls from a disk to
 -- another one.
 pub record LeavesOnly {D : Type 0} (steps : D → ℕ) (left_since : D → ℕ → Files → Type 0) (old new : D) (P : Files → Type 0) : Type 0 where

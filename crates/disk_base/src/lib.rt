@@ -28,4 +28,6 @@ pub use sources::{Got, Source};
 #[cfg(test)]
 mod replay_tests;
 #[cfg(test)]
+mod run_tests;
+#[cfg(test)]
 mod tests;
