@@ -10,14 +10,14 @@ use Rattle.disk_base.specs.declared.memory_disks.MemFiles.{MemFiles}
 use Rattle.disk_base.specs.declared.touches.Touch.{Touch}
 use Rattle.disk_base.specs.declared.touches.Touch.TheVariants.{Wrote, Cut}
 use Rattle.disk_base.specs.Files.{Files, file_of, with_file}
-use Rattle.disk_base.specs.Crash.{Torn, CutShort, InFile, Follows, Only, OnlyIn}
+use Rattle.disk_base.specs.Crash.{Torn, CutShort, InFile, Follows, LeavesOthers, Only, OnlyIn}
 use Rattle.disk_base.specs.Touches.{MayBe}
 use Rattle.disk_base.specs.MemFile.{bytes_of, synced_of, touches_of, state_in}
 use Rattle.disk_base.specs.Stops.{IsLeft, IsLeftBy}
 use Rattle.disk_base.specs.Moments.{FileState, Moment, MayLeave, state_of, with_state, touched, at_rest, all_at_rest}
 use Rattle.disk_base.specs.MemDisk.{now_in, moment_in}
 use Rattle.disk_base.proofs.Touched.{MayBe-synced, MayBe-filled}
-use Rattle.disk_base.proofs.Idle.{Torn-idle, CutShort-idle, Follows-idle}
+use Rattle.disk_base.proofs.Idle.{Torn-idle, CutShort-idle, Follows-idle, LeavesOthers-idle}
 use Rattle.disk_base.proofs.Left.{torn-left, cut-left}
 
 -- what may be left of a file after a call that takes each of these states to this one
@@ -96,6 +96,48 @@ pub Follows-cut : (old begun new : MemFiles) (f : FileNo) (len : ℕ) {T E : Typ
     → Follows (InFile f (CutShort len)) (MayLeave (moment_in old)) (MayLeave (moment_in new))
 Follows-cut old begun new f len result same ok err =
     called (CutShort len) (CutShort-idle len) (Cut len) f old begun new result (cut-follows old f len) same ok err
+
+-- another state of one file, of which something may be left, as before
+others : (moment : Moment) (f : FileNo) (state : FileState) → LeavesOthers f (MayLeave moment) (MayLeave (with_state moment f state))
+others moment Database state =
+    let old = MayBe-synced moment.database.synced moment.database.touches in
+    let new = MayBe-synced state.synced state.touches in record {
+      no_more = λ c left. (record c { database = moment.database.synced }, record { database = old; log = left.log; incoming = left.incoming }, refl);
+      no_less = λ d left. (record d { database = state.synced }, record { database = new; log = left.log; incoming = left.incoming }, refl);
+    }
+others moment Log state =
+    let old = MayBe-synced moment.log.synced moment.log.touches in
+    let new = MayBe-synced state.synced state.touches in record {
+      no_more = λ c left. (record c { log = moment.log.synced }, record { database = left.database; log = old; incoming = left.incoming }, refl);
+      no_less = λ d left. (record d { log = state.synced }, record { database = left.database; log = new; incoming = left.incoming }, refl);
+    }
+others moment Incoming state =
+    let old = MayBe-synced moment.incoming.synced moment.incoming.touches in
+    let new = MayBe-synced state.synced state.touches in record {
+      no_more = λ c left. (record c { incoming = moment.incoming.synced }, record { database = left.database; log = left.log; incoming = old }, refl);
+      no_less = λ d left. (record d { incoming = state.synced }, record { database = left.database; log = left.log; incoming = new }, refl);
+    }
+
+-- a call that did not begin
+pub others-failed : (old begun : MemFiles) (f : FileNo) → begun ≡ old → LeavesOthers f (MayLeave (moment_in old)) (MayLeave (moment_in begun))
+others-failed old begun f same =
+    subst (λ (x : MemFiles). LeavesOthers f (MayLeave (moment_in old)) (MayLeave (moment_in x))) (sym same) (LeavesOthers-idle (MayLeave (moment_in old)) f)
+
+-- a call that is done
+pub others-done : (old begun new : MemFiles) (f : FileNo) (state : FileState) → begun ≡ old → moment_in new ≡ with_state (moment_in begun) f state
+    → LeavesOthers f (MayLeave (moment_in old)) (MayLeave (moment_in new))
+others-done old begun new f state same is =
+    subst (λ (m : Moment). LeavesOthers f (MayLeave (moment_in old)) (MayLeave m))
+    (ap (λ (x : MemFiles). with_state (moment_in x) f state) (sym same) ∙ sym is)
+    (others (moment_in old) f state)
+
+-- a call that is done, or finds no memory
+pub others-called : (old begun new : MemFiles) (f : FileNo) (state : FileState) {T E : Type 0} (result : Result T E) → begun ≡ old
+    → OnOk result (moment_in new ≡ with_state (moment_in begun) f state) → OnErr result (moment_in new ≡ moment_in begun)
+    → LeavesOthers f (MayLeave (moment_in old)) (MayLeave (moment_in new))
+others-called old begun new f state (Ok v) same is err = others-done old begun new f state same is
+others-called old begun new f state (Err e) same ok is =
+    subst (λ (m : Moment). LeavesOthers f (MayLeave (moment_in old)) (MayLeave m)) (sym is) (others-failed old begun f same)
 
 -- of a file at rest its bytes alone may be left
 only-rest : (bytes c : List ℕ) → MayBe bytes [] c → c ≡ bytes

@@ -2,7 +2,9 @@ pub mod DiskCalls
 pub mod Fills
 pub mod Idle
 pub mod Left
+pub mod Runs
 pub mod Stopping
 pub mod Times
 pub mod Touched
+pub mod Undoing
 pub mod Walks

@@ -1,15 +1,14 @@
 -- What one more changing call does to what may be left of a file.
-use Rattle.std.proofs.Common.{◌≡◌, ℕ, ◌+◌, ◌<◌, ◌≤◌, min, max, Bool, true, false, cond, ◌||◌, ◌⊎◌, inl, inr, List, [], ◌∷◌, ◌++◌, length, take, get_or, subst, sym, ap, ◌∙◌, refl, Vec, Option, Some, None, IsSome, arith, length-take, get_or-take}
+use Rattle.std.proofs.Common.{◌≡◌, ℕ, ◌+◌, ◌-◌, ◌<◌, ◌≤◌, min, max, Bool, true, false, cond, ◌||◌, ◌⊎◌, inl, inr, List, [], ◌∷◌, ◌++◌, length, take, get_or, subst, sym, ap, ◌∙◌, refl, arith, length-take, get_or-take}
 use Rattle.std.proofs.lemmas.Bool.{cases_lt}
 use Rattle.std.proofs.lemmas.Bool.Decides.{nat_tests}
 use Rattle.std.proofs.lemmas.Grind.{common_steps}
 use Rattle.std.proofs.lemmas.List.{places}
 use Rattle.std.proofs.lemmas.List.Folds.{list_any-append}
-use Rattle.std.specs.declared.alloc.Global.{Global}
 use Rattle.disk_base.specs.declared.touches.Touch.{Touch}
 use Rattle.disk_base.specs.declared.touches.Touch.TheVariants.{Wrote, Cut}
 use Rattle.disk_base.specs.Files.{laid}
-use Rattle.disk_base.specs.Touches.{MayBe, IsFilled, covers, was_written, least, greatest, kept_or}
+use Rattle.disk_base.specs.Touches.{MayBe, IsFilled, covers, was_written, least, greatest}
 
 pub least-push : (n : ℕ) (touches : List Touch) (touch : Touch) → least n (touches ++ touch ∷ []) ≡ least n (touch ∷ touches)
 least-push n [] touch = refl
@@ -55,18 +54,21 @@ MayBe-cut synced touches bytes len was = record {
       get_or-take len bytes at 0 within ∙ was.untouched at (omega arith) (unwritten touches (Cut len) at un).0;
 }
 
-length-laid : (file bytes : List ℕ) (at : ℕ) → at ≤ length file → length (laid file at bytes) ≡ max (length file) (at + length bytes)
+pub length-laid : (file bytes : List ℕ) (at : ℕ) → at ≤ length file → length (laid file at bytes) ≡ max (length file) (at + length bytes)
 length-laid file bytes at begins = grind (arith, common_steps)
 
 -- a position that a write does not cover lies before it or past it
 uncovered : (at len k : ℕ) → covers (Wrote at len) k ≡ false → (k < at) ⊎ (at + len ≤ k)
 uncovered at len k out = elim (cases_lt k at) [ inl before ↦ inl before | inr from ↦ inr (grind (arith, nat_tests)) ]
 
-laid-before : (file bytes : List ℕ) (at k : ℕ) → at ≤ length file → k < at → get_or (laid file at bytes) k 0 ≡ get_or file k 0
+pub laid-before : (file bytes : List ℕ) (at k : ℕ) → at ≤ length file → k < at → get_or (laid file at bytes) k 0 ≡ get_or file k 0
 laid-before file bytes at k begins before = grind (arith, places)
 
-laid-after : (file bytes : List ℕ) (at k : ℕ) → at ≤ length file → at + length bytes ≤ k → get_or (laid file at bytes) k 0 ≡ get_or file k 0
+pub laid-after : (file bytes : List ℕ) (at k : ℕ) → at ≤ length file → at + length bytes ≤ k → get_or (laid file at bytes) k 0 ≡ get_or file k 0
 laid-after file bytes at k begins after = grind (arith, places)
+
+pub laid-inside : (file bytes : List ℕ) (at k : ℕ) → at ≤ length file → at ≤ k → k < at + length bytes → get_or (laid file at bytes) k 0 ≡ get_or bytes (k - at) 0
+laid-inside file bytes at k begins from within = grind (arith, places)
 
 laid-outside : (file bytes : List ℕ) (at k : ℕ) → at ≤ length file → covers (Wrote at (length bytes)) k ≡ false → k < length (laid file at bytes)
     → (k < length file) × (get_or (laid file at bytes) k 0 ≡ get_or file k 0)
@@ -87,11 +89,6 @@ MayBe-wrote synced touches file bytes at was begins =
           let out = laid-outside file bytes at k begins was_un.1 h in
           out.1 ∙ was.untouched k out.0 was_un.0;
     }
-
--- where bytes are kept, they are those as last synced
-pub kept_or-kept : (kept : Option (Vec ℕ Global)) (bytes others : List ℕ) → IsSome kept → kept_or kept bytes ≡ kept_or kept others
-kept_or-kept (Some v) bytes others some = refl
-kept_or-kept None bytes others some = absurd (cc)
 
 pub least-le : (n : ℕ) (touches : List Touch) → least n touches ≤ n
 least-le n [] = omega arith

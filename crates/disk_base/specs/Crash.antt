@@ -27,6 +27,11 @@ Follows step before now = (c : Files) → now c → (d : Files) × before d × s
 abbrev pub Narrows : (Files → Type 0) → (Files → Type 0) → Type 0
 Narrows before now = (c : Files) → now c → before c
 
+-- A call of one file: what a crash may leave of the other files is as before.
+pub record LeavesOthers (f : FileNo) (before now : Files → Type 0) : Type 0 where
+  pub no_more : (c : Files) → now c → (d : Files) × before d × (c ≡ with_file d f (file_of c f))
+  pub no_less : (d : Files) → before d → (c : Files) × now c × (d ≡ with_file c f (file_of d f))
+
 -- a crash leaves these files and no others
 abbrev pub Only : Files → (Files → Type 0) → Type 0
 Only files may_leave = (c : Files) → may_leave c → c ≡ files
@@ -55,6 +60,14 @@ pub record LeavesSame (before now : Files → Type 0) (past since : ℕ → File
   pub no_less : (c : Files) → before c → now c
   pub since_no_more : (t : ℕ) (c : Files) → since t c → past t c
   pub since_no_less : (t : ℕ) (c : Files) → past t c → since t c
+
+-- files that a crash might have left before, after a step
+abbrev pub After : (Files → Files → Type 0) → (Files → Type 0) → Files → Type 0
+After step before c = (d : Files) × before d × step d c
+
+-- a count rises by this number at most, and does not fall
+abbrev pub RisesAtMost : ℕ → ℕ → ℕ → Type 0
+RisesAtMost most before after = (before ≤ after) × (after ≤ before + most)
 
 -- A crash at some moment from a step count on leaves files that have P: of a run of calls from a disk to
 -- another one.

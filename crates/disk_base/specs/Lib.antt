@@ -12,7 +12,9 @@ pub mod MemSink
 pub mod MemSource
 pub mod Moments
 pub mod Plan
+pub mod Runs
 pub mod Sink
 pub mod Source
 pub mod Stops
 pub mod Touches
+pub mod Undos

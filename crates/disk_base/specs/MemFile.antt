@@ -2,7 +2,7 @@
 use Rattle.std.specs.Prelude.{ℕ, List}
 use Rattle.disk_base.specs.declared.memory_files.MemFile.{MemFile}
 use Rattle.disk_base.specs.declared.touches.Touch.{Touch}
-use Rattle.disk_base.specs.Touches.{kept_or}
+use Rattle.disk_base.specs.Undos.{all_undone, touches_in}
 use Rattle.disk_base.specs.Moments.{FileState}
 
 -- what a read gives
@@ -11,11 +11,11 @@ bytes_of file = file.bytes.items
 
 -- what was last synced
 abbrev pub synced_of : MemFile → List ℕ
-synced_of file = kept_or file.synced file.bytes.items
+synced_of file = all_undone file.undos.items file.bytes.items
 
 -- the changing calls since, in their order
 abbrev pub touches_of : MemFile → List Touch
-touches_of file = file.touches.items
+touches_of file = touches_in file.undos.items
 
 -- how many bytes have room
 abbrev pub room_of : MemFile → ℕ

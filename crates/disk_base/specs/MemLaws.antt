@@ -1,5 +1,5 @@
 -- The laws of a disk in memory: its moments, that a crash may leave what a read gives, and that it has room for it.
-use Rattle.std.specs.Prelude.{◌≡◌, ℕ, ◌+◌, ◌<◌, ◌≤◌, Bool, true, List, [], ◌∷◌, Some, IsSome, IfSome, length, ◌↔◌}
+use Rattle.std.specs.Prelude.{◌≡◌, ℕ, ◌+◌, ◌<◌, ◌≤◌, true, List, [], ◌∷◌, Some, IsSome, IfSome, length, ◌↔◌}
 use Rattle.std.proofs.Common.{subst, inl, inr, refl}
 use Rattle.std.proofs.Math.Nat.{not-le_of_lt, lt_of_lt_of_le, le_of_lt}
 use Rattle.std.proofs.Math.Numerals.{lt-add-one}

@@ -1,8 +1,7 @@
 -- What a crash may leave of a file: any bytes where it was written since the last sync, an end between the
 -- least and the greatest length that it had, and all else as it was synced.
-use Rattle.std.specs.Prelude.{◌≡◌, ℕ, ◌+◌, ◌<◌, ◌≤◌, min, max, Bool, false, ◌&&◌, List, [], ◌∷◌, length, Vec, Option, Some, None, slice_index, nat_le, nat_lt, if◌then◌else◌}
+use Rattle.std.specs.Prelude.{◌≡◌, ℕ, ◌+◌, ◌<◌, ◌≤◌, min, max, Bool, false, ◌&&◌, List, [], ◌∷◌, length, slice_index, nat_le, nat_lt, if◌then◌else◌}
 use Rattle.std.specs.List.{list_any}
-use Rattle.std.specs.declared.alloc.Global.{Global}
 use Rattle.disk_base.specs.declared.touches.Touch.{Touch}
 use Rattle.disk_base.specs.declared.touches.Touch.TheVariants.{Wrote, Cut}
 
@@ -39,8 +38,3 @@ pub record IsFilled (byte : ℕ) (touches : List Touch) (before after : List ℕ
   pub same_length : length after ≡ length before
   pub filled : (at : ℕ) → at < length before
       → slice_index after at ≡ (if was_written touches at then byte else slice_index before at)
-
--- the bytes as last synced: those that were kept, and else those that stand now
-abbrev pub kept_or : Option (Vec ℕ Global) → List ℕ → List ℕ
-kept_or (Some kept) bytes = kept.items
-kept_or None bytes = bytes

@@ -5,7 +5,7 @@ ghost use Rattle.disk_base.specs.Files.{Files, file_of, with_file, laid, OnDone,
 ghost use Rattle.disk_base.specs.Stops.Stop.{Unarmed};
 ghost use Rattle.disk_base.specs.Stops.{Stop, IsStopped, after_change, armed, fill_left, StopsNext, IsLeftBy, Keeps, IsWritten};
 ghost use Rattle.disk_base.specs.Count.{HasCause};
-ghost use Rattle.disk_base.specs.Crash.{Torn, CutShort, InFile, Follows, Narrows, Only, OnlyIn, Elapses, LeavesSame, BeginsAnew};
+ghost use Rattle.disk_base.specs.Crash.{Torn, CutShort, InFile, Follows, LeavesOthers, Narrows, Only, OnlyIn, Elapses, LeavesSame, BeginsAnew};
 ghost use Rattle.disk_base.specs.Moments.{Moment, MayLeave, after_write, after_cut, after_sync, all_at_rest};
 ghost use Rattle.disk_base.specs.declared.disks.FileNo.{FileNo};
 
@@ -58,7 +58,8 @@ pub struct Refused<D, F> {
 
 /// Three files. After `Failed` nothing more is promised of what a read gives, until the files are opened anew. A
 /// disk that tells what is pending promises that such a call has changed nothing, but for a write in which it stops.
-/// A disk that was told to stop fails in the changing call in which it stops, and in each call after it.
+/// A disk that was told to stop fails in the changing call in which it stops, and in each call after it. Whether a call
+/// is done or fails, what a crash may leave of the files that it does not name is as before.
 pub trait Disk {
     /// What reads give, where the disk tells it.
     ghost files: { Self → Option Files };
@@ -159,6 +160,7 @@ pub trait Disk {
         ensures room { KeepsRoom (room self.old) (room self.new) }
         ensures steps { steps self.new ≡ steps self.old + 1 }
         ensures crash { Follows (InFile f (Torn at (length bytes.now))) (may_leave self.old) (may_leave self.new) }
+        ensures others { LeavesOthers f (may_leave self.old) (may_leave self.new) }
         ensures time { Elapses (steps self.old) (left_since self.old) (left_since self.new) (may_leave self.new) }
         ensures stop { stop self.new ≡ after_change (stop self.old) }
         ensures stopped { IsStopped (stop self.new) → result ≡ DiskEnd.Failed }
@@ -176,6 +178,7 @@ pub trait Disk {
         ensures room { KeepsRoom (room self.old) (room self.new) }
         ensures steps { steps self.new ≡ steps self.old + 1 }
         ensures crash { Follows (InFile f (CutShort len)) (may_leave self.old) (may_leave self.new) }
+        ensures others { LeavesOthers f (may_leave self.old) (may_leave self.new) }
         ensures time { Elapses (steps self.old) (left_since self.old) (left_since self.new) (may_leave self.new) }
         ensures stop { stop self.new ≡ after_change (stop self.old) }
         ensures stopped { IsStopped (stop self.new) → result ≡ DiskEnd.Failed }
@@ -191,6 +194,7 @@ pub trait Disk {
         ensures steps { steps self.new ≡ steps self.old + 1 }
         ensures durable { OnDone result (IfSome (files self.old) (λ fs. OnlyIn f (file_of fs f) (may_leave self.new))) }
         ensures crash { Narrows (may_leave self.old) (may_leave self.new) }
+        ensures others { LeavesOthers f (may_leave self.old) (may_leave self.new) }
         ensures time { Elapses (steps self.old) (left_since self.old) (left_since self.new) (may_leave self.new) }
         ensures stop { stop self.new ≡ after_change (stop self.old) }
         ensures stopped { IsStopped (stop self.new) → result ≡ DiskEnd.Failed }

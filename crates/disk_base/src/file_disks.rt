@@ -4,6 +4,7 @@ ghost use Rattle.disk_base.specs.Count.{HasCause};
 
 use crate::tallies::Tally;
 use crate::{Disk, DiskEnd, FileNo, LenEnd, RoomEnd};
+use std::alloc::Global;
 use std::fs::{File, OpenOptions};
 use std::io;
 use std::os::unix::fs::FileExt;
@@ -53,7 +54,8 @@ impl FileDisk {
 
     /// Opens the files `database`, `log` and `incoming` of a folder, and makes those that are not there. Their
     /// names are then synced, with the folder.
-    pub fn open<R: Files<File = File> + AllocGlobal>(
+    pub fn open<R: Files<File = File>>(
+        alloc: Global,
         rt: &R,
         folder: &str,
     ) -> Result<FileDisk, OpenFault>
@@ -61,9 +63,9 @@ impl FileDisk {
         ensures faults { IfOk result (λ disk. file_faults disk ≡ 0) }
     {
         let disk = FileDisk {
-            database: open_file(rt, folder, "database")?,
-            log: open_file(rt, folder, "log")?,
-            incoming: open_file(rt, folder, "incoming")?,
+            database: open_file(alloc, rt, folder, "database")?,
+            log: open_file(alloc, rt, folder, "log")?,
+            incoming: open_file(alloc, rt, folder, "incoming")?,
             steps: Tally::new(),
             faults: Tally::new(),
         };
@@ -105,12 +107,13 @@ impl FileDisk {
 }
 
 /// Opens a file of a folder to be read and written, and makes it where it is not there.
-fn open_file<R: Files<File = File> + AllocGlobal>(
+fn open_file<R: Files<File = File>>(
+    alloc: Global,
     rt: &R,
     folder: &str,
     name: &str,
 ) -> io::Result<File> {
-    let path = Path::new(folder).join(rt.alloc(), name)?;
+    let path = Path::new(folder).join(alloc, name)?;
     OpenOptions::new()
         .read(true)
         .write(true)

@@ -15,6 +15,7 @@ mod sinks;
 mod sources;
 mod tallies;
 mod touches;
+mod undos;
 
 pub use adapters::{ReaderSource, WriterSink};
 pub use disks::{Disk, DiskEnd, FileNo, Fill, LenEnd, Refused, RoomEnd, StopDisk};
@@ -26,5 +27,7 @@ pub use sources::{Got, Source};
 
 #[cfg(test)]
 mod replay_tests;
+#[cfg(test)]
+mod run_tests;
 #[cfg(test)]
 mod tests;

@@ -6,7 +6,7 @@ ghost use Rattle.disk_base.specs.Stops.Stop.{Unarmed};
 ghost use Rattle.std.specs.Borrow.{sem};
 ghost use Rattle.disk_base.specs.Count.{HasCause};
 ghost use Rattle.disk_base.specs.declared.disks.FileNo.{FileNo};
-ghost use Rattle.disk_base.specs.Crash.{Torn, CutShort, InFile, Follows, Narrows, Only, OnlyIn, Elapses, LeavesSame, BeginsAnew};
+ghost use Rattle.disk_base.specs.Crash.{Torn, CutShort, InFile, Follows, LeavesOthers, Narrows, Only, OnlyIn, Elapses, LeavesSame, BeginsAnew};
 
 use crate::memory_calls::{MemCalls, Passage};
 use crate::memory_files::MemFile;
@@ -87,6 +87,7 @@ impl MemFiles {
     }
 
     fn cut(&mut self, f: FileNo, len: u64) -> Result<(), NoMemory>
+        requires { len ≤ length (file_of (now_in self.old) f) }
         ensures ok { OnOk result (now_in self.new
             ≡ with_file (now_in self.old) f (take len (file_of (now_in self.old) f))) }
         ensures err { OnErr result (now_in self.new ≡ now_in self.old) }
@@ -298,6 +299,7 @@ impl Disk for MemDisk {
         ensures room { KeepsRoom (disk_room self.old) (disk_room self.new) }
         ensures steps { disk_steps self.new ≡ disk_steps self.old + 1 }
         ensures crash { Follows (InFile f (Torn at (length bytes.now))) (disk_may_leave self.old) (disk_may_leave self.new) }
+        ensures others { LeavesOthers f (disk_may_leave self.old) (disk_may_leave self.new) }
         ensures time { Elapses (disk_steps self.old) (disk_left_since self.old) (disk_left_since self.new) (disk_may_leave self.new) }
         ensures pending { OnDone result (Some (moment_of self.new) ≡ Some (after_write f at (length bytes.now) (moment_of self.old))) }
         ensures failed { result ≡ DiskEnd.Failed → Keeps (Some (now_of self.old)) (Some (now_of self.new)) (Some (moment_of self.old)) (Some (moment_of self.new))
@@ -327,6 +329,7 @@ impl Disk for MemDisk {
         ensures room { KeepsRoom (disk_room self.old) (disk_room self.new) }
         ensures steps { disk_steps self.new ≡ disk_steps self.old + 1 }
         ensures crash { Follows (InFile f (CutShort len)) (disk_may_leave self.old) (disk_may_leave self.new) }
+        ensures others { LeavesOthers f (disk_may_leave self.old) (disk_may_leave self.new) }
         ensures time { Elapses (disk_steps self.old) (disk_left_since self.old) (disk_left_since self.new) (disk_may_leave self.new) }
         ensures pending { OnDone result (Some (moment_of self.new) ≡ Some (after_cut f len (moment_of self.old))) }
         ensures failed { result ≡ DiskEnd.Failed → Keeps (Some (now_of self.old)) (Some (now_of self.new)) (Some (moment_of self.old)) (Some (moment_of self.new)) }
@@ -350,6 +353,7 @@ impl Disk for MemDisk {
         ensures steps { disk_steps self.new ≡ disk_steps self.old + 1 }
         ensures durable { OnDone result (OnlyIn f (file_of (now_of self.old) f) (disk_may_leave self.new)) }
         ensures crash { Narrows (disk_may_leave self.old) (disk_may_leave self.new) }
+        ensures others { LeavesOthers f (disk_may_leave self.old) (disk_may_leave self.new) }
         ensures time { Elapses (disk_steps self.old) (disk_left_since self.old) (disk_left_since self.new) (disk_may_leave self.new) }
         ensures pending { OnDone result (Some (moment_of self.new) ≡ Some (after_sync f (file_of (now_of self.old) f) (moment_of self.old))) }
         ensures failed { result ≡ DiskEnd.Failed → Keeps (Some (now_of self.old)) (Some (now_of self.new)) (Some (moment_of self.old)) (Some (moment_of self.new)) }

@@ -1,27 +1,30 @@
 //! One file of a disk in memory.
-ghost use Rattle.std.specs.Prelude.{◌≡◌, ◌+◌, ◌<◌, ◌≤◌, [], ◌∷◌, ◌++◌, length, take, drop, OnOk, OnErr, IsSome};
+ghost use Rattle.std.specs.Prelude.{◌≡◌, ◌+◌, ◌<◌, ◌≤◌, [], ◌∷◌, ◌++◌, length, take, drop, All, OnOk, OnErr, vec_capacity};
 ghost use Rattle.disk_base.specs.Files.{laid};
-ghost use Rattle.disk_base.specs.Touches.{MayBe, IsFilled, kept_or};
+ghost use Rattle.disk_base.specs.Touches.{MayBe, IsFilled};
+ghost use Rattle.disk_base.specs.Undos.{end_of, all_undone, touches_in};
 
 use crate::Fill;
 use crate::touches::Touch;
+use crate::undos::{Undo, lay, undo_all};
 use std::alloc::Global;
+use std::mem;
 use ubik_types::NoMemory;
 
-/// The bytes of a file, and what it was when it was last synced.
+/// The bytes of a file, and what makes of them what it was when it was last synced. So a call costs what it changes.
 #[derive(Drop)]
 pub(crate) struct MemFile {
     alloc: Global,
     bytes: Vec<u8>,
-    /// The bytes as last synced, kept from the first change after that on.
-    synced: Option<Vec<u8>>,
-    /// The changing calls since, in their order.
-    touches: Vec<Touch>,
+    /// The changing calls since the last sync, in their order.
+    undos: Vec<Undo>,
     /// How many bytes have room.
     room: u64,
-    ghost may_be: { MayBe (kept_or synced bytes.items) touches.items bytes.items },
+    ghost may_be: { MayBe (all_undone undos.items bytes.items) (touches_in undos.items) bytes.items },
     ghost has_room: { length bytes.items ≤ room },
-    ghost synced_has_room: { length (kept_or synced bytes.items) ≤ room },
+    // The room is memory that the file has.
+    ghost has_memory: { room ≤ vec_capacity bytes },
+    ghost undo_has_room: { All (λ undo. end_of undo ≤ room) undos.items },
 }
 
 impl MemFile {
@@ -38,8 +41,7 @@ impl MemFile {
         MemFile {
             alloc,
             bytes: Vec::new(alloc),
-            synced: None,
-            touches: Vec::new(alloc),
+            undos: Vec::new(alloc),
             room: 0,
         }
     }
@@ -75,20 +77,6 @@ impl MemFile {
         buf.copy_from_slice(&self.bytes[from..from + buf.len()]);
     }
 
-    /// Keeps the bytes as last synced, before they change.
-    fn keep_synced(&mut self) -> Result<(), NoMemory>
-        ensures bytes { bytes_of self.new ≡ bytes_of self.old }
-        ensures synced { synced_of self.new ≡ synced_of self.old }
-        ensures room { room_of self.new ≡ room_of self.old }
-        ensures touches { touches_of self.new ≡ touches_of self.old }
-        ensures kept { OnOk result (IsSome self.new.synced) }
-    {
-        if self.synced.is_none() {
-            self.synced = Some(self.bytes.as_slice().to_vec(self.alloc)?);
-        }
-        Ok(())
-    }
-
     /// Lays bytes over the file from a position on. For want of memory it stays.
     pub(crate) fn write_at(&mut self, at: u64, bytes: &[u8]) -> Result<(), NoMemory>
         requires begins { at ≤ length (bytes_of self.old) }
@@ -101,18 +89,16 @@ impl MemFile {
         ensures synced { synced_of self.new ≡ synced_of self.old }
         ensures room { room_of self.new ≡ room_of self.old }
     {
-        self.keep_synced()?;
-        self.touches.reserve(1)?;
         let at = at as usize;
-        lay(&mut self.bytes, at, bytes)?;
-        let len = bytes.len();
-        // Its place was reserved above, so it needs no memory.
-        let _ = self.touches.push(Touch::Wrote { at, len });
+        let undo = Undo::of_write(self.alloc, &self.bytes, at, bytes.len())?;
+        self.undos.push(undo)?;
+        lay(&mut self.bytes, at, bytes);
         Ok(())
     }
 
-    /// Keeps the first `len` bytes. For want of memory the file stays.
+    /// Keeps the first `len` bytes, at most its length. For want of memory the file stays.
     pub(crate) fn cut(&mut self, len: u64) -> Result<(), NoMemory>
+        requires { len ≤ length (bytes_of self.old) }
         ensures ok { OnOk result (bytes_of self.new ≡ take len (bytes_of self.old)) }
         ensures err { OnErr result (bytes_of self.new ≡ bytes_of self.old) }
         ensures marked { OnOk result (touches_of self.new ≡ touches_of self.old ++ Touch.Cut len ∷ []) }
@@ -120,9 +106,9 @@ impl MemFile {
         ensures synced { synced_of self.new ≡ synced_of self.old }
         ensures room { room_of self.new ≡ room_of self.old }
     {
-        self.keep_synced()?;
         let len = len as usize;
-        self.touches.push(Touch::Cut { len })?;
+        let undo = Undo::of_cut(self.alloc, &self.bytes, len)?;
+        self.undos.push(undo)?;
         self.bytes.truncate(len);
         Ok(())
     }
@@ -134,50 +120,33 @@ impl MemFile {
         ensures touches { touches_of self.new ≡ [] }
         ensures room { room_of self.new ≡ room_of self.old }
     {
-        self.synced = None;
-        self.touches.clear();
+        self.undos.clear();
     }
 
     /// What a stop leaves becomes what a read gives and what was last synced. What was reserved past it is not
-    /// kept: the bytes that were last synced have memory of their own.
+    /// kept.
     pub(crate) fn revive(&mut self, fill: Fill)
         ensures left { IsLeft fill (state_in self.old) (bytes_of self.old) (bytes_of self.new) }
         ensures synced { synced_of self.new ≡ bytes_of self.new }
         ensures touches { touches_of self.new ≡ [] }
         ensures room { room_of self.new ≡ length (bytes_of self.new) }
     {
+        let undos = mem::replace(&mut self.undos, Vec::new(self.alloc));
         match fill {
-            Fill::Old => {
-                if let Some(bytes) = self.synced.take() {
-                    self.bytes = bytes;
-                }
-            }
+            Fill::Old => undo_all(&undos, &mut self.bytes),
             Fill::New => {}
-            Fill::Byte(byte) => fill_all(&mut self.bytes, &self.touches, byte),
+            Fill::Byte(byte) => fill_all(&mut self.bytes, &undos, byte),
         }
-        self.sync();
         self.room = self.bytes.len() as u64;
     }
 }
 
-/// Lays bytes over others from a position on. For want of memory all stays.
-fn lay(file: &mut Vec<u8>, at: usize, bytes: &[u8]) -> Result<(), NoMemory>
-    requires { at ≤ length file.old.items }
-    ensures ok { OnOk result (file.new.items ≡ laid file.old.items at bytes.now) }
-    ensures err { OnErr result (file.new.items ≡ file.old.items) }
-{
-    let (over, past) = bytes.split_at(bytes.len().min(file.len() - at));
-    file.extend_from_slice(past)?;
-    file[at..at + over.len()].copy_from_slice(over);
-    Ok(())
-}
-
 /// Writes the byte into each position of the file that one of the changing calls wrote.
-fn fill_all(file: &mut [u8], touches: &[Touch], byte: u8)
-    ensures { IsFilled byte touches.now file.old file.new }
+fn fill_all(file: &mut [u8], undos: &[Undo], byte: u8)
+    ensures { IsFilled byte (touches_in undos.now) file.old file.new }
 {
-    for touch in touches {
-        fill_touch(file, *touch, byte);
+    for undo in undos {
+        fill_touch(file, undo.touch(), byte);
     }
 }
 

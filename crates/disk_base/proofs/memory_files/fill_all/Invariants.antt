@@ -1,7 +1,8 @@
 use Rattle.std.proofs.Common.{take}
 use Rattle.disk_base.specs.Touches.{IsFilled}
+use Rattle.disk_base.specs.Undos.{touches_in}
 use Rattle.disk_base.proofs.memory_files.fill_all.Given as goal
 
 -- the changing calls before this one are filled
-abbrev pub invariant-loop-touch : goal.invariant-loop-touch
-invariant-loop-touch l = IsFilled l.byte (take l.touch-index l.touches) l.initial.file l.file
+abbrev pub invariant-loop-undo : goal.invariant-loop-undo
+invariant-loop-undo l = IsFilled l.byte (touches_in (take l.undo-index l.undos)) l.initial.file l.file

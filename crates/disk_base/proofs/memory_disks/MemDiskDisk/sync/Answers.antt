@@ -1,4 +1,4 @@
-use Rattle.disk_base.proofs.DiskCalls.{OnlyIn-synced}
+use Rattle.disk_base.proofs.DiskCalls.{OnlyIn-synced, others-done, others-failed}
 use Rattle.disk_base.proofs.Times.{Elapses-call}
 use Rattle.disk_base.proofs.memory_disks.MemDiskDisk.sync.Goals as goal
 
@@ -13,3 +13,10 @@ returns-clause-time c =
 
 pub returns-clause-durable : goal.returns-clause-durable
 returns-clause-durable c = OnlyIn-synced _ _ c.sync.new.self c.args.f c.begin_change-passage.ensures.files c.sync.ensures.moment
+
+pub returns-clause-others : goal.returns-clause-others
+returns-clause-others c = others-done _ _ c.sync.new.self c.args.f _ c.begin_change-passage.ensures.files c.sync.ensures.moment
+
+pub returns-then-ne-clause-others : goal.returns-then-ne-clause-others
+returns-then-ne-clause-others c =
+    others-failed c.args.self.now.files c.begin_change-passage.new.self.files c.args.f c.begin_change-passage.ensures.files

@@ -1,4 +1,4 @@
-use Rattle.disk_base.proofs.DiskCalls.{Follows-write}
+use Rattle.disk_base.proofs.DiskCalls.{Follows-write, others-called, others-failed}
 use Rattle.disk_base.proofs.Times.{Elapses-call, Elapses-ended}
 use Rattle.disk_base.proofs.memory_disks.MemDiskDisk.write_at.Goals as goal
 
@@ -26,3 +26,18 @@ returns-clause-crash c =
     rw c.end.ensures.files
     (Follows-write c.args.self.now.files c.begin_change-passage.new.self.files c.write_at-written.new.self c.args.f c.args.at _ c.write_at-written.result
     c.requires.begins c.begin_change-passage.ensures.files c.write_at-written.ensures.marked c.write_at-written.ensures.unmarked)
+
+pub returns-then-eq-2-clause-others : goal.returns-then-eq-2-clause-others
+returns-then-eq-2-clause-others c =
+    others-called c.args.self.now.files c.begin_change-passage.new.self.files c.write_at-written.new.self c.args.f _ c.write_at-written.result
+    c.begin_change-passage.ensures.files c.write_at-written.ensures.marked c.write_at-written.ensures.unmarked
+
+pub returns-clause-others : goal.returns-clause-others
+returns-clause-others c =
+    rw c.end.ensures.files
+    (others-called c.args.self.now.files c.begin_change-passage.new.self.files c.write_at-written.new.self c.args.f _ c.write_at-written.result
+    c.begin_change-passage.ensures.files c.write_at-written.ensures.marked c.write_at-written.ensures.unmarked)
+
+pub returns-then-eq-clause-others : goal.returns-then-eq-clause-others
+returns-then-eq-clause-others c =
+    others-failed c.args.self.now.files c.begin_change-passage.new.self.files c.args.f c.begin_change-passage.ensures.files
