@@ -14,6 +14,9 @@ pub const MAX_CLOCK: u32 = 1_000_000_000;
 /// The most seconds of a line by which clocks go on.
 pub const MAX_TICK: u32 = 50_000;
 
+/// The most changing calls of a disk that a `stop` lets pass.
+pub const MAX_STOP: u32 = 1_000_000;
+
 /// Why a line of a script is refused: the first of these that holds, in the order syntax, unbuilt, number, cell,
 /// server, state, packet, skew.
 #[derive(Clone, Copy, Debug, PartialEq, Eq)]
@@ -37,22 +40,49 @@ pub enum Why {
     Unbuilt,
 }
 
-/// A line of a script, as far as this stage builds them. Servers are numbered from 1.
+/// Which database a cell keeps.
+#[derive(Clone, Copy, Debug, PartialEq, Eq)]
+pub enum Kind {
+    /// Where volumes are.
+    Location,
+    /// Users and groups.
+    Protection,
+}
+
+/// A line of a script. Servers and packets are numbered from 1.
 #[derive(Drop)]
 pub enum Line {
     /// An empty line or a comment.
     Nothing,
-    /// Opens a cell of one server that keeps a protection database; the clock is in seconds.
-    Cell { clock: u32 },
+    /// Opens a cell of so many servers, 1 to 20; the clock is in seconds.
+    Cell { servers: u32, clock: u32, kind: Kind },
+    /// Adds so many seconds to the clock of a server.
+    Tick { server: u64, seconds: u32 },
     /// Adds so many seconds to all clocks.
     TickAll { seconds: u32 },
     /// A beacon turn of a server.
     Beacon { server: u64 },
     /// A recovery turn of a server.
     Recover { server: u64 },
+    /// Hands a packet to its receiver.
+    Deliver { packet: u64 },
+    /// `deliverall` passes over this packet from now on.
+    Drop { packet: u64 },
+    /// The same for all waiting packets to or from a server.
+    DropAll { server: u64 },
+    /// Hands over each packet that was neither delivered nor dropped, the lowest number first, until none is left.
+    DeliverAll,
     /// Asks a server a call, which is in words. The server is none where its word is no number of a server, which
     /// is judged after the call.
     Ask { server: Option<u64>, call: Words },
+    /// The disk of a server stops after so many further changing calls, and leaves what the fill says.
+    Stop { server: u64, calls: u32, fill: Fill },
+    /// A server goes down.
+    Crash { server: u64 },
+    /// A server that is down is opened.
+    Restart { server: u64 },
+    /// Shows the state of a server.
+    Show { server: u64 },
 }
 
 /// A turn of a server.
