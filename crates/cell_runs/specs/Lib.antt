@@ -1,0 +1,3 @@
+pub mod Script
+pub mod Spoken
+pub mod Trace
