@@ -11,17 +11,15 @@ use Rattle.ubik_calls.specs.Length.{packet_length}
 use Rattle.db_image.specs.Database.{Database}
 use Rattle.cell_model.specs.declared.events.NodeEvent.{NodeEvent}
 use Rattle.cell_model.specs.Book.{Run, first_run, run_with, clock_at}
-use Rattle.cell_model.specs.Durable.{Made, disk_calls, version_after}
+use Rattle.cell_model.specs.Durable.{Made, version_after}
 use Rattle.cell_model.specs.Node.{Node, Down, Halted, Up, Server}
 use Rattle.cell_model.specs.NodeRule.{place_of, step_of}
 use Rattle.cell_model.specs.Step.{host_at}
-use Rattle.cell_model.specs.World.{Site, World, Trigger, Delivery, Beacon_turn, Recover_turn, Asking, Event, Tick, Tick_all, Step, Stop, Fault, Crash, Restart, Happening, Sent, Happened, happens, first_world, first_seen, occasion, member, site_of, is_down, may_tick, tick_at, ticked}
-use Rattle.cell_script.specs.declared.lines.Kind.{Kind}
-use Rattle.cell_script.specs.declared.lines.Line.{Line}
-use Rattle.cell_script.specs.declared.lines.Line.TheVariants as line
+use Rattle.cell_model.specs.World.{Site, World, Trigger, Delivery, Beacon_turn, Recover_turn, Asking, Event, Tick, Tick_all, Step, Stop, Fault, Crash, Restart, Happening, Sent, Happened, happens, first_world, first_seen, calls_on, occasion, member, site_of, is_down, may_tick, tick_at, ticked}
+use Rattle.cell_runs.specs.Language.{Kind, Line, line_of}
+use Rattle.cell_runs.specs.Language as line
 use Rattle.cell_script.specs.declared.lines.Why.{Why}
 use Rattle.cell_script.specs.declared.lines.Why.TheVariants as why
-use Rattle.cell_script.specs.Meaning.{line_of}
 use Rattle.cell_runs.specs.declared.limits.TheConstants.{MAX_LINES, MAX_PACKETS, MAX_PACKET_BYTES}
 use Rattle.cell_runs.specs.declared.endings.Ending.{Ending}
 use Rattle.cell_runs.specs.declared.endings.Ending.TheVariants.{Refused, Limit}
@@ -150,10 +148,7 @@ abbrev pub one_more : Option ℕ → Option ℕ
 one_more None = None
 one_more (Some n) = Some (n + 1)
 
--- how many changing calls a durable call makes: the file of a database has a label once its version is not the first
-abbrev pub calls_on : Version → Made → ℕ
-calls_on version made = disk_calls (not (version_eq version zero_version)) made.call
-
+-- how many changing calls of their disk durable calls make, one after the other
 abbrev pub calls_on_all : Version → List Made → ℕ
 calls_on_all version [] = 0
 calls_on_all version (made ∷ calls) = calls_on version made + calls_on_all (version_after made.call) calls

@@ -1,7 +1,7 @@
 -- A database as scripts speak of it: its calls and its answers in words.
 use Rattle.std.specs.Prelude.{ℕ, Bool, List, Option}
 use Rattle.db_image.specs.Database.{Database}
-use Rattle.cell_script.specs.declared.lines.Kind.{Kind}
+use Rattle.cell_runs.specs.Language.{Kind}
 
 pub record Spoken : Type 0 where
   pub database : Database

@@ -1,10 +1,9 @@
 //! The lines of a script, understood.
 ghost use Rattle.std.specs.Prelude.{◌≡◌, IfOk, IfSome};
-ghost use Rattle.cell_script.specs.Meaning.{server_of, kind_of, fill_of, or_number, cell_in, numbered_stop, line_of_none, line_of_one, line_of_two, line_of_three, ask_line, whole_line, is_later_word, is_later_cell, is_later, line_of_words, is_idle, line_of, HasBounds};
+ghost use Rattle.cell_script.specs.Meaning.{first_word_of, later_word_of, has_one_argument, server_of, cell_line, one_server, tick_all_line, turn_line, later_line, ask_line, line_of_words, is_idle, line_of, HasBounds};
 
 use crate::readers::MAX_LINE;
 use crate::splits::{Words, split_words};
-use disk_base::Fill;
 use script_words::{number, number_within};
 use std::alloc::Global;
 use ubik_types::{Bytes, MAXSERVERS, NoMemory};
@@ -14,9 +13,6 @@ pub const MAX_CLOCK: u32 = 1_000_000_000;
 
 /// The most seconds of a line by which clocks go on.
 pub const MAX_TICK: u32 = 50_000;
-
-/// The most changing calls of a disk that a `stop` lets pass.
-pub const MAX_STOP: u32 = 1_000_000;
 
 /// Why a line of a script is refused: the first of these that holds, in the order syntax, unbuilt, number, cell,
 /// server, state, packet, skew.
@@ -41,49 +37,40 @@ pub enum Why {
     Unbuilt,
 }
 
-/// Which database a cell keeps.
-#[derive(Clone, Copy, Debug, PartialEq, Eq)]
-pub enum Kind {
-    /// Where volumes are.
-    Location,
-    /// Users and groups.
-    Protection,
-}
-
-/// A line of a script. Servers and packets are numbered from 1.
+/// A line of a script, as far as this stage builds them. Servers are numbered from 1.
 #[derive(Drop)]
 pub enum Line {
     /// An empty line or a comment.
     Nothing,
-    /// Opens a cell of so many servers, 1 to 20; the clock is in seconds.
-    Cell { servers: u32, clock: u32, kind: Kind },
-    /// Adds so many seconds to the clock of a server.
-    Tick { server: u64, seconds: u32 },
+    /// Opens a cell of one server that keeps a protection database; the clock is in seconds.
+    Cell { clock: u32 },
     /// Adds so many seconds to all clocks.
     TickAll { seconds: u32 },
     /// A beacon turn of a server.
     Beacon { server: u64 },
     /// A recovery turn of a server.
     Recover { server: u64 },
-    /// Hands a packet to its receiver.
-    Deliver { packet: u64 },
-    /// `deliverall` passes over this packet from now on.
-    Drop { packet: u64 },
-    /// The same for all waiting packets to or from a server.
-    DropAll { server: u64 },
-    /// Hands over each packet that was neither delivered nor dropped, the lowest number first, until none is left.
-    DeliverAll,
     /// Asks a server a call, which is in words. The server is none where its word is no number of a server, which
     /// is judged after the call.
     Ask { server: Option<u64>, call: Words },
-    /// The disk of a server stops after so many further changing calls, and leaves what the fill says.
-    Stop { server: u64, calls: u32, fill: Fill },
-    /// A server goes down.
-    Crash { server: u64 },
-    /// A server that is down is opened.
-    Restart { server: u64 },
-    /// Shows the state of a server.
-    Show { server: u64 },
+}
+
+/// A turn of a server.
+#[derive(Clone, Copy)]
+enum Turn {
+    Beacon,
+    Recover,
+}
+
+/// The first word of a line.
+#[derive(Clone, Copy)]
+enum FirstWord {
+    Cell,
+    TickAll,
+    Turn(Turn),
+    Ask,
+    /// A line that is not built yet, which has so many further words.
+    Later { arguments: usize },
 }
 
 /// What a line means, or why it is refused, as far as the line alone tells. The error is want of memory.
@@ -113,152 +100,132 @@ fn is_idle(line: &[u8]) -> bool
     }
 }
 
-/// What a line of these words means: one that is not built yet is told so after its syntax, and before its numbers.
-fn words_meaning(words: Words) -> Result<Line, Why>
-    ensures meaning { result ≡ line_of_words words }
-    ensures bounds { IfOk result HasBounds }
-{
-    let later = is_later(words.as_slice());
-    match whole_line(words) {
-        Err(Why::Syntax) => Err(Why::Syntax),
-        _ if later => Err(Why::Unbuilt),
-        meaning => meaning,
-    }
-}
-
-/// What a line of these words means in the whole language.
-fn whole_line(mut words: Words) -> Result<Line, Why>
-    ensures { result ≡ whole_line words }
+/// What a line of these words means.
+fn words_meaning(mut words: Words) -> Result<Line, Why>
+    ensures { result ≡ line_of_words words }
 {
     let Some(first) = words.take_first() else {
         return Err(Why::Syntax);
     };
-    if first.as_slice() == b"ask".as_slice() {
-        return ask_line(words);
-    }
-    match words.as_slice() {
-        [] => line_of_none(first.as_slice()),
-        [a] => line_of_one(first.as_slice(), a.as_slice()),
-        [a, b] => line_of_two(first.as_slice(), a.as_slice(), b.as_slice()),
-        [a, b, c] => line_of_three(first.as_slice(), a.as_slice(), b.as_slice(), c.as_slice()),
-        _ => Err(Why::Syntax),
+    match first_word(first.as_slice()).or(later_word(first.as_slice())) {
+        None => Err(Why::Syntax),
+        Some(FirstWord::Cell) => cell_line(words.as_slice()),
+        Some(FirstWord::TickAll) => tick_all_line(words.as_slice()),
+        Some(FirstWord::Turn(turn)) => turn_line(turn, words.as_slice()),
+        Some(FirstWord::Ask) => ask_line(words),
+        Some(FirstWord::Later { arguments }) => later_line(arguments, words.as_slice()),
     }
 }
 
-/// `deliverall`.
-fn line_of_none(first: &[u8]) -> Result<Line, Why>
-    ensures { result ≡ line_of_none first.now }
-{
-    if first == b"deliverall".as_slice() {
-        Ok(Line::DeliverAll)
-    } else {
-        Err(Why::Syntax)
-    }
-}
-
-/// `tickall SECONDS`, or a first word with the number of a server or of a packet.
-fn line_of_one(first: &[u8], a: &[u8]) -> Result<Line, Why>
-    ensures { result ≡ line_of_one first.now a.now }
-{
-    match first {
-        b"tickall" => or_number(number_within(a, 1, MAX_TICK).map(|seconds| Line::TickAll { seconds })),
-        b"beacon" => or_number(server_number(a).map(|server| Line::Beacon { server })),
-        b"recover" => or_number(server_number(a).map(|server| Line::Recover { server })),
-        b"dropall" => or_number(server_number(a).map(|server| Line::DropAll { server })),
-        b"crash" => or_number(server_number(a).map(|server| Line::Crash { server })),
-        b"restart" => or_number(server_number(a).map(|server| Line::Restart { server })),
-        b"show" => or_number(server_number(a).map(|server| Line::Show { server })),
-        b"deliver" => or_number(number(a).map(|packet| Line::Deliver { packet })),
-        b"drop" => or_number(number(a).map(|packet| Line::Drop { packet })),
-        _ => Err(Why::Syntax),
-    }
-}
-
-/// `tick SERVER SECONDS`.
-fn line_of_two(first: &[u8], a: &[u8], b: &[u8]) -> Result<Line, Why>
-    ensures { result ≡ line_of_two first.now a.now b.now }
-{
-    if first != b"tick".as_slice() {
-        return Err(Why::Syntax);
-    }
-    match (server_number(a), number_within(b, 1, MAX_TICK)) {
-        (Some(server), Some(seconds)) => Ok(Line::Tick { server, seconds }),
-        _ => Err(Why::Number),
-    }
-}
-
-/// `cell SERVERS CLOCK KIND` or `stop SERVER CALLS FILL`.
-fn line_of_three(first: &[u8], a: &[u8], b: &[u8], c: &[u8]) -> Result<Line, Why>
-    ensures { result ≡ line_of_three first.now a.now b.now c.now }
-{
-    match first {
-        b"cell" => cell_line(a, b, kind_of(c)),
-        b"stop" => stop_line(a, b, c),
-        _ => Err(Why::Syntax),
-    }
-}
-
-/// A cell of so many servers, with a clock from 1 to [`MAX_CLOCK`].
-fn cell_line(servers: &[u8], clock: &[u8], kind: Option<Kind>) -> Result<Line, Why>
-    ensures { result ≡ cell_in servers.now clock.now kind }
-{
-    let Some(kind) = kind else {
-        return Err(Why::Syntax);
-    };
-    match (
-        number_within(servers, 1, MAXSERVERS as u32),
-        number_within(clock, 1, MAX_CLOCK),
-    ) {
-        (Some(servers), Some(clock)) => Ok(Line::Cell {
-            servers,
-            clock,
-            kind,
-        }),
-        _ => Err(Why::Number),
-    }
-}
-
-/// A stop of a server's disk, after at most [`MAX_STOP`] changing calls.
-fn stop_line(server: &[u8], calls: &[u8], fill: &[u8]) -> Result<Line, Why>
-    ensures { result ≡ or_number (numbered_stop (server_of server.now) (number_within 0 MAX_STOP calls.now) (fill_of fill.now)) }
-{
-    match (server_number(server), number_within(calls, 0, MAX_STOP), fill_of(fill)) {
-        (Some(server), Some(calls), Some(fill)) => Ok(Line::Stop {
-            server,
-            calls,
-            fill,
-        }),
-        _ => Err(Why::Number),
-    }
-}
-
-/// The kind of a database.
-fn kind_of(word: &[u8]) -> Option<Kind>
-    ensures { result ≡ kind_of word.now }
+/// The first word of a line that is built.
+fn first_word(word: &[u8]) -> Option<FirstWord>
+    ensures { result ≡ first_word_of word.now }
 {
     match word {
-        b"pt" => Some(Kind::Protection),
-        b"vl" => Some(Kind::Location),
+        b"cell" => Some(FirstWord::Cell),
+        b"tickall" => Some(FirstWord::TickAll),
+        b"beacon" => Some(FirstWord::Turn(Turn::Beacon)),
+        b"recover" => Some(FirstWord::Turn(Turn::Recover)),
+        b"ask" => Some(FirstWord::Ask),
         _ => None,
     }
 }
 
-/// What a stop leaves of what was written and not synced.
-fn fill_of(word: &[u8]) -> Option<Fill>
-    ensures { result ≡ fill_of word.now }
+/// The first word of a line that is not built yet.
+fn later_word(word: &[u8]) -> Option<FirstWord>
+    ensures { result ≡ later_word_of word.now }
 {
-    match word {
-        b"old" => Some(Fill::Old),
-        b"new" => Some(Fill::New),
-        _ => number_within(word, 0, 255).map(|byte| Fill::Byte(byte as u8)),
+    if has_one_argument(word) {
+        Some(FirstWord::Later { arguments: 1 })
+    } else if word == b"deliverall".as_slice() {
+        Some(FirstWord::Later { arguments: 0 })
+    } else if word == b"tick".as_slice() {
+        Some(FirstWord::Later { arguments: 2 })
+    } else if word == b"stop".as_slice() {
+        Some(FirstWord::Later { arguments: 3 })
+    } else {
+        None
     }
 }
 
-/// A line whose numbers are in order, if there is one.
-fn or_number(line: Option<Line>) -> Result<Line, Why>
-    ensures { result ≡ or_number line }
+/// Whether a line of this first word is not built yet, and has one further word.
+fn has_one_argument(word: &[u8]) -> bool
+    ensures { result ≡ has_one_argument word.now }
 {
-    line.ok_or(Why::Number)
+    word == b"deliver".as_slice()
+        || word == b"drop".as_slice()
+        || word == b"dropall".as_slice()
+        || word == b"crash".as_slice()
+        || word == b"restart".as_slice()
+        || word == b"show".as_slice()
+}
+
+/// `cell SERVERS CLOCK KIND`, where the kind is `pt` or `vl`. One server with `pt` is built.
+fn cell_line(arguments: &[Bytes]) -> Result<Line, Why>
+    ensures { result ≡ cell_line arguments.now }
+{
+    let [servers, clock, kind] = arguments else {
+        return Err(Why::Syntax);
+    };
+    match kind.as_slice() {
+        b"pt" => one_server(servers.as_slice(), clock.as_slice()),
+        b"vl" => Err(Why::Unbuilt),
+        _ => Err(Why::Syntax),
+    }
+}
+
+/// A cell of 1 to 20 servers, of which one is built, with a clock from 1 to [`MAX_CLOCK`].
+fn one_server(servers: &[u8], clock: &[u8]) -> Result<Line, Why>
+    ensures { result ≡ one_server servers.now clock.now }
+{
+    match number_within(servers, 1, MAXSERVERS as u32) {
+        None => Err(Why::Number),
+        Some(1) => match number_within(clock, 1, MAX_CLOCK) {
+            None => Err(Why::Number),
+            Some(clock) => Ok(Line::Cell { clock }),
+        },
+        Some(_) => Err(Why::Unbuilt),
+    }
+}
+
+/// `tickall SECONDS`, 1 to [`MAX_TICK`].
+fn tick_all_line(arguments: &[Bytes]) -> Result<Line, Why>
+    ensures { result ≡ tick_all_line arguments.now }
+{
+    let [seconds] = arguments else {
+        return Err(Why::Syntax);
+    };
+    match number_within(seconds.as_slice(), 1, MAX_TICK) {
+        None => Err(Why::Number),
+        Some(seconds) => Ok(Line::TickAll { seconds }),
+    }
+}
+
+/// `beacon SERVER` or `recover SERVER`.
+fn turn_line(turn: Turn, arguments: &[Bytes]) -> Result<Line, Why>
+    ensures { result ≡ turn_line turn arguments.now }
+{
+    let [server] = arguments else {
+        return Err(Why::Syntax);
+    };
+    match server_number(server.as_slice()) {
+        None => Err(Why::Number),
+        Some(server) => Ok(match turn {
+            Turn::Beacon => Line::Beacon { server },
+            Turn::Recover => Line::Recover { server },
+        }),
+    }
+}
+
+/// A line that is not built yet, which has so many further words.
+fn later_line(count: usize, arguments: &[Bytes]) -> Result<Line, Why>
+    ensures { result ≡ later_line count arguments.now }
+{
+    if arguments.len() == count {
+        Err(Why::Unbuilt)
+    } else {
+        Err(Why::Syntax)
+    }
 }
 
 /// `ask SERVER CALL..`, with one word of a call at least.
@@ -275,50 +242,6 @@ fn ask_line(mut arguments: Words) -> Result<Line, Why>
         server: server_number(first.as_slice()),
         call: arguments,
     })
-}
-
-/// Whether a line of these words is not built yet.
-fn is_later(words: &[Bytes]) -> bool
-    ensures { result ≡ is_later words.now }
-{
-    match words {
-        [] => false,
-        [first, arguments @ ..] => {
-            if first.as_slice() == b"cell".as_slice() {
-                is_later_cell(arguments)
-            } else {
-                is_later_word(first.as_slice())
-            }
-        }
-    }
-}
-
-/// Whether a cell is one that is not built yet.
-fn is_later_cell(arguments: &[Bytes]) -> bool
-    ensures { result ≡ is_later_cell arguments.now }
-{
-    match arguments {
-        [servers, _, kind] => {
-            kind.as_slice() == b"vl".as_slice()
-                || number_within(servers.as_slice(), 2, MAXSERVERS as u32).is_some()
-        }
-        _ => false,
-    }
-}
-
-/// Whether a line of this first word is not built yet.
-fn is_later_word(first: &[u8]) -> bool
-    ensures { result ≡ is_later_word first.now }
-{
-    first == b"tick".as_slice()
-        || first == b"deliver".as_slice()
-        || first == b"drop".as_slice()
-        || first == b"dropall".as_slice()
-        || first == b"deliverall".as_slice()
-        || first == b"stop".as_slice()
-        || first == b"crash".as_slice()
-        || first == b"restart".as_slice()
-        || first == b"show".as_slice()
 }
 
 /// The number of a server, from 1 on.
