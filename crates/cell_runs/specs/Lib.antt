@@ -1,0 +1,4 @@
+pub mod Language
+pub mod Script
+pub mod Spoken
+pub mod Trace

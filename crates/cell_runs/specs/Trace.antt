@@ -1,0 +1,164 @@
+-- The trace: the text of what is seen of a script, a line for each, in its order (own). Servers are counted from 1.
+use Rattle.std.specs.Prelude.{ℕ, ◌+◌, Bool, true, false, if◌then◌else◌, Option, Some, None, List, [], ◌∷◌, ◌++◌, codes, length}
+use Rattle.std.specs.Fmt.{decimal}
+use Rattle.std.specs.List.{flat_map}
+use Rattle.ubik_types.specs.declared.hosts.Host.{Host}
+use Rattle.ubik_types.specs.declared.versions.Version.{Version}
+use Rattle.ubik_types.specs.declared.phases.Phase.{Phase}
+use Rattle.ubik_types.specs.declared.phases.Phase.TheVariants as phases
+use Rattle.ubik_types.specs.declared.phases.Applied.{Applied}
+use Rattle.ubik_types.specs.declared.phases.Applied.TheVariants as applied
+use Rattle.ubik_types.specs.Lease.{lease_end}
+use Rattle.ubik_types.specs.Phase.{phase_of}
+use Rattle.ubik_calls.specs.declared.packets.Packet.{Packet}
+use Rattle.ubik_calls.specs.declared.packets.Body.{Body}
+use Rattle.ubik_calls.specs.declared.packets.Body.TheVariants as body
+use Rattle.ubik_calls.specs.declared.replies.Reply.{Reply}
+use Rattle.ubik_calls.specs.declared.replies.Reply.TheVariants as reply
+use Rattle.cell_model.specs.Node.{Node, Down, Halted, Up, Server, HaltedServer}
+use Rattle.cell_model.specs.NodeRule.{place_of}
+use Rattle.cell_model.specs.Step.{Evaluation}
+use Rattle.cell_model.specs.World.{Happening, Sent, Announced, Replied, Lost, Stops, Halts, Restarts, Stays_down, World, Site}
+use Rattle.cell_script.specs.declared.lines.Why.{Why}
+use Rattle.cell_script.specs.declared.lines.Why.TheVariants as why
+use Rattle.cell_runs.specs.declared.endings.Which.{Which}
+use Rattle.cell_runs.specs.declared.endings.Which.TheVariants as which
+use Rattle.cell_runs.specs.declared.endings.Ending.{Ending}
+use Rattle.cell_runs.specs.declared.endings.Ending.TheVariants.{Refused, Limit}
+use Rattle.cell_runs.specs.Spoken.{Spoken}
+
+-- what is shown of a server that is up
+pub record Showing : Type 0 where
+  pub version : Version
+  pub phase : Phase
+  -- the end of the lease, also of one that is over; 0 where there is none
+  pub until : ℕ
+  -- how long its image is, also during a write in flight
+  pub len : ℕ
+
+-- what a line of a script tells: what is seen of its events, or the state of a server, which is no event
+pub data Telling : Type 0 where
+  Tells : (happening : Happening) → Telling
+  Shows : (server clock : ℕ) → (showing : Option Showing) → Telling
+
+-- a line is ended by an LF
+abbrev pub line_text : List ℕ → List ℕ
+line_text text = text ++ 10 ∷ []
+
+abbrev pub server_text : ℕ → List ℕ
+server_text k = decimal (k + 1)
+
+abbrev pub number_in : Option ℕ → ℕ
+number_in None = 0
+number_in (Some k) = k + 1
+
+-- the number of the server that has this host
+abbrev pub host_text : List Host → Host → List ℕ
+host_text hosts host = decimal (number_in (place_of hosts host))
+
+abbrev pub version_text : Version → List ℕ
+version_text v = decimal v.epoch ++ 46 ∷ decimal v.counter
+
+abbrev pub phase_word : Phase → List ℕ
+phase_word phases.None = codes "none"
+phase_word phases.Poll = codes "poll"
+phase_word phases.Fetch = codes "fetch"
+phase_word phases.Relabel = codes "relabel"
+phase_word phases.Send = codes "send"
+phase_word phases.Ready = codes "ready"
+
+abbrev pub applied_word : Applied → List ℕ
+applied_word applied.No = codes "no"
+applied_word applied.Unknown = codes "unknown"
+
+-- what a packet says: its kind, and a start, a poll or a version
+abbrev pub body_text : Body → List ℕ
+body_text (body.Beacon start claim ready version) = codes "beacon " ++ version_text version
+body_text (body.Vote start granted) = (if granted then codes "yes " else codes "no ") ++ decimal start
+body_text (body.GetVersion poll) = codes "getversion " ++ decimal poll
+body_text (body.VersionIs poll version) = codes "versionis " ++ version_text version
+body_text (body.GetPiece poll version offset) = codes "getpiece " ++ version_text version
+body_text (body.Piece poll version total offset bytes) = codes "piece " ++ version_text version
+body_text (body.SendPiece poll version total offset bytes) = codes "sendpiece " ++ version_text version
+body_text (body.PieceKept poll version next) = codes "piecekept " ++ version_text version
+body_text (body.SetVersion poll old new) = codes "setversion " ++ version_text new
+body_text (body.Begin old new pieces len) = codes "begin " ++ version_text new
+body_text (body.PutPiece new number bytes) = codes "putpiece " ++ version_text new
+body_text (body.Commit old new) = codes "commit " ++ version_text new
+body_text (body.Abort new) = codes "abort " ++ version_text new
+body_text (body.VersionKept version) = codes "versionkept " ++ version_text version
+
+abbrev pub packet_text : List Host → ℕ → Packet → List ℕ
+packet_text hosts number p =
+    codes "packet " ++ decimal number ++ 32 ∷ host_text hosts p.from ++ 62 ∷ host_text hosts p.to ++ 32 ∷ body_text p.body
+
+-- the answer fields behind a blank, where there are any
+abbrev pub fields_of : Option (List ℕ) → List ℕ
+fields_of None = []
+fields_of (Some []) = []
+fields_of (Some (b ∷ bytes)) = 32 ∷ b ∷ bytes
+
+abbrev pub answer_text : Spoken → List ℕ → Option Evaluation → List ℕ
+answer_text spoken answer None = []
+answer_text spoken answer (Some e) = fields_of (spoken.answer_of e.call answer)
+
+-- A reply behind the number of its call and its server. A call that a script can write is never malformed, and an image of a cell
+-- is never bad; want of memory ends a run.
+abbrev pub reply_text : Spoken → List Host → Reply → Option Evaluation → List ℕ
+reply_text spoken hosts (reply.Ok answer) e = codes " ok" ++ answer_text spoken answer e
+reply_text spoken hosts (reply.Rule number) e = codes " rule " ++ decimal number
+reply_text spoken hosts (reply.NoQuorum now until phase a) e =
+    codes " noquorum " ++ decimal until ++ 32 ∷ phase_word phase ++ 32 ∷ applied_word a
+reply_text spoken hosts (reply.NotSync host heard) e = codes " notsync " ++ host_text hosts host
+reply_text spoken hosts (reply.LineFull holder) e = codes " linefull " ++ decimal holder
+reply_text spoken hosts (reply.TooLarge bytes) e = codes " toolarge " ++ decimal bytes
+reply_text spoken hosts reply.Malformed e = codes " malformed"
+reply_text spoken hosts reply.DiskFault e = codes " diskfault"
+reply_text spoken hosts (reply.BadRecord at) e = codes " badrecord " ++ decimal at
+reply_text spoken hosts reply.NoMemory e = codes " nomemory"
+
+abbrev pub happening_text : Spoken → List Host → Happening → List ℕ
+happening_text spoken hosts (Sent number p) = packet_text hosts number p
+happening_text spoken hosts (Announced k version) = codes "announce " ++ server_text k ++ 32 ∷ version_text version
+happening_text spoken hosts (Replied k id r e) =
+    codes "reply " ++ decimal id ++ 32 ∷ server_text k ++ reply_text spoken hosts r e
+happening_text spoken hosts (Lost number) = codes "lost " ++ decimal number
+happening_text spoken hosts (Stops k) = codes "stopped " ++ server_text k
+happening_text spoken hosts (Halts k) = codes "halted " ++ server_text k
+happening_text spoken hosts (Restarts k version) = codes "restarted " ++ server_text k ++ 32 ∷ version_text version
+happening_text spoken hosts (Stays_down k) = codes "restarted " ++ server_text k ++ codes " diskfault"
+
+abbrev pub showing_text : Option Showing → List ℕ
+showing_text None = codes " down"
+showing_text (Some s) =
+    codes " version " ++ version_text s.version ++ codes " phase " ++ phase_word s.phase
+    ++ codes " until " ++ decimal s.until ++ codes " length " ++ decimal s.len
+
+abbrev pub telling_text : Spoken → List Host → Telling → List ℕ
+telling_text spoken hosts (Tells h) = line_text (happening_text spoken hosts h)
+telling_text spoken hosts (Shows k clock s) =
+    line_text (codes "show " ++ server_text k ++ codes " clock " ++ decimal clock ++ showing_text s)
+
+-- the text of what was told
+abbrev pub trace : Spoken → List Host → List Telling → List ℕ
+trace spoken hosts tellings = flat_map (telling_text spoken hosts) tellings
+
+abbrev pub why_word : Why → List ℕ
+why_word why.Syntax = codes "syntax"
+why_word why.Number = codes "number"
+why_word why.Cell = codes "cell"
+why_word why.Server = codes "server"
+why_word why.State = codes "state"
+why_word why.Packet = codes "packet"
+why_word why.Skew = codes "skew"
+why_word why.Unbuilt = codes "unbuilt"
+
+abbrev pub which_word : Which → List ℕ
+which_word which.Lines = codes "lines"
+which_word which.Packets = codes "packets"
+which_word which.PacketBytes = codes "packetbytes"
+
+-- the last line of a trace, of a script that ended at this line
+abbrev pub ending_text : ℕ → Ending → List ℕ
+ending_text line (Refused w) = line_text (codes "refused line " ++ decimal line ++ 32 ∷ why_word w)
+ending_text line (Limit w) = line_text (codes "limit line " ++ decimal line ++ 32 ∷ which_word w)
