@@ -47,9 +47,9 @@ pub record Stepped : Type 0 where
   pub calls : List Made
   pub shown : List Shown
 
--- what the step puts out
-abbrev pub outputs_of : Stepped → List Output
-outputs_of t = map (λ (shown : Shown). shown.output) t.shown
+-- what is put out of it
+abbrev pub outputs_of : List Shown → List Output
+outputs_of shown = map (λ (one : Shown). one.output) shown
 
 -- a step that shows this, and changes nothing that is durable
 abbrev pub showing : Server → List Shown → Stepped
