@@ -1,3 +1,4 @@
+pub mod Causes
 pub mod Sound
 pub mod SoundReceiver
 pub mod SoundRecovery
