@@ -17,9 +17,3 @@ IsUnlabelled file = version_of_database file ≡ None
 -- the file is longer than a label and the longest image
 abbrev pub IsTooLong : List ℕ → Type 0
 IsTooLong file = 16777280 < length file
-
--- the fault is not one of the label
-abbrev pub IsNoLabelFault : PageFault → Type 0
-IsNoLabelFault DiskFault = Unit {0}
-IsNoLabelFault (BadLabel len head) = ⊥
-IsNoLabelFault NoMemory = Unit {0}

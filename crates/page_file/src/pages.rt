@@ -7,7 +7,7 @@ ghost use Rattle.disk_base.specs.Stops.{IsStopped, after_change};
 ghost use Rattle.disk_base.specs.Count.{HasCause};
 ghost use Rattle.disk_base.specs.Crash.{Torn, CutShort, InFile, OnlyIn, Follows, Narrows, Elapses, LeavesSame};
 ghost use Rattle.page_file.specs.Label.{label, version_of_database};
-ghost use Rattle.page_file.specs.Fault.{Refuses, IsUnlabelled, IsTooLong, IsNoLabelFault};
+ghost use Rattle.page_file.specs.Fault.{Refuses, IsUnlabelled, IsTooLong};
 ghost use Rattle.page_file.specs.Pages.{AgreesIn, image_of};
 
 use crate::faults::PageFault;
@@ -140,7 +140,7 @@ impl Pages {
         ensures stop { D.stop disk.new ≡ D.stop disk.old }
         ensures stopped { 0 < length buf.old → IsStopped (D.stop disk.old) → IsErrOf result PageFault.DiskFault }
         ensures tells { D.tells disk.new ≡ D.tells disk.old }
-        ensures fault { IfErr result IsNoLabelFault }
+        ensures fault { IfErr result (λ fault. fault ≡ PageFault.DiskFault) }
         ensures cause { HasCause (D.faults disk.old) (D.faults disk.new) (IsErrOf result PageFault.DiskFault) }
     {
         read_pages(disk, at, buf)
