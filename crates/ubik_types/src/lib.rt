@@ -10,12 +10,11 @@ mod memory;
 mod phases;
 mod quorums;
 mod versions;
+mod words;
 
 pub use hosts::{Cell, CellFault, Host};
 pub use images::{Bytes, Change, Changes, bytes_of, changes_new, changes_push};
-pub use limits::{
-    BIGTIME, MAX_IMAGE, MAX_MOMENT, MAXSERVERS, POLLTIME, RPCTIMEOUT, SKEW, SMALLTIME,
-};
+pub use limits::{BIGTIME, MAX_IMAGE, MAXSERVERS, POLLTIME, RPCTIMEOUT, SKEW, SMALLTIME};
 pub use memory::NoMemory;
 pub use phases::{Applied, Phase};
 pub use quorums::{
@@ -23,3 +22,4 @@ pub use quorums::{
     votes_suffice,
 };
 pub use versions::{MAX_COUNTER, Version, versions_compare_as_defined};
+pub use words::{WORD_LEN, first_word};

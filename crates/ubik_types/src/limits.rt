@@ -18,8 +18,5 @@ pub const SKEW: u32 = 7;
 /// The most servers that a cell has (Ubik's MAXSERVERS).
 pub const MAXSERVERS: usize = 20;
 
-/// The last moment, in whole seconds. The first is 1 (own).
-pub const MAX_MOMENT: u32 = 2_147_483_647;
-
 /// The longest image, in bytes (own).
 pub const MAX_IMAGE: usize = 16_777_216;
