@@ -1,5 +1,6 @@
 -- Why a database file was not taken.
 use Rattle.std.specs.Prelude.{◌≡◌, ◌<◌, ℕ, List, None, length}
+use Rattle.page_file.specs.declared.label.TheConstants.{MAX_DATABASE_LEN}
 use Rattle.page_file.specs.declared.faults.PageFault.{PageFault}
 use Rattle.page_file.specs.declared.faults.PageFault.TheVariants.{DiskFault, BadLabel, NoMemory}
 use Rattle.page_file.specs.Label.{version_of_database, IsHeadOf}
@@ -16,10 +17,4 @@ IsUnlabelled file = version_of_database file ≡ None
 
 -- the file is longer than a label and the longest image
 abbrev pub IsTooLong : List ℕ → Type 0
-IsTooLong file = 16777280 < length file
-
--- the fault is not one of the label
-abbrev pub IsNoLabelFault : PageFault → Type 0
-IsNoLabelFault DiskFault = Unit {0}
-IsNoLabelFault (BadLabel len head) = ⊥
-IsNoLabelFault NoMemory = Unit {0}
+IsTooLong file = MAX_DATABASE_LEN < length file

@@ -3,15 +3,18 @@ ghost use Rattle.std.specs.Prelude.{IfSome, IsSome, ◌≡◌, ◌≤◌, ◌+�
 ghost use Rattle.std.specs.Int.{w32, from_be_bytes};
 ghost use Rattle.page_file.specs.Label.{label, version_of_label, version_by};
 
-use ubik_types::{MAX_COUNTER, MAX_IMAGE, Version};
+use ubik_types::{MAX_COUNTER, MAX_IMAGE, Version, WORD_LEN, first_word};
 
 /// The length of the label, in bytes.
 pub const LABEL_LEN: usize = 64;
 
 /// The length of the longest database file, in bytes: a label and the longest image.
-pub const MAX_DATABASE_LEN: u64 = 16_777_280;
+pub const MAX_DATABASE_LEN: u64 = (LABEL_LEN + MAX_IMAGE) as u64;
 
-const _: () = prove!(MAX_DATABASE_LEN == (LABEL_LEN + MAX_IMAGE) as u64);
+/// The places of epoch and counter in a label.
+const EPOCH_AT: usize = 8;
+
+const COUNTER_AT: usize = 12;
 
 /// The label of a version.
 pub fn label_bytes(version: Version) -> [u8; 64]
@@ -27,25 +30,25 @@ pub fn label_bytes(version: Version) -> [u8; 64]
     ]
 }
 
-/// The word at a position, its highest byte first.
+/// The word at a position.
 fn word_at(bytes: &[u8], at: usize) -> u32
-    requires { at + 4 ≤ length bytes.now }
-    ensures { result ≡ from_be_bytes w32 (take 4 (drop at bytes.now)) }
+    requires { at + WORD_LEN ≤ length bytes.now }
+    ensures { result ≡ from_be_bytes w32 (take WORD_LEN (drop at bytes.now)) }
 {
-    match &bytes[at..at + 4] {
-        [a, b, c, d] => u32::from_be_bytes([*a, *b, *c, *d]),
-        _ => unreachable!(),
+    match first_word(&bytes[at..]) {
+        Some((word, _)) => word,
+        None => unreachable!(),
     }
 }
 
 /// The version whose label this is.
 pub fn read_label(bytes: &[u8; 64]) -> Option<Version>
     ensures label { result ≡ version_of_label bytes.now }
-    ensures fits { IfSome result (λ v. (v.epoch ≤ 2147483647) × (v.counter ≤ 2147483647)) }
+    ensures fits { IfSome result (λ v. (v.epoch ≤ MAX_COUNTER) × (v.counter ≤ MAX_COUNTER)) }
 {
     let version = Version {
-        epoch: word_at(bytes, 8),
-        counter: word_at(bytes, 12),
+        epoch: word_at(bytes, EPOCH_AT),
+        counter: word_at(bytes, COUNTER_AT),
     };
     if version.epoch > MAX_COUNTER {
         return None;
@@ -60,9 +63,9 @@ pub fn read_label(bytes: &[u8; 64]) -> Option<Version>
 /// head is no label.
 pub fn version_of_file(len: u64, head: &[u8; 64]) -> Option<Version>
     ensures version { result ≡ version_by len head.now }
-    ensures labelled { IsSome result → 64 ≤ len }
-    ensures fits { IsSome result → len ≤ 16777280 }
-    ensures numbers { IfSome result (λ v. (v.epoch ≤ 2147483647) × (v.counter ≤ 2147483647)) }
+    ensures labelled { IsSome result → LABEL_LEN ≤ len }
+    ensures fits { IsSome result → len ≤ MAX_DATABASE_LEN }
+    ensures numbers { IfSome result (λ v. (v.epoch ≤ MAX_COUNTER) × (v.counter ≤ MAX_COUNTER)) }
 {
     if len < LABEL_LEN as u64 {
         return None;

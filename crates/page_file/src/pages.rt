@@ -7,7 +7,7 @@ ghost use Rattle.disk_base.specs.Stops.{IsStopped, after_change};
 ghost use Rattle.disk_base.specs.Count.{HasCause};
 ghost use Rattle.disk_base.specs.Crash.{Torn, CutShort, InFile, OnlyIn, Follows, Narrows, Elapses, LeavesSame};
 ghost use Rattle.page_file.specs.Label.{label, version_of_database};
-ghost use Rattle.page_file.specs.Fault.{Refuses, IsUnlabelled, IsTooLong, IsNoLabelFault};
+ghost use Rattle.page_file.specs.Fault.{Refuses, IsUnlabelled, IsTooLong};
 ghost use Rattle.page_file.specs.Pages.{AgreesIn, image_of};
 
 use crate::faults::PageFault;
@@ -15,7 +15,7 @@ use crate::label::{LABEL_LEN, MAX_DATABASE_LEN, label_bytes, version_of_file};
 use crate::reads::{file_len, read_head, read_pages};
 use disk_base::{Disk, DiskEnd, FileNo, RoomEnd};
 use std::marker::Model;
-use ubik_types::{NoMemory, Version};
+use ubik_types::{MAX_IMAGE, NoMemory, Version};
 
 /// The version of a database that nothing was written to.
 const FIRST_VERSION: Version = Version {
@@ -48,7 +48,7 @@ impl Pages {
         ensures version { IfOk result (λ pages. IfSome (D.files disk.old) (λ fs. pages.version ≡ version_of_database fs.database)) }
         ensures labelled { IfOk result (λ pages. IsSome pages.version) }
         ensures numbers { IfOk result (λ pages. IfSome pages.version IsVersion) }
-        ensures len { IfOk result (λ pages. pages.len ≤ 16777216) }
+        ensures len { IfOk result (λ pages. pages.len ≤ MAX_IMAGE) }
         ensures agrees { IfOk result (λ pages. AgreesIn pages (D.files disk.new)) }
         ensures refused { IfErr result (λ fault. IfSome (D.files disk.old) (λ fs. Refuses IsUnlabelled fs.database fault)) }
         ensures files { ¬ IsErrOf result PageFault.DiskFault → D.files disk.new ≡ D.files disk.old }
@@ -83,7 +83,7 @@ impl Pages {
     pub fn over<D: Disk>(disk: &mut D) -> Result<Pages, PageFault>
         ensures version { IfOk result (λ pages. pages.version ≡ None) }
         ensures fits { OnOk result (IfSome (D.files disk.old) (λ fs. ¬ IsTooLong fs.database)) }
-        ensures len { IfOk result (λ pages. pages.len ≤ 16777216) }
+        ensures len { IfOk result (λ pages. pages.len ≤ MAX_IMAGE) }
         ensures agrees { IfOk result (λ pages. AgreesIn pages (D.files disk.new)) }
         ensures refused { IfErr result (λ fault. IfSome (D.files disk.old) (λ fs. Refuses IsTooLong fs.database fault)) }
         ensures files { ¬ IsErrOf result PageFault.DiskFault → D.files disk.new ≡ D.files disk.old }
@@ -140,7 +140,7 @@ impl Pages {
         ensures stop { D.stop disk.new ≡ D.stop disk.old }
         ensures stopped { 0 < length buf.old → IsStopped (D.stop disk.old) → IsErrOf result PageFault.DiskFault }
         ensures tells { D.tells disk.new ≡ D.tells disk.old }
-        ensures fault { IfErr result IsNoLabelFault }
+        ensures fault { IfErr result (λ fault. fault ≡ PageFault.DiskFault) }
         ensures cause { HasCause (D.faults disk.old) (D.faults disk.new) (IsErrOf result PageFault.DiskFault) }
     {
         read_pages(disk, at, buf)

@@ -1,5 +1,5 @@
 //! Reads the records of a log from the front of some bytes. No reader takes memory.
-ghost use Rattle.std.specs.Prelude.{◌≡◌, ◌≢◌, ℕ, ◌+◌, ◌^◌, ◌≤◌, ◌<◌, List, ◌++◌, length, IfSome, IfNone, IfOk};
+ghost use Rattle.std.specs.Prelude.{◌≡◌, ◌≢◌, ℕ, ◌+◌, ◌≤◌, List, ◌++◌, length, IfSome, IfNone, IfOk};
 ghost use Rattle.ubik_types.specs.declared.images.Change.{Change as ChangeSeen};
 ghost use Rattle.ubik_types.specs.declared.versions.Version.{Version as VersionSeen};
 ghost use Rattle.ubik_types.specs.Version.{IsVersion};
@@ -9,7 +9,7 @@ ghost use Rattle.ubik_log.specs.Records.{end_record};
 
 use crate::opcodes::{FILE, LOGDATA, LOGEND, LOGTRUNCATE};
 use std::alloc::Global;
-use ubik_types::{Change, MAX_COUNTER, MAX_IMAGE, NoMemory, Version, bytes_of};
+use ubik_types::{Change, MAX_COUNTER, MAX_IMAGE, NoMemory, Version, bytes_of, first_word};
 
 /// A change whose bytes lie in the log.
 #[derive(Clone, Copy)]
@@ -35,24 +35,12 @@ impl Edit<'_> {
     }
 }
 
-/// The first field, and the bytes behind it; none where fewer than four bytes stand there.
-fn number(bytes: &[u8]) -> Option<(u32, &[u8])>
-    ensures found { IfSome result (λ r. bytes.now ≡ field r.0 ++ r.1.now) }
-    ensures small { IfSome result (λ r. r.0 < 2 ^ 32) }
-    ensures none { IfNone result (length bytes.now < 4) }
-{
-    match bytes {
-        [a, b, c, d, rest @ ..] => Some((u32::from_be_bytes([*a, *b, *c, *d]), rest)),
-        _ => None,
-    }
-}
-
 /// The bytes behind a field that is this number; none where they do not begin with it.
 pub fn behind(bytes: &[u8], expected: u32) -> Option<&[u8]>
     ensures found { IfSome result (λ rest. bytes.now ≡ field expected ++ rest.now) }
     ensures none { IfNone result ((after : List ℕ) → bytes.now ≢ field expected ++ after) }
 {
-    let (found, rest) = number(bytes)?;
+    let (found, rest) = first_word(bytes)?;
     (found == expected).then_some(rest)
 }
 
@@ -63,8 +51,8 @@ fn lay_at(fields: &[u8]) -> Option<(Edit<'_>, &[u8])>
         → fields.now ≢ field 0 ++ (field at ++ (field (length bytes) ++ (bytes ++ after)))) }
 {
     let fields = behind(fields, FILE)?;
-    let (at, fields) = number(fields)?;
-    let (len, fields) = number(fields)?;
+    let (at, fields) = first_word(fields)?;
+    let (len, fields) = first_word(fields)?;
     let len = len as usize;
     let end = at as usize + len;
     if end > MAX_IMAGE {
@@ -80,7 +68,7 @@ fn keep_at(fields: &[u8]) -> Option<(Edit<'_>, &[u8])>
     ensures none { IfNone result ((len : ℕ) (after : List ℕ) → len ≤ MAX_IMAGE → fields.now ≢ field 0 ++ (field len ++ after)) }
 {
     let fields = behind(fields, FILE)?;
-    let (len, rest) = number(fields)?;
+    let (len, rest) = first_word(fields)?;
     if len as usize > MAX_IMAGE {
         return None;
     }
@@ -92,7 +80,7 @@ pub fn edit_at(bytes: &[u8]) -> Option<(Edit<'_>, &[u8])>
     ensures found { IfSome result (λ r. BeginsWithChange bytes.now (change_of r.0) r.1.now) }
     ensures none { IfNone result ((change : ChangeSeen) (after : List ℕ) → ¬ BeginsWithChange bytes.now change after) }
 {
-    let (opcode, fields) = number(bytes)?;
+    let (opcode, fields) = first_word(bytes)?;
     match opcode {
         LOGDATA => lay_at(fields),
         LOGTRUNCATE => keep_at(fields),
@@ -106,8 +94,8 @@ pub fn end_at(bytes: &[u8]) -> Option<Version>
     ensures none { IfNone result ((version : VersionSeen) → IsVersion version → bytes.now ≢ end_record version) }
 {
     let fields = behind(bytes, LOGEND)?;
-    let (epoch, fields) = number(fields)?;
-    let (counter, rest) = number(fields)?;
+    let (epoch, fields) = first_word(fields)?;
+    let (counter, rest) = first_word(fields)?;
     if epoch > MAX_COUNTER || counter > MAX_COUNTER || !rest.is_empty() {
         return None;
     }

@@ -10,6 +10,7 @@ mod memory;
 mod phases;
 mod quorums;
 mod versions;
+mod words;
 
 pub use hosts::{Cell, CellFault, Host};
 pub use images::{Bytes, Change, Changes, bytes_of, changes_new, changes_push};
@@ -23,3 +24,4 @@ pub use quorums::{
     votes_suffice,
 };
 pub use versions::{MAX_COUNTER, Version, versions_compare_as_defined};
+pub use words::{WORD_LEN, first_word};

@@ -9,6 +9,7 @@ ghost use Rattle.xdr_base.specs.Reading.{at_start, past, word_at, signed_at, tru
 use crate::faults::XdrFault;
 use crate::sizes::{WORD, opaque_len, padding};
 use std::marker::Model;
+use ubik_types::first_word;
 
 /// Reads items from left to right. It takes no memory: the opaques that it gives are slices of what it was
 /// made over. A get that is refused leaves it where it was. Contracts see the place of its next byte and the
@@ -168,9 +169,9 @@ impl<'a> XdrReader<'a> {
         ensures fits { IsOk result → WORD ≤ length self.now.rest }
         ensures found { IfOk result (λ n. self.now.rest ≡ word n ++ drop WORD self.now.rest) }
     {
-        match self.rest {
-            [a, b, c, d, ..] => Ok(u32::from_be_bytes([*a, *b, *c, *d])),
-            _ => Err(XdrFault::Short { at: self.place }),
+        match first_word(self.rest) {
+            Some((number, _)) => Ok(number),
+            None => Err(XdrFault::Short { at: self.place }),
         }
     }
 

@@ -8,4 +8,4 @@ returns-then-end-gt-MAX_IMAGE-clause-none c = λ position bytes after le e.
     let at = c.in_ok-at.at in
     let len = c.in_ok-len.len in
     let there = c.in_ok-fields.ensures.found ∙ ap (λ (x : List ℕ). field 0 ++ x) (c.in_ok-at.ensures.found ∙ ap (λ (x : List ℕ). field at ++ x) c.in_ok-len.ensures.found) in
-    put_is_far at len c.in_ok-len.fields.now position bytes after c.in_ok-at.ensures.small c.in_ok-len.ensures.small (omega arith) le (sym there ∙ e)
+    put_is_far at len c.in_ok-len.fields.now position bytes after c.in_ok-at.ensures.fits c.in_ok-len.ensures.fits (omega arith) le (sym there ∙ e)
