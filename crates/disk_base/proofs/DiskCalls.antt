@@ -99,6 +99,7 @@ Follows-cut old begun new f len result same ok err =
 
 -- another state of one file, of which something may be left, as before
 others : (moment : Moment) (f : FileNo) (state : FileState) → LeavesOthers f (MayLeave moment) (MayLeave (with_state moment f state))
+unfolding LeavesOthers
 others moment Database state =
     let old = MayBe-synced moment.database.synced moment.database.touches in
     let new = MayBe-synced state.synced state.touches in record {

@@ -23,6 +23,7 @@ pub Follows-idle : (step : List ℕ → List ℕ → Type 0) → ((bytes : List 
 Follows-idle step idle may_leave f = λ c left. (c, left, (same_file c f, idle (file_of c f)))
 
 pub LeavesOthers-idle : (may_leave : Files → Type 0) (f : FileNo) → LeavesOthers f may_leave may_leave
+unfolding LeavesOthers
 LeavesOthers-idle may_leave f = record {
   no_more = λ c left. (c, left, same_file c f);
   no_less = λ d left. (d, left, same_file d f);

@@ -60,6 +60,7 @@ any_joined Incoming a b c first second = second ∙ ap (λ (fs : Files). with_fi
 
 -- the same of what a crash may leave
 pub others_joined : (f : FileNo) (old mid new : Files → Type 0) → LeavesOthers f old mid → LeavesOthers f mid new → LeavesOthers f old new
+unfolding LeavesOthers
 others_joined f old mid new first second = record {
   no_more = λ c left.
       let b = second.no_more c left in
@@ -72,6 +73,7 @@ others_joined f old mid new first second = record {
 }
 
 pub others_same : (f : FileNo) (old new : Files → Type 0) → ((c : Files) → new c → old c) → ((c : Files) → old c → new c) → LeavesOthers f old new
+unfolding LeavesOthers
 others_same f old new no_more no_less = record {
   no_more = λ c left. (c, no_more c left, same_file c f);
   no_less = λ c left. (c, no_less c left, same_file c f);
@@ -168,6 +170,7 @@ module _ {D : Type 0} {g : Ghosts D} where
 
   -- one of them
   pub one_change : {f : FileNo} {old new : D} {F : Type 0} → OneChange g f old new F → (¬ F → SameOthers f (g.files old) (g.files new)) → ChangesAtMost g f 1 old new F
+  unfolding LeavesOthers
   one_change {f} {old} {new} change files = record {
     at_most = (omega (arith, change.steps), omega (arith, change.steps));
     advances = advances_one change.steps change.stop;
@@ -194,6 +197,7 @@ module _ {D : Type 0} {g : Ghosts D} where
 
   -- a call of two, of which the first did not fail
   pub changes_joined : {f : FileNo} {m n : ℕ} {old mid new : D} {F G : Type 0} → ChangesAtMost g f m old mid F → ¬ F → ChangesAtMost g f n mid new G → ChangesAtMost g f (m + n) old new G
+  unfolding LeavesOthers
   changes_joined {f} {m} {n} {old} {mid} {new} {F} {G} first went second = record {
     at_most = (omega (arith, first.at_most.0, second.at_most.0), omega (arith, first.at_most.1, second.at_most.1));
     advances = advances_joined first.advances second.advances;

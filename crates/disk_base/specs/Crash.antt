@@ -28,9 +28,13 @@ abbrev pub Narrows : (Files → Type 0) → (Files → Type 0) → Type 0
 Narrows before now = (c : Files) → now c → before c
 
 -- A call of one file: what a crash may leave of the other files is as before.
-pub record LeavesOthers (f : FileNo) (before now : Files → Type 0) : Type 0 where
+pub record OthersStay (f : FileNo) (before now : Files → Type 0) : Type 0 where
   pub no_more : (c : Files) → now c → (d : Files) × before d × (c ≡ with_file d f (file_of c f))
   pub no_less : (d : Files) → before d → (c : Files) × now c × (d ≡ with_file c f (file_of d f))
+
+-- the same, kept folded: a search would go back and forth between its two ways
+unfoldable pub LeavesOthers : FileNo → (Files → Type 0) → (Files → Type 0) → Type 0
+LeavesOthers f before now = OthersStay f before now
 
 -- a crash leaves these files and no others
 abbrev pub Only : Files → (Files → Type 0) → Type 0
