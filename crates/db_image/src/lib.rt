@@ -7,3 +7,6 @@ mod services;
 
 pub use blocks::{changes_between, law_changes_lead, too_large};
 pub use services::{CallReply, Layout, Service};
+
+#[cfg(test)]
+mod tests;
