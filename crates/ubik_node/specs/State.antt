@@ -1,15 +1,10 @@
 -- What the state of a node stands for: the abstract server, and its place in the cell.
-use Rattle.std.specs.Prelude.{◌≡◌, Option, Some, None, List, []}
+use Rattle.std.specs.Prelude.{◌≡◌, None, List, []}
 use Rattle.cell_model.specs.declared.events.Output.{Output}
 use Rattle.cell_model.specs.Node as model
 use Rattle.cell_model.specs.Step.{Member, Stepped, outputs_of}
-use Rattle.ubik_node.specs.declared.progress.ReadyBeacon.{ReadyBeacon}
 use Rattle.ubik_node.specs.declared.state.State.{State}
-use Rattle.ubik_node.specs.Progress.{phase_record}
-
-abbrev pub beacon_of : Option ReadyBeacon → Option model.ReadyBeacon
-beacon_of None = None
-beacon_of (Some b) = Some (record { server = b.server; version = b.version; at = b.at })
+use Rattle.ubik_node.specs.Progress.{phase_record, beacon_of}
 
 abbrev pub member_of : State → Member
 member_of s = record { hosts = s.cell; me = s.me }

@@ -10,8 +10,7 @@ ghost use Rattle.cell_model.specs.NodeRule.{received_packet, place_of};
 ghost use Rattle.cell_model.specs.Step.{cell_size, host_at, outputs_of, packet_to, sends_to_all, leased};
 ghost use Rattle.cell_model.specs.Voting.{own_beacon, beacon_turn, beacon_kept};
 ghost use Rattle.ubik_node.specs.Built.{IsOfVotes};
-ghost use Rattle.ubik_node.specs.Progress.{is_held};
-ghost use Rattle.ubik_node.specs.Serving.{IsServing};
+ghost use Rattle.ubik_node.specs.Progress.{IsServing, is_held, beacon_of};
 
 use crate::outputs::Outputs;
 use crate::progress::{Progress, ReadyBeacon};
@@ -43,7 +42,7 @@ pub struct State {
 }
 
 impl State {
-    ghost use Rattle.ubik_node.specs.State.{server_of, member_of, beacon_of, Shows};
+    ghost use Rattle.ubik_node.specs.State.{server_of, member_of, Shows};
 
     /// Lapse: where the lease is over no phase is held.
     pub fn lapse(&mut self, now: u32)
