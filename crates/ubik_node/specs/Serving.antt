@@ -35,7 +35,7 @@ Answers db m s now id call after out disk_before disk_after =
 -- the reply to a call that reads the own image
 abbrev pub Reads : Database → Server → ℕ → List ℕ → Reply → Type 0
 Reads db s now call r =
-    (id : ℕ) (basis : Basis) → (short : Bool) × Leads (read db s now id call s.image basis short) s (output.Reply id r ∷ []) 0
+    (short : Bool) × ((id : ℕ) (basis : Basis) → Leads (read db s now id call s.image basis short) s (output.Reply id r ∷ []) 0)
 
 -- a writing call at a server that is alone in its cell was made, or it found no memory
 abbrev pub Writes : Database → Host → Server → ℕ → ℕ → List ℕ → model.Node → List Output → ℕ → ℕ → Type 0

@@ -26,11 +26,14 @@ server_of s =
       waiting = [];
     }
 
--- a step that changes nothing durable: the state after it, and what it puts out
-pub record Shows (t : Stepped) (before after : State) (out : List Output) : Type 0 where
-  pub server : t.server ≡ server_of after
-  pub calls : t.calls ≡ []
-  pub outputs : out ≡ outputs_of t.shown
+-- the place in the cell and the database stay
+pub record Keeps (before after : State) : Type 0 where
   pub member : member_of after ≡ member_of before
   pub version : after.version ≡ before.version
   pub image : after.image ≡ before.image
+
+-- a step without a durable call: the server after it, and what it puts out
+pub record Shows (t : Stepped) (after : model.Server) (out : List Output) : Type 0 where
+  pub server : t.server ≡ after
+  pub calls : t.calls ≡ []
+  pub outputs : out ≡ outputs_of t.shown
