@@ -1,4 +1,6 @@
 pub mod Causes
+pub mod Kept
+pub mod KeptRuns
 pub mod Pages
 pub mod Sound
 pub mod StepKinds

@@ -1,11 +1,24 @@
 //! Laws of the world: each is the clause of a call that does nothing.
 ghost use Rattle.cell_model.specs.Causes.{RepliesHaveCauses};
-ghost use Rattle.cell_model.specs.Laws.{DatabaseIsDurable};
+ghost use Rattle.cell_model.specs.KeptLaws.{AcknowledgedStay};
+ghost use Rattle.cell_model.specs.Laws.{AnnouncementsGrow, DatabaseIsDurable};
 
-/// In each run of a cell the durable state of each server that is up, and not halted, is its version and its
+/// In each cell, whatever happens, the durable state of each server that is up, and not halted, is its version and its
 /// image: none serves a database that is not durable.
 pub fn law_database_is_durable()
     ensures { DatabaseIsDurable }
+{}
+
+/// In a cell of one server, whatever happens, the list of each announcement is a front of the list of each later one:
+/// announced transactions have one order, which only grows.
+pub fn law_announcements_grow()
+    ensures { AnnouncementsGrow }
+{}
+
+/// In a cell of one server, whatever happens, a transaction that was acknowledged stays in the order, where its commit put
+/// it: none is lost, and none moves.
+pub fn law_acknowledged_stay()
+    ensures { AcknowledgedStay }
 {}
 
 /// In each world of each cell a reply Malformed comes only to a call that is asked in that step, or waited before it, and that
