@@ -41,7 +41,7 @@ lost_silent (Recover_turn server) = tt
 lost_silent (Asking server id call) = tt
 
 -- what is known of a server that is up
-knows : (db : Database) (book : Book) (ann : List Announcement) (site : Site) (s : Server) (stands : Stands db book ann site) → StandsUp ann stands.list site.durable s → KnowsUp db book ann s stands.list
+pub knows : (db : Database) (book : Book) (ann : List Announcement) (site : Site) (s : Server) (stands : Stands db book ann site) → StandsUp ann stands.list site.durable s → KnowsUp db book ann s stands.list
 knows db book ann site s stands up =
     let P : Durable → Type 0 = λ d. IsListed db book d stands.list in
     record { is = subst P up.durable_is stands.is; begins = stands.begins; grows = stands.grows; ready = up.ready }

@@ -1,6 +1,6 @@
 //! Laws of the world: each is the clause of a call that does nothing.
 ghost use Rattle.cell_model.specs.Causes.{RepliesHaveCauses};
-ghost use Rattle.cell_model.specs.KeptLaws.{AcknowledgedStay};
+ghost use Rattle.cell_model.specs.KeptLaws.{AcknowledgedStay, SitesAreSingle};
 ghost use Rattle.cell_model.specs.Laws.{AnnouncementsGrow, DatabaseIsDurable};
 
 /// In each cell, whatever happens, the durable state of each server that is up, and not halted, is its version and its
@@ -19,6 +19,12 @@ pub fn law_announcements_grow()
 /// it: none is lost, and none moves.
 pub fn law_acknowledged_stay()
     ensures { AcknowledgedStay }
+{}
+
+/// In a cell of one server, whatever happens, the database of each ready sync site is the image that the single copy has
+/// after the order: the committed transactions, and nothing else.
+pub fn law_sites_are_single()
+    ensures { SitesAreSingle }
 {}
 
 /// In each world of each cell a reply Malformed comes only to a call that is asked in that step, or waited before it, and that
