@@ -3,6 +3,7 @@ use Rattle.std.proofs.Common.{Bool, true, false, true≢false, ◌≡◌, inl, i
 use Rattle.std.proofs.lemmas.List.{append-nil}
 use Rattle.std.proofs.lemmas.List.Elements.{All-nil, All-append, All-weaker, All-contains, Contains-get_or, Contains-append_right}
 use Rattle.std.specs.Prelude.{slice_get, All, Contains}
+use Rattle.std.specs.Prelude.{Some}
 use Rattle.ubik_types.specs.declared.hosts.Host.{Host}
 use Rattle.ubik_calls.specs.declared.packets.Packet.{Packet}
 use Rattle.db_image.specs.Database.{Database}
@@ -14,8 +15,8 @@ use Rattle.cell_model.specs.KeptLaws.{IsPlaced, AcknowledgedStay}
 use Rattle.cell_model.specs.Laws.{Begins, run_of_one, AnnouncementsGrow}
 use Rattle.cell_model.specs.Node.{Node, Down, Halted, Up, Server}
 use Rattle.cell_model.specs.NodeRule.{step_of, refusals}
-use Rattle.cell_model.specs.Step.{Stepped}
-use Rattle.cell_model.specs.World.{Site, World, Trigger, Delivery, Beacon_turn, Recover_turn, Asking, Event, Tick, Tick_all, Step, Stop, Fault, Crash, Restart, Happened, SiteHappened, packets_of, seen_from, lost_at, halted_step, step_at, step_up, stop_at, fault_at, crash_at, restart_at, only_marks, happened_at, ticked, happens, first_world}
+use Rattle.cell_model.specs.Step.{Member, Stepped}
+use Rattle.cell_model.specs.World.{nothing, triggered, occasion, Site, World, Trigger, Delivery, Beacon_turn, Recover_turn, Asking, Event, Tick, Tick_all, Step, Stop, Fault, Crash, Restart, Happened, SiteHappened, packets_of, seen_from, lost_at, halted_step, step_at, step_up, stop_at, fault_at, crash_at, restart_at, only_marks, happened_at, ticked, happens, first_world}
 use Rattle.cell_model.proofs.Kept.{Stands, StandsUp, StandsNode, KnowsUp, Leaves, AllSilent, silent_leaves, silent_append, all_begin_more, slice_get-front, site_up, rests_leaves, relabels_leaves, commits_leaves}
 use Rattle.cell_model.proofs.Pages.{IsListed, book_after, broken_goes}
 use Rattle.cell_model.proofs.StepKinds.{one_of, IsAlone, IsOwn, IsStep, step_is}
@@ -125,6 +126,18 @@ one_restart db book ann site false stands = silent_leaves db book ann (restart_a
 abbrev pub world_of : Host → Site → World
 world_of host site = record { hosts = host ∷ []; sites = site ∷ []; packets = [] }
 
+-- What holds where nothing happens, and where a step is brought about at the one server, holds whatever the trigger: no packet
+-- was sent, so none comes.
+pub by_trigger : (host : Host) (site : Site) (P : Happened → Type 0) (f : Member → NodeEvent → Site → SiteHappened) (trigger : Trigger) → P (nothing (world_of host site)) → ((e : NodeEvent) → IsOwn e → occasion (world_of host site) trigger ≡ Some (0, e) → P (happened_at (world_of host site) 0 (f (one_of host) e site))) → P (triggered (world_of host site) f (occasion (world_of host site) trigger))
+by_trigger host site P f (Delivery zero) none at = none
+by_trigger host site P f (Delivery (suc number)) none at = none
+by_trigger host site P f (Beacon_turn zero) none at = at event.BeaconTurn tt refl
+by_trigger host site P f (Beacon_turn (suc k)) none at = none
+by_trigger host site P f (Recover_turn zero) none at = at event.RecoverTurn tt refl
+by_trigger host site P f (Recover_turn (suc k)) none at = none
+by_trigger host site P f (Asking zero id call) none at = at (event.Ask id call) tt refl
+by_trigger host site P f (Asking (suc k) id call) none at = none
+
 -- what an event leaves of the world
 pub record LeavesWorld (db : Database) (host : Host) (book : Book) (ann : List Announcement) (h : Happened) : Type 0 where
   pub site : Site
@@ -170,44 +183,19 @@ module _ (db : Database) (host : Host) (book : Book) (ann : List Announcement) (
   nothing_is : LeavesWorld db host book ann (record { world = w; seen = []; entries = [] })
   nothing_is = still db host book ann site w refl stands
 
-  -- no packet was sent
-  stepped : (trigger : Trigger) (short : List Bool) → LeavesWorld db host book ann (happens db w (Step trigger short))
-  stepped (Delivery zero) short = nothing_is
-  stepped (Delivery (suc number)) short = nothing_is
-  stepped (Beacon_turn zero) short = at_site db host book ann site _ (one_step db host book ann site (Beacon_turn 0) event.BeaconTurn short site.node tt refl stands)
-  stepped (Beacon_turn (suc k)) short = nothing_is
-  stepped (Recover_turn zero) short = at_site db host book ann site _ (one_step db host book ann site (Recover_turn 0) event.RecoverTurn short site.node tt refl stands)
-  stepped (Recover_turn (suc k)) short = nothing_is
-  stepped (Asking zero id call) short = at_site db host book ann site _ (one_step db host book ann site (Asking 0 id call) (event.Ask id call) short site.node tt refl stands)
-  stepped (Asking (suc k) id call) short = nothing_is
-
-  stopped : (trigger : Trigger) (short : List Bool) (made : ℕ) → LeavesWorld db host book ann (happens db w (Stop trigger short made))
-  stopped (Delivery zero) short made = nothing_is
-  stopped (Delivery (suc number)) short made = nothing_is
-  stopped (Beacon_turn zero) short made = at_site db host book ann site _ (one_stop db host book ann site event.BeaconTurn short made site.node tt refl stands)
-  stopped (Beacon_turn (suc k)) short made = nothing_is
-  stopped (Recover_turn zero) short made = at_site db host book ann site _ (one_stop db host book ann site event.RecoverTurn short made site.node tt refl stands)
-  stopped (Recover_turn (suc k)) short made = nothing_is
-  stopped (Asking zero id call) short made = at_site db host book ann site _ (one_stop db host book ann site (event.Ask id call) short made site.node tt refl stands)
-  stopped (Asking (suc k) id call) short made = nothing_is
-
-  faulted : (trigger : Trigger) (short : List Bool) (made : ℕ) → LeavesWorld db host book ann (happens db w (Fault trigger short made))
-  faulted (Delivery zero) short made = nothing_is
-  faulted (Delivery (suc number)) short made = nothing_is
-  faulted (Beacon_turn zero) short made = at_site db host book ann site _ (one_fault db host book ann site event.BeaconTurn short made site.node tt refl stands)
-  faulted (Beacon_turn (suc k)) short made = nothing_is
-  faulted (Recover_turn zero) short made = at_site db host book ann site _ (one_fault db host book ann site event.RecoverTurn short made site.node tt refl stands)
-  faulted (Recover_turn (suc k)) short made = nothing_is
-  faulted (Asking zero id call) short made = at_site db host book ann site _ (one_fault db host book ann site (event.Ask id call) short made site.node tt refl stands)
-  faulted (Asking (suc k) id call) short made = nothing_is
-
   happened : (e : Event) → LeavesWorld db host book ann (happens db w e)
   happened (Tick zero seconds) = still db host book ann (ticked seconds site) _ refl (ticked_stands db book ann site seconds stands)
   happened (Tick (suc k) seconds) = nothing_is
   happened (Tick_all seconds) = still db host book ann (ticked seconds site) _ refl (ticked_stands db book ann site seconds stands)
-  happened (Step trigger short) = stepped trigger short
-  happened (Stop trigger short made) = stopped trigger short made
-  happened (Fault trigger short made) = faulted trigger short made
+  happened (Step trigger short) =
+      by_trigger host site (LeavesWorld db host book ann) (λ m e site. step_at db m trigger e short site site.node) trigger nothing_is
+      (λ e own _. at_site db host book ann site _ (one_step db host book ann site trigger e short site.node own refl stands))
+  happened (Stop trigger short made) =
+      by_trigger host site (LeavesWorld db host book ann) (λ m e site. stop_at db m e short made site site.node) trigger nothing_is
+      (λ e own _. at_site db host book ann site _ (one_stop db host book ann site e short made site.node own refl stands))
+  happened (Fault trigger short made) =
+      by_trigger host site (LeavesWorld db host book ann) (λ m e site. fault_at db m e short made site site.node) trigger nothing_is
+      (λ e own _. at_site db host book ann site _ (one_fault db host book ann site e short made site.node own refl stands))
   happened (Crash zero) = at_site db host book ann site (crash_at site) (one_crash db book ann site stands)
   happened (Crash (suc k)) = nothing_is
   happened (Restart zero failed) = at_site db host book ann site (restart_at 1 0 failed site) (one_restart db book ann site failed stands)

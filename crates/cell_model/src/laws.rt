@@ -1,6 +1,6 @@
 //! Laws of the world: each is the clause of a call that does nothing.
 ghost use Rattle.cell_model.specs.Causes.{RepliesHaveCauses};
-ghost use Rattle.cell_model.specs.KeptLaws.{AcknowledgedStay, SitesAreSingle};
+ghost use Rattle.cell_model.specs.KeptLaws.{AcknowledgedStay, RepliesAreSingle, SitesAreSingle};
 ghost use Rattle.cell_model.specs.Laws.{AnnouncementsGrow, DatabaseIsDurable};
 
 /// In each cell, whatever happens, the durable state of each server that is up, and not halted, is its version and its
@@ -25,6 +25,13 @@ pub fn law_acknowledged_stay()
 /// after the order: the committed transactions, and nothing else.
 pub fn law_sites_are_single()
     ensures { SitesAreSingle }
+{}
+
+/// In a cell of one server, whatever happens, each reply Ok, Rule or BadRecord is to a call that is asked in that event, and
+/// is what the single copy replies to it after the order before the event, at the clock of the server. The evaluation
+/// behind an Ok or a Rule names the version whose list that order is, and the transaction of a commit is its next one.
+pub fn law_replies_are_single()
+    ensures { RepliesAreSingle }
 {}
 
 /// In each world of each cell a reply Malformed comes only to a call that is asked in that step, or waited before it, and that
