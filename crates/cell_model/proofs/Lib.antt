@@ -3,6 +3,7 @@ pub mod Causes
 pub mod Kept
 pub mod KeptRuns
 pub mod Pages
+pub mod Recorded
 pub mod SingleReplies
 pub mod Sound
 pub mod StepKinds

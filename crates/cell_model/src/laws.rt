@@ -1,6 +1,6 @@
 //! Laws of the world: each is the clause of a call that does nothing.
 ghost use Rattle.cell_model.specs.Causes.{RepliesHaveCauses};
-ghost use Rattle.cell_model.specs.KeptLaws.{AcknowledgedStay, RepliesAreSingle, SitesAreSingle};
+ghost use Rattle.cell_model.specs.KeptLaws.{AcknowledgedStay, OksAreAcknowledged, RepliesAreSingle, SitesAreSingle};
 ghost use Rattle.cell_model.specs.Laws.{AnnouncementsGrow, DatabaseIsDurable};
 
 /// In each cell, whatever happens, the durable state of each server that is up, and not halted, is its version and its
@@ -19,6 +19,12 @@ pub fn law_announcements_grow()
 /// it: none is lost, and none moves.
 pub fn law_acknowledged_stay()
     ensures { AcknowledgedStay }
+{}
+
+/// In a cell of one server, after each run, each Ok to a call that writes stands for a transaction that is acknowledged in that
+/// event, or for one that makes no change to the single copy. So `law_acknowledged_stay` leaves out no write.
+pub fn law_ok_is_acknowledged()
+    ensures { OksAreAcknowledged }
 {}
 
 /// In a cell of one server, whatever happens, the database of each ready sync site is the image that the single copy has
