@@ -55,17 +55,17 @@ impl FileDisk {
     /// Opens the files `database`, `log` and `incoming` of a folder, and makes those that are not there. Their
     /// names are then synced, with the folder.
     pub fn open<R: Files<File = File>>(
-        alloc: Global,
         rt: &R,
+        alloc: Global,
         folder: &str,
     ) -> Result<FileDisk, OpenFault>
         ensures steps { IfOk result (λ disk. file_steps disk ≡ 0) }
         ensures faults { IfOk result (λ disk. file_faults disk ≡ 0) }
     {
         let disk = FileDisk {
-            database: open_file(alloc, rt, folder, "database")?,
-            log: open_file(alloc, rt, folder, "log")?,
-            incoming: open_file(alloc, rt, folder, "incoming")?,
+            database: open_file(rt, alloc, folder, "database")?,
+            log: open_file(rt, alloc, folder, "log")?,
+            incoming: open_file(rt, alloc, folder, "incoming")?,
             steps: Tally::new(),
             faults: Tally::new(),
         };
@@ -108,8 +108,8 @@ impl FileDisk {
 
 /// Opens a file of a folder to be read and written, and makes it where it is not there.
 fn open_file<R: Files<File = File>>(
-    alloc: Global,
     rt: &R,
+    alloc: Global,
     folder: &str,
     name: &str,
 ) -> io::Result<File> {

@@ -349,15 +349,15 @@ fn a_folder_keeps_what_was_written(rt: HostRuntime) -> Result<(), Fail> {
     let folder = folder.into_string();
     let _ = fs::remove_dir_all(&rt, folder.as_str());
     fs::create_dir(&rt, folder.as_str())?;
-    let mut disk = FileDisk::open(rt.alloc(), &rt, folder.as_str())?;
+    let mut disk = FileDisk::open(&rt, rt.alloc(), folder.as_str())?;
     crosses(&disk);
     expect_kept(&rt, rt.alloc(), &mut disk)?;
-    let mut again = FileDisk::open(rt.alloc(), &rt, folder.as_str())?;
+    let mut again = FileDisk::open(&rt, rt.alloc(), folder.as_str())?;
     expect_file(&rt, rt.alloc(), &mut again, FileNo::Log, b"abcXY")?;
     expect_file(&rt, rt.alloc(), &mut again, FileNo::Database, b"12")?;
     let mut buf = [0; 3];
     assert_eq!(rt; again.read(FileNo::Database, 1, &mut buf), DiskEnd::Failed);
     fs::remove_dir_all(&rt, folder.as_str())?;
-    assert!(rt; FileDisk::open(rt.alloc(), &rt, folder.as_str()).is_err());
+    assert!(rt; FileDisk::open(&rt, rt.alloc(), folder.as_str()).is_err());
     Ok(())
 }
