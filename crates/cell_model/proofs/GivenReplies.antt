@@ -79,13 +79,7 @@ module _ (db : Database) (book : Book) (ann : List Announcement) (s : Server) (n
     reply_gives id (reply.Ok fields) evaluation seen told rest = given_gives id (reply.Ok fields) (call_reply.Done fields) evaluation seen told.given (λ given is. is) rest
     reply_gives id (reply.Rule number) evaluation seen told rest = given_gives id (reply.Rule number) (call_reply.Rule number) evaluation seen told (λ given is. is) rest
     reply_gives id (reply.BadRecord at) evaluation seen told rest = ungiven id (reply.BadRecord at) evaluation seen told.1 rest
-    reply_gives id (reply.NoQuorum at until phase applied) evaluation seen told rest = ungiven id (reply.NoQuorum at until phase applied) evaluation seen told rest
-    reply_gives id (reply.NotSync host heard) evaluation seen told rest = ungiven id (reply.NotSync host heard) evaluation seen told rest
-    reply_gives id (reply.LineFull holder) evaluation seen told rest = ungiven id (reply.LineFull holder) evaluation seen told rest
-    reply_gives id (reply.TooLarge bytes) evaluation seen told rest = ungiven id (reply.TooLarge bytes) evaluation seen told rest
-    reply_gives id reply.Malformed evaluation seen told rest = ungiven id reply.Malformed evaluation seen told rest
-    reply_gives id reply.DiskFault evaluation seen told rest = ungiven id reply.DiskFault evaluation seen told rest
-    reply_gives id reply.NoMemory evaluation seen told rest = ungiven id reply.NoMemory evaluation seen told rest
+    reply_gives id other evaluation seen told rest = ungiven id other evaluation seen told rest
 
     output_gives : (number : ℕ) (o : Output) (evaluation : Option Evaluation) (seen : List Happening) → IsToldOutput db s now e o evaluation → Gives (IsGivenSingle db order) after seen ann → Gives (IsGivenSingle db order) after (seen_of_output 0 number o evaluation ∷ seen) ann
     output_gives number (output.Send packet) evaluation seen told rest = rest

@@ -111,13 +111,7 @@ module _ (db : Database) (single : Option Answered) (book : Book) (ann : List An
       (answer_single id (call_reply.Rule number) told.answered, given_single after id (reply.Rule number) (call_reply.Rule number) evaluation told (λ given is. is))
   reply_tells after id (reply.BadRecord at) evaluation told =
       (answer_single id (call_reply.BadRecord at) told.0, ungiven after (reply.BadRecord at) evaluation told.1 tt)
-  reply_tells after id (reply.NoQuorum at until phase applied) evaluation told = (tt, ungiven after (reply.NoQuorum at until phase applied) evaluation told tt)
-  reply_tells after id (reply.NotSync host heard) evaluation told = (tt, ungiven after (reply.NotSync host heard) evaluation told tt)
-  reply_tells after id (reply.LineFull holder) evaluation told = (tt, ungiven after (reply.LineFull holder) evaluation told tt)
-  reply_tells after id (reply.TooLarge bytes) evaluation told = (tt, ungiven after (reply.TooLarge bytes) evaluation told tt)
-  reply_tells after id reply.Malformed evaluation told = (tt, ungiven after reply.Malformed evaluation told tt)
-  reply_tells after id reply.DiskFault evaluation told = (tt, ungiven after reply.DiskFault evaluation told tt)
-  reply_tells after id reply.NoMemory evaluation told = (tt, ungiven after reply.NoMemory evaluation told tt)
+  reply_tells after id other evaluation told = (tt, ungiven after other evaluation told tt)
 
   output_tells : (after : List Transaction) (number : ℕ) (o : Output) (evaluation : Option Evaluation) → IsToldOutput db s now e o evaluation → Tells db single (order_of ann) after book (seen_of_output 0 number o evaluation)
   output_tells after number (output.Send packet) evaluation told = tt

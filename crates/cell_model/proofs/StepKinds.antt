@@ -119,6 +119,17 @@ pub record Relabels (s : Server) (t : Stepped) : Type 0 where
   pub alone : IsAlone t.server
   pub shown : t.shown ≡ announcing new ∷ []
 
+-- so of a server that had the same image before
+relabels_before : (s after : Server) (t : Stepped) → after.image ≡ s.image → Relabels after t → Relabels s t
+relabels_before s after t same relabels = record {
+  new = relabels.new;
+  calls = relabels.calls;
+  version = relabels.version;
+  image_is = relabels.image_is ∙ same;
+  alone = relabels.alone;
+  shown = relabels.shown;
+}
+
 -- the transaction of a call at a moment
 abbrev pub made_at : ℕ → List ℕ → Transaction
 made_at now call = record { moment = now; call = call }
@@ -227,14 +238,7 @@ begun_is host s now alone = from (polled_is host (polling (one_of host) s now) n
       ready = λ is. absurd (true≢false (sym (stays.ready is)));
       shown = stays.shown;
     })
-    from (inr relabels) = inr (record {
-      new = relabels.new;
-      calls = relabels.calls;
-      version = relabels.version;
-      image_is = relabels.image_is;
-      alone = relabels.alone;
-      shown = relabels.shown;
-    })
+    from (inr relabels) = inr (relabels_before s (polling (one_of host) s now) (poll_begun (one_of host) s now) refl relabels)
 
 recovered_is : (host : Host) (s : Server) (now : ℕ) (phase : PhaseRecord) → IsAlone s → IsAlonePhase s.version phase → s.phase ≡ phase → IsTurn s (recovered (one_of host) s now phase)
 recovered_is host s now NoPhase alone is at =
@@ -451,14 +455,7 @@ module _ (db : Database) (s : Server) (now : ℕ) (e : NodeEvent) where
     ready = λ is. absurd (true≢false (sym (rests.ready is)));
     told = all_dropped t.shown rests.told;
   })
-  step_dropped t (inr (inl relabels)) = inr (inl (record {
-    new = relabels.new;
-    calls = relabels.calls;
-    version = relabels.version;
-    image_is = relabels.image_is;
-    alone = relabels.alone;
-    shown = relabels.shown;
-  }))
+  step_dropped t (inr (inl relabels)) = inr (inl (relabels_before s (dropped s) t refl relabels))
   step_dropped t (inr (inr commits)) = no_answer commits.id (call_reply.Done commits.answer) commits.answered
 
 -- a step of a server that is alone, whatever the event
