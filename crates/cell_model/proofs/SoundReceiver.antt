@@ -15,7 +15,7 @@ use Rattle.db_image.specs.Database.{Database}
 use Rattle.cell_model.specs.Lapse.{no_quorum, flight_refused, waiting_refused, writes_refused, phase_dropped, write_given_up, write_lapsed, lapsed}
 use Rattle.cell_model.specs.Node.{Server, ReceivedText, Flight, Waiting}
 use Rattle.cell_model.specs.Pieces.{piece_from}
-use Rattle.cell_model.specs.Receiver.{keeps_version, tells_version, relabelled_by, version_set, text_went_on, piece_taken, write_kept, write_piece_kept, committed_by, write_taken, write_committed, write_dropped, whole_write, piece_asked, is_sending}
+use Rattle.cell_model.specs.Receiver.{answers_version_kept, answers_version_is, relabelled_by, set_version_received, text_went_on, send_piece_received, begin_received, put_piece_received, committed_by, write_taken, commit_received, abort_received, whole_write, get_piece_received, is_sending}
 use Rattle.cell_model.specs.Recovery.{installed, is_whole, text_with}
 use Rattle.cell_model.specs.Step.{Member, quiet, sends_to, leased, is_fetch}
 use Rattle.cell_model.specs.Voting.{beacon_turn, beacon_received, vote_received}
@@ -74,61 +74,61 @@ module _ (db : Database) (at : ℕ) (Stands : ℕ → List ℕ → Type 0) where
   pub quiet_is : (short : List Bool) (s : Server) → IsSound db at Stands short (state_of s) (quiet s)
   quiet_is short s = shows db at Stands short s [] tt
 
-  keeps_is : (m : Member) (host : Host) (s : Server) (short : List Bool) → IsSound db at Stands short (state_of s) (keeps_version m host s)
+  keeps_is : (m : Member) (host : Host) (s : Server) (short : List Bool) → IsSound db at Stands short (state_of s) (answers_version_kept m host s)
   keeps_is m host s short = record { leads = refl; caused = (tt, tt) }
 
-  pub tells_is : (m : Member) (host : Host) (poll : ℕ) (s : Server) (short : List Bool) → IsSound db at Stands short (state_of s) (tells_version m host poll s)
+  pub tells_is : (m : Member) (host : Host) (poll : ℕ) (s : Server) (short : List Bool) → IsSound db at Stands short (state_of s) (answers_version_is m host poll s)
   tells_is m host poll s short = record { leads = refl; caused = (tt, tt) }
 
   pub installed_is : (s : Server) (version : Version) (image : List ℕ) (short : List Bool) → IsSound db at Stands short (state_of s) (installed s version image)
   installed_is s version image short = record { leads = refl; caused = tt }
 
-  pub version_set_is : (m : Member) (s : Server) (host : Host) (poll : ℕ) (old new : Version) (short : List Bool) → IsSound db at Stands short (state_of s) (version_set m s host poll old new)
+  pub version_set_is : (m : Member) (s : Server) (host : Host) (poll : ℕ) (old new : Version) (short : List Bool) → IsSound db at Stands short (state_of s) (set_version_received m s host poll old new)
   version_set_is m s host poll old new short =
       either db at Stands (is_sending s.phase) (quiet_is short s)
       (either db at Stands (version_eq s.version new) (keeps_is m host s short)
       (either db at Stands (version_eq s.version old && version_lt old new)
-      (follows db at Stands (relabelled_by s new) (keeps_version m host) (record { leads = refl; caused = tt }) (keeps_is m host _ _))
+      (follows db at Stands (relabelled_by s new) (answers_version_kept m host) (record { leads = refl; caused = tt }) (keeps_is m host _ _))
       (tells_is m host poll s short)))
 
   text_is : (m : Member) (s : Server) (host : Host) (poll : ℕ) (text : Option ReceivedText) (short : List Bool) → IsSound db at Stands short (state_of s) (text_went_on m s host poll text)
   text_is m s host poll None short = quiet_is short s
   text_is m s host poll (Some text) short =
       either db at Stands (is_whole text)
-      (follows db at Stands (installed s text.version text.bytes) (keeps_version m host) (installed_is s text.version text.bytes short) (keeps_is m host _ _))
+      (follows db at Stands (installed s text.version text.bytes) (answers_version_kept m host) (installed_is s text.version text.bytes short) (keeps_is m host _ _))
       (record { leads = refl; caused = (tt, tt) })
 
-  pub piece_taken_is : (m : Member) (s : Server) (host : Host) (k poll : ℕ) (version : Version) (total place : ℕ) (bytes : List ℕ) (short : List Bool) → IsSound db at Stands short (state_of s) (piece_taken m s host k poll version total place bytes)
+  pub piece_taken_is : (m : Member) (s : Server) (host : Host) (k poll : ℕ) (version : Version) (total place : ℕ) (bytes : List ℕ) (short : List Bool) → IsSound db at Stands short (state_of s) (send_piece_received m s host k poll version total place bytes)
   piece_taken_is m s host k poll version total place bytes short =
       either db at Stands (is_sending s.phase || is_fetch s.phase) (quiet_is short s)
       (either db at Stands (version_eq s.version version) (keeps_is m host s short)
       (either db at Stands (version_lt version s.version) (tells_is m host poll s short)
       (text_is m s host poll (text_with true k version total place bytes s.received) short)))
 
-  pub write_kept_is : (s : Server) (old new : Version) (pieces len : ℕ) (short : List Bool) → IsSound db at Stands short (state_of s) (write_kept s old new pieces len)
+  pub write_kept_is : (s : Server) (old new : Version) (pieces len : ℕ) (short : List Bool) → IsSound db at Stands short (state_of s) (begin_received s old new pieces len)
   write_kept_is s old new pieces len short =
       either db at Stands (is_sending s.phase) (quiet_is short s)
       (either db at Stands (version_eq s.version old && version_lt old new && nat_le pieces MAX_PIECES) (record { leads = refl; caused = tt }) (quiet_is short s))
 
-  pub write_piece_is : (s : Server) (new : Version) (number : ℕ) (bytes : List ℕ) (short : List Bool) → IsSound db at Stands short (state_of s) (write_piece_kept s new number bytes)
+  pub write_piece_is : (s : Server) (new : Version) (number : ℕ) (bytes : List ℕ) (short : List Bool) → IsSound db at Stands short (state_of s) (put_piece_received s new number bytes)
   write_piece_is s new number bytes short = either db at Stands (is_sending s.phase) (quiet_is short s) (record { leads = refl; caused = tt })
 
   taken_is : (m : Member) (s : Server) (host : Host) (new : Version) (changes : Option (List Change)) (short : List Bool) → IsSound db at Stands short (state_of s) (write_taken m s host new changes)
   taken_is m s host new None short = quiet_is short s
   taken_is m s host new (Some changes) short =
       either db at Stands (is_none (too_large 0 (length s.image) changes))
-      (follows db at Stands (committed_by s new changes) (keeps_version m host) (record { leads = refl; caused = tt }) (keeps_is m host _ _))
+      (follows db at Stands (committed_by s new changes) (answers_version_kept m host) (record { leads = refl; caused = tt }) (keeps_is m host _ _))
       (quiet_is short s)
 
-  pub write_committed_is : (m : Member) (s : Server) (host : Host) (old new : Version) (short : List Bool) → IsSound db at Stands short (state_of s) (write_committed m s host old new)
+  pub write_committed_is : (m : Member) (s : Server) (host : Host) (old new : Version) (short : List Bool) → IsSound db at Stands short (state_of s) (commit_received m s host old new)
   write_committed_is m s host old new short =
       either db at Stands (is_sending s.phase) (quiet_is short s)
       (either db at Stands (version_eq s.version new) (keeps_is m host s short)
       (either db at Stands (version_eq s.version old) (taken_is m s host new (whole_write new s.kept) short) (quiet_is short s)))
 
-  pub write_dropped_is : (s : Server) (new : Version) (short : List Bool) → IsSound db at Stands short (state_of s) (write_dropped s new)
+  pub write_dropped_is : (s : Server) (new : Version) (short : List Bool) → IsSound db at Stands short (state_of s) (abort_received s new)
   write_dropped_is s new short = either db at Stands (is_sending s.phase) (quiet_is short s) (record { leads = refl; caused = tt })
 
-  pub piece_asked_is : (m : Member) (s : Server) (host : Host) (poll : ℕ) (version : Version) (place : ℕ) (short : List Bool) → IsSound db at Stands short (state_of s) (piece_asked m s host poll version place)
+  pub piece_asked_is : (m : Member) (s : Server) (host : Host) (poll : ℕ) (version : Version) (place : ℕ) (short : List Bool) → IsSound db at Stands short (state_of s) (get_piece_received m s host poll version place)
   piece_asked_is m s host poll version place short = either db at Stands (version_eq s.version version && (place == 0 || nat_lt place (length s.image)))
       (shows db at Stands short s (sends_to m host (body.Piece poll version (length s.image) place (piece_from s.image place))) (tt, tt)) (tells_is m host poll s short)

@@ -9,8 +9,8 @@ use Rattle.ubik_types.specs.Quorum.{is_majority}
 use Rattle.ubik_types.specs.Phase.{Polled, Spread, PhaseRecord, NoPhase, Poll, Fetch, Relabel, Send, Ready}
 use Rattle.db_image.specs.Database.{Database}
 use Rattle.cell_model.specs.Node.{Server, ReceivedText, Flight}
-use Rattle.cell_model.specs.Polls.{begun_poll, polling, with_answer, best_answer}
-use Rattle.cell_model.specs.Recovery.{asks_versions, has_answered, epoch_of, relabelled_to, relabelled, polled, poll_asked, poll_begun, bytes_received, next_asked, spread_again, recovered, recovery_turn, holder_added, held_by, lacking_sent, told_to_spread, version_told, version_kept, next_sent, piece_kept, sent_piece, text_with, is_whole, fetch_installed, fetch_went_on, piece_received}
+use Rattle.cell_model.specs.Polls.{new_poll, polling, with_answer, best_answer}
+use Rattle.cell_model.specs.Recovery.{asks_versions, has_answered, first_of_epoch, relabelled_to, relabelled, polled, poll_asked, poll_begun, bytes_received, next_asked, spread_again, recovered, recovery_turn, holder_added, held_by, lacking_sent, told_to_spread, version_is_received, version_kept_received, next_sent, piece_kept_received, sent_piece, text_with, is_whole, fetch_installed, fetch_went_on, piece_received}
 use Rattle.cell_model.specs.Step.{Member, cell_size, showing, leased, with_phase, sends_to}
 use Rattle.cell_model.specs.Writes.{settled}
 use Rattle.cell_model.proofs.Sound.{IsSound, state_of, sends_caused, either, shows, follows}
@@ -22,7 +22,7 @@ module _ (db : Database) (at : ℕ) (Stands : ℕ → List ℕ → Type 0) where
 
   relabelled_is : (m : Member) (s : Server) (poll : Polled) (now : ℕ) (short : List Bool) → IsSound db at Stands short (state_of s) (relabelled m s poll now)
   relabelled_is m s poll now short =
-      let t = relabelled_to m s poll (epoch_of now) in
+      let t = relabelled_to m s poll (first_of_epoch now) in
       either db at Stands (nat_lt s.version.epoch now)
       (follows db at Stands t (settled m) (record { leads = refl; caused = sends_caused db at Stands m _ short }) (settled_is db at Stands m t.server _))
       (record { leads = refl; caused = tt })
@@ -39,7 +39,7 @@ module _ (db : Database) (at : ℕ) (Stands : ℕ → List ℕ → Type 0) where
       follows db at Stands t (λ after. polled m after poll now) (record { leads = refl; caused = sends_caused db at Stands m _ short }) (polled_is m s poll now _)
 
   poll_begun_is : (m : Member) (s : Server) (now : ℕ) (short : List Bool) → IsSound db at Stands short (state_of s) (poll_begun m s now)
-  poll_begun_is m s now short = poll_asked_is m (polling m s now) (begun_poll m s now) now short
+  poll_begun_is m s now short = poll_asked_is m (polling m s now) (new_poll m s now) now short
 
   next_asked_is : (m : Member) (s : Server) (poll : Polled) (best : Version) (k : ℕ) (short : List Bool) → IsSound db at Stands short (state_of s) (next_asked m s poll best k)
   next_asked_is m s poll best k short = record { leads = refl; caused = (tt, tt) }
@@ -68,7 +68,7 @@ module _ (db : Database) (at : ℕ) (Stands : ℕ → List ℕ → Type 0) where
       (shows db at Stands short s (sends_to m host (sent_piece s poll.number next)) (tt, tt)) (quiet_is db at Stands short s)
   next_sent_is m s host poll version next (Some f) short = quiet_is db at Stands short s
 
-  pub piece_kept_is : (m : Member) (s : Server) (host : Host) (version : Version) (next : ℕ) (phase : PhaseRecord) (short : List Bool) → IsSound db at Stands short (state_of s) (piece_kept m s host version next phase)
+  pub piece_kept_is : (m : Member) (s : Server) (host : Host) (version : Version) (next : ℕ) (phase : PhaseRecord) (short : List Bool) → IsSound db at Stands short (state_of s) (piece_kept_received m s host version next phase)
   piece_kept_is m s host version next NoPhase short = quiet_is db at Stands short s
   piece_kept_is m s host version next (Poll poll) short = quiet_is db at Stands short s
   piece_kept_is m s host version next (Fetch poll best k) short = quiet_is db at Stands short s
@@ -113,7 +113,7 @@ module _ (db : Database) (now : ℕ) (Stands : ℕ → List ℕ → Type 0) wher
       (either db now Stands (version_eq version s.version) (holder_is m s k short all) (lacking_is m s host poll spread version s.flight short))
       (quiet_is db now Stands short s)
 
-  pub version_told_is : (m : Member) (s : Server) (host : Host) (k number : ℕ) (version : Version) (short : List Bool) (phase : PhaseRecord) → AllStand Stands s.waiting → IsSound db now Stands short (state_of s) (version_told db m s now host k number version short phase)
+  pub version_told_is : (m : Member) (s : Server) (host : Host) (k number : ℕ) (version : Version) (short : List Bool) (phase : PhaseRecord) → AllStand Stands s.waiting → IsSound db now Stands short (state_of s) (version_is_received db m s now host k number version short phase)
   version_told_is m s host k number version short NoPhase all = quiet_is db now Stands short s
   version_told_is m s host k number version short (Poll poll) all =
       either db now Stands (number == poll.number) (polled_is db now Stands m s (with_answer poll k version) now short) (quiet_is db now Stands short s)
@@ -123,7 +123,7 @@ module _ (db : Database) (now : ℕ) (Stands : ℕ → List ℕ → Type 0) wher
   version_told_is m s host k number version short (Send poll spread) all = told_is m s host k poll spread number version short all
   version_told_is m s host k number version short (Ready poll spread announced) all = told_is m s host k poll spread number version short all
 
-  pub version_kept_is : (m : Member) (s : Server) (k : ℕ) (version : Version) (short : List Bool) (phase : PhaseRecord) → AllStand Stands s.waiting → IsSound db now Stands short (state_of s) (version_kept db m s now k version short phase)
+  pub version_kept_is : (m : Member) (s : Server) (k : ℕ) (version : Version) (short : List Bool) (phase : PhaseRecord) → AllStand Stands s.waiting → IsSound db now Stands short (state_of s) (version_kept_received db m s now k version short phase)
   version_kept_is m s k version short NoPhase all = quiet_is db now Stands short s
   version_kept_is m s k version short (Poll poll) all = quiet_is db now Stands short s
   version_kept_is m s k version short (Fetch poll best from) all = quiet_is db now Stands short s

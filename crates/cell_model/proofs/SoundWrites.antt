@@ -21,7 +21,7 @@ use Rattle.cell_model.specs.Asks.{read_reply, read, write_asked, served, allows_
 use Rattle.cell_model.specs.Causes.{IsCaused}
 use Rattle.cell_model.specs.Node.{Server, Flight, Waiting}
 use Rattle.cell_model.specs.Step.{Member, cell_size, Basis, Announced_image, Beacon_image, Evaluation, Stepped, showing, leased, is_ready, told_version, refusing, is_short, short_after}
-use Rattle.cell_model.specs.Writes.{announced_image, begun_write, flight_settled, settled_in, settled, written_in, written_changes, written_small, written_within, turned, write_turn, is_free, next_turns, settled_with_turns}
+use Rattle.cell_model.specs.Writes.{announced_image, own_write_begun, flight_settled, settled_in, settled, written_in, written_changes, written_small, written_within, turned, write_turn, is_free, next_turns, settled_with_turns}
 use Rattle.cell_model.proofs.Sound.{AreCaused, IsSound, state_of, sends_caused, either, shows, follows}
 use Rattle.cell_model.proofs.SoundReceiver.{waiting_caused}
 
@@ -61,7 +61,7 @@ module _ (db : Database) (now : ℕ) (Stands : ℕ → List ℕ → Type 0) wher
   written_in_is m s id call answer image changes (Relabel poll) short = shows db now Stands short s [] tt
   written_in_is m s id call answer image changes (Send poll spread) short = shows db now Stands short s [] tt
   written_in_is m s id call answer image changes (Ready poll spread announced) short =
-      let t = begun_write m s now id call answer image changes poll spread in
+      let t = own_write_begun m s now id call answer image changes poll spread in
       follows db now Stands t (settled m) (record { leads = refl; caused = sends_caused db now Stands m _ short }) (settled_is m t.server _)
 
   written_changes_is : (m : Member) (s : Server) (id : ℕ) (call answer image : List ℕ) (changes : List Change) (short : List Bool) → IsSound db now Stands short (state_of s) (written_changes m s now id call answer image changes)

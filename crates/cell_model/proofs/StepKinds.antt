@@ -29,7 +29,7 @@ use Rattle.cell_model.specs.Lapse.{no_quorum, writes_refused, without_writes, wr
 use Rattle.cell_model.specs.Node.{Server, Flight, Waiting, ReadyBeacon}
 use Rattle.cell_model.specs.NodeRule.{handled, step_of}
 use Rattle.cell_model.specs.Polls.{polling, best_answer}
-use Rattle.cell_model.specs.Recovery.{epoch_of, own_relabelling, relabelled, polled, poll_begun, recovered, recovery_turn}
+use Rattle.cell_model.specs.Recovery.{first_of_epoch, own_relabelling, relabelled, polled, poll_begun, recovered, recovery_turn}
 use Rattle.cell_model.specs.Step.{Member, Announced_image, Commit_on, Evaluation, Shown, Stepped, quiet, showing, followed, leased, is_ready, told_version, with_phase, announcing, refusing, replying, is_short, short_after}
 use Rattle.cell_model.specs.Writes.{next_version, own_commit, image_before, written_in, written_small, written_within, turned, last_counter}
 
@@ -189,7 +189,7 @@ module _ (host : Host) (s : Server) (now : ℕ) (alone : IsAlone s) where
   relabelled_is poll =
       cond_both (nat_lt s.version.epoch now) _ _ (IsTurn s)
       (λ _. inr (record {
-        new = epoch_of now;
+        new = first_of_epoch now;
         calls = refl;
         version = refl;
         image_is = refl;

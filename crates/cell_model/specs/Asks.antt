@@ -1,5 +1,5 @@
 -- Ask: where a call is served, and what its client is told else (Kazar, "Ubik"; reads by a kept ready beacon are own).
-use Rattle.std.specs.Prelude.{ℕ, ◌+◌, ◌==◌, ◌&&◌, nat_le, Bool, true, false, if◌then◌else◌, Option, Some, None, List, [], ◌∷◌, ◌++◌, length}
+use Rattle.std.specs.Prelude.{ℕ, ◌+◌, ◌==◌, ◌&&◌, nat_le, Bool, false, if◌then◌else◌, Option, Some, None, List, [], ◌∷◌, ◌++◌, length}
 use Rattle.lock_table.specs.declared.tables.TheConstants.{MAX_WAITING}
 use Rattle.ubik_types.specs.declared.limits.TheConstants.{SMALLTIME}
 use Rattle.ubik_types.specs.declared.versions.Version.{Version}
@@ -12,9 +12,9 @@ use Rattle.ubik_calls.specs.declared.replies.Reply.TheVariants as reply
 use Rattle.db_image.specs.declared.services.CallReply.{CallReply}
 use Rattle.db_image.specs.declared.services.CallReply.TheVariants as call_reply
 use Rattle.db_image.specs.Database.{Database}
-use Rattle.cell_model.specs.Node.{Server, ReadyBeacon, Flight, Waiting}
+use Rattle.cell_model.specs.Node.{Server, ReadyBeacon, Flight}
 use Rattle.cell_model.specs.Lapse.{no_quorum}
-use Rattle.cell_model.specs.Step.{Member, Basis, Announced_image, Beacon_image, Evaluation, Shown, Stepped, showing, leased, is_ready, told_version, host_at, refusing, replying, is_short}
+use Rattle.cell_model.specs.Step.{Member, Basis, Announced_image, Beacon_image, Evaluation, Shown, Stepped, showing, leased, is_ready, told_version, host_at, refusing, replying}
 use Rattle.cell_model.specs.Writes.{announced_image, write_turn}
 
 -- what a database replies to a call that reads

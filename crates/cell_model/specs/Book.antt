@@ -1,8 +1,7 @@
 -- What a run is worth: the book of versions, the announcements, the order, what was acknowledged, the votes and the replies
 -- that were given, and which server is a ready sync site (own). No rule of a server reads any of it.
-use Rattle.std.specs.Prelude.{ℕ, ◌+◌, ◌-◌, ◌==◌, Bool, true, false, ◌&&◌, if◌then◌else◌, Option, Some, None, unwrap_or, option_map, List, [], ◌∷◌, ◌++◌, length, drop}
+use Rattle.std.specs.Prelude.{ℕ, ◌-◌, Bool, true, false, ◌&&◌, if◌then◌else◌, Option, Some, None, unwrap_or, List, [], ◌∷◌, ◌++◌, length, drop}
 use Rattle.db_image.specs.Database.{Database}
-use Rattle.ubik_types.specs.declared.hosts.Host.{Host}
 use Rattle.ubik_types.specs.declared.versions.Version.{Version}
 use Rattle.ubik_types.specs.Version.{zero_version, version_eq}
 use Rattle.ubik_types.specs.Lease.{is_in_lease}
@@ -16,8 +15,8 @@ use Rattle.cell_model.specs.Durable.{Transaction, Reason, Own_relabelling, Commi
 use Rattle.cell_model.specs.Lapse.{lapsed}
 use Rattle.cell_model.specs.Node.{Node, Down, Halted, Up, Server}
 use Rattle.cell_model.specs.NodeRule.{place_of}
-use Rattle.cell_model.specs.Step.{Member, Basis, Announced_image, Beacon_image, Commit_on, Evaluation, cell_size, leased, is_ready}
-use Rattle.cell_model.specs.World.{World, Site, Event, Trigger, Beacon_turn, Step, Happening, Sent, Announced, Replied, Happened, Entry, happens, member, site_of}
+use Rattle.cell_model.specs.Step.{Member, Basis, Commit_on, Evaluation, cell_size, leased, is_ready}
+use Rattle.cell_model.specs.World.{World, Site, Event, Beacon_turn, Step, Happening, Sent, Announced, Replied, Happened, Entry, happens, member, site_of}
 use Rattle.cell_model.specs.Writes.{announced_image}
 
 -- A page of the book: a version, the one before it, which transaction led from there, if one did, which server made it, and all

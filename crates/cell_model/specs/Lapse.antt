@@ -1,6 +1,6 @@
 -- Lapse: how each step of a server begins. A phase that is held past the lease is dropped; a write that is in
 -- flight for more than 60 seconds is given up, and a new poll begins (Kazar, "Ubik"; own where that leaves a choice).
-use Rattle.std.specs.Prelude.{ℕ, ◌+◌, Bool, nat_lt, if◌then◌else◌, Option, Some, None, List, [], ◌∷◌, ◌++◌, map}
+use Rattle.std.specs.Prelude.{ℕ, ◌+◌, nat_lt, if◌then◌else◌, Option, Some, None, List, [], ◌∷◌, ◌++◌, map}
 use Rattle.ubik_types.specs.declared.limits.TheConstants.{SMALLTIME}
 use Rattle.ubik_types.specs.declared.phases.Phase.{Phase}
 use Rattle.ubik_types.specs.declared.phases.Phase.TheVariants as phases

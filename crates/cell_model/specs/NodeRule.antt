@@ -12,8 +12,8 @@ use Rattle.cell_model.specs.declared.events.NodeEvent.TheVariants as event
 use Rattle.cell_model.specs.Asks.{asked}
 use Rattle.cell_model.specs.Lapse.{lapsed}
 use Rattle.cell_model.specs.Node.{Server}
-use Rattle.cell_model.specs.Receiver.{version_set, piece_taken, write_kept, write_piece_kept, write_committed, write_dropped, version_asked, piece_asked}
-use Rattle.cell_model.specs.Recovery.{recovery_turn, version_told, version_kept, piece_kept, piece_received}
+use Rattle.cell_model.specs.Receiver.{set_version_received, send_piece_received, begin_received, put_piece_received, commit_received, abort_received, get_version_received, get_piece_received}
+use Rattle.cell_model.specs.Recovery.{recovery_turn, version_is_received, version_kept_received, piece_kept_received, piece_received}
 use Rattle.cell_model.specs.Step.{Member, Shown, Stepped, quiet, followed, refusing, is_short, short_after}
 use Rattle.cell_model.specs.Voting.{beacon_turn, beacon_received, vote_received}
 
@@ -22,21 +22,21 @@ abbrev pub received_from : Database → Member → Server → ℕ → Host → �
 received_from db m s now host k (body.Beacon start claim ready version) short =
     beacon_received m s now host k start claim ready version
 received_from db m s now host k (body.Vote start granted) short = vote_received m s k start granted
-received_from db m s now host k (body.GetVersion poll) short = version_asked m s host poll
+received_from db m s now host k (body.GetVersion poll) short = get_version_received m s host poll
 received_from db m s now host k (body.VersionIs poll version) short =
-    version_told db m s now host k poll version short s.phase
-received_from db m s now host k (body.GetPiece poll version offset) short = piece_asked m s host poll version offset
+    version_is_received db m s now host k poll version short s.phase
+received_from db m s now host k (body.GetPiece poll version offset) short = get_piece_received m s host poll version offset
 received_from db m s now host k (body.Piece poll version total offset bytes) short =
     piece_received m s now k poll version total offset bytes s.phase
 received_from db m s now host k (body.SendPiece poll version total offset bytes) short =
-    piece_taken m s host k poll version total offset bytes
-received_from db m s now host k (body.PieceKept poll version next) short = piece_kept m s host version next s.phase
-received_from db m s now host k (body.SetVersion poll old new) short = version_set m s host poll old new
-received_from db m s now host k (body.Begin old new pieces len) short = write_kept s old new pieces len
-received_from db m s now host k (body.PutPiece new number bytes) short = write_piece_kept s new number bytes
-received_from db m s now host k (body.Commit old new) short = write_committed m s host old new
-received_from db m s now host k (body.Abort new) short = write_dropped s new
-received_from db m s now host k (body.VersionKept version) short = version_kept db m s now k version short s.phase
+    send_piece_received m s host k poll version total offset bytes
+received_from db m s now host k (body.PieceKept poll version next) short = piece_kept_received m s host version next s.phase
+received_from db m s now host k (body.SetVersion poll old new) short = set_version_received m s host poll old new
+received_from db m s now host k (body.Begin old new pieces len) short = begin_received s old new pieces len
+received_from db m s now host k (body.PutPiece new number bytes) short = put_piece_received s new number bytes
+received_from db m s now host k (body.Commit old new) short = commit_received m s host old new
+received_from db m s now host k (body.Abort new) short = abort_received s new
+received_from db m s now host k (body.VersionKept version) short = version_kept_received db m s now k version short s.phase
 
 -- the place of a host
 abbrev pub place_of : List Host → Host → Option ℕ

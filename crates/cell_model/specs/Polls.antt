@@ -24,11 +24,11 @@ is_marked (mark ∷ marks) zero = mark
 is_marked (mark ∷ marks) (suc k) = is_marked marks k
 
 -- a poll begins: only this server has answered, with its own version
-abbrev pub begun_poll : Member → Server → ℕ → Polled
-begun_poll m s now = record { number = now; answers = only_at (Some s.version) None (cell_size m) m.me }
+abbrev pub new_poll : Member → Server → ℕ → Polled
+new_poll m s now = record { number = now; answers = only_at (Some s.version) None (cell_size m) m.me }
 
 abbrev pub polling : Member → Server → ℕ → Server
-polling m s now = with_phase s (Poll (begun_poll m s now))
+polling m s now = with_phase s (Poll (new_poll m s now))
 
 -- a server answers the poll; a later answer takes the place of an earlier one
 abbrev pub with_answer : Polled → ℕ → Version → Polled

@@ -1,6 +1,6 @@
 -- Recovery: the newest database of a majority is found, fetched, relabelled and sent to the others (Kazar, "Ubik"; that it is
 -- relabelled in recovery, and the pieces, are own).
-use Rattle.std.specs.Prelude.{ℕ, ◌+◌, ◌==◌, ◌&&◌, not, nat_lt, nat_le, Bool, true, if◌then◌else◌, Option, Some, None, is_some, List, [], ◌∷◌, ◌++◌, length, map}
+use Rattle.std.specs.Prelude.{ℕ, ◌+◌, ◌==◌, ◌&&◌, not, nat_lt, nat_le, Bool, if◌then◌else◌, Option, Some, None, is_some, List, [], ◌∷◌, ◌++◌, length, map}
 use Rattle.ubik_types.specs.declared.hosts.Host.{Host}
 use Rattle.ubik_types.specs.declared.limits.TheConstants.{MAX_IMAGE, SMALLTIME}
 use Rattle.ubik_types.specs.declared.versions.Version.{Version}
@@ -15,7 +15,7 @@ use Rattle.cell_model.specs.Durable.{Made, Own_relabelling, Received}
 use Rattle.cell_model.specs.Durable as durable
 use Rattle.cell_model.specs.Node.{Server, ReceivedText, Flight}
 use Rattle.cell_model.specs.Pieces.{piece_from}
-use Rattle.cell_model.specs.Polls.{begun_poll, polling, with_answer, best_answer, first_with, only_holder, with_holder, entry_at, is_marked, is_answer}
+use Rattle.cell_model.specs.Polls.{new_poll, polling, with_answer, best_answer, first_with, only_holder, with_holder, entry_at, is_marked}
 use Rattle.cell_model.specs.Step.{Member, cell_size, Shown, Stepped, quiet, showing, followed, leased, with_phase, with_database, host_at, sends_to, sends_to_each}
 use Rattle.cell_model.specs.Writes.{write_bodies, settled, settled_with_turns}
 
@@ -39,8 +39,8 @@ spread_answer s poll old None = []
 spread_answer s poll old (Some v) = spread_to s poll.number old (version_eq v old) ∷ []
 
 -- the first version of an epoch
-abbrev pub epoch_of : ℕ → Version
-epoch_of now = record { epoch = now; counter = 1 }
+abbrev pub first_of_epoch : ℕ → Version
+first_of_epoch now = record { epoch = now; counter = 1 }
 
 abbrev pub own_relabelling : Version → Made
 own_relabelling new = record { call = durable.Relabel new; reason = Own_relabelling }
@@ -58,7 +58,7 @@ relabelled_to m s poll new =
 -- Relabelling: once the moment is past the epoch.
 abbrev pub relabelled : Member → Server → Polled → ℕ → Stepped
 relabelled m s poll now =
-    if nat_lt s.version.epoch now then followed (relabelled_to m s poll (epoch_of now)) (settled m)
+    if nat_lt s.version.epoch now then followed (relabelled_to m s poll (first_of_epoch now)) (settled m)
     else quiet (with_phase s (Relabel poll))
 
 -- the better version is asked for, from the lowest server that has it
@@ -83,7 +83,7 @@ poll_asked m s poll now =
 
 -- a poll begins, and the others are asked
 abbrev pub poll_begun : Member → Server → ℕ → Stepped
-poll_begun m s now = poll_asked m (polling m s now) (begun_poll m s now) now
+poll_begun m s now = poll_asked m (polling m s now) (new_poll m s now) now
 
 -- how many bytes of a text have come
 abbrev pub bytes_received : Option ReceivedText → ℕ
@@ -149,23 +149,23 @@ fetch_refused m s now from best k version =
     if from == k && not (version_eq version best) then quiet (polling m s now) else quiet s
 
 -- Version told: by server k, for the poll of that number.
-abbrev pub version_told : Database → Member → Server → ℕ → Host → ℕ → ℕ → Version → List Bool → PhaseRecord → Stepped
-version_told db m s now host k number version short (Poll poll) =
+abbrev pub version_is_received : Database → Member → Server → ℕ → Host → ℕ → ℕ → Version → List Bool → PhaseRecord → Stepped
+version_is_received db m s now host k number version short (Poll poll) =
     if number == poll.number then polled m s (with_answer poll k version) now else quiet s
-version_told db m s now host k number version short (Fetch poll best from) = fetch_refused m s now from best k version
-version_told db m s now host k number version short (Send poll spread) =
+version_is_received db m s now host k number version short (Fetch poll best from) = fetch_refused m s now from best k version
+version_is_received db m s now host k number version short (Send poll spread) =
     told_to_spread db m s now host k poll spread number version short
-version_told db m s now host k number version short (Ready poll spread announced) =
+version_is_received db m s now host k number version short (Ready poll spread announced) =
     told_to_spread db m s now host k poll spread number version short
-version_told db m s now host k number version short _ = quiet s
+version_is_received db m s now host k number version short _ = quiet s
 
 -- a server says that its database is the one of this version
-abbrev pub version_kept : Database → Member → Server → ℕ → ℕ → Version → List Bool → PhaseRecord → Stepped
-version_kept db m s now k version short (Send poll spread) =
+abbrev pub version_kept_received : Database → Member → Server → ℕ → ℕ → Version → List Bool → PhaseRecord → Stepped
+version_kept_received db m s now k version short (Send poll spread) =
     if version_eq version s.version then holder_added db m s now k short else quiet s
-version_kept db m s now k version short (Ready poll spread announced) =
+version_kept_received db m s now k version short (Ready poll spread announced) =
     if version_eq version s.version then holder_added db m s now k short else quiet s
-version_kept db m s now k version short _ = quiet s
+version_kept_received db m s now k version short _ = quiet s
 
 -- the next piece of the own image is sent, where one is left and no write is in flight
 abbrev pub next_sent : Member → Server → Host → Polled → Version → ℕ → Option Flight → Stepped
@@ -176,10 +176,10 @@ next_sent m s host poll version next None =
 next_sent m s host poll version next (Some f) = quiet s
 
 -- Piece kept: a server has the image of that version up to a place.
-abbrev pub piece_kept : Member → Server → Host → Version → ℕ → PhaseRecord → Stepped
-piece_kept m s host version next (Send poll spread) = next_sent m s host poll version next s.flight
-piece_kept m s host version next (Ready poll spread announced) = next_sent m s host poll version next s.flight
-piece_kept m s host version next _ = quiet s
+abbrev pub piece_kept_received : Member → Server → Host → Version → ℕ → PhaseRecord → Stepped
+piece_kept_received m s host version next (Send poll spread) = next_sent m s host poll version next s.flight
+piece_kept_received m s host version next (Ready poll spread announced) = next_sent m s host poll version next s.flight
+piece_kept_received m s host version next _ = quiet s
 
 -- Received text: a piece is within its image, and no image is too long
 abbrev pub piece_fits : ℕ → ℕ → List ℕ → Bool

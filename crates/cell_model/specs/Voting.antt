@@ -1,6 +1,6 @@
 -- Votes: the beacon turn of a server, and the beacons and votes that it receives (Kazar, "Ubik"; the ready beacon
 -- that is kept is own).
-use Rattle.std.specs.Prelude.{ℕ, Bool, false, not, ◌&&◌, ◌==◌, if◌then◌else◌, Option, Some, None, [], ◌∷◌}
+use Rattle.std.specs.Prelude.{ℕ, Bool, false, not, ◌&&◌, ◌==◌, if◌then◌else◌, Option, Some, None}
 use Rattle.ubik_types.specs.declared.hosts.Host.{Host}
 use Rattle.ubik_types.specs.declared.versions.Version.{Version}
 use Rattle.ubik_types.specs.Votes.{beacon_is_due, answers_yes, answered}

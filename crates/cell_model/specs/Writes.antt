@@ -1,6 +1,6 @@
 -- Sync site: the writes of the ready sync site. A write is committed here first, goes to each other server, and is
 -- answered once a majority has it; those that come meanwhile wait (Kazar, "Ubik"; the line and its limit are own).
-use Rattle.std.specs.Prelude.{ℕ, zero, suc, ◌+◌, ◌==◌, Bool, true, false, if◌then◌else◌, Option, Some, None, List, [], ◌∷◌, ◌++◌, length, map}
+use Rattle.std.specs.Prelude.{ℕ, zero, suc, ◌+◌, ◌==◌, Bool, true, false, if◌then◌else◌, Option, Some, None, List, [], ◌∷◌, ◌++◌, length}
 use Rattle.ubik_types.specs.declared.images.Change.{Change}
 use Rattle.ubik_types.specs.declared.versions.TheConstants.{MAX_COUNTER}
 use Rattle.ubik_types.specs.declared.versions.Version.{Version}
@@ -12,18 +12,17 @@ use Rattle.ubik_types.specs.Phase.{Polled, Spread, PhaseRecord, Send, Ready}
 use Rattle.xdr_base.specs.ChangeText.{text_of}
 use Rattle.ubik_calls.specs.declared.packets.Body.{Body}
 use Rattle.ubik_calls.specs.declared.packets.Body.TheVariants as body
-use Rattle.ubik_calls.specs.declared.replies.Reply.{Reply}
 use Rattle.ubik_calls.specs.declared.replies.Reply.TheVariants as reply
 use Rattle.db_image.specs.declared.services.CallReply.{CallReply}
 use Rattle.db_image.specs.declared.services.CallReply.TheVariants as call_reply
-use Rattle.db_image.specs.Database.{Database, Outcome, changes_of}
+use Rattle.db_image.specs.Database.{Database, changes_of}
 use Rattle.cell_model.specs.Durable.{Made, Transaction, Committed}
 use Rattle.cell_model.specs.Durable as durable
 use Rattle.cell_model.specs.Node.{Server, Flight, Waiting}
 use Rattle.cell_model.specs.Lapse.{no_quorum, waiting_refused}
 use Rattle.cell_model.specs.Pieces.{piece_count, numbered_piece}
-use Rattle.cell_model.specs.Polls.{polling, only_holder, is_marked}
-use Rattle.cell_model.specs.Step.{Member, cell_size, Basis, Announced_image, Commit_on, Evaluation, Shown, Stepped, quiet, showing, followed, told_version, with_phase, with_database, sends_to_each, announcing, refusing, replying, is_short, short_after}
+use Rattle.cell_model.specs.Polls.{polling, only_holder}
+use Rattle.cell_model.specs.Step.{Member, cell_size, Announced_image, Commit_on, Evaluation, Stepped, quiet, showing, followed, told_version, with_phase, with_database, sends_to_each, announcing, refusing, replying, is_short, short_after}
 
 -- the image of the announced version: during a write in flight the one before it
 abbrev pub image_before : List ℕ → Option Flight → List ℕ
@@ -55,8 +54,8 @@ flight_of s now id call answer changes =
     record { id = id; began = now; call = call; answer = answer; old_image = s.image; changes = changes }
 
 -- The write is committed and sent: only this server has it, and the version before it stays the announced one.
-abbrev pub begun_write : Member → Server → ℕ → ℕ → List ℕ → List ℕ → List ℕ → List Change → Polled → Spread → Stepped
-begun_write m s now id call answer image changes poll spread =
+abbrev pub own_write_begun : Member → Server → ℕ → ℕ → List ℕ → List ℕ → List ℕ → List Change → Polled → Spread → Stepped
+own_write_begun m s now id call answer image changes poll spread =
     let new = next_version s.version in
     record {
       server = record (with_phase (with_database s new image) (Ready poll (record spread { holders = only_holder m }) s.version)) {
@@ -99,7 +98,7 @@ last_counter m s now id =
 
 abbrev pub written_in : Member → Server → ℕ → ℕ → List ℕ → List ℕ → List ℕ → List Change → PhaseRecord → Stepped
 written_in m s now id call answer image changes (Ready poll spread announced) =
-    followed (begun_write m s now id call answer image changes poll spread) (settled m)
+    followed (own_write_begun m s now id call answer image changes poll spread) (settled m)
 written_in m s now id call answer image changes _ = quiet s
 
 -- a call that changes blocks

@@ -17,7 +17,7 @@ use Rattle.cell_model.specs.Durable.{durable}
 use Rattle.cell_model.specs.Lapse.{lapsed}
 use Rattle.cell_model.specs.Node as model
 use Rattle.cell_model.specs.NodeRule.{handled, place_of, received_packet, step_of}
-use Rattle.cell_model.specs.Recovery.{epoch_of, own_relabelling, recovery_turn}
+use Rattle.cell_model.specs.Recovery.{first_of_epoch, own_relabelling, recovery_turn}
 use Rattle.cell_model.specs.Step.{Basis, Member, Stepped, announcing, leased, outputs_of, quiet}
 use Rattle.cell_model.specs.Voting.{beacon_turn}
 use Rattle.cell_model.specs.Writes.{write_turn}
@@ -157,8 +157,8 @@ rest_made t s p out n is empty =
     subst P (sym is) (record { server = refl; outputs = empty; disk_calls = omega arith })
 
 pub relabel_made : (t : Stepped) (s : model.Server) (poll now : ℕ) (out : List Output) (b a : ℕ)
-    → t ≡ record { server = relabelled_to s poll now; calls = own_relabelling (epoch_of now) ∷ []; shown = announcing (epoch_of now) ∷ [] }
-    → out ≡ output.Announce (epoch_of now) ∷ [] → a ≡ b + 4 → Makes t (model.Up (relabelled_to s poll now)) out b a
+    → t ≡ record { server = relabelled_to s poll now; calls = own_relabelling (first_of_epoch now) ∷ []; shown = announcing (first_of_epoch now) ∷ [] }
+    → out ≡ output.Announce (first_of_epoch now) ∷ [] → a ≡ b + 4 → Makes t (model.Up (relabelled_to s poll now)) out b a
 relabel_made t s poll now out b a is put steps =
     let P : Stepped → Type 0 = λ u. Makes u (model.Up (relabelled_to s poll now)) out b a in
     subst P (sym is) (record { server = refl; outputs = put; disk_calls = steps })
