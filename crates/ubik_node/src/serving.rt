@@ -48,9 +48,7 @@ fn allows_reads(state: &State, now: u32) -> bool
     ensures { result ≡ allows_reads state.now.version now (beacon_of state.now.beacon) }
 {
     match state.beacon {
-        Some(kept) => {
-            now.saturating_sub(kept.at) <= SMALLTIME && kept.version == state.version
-        }
+        Some(kept) => { now.saturating_sub(kept.at) <= SMALLTIME && kept.version == state.version }
         None => false,
     }
 }

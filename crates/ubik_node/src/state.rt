@@ -91,7 +91,11 @@ impl State {
             } => {
                 let at = now;
                 let server = from;
-                let heard = ReadyBeacon { server, version, at };
+                let heard = ReadyBeacon {
+                    server,
+                    version,
+                    at,
+                };
                 self.beacon = kept_beacon(self.beacon, heard, claim, ready);
                 let yes = self.votes.on_beacon(now, from, claim);
                 let vote = self.packet_to(packet.from, Body::Vote { start, yes });

@@ -1,11 +1,14 @@
-//! A server over a disk in memory, with a small database.
-ghost use Rattle.std.specs.Prelude.{◌≡◌};
+//! A server over a disk in memory, with a small database: alone in its cell, and one of three.
+ghost use Rattle.std.specs.Prelude.{◌≡◌, ◌<◌, IfOk, MatchResult, length};
+ghost use Rattle.cell_model.specs.Step.{cell_size};
 ghost use Rattle.ubik_node.specs.Appending.{appending};
+ghost use Rattle.ubik_node.specs.Built.{IsBuilt, IsOfVotes};
+ghost use Rattle.ubik_node.specs.Node.{own_member};
 
 use super::*;
-use db_image::{CallReply, Service};
+use db_image::{CallReply, Layout, Service};
 use disk_base::{Disk, DiskEnd, FileNo, MemDisk, Refused, RoomEnd, StopDisk};
-use std::alloc::Global;
+use std::alloc::{AllocError, Global};
 use std::process::Abort;
 use std::test::Fail;
 use ubik_types::{Applied, Bytes, Cell, Host, NoMemory, Phase, Version, bytes_of};
@@ -16,6 +19,10 @@ struct Appending;
 
 impl Service for Appending {
     ghost database = { appending };
+
+    fn layout() -> Layout {
+        Layout { head: 4, block: 8 }
+    }
 
     fn writes(call: &[u8]) -> Option<bool> {
         Some(!call.is_empty())
@@ -52,15 +59,29 @@ fn open(
     rt: &impl Abort,
     alloc: Global,
     disk: MemDisk,
-) -> Result<Result<Server, Refused<MemDisk, StoreFault>>, Fail> {
+) -> Result<Result<Server, Refused<MemDisk, StoreFault>>, Fail>
+    ensures { IfOk result (λ opened. IfOk opened (λ node. cell_size (own_member node) ≡ 1)) }
+{
     let cell = Cell::new(alloc, &[Host(1)])?;
     assert_eq!(rt; cell.len(), 1);
     Ok(Node::open(alloc, cell, 0, disk, 1000))
 }
 
 /// Opens it over a disk on which nothing is amiss.
-fn opened(rt: &impl Abort, alloc: Global, disk: MemDisk) -> Result<Server, Fail> {
+fn opened(rt: &impl Abort, alloc: Global, disk: MemDisk) -> Result<Server, Fail>
+    ensures { IfOk result (λ node. cell_size (own_member node) ≡ 1) }
+{
     match open(rt, alloc, disk)? {
+        Ok(node) => Ok(node),
+        Err(refused) => Err(refused.why)?,
+    }
+}
+
+/// Opens a server of a cell of three at 1000, over a disk without a database: hosts 1, 2 and 3.
+fn one_of_three(rt: &impl Abort, alloc: Global, me: usize) -> Result<Server, Fail> {
+    let cell = Cell::new(alloc, &[Host(3), Host(1), Host(2)])?;
+    assert!(rt; me < cell.len());
+    match Node::open(alloc, cell, me, MemDisk::new(alloc, &[])?, 1000) {
         Ok(node) => Ok(node),
         Err(refused) => Err(refused.why)?,
     }
@@ -74,20 +95,26 @@ fn step(
     now: u32,
     event: NodeEvent,
     wanted: StepEnd,
-) -> Result<Outputs, Fail> {
+) -> Result<Outputs, Fail>
+    requires { IsBuilt (own_member node.old) event }
+    ensures { IfOk result (λ out. own_member node.new ≡ own_member node.old) }
+{
     let mut out = Outputs::make(alloc)?;
     assert!(rt; node.last() <= now && 0 < now && now < 1 << 31);
     assert_eq!(rt; node.step(now, event, &mut out), wanted, "at {now}");
     Ok(out)
 }
 
-/// A beacon turn and a recovery turn, and what they announced.
+/// A beacon turn and a recovery turn of a server that is alone, and what they announced.
 fn turns(
     rt: &impl Abort,
     alloc: Global,
     node: &mut Server,
     now: u32,
-) -> Result<Option<Version>, Fail> {
+) -> Result<Option<Version>, Fail>
+    requires { cell_size (own_member node.old) ≡ 1 }
+    ensures { IfOk result (λ announced. own_member node.new ≡ own_member node.old) }
+{
     let mut quiet = step(rt, alloc, node, now, NodeEvent::BeaconTurn, StepEnd::Done)?;
     assert!(rt; quiet.take().is_none());
     let mut out = step(rt, alloc, node, now, NodeEvent::RecoverTurn, StepEnd::Done)?;
@@ -97,6 +124,117 @@ fn turns(
     }
 }
 
+/// A beacon that a server hears: its start is the moment.
+#[derive(Clone, Copy)]
+struct Heard {
+    from: Host,
+    to: Host,
+    claim: bool,
+    ready: bool,
+}
+
+/// Whether a beacon that a server hears gets its vote: it puts out one vote, for the beacon's start.
+fn votes(
+    rt: &impl Abort,
+    alloc: Global,
+    node: &mut Server,
+    now: u32,
+    heard: Heard,
+) -> Result<bool, Fail> {
+    let Heard {
+        from,
+        to,
+        claim,
+        ready,
+    } = heard;
+    let start = now;
+    let version = version(0, 0);
+    let body = Body::Beacon {
+        start,
+        claim,
+        ready,
+        version,
+    };
+    let packet = Packet { from, to, body };
+    let mut out = step(
+        rt,
+        alloc,
+        node,
+        now,
+        NodeEvent::Packet(packet),
+        StepEnd::Done,
+    )?;
+    let Some(Output::Send(vote)) = out.take() else {
+        panic!(rt; "no vote at {now}");
+    };
+    assert!(rt; out.take().is_none());
+    assert_eq!(rt; (vote.from, vote.to), (to, from));
+    match vote.body {
+        Body::Vote { start, yes } => {
+            assert_eq!(rt; start, now);
+            Ok(yes)
+        }
+        _ => panic!(rt; "another packet at {now}"),
+    }
+}
+
+/// A vote for the beacon of a start comes to host 1.
+fn voted(
+    rt: &impl Abort,
+    alloc: Global,
+    node: &mut Server,
+    from: Host,
+    given: (u32, u32, bool),
+) -> Result<(), Fail> {
+    let (now, start, yes) = given;
+    let to = Host(1);
+    let body = Body::Vote { start, yes };
+    let packet = Packet { from, to, body };
+    let mut out = step(
+        rt,
+        alloc,
+        node,
+        now,
+        NodeEvent::Packet(packet),
+        StepEnd::Done,
+    )?;
+    assert!(rt; out.take().is_none());
+    Ok(())
+}
+
+/// The hosts to which a beacon turn of host 1 sends its beacon, which claims so.
+fn beacons(
+    rt: &impl Abort,
+    alloc: Global,
+    node: &mut Server,
+    now: u32,
+    wanted: bool,
+) -> Result<[Host; 2], Fail> {
+    let mut out = step(rt, alloc, node, now, NodeEvent::BeaconTurn, StepEnd::Done)?;
+    let mut hosts = [Host(0); 2];
+    for k in 0..2 {
+        let Some(Output::Send(packet)) = out.take() else {
+            return Ok(hosts);
+        };
+        assert_eq!(rt; packet.from, Host(1));
+        match packet.body {
+            Body::Beacon {
+                start,
+                claim,
+                ready,
+                version: told,
+            } => {
+                assert_eq!(rt; (start, claim, ready), (now, wanted, false));
+                assert_eq!(rt; told, version(0, 0));
+            }
+            _ => panic!(rt; "no beacon at {now}"),
+        }
+        hosts[k] = packet.to;
+    }
+    assert!(rt; out.take().is_none());
+    Ok(hosts)
+}
+
 /// Asks, in a step that ends so.
 fn ask(
     rt: &impl Abort,
@@ -104,7 +242,9 @@ fn ask(
     node: &mut Server,
     asked: (u32, u32, &[u8]),
     wanted: StepEnd,
-) -> Result<Outputs, Fail> {
+) -> Result<Outputs, Fail>
+    ensures { IfOk result (λ out. own_member node.new ≡ own_member node.old) }
+{
     let (now, id, bytes) = asked;
     let call = bytes_of(alloc, bytes)?;
     step(rt, alloc, node, now, NodeEvent::Ask { id, call }, wanted)
@@ -125,6 +265,18 @@ fn is_answer(output: &Option<Output>, wanted: u32, answer: &[u8]) -> bool {
                 reply: Reply::Ok(bytes),
             },
         ) => *id == wanted && bytes.as_slice() == answer,
+        _ => false,
+    }
+}
+
+fn is_elsewhere(output: &Option<Output>, wanted: u32, heard: (Host, u32)) -> bool {
+    match output {
+        Some(
+            Output::Reply {
+                id,
+                reply: Reply::NotSync { host, heard: at },
+            },
+        ) => *id == wanted && (*host, *at) == heard,
         _ => false,
     }
 }
@@ -256,5 +408,120 @@ fn a_disk_that_fails_in_a_commit_halts_the_server(rt: HostRuntime) -> Result<(),
         assert!(rt; node.halted());
     }
     assert_eq!(rt; node.version(), version(1076, 1));
+    Ok(())
+}
+
+/// A call of so many bytes.
+fn sevens(alloc: Global, bytes: usize) -> Result<Vec<u8>, AllocError> {
+    vec![in alloc; 7u8; bytes]
+}
+
+#[test]
+fn changes_of_more_than_a_mebibyte_are_too_large(rt: HostRuntime) -> Result<(), Fail> {
+    let alloc = rt.alloc();
+    let mut node = opened(&rt, alloc, MemDisk::new(alloc, &[])?)?;
+    let announced = turns(&rt, alloc, &mut node, 1076)?;
+    assert_eq!(rt; announced, Some(version(1076, 1)));
+    let long = sevens(alloc, 1_048_600)?;
+    let mut out = ask(&rt, alloc, &mut node, (1077, 1, &long), StepEnd::Done)?;
+    let Some(
+        Output::Reply {
+            id: 1,
+            reply: Reply::TooLarge { bytes },
+        },
+    ) = out.take()
+    else {
+        panic!(rt; "not refused");
+    };
+    assert_eq!(rt; bytes, 1_048_580);
+    assert_eq!(rt; node.len(), 0);
+    let fits = sevens(alloc, 1_048_572)?;
+    let mut out = ask(&rt, alloc, &mut node, (1077, 2, &fits), StepEnd::Done)?;
+    assert!(rt; is_announcement(&out.take(), version(1076, 2)));
+    assert_eq!(rt; node.len(), 1_048_572);
+    Ok(())
+}
+
+#[test]
+fn a_first_lease(rt: HostRuntime) -> Result<(), Fail> {
+    let alloc = rt.alloc();
+    let mut node = one_of_three(&rt, alloc, 0)?;
+    let early = beacons(&rt, alloc, &mut node, 1075, false)?;
+    assert_eq!(rt; early, [Host(0), Host(0)]);
+    let first = beacons(&rt, alloc, &mut node, 1076, false)?;
+    assert_eq!(rt; first, [Host(2), Host(3)]);
+    assert_eq!(rt; node.lease_until(), 0);
+    voted(&rt, alloc, &mut node, Host(3), (1077, 1076, false))?;
+    voted(&rt, alloc, &mut node, Host(2), (1077, 1077, true))?;
+    voted(&rt, alloc, &mut node, Host(9), (1077, 1076, true))?;
+    assert_eq!(rt; node.lease_until(), 0);
+    voted(&rt, alloc, &mut node, Host(2), (1078, 1076, true))?;
+    assert_eq!(rt; node.lease_until(), 1136);
+    let before = node.debug(1090);
+    assert_eq!(rt; (before.host, before.now), (Host(1), 1090));
+    assert_eq!(rt;
+        (before.version, before.phase),
+        (version(0, 0), Phase::None)
+    );
+    assert_eq!(rt; (before.until, before.sync), (1136, Host(0)));
+    assert_eq!(rt; (before.voted, before.voted_at), (Host(1), 1076));
+    let again = beacons(&rt, alloc, &mut node, 1091, true)?;
+    assert_eq!(rt; again, [Host(2), Host(3)]);
+    let after = node.debug(1166);
+    assert_eq!(rt; (after.sync, after.voted_at), (Host(1), 1091));
+    assert_eq!(rt; node.debug(1167).sync, Host(0));
+    assert_eq!(rt; node.lease_until(), 1136);
+    Ok(())
+}
+
+#[test]
+fn no_second_yes_within_75_seconds(rt: HostRuntime) -> Result<(), Fail> {
+    let alloc = rt.alloc();
+    let mut node = one_of_three(&rt, alloc, 1)?;
+    let low = Heard {
+        from: Host(1),
+        to: Host(2),
+        claim: false,
+        ready: false,
+    };
+    let high = Heard {
+        from: Host(3),
+        claim: true,
+        ..low
+    };
+    let yes = votes(&rt, alloc, &mut node, 1075, low)?;
+    assert!(rt; !yes);
+    assert_eq!(rt; node.debug(1075).voted, Host(0));
+    assert_eq!(rt; node.debug(1075).voted_at, 1000);
+    let yes = votes(&rt, alloc, &mut node, 1076, low)?;
+    assert!(rt; yes);
+    let yes = votes(&rt, alloc, &mut node, 1151, high)?;
+    assert!(rt; !yes);
+    let is = node.debug(1151);
+    assert_eq!(rt; (is.sync, is.voted, is.voted_at), (Host(3), Host(1), 1076));
+    let yes = votes(&rt, alloc, &mut node, 1152, high)?;
+    assert!(rt; yes);
+    assert_eq!(rt; node.debug(1152).voted, Host(3));
+    Ok(())
+}
+
+#[test]
+fn a_ready_beacon_allows_reads(rt: HostRuntime) -> Result<(), Fail> {
+    let alloc = rt.alloc();
+    let mut node = one_of_three(&rt, alloc, 2)?;
+    let sync = Heard {
+        from: Host(1),
+        to: Host(3),
+        claim: true,
+        ready: true,
+    };
+    let yes = votes(&rt, alloc, &mut node, 1076, sync)?;
+    assert!(rt; yes);
+    let mut out = ask(&rt, alloc, &mut node, (1136, 1, b""), StepEnd::Done)?;
+    assert!(rt; is_answer(&out.take(), 1, b""));
+    for (now, id, call) in [(1136, 2, b"ab".as_slice()), (1137, 3, b"".as_slice())] {
+        let mut out = ask(&rt, alloc, &mut node, (now, id, call), StepEnd::Done)?;
+        assert!(rt; is_elsewhere(&out.take(), id, (Host(1), 1076)), "call {id}");
+    }
     Ok(())
 }

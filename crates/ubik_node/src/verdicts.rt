@@ -58,7 +58,7 @@ fn verdict_of_write<V: Service>(
         (written V.database (alone h) (server_of state.now) now id call answer image)) }
 {
     let old = state.image.as_slice();
-    // A longer image has no place in this memory.
+    // Places in an image are numbers of 32 bits: for a longer one memory is said to be too small.
     if image.as_slice().len() > u32::MAX as usize {
         return Err(NoMemory);
     }

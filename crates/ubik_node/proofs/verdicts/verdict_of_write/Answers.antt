@@ -21,6 +21,8 @@ returns-else-state-eq-MAX_COUNTER g c = λ h now id call.
     let apart : c.args.state.now.version.counter ≢ 2147483647 = c.if-state-eq-MAX_COUNTER.false in
     let empty : eqb (length c.as_slice-in_default.result.now) 0 ≡ false = sym c.is_empty.ensures ∙ c.if-is_empty.false in
     let listed : c.as_slice-in_default.result.now ≡ c.in_ok-changes.changes = c.as_slice-in_default.ensures in
-    let some : 0 < length c.in_ok-changes.changes = filled _ (ap (λ (x : List Change). eqb (length x) 0) (sym listed) ∙ empty) in
-    (image_within db.head db.block old c.args.image c.layout.ensures.length c.args.state.now.image_fits (ap (λ (x : List Change). too_large 0 (length old) x) same ∙ fits), omega arith,
-    commits db h c.args.state.now now id call c.args.answer c.args.image c.requires.0 c.requires.1 c.in_ok-changes.changes same fits some (ne_eqb _ _ apart) c.requires.2)
+    let some : 0 < length c.in_ok-changes.changes = filled _ (ap (λ (x : List Change). eqb (length x) 0) (sym listed) ∙ empty) in (
+      image_within db.head db.block old c.args.image c.layout.ensures.length c.args.state.now.image_fits (ap (λ (x : List Change). too_large 0 (length old) x) same ∙ fits),
+      omega arith,
+      commits db h c.args.state.now now id call c.args.answer c.args.image c.requires.0 c.requires.1 c.in_ok-changes.changes same fits some (ne_eqb _ _ apart) c.requires.2,
+    )
