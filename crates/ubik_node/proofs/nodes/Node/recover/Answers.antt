@@ -3,7 +3,7 @@ use Rattle.cell_model.specs.declared.events.NodeEvent.TheVariants.{RecoverTurn}
 use Rattle.cell_model.specs.declared.events.Output.{Output}
 use Rattle.cell_model.specs.declared.events.Output.TheVariants as output
 use Rattle.cell_model.specs.NodeRule.{step_of}
-use Rattle.cell_model.specs.Recovery.{epoch_of}
+use Rattle.cell_model.specs.Recovery.{first_of_epoch}
 use Rattle.ubik_node.specs.declared.nodes.StepEnd.TheVariants.{Done}
 use Rattle.ubik_node.specs.declared.recovering.Plan.TheVariants as plan
 use Rattle.ubik_node.specs.State.{member_of, server_of}
@@ -30,5 +30,5 @@ returns-in-Ok-clause-step g c =
     steps_at db (member_of st) Done RecoverTurn RecoverTurn (server_of st) c.args.now _ _ _ _ _ _ (up_if _ _ _ c.requires.whole) (up_if _ _ _ c.requires.whole) refl (
       [],
       relabel_made (step_of db (member_of st) (server_of st) c.args.now RecoverTurn []) (server_of st) c.in-Relabel.poll c.args.now _ _ _ (planned_step db st c.args.now (plan.Relabel c.in-Relabel.poll) c.requires.alone st.place c.in-Relabel.ensures)
-          (c.put.ensures ∙ ap (λ (o : List Output). o ++ output.Announce (epoch_of c.args.now) ∷ []) c.requires.empty) c.in-Ok.ensures.steps,
+          (c.put.ensures ∙ ap (λ (o : List Output). o ++ output.Announce (first_of_epoch c.args.now) ∷ []) c.requires.empty) c.in-Ok.ensures.steps,
     )
