@@ -2,6 +2,11 @@
 //! single copy take a database's meaning.
 #![tactic(auto)]
 
+mod blocks;
 mod services;
 
-pub use services::{CallReply, Service};
+pub use blocks::{changes_between, law_changes_lead, too_large};
+pub use services::{CallReply, Layout, Service};
+
+#[cfg(test)]
+mod tests;

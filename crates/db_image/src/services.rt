@@ -1,5 +1,5 @@
 //! A database as a server sees it.
-ghost use Rattle.std.specs.Prelude.{◌≡◌, ◌≤◌, length, unwrap_or, IfOk};
+ghost use Rattle.std.specs.Prelude.{◌≡◌, ◌<◌, ◌≤◌, length, unwrap_or, IfOk};
 ghost use Rattle.db_image.specs.Database.{Database};
 
 use std::alloc::Global;
@@ -18,10 +18,25 @@ pub enum CallReply {
     BadRecord { at: u32 },
 }
 
+/// How the images of a database are cut: a head, and blocks of one length behind it. The last of them may be shorter.
+#[derive(Clone, Copy)]
+pub struct Layout {
+    /// The length of the head, in bytes.
+    pub head: u32,
+    /// The length of a block, in bytes.
+    pub block: u32,
+}
+
 /// A database that a server can run.
 pub trait Service {
     /// What it makes of calls.
     ghost database: { Database };
+
+    /// How its images are cut. A block has a length, so an image has no more blocks than bytes.
+    fn layout() -> Layout
+        ensures head { result.head ≡ database.head }
+        ensures block { result.block ≡ database.block }
+        ensures length { 0 < database.block };
 
     /// Whether a call's bytes are a call that writes; none where they are no call.
     fn writes(call: &[u8]) -> Option<bool>

@@ -2,6 +2,7 @@ pub mod AnswerWords
 pub mod CallLaw
 pub mod Fields
 pub mod Fixed
+pub mod Growth
 pub mod Ids
 pub mod Initial
 pub mod IdTexts

@@ -11,7 +11,7 @@ use Rattle.prdb_entries.specs.Reading.{call_of}
 use Rattle.prdb_entries.specs.Names.{lowered, is_user_name}
 use Rattle.prdb_entries.specs.State.{initial_state}
 use Rattle.prdb_entries.specs.Meaning.{ids_above, new_user, bad_name, name_exists, no_ids}
-use Rattle.prdb_entries.specs.Layout.{layout, block_of}
+use Rattle.prdb_entries.specs.Layout.{head_len, block_len, layout, block_of}
 use Rattle.prdb_entries.specs.Blocks.{has_whole_blocks, block_count, blocks_of, id_among, name_among, id_is_among}
 
 -- the least unused user id above the maximum that the head has
@@ -65,4 +65,9 @@ outcome image a = record { reply = a.0; image = unwrap_or a.1 image }
 
 -- the protection database
 abbrev pub protection : Database
-protection = record { writes = λ call. option_map is_write (call_of call); call = λ image now call. outcome image (answer_over image (call_of call)) }
+protection = record {
+  writes = λ call. option_map is_write (call_of call);
+  call = λ image now call. outcome image (answer_over image (call_of call));
+  head = head_len;
+  block = block_len;
+}

@@ -1,5 +1,5 @@
 //! Laws of the definitions that the contracts cite.
-ghost use Rattle.std.specs.Prelude.{◌≡◌, ◌↔◌, ℕ, List, [], Some, None};
+ghost use Rattle.std.specs.Prelude.{◌≡◌, ◌↔◌, ◌≤◌, ℕ, List, [], Some, None, length};
 ghost use Rattle.prdb_entries.specs.Bytes.{IsBytes};
 ghost use Rattle.prdb_entries.specs.Call.{PrCall, IsPrCall, spelling};
 ghost use Rattle.prdb_entries.specs.Reading.{call_of};
@@ -26,6 +26,11 @@ pub fn law_call_means()
         → IsMeant (protection.call image now bytes) image s (meaning s now call) }
     ensures no_call { (image bytes : List ℕ) (now : ℕ) → call_of bytes ≡ None
         → protection.call image now bytes ≡ outcome image (CallReply.Malformed, None) }
+{}
+
+/// No call leaves an image that is shorter than before.
+pub fn law_images_never_shrink()
+    ensures { (image bytes : List ℕ) (now : ℕ) → length image ≤ length (protection.call image now bytes).image }
 {}
 
 /// A call that words name is the one that its spelling is read as: words never name bytes that are no call.

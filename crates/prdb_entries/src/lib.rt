@@ -15,7 +15,7 @@ pub use calls::writes;
 pub use images::call_image;
 pub use laws::{
     law_answers_are_words, law_call_is_spelled, law_call_means, law_empty_is_initial,
-    law_words_name_a_call,
+    law_images_never_shrink, law_words_name_a_call,
 };
 pub use service::PrService;
 pub use words::{call_words, is_unbuilt, reply_words};

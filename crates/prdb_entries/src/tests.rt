@@ -1,11 +1,16 @@
 use super::*;
-use db_image::CallReply;
+use db_image::{CallReply, Service, changes_between};
 use std::alloc::Global;
+use std::process::Abort;
 use std::test::Fail;
-use ubik_types::{Bytes, NoMemory, bytes_of};
+use ubik_types::{Bytes, Change, MAX_IMAGE, NoMemory, bytes_of};
 
 const NEW_SMITH: [u8; 24] = [
     0, 0, 0, 1, 0, 0, 0, 5, b's', b'm', b'i', b't', b'h', 0, 0, 0, 0, 0, 0, 0, 0, 0, 0, 0,
+];
+
+const NEW_JONES: [u8; 24] = [
+    0, 0, 0, 1, 0, 0, 0, 5, b'j', b'o', b'n', b'e', b's', 0, 0, 0, 0, 0, 0, 0, 0, 0, 0, 0,
 ];
 
 const SMITH_TO_ID: [u8; 20] = [
@@ -45,6 +50,50 @@ fn first_user(rt: HostRuntime) -> Result<(), Fail> {
     assert!(rt; after.is_none());
     let (reply, _) = call_image(rt.alloc(), image.as_slice(), 1076, &NEW_SMITH)?;
     assert!(rt; is_rule(&reply, 267264));
+    Ok(())
+}
+
+/// The positions and the lengths of the puts from one image to another.
+fn puts(
+    rt: &impl Abort,
+    alloc: Global,
+    old: &[u8],
+    new: &[u8],
+) -> Result<Vec<(u32, usize)>, NoMemory> {
+    assert!(rt; old.len() <= MAX_IMAGE && new.len() <= MAX_IMAGE);
+    let changes = changes_between(alloc, old, new, PrService::layout())?;
+    let mut puts = Vec::new(alloc);
+    for change in changes.as_slice() {
+        match change {
+            Change::Put { at, bytes } => puts.push((*at, bytes.as_slice().len()))?,
+            Change::Cut { .. } => panic!(rt; "no user makes an image shorter"),
+        }
+    }
+    Ok(puts)
+}
+
+#[test]
+fn a_user_changes_the_head_and_a_block(rt: HostRuntime) -> Result<(), Fail> {
+    let (_, first) = call_image(rt.alloc(), &[], 1076, &NEW_SMITH)?;
+    let first = first.ok_or("a user changes the image")?;
+    let first = first.as_slice();
+    let written = puts(&rt, rt.alloc(), &[], first)?;
+    let whole = [
+        (0, 2112),
+        (2112, 192),
+        (2304, 192),
+        (2496, 192),
+        (2688, 192),
+        (2880, 192),
+        (3072, 192),
+        (3264, 192),
+    ];
+    assert_eq!(rt; written.as_slice(), whole.as_slice());
+    assert!(rt; first.len() <= MAX_IMAGE);
+    let (_, second) = call_image(rt.alloc(), first, 1076, &NEW_JONES)?;
+    let second = second.ok_or("a user changes the image")?;
+    let written = puts(&rt, rt.alloc(), first, second.as_slice())?;
+    assert_eq!(rt; written.as_slice(), [(0, 2112), (3456, 192)].as_slice());
     Ok(())
 }
 
