@@ -1,7 +1,9 @@
 pub mod Asks
 pub mod Book
+pub mod Causes
 pub mod Durable
 pub mod Lapse
+pub mod Laws
 pub mod Node
 pub mod NodeRule
 pub mod Pieces

@@ -4,5 +4,7 @@
 #![tactic(auto)]
 
 mod events;
+mod laws;
 
 pub use events::{NodeEvent, Output};
+pub use laws::{law_database_is_durable, law_replies_have_causes};
