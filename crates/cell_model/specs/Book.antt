@@ -1,10 +1,11 @@
 -- What a run is worth: the book of versions, the announcements, the order, what was acknowledged, the votes and the replies
 -- that were given, and which server is a ready sync site (own). No rule of a server reads any of it.
-use Rattle.std.specs.Prelude.{ℕ, ◌+◌, ◌-◌, ◌==◌, Bool, true, false, ◌&&◌, if◌then◌else◌, Option, Some, None, unwrap_or, option_map, List, [], ◌∷◌, ◌++◌, length, map, slice_get}
+use Rattle.std.specs.Prelude.{ℕ, ◌+◌, ◌-◌, ◌==◌, Bool, true, false, ◌&&◌, if◌then◌else◌, Option, Some, None, unwrap_or, option_map, List, [], ◌∷◌, ◌++◌, length, drop}
 use Rattle.db_image.specs.Database.{Database}
 use Rattle.ubik_types.specs.declared.hosts.Host.{Host}
 use Rattle.ubik_types.specs.declared.versions.Version.{Version}
 use Rattle.ubik_types.specs.Version.{zero_version, version_eq}
+use Rattle.ubik_types.specs.Lease.{is_in_lease}
 use Rattle.ubik_types.specs.Votes.{beacon_is_due}
 use Rattle.ubik_calls.specs.declared.packets.Packet.{Packet}
 use Rattle.ubik_calls.specs.declared.packets.Body.{Body}
@@ -15,7 +16,7 @@ use Rattle.cell_model.specs.Durable.{Transaction, Reason, Own_relabelling, Commi
 use Rattle.cell_model.specs.Lapse.{lapsed}
 use Rattle.cell_model.specs.Node.{Node, Down, Halted, Up, Server}
 use Rattle.cell_model.specs.NodeRule.{place_of}
-use Rattle.cell_model.specs.Step.{Member, Basis, Announced_image, Beacon_image, Commit_on, Evaluation, leased, is_ready}
+use Rattle.cell_model.specs.Step.{Member, Basis, Announced_image, Beacon_image, Commit_on, Evaluation, cell_size, leased, is_ready}
 use Rattle.cell_model.specs.World.{World, Site, Event, Trigger, Beacon_turn, Step, Happening, Sent, Announced, Replied, Happened, Entry, happens, member, site_of}
 use Rattle.cell_model.specs.Writes.{announced_image}
 
@@ -98,22 +99,33 @@ acknowledged book [] before = before
 acknowledged book (Replied server id r e ∷ seen) before = acknowledged book seen (acknowledged_in book r e ++ before)
 acknowledged book (_ ∷ seen) before = acknowledged book seen before
 
--- A reply that a database gave: at which server, to which call, and on what it was evaluated.
+-- A reply that a database gave: at which server, to which call, on what it was evaluated, and the order at that moment.
 pub record Given : Type 0 where
   pub server : ℕ
   pub id : ℕ
   pub reply : Reply
   pub evaluation : Evaluation
+  pub order : List Transaction
 
-abbrev pub given_with : ℕ → ℕ → Reply → Option Evaluation → List Given → List Given
-given_with server id r None before = before
-given_with server id r (Some e) before = record { server = server; id = id; reply = r; evaluation = e } ∷ before
+-- The order at which a reply was evaluated, by the announcements before it: the Ok of a commit comes right behind its own
+-- announcement, and was evaluated on the order before that.
+abbrev pub order_at : Basis → List Announcement → List Transaction
+order_at (Commit_on old new) announcements = order_of (drop 1 announcements)
+order_at _ announcements = order_of announcements
+
+abbrev pub given_with : List Announcement → ℕ → ℕ → Reply → Option Evaluation → List Given → List Given
+given_with announcements server id r None before = before
+given_with announcements server id r (Some e) before =
+    record { server = server; id = id; reply = r; evaluation = e; order = order_at e.basis announcements } ∷ before
 
 -- with the replies that were seen, the last one first
-abbrev pub given : List Happening → List Given → List Given
-given [] before = before
-given (Replied server id r e ∷ seen) before = given seen (given_with server id r e before)
-given (_ ∷ seen) before = given seen before
+abbrev pub given : Book → List Happening → List Announcement → List Given → List Given
+given book [] announcements before = before
+given book (Announced server version ∷ seen) announcements before =
+    given book seen (announced book (Announced server version ∷ []) announcements) before
+given book (Replied server id r e ∷ seen) announcements before =
+    given book seen announcements (given_with announcements server id r e before)
+given book (_ ∷ seen) announcements before = given book seen announcements before
 
 -- A yes: of which voter to which server, for the beacon of which start, and when by the clock of the voter.
 pub record Yes : Type 0 where
@@ -185,7 +197,7 @@ run_with r e h =
       book = book;
       announcements = announced book h.seen r.announcements;
       acknowledged = acknowledged book h.seen r.acknowledged;
-      given = given h.seen r.given;
+      given = given book h.seen r.announcements r.given;
       yeses = yeses_sent h.world h.seen (own_yes r.world e ++ r.yeses);
     }
 
@@ -196,6 +208,12 @@ run_after db r e = run_with r e (happens db r.world e)
 abbrev pub run_through : Database → Run → List Event → Run
 run_through db r [] = r
 run_through db r (e ∷ events) = run_through db (run_after db r e) events
+
+-- A server is in lease: it is up, or halted, where its starts from before that count.
+abbrev pub is_leased_node : Member → ℕ → Node → Bool
+is_leased_node m clock Down = false
+is_leased_node m clock (Halted h) = is_in_lease (cell_size m) h.starts clock
+is_leased_node m clock (Up s) = leased m s clock
 
 -- a ready sync site: up, not halted, in lease, and ready
 abbrev pub is_ready_site : Member → ℕ → Node → Bool

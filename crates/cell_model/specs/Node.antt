@@ -60,7 +60,7 @@ pub record Server : Type 0 where
   -- the calls that wait, in their order
   pub waiting : List Waiting
 
--- what a server keeps that met a fault of its disk: all of it from before that step
+-- what a server keeps that met a fault of its disk: no more than this, and as it was before that step
 pub record HaltedServer : Type 0 where
   pub version : Version
   pub len : ℕ

@@ -16,13 +16,13 @@ use Rattle.cell_model.specs.Pieces.{piece_from, joined, changes_in}
 use Rattle.cell_model.specs.Recovery.{text_with, is_whole, installed}
 use Rattle.cell_model.specs.Step.{Member, Stepped, quiet, showing, followed, is_fetch, with_database, sends_to}
 
--- a server that sends its own database takes nothing from others
+-- a server that sends its own database ignores versions, images and writes that another one sends
 abbrev pub is_sending : PhaseRecord → Bool
 is_sending (Send _ _) = true
 is_sending (Ready _ _ _) = true
 is_sending _ = false
 
--- the server says which version its database is of, after it took that over
+-- the server says that its database is the one of its version: it took it over now, or had it
 abbrev pub keeps_version : Member → Host → Server → Stepped
 keeps_version m host s = showing s (sends_to m host (body.VersionKept s.version))
 
@@ -131,7 +131,7 @@ write_dropped s new = if is_sending s.phase then quiet s else quiet (record s { 
 abbrev pub version_asked : Member → Server → Host → ℕ → Stepped
 version_asked m s host poll = tells_version m host poll s
 
--- Get piece: a piece of the own image, where it is of that version and begins within it
+-- Get piece: a piece of the own image, where it is of that version, and the piece begins at 0 or within it
 abbrev pub piece_asked : Member → Server → Host → ℕ → Version → ℕ → Stepped
 piece_asked m s host poll version at =
     if version_eq s.version version && (at == 0 || nat_lt at (length s.image))

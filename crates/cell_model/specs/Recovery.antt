@@ -104,7 +104,8 @@ abbrev pub spread_again : Member → Server → Polled → Spread → Version �
 spread_again m s poll spread announced =
     showing s (sends_to_each m (λ k. if is_marked spread.holders k then [] else spread_bodies s poll announced s.flight))
 
--- Recovery turn, by the phase. (In Send there is no write in flight.)
+-- Recovery turn, by the phase. (In Send there is no write in flight. In Ready nothing waits for a majority that is there: a write
+-- is over as soon as its last holder is added.)
 abbrev pub recovered : Member → Server → ℕ → PhaseRecord → Stepped
 recovered m s now NoPhase = if leased m s now then poll_begun m s now else quiet s
 recovered m s now (Poll poll) = poll_asked m s poll now
@@ -112,7 +113,7 @@ recovered m s now (Fetch poll best k) =
     if nat_lt (poll.number + SMALLTIME) now then poll_begun m s now else next_asked m s poll best k
 recovered m s now (Relabel poll) = relabelled m s poll now
 recovered m s now (Send poll spread) = followed (spread_again m s poll spread s.version) (settled m)
-recovered m s now (Ready poll spread announced) = followed (spread_again m s poll spread announced) (settled m)
+recovered m s now (Ready poll spread announced) = spread_again m s poll spread announced
 
 abbrev pub recovery_turn : Member → Server → ℕ → Stepped
 recovery_turn m s now = recovered m s now s.phase
@@ -126,14 +127,15 @@ held_by other k = other
 abbrev pub holder_added : Database → Member → Server → ℕ → ℕ → List Bool → Stepped
 holder_added db m s now k short = settled_with_turns db m (with_phase s (held_by s.phase k)) now short
 
--- Another version than the own one was told for this poll, and no write is in flight: the server is sent what it lacks. That is
--- the new version alone only where no commit has followed the relabelling.
+-- A server that told another version than the own one is sent what it lacks, unless a write is in flight: the new version alone,
+-- where that server has the one before the relabelling and no commit has followed it; else the image.
 abbrev pub lacking_sent : Member → Server → Host → Polled → Spread → Version → Option Flight → Stepped
 lacking_sent m s host poll spread version None =
     showing s (sends_to m host (spread_to s poll.number spread.old (s.version.counter == 1 && version_eq version spread.old)))
 lacking_sent m s host poll spread version (Some f) = quiet s
 
--- Holders: a version that was told for the poll of a database that is being sent, or was.
+-- Version told in Send or Ready, which counts only for the poll of the node: the own version makes a holder, and a server with
+-- another one is sent what it lacks.
 abbrev pub told_to_spread : Database → Member → Server → ℕ → Host → ℕ → Polled → Spread → ℕ → Version → List Bool → Stepped
 told_to_spread db m s now host k poll spread number version short =
     if number == poll.number

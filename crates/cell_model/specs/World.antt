@@ -6,13 +6,16 @@ use Rattle.db_image.specs.Database.{Database}
 use Rattle.ubik_types.specs.declared.hosts.Host.{Host}
 use Rattle.ubik_types.specs.declared.limits.TheConstants.{MAX_MOMENT, SKEW}
 use Rattle.ubik_types.specs.declared.versions.Version.{Version}
+use Rattle.ubik_types.specs.Hosts.{IsCell}
+use Rattle.ubik_types.specs.Moment.{IsMoment}
+use Rattle.ubik_types.specs.Version.{zero_version, version_eq}
 use Rattle.ubik_calls.specs.declared.packets.Packet.{Packet}
 use Rattle.ubik_calls.specs.declared.replies.Reply.{Reply}
 use Rattle.cell_model.specs.declared.events.NodeEvent.{NodeEvent}
 use Rattle.cell_model.specs.declared.events.NodeEvent.TheVariants as event
 use Rattle.cell_model.specs.declared.events.Output.{Output}
 use Rattle.cell_model.specs.declared.events.Output.TheVariants as output
-use Rattle.cell_model.specs.Durable.{Durable, Made, no_database, durable_after_all, version_after}
+use Rattle.cell_model.specs.Durable.{Durable, Made, no_database, durable_after_all, version_after, disk_calls}
 use Rattle.cell_model.specs.Node.{Node, Down, Halted, Up, Server, opened_server, halted_from}
 use Rattle.cell_model.specs.NodeRule.{step_of, refusals, place_of}
 use Rattle.cell_model.specs.Step.{Member, Evaluation, Shown, Stepped}
@@ -73,6 +76,13 @@ pub record Entry : Type 0 where
   pub server : ℕ
   pub before : Version
   pub made : Made
+
+-- how many changing calls of its disk a durable call makes: a database has a label once its version is not the first
+abbrev pub calls_on : Version → Made → ℕ
+calls_on version made = disk_calls (not (version_eq version zero_version)) made.call
+
+abbrev pub entry_calls : Entry → ℕ
+entry_calls e = calls_on e.before e.made
 
 -- the world after an event, what was seen, and which durable calls took place
 pub record Happened : Type 0 where
@@ -191,11 +201,13 @@ fault_up k site e s t made =
       entries = entries_from k s.version (take made t.calls);
     }
 
--- only a server that is up, and not halted, has a disk to stop in or to fail
+-- a halted server makes no durable call, and only goes down
 abbrev pub stop_at : Database → Member → NodeEvent → List Bool → ℕ → Site → Node → SiteHappened
 stop_at db m e short made site (Up s) = stop_up m.me site s.version (step_of db m s site.clock e short) made
-stop_at db m e short made site _ = only_marks site []
+stop_at db m e short made site (Halted h) = only_marks (record site { node = Down }) (Stops m.me ∷ [])
+stop_at db m e short made site Down = only_marks site []
 
+-- only a server that is up, and not halted, has a disk that can fail
 abbrev pub fault_at : Database → Member → NodeEvent → List Bool → ℕ → Site → Node → SiteHappened
 fault_at db m e short made site (Up s) = fault_up m.me site e s (step_of db m s site.clock e short) made
 fault_at db m e short made site _ = only_marks site []
@@ -277,9 +289,9 @@ abbrev pub is_down : Node → Bool
 is_down Down = true
 is_down _ = false
 
-abbrev pub is_whole : Node → Bool
-is_whole (Up s) = true
-is_whole _ = false
+abbrev pub has_disk : Node → Bool
+has_disk (Up s) = true
+has_disk _ = false
 
 -- an id is asked once since the opening
 abbrev pub is_new_ask : List ℕ → NodeEvent → Bool
@@ -303,19 +315,23 @@ may_be_down _ = false
 abbrev pub may_step : Trigger → NodeEvent → Site → Bool
 may_step trigger e site = if is_down site.node then may_be_down trigger else is_new_ask site.asked e
 
-abbrev pub may_break : NodeEvent → Site → Bool
-may_break e site = is_whole site.node && is_new_ask site.asked e
+abbrev pub may_stop : NodeEvent → Site → Bool
+may_stop e site = not (is_down site.node) && is_new_ask site.asked e
 
--- What is an event of a world. No event is: a tick that parts two clocks by more than 7 seconds, or takes one past the last
--- moment; a packet that was not sent; an id that was asked before; a turn of a server that is down; a stop or a fault of one
--- that is down or halted; a crash of one that is down, and an opening of one that is up.
+abbrev pub may_fail : NodeEvent → Site → Bool
+may_fail e site = has_disk site.node && is_new_ask site.asked e
+
+-- What is an event of a world. No event is: a tick of no second, one that parts two clocks by more than 7 seconds, or takes one
+-- past the last moment; a packet that was not sent; an id that was asked before; a turn or a stop of a server that is down; a
+-- fault of one that is down or halted; an opening of one that is up. A server that is down may crash again: nothing changes.
 abbrev pub is_event : World → Event → Bool
-is_event w (Tick server seconds) = is_some (site_of w server) && may_tick (tick_at w.sites server seconds)
-is_event w (Tick_all seconds) = may_tick (map (ticked seconds) w.sites)
+is_event w (Tick server seconds) =
+    nat_lt 0 seconds && is_some (site_of w server) && may_tick (tick_at w.sites server seconds)
+is_event w (Tick_all seconds) = nat_lt 0 seconds && may_tick (map (ticked seconds) w.sites)
 is_event w (Step trigger short) = occurs w (may_step trigger) (occasion w trigger)
-is_event w (Stop trigger short made) = occurs w may_break (occasion w trigger)
-is_event w (Fault trigger short made) = occurs w may_break (occasion w trigger)
-is_event w (Crash server) = holds_at (λ (site : Site). not (is_down site.node)) (site_of w server)
+is_event w (Stop trigger short made) = occurs w may_stop (occasion w trigger)
+is_event w (Fault trigger short made) = occurs w may_fail (occasion w trigger)
+is_event w (Crash server) = is_some (site_of w server)
 is_event w (Restart server failed) = holds_at (λ (site : Site). is_down site.node) (site_of w server)
 
 abbrev pub IsEvent : World → Event → Type 0
@@ -346,6 +362,12 @@ first_site n clock failed =
       node = if failed then Down else Up (opened_server n no_database clock);
       asked = [];
     }
+
+-- what makes a first world: a cell of 1 to 20 servers, a moment, and for each server whether its disk failed
+pub record IsFirst (hosts : List Host) (clock : ℕ) (failed : List Bool) : Type 0 where
+  pub cell : IsCell hosts
+  pub moment : IsMoment clock
+  pub each : length failed ≡ length hosts
 
 abbrev pub first_world : List Host → ℕ → List Bool → World
 first_world hosts clock failed =
