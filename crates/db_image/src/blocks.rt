@@ -1,5 +1,5 @@
 //! The changes from one image to another by whole blocks, and whether changes are too many.
-ghost use Rattle.std.specs.Prelude.{◌≡◌, ◌≢◌, ◌≤◌, ◌<◌, ◌++◌, ℕ, List, [], length, IfOk, OnOk};
+ghost use Rattle.std.specs.Prelude.{◌≡◌, ◌≢◌, ◌≤◌, ◌<◌, ◌++◌, ◌^◌, ℕ, List, [], length, IfOk, OnOk};
 ghost use Rattle.ubik_types.specs.Image.{effect};
 ghost use Rattle.ubik_types.specs.Logged.{passed_limit, too_large};
 ghost use Rattle.db_image.specs.Blocks.{block_at, block_change, changes_between};
@@ -38,7 +38,7 @@ fn push_block(
     changes_push(changes, Change::Put { at, bytes })
 }
 
-/// The changes from one image to another, each of at most 16,777,216 bytes: one put of each whole block that is new or in which
+/// The changes from an image to another, which may be too long for an image: one put of each whole block that is new or in which
 /// a byte is another one, ascending.
 pub fn changes_between(
     alloc: Global,
@@ -48,7 +48,7 @@ pub fn changes_between(
 ) -> Result<Changes, NoMemory>
     requires block { 0 < layout.block }
     requires old { length old.now ≤ MAX_IMAGE }
-    requires new { length new.now ≤ MAX_IMAGE }
+    requires new { length new.now < 2 ^ 32 }
     ensures { IfOk result (λ changes. changes ≡ changes_between layout.head layout.block old.now new.now) }
 {
     let mut changes = changes_new(alloc);

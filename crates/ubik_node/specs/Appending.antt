@@ -9,4 +9,6 @@ appending =
     record {
       writes = λ call. Some (not (length call == 0));
       call = λ image now call. record { reply = reply.Done image; image = image ++ call };
+      head = 4;
+      block = 8;
     }

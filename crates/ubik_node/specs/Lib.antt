@@ -1,9 +1,11 @@
 pub mod Appending
+pub mod Built
 pub mod Database
+pub mod Debug
 pub mod Fault
 pub mod Node
-pub mod OwnVotes
 pub mod Progress
+pub mod Recovering
 pub mod Serving
 pub mod State
 pub mod Verdict

@@ -1,36 +1,50 @@
--- A call at the ready sync site.
-use Rattle.std.specs.Prelude.{◌≡◌, ◌⊎◌, ℕ, Bool, List, [], ◌∷◌}
+-- What becomes of a call.
+use Rattle.std.specs.Prelude.{◌≡◌, ℕ, Bool, List, [], ◌∷◌}
 use Rattle.ubik_types.specs.declared.versions.Version.{Version}
+use Rattle.ubik_types.specs.declared.hosts.Host.{Host}
+use Rattle.ubik_calls.specs.declared.replies.Reply.{Reply}
 use Rattle.db_image.specs.Database.{Database}
 use Rattle.cell_model.specs.declared.events.Output.{Output}
 use Rattle.cell_model.specs.declared.events.Output.TheVariants as output
-use Rattle.cell_model.specs.declared.events.Reply.TheVariants as reply
+use Rattle.cell_model.specs.Asks.{asked, read}
+use Rattle.cell_model.specs.Node.{Server}
 use Rattle.cell_model.specs.Node as model
-use Rattle.cell_model.specs.NodeRule.{evaluated, asked, lapsed}
-use Rattle.ubik_node.specs.declared.state.State.{State}
-use Rattle.ubik_node.specs.declared.state.Progress.TheVariants as progress
-use Rattle.ubik_node.specs.Progress.{own_poll, own_spread}
-use Rattle.ubik_node.specs.State.{server_of}
+use Rattle.cell_model.specs.Step.{Member, Basis, Stepped, showing, refusing}
+use Rattle.cell_model.specs.Writes.{write_turn}
+use Rattle.ubik_node.specs.declared.progress.Progress.{Progress}
+use Rattle.ubik_node.specs.declared.progress.Progress.TheVariants as progress
+use Rattle.ubik_node.specs.declared.serving.Turn.{Turn}
+use Rattle.ubik_node.specs.declared.serving.Turn.TheVariants as turn
 use Rattle.ubik_node.specs.Node.{Makes}
+use Rattle.ubik_node.specs.Progress.{alone}
+use Rattle.ubik_node.specs.Verdict.{Leads}
 
 -- calls are served
-abbrev pub IsServing : State → Type 0
-IsServing s = (poll : ℕ) × (old : Version) × (s.progress ≡ progress.Ready poll old)
+abbrev pub IsServing : Progress → Type 0
+IsServing p = (poll : ℕ) × (old : Version) × (p ≡ progress.Ready poll old)
 
--- the call was not evaluated for want of memory
-pub record IsShort (s : model.Server) (id : ℕ) (after : model.Node) (out : List Output) (disk_before disk_after : ℕ) : Type 0 where
-  pub same : after ≡ model.Up s
-  pub answer : out ≡ output.Reply id reply.NoMemory ∷ []
-  pub disk : disk_after ≡ disk_before
+-- what a call leads to
+abbrev pub TurnsTo : Database → Member → Server → ℕ → ℕ → List ℕ → Bool → Turn → Stepped → Type 0
+TurnsTo db m s now id call short (turn.Refuse r) t = t ≡ showing s (refusing id r ∷ [])
+TurnsTo db m s now id call short turn.Read t = (basis : Basis) × (t ≡ read db s now id call s.image basis short)
+TurnsTo db m s now id call short turn.Write t = t ≡ write_turn db m s now id call short
 
--- the call was evaluated, or memory ran out
-abbrev pub Served : Database → State → ℕ → ℕ → List ℕ → Bool → model.Node → List Output → ℕ → ℕ → Type 0
-Served db s now id call writes after out disk_before disk_after =
-    ((poll : ℕ) (old : Version) → s.progress ≡ progress.Ready poll old →
-    Makes (evaluated db 1 0 (server_of s) now id call writes (own_poll poll old) (own_spread old)) after out disk_before disk_after)
-    ⊎ IsShort (server_of s) id after out disk_before disk_after
+abbrev pub IsWrite : Turn → Type 0
+IsWrite (turn.Refuse r) = ⊥
+IsWrite turn.Read = ⊥
+IsWrite turn.Write = Unit {0}
 
--- a call at a server that is not halted: which calls find no memory is free
-abbrev pub Asked : Database → model.Server → ℕ → ℕ → List ℕ → model.Node → List Output → ℕ → ℕ → Type 0
-Asked db s now id call after out disk_before disk_after =
-    (short : Bool) × Makes (asked db 1 0 (lapsed 1 s now) now id call short) after out disk_before disk_after
+-- A call at a server was made, or it found no memory. Which is free.
+abbrev pub Answers : Database → Member → Server → ℕ → ℕ → List ℕ → model.Node → List Output → ℕ → ℕ → Type 0
+Answers db m s now id call after out disk_before disk_after =
+    (short : Bool) × Makes (asked db m s now id call short) after out disk_before disk_after
+
+-- the reply to a call that reads the own image
+abbrev pub Reads : Database → Server → ℕ → List ℕ → Reply → Type 0
+Reads db s now call r =
+    (id : ℕ) (basis : Basis) → (short : Bool) × Leads (read db s now id call s.image basis short) s (output.Reply id r ∷ []) 0
+
+-- a writing call at a server that is alone in its cell was made, or it found no memory
+abbrev pub Writes : Database → Host → Server → ℕ → ℕ → List ℕ → model.Node → List Output → ℕ → ℕ → Type 0
+Writes db h s now id call after out disk_before disk_after =
+    (short : Bool) × Makes (write_turn db (alone h) s now id call short) after out disk_before disk_after

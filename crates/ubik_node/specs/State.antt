@@ -1,16 +1,41 @@
--- The abstract server that a state stands for.
-use Rattle.cell_model.specs.Node.{Server}
+-- What the state of a node stands for: the abstract server, and its place in the cell.
+use Rattle.std.specs.Prelude.{◌≡◌, Option, Some, None, List, []}
+use Rattle.cell_model.specs.declared.events.Output.{Output}
+use Rattle.cell_model.specs.Node as model
+use Rattle.cell_model.specs.Step.{Member, Stepped, outputs_of}
+use Rattle.ubik_node.specs.declared.progress.ReadyBeacon.{ReadyBeacon}
 use Rattle.ubik_node.specs.declared.state.State.{State}
-use Rattle.ubik_node.specs.OwnVotes.{votes_of, starts_of}
 use Rattle.ubik_node.specs.Progress.{phase_record}
 
-abbrev pub server_of : State → Server
+abbrev pub beacon_of : Option ReadyBeacon → Option model.ReadyBeacon
+beacon_of None = None
+beacon_of (Some b) = Some (record { server = b.server; version = b.version; at = b.at })
+
+abbrev pub member_of : State → Member
+member_of s = record { hosts = s.cell; me = s.me }
+
+-- nothing of another server's writes or images is kept, and no write is in flight
+abbrev pub server_of : State → model.Server
 server_of s =
     record {
       version = s.version;
       image = s.image;
-      votes = votes_of s.votes;
-      starts = starts_of s.votes;
-      opened = s.opened;
+      votes = s.votes.votes;
+      starts = s.votes.starts;
+      opened = s.votes.opened;
       phase = phase_record s.version s.progress;
+      beacon = beacon_of s.beacon;
+      kept = None;
+      received = None;
+      flight = None;
+      waiting = [];
     }
+
+-- a step that changes nothing durable: the state after it, and what it puts out
+pub record Shows (t : Stepped) (before after : State) (out : List Output) : Type 0 where
+  pub server : t.server ≡ server_of after
+  pub calls : t.calls ≡ []
+  pub outputs : out ≡ outputs_of t.shown
+  pub member : member_of after ≡ member_of before
+  pub version : after.version ≡ before.version
+  pub image : after.image ≡ before.image

@@ -1,19 +1,38 @@
--- What a verdict on a call comes to.
-use Rattle.std.specs.Prelude.{◌≡◌, ◌<◌, ◌≤◌, ℕ, List, length}
+-- What a verdict on a writing call comes to, at a server that is alone in its cell.
+use Rattle.std.specs.Prelude.{◌≡◌, ◌<◌, ◌≤◌, ℕ, List, [], ◌∷◌, length}
+use Rattle.ubik_types.specs.declared.hosts.Host.{Host}
 use Rattle.ubik_types.specs.declared.phases.Phase.TheVariants as phases
-use Rattle.ubik_types.specs.Phase.{Polled, Spread}
+use Rattle.ubik_types.specs.declared.phases.Applied.TheVariants as applied
+use Rattle.ubik_calls.specs.declared.replies.Reply.TheVariants as reply
+use Rattle.cell_model.specs.declared.events.Output.{Output}
+use Rattle.cell_model.specs.declared.events.Output.TheVariants as output
+use Rattle.cell_model.specs.Lapse.{no_quorum}
 use Rattle.cell_model.specs.Node.{Server}
-use Rattle.cell_model.specs.NodeRule.{Stepped, answering, no_quorum, committed}
-use Rattle.ubik_node.specs.declared.state.Progress.TheVariants as progress
+use Rattle.cell_model.specs.Step.{Stepped, outputs_of}
+use Rattle.cell_model.specs.Writes.{next_version}
+use Rattle.ubik_node.specs.declared.progress.Progress.{Progress}
+use Rattle.ubik_node.specs.declared.progress.Progress.TheVariants as progress
 use Rattle.ubik_node.specs.declared.verdicts.Verdict.{Verdict}
 use Rattle.ubik_node.specs.declared.verdicts.Verdict.TheVariants as verdict
-use Rattle.ubik_node.specs.Progress.{phase_record}
+use Rattle.ubik_node.specs.Progress.{alone, phase_record}
 
--- the step of a server that a verdict on a call asks for
-abbrev pub Judges : Server → ℕ → ℕ → List ℕ → Polled → Spread → Verdict → Stepped → Type 0
-Judges s now id call poll spread (verdict.Reply r) t = t ≡ answering s id r
-Judges s now id call poll spread verdict.NewPoll t =
-    t ≡ answering (record s { phase = phase_record s.version (progress.Poll now) }) id (no_quorum 1 s now phases.Poll)
-Judges s now id call poll spread (verdict.Commit answer image) t =
+-- a step leads to this server, puts this out, and makes so many durable calls
+pub record Leads (t : Stepped) (after : Server) (out : List Output) (calls : ℕ) : Type 0 where
+  pub server : t.server ≡ after
+  pub outputs : outputs_of t.shown ≡ out
+  pub calls : length t.calls ≡ calls
+
+-- a server after a commit that a majority has at once
+abbrev pub committed : Server → Progress → List ℕ → Server
+committed s p image =
+    record s { version = next_version s.version; image = image; phase = phase_record (next_version s.version) p }
+
+-- the step of a server of this progress, given the verdict on its call
+abbrev pub Judges : Host → Server → Progress → ℕ → ℕ → Verdict → Stepped → Type 0
+Judges h s p now id (verdict.Reply r) t = Leads t s (output.Reply id r ∷ []) 0
+Judges h s p now id verdict.NewPoll t =
+    Leads t (record s { phase = phase_record s.version (progress.Poll now) })
+    (output.Reply id (no_quorum (alone h) s now phases.Poll applied.No) ∷ []) 0
+Judges h s p now id (verdict.Commit answer image) t =
     (length image ≤ 16777216) × (s.version.counter < 2147483647)
-    × (t ≡ committed 1 0 s id answer image (record { moment = now; call = call }) poll spread)
+    × Leads t (committed s p image) (output.Announce (next_version s.version) ∷ output.Reply id (reply.Ok answer) ∷ []) 1

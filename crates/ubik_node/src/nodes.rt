@@ -1,22 +1,30 @@
 //! A server of a cell, one step at a time.
 ghost use Rattle.std.specs.Prelude.{◌≡◌, ◌≢◌, ◌+◌, ◌*◌, ◌<◌, ◌≤◌, Bool, ℕ, List, [], ◌∷◌, length, IfOk, IfErr, IfSome, IsErrOf, OnOk, OnErr, MatchResult, Some, true, false};
+ghost use Rattle.ubik_types.specs.declared.hosts.Host.{Host};
 ghost use Rattle.ubik_types.specs.Moment.{IsMoment};
+ghost use Rattle.cell_model.specs.Asks.{asked_as};
 ghost use Rattle.cell_model.specs.Node as model;
 ghost use Rattle.cell_model.specs.NodeRule.{refusals};
+ghost use Rattle.cell_model.specs.Step.{outputs_of, cell_size};
 ghost use Rattle.cell_model.specs.declared.events.NodeEvent.TheVariants as events;
 ghost use Rattle.cell_model.specs.declared.events.Output.TheVariants as outputs;
+ghost use Rattle.ubik_node.specs.Built.{IsBuilt, TakesNoMemory};
 
 use crate::database::{StoreFault, WriteFault, read_database, write_database};
 use crate::outputs::Outputs;
-use crate::own_votes::OwnVotes;
-use crate::state::{Plan, Progress, State};
+use crate::progress::Progress;
+use crate::recovering::{Plan, recovery_plan};
+use crate::serving::{Turn, reply_of, turn_of};
+use crate::state::State;
 use crate::verdicts::{Verdict, verdict_of};
-use cell_model::{NodeEvent, Output, Reply};
+use cell_model::{NodeEvent, Output};
 use db_image::Service;
 use disk_base::{Disk, Refused};
 use std::alloc::Global;
 use std::marker::PhantomData;
-use ubik_types::{Applied, Bytes, Cell, NoMemory, Phase, Version};
+use ubik_calls::{DebugIs, Reply};
+use ubik_types::{Bytes, Cell, Host, NoMemory, Phase, Version};
+use ubik_votes::Votes;
 
 /// How a step ended.
 #[derive(Clone, Copy, Debug, PartialEq, Eq)]
@@ -42,22 +50,21 @@ pub struct Node<D: Disk, V: Service> {
 }
 
 impl<D: Disk, V: Service> Node<D, V> {
+    ghost use Rattle.ubik_node.specs.Debug.{debug_of, host_or_none};
     ghost use Rattle.ubik_node.specs.Fault.{IsFaultOf};
     ghost use Rattle.ubik_node.specs.Database.{durable_of};
-    ghost use Rattle.ubik_types.specs.declared.versions.Version.{Version};
     ghost use Rattle.ubik_types.specs.Phase.{phase_of};
     ghost use Rattle.ubik_types.specs.Lease.{lease_end};
-    ghost use Rattle.cell_model.specs.Durable.{Durable, Transaction};
-    ghost use Rattle.ubik_types.specs.Phase.{Polled, Spread};
-    ghost use Rattle.cell_model.specs.NodeRule.{committed, no_quorum, evaluated};
-    ghost use Rattle.ubik_node.specs.Verdict.{Judges};
-    ghost use Rattle.ubik_node.specs.Serving.{IsServing, Served, Asked};
-    ghost use Rattle.ubik_node.specs.Progress.{phase_record, own_poll, own_spread};
-    ghost use Rattle.ubik_node.specs.Node.{NothingPending, OnlyDatabase, node_of, up_server, IsStored, KeepsDisk, Makes, Steps, last_after};
+    ghost use Rattle.cell_model.specs.Durable.{Durable};
+    ghost use Rattle.cell_model.specs.Writes.{write_turn, next_version};
+    ghost use Rattle.ubik_node.specs.Verdict.{Judges, committed};
+    ghost use Rattle.ubik_node.specs.Serving.{IsServing, Answers, Reads, Writes};
+    ghost use Rattle.ubik_node.specs.Progress.{alone};
+    ghost use Rattle.ubik_node.specs.Node.{NothingPending, OnlyDatabase, node_of, up_server, own_member, IsStored, KeepsDisk, Makes, Steps, last_after};
 
-    /// Opens a server over its disk, at a moment in seconds. A cell has one server today, so `me` is 0. An
-    /// empty database file is an empty database of version 0.0. No changing call of the disk is made. A
-    /// refusal hands the disk back: as it was, but after a fault of the disk.
+    /// Opens a server over its disk, at a moment in seconds: the server at a place of the cell. An empty
+    /// database file is an empty database of version 0.0. No changing call of the disk is made. A refusal
+    /// hands the disk back: as it was, but after a fault of the disk.
     pub fn open(
         alloc: Global,
         cell: Cell,
@@ -65,11 +72,11 @@ impl<D: Disk, V: Service> Node<D, V> {
         disk: D,
         now: u32,
     ) -> Result<Node<D, V>, Refused<D, StoreFault>>
-        requires alone { length cell ≡ 1 }
         requires me { me < length cell }
         requires moment { IsMoment now }
-        ensures opened { IfOk result (λ node. (d : Durable) × (node_of node ≡ model.Up (model.opened_server 1 d now))
+        ensures opened { IfOk result (λ node. (d : Durable) × (node_of node ≡ model.Up (model.opened_server (length cell) d now))
             × IfSome (D.files disk) (λ fs. durable_of fs.database ≡ Some d)) }
+        ensures member { IfOk result (λ node. own_member node ≡ record { hosts = cell; me = me }) }
         ensures stored { IfOk result (λ node. IsStored D.files node) }
         ensures kept { IfOk result (λ node. (D.files node.disk ≡ D.files disk) × (D.steps node.disk ≡ D.steps disk) × (node.last ≡ now)) }
         ensures refused { IfErr result (λ refused. IfSome (D.files disk) (λ fs. IsFaultOf fs.database refused.why)) }
@@ -79,15 +86,18 @@ impl<D: Disk, V: Service> Node<D, V> {
         ensures never_falls { MatchResult result (λ node. D.faults disk ≤ D.faults node.disk) (λ refused. D.faults disk ≤ D.faults refused.disk) }
     {
         let mut disk = disk;
+        let servers = cell.len();
         match read_database(alloc, &mut disk) {
             Ok((version, image)) => Ok(Node {
                 alloc,
                 disk,
                 state: State {
+                    cell,
+                    me,
                     version,
                     image,
-                    votes: OwnVotes::fresh(now),
-                    opened: now,
+                    votes: Votes::start(servers, me, now),
+                    beacon: None,
                     progress: Progress::None,
                 },
                 halted: false,
@@ -106,14 +116,15 @@ impl<D: Disk, V: Service> Node<D, V> {
     pub fn step(&mut self, now: u32, event: NodeEvent, out: &mut Outputs) -> StepEnd
         requires moment { IsMoment now }
         requires order { self.old.last ≤ now }
+        requires built { IsBuilt (own_member self.old) event }
         requires empty { out.old ≡ [] }
-        ensures step { Steps V.database result event now (node_of self.old) (node_of self.new) out.new
+        ensures step { Steps V.database (own_member self.old) result event now (node_of self.old) (node_of self.new) out.new
             (D.steps self.old.disk) (D.steps self.new.disk) }
+        ensures member { own_member self.new ≡ own_member self.old }
         ensures stored { IsStored D.files self.old → IsStored D.files self.new }
         ensures others { result ≢ StepEnd.Halted → OnlyDatabase D.files self.old self.new }
         ensures settled { result ≢ StepEnd.Halted → NothingPending D.files D.may_leave self.old → NothingPending D.files D.may_leave self.new }
-        ensures beacon { event ≡ events.BeaconTurn → result ≢ StepEnd.NoMemory }
-        ensures told { (id : ℕ) (call : List ℕ) → event ≡ events.Ask id call → result ≢ StepEnd.NoMemory }
+        ensures memory { TakesNoMemory event → result ≢ StepEnd.NoMemory }
         ensures no_memory { result ≡ StepEnd.NoMemory → KeepsDisk D.files D.steps self.old self.new }
         ensures rests { self.old.halted ≡ true → self.new.disk ≡ self.old.disk }
         ensures fewer { D.steps self.new.disk ≤ D.steps self.old.disk + 4 }
@@ -132,7 +143,25 @@ impl<D: Disk, V: Service> Node<D, V> {
         end
     }
 
-    /// The version of the database. Of a halted server this and the next three are those from before the
+    /// What the server tells of itself at a moment in seconds. A halted one tells what it kept.
+    pub fn debug(&self, now: u32) -> DebugIs
+        ensures { result ≡ debug_of (own_member self.now) (model.halted_from (up_server self.now)) now }
+    {
+        let (voted, voted_at) = self.state.votes.last_yes();
+        let sync = self.state.votes.sync_heard(now);
+        DebugIs {
+            host: self.state.cell.host(self.state.me),
+            now,
+            version: self.version(),
+            phase: self.phase(),
+            until: self.lease_until(),
+            sync: self.host_or_none(sync.map(|(server, _)| server)),
+            voted: self.host_or_none(voted),
+            voted_at,
+        }
+    }
+
+    /// The version of the database. Of a halted server this and the next four are those from before the
     /// step that halted it.
     pub fn version(&self) -> Version
         ensures { result ≡ (up_server self.now).version }
@@ -149,9 +178,16 @@ impl<D: Disk, V: Service> Node<D, V> {
 
     /// The last moment of the lease that was counted last, in seconds; 0 where none was.
     pub fn lease_until(&self) -> u32
-        ensures { result ≡ lease_end 1 (up_server self.now).starts }
+        ensures { result ≡ lease_end (cell_size (own_member self.now)) (up_server self.now).starts }
     {
         self.state.votes.lease_until()
+    }
+
+    /// The length of the image, in bytes.
+    pub fn len(&self) -> u32
+        ensures { result ≡ length (up_server self.now).image }
+    {
+        self.state.image.as_slice().len() as u32
     }
 
     /// Whether the server's disk has failed.
@@ -175,19 +211,27 @@ impl<D: Disk, V: Service> Node<D, V> {
         self.disk
     }
 
+    /// The host of a server of the cell, 0 for none.
+    fn host_or_none(&self, server: Option<usize>) -> Host
+        requires { IfSome server (λ k. k < length self.now.state.cell) }
+        ensures { result ≡ host_or_none (own_member self.now) server }
+    {
+        server.map_or(Host(0), |k| self.state.cell.host(k))
+    }
+
     /// A step of a server that is not halted.
-    #[tactic(auto, unfolding(cell_model::specs::NodeRule::step_of))]
     fn step_up(&mut self, now: u32, event: &NodeEvent, out: &mut Outputs) -> StepEnd
         requires moment { IsMoment now }
         requires whole { self.old.halted ≡ false }
+        requires built { IsBuilt (own_member self.old) event.now }
         requires empty { out.old ≡ [] }
-        ensures step { Steps V.database result event.now now (node_of self.old) (node_of self.new) out.new
+        ensures step { Steps V.database (own_member self.old) result event.now now (node_of self.old) (node_of self.new) out.new
             (D.steps self.old.disk) (D.steps self.new.disk) }
+        ensures member { own_member self.new ≡ own_member self.old }
         ensures stored { IsStored D.files self.old → IsStored D.files self.new }
         ensures others { result ≢ StepEnd.Halted → OnlyDatabase D.files self.old self.new }
         ensures settled { result ≢ StepEnd.Halted → NothingPending D.files D.may_leave self.old → NothingPending D.files D.may_leave self.new }
-        ensures beacon { event.now ≡ events.BeaconTurn → result ≢ StepEnd.NoMemory }
-        ensures told { (id : ℕ) (call : List ℕ) → event.now ≡ events.Ask id call → result ≢ StepEnd.NoMemory }
+        ensures memory { TakesNoMemory event.now → result ≢ StepEnd.NoMemory }
         ensures no_memory { result ≡ StepEnd.NoMemory → KeepsDisk D.files D.steps self.old self.new }
         ensures fewer { D.steps self.new.disk ≤ D.steps self.old.disk + 4 }
         ensures fault { result ≡ StepEnd.Halted → D.faults self.old.disk < D.faults self.new.disk }
@@ -195,23 +239,33 @@ impl<D: Disk, V: Service> Node<D, V> {
         ensures last { self.new.last ≡ self.old.last }
     {
         match event {
+            NodeEvent::Packet(packet) => {
+                self.state.lapse(now);
+                self.state.receive(now, packet, out);
+                StepEnd::Done
+            }
             NodeEvent::BeaconTurn => {
-                self.state.take_beacon_turn(now);
+                self.state.lapse(now);
+                self.state.beacon_turn(now, out);
                 StepEnd::Done
             }
             NodeEvent::RecoverTurn => self.recover(now, out),
-            NodeEvent::Ask { id, call } => self.ask(now, *id, call.as_slice(), out),
+            NodeEvent::Ask { id, call } => {
+                self.state.lapse(now);
+                self.ask(now, *id, call.as_slice(), out)
+            }
         }
     }
 
     /// The recovery turn of a server that is not halted.
-    #[tactic(auto, unfolding(cell_model::specs::NodeRule::step_of))]
     fn recover(&mut self, now: u32, out: &mut Outputs) -> StepEnd
         requires moment { IsMoment now }
         requires whole { self.old.halted ≡ false }
+        requires alone { cell_size (own_member self.old) ≡ 1 }
         requires empty { out.old ≡ [] }
-        ensures step { Steps V.database result events.RecoverTurn now (node_of self.old) (node_of self.new) out.new
+        ensures step { Steps V.database (own_member self.old) result events.RecoverTurn now (node_of self.old) (node_of self.new) out.new
             (D.steps self.old.disk) (D.steps self.new.disk) }
+        ensures member { own_member self.new ≡ own_member self.old }
         ensures stored { IsStored D.files self.old → IsStored D.files self.new }
         ensures others { result ≢ StepEnd.Halted → OnlyDatabase D.files self.old self.new }
         ensures settled { result ≢ StepEnd.Halted → NothingPending D.files D.may_leave self.old → NothingPending D.files D.may_leave self.new }
@@ -221,7 +275,7 @@ impl<D: Disk, V: Service> Node<D, V> {
         ensures never_falls { D.faults self.old.disk ≤ D.faults self.new.disk }
         ensures last { self.new.last ≡ self.old.last }
     {
-        let poll = match self.state.recovery_plan(now) {
+        let poll = match recovery_plan(&self.state, now) {
             Plan::Rest(progress) => {
                 self.state.progress = progress;
                 return StepEnd::Done;
@@ -248,12 +302,104 @@ impl<D: Disk, V: Service> Node<D, V> {
         }
     }
 
+    /// A call at a server that is not halted, after the lapse.
+    fn ask(&mut self, now: u32, id: u32, call: &[u8], out: &mut Outputs) -> StepEnd
+        requires whole { self.old.halted ≡ false }
+        requires empty { out.old ≡ [] }
+        ensures done { result ≡ StepEnd.Done → Answers V.database (own_member self.old) (up_server self.old) now id call.now
+            (node_of self.new) out.new (D.steps self.old.disk) (D.steps self.new.disk) }
+        ensures halted { result ≡ StepEnd.Halted → (node_of self.new ≡ model.Halted (model.halted_from (up_server self.old)))
+            × (out.new ≡ outputs.Reply id Reply.DiskFault ∷ []) }
+        ensures serving { result ≡ StepEnd.Halted → IsServing self.old.state.progress }
+        ensures told { result ≢ StepEnd.NoMemory }
+        ensures member { own_member self.new ≡ own_member self.old }
+        ensures fewer { D.steps self.new.disk ≤ D.steps self.old.disk + 4 }
+        ensures stored { IsStored D.files self.old → IsStored D.files self.new }
+        ensures others { result ≢ StepEnd.Halted → OnlyDatabase D.files self.old self.new }
+        ensures settled { result ≢ StepEnd.Halted → NothingPending D.files D.may_leave self.old → NothingPending D.files D.may_leave self.new }
+        ensures fault { result ≡ StepEnd.Halted → D.faults self.old.disk < D.faults self.new.disk }
+        ensures never_falls { D.faults self.old.disk ≤ D.faults self.new.disk }
+        ensures last { self.new.last ≡ self.old.last }
+    {
+        let Some(writes) = V::writes(call) else {
+            return put_reply(out, id, Reply::Malformed);
+        };
+        match turn_of(&self.state, now, writes) {
+            Turn::Refuse(reply) => put_reply(out, id, reply),
+            Turn::Read => {
+                let reply = self.read(now, call);
+                put_reply(out, id, reply)
+            }
+            Turn::Write => self.write(now, id, call, out),
+        }
+    }
+
+    /// The reply to a call that reads the own image.
+    fn read(&self, now: u32, call: &[u8]) -> Reply
+        ensures { Reads V.database (up_server self.now) now call.now result }
+    {
+        match V::call_image(self.alloc, self.state.image.as_slice(), now, call) {
+            Ok((reply, _)) => reply_of(reply),
+            Err(NoMemory) => Reply::NoMemory,
+        }
+    }
+
+    /// The turn of a writing call at a server that serves, which is alone in its cell.
+    fn write(&mut self, now: u32, id: u32, call: &[u8], out: &mut Outputs) -> StepEnd
+        requires whole { self.old.halted ≡ false }
+        requires empty { out.old ≡ [] }
+        requires serving { IsServing self.old.state.progress }
+        ensures done { result ≡ StepEnd.Done → (h : Host) → Writes V.database h (up_server self.old) now id call.now
+            (node_of self.new) out.new (D.steps self.old.disk) (D.steps self.new.disk) }
+        ensures halted { result ≡ StepEnd.Halted → (node_of self.new ≡ model.Halted (model.halted_from (up_server self.old)))
+            × (out.new ≡ outputs.Reply id Reply.DiskFault ∷ []) }
+        ensures told { result ≢ StepEnd.NoMemory }
+        ensures member { own_member self.new ≡ own_member self.old }
+        ensures fewer { D.steps self.new.disk ≤ D.steps self.old.disk + 4 }
+        ensures stored { IsStored D.files self.old → IsStored D.files self.new }
+        ensures others { result ≢ StepEnd.Halted → OnlyDatabase D.files self.old self.new }
+        ensures settled { result ≢ StepEnd.Halted → NothingPending D.files D.may_leave self.old → NothingPending D.files D.may_leave self.new }
+        ensures fault { result ≡ StepEnd.Halted → D.faults self.old.disk < D.faults self.new.disk }
+        ensures never_falls { D.faults self.old.disk ≤ D.faults self.new.disk }
+        ensures last { self.new.last ≡ self.old.last }
+    {
+        let Ok(verdict) = self.evaluate(now, call) else {
+            return put_reply(out, id, Reply::NoMemory);
+        };
+        match verdict {
+            Verdict::Reply(reply) => put_reply(out, id, reply),
+            Verdict::NewPoll => {
+                let reply = self.state.no_quorum(now, Phase::Poll);
+                self.state.progress = Progress::Poll { poll: now };
+                put_reply(out, id, reply)
+            }
+            Verdict::Commit { answer, image } => match self.commit(id, answer, image, out) {
+                Ok(()) => StepEnd::Done,
+                Err(WriteFault::NoMemory) => put_reply(out, id, Reply::NoMemory),
+                Err(WriteFault::DiskFault) => {
+                    self.halted = true;
+                    let _ = put_reply(out, id, Reply::DiskFault);
+                    StepEnd::Halted
+                }
+            },
+        }
+    }
+
+    /// What the server does about a writing call, which it evaluates on its image.
+    fn evaluate(&self, now: u32, call: &[u8]) -> Result<Verdict, NoMemory>
+        requires { IsServing self.now.state.progress }
+        ensures { IfOk result (λ verdict. (h : Host) (id : ℕ) →
+            Judges h (up_server self.now) self.now.state.progress now id verdict
+            (write_turn V.database (alone h) (up_server self.now) now id call.now false)) }
+    {
+        let (reply, image) = V::call_image(self.alloc, self.state.image.as_slice(), now, call)?;
+        verdict_of::<V>(self.alloc, &self.state, reply, image)
+    }
+
     /// Commits an image under the next counter, announces it, and answers the call.
-    #[tactic(auto, unfolding(cell_model::specs::NodeRule::step_of))]
     fn commit(
         &mut self,
         id: u32,
-        progress: Progress,
         answer: Bytes,
         image: Bytes,
         out: &mut Outputs,
@@ -262,13 +408,14 @@ impl<D: Disk, V: Service> Node<D, V> {
         requires empty { out.old ≡ [] }
         requires image { length image ≤ 16777216 }
         requires counter { self.old.state.version.counter < 2147483647 }
-        ensures made { OnOk result ((t : Transaction) (poll : ℕ) (before : Version) → progress ≡ Progress.Ready poll before →
-            Makes (committed 1 0 (up_server self.old) id answer image t (own_poll poll before) (own_spread before))
-            (node_of self.new) out.new (D.steps self.old.disk) (D.steps self.new.disk)) }
+        ensures made { OnOk result (node_of self.new ≡ model.Up (committed (up_server self.old) self.old.state.progress image)) }
+        ensures put { OnOk result (out.new ≡ outputs.Announce (next_version self.old.state.version) ∷ outputs.Reply id (Reply.Ok answer) ∷ []) }
+        ensures steps { OnOk result (D.steps self.new.disk ≡ D.steps self.old.disk + 4) }
         ensures stored { OnOk result (IsStored D.files self.old → IsStored D.files self.new) }
         ensures others { OnOk result (OnlyDatabase D.files self.old self.new) }
         ensures settled { OnOk result (NothingPending D.files D.may_leave self.old → NothingPending D.files D.may_leave self.new) }
         ensures still { IsErrOf result WriteFault.NoMemory → NothingPending D.files D.may_leave self.old → NothingPending D.files D.may_leave self.new }
+        ensures member { own_member self.new ≡ own_member self.old }
         ensures same { OnErr result ((self.new.state ≡ self.old.state) × (self.new.halted ≡ self.old.halted) × (out.new ≡ [])) }
         ensures no_memory { IsErrOf result WriteFault.NoMemory → KeepsDisk D.files D.steps self.old self.new }
         ensures fewer { D.steps self.new.disk ≤ D.steps self.old.disk + 4 }
@@ -283,106 +430,10 @@ impl<D: Disk, V: Service> Node<D, V> {
         write_database(&mut self.disk, next, image.as_slice())?;
         self.state.version = next;
         self.state.image = image;
-        self.state.progress = progress;
         out.put(Output::Announce { version: next });
         let reply = Reply::Ok(answer);
         out.put(Output::Reply { id, reply });
         Ok(())
-    }
-
-    /// The refusal of a server behind which no quorum stands, with its phase.
-    fn no_quorum(&self, now: u32, phase: Phase) -> Reply
-        ensures { result ≡ no_quorum 1 (up_server self.now) now phase }
-    {
-        Reply::NoQuorum {
-            now,
-            until: self.state.votes.lease_until(),
-            phase,
-            applied: Applied::No,
-        }
-    }
-
-    /// What the ready sync site does about a call, which it evaluates on its image.
-    fn evaluate(&self, now: u32, call: &[u8], writes: bool) -> Result<Verdict, NoMemory>
-        ensures { IfOk result (λ verdict. (id : ℕ) (poll : Polled) (spread : Spread) →
-            Judges (up_server self.now) now id call.now poll spread verdict
-            (evaluated V.database 1 0 (up_server self.now) now id call.now writes poll spread)) }
-    {
-        let (reply, image) = V::call_image(self.alloc, self.state.image.as_slice(), now, call)?;
-        Ok(verdict_of(&self.state, reply, image, writes))
-    }
-
-    /// A call at the ready sync site, in lease: the server is as after the lapse.
-    fn serve(&mut self, now: u32, id: u32, call: &[u8], writes: bool, out: &mut Outputs) -> StepEnd
-        requires whole { self.old.halted ≡ false }
-        requires empty { out.old ≡ [] }
-        requires ready { IsServing self.old.state }
-        ensures done { result ≡ StepEnd.Done → Served V.database self.old.state now id call.now writes
-            (node_of self.new) out.new (D.steps self.old.disk) (D.steps self.new.disk) }
-        ensures halted { result ≡ StepEnd.Halted → (node_of self.new ≡ model.Halted (model.halted_from (up_server self.old)))
-            × (out.new ≡ outputs.Reply id Reply.DiskFault ∷ []) }
-        ensures told { result ≢ StepEnd.NoMemory }
-        ensures fewer { D.steps self.new.disk ≤ D.steps self.old.disk + 4 }
-        ensures stored { IsStored D.files self.old → IsStored D.files self.new }
-        ensures others { result ≢ StepEnd.Halted → OnlyDatabase D.files self.old self.new }
-        ensures settled { result ≢ StepEnd.Halted → NothingPending D.files D.may_leave self.old → NothingPending D.files D.may_leave self.new }
-        ensures fault { result ≡ StepEnd.Halted → D.faults self.old.disk < D.faults self.new.disk }
-        ensures never_falls { D.faults self.old.disk ≤ D.faults self.new.disk }
-        ensures last { self.new.last ≡ self.old.last }
-    {
-        let Ok(verdict) = self.evaluate(now, call, writes) else {
-            return put_reply(out, id, Reply::NoMemory);
-        };
-        match verdict {
-            Verdict::Reply(reply) => put_reply(out, id, reply),
-            Verdict::NewPoll => {
-                let reply = self.no_quorum(now, Phase::Poll);
-                self.state.progress = Progress::Poll { poll: now };
-                put_reply(out, id, reply)
-            }
-            Verdict::Commit { answer, image } => {
-                match self.commit(id, self.state.progress, answer, image, out) {
-                    Ok(()) => StepEnd::Done,
-                    Err(WriteFault::NoMemory) => put_reply(out, id, Reply::NoMemory),
-                    Err(WriteFault::DiskFault) => {
-                        self.halted = true;
-                        let _ = put_reply(out, id, Reply::DiskFault);
-                        StepEnd::Halted
-                    }
-                }
-            }
-        }
-    }
-
-    /// A call at a server that is not halted.
-    fn ask(&mut self, now: u32, id: u32, call: &[u8], out: &mut Outputs) -> StepEnd
-        requires whole { self.old.halted ≡ false }
-        requires empty { out.old ≡ [] }
-        ensures done { result ≡ StepEnd.Done → Asked V.database (up_server self.old) now id call.now
-            (node_of self.new) out.new (D.steps self.old.disk) (D.steps self.new.disk) }
-        ensures halted { result ≡ StepEnd.Halted → (node_of self.new ≡ model.Halted (model.halted_from (up_server self.old)))
-            × (out.new ≡ outputs.Reply id Reply.DiskFault ∷ []) }
-        ensures told { result ≢ StepEnd.NoMemory }
-        ensures fewer { D.steps self.new.disk ≤ D.steps self.old.disk + 4 }
-        ensures stored { IsStored D.files self.old → IsStored D.files self.new }
-        ensures others { result ≢ StepEnd.Halted → OnlyDatabase D.files self.old self.new }
-        ensures settled { result ≢ StepEnd.Halted → NothingPending D.files D.may_leave self.old → NothingPending D.files D.may_leave self.new }
-        ensures fault { result ≡ StepEnd.Halted → D.faults self.old.disk < D.faults self.new.disk }
-        ensures never_falls { D.faults self.old.disk ≤ D.faults self.new.disk }
-        ensures last { self.new.last ≡ self.old.last }
-    {
-        let progress = self.state.kept_progress(now);
-        self.state.progress = progress;
-        let Some(writes) = V::writes(call) else {
-            return put_reply(out, id, Reply::Malformed);
-        };
-        match progress {
-            Progress::Ready { .. } => self.serve(now, id, call, writes, out),
-            _ => {
-                let reply = self.no_quorum(now, progress.phase());
-                put_reply(out, id, reply)
-            }
-        }
     }
 }
 
@@ -400,7 +451,7 @@ fn put_reply(out: &mut Outputs, id: u32, reply: Reply) -> StepEnd
 fn refuse(event: &NodeEvent, out: &mut Outputs) -> StepEnd
     requires { out.old ≡ [] }
     ensures halted { result ≡ StepEnd.Halted }
-    ensures out { out.new ≡ refusals event.now }
+    ensures out { out.new ≡ outputs_of (refusals event.now) }
 {
     if let NodeEvent::Ask { id, .. } = event {
         out.put(Output::Reply {

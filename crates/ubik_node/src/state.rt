@@ -1,116 +1,163 @@
-//! What a server is between two steps, apart from its disk, and the rules that change it alone.
-ghost use Rattle.std.specs.Prelude.{◌≡◌, ◌≤◌, length};
+//! What a server keeps between two steps, apart from its disk, and the rules of votes, which change it alone.
+ghost use Rattle.std.specs.Prelude.{◌≡◌, ◌≤◌, ◌<◌, ℕ, Bool, List, length, IsTrue, IfSome, Some, true, []};
+ghost use Rattle.ubik_types.specs.Lease.{lease_end};
 ghost use Rattle.ubik_types.specs.Moment.{IsMoment};
-ghost use Rattle.ubik_types.specs.Phase.{phase_of};
-ghost use Rattle.ubik_types.specs.Lease.{is_in_lease};
-ghost use Rattle.cell_model.specs.NodeRule.{lapsed, after_beacon, recovery_turn, relabelled, phase_in_lease};
-ghost use Rattle.ubik_node.specs.Progress.{phase_record, own_poll, Recovers};
+ghost use Rattle.ubik_types.specs.Votes.{answers_yes};
+ghost use Rattle.ubik_calls.specs.declared.replies.DebugIs.{DebugIs};
+ghost use Rattle.db_image.specs.Database.{Database};
+ghost use Rattle.cell_model.specs.Lapse.{lapsed, no_quorum};
+ghost use Rattle.cell_model.specs.NodeRule.{received_packet, place_of};
+ghost use Rattle.cell_model.specs.Step.{cell_size, host_at, outputs_of, packet_to, sends_to_all, leased};
+ghost use Rattle.cell_model.specs.Voting.{own_beacon, beacon_turn, beacon_kept};
+ghost use Rattle.ubik_node.specs.Built.{IsOfVotes};
+ghost use Rattle.ubik_node.specs.Progress.{is_held};
+ghost use Rattle.ubik_node.specs.Serving.{IsServing};
 
-use crate::own_votes::OwnVotes;
-use ubik_types::{Bytes, Phase, Version};
+use crate::outputs::Outputs;
+use crate::progress::{Progress, ReadyBeacon};
+use cell_model::Output;
+use ubik_calls::{Body, Packet, Reply};
+use ubik_types::{Applied, Bytes, Cell, Host, Phase, Version};
+use ubik_votes::Votes;
 
-/// How far recovery has come, in a cell of one. A poll has its own answer alone, and a version that it
-/// sends is with a majority at once.
-#[derive(Clone, Copy)]
-pub enum Progress {
-    None,
-    /// A poll began, at this moment in seconds.
-    Poll { poll: u32 },
-    /// The database waits for a moment past its epoch.
-    Relabel { poll: u32 },
-    /// Calls are served; `old` is the version before the relabelling.
-    Ready { poll: u32, old: Version },
-}
-
-/// What a recovery turn comes to.
-#[derive(Clone, Copy)]
-pub enum Plan {
-    /// Nothing but this progress.
-    Rest(Progress),
-    /// The database is relabelled to the first version of this moment, for the poll that began then.
-    Relabel { poll: u32 },
-}
-
-impl Progress {
-    pub fn phase(self) -> Phase
-        ensures { (own : _) → result ≡ phase_of (phase_record own self) }
-    {
-        match self {
-            Progress::None => Phase::None,
-            Progress::Poll { .. } => Phase::Poll,
-            Progress::Relabel { .. } => Phase::Relabel,
-            Progress::Ready { .. } => Phase::Ready,
-        }
-    }
-}
-
-/// A server that is up: its version and image, its votes and its progress.
+/// A server that is up: its cell and its place in it, its version and image, its votes, the ready beacon that
+/// it keeps, and its progress.
 #[derive(Drop)]
 pub struct State {
+    pub cell: Cell,
+    pub me: usize,
     pub version: Version,
     pub image: Bytes,
-    pub votes: OwnVotes,
-    /// The moment of the opening, in seconds.
-    pub opened: u32,
+    pub votes: Votes,
+    pub beacon: Option<ReadyBeacon>,
     pub progress: Progress,
+    ghost few: { length cell ≤ 20 },
+    ghost place: { me < length cell },
+    ghost voters: { votes.servers ≡ length cell },
+    ghost voter: { votes.me ≡ me },
     ghost epoch_fits: { version.epoch ≤ 2147483647 },
     ghost counter_fits: { version.counter ≤ 2147483647 },
     ghost image_fits: { length image ≤ 16777216 },
+    // Recovery is built for a cell of one.
+    ghost alone: { IsTrue (is_held progress) → length cell ≡ 1 },
 }
 
 impl State {
-    ghost use Rattle.ubik_node.specs.State.{server_of};
+    ghost use Rattle.ubik_node.specs.State.{server_of, member_of, beacon_of, Shows};
 
-    /// The progress after the lapse: none where the lease is over.
-    pub fn kept_progress(&self, now: u32) -> Progress
-        ensures { phase_record self.now.version result
-            ≡ phase_in_lease (phase_record self.now.version self.now.progress) (is_in_lease 1 (server_of self.now).starts now) }
-    {
-        if self.votes.in_lease(now) {
-            self.progress
-        } else {
-            Progress::None
-        }
-    }
-
-    /// The beacon turn: where a beacon is due it is taken.
-    pub fn take_beacon_turn(&mut self, now: u32)
-        requires { IsMoment now }
-        ensures server { server_of self.new ≡ after_beacon 1 0 (lapsed 1 (server_of self.old) now) now }
-        ensures version { self.new.version ≡ self.old.version }
-        ensures image { self.new.image ≡ self.old.image }
-    {
-        self.progress = self.kept_progress(now);
-        if self.votes.beacon_due(now) {
-            let claim = self.votes.in_lease(now);
-            self.votes.beacon(now, claim);
-        }
-    }
-
-    /// What a recovery turn comes to.
-    pub fn recovery_plan(&self, now: u32) -> Plan
-        ensures { Recovers (lapsed 1 (server_of self.now) now) now result
-            (recovery_turn 1 0 (lapsed 1 (server_of self.now) now) now) }
+    /// Lapse: where the lease is over no phase is held.
+    pub fn lapse(&mut self, now: u32)
+        ensures shows { Shows (lapsed (member_of self.old) (server_of self.old) now) self.old self.new [] }
+        ensures serving { IsServing self.new.progress → self.new ≡ self.old }
     {
         if !self.votes.in_lease(now) {
-            return Plan::Rest(Progress::None);
-        }
-        match self.progress {
-            Progress::None => self.relabelling(now, now),
-            Progress::Poll { poll } | Progress::Relabel { poll } => self.relabelling(poll, now),
-            ready => Plan::Rest(ready),
+            self.progress = Progress::None;
         }
     }
 
-    /// What the relabelling comes to, for the poll that began at a moment.
-    fn relabelling(&self, poll: u32, now: u32) -> Plan
-        ensures { Recovers (server_of self.now) now result
-            (relabelled 1 0 (server_of self.now) (own_poll poll self.now.version) now) }
+    /// Beacon turn: where a beacon is due it is taken, and goes to each other server.
+    pub fn beacon_turn(&mut self, now: u32, out: &mut Outputs)
+        requires moment { IsMoment now }
+        requires empty { out.old ≡ [] }
+        ensures { Shows (beacon_turn (member_of self.old) (server_of self.old) now) self.old self.new out.new }
     {
-        if self.version.epoch < now {
-            Plan::Relabel { poll }
-        } else {
-            Plan::Rest(Progress::Relabel { poll })
+        if !self.votes.beacon_due(now) {
+            return;
         }
+        let claim = self.votes.in_lease(now);
+        self.send_beacons(now, claim, out);
+        self.votes.beacon(now, claim);
+    }
+
+    /// A packet of another server. One of a host that is not of the cell is nothing.
+    pub fn receive(&mut self, now: u32, packet: &Packet, out: &mut Outputs)
+        requires kind { IsOfVotes packet.now.body }
+        requires empty { out.old ≡ [] }
+        ensures { (db : Database) (short : List Bool) →
+            Shows (received_packet db (member_of self.old) (server_of self.old) now packet.now short (place_of self.old.cell packet.now.from))
+            self.old self.new out.new }
+    {
+        let Some(from) = self.cell.index(packet.from) else {
+            return;
+        };
+        match packet.body {
+            Body::Beacon {
+                start,
+                claim,
+                ready,
+                version,
+            } => {
+                let at = now;
+                let server = from;
+                let heard = ReadyBeacon { server, version, at };
+                self.beacon = kept_beacon(self.beacon, heard, claim, ready);
+                let yes = self.votes.on_beacon(now, from, claim);
+                let vote = self.packet_to(packet.from, Body::Vote { start, yes });
+                out.put(Output::Send(vote));
+            }
+            Body::Vote { start, yes } => self.votes.on_vote(from, start, yes),
+            _ => unreachable!(),
+        }
+    }
+
+    /// The refusal of a server behind which no quorum stands, with its phase.
+    pub fn no_quorum(&self, now: u32, phase: Phase) -> Reply
+        ensures { result ≡ no_quorum (member_of self.now) (server_of self.now) now phase Applied.No }
+    {
+        Reply::NoQuorum {
+            now,
+            until: self.votes.lease_until(),
+            phase,
+            applied: Applied::No,
+        }
+    }
+
+    /// The beacon that this server sends.
+    fn own_beacon(&self, now: u32, claim: bool) -> Body
+        ensures { result ≡ own_beacon (server_of self.now) now claim }
+    {
+        Body::Beacon {
+            start: now,
+            claim,
+            ready: claim && matches!(self.progress, Progress::Ready { .. }),
+            version: self.version,
+        }
+    }
+
+    /// Sends its beacon to each other server, in their order.
+    fn send_beacons(&self, now: u32, claim: bool, out: &mut Outputs)
+        requires { out.old ≡ [] }
+        ensures { out.new ≡ outputs_of (sends_to_all (member_of self.now) (own_beacon (server_of self.now) now claim)) }
+    {
+        for k in 0..self.cell.len() {
+            if k != self.me {
+                let beacon = self.packet_to(self.cell.host(k), self.own_beacon(now, claim));
+                out.put(Output::Send(beacon));
+            }
+        }
+    }
+
+    /// A packet of this server to a host.
+    fn packet_to(&self, to: Host, body: Body) -> Packet
+        ensures { result ≡ packet_to (member_of self.now) to body }
+    {
+        let from = self.cell.host(self.me);
+        Packet { from, to, body }
+    }
+}
+
+/// The ready beacon that is kept after one was heard, with its claim and whether its server is ready.
+fn kept_beacon(
+    before: Option<ReadyBeacon>,
+    heard: ReadyBeacon,
+    claim: bool,
+    ready: bool,
+) -> Option<ReadyBeacon>
+    ensures { beacon_of result ≡ beacon_kept (beacon_of before) heard.at heard.server claim ready heard.version }
+{
+    match before {
+        _ if claim && ready => Some(heard),
+        Some(kept) if !ready && kept.server == heard.server => None,
+        _ => before,
     }
 }

@@ -1,16 +1,20 @@
-//! What becomes of a call that the database has evaluated.
-ghost use Rattle.std.specs.Prelude.{ℕ, List, unwrap_or};
-ghost use Rattle.ubik_types.specs.Phase.{Polled, Spread};
-ghost use Rattle.cell_model.specs.NodeRule.{served, written};
+//! What becomes of a writing call at a server that is alone in its cell, once the database has evaluated it.
+ghost use Rattle.std.specs.Prelude.{ℕ, List, ◌≡◌, ◌<◌, ◌≤◌, IfOk, unwrap_or, length};
+ghost use Rattle.ubik_types.specs.declared.hosts.Host.{Host};
+ghost use Rattle.cell_model.specs.Writes.{turned, written};
+ghost use Rattle.ubik_node.specs.Progress.{alone};
+ghost use Rattle.ubik_node.specs.Serving.{IsServing};
 ghost use Rattle.ubik_node.specs.State.{server_of};
 ghost use Rattle.ubik_node.specs.Verdict.{Judges};
 
+use crate::serving::reply_of;
 use crate::state::State;
-use cell_model::Reply;
-use db_image::CallReply;
-use ubik_types::{Bytes, MAX_COUNTER, MAX_IMAGE};
+use db_image::{CallReply, Service, changes_between, too_large};
+use std::alloc::Global;
+use ubik_calls::Reply;
+use ubik_types::{Bytes, MAX_COUNTER, NoMemory};
 
-/// What a sync site does about a call.
+/// What a sync site does about a writing call.
 #[derive(Drop)]
 pub enum Verdict {
     /// It replies, and nothing changes.
@@ -21,37 +25,52 @@ pub enum Verdict {
     Commit { answer: Bytes, image: Bytes },
 }
 
-/// The verdict on what the database made of a call: its reply, and the image after it where that is another.
-pub fn verdict_of(state: &State, reply: CallReply, image: Option<Bytes>, writes: bool) -> Verdict
-    ensures { (now id : ℕ) (call : List ℕ) (poll : Polled) (spread : Spread) →
-        Judges (server_of state.now) now id call poll spread result
-        (served 1 0 (server_of state.now) now id call reply (unwrap_or image state.now.image) writes poll spread) }
+/// The verdict on what the database made of a call: its reply, and the image after it where that is another one.
+pub fn verdict_of<V: Service>(
+    alloc: Global,
+    state: &State,
+    reply: CallReply,
+    image: Option<Bytes>,
+) -> Result<Verdict, NoMemory>
+    requires { IsServing state.now.progress }
+    ensures { IfOk result (λ verdict. (h : Host) (now id : ℕ) (call : List ℕ) →
+        Judges h (server_of state.now) state.now.progress now id verdict
+        (turned V.database (alone h) (server_of state.now) now id call (unwrap_or image state.now.image) reply)) }
 {
     match reply {
         CallReply::Done(answer) => match image {
-            Some(image) if writes => verdict_of_write(state, answer, image),
-            _ => Verdict::Reply(Reply::Ok(answer)),
+            Some(image) => verdict_of_write::<V>(alloc, state, answer, image),
+            None => Ok(Verdict::Reply(Reply::Ok(answer))),
         },
-        CallReply::Rule(number) => Verdict::Reply(Reply::Rule(number)),
-        CallReply::Malformed => Verdict::Reply(Reply::Malformed),
-        CallReply::BadRecord { at } => Verdict::Reply(Reply::BadRecord { at }),
+        refusal => Ok(Verdict::Reply(reply_of(refusal))),
     }
 }
 
-/// The verdict on a writing call with its answer and the image after it.
-fn verdict_of_write(state: &State, answer: Bytes, image: Bytes) -> Verdict
-    ensures { (now id : ℕ) (call : List ℕ) (poll : Polled) (spread : Spread) →
-        Judges (server_of state.now) now id call poll spread result
-        (written 1 0 (server_of state.now) now id call answer image poll spread) }
+/// The verdict on a call with its answer and the image after it.
+fn verdict_of_write<V: Service>(
+    alloc: Global,
+    state: &State,
+    answer: Bytes,
+    image: Bytes,
+) -> Result<Verdict, NoMemory>
+    requires { IsServing state.now.progress }
+    ensures { IfOk result (λ verdict. (h : Host) (now id : ℕ) (call : List ℕ) →
+        Judges h (server_of state.now) state.now.progress now id verdict
+        (written V.database (alone h) (server_of state.now) now id call answer image)) }
 {
-    let len = image.as_slice().len();
-    if image.as_slice() == state.image.as_slice() {
-        Verdict::Reply(Reply::Ok(answer))
-    } else if len > MAX_IMAGE {
-        Verdict::Reply(Reply::TooLarge { bytes: len as u64 })
+    let old = state.image.as_slice();
+    // A longer image has no place in this memory.
+    if image.as_slice().len() > u32::MAX as usize {
+        return Err(NoMemory);
+    }
+    let changes = changes_between(alloc, old, image.as_slice(), V::layout())?;
+    if let Some(bytes) = too_large(old.len(), &changes) {
+        Ok(Verdict::Reply(Reply::TooLarge { bytes }))
+    } else if changes.as_slice().is_empty() {
+        Ok(Verdict::Reply(Reply::Ok(answer)))
     } else if state.version.counter == MAX_COUNTER {
-        Verdict::NewPoll
+        Ok(Verdict::NewPoll)
     } else {
-        Verdict::Commit { answer, image }
+        Ok(Verdict::Commit { answer, image })
     }
 }

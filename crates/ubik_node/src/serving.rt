@@ -1,0 +1,80 @@
+//! Where a call is served, and what its client is told else.
+ghost use Rattle.std.specs.Prelude.{◌≡◌, ℕ, Bool, List, Some};
+ghost use Rattle.ubik_types.specs.Votes.{sync_heard};
+ghost use Rattle.db_image.specs.Database.{Database};
+ghost use Rattle.cell_model.specs.Asks.{asked_as, allows_reads, not_served, read_reply};
+ghost use Rattle.cell_model.specs.Step.{Evaluation};
+ghost use Rattle.cell_model.specs.declared.events.Output.TheVariants as outputs;
+ghost use Rattle.ubik_node.specs.Serving.{TurnsTo, IsServing, IsWrite};
+ghost use Rattle.ubik_node.specs.State.{server_of, member_of, beacon_of};
+
+use crate::progress::Progress;
+use crate::state::State;
+use db_image::CallReply;
+use ubik_calls::Reply;
+use ubik_types::SMALLTIME;
+
+/// What a call leads to.
+#[derive(Drop)]
+pub enum Turn {
+    /// It is not evaluated.
+    Refuse(Reply),
+    /// It reads the own image.
+    Read,
+    /// It has its turn to write.
+    Write,
+}
+
+/// What a call leads to, which writes or not.
+pub fn turn_of(state: &State, now: u32, writes: bool) -> Turn
+    ensures turn { (db : Database) (id : ℕ) (call : List ℕ) (short : Bool) →
+        TurnsTo db (member_of state.now) (server_of state.now) now id call short result
+        (asked_as db (member_of state.now) (server_of state.now) now id call short (Some writes)) }
+    ensures serving { IsWrite result → IsServing state.now.progress }
+{
+    let leased = state.votes.in_lease(now);
+    match state.progress {
+        Progress::Ready { .. } if leased && writes => Turn::Write,
+        Progress::Ready { .. } if leased => Turn::Read,
+        progress if leased => Turn::Refuse(state.no_quorum(now, progress.phase())),
+        _ if !writes && allows_reads(state, now) => Turn::Read,
+        _ => Turn::Refuse(not_served(state, now)),
+    }
+}
+
+/// Whether the kept ready beacon allows reads: it is at most 60 seconds old and names the own version.
+fn allows_reads(state: &State, now: u32) -> bool
+    ensures { result ≡ allows_reads state.now.version now (beacon_of state.now.beacon) }
+{
+    match state.beacon {
+        Some(kept) => {
+            now.saturating_sub(kept.at) <= SMALLTIME && kept.version == state.version
+        }
+        None => false,
+    }
+}
+
+/// The refusal of a server that is not in lease: another one's claim, or that no quorum stands behind it.
+fn not_served(state: &State, now: u32) -> Reply
+    ensures { result ≡ not_served (member_of state.now) (server_of state.now) now (sync_heard now state.now.votes.votes) }
+{
+    match state.votes.sync_heard(now) {
+        Some((server, heard)) if server != state.me => Reply::NotSync {
+            host: state.cell.host(server),
+            heard,
+        },
+        _ => state.no_quorum(now, state.progress.phase()),
+    }
+}
+
+/// The reply to a call that the database has evaluated, where nothing is to be written.
+pub fn reply_of(reply: CallReply) -> Reply
+    ensures { (id : ℕ) (e : Evaluation) → (read_reply id e reply).output ≡ outputs.Reply id result }
+{
+    match reply {
+        CallReply::Done(answer) => Reply::Ok(answer),
+        CallReply::Rule(number) => Reply::Rule(number),
+        CallReply::Malformed => Reply::Malformed,
+        CallReply::BadRecord { at } => Reply::BadRecord { at },
+    }
+}
