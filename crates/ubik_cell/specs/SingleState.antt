@@ -6,6 +6,7 @@ use Rattle.db_image.specs.declared.services.CallReply.TheVariants.{Malformed}
 use Rattle.cell_model.specs.Book.{is_ready_site, site_database}
 use Rattle.cell_model.specs.Durable.{Transaction}
 use Rattle.cell_model.specs.Node.{Node, Down, Halted, Up}
+use Rattle.cell_model.specs.Step.{Member}
 use Rattle.prdb_entries.specs.Call.{PrCall}
 use Rattle.prdb_entries.specs.Layout.{StandsFor}
 use Rattle.prdb_entries.specs.Meaning.{meaning}
@@ -40,8 +41,8 @@ abbrev pub IsCounted : (before after acknowledged : List Transaction) → Transa
 IsCounted before after acknowledged t =
     ((acknowledged ≡ t ∷ []) × (after ≡ before ++ t ∷ [])) ⊎ (state_of (before ++ t ∷ []) ≡ state_of before)
 
--- the database of a server of n that is a ready sync site stands for the state after these transactions
-abbrev pub HasState : List Transaction → ℕ → ℕ → Node → Type 0
-HasState order n clock Down = Unit {0}
-HasState order n clock (Halted h) = Unit {0}
-HasState order n clock (Up s) = is_ready_site n clock (Up s) ≡ true → StandsFor (site_database s) (state_of order)
+-- the database of a server that is a ready sync site stands for the state after these transactions
+abbrev pub HasState : List Transaction → Member → ℕ → Node → Type 0
+HasState order m clock Down = Unit {0}
+HasState order m clock (Halted h) = Unit {0}
+HasState order m clock (Up s) = is_ready_site m clock (Up s) ≡ true → StandsFor (site_database s) (state_of order)
