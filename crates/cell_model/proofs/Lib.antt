@@ -1,5 +1,7 @@
 pub mod Causes
+pub mod Pages
 pub mod Sound
+pub mod StepKinds
 pub mod SoundReceiver
 pub mod SoundRecovery
 pub mod SoundSteps
