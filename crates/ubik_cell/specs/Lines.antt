@@ -51,9 +51,16 @@ abbrev pub IsTurn : NodeEvent → Type 0
 IsTurn (event.Packet p) = ⊥
 IsTurn _ = Unit {0}
 
+-- no beacon of another server is kept
+abbrev pub HearsNone : model.Node → Type 0
+HearsNone model.Down = Unit {0}
+HearsNone (model.Halted h) = Unit {0}
+HearsNone (model.Up s) = s.beacon ≡ None
+
 -- the only server of the cell of a script
-abbrev pub IsOnly : {D V : Type 0} → Node D V → Type 0
-IsOnly node = own_member node ≡ alone FIRST_HOST
+pub record IsOnly {D V : Type 0} (n : Node D V) : Type 0 where
+  pub member : own_member n ≡ alone FIRST_HOST
+  pub unheard : HearsNone (node_of n)
 
 -- Before there is a cell its disk is empty. Then its clock is a moment, and not before the last step, and a server
 -- that is down is so since its disk failed.

@@ -62,26 +62,44 @@ abbrev pub applied_word : Applied → List ℕ
 applied_word applied.No = codes "no"
 applied_word applied.Unknown = codes "unknown"
 
--- what a packet says: its kind, and a start, a poll or a version
-abbrev pub body_text : Body → List ℕ
-body_text (body.Beacon start claim ready version) = codes "beacon " ++ version_text version
-body_text (body.Vote start granted) = (if granted then codes "yes " else codes "no ") ++ decimal start
-body_text (body.GetVersion poll) = codes "getversion " ++ decimal poll
-body_text (body.VersionIs poll version) = codes "versionis " ++ version_text version
-body_text (body.GetPiece poll version offset) = codes "getpiece " ++ version_text version
-body_text (body.Piece poll version total offset bytes) = codes "piece " ++ version_text version
-body_text (body.SendPiece poll version total offset bytes) = codes "sendpiece " ++ version_text version
-body_text (body.PieceKept poll version next) = codes "piecekept " ++ version_text version
-body_text (body.SetVersion poll old new) = codes "setversion " ++ version_text new
-body_text (body.Begin old new pieces len) = codes "begin " ++ version_text new
-body_text (body.PutPiece new number bytes) = codes "putpiece " ++ version_text new
-body_text (body.Commit old new) = codes "commit " ++ version_text new
-body_text (body.Abort new) = codes "abort " ++ version_text new
-body_text (body.VersionKept version) = codes "versionkept " ++ version_text version
+-- the kind of a packet
+abbrev pub kind_word : Body → List ℕ
+kind_word (body.Beacon start claim ready version) = codes "beacon"
+kind_word (body.Vote start granted) = if granted then codes "yes" else codes "no"
+kind_word (body.GetVersion poll) = codes "getversion"
+kind_word (body.VersionIs poll version) = codes "versionis"
+kind_word (body.GetPiece poll version offset) = codes "getpiece"
+kind_word (body.Piece poll version total offset bytes) = codes "piece"
+kind_word (body.SendPiece poll version total offset bytes) = codes "sendpiece"
+kind_word (body.PieceKept poll version next) = codes "piecekept"
+kind_word (body.SetVersion poll old new) = codes "setversion"
+kind_word (body.Begin old new pieces len) = codes "begin"
+kind_word (body.PutPiece new number bytes) = codes "putpiece"
+kind_word (body.Commit old new) = codes "commit"
+kind_word (body.Abort new) = codes "abort"
+kind_word (body.VersionKept version) = codes "versionkept"
+
+-- the start, the poll or the version that a packet names
+abbrev pub subject_text : Body → List ℕ
+subject_text (body.Beacon start claim ready version) = version_text version
+subject_text (body.Vote start granted) = decimal start
+subject_text (body.GetVersion poll) = decimal poll
+subject_text (body.VersionIs poll version) = version_text version
+subject_text (body.GetPiece poll version offset) = version_text version
+subject_text (body.Piece poll version total offset bytes) = version_text version
+subject_text (body.SendPiece poll version total offset bytes) = version_text version
+subject_text (body.PieceKept poll version next) = version_text version
+subject_text (body.SetVersion poll old new) = version_text new
+subject_text (body.Begin old new pieces len) = version_text new
+subject_text (body.PutPiece new number bytes) = version_text new
+subject_text (body.Commit old new) = version_text new
+subject_text (body.Abort new) = version_text new
+subject_text (body.VersionKept version) = version_text version
 
 abbrev pub packet_text : List Host → ℕ → Packet → List ℕ
 packet_text hosts number p =
-    codes "packet " ++ decimal number ++ 32 ∷ host_text hosts p.from ++ 62 ∷ host_text hosts p.to ++ 32 ∷ body_text p.body
+    codes "packet " ++ decimal number ++ 32 ∷ host_text hosts p.from ++ 62 ∷ host_text hosts p.to
+    ++ 32 ∷ kind_word p.body ++ 32 ∷ subject_text p.body
 
 -- the answer fields, which are numbers today: the word of each behind a blank
 unfoldable pub fields_text : List ℕ → List ℕ

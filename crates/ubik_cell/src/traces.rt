@@ -5,7 +5,7 @@ ghost use Rattle.std.specs.Int.{w32, from_be_bytes, cast_signed};
 ghost use Rattle.std.specs.String.{string_bytes};
 ghost use Rattle.cell_model.specs.NodeRule.{place_of};
 ghost use Rattle.cell_model.specs.World.{seen_of_output};
-ghost use Rattle.ubik_cell.specs.Trace.{phase_word, applied_word, fields_text, version_text, number_in, host_text, body_text, packet_text, reply_text, cell_hosts, happening_line, seen_of_mark, why_word, which_word, ending_text};
+ghost use Rattle.ubik_cell.specs.Trace.{phase_word, applied_word, fields_text, version_text, number_in, kind_word, subject_text, packet_text, reply_text, cell_hosts, happening_line, seen_of_mark, why_word, which_word, ending_text};
 
 use crate::cells::{Ending, Which};
 use cell_model::Output;
@@ -63,54 +63,65 @@ fn tell_version(text: &mut String, version: Version) -> Result<(), NoMemory>
     Ok(())
 }
 
+/// The place of the server that has this host.
+fn place_of(hosts: &[Host], host: Host) -> Option<usize>
+    ensures { result ≡ place_of hosts.now host }
+{
+    hosts.iter().position(|other| other.0 == host.0)
+}
+
 /// The number of the server that has this host, counted from 1; 0 where the cell has no such server.
 fn number_of(hosts: &[Host], host: Host) -> u64
     ensures { result ≡ number_in (place_of hosts.now host) }
 {
-    match hosts.iter().position(|other| other.0 == host.0) {
+    match place_of(hosts, host) {
         Some(place) => place as u64 + 1,
         None => 0,
     }
 }
 
-/// Adds the number of the server that has this host.
-fn tell_host(text: &mut String, hosts: &[Host], host: Host) -> Result<(), NoMemory>
-    ensures { OnOk result (string_bytes text.new ≡ string_bytes text.old ++ host_text hosts.now host) }
-{
-    let number = number_of(hosts, host);
-    write!(text, "{number}")?;
-    Ok(())
-}
-
-/// Adds a word, and a version behind a blank.
-fn tell_word_version(text: &mut String, word: &str, version: Version) -> Result<(), NoMemory>
-    ensures { OnOk result (string_bytes text.new ≡ string_bytes text.old ++ word.now ++ 32 ∷ version_text version) }
-{
-    text.push_str(word)?;
-    text.push(' ')?;
-    tell_version(text, version)
-}
-
-/// Adds what a packet says: its kind, and a start, a poll or a version.
-fn tell_body(text: &mut String, body: &Body) -> Result<(), NoMemory>
-    ensures { OnOk result (string_bytes text.new ≡ string_bytes text.old ++ body_text body.now) }
+/// The word of a kind of packet. A vote has one for each answer.
+fn kind_word(body: &Body) -> &'static str
+    ensures { result.now ≡ kind_word body.now }
 {
     match body {
-        Body::Beacon { version, .. } => tell_word_version(text, "beacon", *version)?,
-        Body::Vote { start, yes: true } => write!(text, "yes {start}")?,
-        Body::Vote { start, yes: false } => write!(text, "no {start}")?,
-        Body::GetVersion { poll } => write!(text, "getversion {poll}")?,
-        Body::VersionIs { version, .. } => tell_word_version(text, "versionis", *version)?,
-        Body::GetPiece { version, .. } => tell_word_version(text, "getpiece", *version)?,
-        Body::Piece { version, .. } => tell_word_version(text, "piece", *version)?,
-        Body::SendPiece { version, .. } => tell_word_version(text, "sendpiece", *version)?,
-        Body::PieceKept { version, .. } => tell_word_version(text, "piecekept", *version)?,
-        Body::SetVersion { new, .. } => tell_word_version(text, "setversion", *new)?,
-        Body::Begin { new, .. } => tell_word_version(text, "begin", *new)?,
-        Body::PutPiece { new, .. } => tell_word_version(text, "putpiece", *new)?,
-        Body::Commit { new, .. } => tell_word_version(text, "commit", *new)?,
-        Body::Abort { new } => tell_word_version(text, "abort", *new)?,
-        Body::VersionKept { version } => tell_word_version(text, "versionkept", *version)?,
+        Body::Beacon { .. } => "beacon",
+        Body::Vote { yes: true, .. } => "yes",
+        Body::Vote { yes: false, .. } => "no",
+        Body::GetVersion { .. } => "getversion",
+        Body::VersionIs { .. } => "versionis",
+        Body::GetPiece { .. } => "getpiece",
+        Body::Piece { .. } => "piece",
+        Body::SendPiece { .. } => "sendpiece",
+        Body::PieceKept { .. } => "piecekept",
+        Body::SetVersion { .. } => "setversion",
+        Body::Begin { .. } => "begin",
+        Body::PutPiece { .. } => "putpiece",
+        Body::Commit { .. } => "commit",
+        Body::Abort { .. } => "abort",
+        Body::VersionKept { .. } => "versionkept",
+    }
+}
+
+/// Adds the start, the poll or the version that a packet names.
+fn tell_subject(text: &mut String, body: &Body) -> Result<(), NoMemory>
+    ensures { OnOk result (string_bytes text.new ≡ string_bytes text.old ++ subject_text body.now) }
+{
+    match body {
+        Body::Vote { start, .. } => write!(text, "{start}")?,
+        Body::GetVersion { poll } => write!(text, "{poll}")?,
+        Body::Beacon { version, .. }
+        | Body::VersionIs { version, .. }
+        | Body::GetPiece { version, .. }
+        | Body::Piece { version, .. }
+        | Body::SendPiece { version, .. }
+        | Body::PieceKept { version, .. }
+        | Body::VersionKept { version } => tell_version(text, *version)?,
+        Body::SetVersion { new, .. }
+        | Body::Begin { new, .. }
+        | Body::PutPiece { new, .. }
+        | Body::Commit { new, .. }
+        | Body::Abort { new } => tell_version(text, *new)?,
     }
     Ok(())
 }
@@ -124,12 +135,11 @@ fn tell_packet(
 ) -> Result<(), NoMemory>
     ensures { OnOk result (string_bytes text.new ≡ string_bytes text.old ++ packet_text hosts.now number packet.now) }
 {
-    write!(text, "packet {number} ")?;
-    tell_host(text, hosts, packet.from)?;
-    text.push('>')?;
-    tell_host(text, hosts, packet.to)?;
-    text.push(' ')?;
-    tell_body(text, &packet.body)
+    let from = number_of(hosts, packet.from);
+    let to = number_of(hosts, packet.to);
+    let kind = kind_word(&packet.body);
+    write!(text, "packet {number} {from}>{to} {kind} ")?;
+    tell_subject(text, &packet.body)
 }
 
 /// Adds a reply, as it stands behind the number of its call and its server.
@@ -153,8 +163,8 @@ fn tell_reply(text: &mut String, hosts: &[Host], reply: &Reply) -> Result<(), No
             write!(text, " noquorum {until} {phase} {applied}")?;
         }
         Reply::NotSync { host, .. } => {
-            text.push_str(" notsync ")?;
-            tell_host(text, hosts, *host)?;
+            let number = number_of(hosts, *host);
+            write!(text, " notsync {number}")?;
         }
         Reply::LineFull { holder } => write!(text, " linefull {holder}")?,
         Reply::TooLarge { bytes } => write!(text, " toolarge {bytes}")?,
