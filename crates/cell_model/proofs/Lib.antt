@@ -1,5 +1,10 @@
+pub mod BlockChanges
 pub mod Causes
+pub mod Kept
+pub mod KeptRuns
 pub mod Pages
+pub mod Recorded
+pub mod SingleReplies
 pub mod Sound
 pub mod StepKinds
 pub mod SoundReceiver

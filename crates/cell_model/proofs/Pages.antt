@@ -39,6 +39,15 @@ pub image_from-append : (db : Database) (image : List ℕ) (front more : List Tr
 image_from-append db image [] more = refl
 image_from-append db image (t ∷ front) more = image_from-append db (db.call image t.moment t.call).image front more
 
+-- the pages of a relabelling and of a commit of the one server
+abbrev pub relabelled_page : Book → Version → Version → Page
+relabelled_page book old new =
+    record { version = new; before = old; transaction = None; maker = 0; transactions = list_or_none book old }
+
+abbrev pub committed_page : Book → Version → Version → Transaction → Page
+committed_page book old new t =
+    record { version = new; before = old; transaction = Some t; maker = 0; transactions = list_or_none book old ++ t ∷ [] }
+
 -- the list of a durable version, and the image that it leads to
 pub record IsListed (db : Database) (book : Book) (d : Durable) (list : List Transaction) : Type 0 where
   pub listed : list_of book d.version ≡ Some list
@@ -60,13 +69,13 @@ module _ (db : Database) (book : Book) (d : Durable) (list : List Transaction) (
 
   pub goes_relabelled : (new : Version) → GoesOn db book d list (own_relabelling new ∷ []) []
   goes_relabelled new = record {
-    listed = newest _ book ∙ ap (λ (l : List Transaction). Some l) (list_is book d.version list is.listed ∙ sym (append-nil list));
+    listed = newest (relabelled_page book d.version new) book ∙ ap (λ (l : List Transaction). Some l) (list_is book d.version list is.listed ∙ sym (append-nil list));
     image_is = is.image_is ∙ ap (image_of db) (sym (append-nil list));
   }
 
   pub goes_committed : (new : Version) (changes : List Change) (now : ℕ) (call : List ℕ) → GoesOn db book d list (own_commit new changes (db.call d.image now call).image (made_at now call) ∷ []) (made_at now call ∷ [])
   goes_committed new changes now call = record {
-    listed = newest _ book ∙ ap (λ (l : List Transaction). Some (l ++ made_at now call ∷ [])) (list_is book d.version list is.listed);
+    listed = newest (committed_page book d.version new (made_at now call)) book ∙ ap (λ (l : List Transaction). Some (l ++ made_at now call ∷ [])) (list_is book d.version list is.listed);
     image_is = ap (λ (image : List ℕ). (db.call image now call).image) is.image_is ∙ sym (image_from-append db [] list (made_at now call ∷ []));
   }
 

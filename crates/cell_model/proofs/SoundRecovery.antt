@@ -55,8 +55,7 @@ module _ (db : Database) (at : ℕ) (Stands : ℕ → List ℕ → Type 0) where
   recovered_is m s now (Relabel poll) short = relabelled_is m s poll now short
   recovered_is m s now (Send poll spread) short =
       follows db at Stands (spread_again m s poll spread s.version) (settled m) (spread_is m s poll spread s.version short) (settled_is db at Stands m s _)
-  recovered_is m s now (Ready poll spread announced) short =
-      follows db at Stands (spread_again m s poll spread announced) (settled m) (spread_is m s poll spread announced short) (settled_is db at Stands m s _)
+  recovered_is m s now (Ready poll spread announced) short = spread_is m s poll spread announced short
 
   pub recovery_turn_is : (m : Member) (s : Server) (now : ℕ) (short : List Bool) → IsSound db at Stands short (state_of s) (recovery_turn m s now)
   recovery_turn_is m s now short = recovered_is m s now s.phase short

@@ -1,9 +1,9 @@
 -- What a step can be in a cell of one server: it rests, or it relabels, or it commits; whatever the event. And what a reply
 -- tells.
-use Rattle.std.proofs.Common.{Bool, true, false, true≢false, cond, ◌==◌, ◌≡◌, ℕ, ◌+◌, ◌<◌, List, [], ◌∷◌, ◌++◌, length, map, refl, sym, ap, subst, ◌∙◌, ◌⊎◌, inl, inr, arith}
+use Rattle.std.proofs.Common.{Bool, true, false, true≢false, cond, ◌==◌, ◌≡◌, ℕ, ◌+◌, List, [], ◌∷◌, ◌++◌, length, refl, sym, ap, subst, ◌∙◌, ◌⊎◌, inl, inr, arith}
 use Rattle.std.proofs.lemmas.Bool.{cond_both, and_right}
 use Rattle.std.proofs.lemmas.Bool.Decides.{nat_tests}
-use Rattle.std.specs.Prelude.{Option, Some, None, ◌&&◌, ◌||◌, nat_lt, is_some}
+use Rattle.std.specs.Prelude.{Option, Some, None, ◌&&◌, ◌||◌, nat_lt}
 use Rattle.ubik_types.specs.declared.hosts.Host.{Host}
 use Rattle.ubik_types.specs.declared.images.Change.{Change}
 use Rattle.ubik_types.specs.declared.versions.TheConstants.{MAX_COUNTER}
@@ -13,8 +13,7 @@ use Rattle.ubik_types.specs.declared.phases.Applied.TheVariants as applied
 use Rattle.ubik_types.specs.Logged.{too_large}
 use Rattle.ubik_types.specs.Version.{zero_version, version_lt, version_eq}
 use Rattle.ubik_types.specs.Votes.{beacon_is_due, sync_heard}
-use Rattle.ubik_types.specs.Phase.{Polled, Spread, PhaseRecord, NoPhase, Poll, Fetch, Relabel, Send, Ready, phase_of}
-use Rattle.ubik_calls.specs.declared.packets.Body.TheVariants as body
+use Rattle.ubik_types.specs.Phase.{Polled, PhaseRecord, NoPhase, Poll, Fetch, Relabel, Send, Ready}
 use Rattle.ubik_calls.specs.declared.replies.Reply.{Reply}
 use Rattle.ubik_calls.specs.declared.replies.Reply.TheVariants as reply
 use Rattle.db_image.specs.declared.services.CallReply.{CallReply}
@@ -24,16 +23,15 @@ use Rattle.cell_model.specs.declared.events.NodeEvent.{NodeEvent}
 use Rattle.cell_model.specs.declared.events.NodeEvent.TheVariants as event
 use Rattle.cell_model.specs.declared.events.Output.{Output}
 use Rattle.cell_model.specs.declared.events.Output.TheVariants as output
-use Rattle.cell_model.specs.Asks.{read_reply, read, write_asked, served, allows_reads, not_served, asked_elsewhere, asked_as, asked}
-use Rattle.cell_model.specs.Durable.{Transaction, Made}
-use Rattle.cell_model.specs.Lapse.{no_quorum, writes_refused, without_writes, write_lapsed, lapsed, flight_refused, waiting_refused}
+use Rattle.cell_model.specs.Asks.{read_reply, read, write_asked, served, allows_reads, not_served, asked_elsewhere, asked_as}
+use Rattle.cell_model.specs.Durable.{Transaction}
+use Rattle.cell_model.specs.Lapse.{no_quorum, writes_refused, without_writes, write_lapsed, flight_refused, waiting_refused}
 use Rattle.cell_model.specs.Node.{Server, Flight, Waiting, ReadyBeacon}
 use Rattle.cell_model.specs.NodeRule.{handled, step_of}
-use Rattle.cell_model.specs.Polls.{begun_poll, polling, best_answer, first_with}
+use Rattle.cell_model.specs.Polls.{polling, best_answer}
 use Rattle.cell_model.specs.Recovery.{epoch_of, own_relabelling, relabelled, polled, poll_begun, recovered, recovery_turn}
-use Rattle.cell_model.specs.Step.{Member, Basis, Announced_image, Commit_on, Evaluation, Shown, Stepped, quiet, showing, followed, leased, is_ready, told_version, with_phase, announcing, refusing, replying, is_short, short_after, sends_to, host_at}
-use Rattle.cell_model.specs.Voting.{beacon_turn}
-use Rattle.cell_model.specs.Writes.{next_version, own_commit, announced_image, image_before, flight_settled, settled_in, settled, written_in, written_changes, written_small, written_within, written, turned, write_turn, last_counter}
+use Rattle.cell_model.specs.Step.{Member, Announced_image, Commit_on, Evaluation, Shown, Stepped, quiet, showing, followed, leased, is_ready, told_version, with_phase, announcing, refusing, replying, is_short, short_after}
+use Rattle.cell_model.specs.Writes.{next_version, own_commit, image_before, written_in, written_small, written_within, turned, last_counter}
 
 -- the one server of a cell
 abbrev pub one_of : Host → Member
@@ -213,16 +211,6 @@ module _ (host : Host) (s : Server) (now : ℕ) (alone : IsAlone s) where
           (λ better. absurd (true≢false (sym better ∙ no_better (version_lt zero_version s.version))))
           (λ _. relabelled_is (record { number = number; answers = Some s.version ∷ [] }))
 
-  -- nothing is in flight
-  settled_is : (phase : PhaseRecord) → IsAlonePhase s.version phase → IsTurn s (settled_in (one_of host) s phase)
-  settled_is NoPhase is = stays
-  settled_is (Poll poll) is = stays
-  settled_is (Fetch poll best from) is = absurd is
-  settled_is (Relabel poll) is = stays
-  settled_is (Send poll spread) is = absurd is
-  settled_is (Ready poll spread announced) is =
-      let P : Option Flight → Type 0 = λ f. IsTurn s (flight_settled (one_of host) s poll spread announced f) in subst P (sym alone.flight) stays
-
 -- a poll begins in a server that is alone
 begun_alone : (host : Host) (s : Server) (now : ℕ) → IsAlone s → IsAlone (polling (one_of host) s now)
 begun_alone host s now alone = record { flight = alone.flight; waiting = alone.waiting; beacon = alone.beacon; phase = refl }
@@ -255,7 +243,7 @@ recovered_is host s now (Poll poll) alone is at = polled_is host s now alone pol
 recovered_is host s now (Fetch poll best from) alone is at = absurd is
 recovered_is host s now (Relabel poll) alone is at = relabelled_is host s now alone poll
 recovered_is host s now (Send poll spread) alone is at = absurd is
-recovered_is host s now (Ready poll spread announced) alone is at = settled_is host s now alone s.phase alone.phase
+recovered_is host s now (Ready poll spread announced) alone is at = stays host s now alone
 
 -- a turn is a step
 turn_is : (db : Database) (s : Server) (now : ℕ) (e : NodeEvent) (t : Stepped) → IsTurn s t → IsStep db s now e t

@@ -56,7 +56,7 @@ stop_keeps db m e short made site = at site.node refl
   where
     at : (node : Node) → site.node ≡ node → IsOf site.durable node → IsOf (stop_at db m e short made site node).site.durable (stop_at db m e short made site node).site.node
     at Down is holds = stays site Down is holds
-    at (Halted h) is holds = stays site (Halted h) is holds
+    at (Halted h) is holds = tt
     at (Up s) is holds = tt
 
 fault_keeps : (db : Database) (m : Member) (e : NodeEvent) (short : List Bool) (made : ℕ) → Keeps (λ site. fault_at db m e short made site site.node)

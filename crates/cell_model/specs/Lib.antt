@@ -2,6 +2,7 @@ pub mod Asks
 pub mod Book
 pub mod Causes
 pub mod Durable
+pub mod KeptLaws
 pub mod Lapse
 pub mod Laws
 pub mod Node

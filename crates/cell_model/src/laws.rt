@@ -1,11 +1,43 @@
 //! Laws of the world: each is the clause of a call that does nothing.
 ghost use Rattle.cell_model.specs.Causes.{RepliesHaveCauses};
-ghost use Rattle.cell_model.specs.Laws.{DatabaseIsDurable};
+ghost use Rattle.cell_model.specs.KeptLaws.{AcknowledgedStay, OksAreAcknowledged, RepliesAreSingle, SitesAreSingle};
+ghost use Rattle.cell_model.specs.Laws.{AnnouncementsGrow, DatabaseIsDurable};
 
-/// In each run of a cell the durable state of each server that is up, and not halted, is its version and its
+/// In each cell, whatever happens, the durable state of each server that is up, and not halted, is its version and its
 /// image: none serves a database that is not durable.
 pub fn law_database_is_durable()
     ensures { DatabaseIsDurable }
+{}
+
+/// In a cell of one server, whatever happens, the list of each announcement is a front of the list of each later one:
+/// announced transactions have one order, which only grows.
+pub fn law_announcements_grow()
+    ensures { AnnouncementsGrow }
+{}
+
+/// In a cell of one server, whatever happens, a transaction that was acknowledged stays in the order, where its commit put
+/// it: none is lost, and none moves.
+pub fn law_acknowledged_stay()
+    ensures { AcknowledgedStay }
+{}
+
+/// In a cell of one server, after each run, each Ok to a call that writes stands for a transaction that is acknowledged in that
+/// event, or for one that makes no change to the single copy. So `law_acknowledged_stay` leaves out no write.
+pub fn law_ok_is_acknowledged()
+    ensures { OksAreAcknowledged }
+{}
+
+/// In a cell of one server, whatever happens, the database of each ready sync site is the image that the single copy has
+/// after the order: the committed transactions, and nothing else.
+pub fn law_sites_are_single()
+    ensures { SitesAreSingle }
+{}
+
+/// In a cell of one server, whatever happens, each reply Ok, Rule or BadRecord is to a call that is asked in that event, and
+/// is what the single copy replies to it after the order before the event, at the clock of the server. The evaluation
+/// behind an Ok or a Rule names the version whose list that order is, and the transaction of a commit is its next one.
+pub fn law_replies_are_single()
+    ensures { RepliesAreSingle }
 {}
 
 /// In each world of each cell a reply Malformed comes only to a call that is asked in that step, or waited before it, and that

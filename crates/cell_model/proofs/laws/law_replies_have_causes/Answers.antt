@@ -1,5 +1,3 @@
-use Rattle.cell_model.proofs.Pages.{broken_goes}
-use Rattle.cell_model.proofs.StepKinds.{IsStep}
 use Rattle.cell_model.proofs.Causes.{replies_have_causes}
 use Rattle.cell_model.proofs.laws.law_replies_have_causes.Goals as goal
 
