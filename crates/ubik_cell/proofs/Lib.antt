@@ -1,3 +1,4 @@
+pub mod Alone
 pub mod AtEndings
 pub mod Completeness
 pub mod Consuming

@@ -5,11 +5,11 @@ use Rattle.db_image.specs.Database.{Database}
 use Rattle.disk_base.specs.Files.{Files, no_files}
 use Rattle.ubik_calls.specs.declared.replies.Reply.{Reply}
 use Rattle.ubik_calls.specs.declared.replies.Reply.TheVariants as reply
-use Rattle.cell_model.specs.Book.{Run, run_with, order_of}
-use Rattle.cell_model.specs.KeptLaws.{acknowledged_then, one_of, IsPlaced, IsSingle, IsSeenOf, answered_by}
+use Rattle.cell_model.specs.Book.{Run, run_after, order_of}
+use Rattle.cell_model.specs.KeptLaws.{IsPlaced, IsSingle, Answered, IsAnsweredBy, answered_by}
 use Rattle.cell_model.specs.Laws.{run_of_one, Grows}
 use Rattle.cell_model.specs.Step.{Evaluation}
-use Rattle.cell_model.specs.World.{Site, Event, Asking, Step, Happening, Announced, Replied, Halts, IsRun, site_of, happens, first_seen, first_world, seen_of}
+use Rattle.cell_model.specs.World.{Site, Event, Asking, Step, Happening, Announced, Replied, Halts, IsRun, member, site_of, happens, first_seen, first_world, seen_of}
 use Rattle.ubik_node.specs.Database.{durable_of}
 use Rattle.ubik_cell.specs.declared.cells.CellKind.{CellKind}
 use Rattle.ubik_cell.specs.declared.cells.CellKind.TheVariants as kind
@@ -46,16 +46,16 @@ pub record IsKept (db : Database) (clock : ℕ) (failed : Bool) (events : List E
   pub stays : (front middle back : List Event) → events ≡ (front ++ middle) ++ back →
       All (λ a. IsPlaced (order_of (run_of_one db FIRST_HOST clock failed (front ++ middle)).announcements) a)
       (run_of_one db FIRST_HOST clock failed front).acknowledged
-  pub sites : (front back : List Event) → events ≡ front ++ back →
+  pub sites : (front back : List Event) → events ≡ front ++ back → (k : ℕ) →
       let r = run_of_one db FIRST_HOST clock failed front in
-      All (λ site. IsSingle db (order_of r.announcements) (one_of FIRST_HOST) site.clock site.node × HasState (order_of r.announcements) (one_of FIRST_HOST) site.clock site.node) r.world.sites
-  pub recorded : (front back : List Event) (server id : ℕ) (call fields : List ℕ) (short : List Bool) (evaluation : Option Evaluation) →
+      let order = order_of r.announcements in
+      IfSome (site_of r.world k) (λ site.
+      IsSingle db order (member r.world k) site.clock site.node × HasState order (member r.world k) site.clock site.node)
+  pub recorded : (front back : List Event) (server id : ℕ) (call fields : List ℕ) (evaluation : Option Evaluation) (short : List Bool) →
       let e = Step (Asking server id call) short in events ≡ front ++ e ∷ back →
       let r = run_of_one db FIRST_HOST clock failed front in
-      let h = happens db r.world e in
-      db.writes call ≡ Some true → Contains h.seen (Replied server id (reply.Ok fields) evaluation) →
-      IfSome (site_of r.world server) (λ site.
-      IsCounted (order_of r.announcements) (order_of (run_with r e h).announcements) (acknowledged_then r h) (record { moment = site.clock; call = call }))
+      db.writes call ≡ Some true → Contains (happens db r.world e).seen (Replied server id (reply.Ok fields) evaluation) →
+      IfSome (site_of r.world server) (λ site. IsCounted r (run_after db r e) (record { moment = site.clock; call = call }))
 
 -- In a cell of one no packet is seen, and no server that stops or is opened anew. No reply is that the bytes asked are no call, that
 -- the database is bad, that memory ran out, that another server is the sync site, or that a line is full.
@@ -73,8 +73,13 @@ IsProper (Replied server id r evaluation) = IsProperReply r
 IsProper (Halts server) = Unit {0}
 IsProper _ = ⊥
 
+-- a reply Ok or Rule that is seen is this answer
+abbrev pub IsSeenOf : Option Answered → Happening → Type 0
+IsSeenOf single (Replied server id r evaluation) = IsAnsweredBy single server id r
+IsSeenOf single _ = Unit {0}
+
 -- Each reply Ok or Rule of an event is what its call means for the state of the order before the event, at the clock of
--- the server; and nothing is seen but announcements, halts and proper replies.
+-- the server; and nothing is seen but announcements, proper replies and halts.
 abbrev pub HasSingleReplies : Database → ℕ → Bool → List Event → Type 0
 HasSingleReplies db clock failed events =
     (front back : List Event) (event : Event) → events ≡ front ++ event ∷ back →
