@@ -220,7 +220,7 @@ event_leaves db host r e kept =
     let P : World → Type 0 = λ w. LeavesWorld db host r.book r.announcements (happens db w e) in
     subst P (sym kept.world) (happened db host r.book r.announcements kept.site kept.stands e)
 
-goes_on : (db : Database) (host : Host) (r : Run) (e : Event) → IsKept db host r → IsKept db host (run_after db r e)
+pub goes_on : (db : Database) (host : Host) (r : Run) (e : Event) → IsKept db host r → IsKept db host (run_after db r e)
 goes_on db host r e kept =
     let leaves = event_leaves db host r e kept in
     let order = order_of (run_after db r e).announcements in
@@ -237,7 +237,7 @@ along : (db : Database) (host : Host) (r : Run) (events : List Event) → IsKept
 along db host r [] kept = kept
 along db host r (e ∷ events) kept = along db host (run_after db r e) events (goes_on db host r e kept)
 
-first_kept : (db : Database) (host : Host) (clock : ℕ) (failed : Bool) → IsKept db host (first_run (first_world (host ∷ []) clock (failed ∷ [])))
+pub first_kept : (db : Database) (host : Host) (clock : ℕ) (failed : Bool) → IsKept db host (first_run (first_world (host ∷ []) clock (failed ∷ [])))
 first_kept db host clock true = record {
   site = _;
   world = refl;

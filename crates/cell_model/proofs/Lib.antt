@@ -1,5 +1,6 @@
 pub mod BlockChanges
 pub mod Causes
+pub mod GivenReplies
 pub mod Kept
 pub mod KeptRuns
 pub mod Pages

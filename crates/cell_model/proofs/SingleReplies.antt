@@ -77,15 +77,15 @@ abbrev Answers : Database → Option Answered → List Transaction → ℕ → N
 Answers db single order now e =
     (id : ℕ) (call : List ℕ) → e ≡ event.Ask id call → single ≡ Some (answered 0 id (reply_after db order now call))
 
-module _ (db : Database) (single : Option Answered) (book : Book) (ann : List Announcement) (s : Server) (now : ℕ) (e : NodeEvent) (list : List Transaction) (up : KnowsUp db book ann s list) (answers : Answers db single (order_of ann) now e) where
-  -- the database's answer is the single copy's
-  told_single : (id : ℕ) (answer : CallReply) (a : IsAnswer db s now e id answer) → reply_after db (order_of ann) now a.call ≡ answer
-  told_single id answer a =
-      ap (λ (image : List ℕ). (db.call image now a.call).reply) (sym (ready_image db book ann s list up a.ready)) ∙ a.answer_is
+-- the database's answer is the single copy's
+pub told_single : (db : Database) (book : Book) (ann : List Announcement) (s : Server) (now : ℕ) (e : NodeEvent) (list : List Transaction) (id : ℕ) (answer : CallReply) → KnowsUp db book ann s list → (a : IsAnswer db s now e id answer) → reply_after db (order_of ann) now a.call ≡ answer
+told_single db book ann s now e list id answer up a =
+    ap (λ (image : List ℕ). (db.call image now a.call).reply) (sym (ready_image db book ann s list up a.ready)) ∙ a.answer_is
 
+module _ (db : Database) (single : Option Answered) (book : Book) (ann : List Announcement) (s : Server) (now : ℕ) (e : NodeEvent) (list : List Transaction) (up : KnowsUp db book ann s list) (answers : Answers db single (order_of ann) now e) where
   answer_single : (id : ℕ) (answer : CallReply) → IsAnswer db s now e id answer → single ≡ Some (answered 0 id answer)
   answer_single id answer a =
-      answers id a.call a.asked ∙ ap (λ (r : CallReply). Some (answered 0 id r)) (told_single id answer a)
+      answers id a.call a.asked ∙ ap (λ (r : CallReply). Some (answered 0 id r)) (told_single db book ann s now e list id answer up a)
 
   -- the version of a ready server has the order as its list
   version_listed : is_ready s.phase ≡ true → list_of book s.version ≡ Some (order_of ann)
@@ -96,7 +96,7 @@ module _ (db : Database) (single : Option Answered) (book : Book) (ann : List An
       let P : Option Evaluation → Type 0 = λ o. IsEvaluated db (order_of ann) after book r o in
       subst P (sym given.evaluated) (record {
         listed = version_listed given.answered.ready;
-        replied = is_reply (reply_after db (order_of ann) now given.answered.call) (told_single id answer given.answered);
+        replied = is_reply (reply_after db (order_of ann) now given.answered.call) (told_single db book ann s now e list id answer up given.answered);
         next = tt;
       })
 
@@ -165,7 +165,7 @@ module _ (db : Database) (single : Option Answered) (book : Book) (ann : List An
       committed : IsOfSingleCopy db (order_of ann) (list_or_none after made.new) after evaluation (reply.Ok made.answer)
       committed = record {
         listed = older (committed_page book s.version made.new one) book s.version (order_of ann) made.fresh (version_listed made.answered.ready);
-        replied = told_single made.id (call_reply.Done made.answer) made.answered;
+        replied = told_single db book ann s now e list made.id (call_reply.Done made.answer) up made.answered;
         next =
             list_is after made.new (list ++ one ∷ []) (goes_committed db book (durable s.version s.image) list up.is made.new made.changes now made.answered.call).listed
             ∙ ap (λ (l : List Transaction). l ++ one ∷ []) (sym (up.ready made.answered.ready));

@@ -7,9 +7,9 @@ use Rattle.ubik_types.specs.declared.hosts.Host.{Host}
 use Rattle.ubik_types.specs.declared.versions.Version.{Version}
 use Rattle.ubik_calls.specs.declared.replies.Reply.{Reply}
 use Rattle.ubik_calls.specs.declared.replies.Reply.TheVariants as reply
-use Rattle.cell_model.specs.Book.{Book, Run, Acknowledgement, list_of, run_after, run_through, order_of, is_ready_site, site_database}
+use Rattle.cell_model.specs.Book.{Book, Run, Acknowledgement, Given, list_of, run_after, run_through, order_of, is_ready_site, site_database}
 use Rattle.cell_model.specs.Durable.{Transaction}
-use Rattle.cell_model.specs.Laws.{run_of_one}
+use Rattle.cell_model.specs.Laws.{Begins, run_of_one}
 use Rattle.cell_model.specs.Node.{Node, Down, Halted, Up}
 use Rattle.cell_model.specs.SingleCopy.{image_of, reply_after}
 use Rattle.cell_model.specs.Step.{Member, Basis, Announced_image, Beacon_image, Commit_on, Evaluation}
@@ -143,3 +143,21 @@ RepliesAreSingle =
     (db : Database) (host : Host) (clock : ℕ) (failed : Bool) (events : List Event) (e : Event) →
     let r = run_of_one db host clock failed events in
     All (IsSeenSingle db r (run_after db r e) e) (happens db r.world e).seen
+
+-- the order behind an evaluation: where it was a commit, its transaction is the next one
+abbrev pub order_behind : Basis → List Transaction → Transaction → List Transaction
+order_behind (Commit_on old new) order t = order ++ t ∷ []
+order_behind _ order t = order
+
+-- A reply that a database gave is what the single copy replies to the call, at the moment of the evaluation, after the order at
+-- which it was evaluated; and the order behind that is a front of this one.
+pub record IsGivenSingle (db : Database) (order : List Transaction) (g : Given) : Type 0 where
+  pub replied : IsReplyOf (reply_after db g.order g.evaluation.moment g.evaluation.call) g.reply
+  pub begins : Begins (order_behind g.evaluation.basis g.order (record { moment = g.evaluation.moment; call = g.evaluation.call })) order
+
+-- So of each reply that a database gave in a run, and of the order of that run.
+abbrev pub GivenAreSingle : Type 0
+GivenAreSingle =
+    (db : Database) (host : Host) (clock : ℕ) (failed : Bool) (events : List Event) →
+    let r = run_of_one db host clock failed events in
+    All (IsGivenSingle db (order_of r.announcements)) r.given

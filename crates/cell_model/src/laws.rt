@@ -1,6 +1,12 @@
 //! Laws of the world: each is the clause of a call that does nothing.
 ghost use Rattle.cell_model.specs.Causes.{RepliesHaveCauses};
-ghost use Rattle.cell_model.specs.KeptLaws.{AcknowledgedStay, OksAreAcknowledged, RepliesAreSingle, SitesAreSingle};
+ghost use Rattle.cell_model.specs.KeptLaws.{
+  AcknowledgedStay,
+  GivenAreSingle,
+  OksAreAcknowledged,
+  RepliesAreSingle,
+  SitesAreSingle,
+};
 ghost use Rattle.cell_model.specs.Laws.{AnnouncementsGrow, DatabaseIsDurable};
 
 /// In each cell, whatever happens, the durable state of each server that is up, and not halted, is its version and its
@@ -36,8 +42,10 @@ pub fn law_sites_are_single()
 /// In a cell of one server, whatever happens, each reply Ok, Rule or BadRecord is to a call that is asked in that event, and
 /// is what the single copy replies to it after the order before the event, at the clock of the server. The evaluation
 /// behind an Ok or a Rule names the version whose list that order is, and the transaction of a commit is its next one.
+/// So each reply that a database gave in a run stays that of the single copy, after a front of the order.
 pub fn law_replies_are_single()
-    ensures { RepliesAreSingle }
+    ensures seen { RepliesAreSingle }
+    ensures given { GivenAreSingle }
 {}
 
 /// In each world of each cell a reply Malformed comes only to a call that is asked in that step, or waited before it, and that
