@@ -1,5 +1,14 @@
+pub mod Alone
+pub mod Committing
+pub mod Images
+pub mod Places
 pub mod Read
+pub mod Recovered
 pub mod Relabelled
+pub mod Rested
+pub mod Sending
+pub mod Served
 pub mod Settling
-pub mod Steps
+pub mod Stepping
+pub mod Voted
 pub mod Written

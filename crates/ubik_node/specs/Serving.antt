@@ -1,6 +1,5 @@
 -- What becomes of a call.
 use Rattle.std.specs.Prelude.{◌≡◌, ℕ, Bool, List, [], ◌∷◌}
-use Rattle.ubik_types.specs.declared.versions.Version.{Version}
 use Rattle.ubik_types.specs.declared.hosts.Host.{Host}
 use Rattle.ubik_calls.specs.declared.replies.Reply.{Reply}
 use Rattle.db_image.specs.Database.{Database}
@@ -11,17 +10,11 @@ use Rattle.cell_model.specs.Node.{Server}
 use Rattle.cell_model.specs.Node as model
 use Rattle.cell_model.specs.Step.{Member, Basis, Stepped, showing, refusing}
 use Rattle.cell_model.specs.Writes.{write_turn}
-use Rattle.ubik_node.specs.declared.progress.Progress.{Progress}
-use Rattle.ubik_node.specs.declared.progress.Progress.TheVariants as progress
 use Rattle.ubik_node.specs.declared.serving.Turn.{Turn}
 use Rattle.ubik_node.specs.declared.serving.Turn.TheVariants as turn
 use Rattle.ubik_node.specs.Node.{Makes}
 use Rattle.ubik_node.specs.Progress.{alone}
 use Rattle.ubik_node.specs.Verdict.{Leads}
-
--- calls are served
-abbrev pub IsServing : Progress → Type 0
-IsServing p = (poll : ℕ) × (old : Version) × (p ≡ progress.Ready poll old)
 
 -- what a call leads to
 abbrev pub TurnsTo : Database → Member → Server → ℕ → ℕ → List ℕ → Bool → Turn → Stepped → Type 0
@@ -42,7 +35,7 @@ Answers db m s now id call after out disk_before disk_after =
 -- the reply to a call that reads the own image
 abbrev pub Reads : Database → Server → ℕ → List ℕ → Reply → Type 0
 Reads db s now call r =
-    (id : ℕ) (basis : Basis) → (short : Bool) × Leads (read db s now id call s.image basis short) s (output.Reply id r ∷ []) 0
+    (short : Bool) × ((id : ℕ) (basis : Basis) → Leads (read db s now id call s.image basis short) s (output.Reply id r ∷ []) 0)
 
 -- a writing call at a server that is alone in its cell was made, or it found no memory
 abbrev pub Writes : Database → Host → Server → ℕ → ℕ → List ℕ → model.Node → List Output → ℕ → ℕ → Type 0

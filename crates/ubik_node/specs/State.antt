@@ -1,15 +1,10 @@
 -- What the state of a node stands for: the abstract server, and its place in the cell.
-use Rattle.std.specs.Prelude.{◌≡◌, Option, Some, None, List, []}
+use Rattle.std.specs.Prelude.{◌≡◌, None, List, []}
 use Rattle.cell_model.specs.declared.events.Output.{Output}
 use Rattle.cell_model.specs.Node as model
 use Rattle.cell_model.specs.Step.{Member, Stepped, outputs_of}
-use Rattle.ubik_node.specs.declared.progress.ReadyBeacon.{ReadyBeacon}
 use Rattle.ubik_node.specs.declared.state.State.{State}
-use Rattle.ubik_node.specs.Progress.{phase_record}
-
-abbrev pub beacon_of : Option ReadyBeacon → Option model.ReadyBeacon
-beacon_of None = None
-beacon_of (Some b) = Some (record { server = b.server; version = b.version; at = b.at })
+use Rattle.ubik_node.specs.Progress.{phase_record, beacon_of}
 
 abbrev pub member_of : State → Member
 member_of s = record { hosts = s.cell; me = s.me }
@@ -31,11 +26,14 @@ server_of s =
       waiting = [];
     }
 
--- a step that changes nothing durable: the state after it, and what it puts out
-pub record Shows (t : Stepped) (before after : State) (out : List Output) : Type 0 where
-  pub server : t.server ≡ server_of after
-  pub calls : t.calls ≡ []
-  pub outputs : out ≡ outputs_of t.shown
+-- the place in the cell and the database stay
+pub record Keeps (before after : State) : Type 0 where
   pub member : member_of after ≡ member_of before
   pub version : after.version ≡ before.version
   pub image : after.image ≡ before.image
+
+-- a step without a durable call: the server after it, and what it puts out
+pub record Shows (t : Stepped) (after : model.Server) (out : List Output) : Type 0 where
+  pub server : t.server ≡ after
+  pub calls : t.calls ≡ []
+  pub outputs : out ≡ outputs_of t.shown

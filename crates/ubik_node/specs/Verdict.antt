@@ -17,10 +17,10 @@ use Rattle.ubik_node.specs.declared.verdicts.Verdict.TheVariants as verdict
 use Rattle.ubik_node.specs.Progress.{alone, phase_record}
 
 -- a step leads to this server, puts this out, and makes so many durable calls
-pub record Leads (t : Stepped) (after : Server) (out : List Output) (calls : ℕ) : Type 0 where
+pub record Leads (t : Stepped) (after : Server) (out : List Output) (made : ℕ) : Type 0 where
   pub server : t.server ≡ after
   pub outputs : outputs_of t.shown ≡ out
-  pub calls : length t.calls ≡ calls
+  pub calls : length t.calls ≡ made
 
 -- a server after a commit that a majority has at once
 abbrev pub committed : Server → Progress → List ℕ → Server

@@ -58,8 +58,8 @@ impl<D: Disk, V: Service> Node<D, V> {
     ghost use Rattle.cell_model.specs.Durable.{Durable};
     ghost use Rattle.cell_model.specs.Writes.{write_turn, next_version};
     ghost use Rattle.ubik_node.specs.Verdict.{Judges, committed};
-    ghost use Rattle.ubik_node.specs.Serving.{IsServing, Answers, Reads, Writes};
-    ghost use Rattle.ubik_node.specs.Progress.{alone};
+    ghost use Rattle.ubik_node.specs.Serving.{Answers, Reads, Writes};
+    ghost use Rattle.ubik_node.specs.Progress.{alone, IsServing};
     ghost use Rattle.ubik_node.specs.Node.{NothingPending, OnlyDatabase, node_of, up_server, own_member, IsStored, KeepsDisk, Makes, Steps, last_after};
 
     /// Opens a server over its disk, at a moment in seconds: the server at a place of the cell. An empty

@@ -5,8 +5,9 @@ ghost use Rattle.db_image.specs.Database.{Database};
 ghost use Rattle.cell_model.specs.Asks.{asked_as, allows_reads, not_served, read_reply};
 ghost use Rattle.cell_model.specs.Step.{Evaluation};
 ghost use Rattle.cell_model.specs.declared.events.Output.TheVariants as outputs;
-ghost use Rattle.ubik_node.specs.Serving.{TurnsTo, IsServing, IsWrite};
-ghost use Rattle.ubik_node.specs.State.{server_of, member_of, beacon_of};
+ghost use Rattle.ubik_node.specs.Serving.{TurnsTo, IsWrite};
+ghost use Rattle.ubik_node.specs.Progress.{IsServing, beacon_of};
+ghost use Rattle.ubik_node.specs.State.{server_of, member_of};
 
 use crate::progress::Progress;
 use crate::state::State;

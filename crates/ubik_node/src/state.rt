@@ -7,11 +7,10 @@ ghost use Rattle.ubik_calls.specs.declared.replies.DebugIs.{DebugIs};
 ghost use Rattle.db_image.specs.Database.{Database};
 ghost use Rattle.cell_model.specs.Lapse.{lapsed, no_quorum};
 ghost use Rattle.cell_model.specs.NodeRule.{received_packet, place_of};
-ghost use Rattle.cell_model.specs.Step.{cell_size, host_at, outputs_of, packet_to, sends_to_all, leased};
+ghost use Rattle.cell_model.specs.Step.{cell_size, host_at, outputs_of, packet_to, sends_to_all, quiet};
 ghost use Rattle.cell_model.specs.Voting.{own_beacon, beacon_turn, beacon_kept};
 ghost use Rattle.ubik_node.specs.Built.{IsOfVotes};
-ghost use Rattle.ubik_node.specs.Progress.{is_held};
-ghost use Rattle.ubik_node.specs.Serving.{IsServing};
+ghost use Rattle.ubik_node.specs.Progress.{IsServing, is_held, beacon_of};
 
 use crate::outputs::Outputs;
 use crate::progress::{Progress, ReadyBeacon};
@@ -43,11 +42,12 @@ pub struct State {
 }
 
 impl State {
-    ghost use Rattle.ubik_node.specs.State.{server_of, member_of, beacon_of, Shows};
+    ghost use Rattle.ubik_node.specs.State.{server_of, member_of, Keeps, Shows};
 
     /// Lapse: where the lease is over no phase is held.
     pub fn lapse(&mut self, now: u32)
-        ensures shows { Shows (lapsed (member_of self.old) (server_of self.old) now) self.old self.new [] }
+        ensures rests { lapsed (member_of self.old) (server_of self.old) now ≡ quiet (server_of self.new) }
+        ensures kept { Keeps self.old self.new }
         ensures serving { IsServing self.new.progress → self.new ≡ self.old }
     {
         if !self.votes.in_lease(now) {
@@ -59,7 +59,8 @@ impl State {
     pub fn beacon_turn(&mut self, now: u32, out: &mut Outputs)
         requires moment { IsMoment now }
         requires empty { out.old ≡ [] }
-        ensures { Shows (beacon_turn (member_of self.old) (server_of self.old) now) self.old self.new out.new }
+        ensures shows { Shows (beacon_turn (member_of self.old) (server_of self.old) now) (server_of self.new) out.new }
+        ensures kept { Keeps self.old self.new }
     {
         if !self.votes.beacon_due(now) {
             return;
@@ -73,9 +74,10 @@ impl State {
     pub fn receive(&mut self, now: u32, packet: &Packet, out: &mut Outputs)
         requires kind { IsOfVotes packet.now.body }
         requires empty { out.old ≡ [] }
-        ensures { (db : Database) (short : List Bool) →
+        ensures shows { (db : Database) (short : List Bool) →
             Shows (received_packet db (member_of self.old) (server_of self.old) now packet.now short (place_of self.old.cell packet.now.from))
-            self.old self.new out.new }
+            (server_of self.new) out.new }
+        ensures kept { Keeps self.old self.new }
     {
         let Some(from) = self.cell.index(packet.from) else {
             return;

@@ -2,8 +2,7 @@
 ghost use Rattle.std.specs.Prelude.{ℕ, List, ◌≡◌, ◌<◌, ◌≤◌, IfOk, unwrap_or, length};
 ghost use Rattle.ubik_types.specs.declared.hosts.Host.{Host};
 ghost use Rattle.cell_model.specs.Writes.{turned, written};
-ghost use Rattle.ubik_node.specs.Progress.{alone};
-ghost use Rattle.ubik_node.specs.Serving.{IsServing};
+ghost use Rattle.ubik_node.specs.Progress.{alone, IsServing};
 ghost use Rattle.ubik_node.specs.State.{server_of};
 ghost use Rattle.ubik_node.specs.Verdict.{Judges};
 

@@ -1,14 +1,33 @@
-use Rattle.std.proofs.Common.{◌≡◌, subst}
-use Rattle.cell_model.specs.declared.events.NodeEvent.{NodeEvent}
-use Rattle.cell_model.specs.declared.events.NodeEvent.TheVariants.{Ask}
-use Rattle.cell_model.specs.Node as model
-use Rattle.ubik_node.specs.Node.{Steps, node_of, up_server}
-use Rattle.ubik_node.proofs.Steps.{asked_from}
+use Rattle.std.proofs.Common.{[], refl, sym, ap, ◌∙◌, List, ℕ}
+use Rattle.cell_model.specs.declared.events.NodeEvent.TheVariants.{Packet, BeaconTurn, Ask}
+use Rattle.ubik_node.specs.declared.nodes.StepEnd.TheVariants.{Done}
+use Rattle.ubik_node.specs.Node.{node_of}
+use Rattle.ubik_node.specs.State.{member_of, server_of}
+use Rattle.ubik_node.proofs.Stepping.{asked_step, beacon_step, packet_step, steps_at, up_if}
 use Rattle.ubik_node.proofs.nodes.Node.step_up.Goals as goal
+
+pub returns-in-Packet-clause-step : goal.returns-in-Packet-clause-step
+returns-in-Packet-clause-step g c =
+    let st = c.args.self.now.state in
+    let db = g.V.Service.database in
+    steps_at db (member_of st) Done c.args.event.now (Packet c.in-Packet.packet) (server_of st) c.args.now _ _ _ _ _ _ (up_if _ _ _ c.requires.whole) (up_if _ _ _ c.requires.whole) c.in-Packet.is
+    ([], packet_step db st c.lapse.new.self (server_of c.receive.new.self) c.args.now c.in-Packet.packet c.receive.new.out _ c.lapse.ensures.rests c.lapse.ensures.kept.member (c.receive.ensures.shows db []))
+
+pub returns-in-BeaconTurn-clause-step : goal.returns-in-BeaconTurn-clause-step
+returns-in-BeaconTurn-clause-step g c =
+    let st = c.args.self.now.state in
+    let db = g.V.Service.database in
+    steps_at db (member_of st) Done c.args.event.now BeaconTurn (server_of st) c.args.now _ _ _ _ _ _ (up_if _ _ _ c.requires.whole) (up_if _ _ _ c.requires.whole) c.in-BeaconTurn.is
+    ([], beacon_step db st c.lapse-in-BeaconTurn.new.self (server_of c.beacon_turn.new.self) c.args.now c.beacon_turn.new.out _ c.lapse-in-BeaconTurn.ensures.rests c.lapse-in-BeaconTurn.ensures.kept.member c.beacon_turn.ensures.shows)
 
 pub returns-in-Ask-clause-step : goal.returns-in-Ask-clause-step
 returns-in-Ask-clause-step g c =
-    let P : NodeEvent → Type 0 = λ e. Steps g.V.Service.database c.ask.result e c.args.now (node_of c.args.self.now) (node_of c.ask.new.self) c.ask.new.out (g.D.Disk.steps c.args.self.now.disk) (g.D.Disk.steps c.ask.new.self.disk) in
-    let event : Ask c.in-Ask.id c.as_slice.result.now ≡ c.args.event.now = cc in
-    let whole : node_of c.args.self.now ≡ model.Up (up_server c.args.self.now) = rw c.requires.whole (λ i. model.Up (up_server c.args.self.now)) in
-    subst P event (asked_from _ _ _ _ _ _ _ _ _ _ _ whole c.ask.ensures.done c.ask.ensures.halted c.ask.ensures.told)
+    let st = c.args.self.now.state in
+    let db = g.V.Service.database in
+    let before = g.D.Disk.steps c.args.self.now.disk in
+    let after = g.D.Disk.steps c.ask.new.self.disk in
+    let then = node_of c.ask.new.self in
+    steps_at db (member_of st) c.ask.result c.args.event.now (Ask c.in-Ask.id c.as_slice.result.now) (server_of st) c.args.now _ then then c.ask.new.out before after (up_if _ _ _ c.requires.whole) refl
+    (c.in-Ask.is ∙ ap (λ (call : List ℕ). Ask c.in-Ask.id call) (sym c.as_slice.ensures))
+    (asked_step db c.ask.result st c.lapse-in-Ask.new.self c.args.now c.in-Ask.id c.as_slice.result.now then c.ask.new.out before after c.lapse-in-Ask.ensures.rests c.lapse-in-Ask.ensures.kept.member c.lapse-in-Ask.ensures.serving
+    c.ask.ensures.done c.ask.ensures.halted c.ask.ensures.serving c.ask.ensures.told)

@@ -1,0 +1,37 @@
+-- Packets to each other server, one after the other.
+use Rattle.std.proofs.Common.{◌≡◌, ℕ, suc, ◌+◌, ◌<◌, ◌≤◌, ◌==◌, Bool, true, false, cond, Some, List, [], ◌∷◌, ◌++◌, length, drop, get_or, slice_get, refl, sym, ap, subst, ◌∙◌, append_assoc, add-one, arith}
+use Rattle.std.proofs.lemmas.Option.{get_or_from_slice_get, slice_get-get_or}
+use Rattle.std.proofs.Math.Seq.{drop-cons}
+use Rattle.ubik_types.specs.declared.hosts.Host.{Host}
+use Rattle.ubik_calls.specs.declared.packets.Body.{Body}
+use Rattle.cell_model.specs.declared.events.Output.{Output}
+use Rattle.cell_model.specs.declared.events.Output.TheVariants.{Send}
+use Rattle.cell_model.specs.Step.{Member, Shown, outputs_of, packet_to, sends_from}
+
+parted : (hosts : List Host) (k : ℕ) (host : Host) → k < length hosts → slice_get hosts k ≡ Some host → drop k hosts ≡ host ∷ drop (k + 1) hosts
+parted hosts k host inside at = let same = get_or_from_slice_get hosts k host host at in rw add-one (drop-cons hosts k host inside ∙ ap (λ (x : Host). x ∷ drop (suc k) hosts) same)
+
+-- what is put out from a place on, the same packet to each
+abbrev pub left : Member → Body → ℕ → List Host → List Output
+left m body k hosts = outputs_of (sends_from m k hosts (λ at. body ∷ []))
+
+pub left-other : (m : Member) (body : Body) (k : ℕ) (host : Host) (hosts : List Host) → (k == m.me) ≡ false → left m body k (host ∷ hosts) ≡ Send (packet_to m host body) ∷ left m body (k + 1) hosts
+left-other m body k host hosts other = rw other refl
+
+pub left-own : (m : Member) (body : Body) (k : ℕ) (host : Host) (hosts : List Host) → (k == m.me) ≡ true → left m body k (host ∷ hosts) ≡ left m body (k + 1) hosts
+left-own m body k host hosts own = rw own refl
+
+-- one packet more
+pub one_sent : (m : Member) (body : Body) (k : ℕ) (host : Host) (out all : List Output) → k < length m.hosts → slice_get m.hosts k ≡ Some host → (k == m.me) ≡ false
+    → out ++ left m body k (drop k m.hosts) ≡ all → (out ++ Send (packet_to m host body) ∷ []) ++ left m body (k + 1) (drop (k + 1) m.hosts) ≡ all
+one_sent m body k host out all inside at other is =
+    append_assoc out (Send (packet_to m host body) ∷ []) (left m body (k + 1) (drop (k + 1) m.hosts))
+    ∙ ap (λ (rest : List Output). out ++ rest) (sym (ap (left m body k) (parted m.hosts k host inside at) ∙ left-other m body k host (drop (k + 1) m.hosts) other)) ∙ is
+
+-- the own place
+pub one_skipped : (m : Member) (body : Body) (k : ℕ) (out all : List Output) → k < length m.hosts → (k == m.me) ≡ true
+    → out ++ left m body k (drop k m.hosts) ≡ all → out ++ left m body (k + 1) (drop (k + 1) m.hosts) ≡ all
+one_skipped m body k out all inside own is =
+    let host : Host = get_or m.hosts k (record { 0 = 0 }) in
+    let at = slice_get-get_or m.hosts k (record { 0 = 0 }) inside in
+    ap (λ (rest : List Output). out ++ rest) (sym (ap (left m body k) (parted m.hosts k host inside at) ∙ left-own m body k host (drop (k + 1) m.hosts) own)) ∙ is

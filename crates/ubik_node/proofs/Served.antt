@@ -1,0 +1,23 @@
+-- Where a call is served.
+use Rattle.std.proofs.Common.{◌≡◌, ℕ, Bool, true, false, cond, List, Some, refl}
+use Rattle.ubik_types.specs.declared.versions.Version.{Version}
+use Rattle.db_image.specs.Database.{Database}
+use Rattle.cell_model.specs.Asks.{allows_reads, asked_as, read}
+use Rattle.cell_model.specs.Node.{Server}
+use Rattle.cell_model.specs.Step.{Member, Announced_image, Beacon_image, Stepped, is_ready, leased, told_version}
+use Rattle.ubik_node.specs.declared.state.State.{State}
+use Rattle.ubik_node.specs.State.{server_of}
+
+by_lease : (b r w : Bool) (x y z u : Stepped) → b ≡ true → r ≡ true → w ≡ false → cond b (cond r (cond w x y) z) u ≡ y
+by_lease b r w x y z u held ready reads = rw (held, ready, reads) refl
+
+by_beacon : (b w a : Bool) (x y z u : Stepped) → b ≡ false → w ≡ false → a ≡ true → cond b x (cond w y (cond a z u)) ≡ z
+by_beacon b w a x y z u held reads allowed = rw (held, reads, allowed) refl
+
+pub reads_announced : (db : Database) (m : Member) (st : State) (now id : ℕ) (call : List ℕ) (short w : Bool) → leased m (server_of st) now ≡ true → is_ready (server_of st).phase ≡ true → w ≡ false
+    → asked_as db m (server_of st) now id call short (Some w) ≡ read db (server_of st) now id call st.image (Announced_image (told_version (server_of st).phase st.version)) short
+reads_announced db m st now id call short w held ready reads = by_lease _ _ _ _ _ _ _ held ready reads
+
+pub reads_own : (db : Database) (m : Member) (st : State) (now id : ℕ) (call : List ℕ) (short w : Bool) → leased m (server_of st) now ≡ false → w ≡ false → allows_reads st.version now (server_of st).beacon ≡ true
+    → asked_as db m (server_of st) now id call short (Some w) ≡ read db (server_of st) now id call st.image (Beacon_image st.version) short
+reads_own db m st now id call short w held reads allowed = by_beacon _ _ _ _ _ _ _ held reads allowed

@@ -1,0 +1,21 @@
+use Rattle.std.proofs.Common.{◌≡◌, Bool, true, false, sym, ap, ◌∙◌}
+use Rattle.cell_model.specs.Step.{Announced_image, Beacon_image, told_version, is_ready}
+use Rattle.ubik_node.specs.Progress.{phase_record}
+use Rattle.ubik_node.specs.State.{member_of}
+use Rattle.ubik_node.specs.declared.progress.Progress.{Progress}
+use Rattle.ubik_node.proofs.Alone.{leased_here}
+use Rattle.ubik_node.proofs.Served.{reads_announced, reads_own}
+use Rattle.ubik_node.proofs.serving.turn_of.Goals as goal
+use Rattle.ubik_node.proofs.serving.turn_of.Goals.{then-leased+else-writes, else-leased}
+
+pub returns-in-Ready-2-clause-turn : goal.returns-in-Ready-2-clause-turn
+returns-in-Ready-2-clause-turn c = λ db id call short.
+    let st = c.args.state.now in
+    let reads : c.args.writes ≡ false = elim c.if-leased.branch [ then-leased+else-writes w ↦ w.if-writes.false | else-leased w ↦ cc ] in
+    (Announced_image (told_version (phase_record st.version st.progress) st.version),
+    reads_announced db (member_of st) st c.args.now id call short c.args.writes (leased_here st c.args.now true st.voters (sym c.in_lease-leased.ensures ∙ c.if-leased-2.true)) (ap (λ (p : Progress). is_ready (phase_record st.version p)) c.in-Ready-2.is) reads)
+
+pub returns-in_default-2-clause-turn : goal.returns-in_default-2-clause-turn
+returns-in_default-2-clause-turn c = λ db id call short.
+    let st = c.args.state.now in
+    (Beacon_image st.version, reads_own db (member_of st) st c.args.now id call short c.args.writes (leased_here st c.args.now false st.voters (sym c.in_lease-leased.ensures ∙ c.if-leased-3.false)) c.if-not-writes.true (sym c.allows_reads.ensures ∙ c.if-allows_reads.true))
