@@ -16,6 +16,7 @@ pub mod Shortage
 pub mod SingleState
 pub mod Starting
 pub mod SteppedLine
+pub mod Stepping
 pub mod Telling
 pub mod Turning
 pub mod Worth
