@@ -12,6 +12,7 @@ pub mod OneStep
 pub mod OpenedLine
 pub mod Opening
 pub mod Refusals
+pub mod Seconds
 pub mod Shortage
 pub mod SingleState
 pub mod Starting

@@ -50,16 +50,16 @@ no_packets [] quiet = refl
 no_packets (one ∷ shown) quiet = ap (λ (p : Option Packet). cons_option p (packets_of shown)) quiet.0 ∙ no_packets shown quiet.1
 
 -- outputs are no faults
-no_fault : (o : Output) (evaluation : Option Evaluation) (number : ℕ) (seen : List Happening) → fault_count (seen_of_output 0 number o evaluation ∷ seen) ≡ fault_count seen
-no_fault (output.Send packet) evaluation number seen = refl
-no_fault (output.Reply id r) evaluation number seen = refl
-no_fault (output.Announce version) evaluation number seen = refl
+no_fault : (k : ℕ) (o : Output) (evaluation : Option Evaluation) (number : ℕ) (seen : List Happening) → fault_count (seen_of_output k number o evaluation ∷ seen) ≡ fault_count seen
+no_fault k (output.Send packet) evaluation number seen = refl
+no_fault k (output.Reply id r) evaluation number seen = refl
+no_fault k (output.Announce version) evaluation number seen = refl
 
-no_faults : (number : ℕ) (shown : List Shown) (marks : List Happening) → fault_count (seen_from 0 number shown ++ marks) ≡ fault_count marks
-no_faults number [] marks = refl
-no_faults number (one ∷ shown) marks =
-    no_fault one.output one.evaluation number (seen_from 0 (number_after number (packet_of one)) shown ++ marks)
-    ∙ no_faults (number_after number (packet_of one)) shown marks
+pub no_faults : (k number : ℕ) (shown : List Shown) (marks : List Happening) → fault_count (seen_from k number shown ++ marks) ≡ fault_count marks
+no_faults k number [] marks = refl
+no_faults k number (one ∷ shown) marks =
+    no_fault k one.output one.evaluation number (seen_from k (number_after number (packet_of one)) shown ++ marks)
+    ∙ no_faults k (number_after number (packet_of one)) shown marks
 
 -- ---- what happens
 
@@ -139,7 +139,7 @@ made_step db m clock e before after out b a tb ta fb fa is_only turn alone steps
           seen = seen_from 0 1 t.shown ++ [];
           step = whole_step db clock e s after turn alone (makes.server ∙ ap (λ (t : Stepped). model.Up t.server) same);
           told = told ∙ ap (λ (o : List Output). tb ++ trace (puts o)) outputs ∙ ap (λ (text : List ℕ). tb ++ text) (sym (tells_outputs t.shown quiet));
-          causes = omega (arith, no_faults 1 t.shown [], kept);
+          causes = omega (arith, no_faults 0 1 t.shown [], kept);
         }
 
 -- the text of a refusal, and perhaps of a halt behind it
@@ -191,7 +191,7 @@ told_halted_by db m clock e true u after out b a tb ta fb fa turn steps told kep
       told =
           told ∙ ap (λ (seen : List Happening). tb ++ trace seen) (sym (append-nil (puts out)))
           ∙ ap (λ (text : List ℕ). tb ++ text) (refusals_text e out [] steps.1);
-      causes = omega (arith, no_faults 1 (refusals e) [], kept);
+      causes = omega (arith, no_faults 0 1 (refusals e) [], kept);
     }
 told_halted_by db m clock e false u after out b a tb ta fb fa turn steps told kept rose =
     let more = rose refl in
@@ -200,7 +200,7 @@ told_halted_by db m clock e false u after out b a tb ta fb fa turn steps told ke
       seen = seen_from 0 1 (refusals e) ++ Halts 0 ∷ [];
       step = failed_step db clock e u after turn steps.0;
       told = told ∙ ap (λ (text : List ℕ). tb ++ text) (refusals_text e out (Halts 0 ∷ []) steps.1);
-      causes = omega (arith, no_faults 1 (refusals e) (Halts 0 ∷ []), more);
+      causes = omega (arith, no_faults 0 1 (refusals e) (Halts 0 ∷ []), more);
     }
 
 -- a step of a halted server, and one that halts it, are told

