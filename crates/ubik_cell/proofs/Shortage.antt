@@ -1,4 +1,3 @@
--- LEAD: another helper adapts this file (see /work/h_cell/LEAD_NOTE.txt and /work/done/); do not work on it.
 -- Lines in which memory ran out: what the disk reads as.
 use Rattle.std.proofs.Common.{◌≡◌, ◌<◌, ◌∙◌, inl, inr, ℕ, List, Option, Some, Result, Ok, sym, ap, subst}
 use Rattle.prdb_entries.specs.Protection.{protection}

