@@ -16,13 +16,13 @@ use Rattle.prdb_entries.specs.Blocks.{blocks_of, has_whole_blocks, name_among}
 use Rattle.prdb_entries.specs.Protection.{Answer, added, answer, answer_new_user, answer_over, next_id, protection, outcome, refusal}
 use Rattle.prdb_entries.specs.Reading.{call_of}
 use Rattle.prdb_entries.specs.State.{PrState, initial_state}
-use Rattle.prdb_entries.proofs.Growth.{never_shrinks}
 use Rattle.ubik_cell.specs.SingleState.{IsCounted, state_after, state_from, state_of, reply_in, reply_of}
 
 -- the laws of the protection database
 pub record DatabaseLaws : Type 0 where
   pub means : (s : PrState) (image bytes : List ℕ) (now : ℕ) (call : PrCall) → StandsFor image s → call_of bytes ≡ Some call → IsMeant (protection.call image now bytes) image s (meaning s now call)
   pub no_call : (image bytes : List ℕ) (now : ℕ) → call_of bytes ≡ None → protection.call image now bytes ≡ outcome image (Malformed, None)
+  pub never_shrinks : (image bytes : List ℕ) (now : ℕ) → length image ≤ length (protection.call image now bytes).image
   pub first : StandsFor [] initial_state
 
 stands_after : DatabaseLaws → (image : List ℕ) (s : PrState) (now : ℕ) (bytes : List ℕ) (call : Option PrCall) → call_of bytes ≡ call → StandsFor image s → StandsFor (protection.call image now bytes).image (state_after s now call)
@@ -67,17 +67,17 @@ unmoved laws order t same =
     ∙ still laws (image_of protection order) (state_of order) t.moment t.call (call_of t.call) refl (image_stands laws order) (sym (image_from-append [] order (t ∷ [])) ∙ same)
 
 -- no transaction leaves an image that is shorter than before
-longer : (order : List Transaction) (t : Transaction) → length (image_of protection order) ≤ length (image_of protection (order ++ t ∷ []))
-longer order t =
-    subst (λ (image : List ℕ). length (image_of protection order) ≤ length image) (sym (image_from-append [] order (t ∷ []))) (never_shrinks (image_of protection order) t.call t.moment)
+longer : DatabaseLaws → (order : List Transaction) (t : Transaction) → length (image_of protection order) ≤ length (image_of protection (order ++ t ∷ []))
+longer laws order t =
+    subst (λ (image : List ℕ). length (image_of protection order) ≤ length image) (sym (image_from-append [] order (t ∷ []))) (laws.never_shrinks (image_of protection order) t.call t.moment)
 
 -- a transaction that changes no block leaves the image
-same_image : (order : List Transaction) (t : Transaction) → ChangesNothing protection order t → image_of protection (order ++ t ∷ []) ≡ image_of protection order
-same_image order t changes = changes.1 (omega arith) (longer order t)
+same_image : DatabaseLaws → (order : List Transaction) (t : Transaction) → ChangesNothing protection order t → image_of protection (order ++ t ∷ []) ≡ image_of protection order
+same_image laws order t changes = changes.1 (omega arith) (longer laws order t)
 
 pub counted : DatabaseLaws → (r later : Run) (t : Transaction) → IsRecorded protection r later t → IsCounted r later t
 counted laws r later t (inl acknowledged) = inl acknowledged
-counted laws r later t (inr changes) = inr (unmoved laws (order_of r.announcements) t (same_image (order_of r.announcements) t changes))
+counted laws r later t (inr changes) = inr (unmoved laws (order_of r.announcements) t (same_image laws (order_of r.announcements) t changes))
 
 -- a reply that is not for a bad record
 abbrev IsGood : CallReply → Type 0
