@@ -63,7 +63,7 @@ tick_bounds : (arguments : List (List ℕ)) → IfOk (tick_all_line arguments) H
 unfolding IsWithin
 tick_bounds [] = tt
 tick_bounds (seconds ∷ []) =
-    number_bounds (IsWithin 1 50000) line.TickAll (number_within 1 50000 seconds) (within 1 50000 seconds) (λ s is. is.1)
+    number_bounds (IsWithin 1 50000) line.TickAll (number_within 1 50000 seconds) (within 1 50000 seconds) (λ s is. is)
 tick_bounds (a ∷ b ∷ rest) = tt
 
 turn_free : (t : LineTurn) (server : ℕ) → HasBounds (turn_of t server)

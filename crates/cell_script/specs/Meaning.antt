@@ -119,5 +119,5 @@ line_of bytes =
 -- the numbers of a line are within their bounds
 abbrev pub HasBounds : Line → Type 0
 HasBounds (line.Cell clock) = IsMoment clock × (clock ≤ MAX_CLOCK)
-HasBounds (line.TickAll seconds) = seconds ≤ MAX_TICK
+HasBounds (line.TickAll seconds) = (1 ≤ seconds) × (seconds ≤ MAX_TICK)
 HasBounds _ = Unit {0}

@@ -28,11 +28,11 @@ up_reads false u files faults cause stored alone none =
     both (λ (fs : Files). durable_of fs.database ≡ Some (durable u.version u.image)) (λ (fs : Files). (fs.log ≡ []) × (fs.incoming ≡ [])) (ReadsAs (model.Up u)) files (stored refl) (alone refl)
     (λ fs is none. (is, none.0, none.1))
 
-node_reads : {D V : Type 0} (files : D → Option Files) (faults : D → ℕ) (n : Node D V) → HasDisk files faults n → faults n.disk ≡ 0 → IsSomeAnd (files n.disk) (ReadsAs (node_of n))
+pub node_reads : {D V : Type 0} (files : D → Option Files) (faults : D → ℕ) (n : Node D V) → HasDisk files faults n → faults n.disk ≡ 0 → IsSomeAnd (files n.disk) (ReadsAs (node_of n))
 node_reads files faults n has none = up_reads n.halted (up_server n) (files n.disk) (faults n.disk) has.cause has.stored has.alone none
 
 -- the same of the world in which the server stands
-world_reads : (files : Option Files) (clock : ℕ) (node : model.Node) (run : Option Run) (here : HasWorld clock node run) → IsSomeAnd files (ReadsAs node) → IsSomeAnd files (Reads run)
+pub world_reads : (files : Option Files) (clock : ℕ) (node : model.Node) (run : Option Run) (here : HasWorld clock node run) → IsSomeAnd files (ReadsAs node) → IsSomeAnd files (Reads run)
 world_reads files clock node run here reads =
     let P : Option Run → Type 0 = λ o. IsSomeAnd files (Reads o) in
     let Q : World → Type 0 = λ w. IsSomeAnd files (SitesRead w.sites) in
@@ -45,7 +45,7 @@ at_site files faults clock (site.Unopened disk) run sound stands none =
     subst P (sym sound) (subst Q (sym stands) refl)
 at_site files faults clock (site.Down disk) run sound stands none = absurd (omega (arith, sound.1, none))
 at_site files faults clock (site.Up node) run sound stands none =
-    world_reads (files node.disk) clock (node_of node) run stands (node_reads files faults node sound.2 none)
+    world_reads (files node.disk) clock (node_of node) run stands (node_reads files faults node sound.3 none)
 
 -- between two lines
 pub held_at : {D : Type 0} (files : D → Option Files) (faults : D → ℕ) (run : CellRun D) (st : Stage) → IsSound files faults run.counts.clock run.site → IsAt run st → Holds (site_held files faults run.site) st

@@ -1,3 +1,4 @@
+pub mod Alone
 pub mod AtEndings
 pub mod Completeness
 pub mod Consuming
@@ -10,11 +11,13 @@ pub mod NoFaults
 pub mod OneStep
 pub mod OpenedLine
 pub mod Opening
+pub mod Proper
 pub mod Refusals
 pub mod Shortage
 pub mod SingleState
 pub mod Starting
 pub mod SteppedLine
+pub mod Stepping
 pub mod Telling
 pub mod Turning
 pub mod Worth

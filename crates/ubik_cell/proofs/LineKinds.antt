@@ -20,7 +20,8 @@ use Rattle.cell_script.specs.Words.{words_of}
 use Rattle.cell_script.specs.declared.lines.Line.{Line}
 use Rattle.cell_script.specs.declared.lines.Line.TheVariants as line
 use Rattle.cell_script.specs.declared.lines.Why.{Why}
-use Rattle.ubik_cell.specs.Script.{Luck, Sound, Faulty, AsksACall, IsScripted, step_event, node_at, Reading, Stage, Line_run, with_event, event_at, has_failed, in_run, is_there, is_up_at, stepped, no_cell, asked_in, ask_run, opened, line_run, meaning_run, or_refused, line_result}
+use Rattle.ubik_cell.specs.Script.{Luck, Sound, Faulty, AsksACall, IsScripted, trigger_of, step_event, node_at, Reading, Stage, Line_run, with_event, event_at, has_failed, in_run, is_there, is_up_at, stepped, no_cell, asked_in, ask_run, opened, line_run, meaning_run, or_refused, line_result}
+use Rattle.ubik_cell.specs.Trace.{cell_hosts}
 use Rattle.ubik_cell.proofs.Legal.{EventFits, IsLegal, SitesFit, first_fit, quiet_fit, step_legal, tick_legal}
 
 -- the run of a stage has clocks and ids that its lines and its calls may have led to
@@ -46,7 +47,7 @@ pub record IsOpening (st : Stage) (ran : Line_run) : Type 0 where
   pub failed : Bool
   pub opening : ran.stage.opening ≡ Some (record { clock = clock; failed = failed })
   pub events : ran.stage.events ≡ st.events
-  pub run : ran.stage.run ≡ Some (first_run (first_world clock (failed ∷ [])))
+  pub run : ran.stage.run ≡ Some (first_run (first_world cell_hosts clock (failed ∷ [])))
   pub seen : ran.seen ≡ first_seen 0 (failed ∷ [])
   pub fit : StageFits ran.stage
 
@@ -95,22 +96,22 @@ brings db st after r e there opening events lines scripted legal =
     }))
 
 -- a step brings what it asks
-step_scripted : (luck : Luck) (node : Node) (server : ℕ) (e : NodeEvent) → AsksACall e → IsScripted (step_event luck node server e)
+step_scripted : (luck : Luck) (node : Node) (server : ℕ) (e : NodeEvent) → AsksACall (trigger_of server e) → IsScripted (step_event luck node server e)
 step_scripted Sound node server e asks = (asks, refl)
 step_scripted (Faulty made) Down server e asks = (asks, refl)
 step_scripted (Faulty made) (Halted h) server e asks = (asks, refl)
 step_scripted (Faulty made) (Up s) server e asks = (asks, refl)
 
-step_kind : (db : Database) (st after : Stage) (luck : Luck) (number : ℕ) (e : NodeEvent) (r : Run) → st.run ≡ Some r → after.opening ≡ st.opening → after.events ≡ st.events → after.lines ≡ st.lines → AsksACall e → EventFits (length st.calls) (length after.calls) e → IsKind db st (stepped db after luck number e r)
+step_kind : (db : Database) (st after : Stage) (luck : Luck) (number : ℕ) (e : NodeEvent) (r : Run) → st.run ≡ Some r → after.opening ≡ st.opening → after.events ≡ st.events → after.lines ≡ st.lines → AsksACall (trigger_of (number - 1) e) → EventFits (length st.calls) (length after.calls) e → IsKind db st (stepped db after luck number e r)
 step_kind db st after luck number e r there opening events lines asks fits =
     if_kind db st (is_there r.world.sites number) _ _
     (λ here. if_kind db st (is_up_at r.world.sites (number - 1)) _ _
     (λ up. brings db st after r (event_at luck r number e) there opening events lines (step_scripted luck (node_at r.world.sites (number - 1)) (number - 1) e asks)
-    (λ fit. step_legal db st.lines (length st.calls) (length after.calls) r.world.sites (number - 1) e luck up fits fit))
+    (λ fit. step_legal db r.world.hosts r.world.packets st.lines (length st.calls) (length after.calls) r.world.sites (number - 1) e luck up fits fit))
     (λ down. tt))
     (λ none. tt)
 
-turn_kind : (db : Database) (st : Stage) (luck : Luck) (number : ℕ) (e : NodeEvent) (run : Option Run) → st.run ≡ run → AsksACall e → EventFits (length st.calls) (length st.calls) e → IsKind db st (in_run (stepped db st luck number e) run)
+turn_kind : (db : Database) (st : Stage) (luck : Luck) (number : ℕ) (e : NodeEvent) (run : Option Run) → st.run ≡ run → AsksACall (trigger_of (number - 1) e) → EventFits (length st.calls) (length st.calls) e → IsKind db st (in_run (stepped db st luck number e) run)
 turn_kind db st luck number e None there asks fits = tt
 turn_kind db st luck number e (Some r) there asks fits = step_kind db st st luck number e r there refl refl refl asks fits
 
@@ -154,10 +155,10 @@ open_kind db st luck clock None none moment bound =
     }))
 open_kind db st luck clock (Some r) there moment bound = tt
 
-tick_kind : (db : Database) (st : Stage) (seconds : ℕ) (run : Option Run) → st.run ≡ run → st.lines < 20000 → seconds ≤ 50000 → IsKind {E = Why} db st (in_run (λ r. Ok (with_event db st r (Tick_all seconds))) run)
-tick_kind db st seconds None there few bound = tt
-tick_kind db st seconds (Some r) there few bound =
-    brings db st st r (Tick_all seconds) there refl refl refl tt (λ fit. tick_legal db st.lines (length st.calls) seconds r.world.sites few bound fit)
+tick_kind : (db : Database) (st : Stage) (seconds : ℕ) (run : Option Run) → st.run ≡ run → st.lines < 20000 → 1 ≤ seconds → seconds ≤ 50000 → IsKind {E = Why} db st (in_run (λ r. Ok (with_event db st r (Tick_all seconds))) run)
+tick_kind db st seconds None there few some bound = tt
+tick_kind db st seconds (Some r) there few some bound =
+    brings db st st r (Tick_all seconds) there refl refl refl tt (λ fit. tick_legal db r.world.hosts r.world.packets st.lines (length st.calls) seconds r.world.sites few some bound fit)
 
 still : (lines calls : ℕ) (run : Option Run) → RunFits lines calls run → RunFits (lines + 1) calls run
 unfolding RunFits
@@ -172,7 +173,7 @@ line_kind : (db : Database) (st : Stage) (luck : Luck) (l : Line) → st.lines <
 unfolding StageFits
 line_kind db st luck line.Nothing few bounds = inl (record { opening = refl; events = refl; run = refl; seen = refl; fit = λ fit. still st.lines (length st.calls) st.run fit })
 line_kind db st luck (line.Cell clock) few bounds = open_kind db st luck clock st.run refl bounds.0 bounds.1
-line_kind db st luck (line.TickAll seconds) few bounds = tick_kind db st seconds st.run refl few bounds
+line_kind db st luck (line.TickAll seconds) few bounds = tick_kind db st seconds st.run refl few bounds.0 bounds.1
 line_kind db st luck (line.Beacon server) few bounds = turn_kind db st luck server event.BeaconTurn st.run refl tt (turn_fits (length st.calls)).0
 line_kind db st luck (line.Recover server) few bounds = turn_kind db st luck server event.RecoverTurn st.run refl tt (turn_fits (length st.calls)).1
 line_kind db st luck (line.Ask server words) few bounds = ask_kind db st luck server words st.run refl

@@ -16,6 +16,7 @@ use Rattle.ubik_cell.specs.declared.sites.Site.TheVariants as site
 use Rattle.ubik_cell.specs.Script.{Luck, Sound, Faulty, Stage, Line_run, next_line, has_failed, opened, line_run}
 use Rattle.ubik_cell.specs.Sites.{one_world, OpenTold, site_faults}
 use Rattle.ubik_cell.specs.Lines.{IsAt, LineTold, Stands}
+use Rattle.ubik_cell.specs.Trace.{cell_hosts}
 
 -- what the line leaves, by its luck
 opening : Stage → ℕ → Luck → Line_run
@@ -23,7 +24,7 @@ opening st clock luck =
     record {
       stage = record (next_line st) {
         opening = Some (record { clock = clock; failed = has_failed luck });
-        run = Some (first_run (first_world clock (has_failed luck ∷ [])));
+        run = Some (first_run (first_world cell_hosts clock (has_failed luck ∷ [])));
       };
       seen = first_seen 0 (has_failed luck ∷ []);
     }
@@ -33,11 +34,11 @@ unfolding opening
 opens st clock luck none = ap (opened st luck clock) none
 
 -- the first world of a server that is up
-world_up : (clock clock' : ℕ) (node : Node) → clock' ≡ clock → node ≡ Up (opened_server 1 no_database clock) → first_world clock (false ∷ []) ≡ one_world clock' no_database node []
+world_up : (clock clock' : ℕ) (node : Node) → clock' ≡ clock → node ≡ Up (opened_server 1 no_database clock) → first_world cell_hosts clock (false ∷ []) ≡ one_world clock' no_database node []
 world_up clock clock' node same is =
     ap (λ (n : Node). one_world clock no_database n []) (sym is) ∙ ap (λ (k : ℕ). one_world k no_database node []) (sym same)
 
-world_down : (clock clock' : ℕ) → clock' ≡ clock → first_world clock (true ∷ []) ≡ one_world clock' no_database Down []
+world_down : (clock clock' : ℕ) → clock' ≡ clock → first_world cell_hosts clock (true ∷ []) ≡ one_world clock' no_database Down []
 world_down clock clock' same = ap (λ (k : ℕ). one_world k no_database Down []) (sym same)
 
 pub opened_line : {D : Type 0} (faults : D → ℕ) (st : Stage) (before : CellRun D) (alloc : Global) (counts : Counts) (after : Site D) (disk : D) (clock : ℕ) (text_before text_after : List ℕ) → IsAt before st → before.site ≡ site.Unopened disk → counts.lines ≡ before.counts.lines + 1 → counts.asks ≡ before.counts.asks → counts.clock ≡ clock → OpenTold faults clock disk after text_before text_after → LineTold faults (λ luck. line_run protection st luck (line.Cell clock)) before (record { alloc = alloc; counts = counts; site = after }) text_before text_after
@@ -54,7 +55,7 @@ opened_line {D} faults st before alloc counts (site.Down kept) disk clock tb ta 
       at = record {
         lines = omega (arith, at.lines);
         asks = at.asks ∙ sym asks;
-        stands = record { r = first_run (first_world clock (true ∷ [])); there = refl; one = record { durable = no_database; ids = []; is = world_down clock counts.clock clocks } };
+        stands = record { r = first_run (first_world cell_hosts clock (true ∷ [])); there = refl; one = record { durable = no_database; ids = []; is = world_down clock counts.clock clocks } };
       };
       told = told.0;
       causes = omega (arith, told.1, cost);
@@ -70,7 +71,7 @@ opened_line {D} faults st before alloc counts (site.Up node) disk clock tb ta at
       at = record {
         lines = omega (arith, at.lines);
         asks = at.asks ∙ sym asks;
-        stands = record { r = first_run (first_world clock (false ∷ [])); there = refl; one = record { durable = no_database; ids = []; is = world_up clock counts.clock (node_of node) clocks told.0 } };
+        stands = record { r = first_run (first_world cell_hosts clock (false ∷ [])); there = refl; one = record { durable = no_database; ids = []; is = world_up clock counts.clock (node_of node) clocks told.0 } };
       };
       told = told.1 ∙ sym (append-nil tb);
       causes = omega (arith, told.3, cost);

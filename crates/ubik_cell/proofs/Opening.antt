@@ -1,5 +1,7 @@
 -- The opening of a server over an empty disk.
-use Rattle.std.proofs.Common.{if◌then◌else◌, ◌≡◌, ◌≢◌, ◌<◌, ◌≤◌, ℕ, Bool, true, false, List, [], Option, Some, None, IfSome, IsSomeAnd, refl, sym, subst, ◌∙◌, arith}
+use Rattle.std.proofs.Common.{if◌then◌else◌, ◌≡◌, ◌≢◌, ◌<◌, ◌≤◌, ℕ, zero, suc, Bool, true, false, List, [], ◌∷◌, length, ap, Option, Some, None, IfSome, IsSomeAnd, refl, sym, subst, ◌∙◌, arith}
+use Rattle.std.specs.Prelude.{Contains, IsPermutation}
+use Rattle.std.proofs.lemmas.List.Sorted.{length_permutation, Contains-permutation}
 use Rattle.ubik_types.specs.Moment.{IsMoment}
 use Rattle.disk_base.specs.Files.{Files, no_files}
 use Rattle.cell_model.specs.Durable.{Durable, no_database}
@@ -14,6 +16,16 @@ use Rattle.ubik_cell.specs.declared.sites.Site.{Site}
 use Rattle.ubik_cell.specs.declared.sites.Site.TheVariants as site
 use Rattle.ubik_cell.specs.Sites.{DownTold, OpenTold, IsReadAs, site_disk, site_held}
 use Rattle.ubik_cell.specs.Lines.{HasDisk, IsSound}
+
+-- a list of one has no other order
+pub one_left : {X : Type 0} (x : X) (ys : List X) → IsPermutation (x ∷ []) ys → ys ≡ x ∷ []
+one_left x [] same = let none : 0 ≡ 1 = length_permutation (x ∷ []) [] same in absurd (omega (arith, none))
+one_left x (y ∷ []) same = by (Contains-permutation (x ∷ []) (y ∷ []) x same (0, omega arith, refl))
+  where
+    by : Contains (y ∷ []) x → y ∷ [] ≡ x ∷ []
+    by (zero, within, is) = ap (λ (z : _). z ∷ []) is
+    by (suc k, within, is) = absurd (omega (arith, within))
+one_left x (y ∷ z ∷ ys) same = let two : suc (suc (length ys)) ≡ 1 = length_permutation (x ∷ []) (y ∷ z ∷ ys) same in absurd (omega (arith, two))
 
 empty_file : durable_of [] ≡ Some no_database
 unfolding durable_of

@@ -1,10 +1,11 @@
 -- The image of a list of transactions stands for the state of the list, so the single copy replies what calls mean there.
-use Rattle.std.proofs.Common.{◌≡◌, ◌≢◌, ℕ, Bool, true, false, cond, not, eqb, length, List, [], ◌∷◌, ◌++◌, Option, Some, None, inl, inr, refl, sym, ap, subst, ◌∙◌}
+use Rattle.std.proofs.Common.{◌≡◌, ◌≢◌, ◌≤◌, ℕ, Bool, true, false, cond, not, eqb, length, List, [], ◌∷◌, ◌++◌, Option, Some, None, inl, inr, refl, sym, ap, subst, ◌∙◌, arith}
 use Rattle.db_image.specs.declared.services.CallReply.{CallReply}
 use Rattle.db_image.specs.declared.services.CallReply.TheVariants.{Malformed, BadRecord}
 use Rattle.db_image.specs.Database.{Outcome}
+use Rattle.cell_model.specs.Book.{Run, order_of}
 use Rattle.cell_model.specs.Durable.{Transaction}
-use Rattle.cell_model.specs.KeptLaws.{IsRecorded}
+use Rattle.cell_model.specs.KeptLaws.{ChangesNothing, IsRecorded}
 use Rattle.cell_model.specs.SingleCopy.{image_from, image_of, reply_after}
 use Rattle.prdb_entries.specs.Agreement.{IsMeant}
 use Rattle.prdb_entries.specs.Call.{PrCall, NewUser, NameToId}
@@ -21,6 +22,7 @@ use Rattle.ubik_cell.specs.SingleState.{IsCounted, state_after, state_from, stat
 pub record DatabaseLaws : Type 0 where
   pub means : (s : PrState) (image bytes : List ℕ) (now : ℕ) (call : PrCall) → StandsFor image s → call_of bytes ≡ Some call → IsMeant (protection.call image now bytes) image s (meaning s now call)
   pub no_call : (image bytes : List ℕ) (now : ℕ) → call_of bytes ≡ None → protection.call image now bytes ≡ outcome image (Malformed, None)
+  pub never_shrinks : (image bytes : List ℕ) (now : ℕ) → length image ≤ length (protection.call image now bytes).image
   pub first : StandsFor [] initial_state
 
 stands_after : DatabaseLaws → (image : List ℕ) (s : PrState) (now : ℕ) (bytes : List ℕ) (call : Option PrCall) → call_of bytes ≡ call → StandsFor image s → StandsFor (protection.call image now bytes).image (state_after s now call)
@@ -64,9 +66,18 @@ unmoved laws order t same =
     state_from-append initial_state order (t ∷ [])
     ∙ still laws (image_of protection order) (state_of order) t.moment t.call (call_of t.call) refl (image_stands laws order) (sym (image_from-append [] order (t ∷ [])) ∙ same)
 
-pub counted : DatabaseLaws → (before after acknowledged : List Transaction) (t : Transaction) → IsRecorded protection before after acknowledged t → IsCounted before after acknowledged t
-counted laws before after acknowledged t (inl made) = inl made
-counted laws before after acknowledged t (inr same) = inr (unmoved laws before t same)
+-- no transaction leaves an image that is shorter than before
+longer : DatabaseLaws → (order : List Transaction) (t : Transaction) → length (image_of protection order) ≤ length (image_of protection (order ++ t ∷ []))
+longer laws order t =
+    subst (λ (image : List ℕ). length (image_of protection order) ≤ length image) (sym (image_from-append [] order (t ∷ []))) (laws.never_shrinks (image_of protection order) t.call t.moment)
+
+-- a transaction that changes no block leaves the image
+same_image : DatabaseLaws → (order : List Transaction) (t : Transaction) → ChangesNothing protection order t → image_of protection (order ++ t ∷ []) ≡ image_of protection order
+same_image laws order t changes = changes.1 (omega arith) (longer laws order t)
+
+pub counted : DatabaseLaws → (r later : Run) (t : Transaction) → IsRecorded protection r later t → IsCounted r later t
+counted laws r later t (inl acknowledged) = inl acknowledged
+counted laws r later t (inr changes) = inr (unmoved laws (order_of r.announcements) t (same_image laws (order_of r.announcements) t changes))
 
 -- a reply that is not for a bad record
 abbrev IsGood : CallReply → Type 0

@@ -4,9 +4,8 @@ use Rattle.std.proofs.lemmas.List.{append-nil}
 use Rattle.std.proofs.lemmas.List.Elements.{All-nil, All-cons, All-append}
 use Rattle.std.specs.Prelude.{All}
 use Rattle.db_image.specs.Database.{Database}
-use Rattle.cell_model.specs.Book.{Run, first_run, run_after}
-use Rattle.cell_model.specs.KeptLaws.{run_of_one}
-use Rattle.cell_model.specs.Laws.{DatabaseIsDurable, AllDurable, IsOf, run_through}
+use Rattle.cell_model.specs.Book.{Run, first_run, run_after, run_through}
+use Rattle.cell_model.specs.Laws.{DatabaseIsDurable, AllDurable, IsOf, run_of_one}
 use Rattle.cell_model.specs.Node.{Node, Down, Halted, Up}
 use Rattle.disk_base.specs.Files.{Files}
 use Rattle.cell_model.specs.World.{Site, World, Event, IsRun as LegalRun, IsEvent, Happening, happens, first_seen, first_world, world_after, seen_of}
@@ -17,7 +16,8 @@ use Rattle.ubik_cell.specs.OneCopy.{IsLast, IsKept, OfOpening, OfRun, OfTheRun, 
 use Rattle.ubik_cell.specs.Run.{Holds, Runs}
 use Rattle.ubik_cell.specs.Script.{IsScripted, Reading, Line_run, Stop, Told, first_told, told_with, told_unless, told_after, told_from, told, line_result, sound_readings}
 use Rattle.ubik_cell.specs.Sites.{Held, Reads, ReadsAs, SitesRead}
-use Rattle.ubik_cell.specs.Trace.{trace, ending_text}
+use Rattle.ubik_cell.specs.declared.sites.TheConstants.{FIRST_HOST}
+use Rattle.ubik_cell.specs.Trace.{cell_hosts, trace, ending_text}
 use Rattle.ubik_cell.proofs.LineKinds.{IsBringing, IsKind, StageFits, result_kind}
 use Rattle.ubik_cell.proofs.Legal.{run_snoc}
 use Rattle.ubik_cell.proofs.OneStep.{trace-append}
@@ -45,18 +45,18 @@ world_of_run db r (e ∷ events) = world_of_run db (run_after db r e) events
 
 -- what is told of a run
 all_seen : Database → ℕ → Bool → List Event → List Happening
-all_seen db clock failed events = first_seen 0 (failed ∷ []) ++ seen_of db (first_world clock (failed ∷ [])) events
+all_seen db clock failed events = first_seen 0 (failed ∷ []) ++ seen_of db (first_world cell_hosts clock (failed ∷ [])) events
 
 pub record IsRun (db : Database) (t : Told) : Type 0 where
   pub clock : ℕ
   pub failed : Bool
   pub opening : t.stage.opening ≡ Some (record { clock = clock; failed = failed })
-  pub run : t.stage.run ≡ Some (run_of_one db clock failed t.stage.events)
+  pub run : t.stage.run ≡ Some (run_of_one db FIRST_HOST clock failed t.stage.events)
   pub scripted : All IsScripted t.stage.events
-  pub legal : LegalRun db (first_world clock (failed ∷ [])) t.stage.events
+  pub legal : LegalRun db (first_world cell_hosts clock (failed ∷ [])) t.stage.events
   pub fit : StageFits t.stage
   pub last : List ℕ
-  pub told : t.text ≡ trace (first_seen 0 (failed ∷ []) ++ seen_of db (first_world clock (failed ∷ [])) t.stage.events) ++ last
+  pub told : t.text ≡ trace (first_seen 0 (failed ∷ []) ++ seen_of db (first_world cell_hosts clock (failed ∷ [])) t.stage.events) ++ last
   pub ended : IsLast t.stop last
 
 pub record IsNoRun (t : Told) : Type 0 where
@@ -87,8 +87,8 @@ brought : (db : Database) (t : Told) (ran : Line_run) → t.stop ≡ None → Is
 unfolding all_seen
 brought db t ran good brings is =
     let events = t.stage.events in
-    let same : brings.r ≡ run_of_one db is.clock is.failed events = same_some (sym brings.there ∙ is.run) in
-    let w : World = first_world is.clock (is.failed ∷ []) in
+    let same : brings.r ≡ run_of_one db FIRST_HOST is.clock is.failed events = same_some (sym brings.there ∙ is.run) in
+    let w : World = first_world cell_hosts is.clock (is.failed ∷ []) in
     let more : ran.stage.events ≡ events ++ brings.event ∷ [] = brings.events in
     record {
       clock = is.clock;
@@ -97,7 +97,7 @@ brought db t ran good brings is =
       run =
           brings.run ∙ ap (λ (r : Run). Some (run_after db r brings.event)) same
           ∙ ap Some (sym (run_push db (first_run w) events brings.event))
-          ∙ ap (λ (l : List Event). Some (run_of_one db is.clock is.failed l)) (sym more);
+          ∙ ap (λ (l : List Event). Some (run_of_one db FIRST_HOST is.clock is.failed l)) (sym more);
       scripted = subst (All IsScripted) (sym more) (All-append IsScripted events (brings.event ∷ []) is.scripted (All-cons IsScripted brings.event [] brings.scripted (All-nil IsScripted)));
       legal =
           let last : IsEvent (world_after db w events) brings.event =
@@ -109,8 +109,8 @@ brought db t ran good brings is =
       told =
           ap (λ (text : List ℕ). text ++ trace ran.seen) (text_of_run db t is good)
           ∙ ap (λ (seen : List Happening). trace (all_seen db is.clock is.failed events) ++ trace seen) (brings.seen ∙ ap (λ (r : Run). (happens db r.world brings.event).seen) same)
-          ∙ sym (trace-append (all_seen db is.clock is.failed events) (happens db (run_of_one db is.clock is.failed events).world brings.event).seen)
-          ∙ ap trace (append_assoc (first_seen 0 (is.failed ∷ [])) (seen_of db w events) (happens db (run_of_one db is.clock is.failed events).world brings.event).seen)
+          ∙ sym (trace-append (all_seen db is.clock is.failed events) (happens db (run_of_one db FIRST_HOST is.clock is.failed events).world brings.event).seen)
+          ∙ ap trace (append_assoc (first_seen 0 (is.failed ∷ [])) (seen_of db w events) (happens db (run_of_one db FIRST_HOST is.clock is.failed events).world brings.event).seen)
           ∙ ap (λ (seen : List Happening). trace (first_seen 0 (is.failed ∷ []) ++ seen)) (sym (seen_push db (first_run w) events brings.event))
           ∙ ap (λ (l : List Event). trace (all_seen db is.clock is.failed l)) (sym more)
           ∙ sym (append-nil _);
@@ -120,7 +120,7 @@ no_run_here : (db : Database) (t : Told) (ran : Line_run) → IsBringing db t.st
 no_run_here db t ran brings none = let never : None ≡ Some brings.r = sym none ∙ brings.there in cc
 
 one_run_here : (db : Database) (t : Told) (ran : Line_run) (o : IsRun db t) → t.stage.run ≡ None → ⊥
-one_run_here db t ran is none = let never : None ≡ Some (run_of_one db is.clock is.failed t.stage.events) = sym none ∙ is.run in cc
+one_run_here db t ran is none = let never : None ≡ Some (run_of_one db FIRST_HOST is.clock is.failed t.stage.events) = sym none ∙ is.run in cc
 
 quiet_text : (text : List ℕ) (seen : List Happening) → seen ≡ [] → text ++ trace seen ≡ text
 quiet_text text seen none = ap (λ (s : List Happening). text ++ trace s) none ∙ append-nil text
@@ -139,9 +139,9 @@ ran_line db t ran good (inl quiet) (inr is) =
       clock = is.clock;
       failed = is.failed;
       opening = quiet.opening ∙ is.opening;
-      run = quiet.run ∙ is.run ∙ ap (λ (l : List Event). Some (run_of_one db is.clock is.failed l)) (sym quiet.events);
+      run = quiet.run ∙ is.run ∙ ap (λ (l : List Event). Some (run_of_one db FIRST_HOST is.clock is.failed l)) (sym quiet.events);
       scripted = subst (All IsScripted) (sym quiet.events) is.scripted;
-      legal = subst (LegalRun db (first_world is.clock (is.failed ∷ []))) (sym quiet.events) is.legal;
+      legal = subst (LegalRun db (first_world cell_hosts is.clock (is.failed ∷ []))) (sym quiet.events) is.legal;
       fit = quiet.fit is.fit;
       last = is.last;
       ended = is.ended;
@@ -155,9 +155,9 @@ ran_line db t ran good (inr (inl opens)) (inl none) =
       clock = opens.clock;
       failed = opens.failed;
       opening = opens.opening;
-      run = opens.run ∙ ap (λ (l : List Event). Some (run_of_one db opens.clock opens.failed l)) (sym nothing);
+      run = opens.run ∙ ap (λ (l : List Event). Some (run_of_one db FIRST_HOST opens.clock opens.failed l)) (sym nothing);
       scripted = subst (All IsScripted) (sym nothing) (All-nil IsScripted);
-      legal = subst (LegalRun db (first_world opens.clock (opens.failed ∷ []))) (sym nothing) tt;
+      legal = subst (LegalRun db (first_world cell_hosts opens.clock (opens.failed ∷ []))) (sym nothing) tt;
       fit = opens.fit;
       last = [];
       ended = nothing_last good;
@@ -261,10 +261,10 @@ run_durable law db readings fs reads = by (may_run db readings)
         let P : Option Run → Type 0 = λ o. Reads o fs in
         let Q : Option Run → Type 0 = λ o. ReadsRun o fs in
         let events = (told db readings).stage.events in
-        let r = run_of_one db is.clock is.failed events in
-        let w = first_world is.clock (is.failed ∷ []) in
+        let r = run_of_one db FIRST_HOST is.clock is.failed events in
+        let w = first_world cell_hosts is.clock (is.failed ∷ []) in
         let all : AllDurable r.world.sites =
-        subst (λ (v : World). AllDurable v.sites) (sym (world_of_run db (first_run w) events)) (law db is.clock (is.failed ∷ []) events) in
+        subst (λ (v : World). AllDurable v.sites) (sym (world_of_run db (first_run w) events)) (law db cell_hosts is.clock (is.failed ∷ []) events) in
         subst Q (sym is.run) (sites_durable r.world.sites fs all (subst P is.run reads))
 
 there_so : {X : Type 0} (P Q : X → Type 0) (o : Option X) → IsSomeAnd o P → ((x : X) → P x → Q x) → IsSomeAnd o Q

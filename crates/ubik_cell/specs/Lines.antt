@@ -2,14 +2,17 @@
 use Rattle.std.specs.Prelude.{◌≡◌, ◌+◌, ◌-◌, ◌<◌, ◌≤◌, ℕ, true, false, Option, Some, None, IsSomeAnd, Result, Ok, Err, List, [], length, ◌++◌}
 use Rattle.db_image.specs.Database.{Database}
 use Rattle.cell_model.specs.declared.events.NodeEvent.{NodeEvent}
+use Rattle.cell_model.specs.declared.events.NodeEvent.TheVariants as event
 use Rattle.cell_model.specs.Node as model
 use Rattle.cell_model.specs.Book.{Run, run_after}
 use Rattle.cell_model.specs.World.{happens}
 use Rattle.ubik_types.specs.Moment.{IsMoment}
 use Rattle.disk_base.specs.Files.{Files, no_files}
 use Rattle.ubik_node.specs.declared.nodes.Node.{Node}
-use Rattle.ubik_node.specs.Node.{node_of, IsStored}
+use Rattle.ubik_node.specs.Node.{node_of, own_member, IsStored}
+use Rattle.ubik_node.specs.Progress.{alone}
 use Rattle.ubik_cell.specs.declared.scripts.CellRun.{CellRun}
+use Rattle.ubik_cell.specs.declared.sites.TheConstants.{FIRST_HOST}
 use Rattle.ubik_cell.specs.declared.sites.Site.{Site}
 use Rattle.ubik_cell.specs.declared.sites.Site.TheVariants as site
 use Rattle.cell_script.specs.declared.lines.Why.{Why}
@@ -43,12 +46,28 @@ pub record HasDisk {D V : Type 0} (files : D → Option Files) (faults : D → �
   pub alone : HasOnlyDatabase files n
   pub cause : n.halted ≡ true → 0 < faults n.disk
 
+-- a turn, or a call that is asked
+abbrev pub IsTurn : NodeEvent → Type 0
+IsTurn (event.Packet p) = ⊥
+IsTurn _ = Unit {0}
+
+-- no beacon of another server is kept
+abbrev pub HearsNone : model.Node → Type 0
+HearsNone model.Down = Unit {0}
+HearsNone (model.Halted h) = Unit {0}
+HearsNone (model.Up s) = s.beacon ≡ None
+
+-- the only server of the cell of a script
+pub record IsOnly {D V : Type 0} (n : Node D V) : Type 0 where
+  pub member : own_member n ≡ alone FIRST_HOST
+  pub unheard : HearsNone (node_of n)
+
 -- Before there is a cell its disk is empty. Then its clock is a moment, and not before the last step, and a server
 -- that is down is so since its disk failed.
 abbrev pub IsSound : {D : Type 0} → (D → Option Files) → (D → ℕ) → ℕ → Site D → Type 0
 IsSound files faults clock (site.Unopened disk) = files disk ≡ Some no_files
 IsSound files faults clock (site.Down disk) = IsMoment clock × (0 < faults disk)
-IsSound files faults clock (site.Up node) = IsMoment clock × (node.last ≤ clock) × HasDisk files faults node
+IsSound files faults clock (site.Up node) = IsMoment clock × (node.last ≤ clock) × IsOnly node × HasDisk files faults node
 
 -- the server stands in the world of this run at this clock
 abbrev pub Stands : {D : Type 0} → ℕ → Site D → Option Run → Type 0

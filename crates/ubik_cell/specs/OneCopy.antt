@@ -3,13 +3,13 @@
 use Rattle.std.specs.Prelude.{◌≡◌, ◌⊎◌, ℕ, Bool, true, Option, Some, None, IfSome, IsSomeAnd, List, [], ◌∷◌, ◌++◌, All, Contains}
 use Rattle.db_image.specs.Database.{Database}
 use Rattle.disk_base.specs.Files.{Files, no_files}
-use Rattle.cell_model.specs.Book.{Run, run_with, order_of}
-use Rattle.cell_model.specs.declared.events.NodeEvent.TheVariants.{Ask}
-use Rattle.cell_model.specs.declared.events.Output.TheVariants as output
-use Rattle.cell_model.specs.declared.events.Reply.TheVariants as reply
-use Rattle.cell_model.specs.KeptLaws.{run_of_one, IsPlaced, IsSingle, IsSeenOf, answered_by}
-use Rattle.cell_model.specs.Laws.{Grows}
-use Rattle.cell_model.specs.World.{Site, Event, Step, Happening, Puts, IsRun, site_of, happens, first_seen, first_world, seen_of}
+use Rattle.ubik_calls.specs.declared.replies.Reply.{Reply}
+use Rattle.ubik_calls.specs.declared.replies.Reply.TheVariants as reply
+use Rattle.cell_model.specs.Book.{Run, run_after, order_of}
+use Rattle.cell_model.specs.KeptLaws.{IsPlaced, IsSingle, Answered, IsAnsweredBy, answered_by}
+use Rattle.cell_model.specs.Laws.{run_of_one, Grows}
+use Rattle.cell_model.specs.Step.{Evaluation}
+use Rattle.cell_model.specs.World.{Site, Event, Asking, Step, Happening, Announced, Replied, Halts, IsRun, member, site_of, happens, first_seen, first_world, seen_of}
 use Rattle.ubik_node.specs.Database.{durable_of}
 use Rattle.ubik_cell.specs.declared.cells.CellKind.{CellKind}
 use Rattle.ubik_cell.specs.declared.cells.CellKind.TheVariants as kind
@@ -17,7 +17,8 @@ use Rattle.ubik_cell.specs.Run.{Runs}
 use Rattle.ubik_cell.specs.Script.{IsScripted, Opening, Reading, Stop, Told, told, sound_readings}
 use Rattle.ubik_cell.specs.SingleState.{HasState, IsCounted, reply_of}
 use Rattle.ubik_cell.specs.Sites.{Held}
-use Rattle.ubik_cell.specs.Trace.{trace, ending_text}
+use Rattle.ubik_cell.specs.declared.sites.TheConstants.{FIRST_HOST}
+use Rattle.ubik_cell.specs.Trace.{cell_hosts, trace, ending_text}
 
 -- the line that tells where a script ended, if it did
 abbrev pub IsLast : Option Stop → List ℕ → Type 0
@@ -27,48 +28,62 @@ IsLast (Some stop) last = last ≡ ending_text stop.line stop.ending
 -- The run that these lines told is that of the opening and the events. Each event is one that a script may bring, and one of
 -- the world that those before it leave; and what was told is what is seen of them, and then where the script ended, if it did.
 pub record IsRunOf (db : Database) (t : Told) (clock : ℕ) (failed : Bool) (events : List Event) : Type 0 where
-  pub run : t.stage.run ≡ Some (run_of_one db clock failed events)
+  pub run : t.stage.run ≡ Some (run_of_one db FIRST_HOST clock failed events)
   pub scripted : All IsScripted events
-  pub legal : IsRun db (first_world clock (failed ∷ [])) events
+  pub legal : IsRun db (first_world cell_hosts clock (failed ∷ [])) events
   pub last : List ℕ
-  pub told : t.text ≡ trace (first_seen 0 (failed ∷ []) ++ seen_of db (first_world clock (failed ∷ [])) events) ++ last
+  pub told : t.text ≡ trace (first_seen 0 (failed ∷ []) ++ seen_of db (first_world cell_hosts clock (failed ∷ [])) events) ++ last
   pub ended : IsLast t.stop last
 
 -- the list of each announcement is a front of the list of each later one
 abbrev pub HasOneOrder : Database → ℕ → Bool → List Event → Type 0
-HasOneOrder db clock failed events = Grows (run_of_one db clock failed events).announcements
+HasOneOrder db clock failed events = Grows (run_of_one db FIRST_HOST clock failed events).announcements
 
 -- What was acknowledged at any place of the run is in the order at each later one, at its place; and the database of each
 -- ready sync site at any place is the single copy's after the order there, and stands for the state of the order. Each Ok to a
 -- call that writes is acknowledged in that event, and is the next one of the order, or the call leaves the state of the order.
 pub record IsKept (db : Database) (clock : ℕ) (failed : Bool) (events : List Event) : Type 0 where
   pub stays : (front middle back : List Event) → events ≡ (front ++ middle) ++ back →
-      All (λ a. IsPlaced (order_of (run_of_one db clock failed (front ++ middle)).announcements) a)
-      (run_of_one db clock failed front).acknowledged
-  pub sites : (front back : List Event) → events ≡ front ++ back →
-      let r = run_of_one db clock failed front in
-      All (λ site. IsSingle db (order_of r.announcements) 1 site.clock site.node × HasState (order_of r.announcements) 1 site.clock site.node) r.world.sites
-  pub recorded : (front back : List Event) (server id : ℕ) (call fields : List ℕ) (short : List Bool) →
-      events ≡ front ++ Step server (Ask id call) short ∷ back →
-      let r = run_of_one db clock failed front in
-      let h = happens db r.world (Step server (Ask id call) short) in
-      db.writes call ≡ Some true → Contains h.seen (Puts server (output.Reply id (reply.Ok fields))) →
-      IfSome (site_of r.world.sites server) (λ site.
-      IsCounted (order_of r.announcements) (order_of (run_with r h).announcements) h.acknowledged (record { moment = site.clock; call = call }))
+      All (λ a. IsPlaced (order_of (run_of_one db FIRST_HOST clock failed (front ++ middle)).announcements) a)
+      (run_of_one db FIRST_HOST clock failed front).acknowledged
+  pub sites : (front back : List Event) → events ≡ front ++ back → (k : ℕ) →
+      let r = run_of_one db FIRST_HOST clock failed front in
+      let order = order_of r.announcements in
+      IfSome (site_of r.world k) (λ site.
+      IsSingle db order (member r.world k) site.clock site.node × HasState order (member r.world k) site.clock site.node)
+  pub recorded : (front back : List Event) (server id : ℕ) (call fields : List ℕ) (evaluation : Option Evaluation) (short : List Bool) →
+      let e = Step (Asking server id call) short in events ≡ front ++ e ∷ back →
+      let r = run_of_one db FIRST_HOST clock failed front in
+      db.writes call ≡ Some true → Contains (happens db r.world e).seen (Replied server id (reply.Ok fields) evaluation) →
+      IfSome (site_of r.world server) (λ site. IsCounted r (run_after db r e) (record { moment = site.clock; call = call }))
 
--- no reply is that the bytes asked are no call, that the database is bad, or that memory ran out
+-- In a cell of one no packet is seen, and no server that stops or is opened anew. No reply is that the bytes asked are no call, that
+-- the database is bad, that memory ran out, that another server is the sync site, or that a line is full.
+abbrev pub IsProperReply : Reply → Type 0
+IsProperReply (reply.Ok fields) = Unit {0}
+IsProperReply (reply.Rule number) = Unit {0}
+IsProperReply (reply.NoQuorum now until phase applied) = Unit {0}
+IsProperReply (reply.TooLarge bytes) = Unit {0}
+IsProperReply reply.DiskFault = Unit {0}
+IsProperReply _ = ⊥
+
 abbrev pub IsProper : Happening → Type 0
-IsProper (Puts server (output.Reply id reply.Malformed)) = ⊥
-IsProper (Puts server (output.Reply id (reply.BadRecord at))) = ⊥
-IsProper (Puts server (output.Reply id reply.NoMemory)) = ⊥
-IsProper _ = Unit {0}
+IsProper (Announced server version) = Unit {0}
+IsProper (Replied server id r evaluation) = IsProperReply r
+IsProper (Halts server) = Unit {0}
+IsProper _ = ⊥
+
+-- a reply Ok or Rule that is seen is this answer
+abbrev pub IsSeenOf : Option Answered → Happening → Type 0
+IsSeenOf single (Replied server id r evaluation) = IsAnsweredBy single server id r
+IsSeenOf single _ = Unit {0}
 
 -- Each reply Ok or Rule of an event is what its call means for the state of the order before the event, at the clock of
--- the server; and no reply is Malformed, BadRecord or NoMemory.
+-- the server; and nothing is seen but announcements, proper replies and halts.
 abbrev pub HasSingleReplies : Database → ℕ → Bool → List Event → Type 0
 HasSingleReplies db clock failed events =
     (front back : List Event) (event : Event) → events ≡ front ++ event ∷ back →
-    let r = run_of_one db clock failed front in
+    let r = run_of_one db FIRST_HOST clock failed front in
     All (λ seen. IsSeenOf (answered_by (reply_of (order_of r.announcements)) r.world event) seen × IsProper seen)
     (happens db r.world event).seen
 

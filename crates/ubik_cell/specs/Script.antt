@@ -6,7 +6,7 @@ use Rattle.cell_model.specs.Book.{Run, first_run, run_after}
 use Rattle.cell_model.specs.declared.events.NodeEvent.{NodeEvent}
 use Rattle.cell_model.specs.declared.events.NodeEvent.TheVariants as event
 use Rattle.cell_model.specs.Node.{Node, Down, Halted, Up}
-use Rattle.cell_model.specs.World.{Site, Event, Tick_all, Step, Fault, Happening, Puts, Halts, Stays_down, happens, first_world, first_seen}
+use Rattle.cell_model.specs.World.{Site, Trigger, Delivery, Beacon_turn, Recover_turn, Asking, Event, Tick_all, Step, Fault, Happening, Halts, Stays_down, happens, first_world, first_seen}
 use Rattle.cell_script.specs.declared.lines.Line.{Line}
 use Rattle.cell_script.specs.declared.lines.Line.TheVariants as line
 use Rattle.cell_script.specs.declared.lines.Why.{Why}
@@ -18,7 +18,7 @@ use Rattle.ubik_cell.specs.declared.scripts.TheConstants.{MAX_LINES}
 use Rattle.ubik_cell.specs.declared.cells.Ending.{Ending}
 use Rattle.ubik_cell.specs.declared.cells.Ending.TheVariants.{Refused, Limit}
 use Rattle.ubik_cell.specs.declared.cells.Which.TheVariants.{Lines}
-use Rattle.ubik_cell.specs.Trace.{trace, ending_text}
+use Rattle.ubik_cell.specs.Trace.{cell_hosts, trace, ending_text}
 
 -- whether the disk served the opening or the step of a line, or failed in it, after so many durable calls
 pub data Luck : Type 0 where
@@ -63,23 +63,33 @@ with_event db st r e =
       seen = (happens db r.world e).seen;
     }
 
+-- What brings an event at a server, counted from 0. No line brings a packet: none has the number 0.
+abbrev pub trigger_of : ℕ → NodeEvent → Trigger
+trigger_of server (event.Packet p) = Delivery 0
+trigger_of server event.BeaconTurn = Beacon_turn server
+trigger_of server event.RecoverTurn = Recover_turn server
+trigger_of server (event.Ask id call) = Asking server id call
+
 -- the step of a server, counted from 0. Only a server that is up, and not halted, has a disk that can fail.
 abbrev pub step_event : Luck → Node → ℕ → NodeEvent → Event
-step_event Sound node server e = Step server e []
-step_event (Faulty made) (Up s) server e = Fault server e [] made
-step_event (Faulty made) node server e = Step server e []
+step_event Sound node server e = Step (trigger_of server e) []
+step_event (Faulty made) (Up s) server e = Fault (trigger_of server e) [] made
+step_event (Faulty made) node server e = Step (trigger_of server e) []
 
--- what a script asks is a call
-abbrev pub AsksACall : NodeEvent → Type 0
-AsksACall event.BeaconTurn = Unit {0}
-AsksACall event.RecoverTurn = Unit {0}
-AsksACall (event.Ask id call) = IsSome (call_of call)
+-- what a script brings is a turn, or asks a call
+abbrev pub AsksACall : Trigger → Type 0
+AsksACall (Delivery number) = ⊥
+AsksACall (Beacon_turn server) = Unit {0}
+AsksACall (Recover_turn server) = Unit {0}
+AsksACall (Asking server id call) = IsSome (call_of call)
 
--- an event that a script may bring: what it asks is a call, and no reply in it is for want of memory
+-- An event that a script may bring: all clocks go on, or a server makes a step, in which its disk may fail. What is asked in it is
+-- a call, and no reply in it is for want of memory.
 abbrev pub IsScripted : Event → Type 0
 IsScripted (Tick_all seconds) = Unit {0}
-IsScripted (Step server e short) = AsksACall e × (short ≡ [])
-IsScripted (Fault server e short made) = AsksACall e × (short ≡ [])
+IsScripted (Step trigger short) = AsksACall trigger × (short ≡ [])
+IsScripted (Fault trigger short made) = AsksACall trigger × (short ≡ [])
+IsScripted _ = ⊥
 
 abbrev pub is_up : Node → Bool
 is_up Down = false
@@ -149,7 +159,7 @@ opened st luck clock None =
     Ok (record {
       stage = record (next_line st) {
         opening = Some (record { clock = clock; failed = has_failed luck });
-        run = Some (first_run (first_world clock (has_failed luck ∷ [])));
+        run = Some (first_run (first_world cell_hosts clock (has_failed luck ∷ [])));
       };
       seen = first_seen 0 (has_failed luck ∷ []);
     })
@@ -186,9 +196,9 @@ line_result db st r =
 -- how many faults of a disk are seen
 abbrev pub fault_count : List Happening → ℕ
 fault_count [] = 0
-fault_count (Puts server output ∷ seen) = fault_count seen
 fault_count (Halts server ∷ seen) = fault_count seen + 1
 fault_count (Stays_down server ∷ seen) = fault_count seen + 1
+fault_count (_ ∷ seen) = fault_count seen
 
 -- where a script ended before its end: the number of the line, and why
 pub record Stop : Type 0 where

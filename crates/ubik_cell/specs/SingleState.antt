@@ -3,9 +3,11 @@
 use Rattle.std.specs.Prelude.{◌≡◌, ◌⊎◌, ◌++◌, ℕ, true, Option, Some, None, List, [], ◌∷◌}
 use Rattle.db_image.specs.declared.services.CallReply.{CallReply}
 use Rattle.db_image.specs.declared.services.CallReply.TheVariants.{Malformed}
-use Rattle.cell_model.specs.Book.{is_ready_site, site_database}
+use Rattle.cell_model.specs.Book.{Run, order_of, is_ready_site, site_database}
 use Rattle.cell_model.specs.Durable.{Transaction}
+use Rattle.cell_model.specs.KeptLaws.{IsAcknowledged}
 use Rattle.cell_model.specs.Node.{Node, Down, Halted, Up}
+use Rattle.cell_model.specs.Step.{Member}
 use Rattle.prdb_entries.specs.Call.{PrCall}
 use Rattle.prdb_entries.specs.Layout.{StandsFor}
 use Rattle.prdb_entries.specs.Meaning.{meaning}
@@ -35,13 +37,14 @@ reply_in s now (Some call) = (meaning s now call).reply
 abbrev pub reply_of : List Transaction → ℕ → List ℕ → CallReply
 reply_of transactions now call = reply_in (state_of transactions) now (call_of call)
 
--- the transaction is the one acknowledged, and the order goes on with it; or it leaves the state of the order as it is
-abbrev pub IsCounted : (before after acknowledged : List Transaction) → Transaction → Type 0
-IsCounted before after acknowledged t =
-    ((acknowledged ≡ t ∷ []) × (after ≡ before ++ t ∷ [])) ⊎ (state_of (before ++ t ∷ []) ≡ state_of before)
+-- between two runs the transaction is the one that is acknowledged, and the order goes on with it; or it leaves the state of the
+-- order as it is
+abbrev pub IsCounted : (r later : Run) → Transaction → Type 0
+IsCounted r later t =
+    IsAcknowledged r later t ⊎ (state_of (order_of r.announcements ++ t ∷ []) ≡ state_of (order_of r.announcements))
 
--- the database of a server of n that is a ready sync site stands for the state after these transactions
-abbrev pub HasState : List Transaction → ℕ → ℕ → Node → Type 0
-HasState order n clock Down = Unit {0}
-HasState order n clock (Halted h) = Unit {0}
-HasState order n clock (Up s) = is_ready_site n clock (Up s) ≡ true → StandsFor (site_database s) (state_of order)
+-- the database of a server that is a ready sync site stands for the state after these transactions
+abbrev pub HasState : List Transaction → Member → ℕ → Node → Type 0
+HasState order m clock Down = Unit {0}
+HasState order m clock (Halted h) = Unit {0}
+HasState order m clock (Up s) = is_ready_site m clock (Up s) ≡ true → StandsFor (site_database s) (state_of order)

@@ -9,21 +9,20 @@ use Rattle.cell_model.specs.declared.events.NodeEvent.{NodeEvent}
 use Rattle.cell_model.specs.Book.{Run, run_after}
 use Rattle.cell_model.specs.Durable.{Durable, durable, no_database}
 use Rattle.cell_model.specs.Node.{Node, Down, Halted, Up, opened_server}
-use Rattle.cell_model.specs.World.{Site as ModelSite, World, Stays_down, happens}
+use Rattle.cell_model.specs.World.{Site as ModelSite, World, Happening, Stays_down, happens, seen_of_output}
 use Rattle.ubik_node.specs.Database.{durable_of}
 use Rattle.ubik_node.specs.Node.{node_of}
 use Rattle.ubik_cell.specs.declared.sites.Site.{Site}
 use Rattle.ubik_cell.specs.declared.sites.Site.TheVariants as site
 use Rattle.ubik_cell.specs.Script.{Luck, Sound, Line_run, step_event, event_at, is_there, is_up_at, fault_count}
-use Rattle.ubik_cell.specs.Trace.{trace}
+use Rattle.ubik_cell.specs.Trace.{cell_hosts, trace}
 use Rattle.cell_model.specs.declared.events.Output.{Output}
 use Rattle.cell_model.specs.declared.events.Output.TheVariants as output
-use Rattle.cell_model.specs.declared.events.Reply.TheVariants as reply
-use Rattle.cell_model.specs.World.{Happening, Puts}
+use Rattle.ubik_calls.specs.declared.replies.Reply.TheVariants as reply
 
--- what is seen of these outputs
+-- what is seen of these outputs of the one server, none of which is a packet
 abbrev pub puts : List Output → List Happening
-puts outputs = map (Puts 0) outputs
+puts outputs = map (λ (o : Output). seen_of_output 0 1 o None) outputs
 
 abbrev pub IsNotShort : Output → Type 0
 IsNotShort (output.Reply id reply.NoMemory) = ⊥
@@ -34,9 +33,14 @@ abbrev pub HasNoShort : List Output → Type 0
 HasNoShort [] = Unit {0}
 HasNoShort (o ∷ outputs) = IsNotShort o × HasNoShort outputs
 
--- the world of a cell of one
+-- the world of a cell of one, in which no packet was sent
 abbrev pub one_world : ℕ → Durable → Node → List ℕ → World
-one_world clock durable node ids = record { sites = record { clock = clock; durable = durable; node = node; asked = ids } ∷ [] }
+one_world clock durable node ids =
+    record {
+      hosts = cell_hosts;
+      sites = record { clock = clock; durable = durable; node = node; asked = ids } ∷ [];
+      packets = [];
+    }
 
 -- a world of a cell of one with this clock and this server
 pub record IsOneWorld (clock : ℕ) (node : Node) (w : World) : Type 0 where

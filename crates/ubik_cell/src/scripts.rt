@@ -65,7 +65,7 @@ impl<D: StopDisk> CellRun<D> {
     ghost use Rattle.cell_script.specs.Meaning.{line_of, HasBounds};
     ghost use Rattle.ubik_cell.specs.Script.{Stage, Reading, first_stage, in_run, stepped, line_run, line_result};
     ghost use Rattle.ubik_cell.specs.Sites.{LineShort, site_disk, site_faults, site_held};
-    ghost use Rattle.ubik_cell.specs.Lines.{IsSound, IsAt, StepsFrom, LineTold, IsRefused, Ends};
+    ghost use Rattle.ubik_cell.specs.Lines.{IsSound, IsTurn, IsAt, StepsFrom, LineTold, IsRefused, Ends};
 
     /// A run before its first line, over the disk of the one server.
     pub fn new(alloc: Global, disk: D) -> CellRun<D>
@@ -191,6 +191,7 @@ impl<D: StopDisk> CellRun<D> {
     ) -> (CellRun<D>, LineDone)
         requires room { self.counts.lines < MAX_LINES }
         requires asks { asks ≤ self.counts.lines + 1 }
+        requires turn { IsTurn event }
         requires sound { IsSound D.files D.faults self.counts.clock self.site }
         ensures sound { result.1 ≢ LineDone.NoMemory → IsSound D.files D.faults result.0.counts.clock result.0.site }
         ensures told { result.1 ≡ LineDone.Told → (st : Stage) → StepsFrom self asks st →

@@ -7,17 +7,18 @@ ghost use Rattle.prdb_entries.specs.Protection.{protection};
 ghost use Rattle.ubik_types.specs.Moment.{IsMoment};
 ghost use Rattle.ubik_node.specs.Node.{node_of};
 ghost use Rattle.cell_model.specs.Book.{Run};
-ghost use Rattle.ubik_cell.specs.Lines.{HasDisk, IsOpened, IsSound, Stands, SiteTold, SiteRefuses};
+ghost use Rattle.ubik_cell.specs.Lines.{HasDisk, IsOnly, IsOpened, IsSound, IsTurn, Stands, SiteTold, SiteRefuses};
 ghost use Rattle.ubik_cell.specs.Sites.{puts, HasNoShort, StepTold, OpenTold, DownTold, IsReadAs, IsRevived, SiteShort, StepShort, site_disk, site_faults, site_held};
 ghost use Rattle.disk_base.specs.Files.{no_files};
 
 use crate::cells::Ending;
-use crate::traces::{tell_halt, tell_output, tell_stays_down};
+use crate::traces::{Mark, tell_mark, tell_output};
 use cell_script::Why;
 use disk_base::{Refused, StopDisk};
 use prdb_entries::PrService;
 use std::alloc::Global;
-use ubik_node::{Node, NodeEvent, Output, Outputs, Reply, StepEnd, StoreFault};
+use ubik_calls::Reply;
+use ubik_node::{Node, NodeEvent, Output, Outputs, StepEnd, StoreFault};
 use ubik_types::{Cell, Host, NoMemory};
 
 /// The host of the first server of a cell, 10.0.0.1.
@@ -67,7 +68,7 @@ impl<D: StopDisk> Site<D> {
     }
 }
 
-/// Tells what a step of the one server put out. A call that found no memory is want of memory.
+/// Tells what a step of the one server put out, which sends no packet. A call that found no memory is want of memory.
 fn tell_outputs(text: &mut String, out: &mut Outputs) -> Result<(), NoMemory>
     ensures told { OnOk result (string_bytes text.new ≡ string_bytes text.old ++ trace (puts out.old)) }
     ensures none_short { OnOk result (HasNoShort out.old) }
@@ -80,7 +81,7 @@ fn tell_outputs(text: &mut String, out: &mut Outputs) -> Result<(), NoMemory>
         {
             return Err(NoMemory);
         }
-        tell_output(text, 0, &output)?;
+        tell_output(text, &[FIRST_HOST], 0, 1, &output)?;
     }
     Ok(())
 }
@@ -95,10 +96,13 @@ fn step_node<D: StopDisk>(
 ) -> (Node<D, PrService>, LineDone)
     requires moment { IsMoment clock }
     requires order { node.last ≤ clock }
+    requires only { IsOnly node }
+    requires turn { IsTurn event }
     ensures told { result.1 ≡ LineDone.Told → StepTold protection clock event (node_of node) (node_of result.0)
         (string_bytes text.old) (string_bytes text.new) (D.faults node.disk) (D.faults result.0.disk) }
     ensures taken { (e : Ending) → result.1 ≢ LineDone.Ended e }
     ensures last { result.0.last ≤ clock }
+    ensures only { IsOnly result.0 }
     ensures disk { HasDisk D.files D.faults node → HasDisk D.files D.faults result.0 }
     ensures short { result.1 ≡ LineDone.NoMemory → StepShort protection clock event (node_of node) (node_of result.0) }
     ensures never_falls { D.faults node.disk ≤ D.faults result.0.disk }
@@ -130,11 +134,15 @@ fn tell_halted_step(text: &mut String, out: &mut Outputs, was_halted: bool) -> R
     if was_halted {
         return Ok(());
     }
-    tell_halt(text, 0)
+    tell_mark(text, Mark::Halts { server: 0 })
 }
 
 /// A step of the server of a number, counted from 1. It is refused where no cell stands, where there is no such
 /// server, and where it is down.
+#[tactic(
+    auto,
+    using(crate::proofs::Stepping::site_told, crate::proofs::Stepping::site_short)
+)]
 pub fn step_site<D: StopDisk>(
     alloc: Global,
     site: Site<D>,
@@ -143,7 +151,8 @@ pub fn step_site<D: StopDisk>(
     event: NodeEvent,
     text: &mut String,
 ) -> (Site<D>, LineDone)
-    requires { IsSound D.files D.faults clock site }
+    requires sound { IsSound D.files D.faults clock site }
+    requires turn { IsTurn event }
     ensures sound { IsSound D.files D.faults clock result.0 }
     ensures short { result.1 ≡ LineDone.NoMemory → IsOpened site × ((r : Run) → Stands clock site (Some r) →
         SiteShort protection (site_held D.files D.faults result.0) number event r) }
@@ -204,7 +213,7 @@ fn keep_down<D: StopDisk>(refused: Refused<D, StoreFault>, text: &mut String) ->
     }
     let mut disk = disk;
     disk.revive();
-    match tell_stays_down(text, 0) {
+    match tell_mark(text, Mark::StaysDown { server: 0 }) {
         Ok(()) => (Site::Down(disk), LineDone::Told),
         Err(NoMemory) => (Site::Down(disk), LineDone::NoMemory),
     }

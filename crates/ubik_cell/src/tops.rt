@@ -12,7 +12,6 @@ ghost use Rattle.prdb_entries.specs.Reading.{call_of};
 ghost use Rattle.prdb_entries.specs.State.{PrState, initial_state};
 ghost use Rattle.ubik_cell.specs.Lines.{IsSound};
 ghost use Rattle.ubik_cell.specs.Run.{SoFar, AtLine, AtEnding, Runs, kind_at, IsInside, IsDoneOrShort, status_of};
-ghost use Rattle.cell_model.specs.Causes.{RepliesHaveCauses};
 ghost use Rattle.cell_model.specs.KeptLaws.{AcknowledgedStay, OksAreAcknowledged, RepliesAreSingle, SitesAreSingle};
 ghost use Rattle.cell_model.specs.Laws.{AnnouncementsGrow, DatabaseIsDurable};
 ghost use Rattle.ubik_cell.specs.OneCopy.{DiskHolds, HasOneOrder, HasSingleReplies, IsKept, OfTheRun};
@@ -25,12 +24,12 @@ use crate::sites::LineDone;
 use crate::traces::tell_ending;
 use cell_model::{
     law_acknowledged_stay, law_announcements_grow, law_database_is_durable, law_ok_is_acknowledged,
-    law_replies_are_single, law_replies_have_causes, law_sites_are_single,
+    law_replies_are_single, law_sites_are_single,
 };
 use cell_script::{LineEnd, LineReader, write_whole};
 use db_image::CallReply;
 use disk_base::{Sink, Source, StopDisk};
-use prdb_entries::{law_call_means, law_empty_is_initial};
+use prdb_entries::{law_call_means, law_empty_is_initial, law_images_never_shrink};
 use std::alloc::Global;
 
 /// How a script ends that ends at this line.
@@ -170,21 +169,21 @@ fn recall_laws()
     ensures acknowledged { OksAreAcknowledged }
     ensures sites { SitesAreSingle }
     ensures replies { RepliesAreSingle }
-    ensures causes { RepliesHaveCauses }
     ensures durable { DatabaseIsDurable }
     ensures means { (s : PrState) (image bytes : List ℕ) (now : ℕ) (call : PrCall) → StandsFor image s → call_of bytes ≡ Some call
         → IsMeant (protection.call image now bytes) image s (meaning s now call) }
     ensures no_call { (image bytes : List ℕ) (now : ℕ) → call_of bytes ≡ None → protection.call image now bytes ≡ outcome image (CallReply.Malformed, None) }
+    ensures never_shrinks { (image bytes : List ℕ) (now : ℕ) → length image ≤ length (protection.call image now bytes).image }
     ensures first { StandsFor [] initial_state }
 {
     law_call_means();
+    law_images_never_shrink();
     law_empty_is_initial();
     law_announcements_grow();
     law_acknowledged_stay();
     law_ok_is_acknowledged();
     law_sites_are_single();
     law_replies_are_single();
-    law_replies_have_causes();
     law_database_is_durable();
 }
 

@@ -1,15 +1,17 @@
 //! The text of a trace.
-ghost use Rattle.std.specs.Prelude.{◌≡◌, ◌+◌, ◌<◌, ◌++◌, ◌∷◌, OnOk};
+ghost use Rattle.std.specs.Prelude.{◌≡◌, ◌+◌, ◌<◌, ◌++◌, ◌∷◌, OnOk, None};
 ghost use Rattle.std.specs.Fmt.{signed_decimal};
 ghost use Rattle.std.specs.Int.{w32, from_be_bytes, cast_signed};
 ghost use Rattle.std.specs.String.{string_bytes};
-ghost use Rattle.cell_model.specs.World.{Halts, Stays_down};
-ghost use Rattle.ubik_cell.specs.Trace.{phase_word, applied_word, fields_text, version_text, reply_text, output_text, happening_text, why_word, which_word, ending_text};
+ghost use Rattle.cell_model.specs.NodeRule.{place_of};
+ghost use Rattle.cell_model.specs.World.{seen_of_output};
+ghost use Rattle.ubik_cell.specs.Trace.{phase_word, applied_word, fields_text, version_text, number_in, kind_word, subject_text, packet_text, reply_text, cell_hosts, happening_line, seen_of_mark, why_word, which_word, ending_text};
 
 use crate::cells::{Ending, Which};
-use cell_model::{Output, Reply};
+use cell_model::Output;
 use cell_script::Why;
-use ubik_types::{Applied, NoMemory, Phase, Version};
+use ubik_calls::{Body, Packet, Reply};
+use ubik_types::{Applied, Host, NoMemory, Phase, Version};
 
 fn phase_word(phase: Phase) -> &'static str
     ensures { result.now ≡ phase_word phase }
@@ -61,9 +63,88 @@ fn tell_version(text: &mut String, version: Version) -> Result<(), NoMemory>
     Ok(())
 }
 
+/// The place of the server that has this host.
+fn place_of(hosts: &[Host], host: Host) -> Option<usize>
+    ensures { result ≡ place_of hosts.now host }
+{
+    hosts.iter().position(|other| other.0 == host.0)
+}
+
+/// The number of the server that has this host, counted from 1; 0 where the cell has no such server.
+fn number_of(hosts: &[Host], host: Host) -> u64
+    ensures { result ≡ number_in (place_of hosts.now host) }
+{
+    match place_of(hosts, host) {
+        Some(place) => place as u64 + 1,
+        None => 0,
+    }
+}
+
+/// The word of a kind of packet. A vote has one for each answer.
+fn kind_word(body: &Body) -> &'static str
+    ensures { result.now ≡ kind_word body.now }
+{
+    match body {
+        Body::Beacon { .. } => "beacon",
+        Body::Vote { yes: true, .. } => "yes",
+        Body::Vote { yes: false, .. } => "no",
+        Body::GetVersion { .. } => "getversion",
+        Body::VersionIs { .. } => "versionis",
+        Body::GetPiece { .. } => "getpiece",
+        Body::Piece { .. } => "piece",
+        Body::SendPiece { .. } => "sendpiece",
+        Body::PieceKept { .. } => "piecekept",
+        Body::SetVersion { .. } => "setversion",
+        Body::Begin { .. } => "begin",
+        Body::PutPiece { .. } => "putpiece",
+        Body::Commit { .. } => "commit",
+        Body::Abort { .. } => "abort",
+        Body::VersionKept { .. } => "versionkept",
+    }
+}
+
+/// Adds the start, the poll or the version that a packet names.
+fn tell_subject(text: &mut String, body: &Body) -> Result<(), NoMemory>
+    ensures { OnOk result (string_bytes text.new ≡ string_bytes text.old ++ subject_text body.now) }
+{
+    match body {
+        Body::Vote { start, .. } => write!(text, "{start}")?,
+        Body::GetVersion { poll } => write!(text, "{poll}")?,
+        Body::Beacon { version, .. }
+        | Body::VersionIs { version, .. }
+        | Body::GetPiece { version, .. }
+        | Body::Piece { version, .. }
+        | Body::SendPiece { version, .. }
+        | Body::PieceKept { version, .. }
+        | Body::VersionKept { version } => tell_version(text, *version)?,
+        Body::SetVersion { new, .. }
+        | Body::Begin { new, .. }
+        | Body::PutPiece { new, .. }
+        | Body::Commit { new, .. }
+        | Body::Abort { new } => tell_version(text, *new)?,
+    }
+    Ok(())
+}
+
+/// Adds a packet, which has this number.
+fn tell_packet(
+    text: &mut String,
+    hosts: &[Host],
+    number: u32,
+    packet: &Packet,
+) -> Result<(), NoMemory>
+    ensures { OnOk result (string_bytes text.new ≡ string_bytes text.old ++ packet_text hosts.now number packet.now) }
+{
+    let from = number_of(hosts, packet.from);
+    let to = number_of(hosts, packet.to);
+    let kind = kind_word(&packet.body);
+    write!(text, "packet {number} {from}>{to} {kind} ")?;
+    tell_subject(text, &packet.body)
+}
+
 /// Adds a reply, as it stands behind the number of its call and its server.
-fn tell_reply(text: &mut String, reply: &Reply) -> Result<(), NoMemory>
-    ensures { OnOk result (string_bytes text.new ≡ string_bytes text.old ++ reply_text reply.now) }
+fn tell_reply(text: &mut String, hosts: &[Host], reply: &Reply) -> Result<(), NoMemory>
+    ensures { OnOk result (string_bytes text.new ≡ string_bytes text.old ++ reply_text hosts.now reply.now) }
 {
     match reply {
         Reply::Ok(fields) => {
@@ -81,6 +162,11 @@ fn tell_reply(text: &mut String, reply: &Reply) -> Result<(), NoMemory>
             let applied = applied_word(*applied);
             write!(text, " noquorum {until} {phase} {applied}")?;
         }
+        Reply::NotSync { host, .. } => {
+            let number = number_of(hosts, *host);
+            write!(text, " notsync {number}")?;
+        }
+        Reply::LineFull { holder } => write!(text, " linefull {holder}")?,
         Reply::TooLarge { bytes } => write!(text, " toolarge {bytes}")?,
         Reply::Malformed => text.push_str(" malformed")?,
         Reply::DiskFault => text.push_str(" diskfault")?,
@@ -90,17 +176,24 @@ fn tell_reply(text: &mut String, reply: &Reply) -> Result<(), NoMemory>
     Ok(())
 }
 
-/// Adds the line of an output of a server, which is counted from 0 and printed by its number from 1. After an
-/// `Err` a part of the line may stand at the end.
-pub fn tell_output(text: &mut String, server: u32, output: &Output) -> Result<(), NoMemory>
+/// Adds the line of an output of a server of the cell of these hosts. The server is counted from 0 and printed by its number
+/// from 1; a packet has the number that is given. After an `Err` a part of the line may stand at the end.
+pub fn tell_output(
+    text: &mut String,
+    hosts: &[Host],
+    server: u32,
+    packet: u32,
+    output: &Output,
+) -> Result<(), NoMemory>
     requires { server < 20 }
-    ensures { OnOk result (string_bytes text.new ≡ string_bytes text.old ++ output_text server output.now) }
+    ensures { OnOk result (string_bytes text.new ≡ string_bytes text.old ++ happening_line hosts.now (seen_of_output server packet output.now None)) }
 {
     let number = server + 1;
     match output {
+        Output::Send(sent) => tell_packet(text, hosts, packet, sent)?,
         Output::Reply { id, reply } => {
             write!(text, "reply {id} {number}")?;
-            tell_reply(text, reply)?;
+            tell_reply(text, hosts, reply)?;
         }
         Output::Announce { version } => {
             write!(text, "announce {number} ")?;
@@ -111,25 +204,37 @@ pub fn tell_output(text: &mut String, server: u32, output: &Output) -> Result<()
     Ok(())
 }
 
-/// Adds the line of a server that was halted, which is counted from 0. After an `Err` a part of the line may
-/// stand at the end.
-pub fn tell_halt(text: &mut String, server: u32) -> Result<(), NoMemory>
-    requires { server < 20 }
-    ensures { OnOk result (string_bytes text.new ≡ string_bytes text.old ++ happening_text (Halts server)) }
-{
-    let number = server + 1;
-    writeln!(text, "halted {number}")?;
-    Ok(())
+/// What is seen of a server or of a packet, beside what a server puts out. Servers are counted from 0.
+#[derive(Clone, Copy)]
+pub enum Mark {
+    /// The packet of this number came to a server that is down.
+    Lost { packet: u32 },
+    /// The server stopped in a step.
+    Stops { server: u32 },
+    /// The server was halted, since its disk failed.
+    Halts { server: u32 },
+    /// The server is up again, with its durable version.
+    Restarts { server: u32, version: Version },
+    /// The server stays down, since its disk failed in the opening.
+    StaysDown { server: u32 },
 }
-
-/// Adds the line of a server that stayed down, since its disk failed in the opening. It is counted from 0. After
-/// an `Err` a part of the line may stand at the end.
-pub fn tell_stays_down(text: &mut String, server: u32) -> Result<(), NoMemory>
-    requires { server < 20 }
-    ensures { OnOk result (string_bytes text.new ≡ string_bytes text.old ++ happening_text (Stays_down server)) }
+/// Adds the line of what is seen beside outputs. After an `Err` a part of the line may stand at the end.
+pub fn tell_mark(text: &mut String, mark: Mark) -> Result<(), NoMemory>
+    ensures { OnOk result (string_bytes text.new ≡ string_bytes text.old ++ happening_line cell_hosts (seen_of_mark mark)) }
 {
-    let number = server + 1;
-    writeln!(text, "restarted {number} diskfault")?;
+    match mark {
+        Mark::Lost { packet } => write!(text, "lost {packet}")?,
+        Mark::Stops { server } => write!(text, "stopped {}", u64::from(server) + 1)?,
+        Mark::Halts { server } => write!(text, "halted {}", u64::from(server) + 1)?,
+        Mark::Restarts { server, version } => {
+            write!(text, "restarted {} ", u64::from(server) + 1)?;
+            tell_version(text, version)?;
+        }
+        Mark::StaysDown { server } => {
+            write!(text, "restarted {} diskfault", u64::from(server) + 1)?;
+        }
+    }
+    text.push('\n')?;
     Ok(())
 }
 

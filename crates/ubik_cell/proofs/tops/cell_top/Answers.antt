@@ -28,19 +28,19 @@ pub returns-clause-kept : goal.returns-clause-kept
 returns-clause-kept g c =
     let first : first_held g.D.Disk.files g.D.Disk.faults c.insert.new.self.items ≡ held g.D.Disk.files g.D.Disk.faults c.run_script-disk.result.0 =
     search (rules, c.insert.ensures, c.unwrap.ensures) in
-    let laws : DatabaseLaws = record { means = c.recall_laws.ensures.means; no_call = c.recall_laws.ensures.no_call; first = c.recall_laws.ensures.first } in
+    let laws : DatabaseLaws = record { means = c.recall_laws.ensures.means; no_call = c.recall_laws.ensures.no_call; never_shrinks = c.recall_laws.ensures.never_shrinks; first = c.recall_laws.ensures.first } in
     of_the_run IsKept protection (kept laws c.recall_laws.ensures.stay c.recall_laws.ensures.sites c.recall_laws.ensures.acknowledged) c.run_script-disk.result.1 _ _ _ _ _ _ first c.run_script-disk.ensures.runs
 
 pub returns-clause-single_copy : goal.returns-clause-single_copy
 returns-clause-single_copy g c =
     let first : first_held g.D.Disk.files g.D.Disk.faults c.insert.new.self.items ≡ held g.D.Disk.files g.D.Disk.faults c.run_script-disk.result.0 =
     search (rules, c.insert.ensures, c.unwrap.ensures) in
-    let laws : DatabaseLaws = record { means = c.recall_laws.ensures.means; no_call = c.recall_laws.ensures.no_call; first = c.recall_laws.ensures.first } in
-    of_the_run HasSingleReplies protection (single_replies laws c.recall_laws.ensures.replies c.recall_laws.ensures.causes) c.run_script-disk.result.1 _ _ _ _ _ _ first c.run_script-disk.ensures.runs
+    let laws : DatabaseLaws = record { means = c.recall_laws.ensures.means; no_call = c.recall_laws.ensures.no_call; never_shrinks = c.recall_laws.ensures.never_shrinks; first = c.recall_laws.ensures.first } in
+    of_the_run HasSingleReplies protection (single_replies laws c.recall_laws.ensures.replies) c.run_script-disk.result.1 _ _ _ _ _ _ first c.run_script-disk.ensures.runs
 
 pub returns-clause-disk : goal.returns-clause-disk
 returns-clause-disk g c =
     let first : first_held g.D.Disk.files g.D.Disk.faults c.insert.new.self.items ≡ held g.D.Disk.files g.D.Disk.faults c.run_script-disk.result.0 =
     search (rules, c.insert.ensures, c.unwrap.ensures) in
-    let laws : DatabaseLaws = record { means = c.recall_laws.ensures.means; no_call = c.recall_laws.ensures.no_call; first = c.recall_laws.ensures.first } in
+    let laws : DatabaseLaws = record { means = c.recall_laws.ensures.means; no_call = c.recall_laws.ensures.no_call; never_shrinks = c.recall_laws.ensures.never_shrinks; first = c.recall_laws.ensures.first } in
     disk_holds c.recall_laws.ensures.durable protection (kept laws c.recall_laws.ensures.stay c.recall_laws.ensures.sites c.recall_laws.ensures.acknowledged) c.run_script-disk.result.1 _ _ _ _ _ _ first c.run_script-disk.ensures.runs
