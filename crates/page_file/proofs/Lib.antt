@@ -1,5 +1,4 @@
 pub mod Labels
 pub mod Opening
 pub mod Reading
-pub mod Staying
 pub mod Writing

@@ -1,11 +1,8 @@
 //! Pages over the database file of a disk.
 ghost use Rattle.std.specs.Prelude.{◌≡◌, ◌+◌, ◌-◌, ◌<◌, ◌≤◌, ◌^◌, Some, None, IsSome, IfSome, OnOk, OnErr, IfOk, IfErr, IsErr, IsErrOf, length, take, drop, max, min, unwrap_or};
-ghost use Rattle.std.specs.Option.{option_map};
 ghost use Rattle.ubik_types.specs.Version.{IsVersion, zero_version};
-ghost use Rattle.disk_base.specs.Files.{with_file, laid, KeepsRoom};
-ghost use Rattle.disk_base.specs.Stops.{IsStopped, after_change};
-ghost use Rattle.disk_base.specs.Count.{HasCause};
-ghost use Rattle.disk_base.specs.Crash.{Torn, CutShort, InFile, OnlyIn, Follows, Narrows, Elapses, LeavesSame};
+ghost use Rattle.disk_base.specs.Stops.{IsStopped};
+ghost use Rattle.disk_base.specs.Runs.{OnlyReads, OnlyReserves, Writes, Cuts, Syncs};
 ghost use Rattle.page_file.specs.Label.{label, version_of_database};
 ghost use Rattle.page_file.specs.Fault.{Refuses, IsUnlabelled, IsTooLong};
 ghost use Rattle.page_file.specs.Pages.{AgreesIn, image_of};
@@ -51,15 +48,9 @@ impl Pages {
         ensures len { IfOk result (λ pages. pages.len ≤ MAX_IMAGE) }
         ensures agrees { IfOk result (λ pages. AgreesIn pages (D.files disk.new)) }
         ensures refused { IfErr result (λ fault. IfSome (D.files disk.old) (λ fs. Refuses IsUnlabelled fs.database fault)) }
-        ensures files { ¬ IsErrOf result PageFault.DiskFault → D.files disk.new ≡ D.files disk.old }
-        ensures room { KeepsRoom (D.room disk.old) (D.room disk.new) }
-        ensures steps { D.steps disk.new ≡ D.steps disk.old }
-        ensures crash { LeavesSame (D.may_leave disk.old) (D.may_leave disk.new) (D.left_since disk.old) (D.left_since disk.new) }
-        ensures stop { D.stop disk.new ≡ D.stop disk.old }
         ensures stopped { IsStopped (D.stop disk.old) → IsErrOf result PageFault.DiskFault }
-        ensures tells { D.tells disk.new ≡ D.tells disk.old }
         ensures no_memory { ¬ IsErrOf result PageFault.NoMemory }
-        ensures cause { HasCause (D.faults disk.old) (D.faults disk.new) (IsErrOf result PageFault.DiskFault) }
+        ensures reads { OnlyReads D.Disk disk.old disk.new (IsErrOf result PageFault.DiskFault) }
     {
         let len = file_len(disk)?;
         if len == 0 {
@@ -86,15 +77,9 @@ impl Pages {
         ensures len { IfOk result (λ pages. pages.len ≤ MAX_IMAGE) }
         ensures agrees { IfOk result (λ pages. AgreesIn pages (D.files disk.new)) }
         ensures refused { IfErr result (λ fault. IfSome (D.files disk.old) (λ fs. Refuses IsTooLong fs.database fault)) }
-        ensures files { ¬ IsErrOf result PageFault.DiskFault → D.files disk.new ≡ D.files disk.old }
-        ensures room { KeepsRoom (D.room disk.old) (D.room disk.new) }
-        ensures steps { D.steps disk.new ≡ D.steps disk.old }
-        ensures crash { LeavesSame (D.may_leave disk.old) (D.may_leave disk.new) (D.left_since disk.old) (D.left_since disk.new) }
-        ensures stop { D.stop disk.new ≡ D.stop disk.old }
         ensures stopped { IsStopped (D.stop disk.old) → IsErrOf result PageFault.DiskFault }
-        ensures tells { D.tells disk.new ≡ D.tells disk.old }
         ensures no_memory { ¬ IsErrOf result PageFault.NoMemory }
-        ensures cause { HasCause (D.faults disk.old) (D.faults disk.new) (IsErrOf result PageFault.DiskFault) }
+        ensures reads { OnlyReads D.Disk disk.old disk.new (IsErrOf result PageFault.DiskFault) }
     {
         let len = file_len(disk)?;
         if len > MAX_DATABASE_LEN {
@@ -133,15 +118,9 @@ impl Pages {
         ensures bytes { OnOk result (IfSome (D.files disk.old) (λ fs. buf.new ≡ take (length buf.old) (drop at (image_of fs.database)))) }
         ensures pages { self.new ≡ self.old }
         ensures agrees { ¬ IsErrOf result PageFault.DiskFault → AgreesIn self.new (D.files disk.new) }
-        ensures files { ¬ IsErrOf result PageFault.DiskFault → D.files disk.new ≡ D.files disk.old }
-        ensures room { KeepsRoom (D.room disk.old) (D.room disk.new) }
-        ensures steps { D.steps disk.new ≡ D.steps disk.old }
-        ensures crash { LeavesSame (D.may_leave disk.old) (D.may_leave disk.new) (D.left_since disk.old) (D.left_since disk.new) }
-        ensures stop { D.stop disk.new ≡ D.stop disk.old }
         ensures stopped { 0 < length buf.old → IsStopped (D.stop disk.old) → IsErrOf result PageFault.DiskFault }
-        ensures tells { D.tells disk.new ≡ D.tells disk.old }
         ensures fault { IfErr result (λ fault. fault ≡ PageFault.DiskFault) }
-        ensures cause { HasCause (D.faults disk.old) (D.faults disk.new) (IsErrOf result PageFault.DiskFault) }
+        ensures reads { OnlyReads D.Disk disk.old disk.new (IsErrOf result PageFault.DiskFault) }
     {
         read_pages(disk, at, buf)
     }
@@ -154,13 +133,7 @@ impl Pages {
         ensures no_memory { OnErr result (D.room disk.old FileNo.Database < 64 + len) }
         ensures pages { self.new ≡ self.old }
         ensures agrees { AgreesIn self.new (D.files disk.new) }
-        ensures files { D.files disk.new ≡ D.files disk.old }
-        ensures room { KeepsRoom (D.room disk.old) (D.room disk.new) }
-        ensures steps { D.steps disk.new ≡ D.steps disk.old }
-        ensures crash { LeavesSame (D.may_leave disk.old) (D.may_leave disk.new) (D.left_since disk.old) (D.left_since disk.new) }
-        ensures stop { D.stop disk.new ≡ D.stop disk.old }
-        ensures tells { D.tells disk.new ≡ D.tells disk.old }
-        ensures faults { D.faults disk.new ≡ D.faults disk.old }
+        ensures reserves { OnlyReserves D.Disk disk.old disk.new }
     {
         match disk.reserve(FileNo::Database, LABEL_LEN as u64 + len as u64) {
             RoomEnd::Done => Ok(()),
@@ -179,21 +152,13 @@ impl Pages {
         requires begins { at ≤ self.old.len }
         requires fits { 64 + at + length bytes.now ≤ D.room disk.old FileNo.Database }
         requires headed { IfSome (D.files disk.old) (λ fs. 64 ≤ length fs.database) }
-        ensures written { OnOk result (D.files disk.new ≡ option_map (λ fs. with_file fs FileNo.Database (laid fs.database (64 + at) bytes.now)) (D.files disk.old)) }
         ensures version { self.new.version ≡ self.old.version }
         ensures len { OnOk result (self.new.len ≡ max self.old.len (at + length bytes.now)) }
         ensures same { OnErr result (self.new ≡ self.old) }
         ensures agrees { OnOk result (AgreesIn self.new (D.files disk.new)) }
         ensures headed { OnOk result (IfSome (D.files disk.new) (λ fs. 64 ≤ length fs.database)) }
-        ensures room { KeepsRoom (D.room disk.old) (D.room disk.new) }
-        ensures steps { D.steps disk.new ≡ D.steps disk.old + 1 }
-        ensures crash { Follows (InFile FileNo.Database (Torn (64 + at) (length bytes.now))) (D.may_leave disk.old) (D.may_leave disk.new) }
-        ensures time { Elapses (D.steps disk.old) (D.left_since disk.old) (D.left_since disk.new) (D.may_leave disk.new) }
-        ensures stop { D.stop disk.new ≡ after_change (D.stop disk.old) }
-        ensures stopped { IsStopped (D.stop disk.new) → IsErrOf result PageFault.DiskFault }
-        ensures tells { D.tells disk.new ≡ D.tells disk.old }
         ensures fault { IfErr result (λ fault. fault ≡ PageFault.DiskFault) }
-        ensures cause { HasCause (D.faults disk.old) (D.faults disk.new) (IsErr result) }
+        ensures writes { Writes D.Disk FileNo.Database (64 + at) bytes.now disk.old disk.new (IsErr result) }
     {
         let from = at as u64;
         match disk.write_at(FileNo::Database, LABEL_LEN as u64 + from, bytes) {
@@ -210,21 +175,13 @@ impl Pages {
         requires agrees { AgreesIn self.old (D.files disk.old) }
         requires within { len ≤ self.old.len }
         requires headed { IfSome (D.files disk.old) (λ fs. 64 ≤ length fs.database) }
-        ensures cut { OnOk result (D.files disk.new ≡ option_map (λ fs. with_file fs FileNo.Database (take (64 + len) fs.database)) (D.files disk.old)) }
         ensures version { self.new.version ≡ self.old.version }
         ensures len { OnOk result (self.new.len ≡ len) }
         ensures same { OnErr result (self.new ≡ self.old) }
         ensures agrees { OnOk result (AgreesIn self.new (D.files disk.new)) }
         ensures headed { OnOk result (IfSome (D.files disk.new) (λ fs. 64 ≤ length fs.database)) }
-        ensures room { KeepsRoom (D.room disk.old) (D.room disk.new) }
-        ensures steps { D.steps disk.new ≡ D.steps disk.old + 1 }
-        ensures crash { Follows (InFile FileNo.Database (CutShort (64 + len))) (D.may_leave disk.old) (D.may_leave disk.new) }
-        ensures time { Elapses (D.steps disk.old) (D.left_since disk.old) (D.left_since disk.new) (D.may_leave disk.new) }
-        ensures stop { D.stop disk.new ≡ after_change (D.stop disk.old) }
-        ensures stopped { IsStopped (D.stop disk.new) → IsErrOf result PageFault.DiskFault }
-        ensures tells { D.tells disk.new ≡ D.tells disk.old }
         ensures fault { IfErr result (λ fault. fault ≡ PageFault.DiskFault) }
-        ensures cause { HasCause (D.faults disk.old) (D.faults disk.new) (IsErr result) }
+        ensures cuts { Cuts D.Disk FileNo.Database (64 + len) disk.old disk.new (IsErr result) }
     {
         let len = len as u64;
         match disk.cut(FileNo::Database, LABEL_LEN as u64 + len) {
@@ -242,21 +199,13 @@ impl Pages {
         requires version { IsVersion v }
         requires fits { D.files disk.old ≡ None → 64 ≤ D.room disk.old FileNo.Database }
         requires headed { IfSome (D.files disk.old) (λ fs. 64 ≤ length fs.database) }
-        ensures written { OnOk result (D.files disk.new ≡ option_map (λ fs. with_file fs FileNo.Database (laid fs.database 0 (label v))) (D.files disk.old)) }
         ensures version { OnOk result (self.new.version ≡ Some v) }
         ensures len { self.new.len ≡ self.old.len }
         ensures same { OnErr result (self.new ≡ self.old) }
         ensures agrees { OnOk result (AgreesIn self.new (D.files disk.new)) }
         ensures headed { OnOk result (IfSome (D.files disk.new) (λ fs. 64 ≤ length fs.database)) }
-        ensures room { KeepsRoom (D.room disk.old) (D.room disk.new) }
-        ensures steps { D.steps disk.new ≡ D.steps disk.old + 1 }
-        ensures crash { Follows (InFile FileNo.Database (Torn 0 64)) (D.may_leave disk.old) (D.may_leave disk.new) }
-        ensures time { Elapses (D.steps disk.old) (D.left_since disk.old) (D.left_since disk.new) (D.may_leave disk.new) }
-        ensures stop { D.stop disk.new ≡ after_change (D.stop disk.old) }
-        ensures stopped { IsStopped (D.stop disk.new) → IsErrOf result PageFault.DiskFault }
-        ensures tells { D.tells disk.new ≡ D.tells disk.old }
         ensures fault { IfErr result (λ fault. fault ≡ PageFault.DiskFault) }
-        ensures cause { HasCause (D.faults disk.old) (D.faults disk.new) (IsErr result) }
+        ensures writes { Writes D.Disk FileNo.Database 0 (label v) disk.old disk.new (IsErr result) }
     {
         match disk.write_at(FileNo::Database, 0, &label_bytes(v)) {
             DiskEnd::Done => {
@@ -270,19 +219,10 @@ impl Pages {
     /// After it a crash leaves of the database file what a read gives.
     pub fn sync<D: Disk>(&mut self, disk: &mut D) -> Result<(), PageFault>
         requires agrees { AgreesIn self.old (D.files disk.old) }
-        ensures files { OnOk result (D.files disk.new ≡ D.files disk.old) }
         ensures pages { self.new ≡ self.old }
         ensures agrees { OnOk result (AgreesIn self.new (D.files disk.new)) }
-        ensures room { KeepsRoom (D.room disk.old) (D.room disk.new) }
-        ensures steps { D.steps disk.new ≡ D.steps disk.old + 1 }
-        ensures durable { OnOk result (IfSome (D.files disk.old) (λ fs. OnlyIn FileNo.Database fs.database (D.may_leave disk.new))) }
-        ensures crash { Narrows (D.may_leave disk.old) (D.may_leave disk.new) }
-        ensures time { Elapses (D.steps disk.old) (D.left_since disk.old) (D.left_since disk.new) (D.may_leave disk.new) }
-        ensures stop { D.stop disk.new ≡ after_change (D.stop disk.old) }
-        ensures stopped { IsStopped (D.stop disk.new) → IsErrOf result PageFault.DiskFault }
-        ensures tells { D.tells disk.new ≡ D.tells disk.old }
         ensures fault { IfErr result (λ fault. fault ≡ PageFault.DiskFault) }
-        ensures cause { HasCause (D.faults disk.old) (D.faults disk.new) (IsErr result) }
+        ensures syncs { Syncs D.Disk FileNo.Database disk.old disk.new (IsErr result) }
     {
         match disk.sync(FileNo::Database) {
             DiskEnd::Done => Ok(()),

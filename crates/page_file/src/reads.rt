@@ -1,9 +1,7 @@
 //! What is read of the database file: its length, its head, and parts of it.
 ghost use Rattle.std.specs.Prelude.{◌≡◌, ◌+◌, ◌≤◌, ◌<◌, ◌^◌, IfSome, OnOk, IfOk, IfErr, IsErr, length, take, drop};
-ghost use Rattle.disk_base.specs.Files.{KeepsRoom};
 ghost use Rattle.disk_base.specs.Stops.{IsStopped};
-ghost use Rattle.disk_base.specs.Count.{HasCause};
-ghost use Rattle.disk_base.specs.Crash.{LeavesSame};
+ghost use Rattle.disk_base.specs.Runs.{OnlyReads};
 ghost use Rattle.page_file.specs.Label.{IsHeadOf};
 ghost use Rattle.page_file.specs.Pages.{image_of};
 
@@ -17,15 +15,9 @@ pub const PAGE_LEN: usize = 1024;
 /// The length of the database file, in bytes.
 pub(crate) fn file_len<D: Disk>(disk: &mut D) -> Result<u64, PageFault>
     ensures told { IfOk result (λ len. IfSome (D.files disk.old) (λ fs. len ≡ length fs.database)) }
-    ensures files { OnOk result (D.files disk.new ≡ D.files disk.old) }
-    ensures room { KeepsRoom (D.room disk.old) (D.room disk.new) }
-    ensures steps { D.steps disk.new ≡ D.steps disk.old }
-    ensures crash { LeavesSame (D.may_leave disk.old) (D.may_leave disk.new) (D.left_since disk.old) (D.left_since disk.new) }
-    ensures stop { D.stop disk.new ≡ D.stop disk.old }
     ensures stopped { IsStopped (D.stop disk.old) → IsErr result }
-    ensures tells { D.tells disk.new ≡ D.tells disk.old }
     ensures fault { IfErr result (λ fault. fault ≡ PageFault.DiskFault) }
-    ensures cause { HasCause (D.faults disk.old) (D.faults disk.new) (IsErr result) }
+    ensures reads { OnlyReads D.Disk disk.old disk.new (IsErr result) }
 {
     match disk.len(FileNo::Database) {
         LenEnd::Known(len) => Ok(len),
@@ -37,15 +29,9 @@ pub(crate) fn file_len<D: Disk>(disk: &mut D) -> Result<u64, PageFault>
 pub(crate) fn read_head<D: Disk>(disk: &mut D, len: u64) -> Result<[u8; 64], PageFault>
     requires { IfSome (D.files disk.old) (λ fs. len ≡ length fs.database) }
     ensures head { IfOk result (λ head. IfSome (D.files disk.old) (λ fs. IsHeadOf head fs.database)) }
-    ensures files { OnOk result (D.files disk.new ≡ D.files disk.old) }
-    ensures room { KeepsRoom (D.room disk.old) (D.room disk.new) }
-    ensures steps { D.steps disk.new ≡ D.steps disk.old }
-    ensures crash { LeavesSame (D.may_leave disk.old) (D.may_leave disk.new) (D.left_since disk.old) (D.left_since disk.new) }
-    ensures stop { D.stop disk.new ≡ D.stop disk.old }
     ensures stopped { IsStopped (D.stop disk.old) → IsErr result }
-    ensures tells { D.tells disk.new ≡ D.tells disk.old }
     ensures fault { IfErr result (λ fault. fault ≡ PageFault.DiskFault) }
-    ensures cause { HasCause (D.faults disk.old) (D.faults disk.new) (IsErr result) }
+    ensures reads { OnlyReads D.Disk disk.old disk.new (IsErr result) }
 {
     let mut head = [0; LABEL_LEN];
     let there = len.min(LABEL_LEN as u64) as usize;
@@ -61,15 +47,9 @@ fn read_image<D: Disk>(disk: &mut D, at: u64, buf: &mut [u8]) -> Result<(), Page
     requires some { 0 < length buf.old }
     requires fits { at + 64 < 2 ^ 64 }
     ensures bytes { OnOk result (IfSome (D.files disk.old) (λ fs. buf.new ≡ take (length buf.old) (drop at (image_of fs.database)))) }
-    ensures files { OnOk result (D.files disk.new ≡ D.files disk.old) }
-    ensures room { KeepsRoom (D.room disk.old) (D.room disk.new) }
-    ensures steps { D.steps disk.new ≡ D.steps disk.old }
-    ensures crash { LeavesSame (D.may_leave disk.old) (D.may_leave disk.new) (D.left_since disk.old) (D.left_since disk.new) }
-    ensures stop { D.stop disk.new ≡ D.stop disk.old }
     ensures stopped { IsStopped (D.stop disk.old) → IsErr result }
-    ensures tells { D.tells disk.new ≡ D.tells disk.old }
     ensures fault { IfErr result (λ fault. fault ≡ PageFault.DiskFault) }
-    ensures cause { HasCause (D.faults disk.old) (D.faults disk.new) (IsErr result) }
+    ensures reads { OnlyReads D.Disk disk.old disk.new (IsErr result) }
 {
     match disk.read(FileNo::Database, LABEL_LEN as u64 + at, buf) {
         DiskEnd::Done => Ok(()),
@@ -81,15 +61,9 @@ fn read_image<D: Disk>(disk: &mut D, at: u64, buf: &mut [u8]) -> Result<(), Page
 pub(crate) fn read_pages<D: Disk>(disk: &mut D, at: u32, buf: &mut [u8]) -> Result<(), PageFault>
     requires within { IfSome (D.files disk.old) (λ fs. at + length buf.old ≤ length (image_of fs.database)) }
     ensures bytes { OnOk result (IfSome (D.files disk.old) (λ fs. buf.new ≡ take (length buf.old) (drop at (image_of fs.database)))) }
-    ensures files { OnOk result (D.files disk.new ≡ D.files disk.old) }
-    ensures room { KeepsRoom (D.room disk.old) (D.room disk.new) }
-    ensures steps { D.steps disk.new ≡ D.steps disk.old }
-    ensures crash { LeavesSame (D.may_leave disk.old) (D.may_leave disk.new) (D.left_since disk.old) (D.left_since disk.new) }
-    ensures stop { D.stop disk.new ≡ D.stop disk.old }
     ensures stopped { 0 < length buf.old → IsStopped (D.stop disk.old) → IsErr result }
-    ensures tells { D.tells disk.new ≡ D.tells disk.old }
     ensures fault { IfErr result (λ fault. fault ≡ PageFault.DiskFault) }
-    ensures cause { HasCause (D.faults disk.old) (D.faults disk.new) (IsErr result) }
+    ensures reads { OnlyReads D.Disk disk.old disk.new (IsErr result) }
 {
     let mut done = 0;
     while done < buf.len() {

@@ -6,10 +6,13 @@ use Rattle.disk_base.specs.declared.disks.FileNo.TheVariants.{Log}
 use Rattle.disk_base.specs.declared.disks.DiskEnd.{DiskEnd}
 use Rattle.disk_base.specs.declared.disks.DiskEnd.TheVariants.{Done, Failed}
 use Rattle.disk_base.specs.Files.{Files, laid, OnDone}
-use Rattle.disk_base.specs.Crash.{Torn, InFile, Follows, OnlyIn}
+use Rattle.disk_base.specs.declared.disks.Disk.{Ghosts}
+use Rattle.disk_base.specs.Crash.{Torn, InFile, Follows, OnlyIn, LeavesOnly, After}
+use Rattle.disk_base.specs.Runs.{OnlyReserves}
+use Rattle.disk_base.proofs.Runs.{widened, joined, rested}
 use Rattle.ubik_log.specs.LogGrammar.{field}
 use Rattle.ubik_log.specs.Gate.{BeginsWithZero, closed}
-use Rattle.ubik_log.specs.LogFile.{with_log, HasDiscarded, After}
+use Rattle.ubik_log.specs.LogFile.{with_log, HasDiscarded}
 use Rattle.ubik_log.proofs.Gates.{zero_word_is_discarded, short_log_is_discarded}
 
 pub on_done : (end : DiskEnd) (P Q : Type 0) → (P → Q) → OnDone end P → OnDone end Q
@@ -79,7 +82,21 @@ second_run before between n one only c from =
 pub empty_left : (before : Files → Type 0) → OnlyIn Log [] before → (c : Files) → before c → After HasDiscarded before c
 empty_left before only c left = (c, left, (short_log_is_discarded c.log (omega (arith, ap length (only c left))), refl))
 
--- a call that changed nothing went before
+-- a call that made room went before
+module _ {D : Type 0} {g : Ghosts D} where
+  pub moments_after : {old mid : D} (new : D) → OnlyReserves g old mid
+      → IfSome (g.files mid) (λ fs. OnlyIn Log [] (g.may_leave mid) → LeavesOnly g.steps g.left_since mid new (After HasDiscarded (g.may_leave mid)))
+      → IfSome (g.files old) (λ fs. OnlyIn Log [] (g.may_leave old) → LeavesOnly g.steps g.left_since old new (After HasDiscarded (g.may_leave old)))
+  moments_after {old} {mid} new made runs =
+      let P = After HasDiscarded (g.may_leave old) in
+      let Run : Type 0 = OnlyIn Log [] (g.may_leave mid) → LeavesOnly g.steps g.left_since mid new (After HasDiscarded (g.may_leave mid)) in
+      under (g.files old) _ _
+      (λ run only. joined g.steps g.left_since old mid new P
+      (rested g.steps g.left_since old mid P (g.may_leave old) (g.may_leave mid) made.steps made.crash (g.only_now old) (empty_left (g.may_leave old) only))
+      (widened g.steps g.left_since mid new (After HasDiscarded (g.may_leave mid)) P (λ c from. (from.0, made.crash.no_more from.0 from.1, from.2))
+      (run (λ c left. only c (made.crash.no_more c left)))))
+      (subst (λ o. IfSome o (λ fs. Run)) made.files runs)
+
 pub since_same : (old files : Option Files) (count steps new : ℕ) (left_since : ℕ → Files → Type 0) → files ≡ old → steps ≡ count
     → IfSome files (λ fs. steps + 3 ≤ new → (c : Files) → left_since (steps + 2) c → BeginsWithZero c.log)
     → IfSome old (λ fs. count + 3 ≤ new → (c : Files) → left_since (count + 2) c → BeginsWithZero c.log)

@@ -1,7 +1,6 @@
 pub mod Fronts
 pub mod Gates
 pub mod KeptLogs
-pub mod Moments
 pub mod OneReading
 pub mod Spelled
 pub mod TornGates

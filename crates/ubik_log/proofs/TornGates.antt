@@ -4,12 +4,12 @@ use Rattle.std.proofs.lemmas.Bool.{cases_lt}
 use Rattle.std.proofs.lemmas.List.{take_all, take_at, drop_more, append_assoc}
 use Rattle.disk_base.specs.declared.disks.FileNo.TheVariants.{Log}
 use Rattle.disk_base.specs.Files.{Files}
-use Rattle.disk_base.specs.Crash.{Torn, InFile, OnlyIn}
+use Rattle.disk_base.specs.Crash.{Torn, InFile, OnlyIn, After}
 use Rattle.ubik_types.specs.declared.images.Change.{Change}
 use Rattle.ubik_types.specs.declared.versions.Version.{Version}
 use Rattle.ubik_log.specs.LogGrammar.{field, IsCommitted, IsDiscarded}
 use Rattle.ubik_log.specs.Gate.{IsOpen, closed, with_gate}
-use Rattle.ubik_log.specs.LogFile.{with_log, HasAnyGate, HasLogOrNone, After}
+use Rattle.ubik_log.specs.LogFile.{with_log, HasAnyGate, HasLogOrNone}
 use Rattle.ubik_log.proofs.Gates.{zero_word_is_discarded, open_gate_decides, closed_log_decides}
 
 torn_gate : (old new : List ℕ) → Torn 3 1 old new → (new ≡ old) ⊎ ((byte : ℕ) × (new ≡ with_gate byte old))

@@ -1,16 +1,16 @@
 //! The log file of a disk: a log is kept there with a closed gate, and one byte then makes it the committed one.
 //! After a disk fault nothing more is said of what a read gives, until the disk is opened anew.
-ghost use Rattle.std.specs.Prelude.{◌≡◌, ◌+◌, ◌<◌, ◌≤◌, [], ◌∷◌, ℕ, List, length, IfOk, IfSome, IsErrOf, OnOk};
+ghost use Rattle.std.specs.Prelude.{◌≡◌, ◌+◌, ◌<◌, ◌≤◌, [], ℕ, List, length, IfOk, IfSome, IsErrOf, OnOk};
 ghost use Rattle.std.specs.Option.{option_map};
-ghost use Rattle.disk_base.specs.Count.{HasCause};
-ghost use Rattle.disk_base.specs.Crash.{Torn, InFile, Follows, OnlyIn, IsSettled, LeavesOnly, LeavesSame};
-ghost use Rattle.disk_base.specs.Files.{Files, laid, OnDone, KeepsRoom};
-ghost use Rattle.disk_base.specs.Stops.{IsStopped, after_changes, Advances};
+ghost use Rattle.disk_base.specs.Crash.{Torn, InFile, Follows, OnlyIn, LeavesOnly, After};
+ghost use Rattle.disk_base.specs.Files.{Files, laid, OnDone};
+ghost use Rattle.disk_base.specs.Runs.{OnlyReads, OnlyReserves, ChangesAtMost};
+ghost use Rattle.disk_base.specs.Stops.{IsStopped};
 ghost use Rattle.ubik_types.specs.declared.images.Change.{Change};
 ghost use Rattle.ubik_types.specs.declared.versions.Version.{Version};
-ghost use Rattle.ubik_log.specs.Gate.{IsOpen, BeginsWithZero, closed, with_gate};
+ghost use Rattle.ubik_log.specs.Gate.{IsOpen, BeginsWithZero, closed};
 ghost use Rattle.ubik_log.specs.LogGrammar.{IsCommitted};
-ghost use Rattle.ubik_log.specs.LogFile.{with_log, gate_set, HasAnyGate, HasDiscarded, HasLogOrNone, After, RisesAtMost};
+ghost use Rattle.ubik_log.specs.LogFile.{with_log, SetsGate, KeepsLog, HasAnyGate, HasDiscarded, HasLogOrNone};
 ghost use Rattle.ubik_log.specs.Reading.{IsStateOf};
 
 use crate::codec::parse_log;
@@ -70,16 +70,8 @@ const CLOSED: u8 = 0;
 /// length is too long for one.
 pub fn read_log<D: Disk>(alloc: Global, disk: &mut D) -> Result<LogState, LogFault>
     ensures state { IfOk result (λ state. IfSome (D.files disk.old) (λ fs. IsStateOf fs.log state)) }
-    ensures files { OnOk result (D.files disk.new ≡ D.files disk.old) }
-    ensures no_memory { IsErrOf result LogFault.NoMemory → D.files disk.new ≡ D.files disk.old }
-    ensures room { KeepsRoom (D.room disk.old) (D.room disk.new) }
-    ensures steps { D.steps disk.new ≡ D.steps disk.old }
-    ensures crash { LeavesSame (D.may_leave disk.old) (D.may_leave disk.new)
-        (D.left_since disk.old) (D.left_since disk.new) }
-    ensures stop { D.stop disk.new ≡ D.stop disk.old }
     ensures stopped { IsStopped (D.stop disk.old) → IsErrOf result LogFault.DiskFault }
-    ensures tells { D.tells disk.new ≡ D.tells disk.old }
-    ensures cause { HasCause (D.faults disk.old) (D.faults disk.new) (IsErrOf result LogFault.DiskFault) }
+    ensures reads { OnlyReads D.Disk disk.old disk.new (IsErrOf result LogFault.DiskFault) }
 {
     let len = match disk.len(FileNo::Log) {
         LenEnd::Known(len) => len as usize,
@@ -98,32 +90,17 @@ pub fn read_log<D: Disk>(alloc: Global, disk: &mut D) -> Result<LogState, LogFau
 pub fn keep_log<D: Disk>(_alloc: Global, disk: &mut D, log: &[u8]) -> Result<(), LogFault>
     requires header { 4 ≤ length log.now }
     requires empty { IfSome (D.files disk.old) (λ fs. fs.log ≡ []) }
-    ensures kept { OnOk result (D.files disk.new ≡ option_map (with_log (closed log.now)) (D.files disk.old)) }
-    ensures durable { OnOk result (IfSome (D.files disk.old) (λ _.
-        Follows (λ d c. c ≡ with_log (closed log.now) d) (D.may_leave disk.old) (D.may_leave disk.new))) }
+    ensures kept { OnOk result (KeepsLog D.Disk log.now disk.old disk.new) }
     // A crash at any moment of the call leaves a discarded log.
     ensures moments { IfSome (D.files disk.old) (λ _. OnlyIn FileNo.Log [] (D.may_leave disk.old)
         → LeavesOnly D.steps D.left_since disk.old disk.new (After HasDiscarded (D.may_leave disk.old))) }
     // Each crash since the first sync, the second step, leaves a closed gate, also where a later step failed.
     ensures since_sync { IfSome (D.files disk.old) (λ _. D.steps disk.old + 3 ≤ D.steps disk.new
         → (c : Files) → D.left_since disk.new (D.steps disk.old + 2) c → BeginsWithZero c.log) }
-    ensures settled { OnOk result (IsSettled (D.files disk.old) (D.may_leave disk.old)
-        → IsSettled (D.files disk.new) (D.may_leave disk.new)) }
-    ensures steps { OnOk result (D.steps disk.new ≡ D.steps disk.old + 4) }
-    ensures at_most { RisesAtMost 4 (D.steps disk.old) (D.steps disk.new) }
-    ensures room { KeepsRoom (D.room disk.old) (D.room disk.new) }
-    ensures reserved { OnOk result (length log.now ≤ D.room disk.new FileNo.Log) }
-    ensures stop { OnOk result (D.stop disk.new ≡ after_changes 4 (D.stop disk.old)) }
-    ensures advances { Advances (D.steps disk.old) (D.steps disk.new) (D.stop disk.old) (D.stop disk.new) }
     ensures stopped { IsStopped (D.stop disk.new) → ¬ IsErrOf result LogFault.NoMemory → IsErrOf result LogFault.DiskFault }
-    ensures tells { D.tells disk.new ≡ D.tells disk.old }
-    ensures cause { HasCause (D.faults disk.old) (D.faults disk.new) (IsErrOf result LogFault.DiskFault) }
     ensures no_memory { IsErrOf result LogFault.NoMemory → D.room disk.old FileNo.Log < length log.now }
-    ensures stop_stays { IsErrOf result LogFault.NoMemory → D.stop disk.new ≡ D.stop disk.old }
-    ensures unchanged { IsErrOf result LogFault.NoMemory → (D.files disk.new ≡ D.files disk.old)
-        × (D.steps disk.new ≡ D.steps disk.old) × (D.faults disk.new ≡ D.faults disk.old)
-        × LeavesSame (D.may_leave disk.old) (D.may_leave disk.new)
-        (D.left_since disk.old) (D.left_since disk.new) }
+    ensures unchanged { IsErrOf result LogFault.NoMemory → OnlyReserves D.Disk disk.old disk.new }
+    ensures changes { ChangesAtMost D.Disk FileNo.Log 4 disk.old disk.new (IsErrOf result LogFault.DiskFault) }
 {
     if let RoomEnd::NoMemory = disk.reserve(FileNo::Log, log.len() as u64) {
         return Err(LogFault::NoMemory);
@@ -138,28 +115,16 @@ pub fn keep_log<D: Disk>(_alloc: Global, disk: &mut D, log: &[u8]) -> Result<(),
 pub fn open_gate<D: Disk>(disk: &mut D) -> Result<(), LogFault>
     requires there { IfSome (D.files disk.old) (λ fs. 4 ≤ length fs.log) }
     requires fits { D.files disk.old ≡ None → 4 ≤ D.room disk.old FileNo.Log }
-    ensures gate { OnOk result (D.files disk.new ≡ option_map (gate_set 100) (D.files disk.old)) }
-    ensures durable { OnOk result (IfSome (D.files disk.old) (λ fs.
-        OnlyIn FileNo.Log (with_gate 100 fs.log) (D.may_leave disk.new))) }
-    ensures left { OnOk result (IfSome (D.files disk.old) (λ _.
-        Follows (λ d c. c ≡ gate_set 100 d) (D.may_leave disk.old) (D.may_leave disk.new))) }
-    ensures settled { OnOk result (IsSettled (D.files disk.old) (D.may_leave disk.old)
-        → IsSettled (D.files disk.new) (D.may_leave disk.new)) }
+    ensures set { OnOk result (SetsGate D.Disk 100 disk.old disk.new) }
     // A crash at any moment of the call leaves the gate as it was, or with any byte.
     ensures moments { LeavesOnly D.steps D.left_since disk.old disk.new (After HasAnyGate (D.may_leave disk.old)) }
     // Over a log that was kept, it leaves that log committed, or a discarded one.
     ensures either { (log : List ℕ) (changes : List Change) (version : Version) → IsCommitted log changes version
         → OnlyIn FileNo.Log (closed log) (D.may_leave disk.old)
         → LeavesOnly D.steps D.left_since disk.old disk.new (After (HasLogOrNone log) (D.may_leave disk.old)) }
-    ensures steps { OnOk result (D.steps disk.new ≡ D.steps disk.old + 2) }
-    ensures at_most { RisesAtMost 2 (D.steps disk.old) (D.steps disk.new) }
-    ensures room { KeepsRoom (D.room disk.old) (D.room disk.new) }
-    ensures stop { OnOk result (D.stop disk.new ≡ after_changes 2 (D.stop disk.old)) }
-    ensures advances { Advances (D.steps disk.old) (D.steps disk.new) (D.stop disk.old) (D.stop disk.new) }
     ensures stopped { IsStopped (D.stop disk.new) → IsErrOf result LogFault.DiskFault }
-    ensures tells { D.tells disk.new ≡ D.tells disk.old }
-    ensures cause { HasCause (D.faults disk.old) (D.faults disk.new) (IsErrOf result LogFault.DiskFault) }
     ensures no_memory { ¬ IsErrOf result LogFault.NoMemory }
+    ensures changes { ChangesAtMost D.Disk FileNo.Log 2 disk.old disk.new (IsErrOf result LogFault.DiskFault) }
 {
     set_gate(disk, OPEN)
 }
@@ -168,27 +133,15 @@ pub fn open_gate<D: Disk>(disk: &mut D) -> Result<(), LogFault>
 pub fn close_gate<D: Disk>(disk: &mut D) -> Result<(), LogFault>
     requires there { IfSome (D.files disk.old) (λ fs. 4 ≤ length fs.log) }
     requires fits { D.files disk.old ≡ None → 4 ≤ D.room disk.old FileNo.Log }
-    ensures gate { OnOk result (D.files disk.new ≡ option_map (gate_set 0) (D.files disk.old)) }
-    ensures durable { OnOk result (IfSome (D.files disk.old) (λ fs.
-        OnlyIn FileNo.Log (with_gate 0 fs.log) (D.may_leave disk.new))) }
-    ensures left { OnOk result (IfSome (D.files disk.old) (λ _.
-        Follows (λ d c. c ≡ gate_set 0 d) (D.may_leave disk.old) (D.may_leave disk.new))) }
-    ensures settled { OnOk result (IsSettled (D.files disk.old) (D.may_leave disk.old)
-        → IsSettled (D.files disk.new) (D.may_leave disk.new)) }
+    ensures set { OnOk result (SetsGate D.Disk 0 disk.old disk.new) }
     // A crash at any moment of the call leaves the gate as it was, or with any byte.
     ensures moments { LeavesOnly D.steps D.left_since disk.old disk.new (After HasAnyGate (D.may_leave disk.old)) }
     // Over a log with an open gate, it leaves that log, or a discarded one.
     ensures either { (log : List ℕ) → IsOpen log → OnlyIn FileNo.Log log (D.may_leave disk.old)
         → LeavesOnly D.steps D.left_since disk.old disk.new (After (HasLogOrNone log) (D.may_leave disk.old)) }
-    ensures steps { OnOk result (D.steps disk.new ≡ D.steps disk.old + 2) }
-    ensures at_most { RisesAtMost 2 (D.steps disk.old) (D.steps disk.new) }
-    ensures room { KeepsRoom (D.room disk.old) (D.room disk.new) }
-    ensures stop { OnOk result (D.stop disk.new ≡ after_changes 2 (D.stop disk.old)) }
-    ensures advances { Advances (D.steps disk.old) (D.steps disk.new) (D.stop disk.old) (D.stop disk.new) }
     ensures stopped { IsStopped (D.stop disk.new) → IsErrOf result LogFault.DiskFault }
-    ensures tells { D.tells disk.new ≡ D.tells disk.old }
-    ensures cause { HasCause (D.faults disk.old) (D.faults disk.new) (IsErrOf result LogFault.DiskFault) }
     ensures no_memory { ¬ IsErrOf result LogFault.NoMemory }
+    ensures changes { ChangesAtMost D.Disk FileNo.Log 2 disk.old disk.new (IsErrOf result LogFault.DiskFault) }
 {
     set_gate(disk, CLOSED)
 }
@@ -206,13 +159,8 @@ fn put_synced<D: Disk>(disk: &mut D, at: u64, bytes: &[u8]) -> DiskEnd
     ensures moments { LeavesOnly D.steps D.left_since disk.old disk.new
         (After (InFile FileNo.Log (Torn at (length bytes.now))) (D.may_leave disk.old)) }
     ensures steps { OnDone result (D.steps disk.new ≡ D.steps disk.old + 2) }
-    ensures at_most { RisesAtMost 2 (D.steps disk.old) (D.steps disk.new) }
-    ensures room { KeepsRoom (D.room disk.old) (D.room disk.new) }
-    ensures stop { OnDone result (D.stop disk.new ≡ after_changes 2 (D.stop disk.old)) }
-    ensures advances { Advances (D.steps disk.old) (D.steps disk.new) (D.stop disk.old) (D.stop disk.new) }
     ensures stopped { IsStopped (D.stop disk.new) → result ≡ DiskEnd.Failed }
-    ensures tells { D.tells disk.new ≡ D.tells disk.old }
-    ensures cause { HasCause (D.faults disk.old) (D.faults disk.new) (result ≡ DiskEnd.Failed) }
+    ensures changes { ChangesAtMost D.Disk FileNo.Log 2 disk.old disk.new (result ≡ DiskEnd.Failed) }
 {
     match disk.write_at(FileNo::Log, at, bytes) {
         DiskEnd::Done => disk.sync(FileNo::Log),
@@ -233,13 +181,8 @@ fn put_closed<D: Disk>(disk: &mut D, log: &[u8]) -> DiskEnd
     ensures since_sync { IfSome (D.files disk.old) (λ _. D.steps disk.old + 3 ≤ D.steps disk.new
         → (c : Files) → D.left_since disk.new (D.steps disk.old + 2) c → BeginsWithZero c.log) }
     ensures steps { OnDone result (D.steps disk.new ≡ D.steps disk.old + 4) }
-    ensures at_most { RisesAtMost 4 (D.steps disk.old) (D.steps disk.new) }
-    ensures room { KeepsRoom (D.room disk.old) (D.room disk.new) }
-    ensures stop { OnDone result (D.stop disk.new ≡ after_changes 4 (D.stop disk.old)) }
-    ensures advances { Advances (D.steps disk.old) (D.steps disk.new) (D.stop disk.old) (D.stop disk.new) }
     ensures stopped { IsStopped (D.stop disk.new) → result ≡ DiskEnd.Failed }
-    ensures tells { D.tells disk.new ≡ D.tells disk.old }
-    ensures cause { HasCause (D.faults disk.old) (D.faults disk.new) (result ≡ DiskEnd.Failed) }
+    ensures changes { ChangesAtMost D.Disk FileNo.Log 4 disk.old disk.new (result ≡ DiskEnd.Failed) }
 {
     let (_, rest) = log.split_at(WORD);
     match put_synced(disk, 0, &[0; WORD]) {
@@ -252,23 +195,11 @@ fn put_closed<D: Disk>(disk: &mut D, log: &[u8]) -> DiskEnd
 fn set_gate<D: Disk>(disk: &mut D, byte: u8) -> Result<(), LogFault>
     requires there { IfSome (D.files disk.old) (λ fs. 4 ≤ length fs.log) }
     requires fits { D.files disk.old ≡ None → 4 ≤ D.room disk.old FileNo.Log }
-    ensures gate { OnOk result (D.files disk.new ≡ option_map (gate_set byte) (D.files disk.old)) }
-    ensures durable { OnOk result (IfSome (D.files disk.old) (λ fs.
-        OnlyIn FileNo.Log (with_gate byte fs.log) (D.may_leave disk.new))) }
-    ensures left { OnOk result (IfSome (D.files disk.old) (λ _.
-        Follows (λ d c. c ≡ gate_set byte d) (D.may_leave disk.old) (D.may_leave disk.new))) }
-    ensures settled { OnOk result (IsSettled (D.files disk.old) (D.may_leave disk.old)
-        → IsSettled (D.files disk.new) (D.may_leave disk.new)) }
+    ensures set { OnOk result (SetsGate D.Disk byte disk.old disk.new) }
     ensures moments { LeavesOnly D.steps D.left_since disk.old disk.new (After HasAnyGate (D.may_leave disk.old)) }
-    ensures steps { OnOk result (D.steps disk.new ≡ D.steps disk.old + 2) }
-    ensures at_most { RisesAtMost 2 (D.steps disk.old) (D.steps disk.new) }
-    ensures room { KeepsRoom (D.room disk.old) (D.room disk.new) }
-    ensures stop { OnOk result (D.stop disk.new ≡ after_changes 2 (D.stop disk.old)) }
-    ensures advances { Advances (D.steps disk.old) (D.steps disk.new) (D.stop disk.old) (D.stop disk.new) }
     ensures stopped { IsStopped (D.stop disk.new) → IsErrOf result LogFault.DiskFault }
-    ensures tells { D.tells disk.new ≡ D.tells disk.old }
-    ensures cause { HasCause (D.faults disk.old) (D.faults disk.new) (IsErrOf result LogFault.DiskFault) }
     ensures no_memory { ¬ IsErrOf result LogFault.NoMemory }
+    ensures changes { ChangesAtMost D.Disk FileNo.Log 2 disk.old disk.new (IsErrOf result LogFault.DiskFault) }
 {
     match put_synced(disk, GATE, &[byte]) {
         DiskEnd::Done => Ok(()),

@@ -1,4 +1,4 @@
-use Rattle.ubik_log.proofs.Moments.{widened}
+use Rattle.disk_base.proofs.Runs.{widened}
 use Rattle.ubik_log.proofs.TornGates.{either_kept}
 use Rattle.ubik_log.proofs.disk_logs.open_gate.Goals as goal
 

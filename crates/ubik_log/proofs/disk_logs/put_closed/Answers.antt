@@ -1,6 +1,5 @@
-use Rattle.std.proofs.Common.{◌∙◌, length}
-use Rattle.disk_base.proofs.Stopping.{advances_joined}
-use Rattle.ubik_log.proofs.Moments.{widened, joined}
+use Rattle.std.proofs.Common.{◌∙◌, length, arith}
+use Rattle.disk_base.proofs.Runs.{widened, joined, changes_joined, changes_as}
 use Rattle.ubik_log.proofs.KeptLogs.{on_done, told_or_not, under, kept, durable, first_run, zero_only, second_run}
 use Rattle.ubik_log.proofs.disk_logs.put_closed.Goals as goal
 
@@ -29,5 +28,8 @@ returns-in-Failed-clause-moments g c =
     let before = g.D.Disk.may_leave c.args.disk.now in
     told_or_not (g.D.Disk.files c.args.disk.now) _ (λ only. widened g.D.Disk.steps g.D.Disk.left_since _ _ _ _ (first_run before only) c.put_synced.ensures.moments)
 
-pub returns-in-Done-clause-advances : goal.returns-in-Done-clause-advances
-returns-in-Done-clause-advances g c = advances_joined c.put_synced.ensures.advances c.put_synced-in-Done.ensures.advances
+pub returns-in-Done-clause-changes : goal.returns-in-Done-clause-changes
+returns-in-Done-clause-changes g c = changes_joined c.in-Done.ensures.changes (λ failed. absurd cc) c.put_synced-in-Done.ensures.changes
+
+pub returns-in-Failed-clause-changes : goal.returns-in-Failed-clause-changes
+returns-in-Failed-clause-changes g c = changes_as (omega arith) (λ failed. failed) (λ failed. failed) c.in-Failed.ensures.changes

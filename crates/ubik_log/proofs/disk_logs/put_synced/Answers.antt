@@ -1,9 +1,9 @@
-use Rattle.std.proofs.Common.{length}
+use Rattle.std.proofs.Common.{◌≡◌, length, rules, arith}
 use Rattle.disk_base.specs.declared.disks.FileNo.TheVariants.{Log}
-use Rattle.disk_base.specs.Crash.{Torn, InFile}
-use Rattle.disk_base.proofs.Stopping.{advances_one, advances_joined}
-use Rattle.ubik_log.specs.LogFile.{After}
-use Rattle.ubik_log.proofs.Moments.{untouched, called, joined}
+use Rattle.disk_base.specs.declared.disks.DiskEnd.TheVariants.{Failed}
+use Rattle.disk_base.specs.Crash.{Torn, InFile, After}
+use Rattle.disk_base.specs.Runs.{Writes, Syncs}
+use Rattle.disk_base.proofs.Runs.{untouched, called, joined, write_changes, sync_changes, changes_joined, changes_as}
 use Rattle.ubik_log.proofs.disk_logs.put_synced.Goals as goal
 
 pub returns-in-Done-clause-moments : goal.returns-in-Done-clause-moments
@@ -16,10 +16,17 @@ returns-in-Done-clause-moments g c =
     let P = After (InFile Log (Torn c.args.at (length c.args.bytes.now))) (disk.may_leave old) in
     joined disk.steps disk.left_since old mid new P
     (called disk.steps disk.left_since old mid P (disk.may_leave old) (disk.may_leave mid) c.write_at.ensures.steps c.write_at.ensures.time (disk.only_now old)
-    (untouched c.args.at (length c.args.bytes.now) (disk.may_leave old)) torn)
+    (untouched Log c.args.at (length c.args.bytes.now) (disk.may_leave old)) torn)
     (called disk.steps disk.left_since mid new P (disk.may_leave mid) (disk.may_leave new) c.sync.ensures.steps c.sync.ensures.time (disk.only_now mid)
     torn (λ files left. torn files (c.sync.ensures.crash files left)))
 
-pub returns-in-Done-clause-advances : goal.returns-in-Done-clause-advances
-returns-in-Done-clause-advances g c =
-    advances_joined (advances_one c.write_at.ensures.steps c.write_at.ensures.stop) (advances_one c.sync.ensures.steps c.sync.ensures.stop)
+pub returns-in-Done-clause-changes : goal.returns-in-Done-clause-changes
+returns-in-Done-clause-changes g c =
+    let write : Writes g.D.Disk Log c.args.at c.args.bytes.now c.args.disk.now c.write_at.new.self (c.write_at.result ≡ Failed) = search rules in
+    let sync : Syncs g.D.Disk Log c.write_at.new.self c.sync.new.self (c.sync.result ≡ Failed) = search rules in
+    changes_joined (write_changes write) (λ failed. absurd cc) (sync_changes sync)
+
+pub returns-in-Failed-clause-changes : goal.returns-in-Failed-clause-changes
+returns-in-Failed-clause-changes g c =
+    let write : Writes g.D.Disk Log c.args.at c.args.bytes.now c.args.disk.now c.write_at.new.self (c.write_at.result ≡ Failed) = search rules in
+    changes_as (omega arith) (λ failed. cc) (λ failed. cc) (write_changes write)

@@ -1,7 +1,7 @@
 use Rattle.std.proofs.Common.{◌≡◌, ◌≤◌, ℕ, Option, Some, None, IfSome, length, refl, arith}
 use Rattle.disk_base.specs.declared.disks.FileNo.TheVariants.{Log}
 use Rattle.disk_base.specs.Files.{Files}
-use Rattle.ubik_log.proofs.Moments.{widened}
+use Rattle.disk_base.proofs.Runs.{widened}
 use Rattle.ubik_log.proofs.TornGates.{left_gate}
 use Rattle.ubik_log.proofs.disk_logs.set_gate.Goals as goal
 

@@ -1,4 +1,5 @@
 use Rattle.std.proofs.Common.{sym, refl, ◌∙◌, arith}
+use Rattle.std.proofs.lemmas.Bool.{false≢true}
 use Rattle.page_file.specs.Label.{IsHeadOf}
 use Rattle.page_file.proofs.Opening.{moved, empty_version, found_version, refused_head, found_agrees}
 use Rattle.page_file.proofs.pages.Pages.open.Goals as goal
@@ -9,17 +10,17 @@ returns-then-len-eq0-clause-version g c = empty_version _ _ c.if-len-eq0.true c.
 pub returns-in-Some-clause-version : goal.returns-in-Some-clause-version
 returns-in-Some-clause-version g c =
     found_version _ _ _ _ (omega arith) c.in_ok-len.ensures.told
-    (moved (λ fs. IsHeadOf c.in_ok-head.head fs.database) _ _ c.in_ok-len.ensures.files c.in_ok-head.ensures.head)
+    (moved (λ fs. IsHeadOf c.in_ok-head.head fs.database) _ _ (c.in_ok-len.ensures.reads.files false≢true) c.in_ok-head.ensures.head)
     (sym c.in-Some.ensures.version)
 
 pub returns-in-Some-clause-agrees : goal.returns-in-Some-clause-agrees
 returns-in-Some-clause-agrees g c =
-    found_agrees _ _ _ _ _ (c.in_ok-head.ensures.files ∙ c.in_ok-len.ensures.files) (c.in-Some.ensures.labelled refl) (c.in-Some.ensures.fits refl) c.in_ok-len.ensures.told
-    (moved (λ fs. IsHeadOf c.in_ok-head.head fs.database) _ _ c.in_ok-len.ensures.files c.in_ok-head.ensures.head)
+    found_agrees _ _ _ _ _ (c.in_ok-head.ensures.reads.files false≢true ∙ c.in_ok-len.ensures.reads.files false≢true) (c.in-Some.ensures.labelled refl) (c.in-Some.ensures.fits refl) c.in_ok-len.ensures.told
+    (moved (λ fs. IsHeadOf c.in_ok-head.head fs.database) _ _ (c.in_ok-len.ensures.reads.files false≢true) c.in_ok-head.ensures.head)
     (sym c.in-Some.ensures.version)
 
 pub returns-in-None-clause-refused : goal.returns-in-None-clause-refused
 returns-in-None-clause-refused g c =
     refused_head _ _ _ (omega arith) c.in_ok-len.ensures.told
-    (moved (λ fs. IsHeadOf c.in_ok-head.head fs.database) _ _ c.in_ok-len.ensures.files c.in_ok-head.ensures.head)
+    (moved (λ fs. IsHeadOf c.in_ok-head.head fs.database) _ _ (c.in_ok-len.ensures.reads.files false≢true) c.in_ok-head.ensures.head)
     (sym c.version_of_file.ensures.version ∙ c.in-None.is)
