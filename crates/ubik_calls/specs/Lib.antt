@@ -1,1 +1,4 @@
+pub mod Fields
+pub mod Laws
 pub mod Length
+pub mod WireGrammar

@@ -3,11 +3,13 @@
 #![tactic(auto)]
 
 mod frames;
+mod laws;
 mod lengths;
 mod packets;
 mod replies;
 
 pub use frames::{Frame, FrameFault};
+pub use laws::packets_are_as_long_as_said;
 pub use lengths::packet_len;
 pub use packets::{Body, MAX_PIECE, MAX_PIECES, Packet};
 pub use replies::{DebugIs, Reply};
