@@ -1,1 +1,2 @@
 mod PacketLength
+pub mod Written

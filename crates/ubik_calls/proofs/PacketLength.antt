@@ -11,10 +11,12 @@ use Rattle.ubik_calls.specs.WireGrammar.{body_fields}
 use Rattle.ubik_calls.specs.Laws.{PacketsAreSoLong}
 
 length-piece : (bytes : List ℕ) → length (spelled (field.Piece bytes ∷ [])) ≡ opaque_len (length bytes)
+unfolding spelled field.field_spelling
 length-piece bytes =
     omega (arith, length-append (opaque bytes) [], length-append (word (length bytes) ++ bytes) (replicate (padding (length bytes)) 0), length-append (word (length bytes)) bytes, length-replicate {A = ℕ} (padding (length bytes)) 0)
 
 length-body : (body : Body) → length (spelled (body_fields body)) ≡ body_length body
+unfolding spelled field.field_spelling
 length-body (Beacon start claim ready version) = refl
 length-body (Vote start granted) = refl
 length-body (GetVersion poll) = refl
@@ -31,4 +33,5 @@ length-body (Abort new) = refl
 length-body (VersionKept version) = refl
 
 pub packets_are_so_long : PacketsAreSoLong
+unfolding spelled field.field_spelling
 packets_are_so_long p = omega (arith, length-body p.body)

@@ -1,5 +1,5 @@
 -- The fields of a frame and how each is spelled (RFC 4506; that a version has words below 2^31 is own).
-use Rattle.std.specs.Prelude.{ℕ, ◌<◌, ◌≤◌, ◌^◌, ◌/◌, ◌%◌, Bool, List, [], ◌∷◌, ◌++◌, length}
+use Rattle.std.specs.Prelude.{◌≡◌, ℕ, ◌<◌, ◌≤◌, ◌^◌, ◌/◌, ◌%◌, Bool, List, [], ◌∷◌, ◌++◌, length}
 use Rattle.ubik_types.specs.declared.phases.Phase.{Phase}
 use Rattle.ubik_types.specs.declared.phases.Phase.TheVariants as phase
 use Rattle.ubik_types.specs.declared.versions.Version.{Version}
@@ -28,7 +28,7 @@ phase_number phase.Send = 4
 phase_number phase.Ready = 5
 
 -- a number of 64 bits is two words, the high one first; a version is its epoch and its counter
-abbrev pub field_spelling : Field → List ℕ
+unfoldable pub field_spelling : Field → List ℕ
 field_spelling (Number n) = word n
 field_spelling (Long n) = word (n / 2 ^ 32) ++ word (n % 2 ^ 32)
 field_spelling (Truth b) = truth b
@@ -38,7 +38,7 @@ field_spelling (Piece bytes) = opaque bytes
 field_spelling (AsTheyAre bytes) = bytes
 
 -- fields stand one after the other, with nothing between them
-abbrev pub spelled : List Field → List ℕ
+unfoldable pub spelled : List Field → List ℕ
 spelled [] = []
 spelled (field ∷ fields) = field_spelling field ++ spelled fields
 
@@ -53,3 +53,7 @@ abbrev pub IsOfItsBits : Field → Type 0
 IsOfItsBits (Number n) = n < 2 ^ 32
 IsOfItsBits (Long n) = n < 2 ^ 64
 IsOfItsBits _ = Unit {0}
+
+-- Behind the old text the new one has these fields.
+pub record Wrote (old : List ℕ) (fields : List Field) (new : List ℕ) : Type 0 where
+  pub text_is : new ≡ old ++ spelled fields

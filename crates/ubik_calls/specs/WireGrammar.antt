@@ -7,6 +7,7 @@ use Rattle.ubik_calls.specs.declared.frames.Frame.{Frame}
 use Rattle.ubik_calls.specs.declared.frames.Frame.TheVariants as frame
 use Rattle.ubik_calls.specs.declared.packets.Body.{Body}
 use Rattle.ubik_calls.specs.declared.packets.Body.TheVariants.{Beacon, Vote, GetVersion, VersionIs, GetPiece, Piece, SendPiece, PieceKept, SetVersion, Begin, PutPiece, Commit, Abort, VersionKept}
+use Rattle.ubik_calls.specs.declared.replies.DebugIs.{DebugIs}
 use Rattle.ubik_calls.specs.declared.replies.Reply.{Reply}
 use Rattle.ubik_calls.specs.declared.replies.Reply.TheVariants as reply
 use Rattle.xdr_base.specs.Spelling.{word}
@@ -62,15 +63,18 @@ reply_fields reply.DiskFault = Number 7 ∷ []
 reply_fields reply.NoMemory = Number 8 ∷ []
 reply_fields (reply.BadRecord place) = Number 9 ∷ Number place ∷ []
 
+abbrev pub debug_fields : DebugIs → List Field
+debug_fields is =
+    Number is.host.0 ∷ Number is.now ∷ VersionOf is.version ∷ PhaseOf is.phase
+    ∷ Number is.until ∷ Number is.sync.0 ∷ Number is.voted.0 ∷ Number is.voted_at ∷ []
+
 -- a frame: its kind, then its fields; an absent host and the end of an absent lease are 0
 abbrev pub frame_fields : Frame → List Field
 frame_fields (frame.Packet p) = Number 0 ∷ Number (packet_kind p.body) ∷ Number p.from.0 ∷ Number p.to.0 ∷ body_fields p.body
 frame_fields (frame.Ask number call) = Number 1 ∷ Number number ∷ AsTheyAre call ∷ []
 frame_fields (frame.Reply number reply) = Number 2 ∷ Number number ∷ reply_fields reply
 frame_fields (frame.Debug number) = Number 3 ∷ Number number ∷ []
-frame_fields (frame.DebugIs number is) =
-    Number 4 ∷ Number number ∷ Number is.host.0 ∷ Number is.now ∷ VersionOf is.version ∷ PhaseOf is.phase
-    ∷ Number is.until ∷ Number is.sync.0 ∷ Number is.voted.0 ∷ Number is.voted_at ∷ []
+frame_fields (frame.DebugIs number is) = Number 4 ∷ Number number ∷ debug_fields is
 
 -- what follows the length, and the whole frame
 abbrev pub behind_length : Frame → List ℕ
@@ -86,3 +90,13 @@ pub record HasSpelling (f : Frame) : Type 0 where
 
 abbrev pub HasItsBits : Frame → Type 0
 HasItsBits f = AllByRecursion IsOfItsBits (frame_fields f)
+
+abbrev pub answer_of : Reply → List ℕ
+answer_of (reply.Ok answer) = answer
+answer_of _ = []
+
+-- the bytes at the end of a frame that are no field of a length of its own: a call, or the answer to one
+abbrev pub as_it_is : Frame → List ℕ
+as_it_is (frame.Ask number call) = call
+as_it_is (frame.Reply number reply) = answer_of reply
+as_it_is _ = []
