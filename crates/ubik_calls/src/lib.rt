@@ -3,6 +3,7 @@
 #![tactic(auto)]
 
 mod frames;
+mod kinds;
 mod laws;
 mod lengths;
 mod packets;
@@ -10,7 +11,7 @@ mod replies;
 mod writing;
 
 pub use frames::{Frame, FrameFault};
-pub use laws::packets_are_as_long_as_said;
+pub use laws::{no_frame_begins_another, packets_are_as_long_as_said};
 pub use lengths::packet_len;
 pub use packets::{Body, MAX_PIECE, MAX_PIECES, Packet};
 pub use replies::{DebugIs, Reply};
