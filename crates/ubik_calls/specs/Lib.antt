@@ -1,1 +1,5 @@
+pub mod Fields
+pub mod Laws
 pub mod Length
+pub mod Reading
+pub mod WireGrammar

@@ -3,11 +3,19 @@
 #![tactic(auto)]
 
 mod frames;
+mod kinds;
+mod laws;
 mod lengths;
 mod packets;
 mod replies;
+mod writing;
 
 pub use frames::{Frame, FrameFault};
+pub use laws::{no_frame_begins_another, packets_are_as_long_as_said};
 pub use lengths::packet_len;
 pub use packets::{Body, MAX_PIECE, MAX_PIECES, Packet};
 pub use replies::{DebugIs, Reply};
+pub use writing::encode;
+
+#[cfg(test)]
+mod tests;

@@ -27,11 +27,19 @@ pub enum Body {
         version: Version,
     },
     /// The answer to the beacon of that start.
-    Vote { start: u32, yes: bool },
+    Vote {
+        start: u32,
+        yes: bool,
+    },
     /// Asks for the version of a database.
-    GetVersion { poll: u32 },
+    GetVersion {
+        poll: u32,
+    },
     /// The version of the sender's database.
-    VersionIs { poll: u32, version: Version },
+    VersionIs {
+        poll: u32,
+        version: Version,
+    },
     /// Asks for the image of a version, from a place on.
     GetPiece {
         poll: u32,
@@ -81,9 +89,16 @@ pub enum Body {
         bytes: Bytes,
     },
     /// A write of which all pieces were sent is to be committed.
-    Commit { old: Version, new: Version },
+    Commit {
+        old: Version,
+        new: Version,
+    },
     /// A write is given up.
-    Abort { new: Version },
+    Abort {
+        new: Version,
+    },
     /// The sender's database is the one of this version.
-    VersionKept { version: Version },
+    VersionKept {
+        version: Version,
+    },
 }

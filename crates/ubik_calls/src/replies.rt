@@ -16,17 +16,26 @@ pub enum Reply {
         applied: Applied,
     },
     /// Another server is the sync site: its host, and when it was heard, in seconds.
-    NotSync { host: Host, heard: u32 },
+    NotSync {
+        host: Host,
+        heard: u32,
+    },
     /// The line of those who wait for the write in flight is full; the id of the call that made that write.
-    LineFull { holder: u32 },
+    LineFull {
+        holder: u32,
+    },
     /// The changes of the call, or the image that it would make, have more bytes than they may have.
-    TooLarge { bytes: u64 },
+    TooLarge {
+        bytes: u64,
+    },
     /// The bytes are no call.
     Malformed,
     /// The server's disk failed, now or before.
     DiskFault,
     /// The image stands for no state of the database; where that showed, in bytes.
-    BadRecord { at: u32 },
+    BadRecord {
+        at: u32,
+    },
     /// Memory ran out, and the call was not evaluated.
     NoMemory,
 }

@@ -1,0 +1,5 @@
+pub mod FrameBack
+mod NoneBegins
+mod PacketLength
+pub mod ReadBack
+pub mod Written

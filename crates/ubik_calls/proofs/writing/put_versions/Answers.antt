@@ -1,0 +1,5 @@
+use Rattle.ubik_calls.proofs.Written.{wrote_last}
+use Rattle.ubik_calls.proofs.writing.put_versions.Goals as goal
+
+pub returns : goal.returns
+returns c = wrote_last _ _ _ _ _ _ c.in_ok-put_version.ensures c.put_version-2.ensures
