@@ -97,5 +97,9 @@ module _ {D : Type 0} (clock number : ℕ) (e : NodeEvent) (before : Node D PrSe
       world_reads (files after.disk) clock (node_of before) (Some r) here
       (for_all (ReadsAs (node_of after)) (ReadsAs (node_of before)) (files after.disk) (same_reads (node_of before) (node_of after) same) (node_reads files faults after has none)))
   site_short files faults after has (inr (seen, step)) =
-      inr (there, up, λ none.
-      world_reads (files after.disk) clock (node_of after) (Some (run_after protection r (event_at Sound r number e))) (stands_after Sound (node_of after) seen step) (node_reads files faults after has none))
+      inr (
+        there,
+        up,
+        λ none.
+            world_reads (files after.disk) clock (node_of after) (Some (run_after protection r (event_at Sound r number e))) (stands_after Sound (node_of after) seen step) (node_reads files faults after has none),
+      )
