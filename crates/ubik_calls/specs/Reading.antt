@@ -1,5 +1,6 @@
 -- What bytes are read as: a frame, or the first fault from left to right.
-use Rattle.std.specs.Prelude.{◌≡◌, ℕ, ◌+◌, ◌-◌, ◌*◌, ◌^◌, Bool, true, false, List, length, Result, Ok, Err, nat_lt, ◌==◌, ◌&&◌, min, if◌then◌else◌}
+use Rattle.std.specs.Prelude.{◌∷◌, ◌≡◌, ℕ, ◌+◌, ◌-◌, ◌*◌, ◌^◌, Bool, true, false, List, [], ◌++◌, length, Result, Ok, Err, nat_lt, ◌==◌, ◌&&◌, min, if◌then◌else◌}
+use Rattle.std.specs.List.{AllByRecursion}
 use Rattle.ubik_types.specs.declared.hosts.Host.{Host}
 use Rattle.ubik_types.specs.declared.phases.Applied.{Applied}
 use Rattle.ubik_types.specs.declared.phases.Applied.TheVariants.{No, Unknown}
@@ -21,6 +22,8 @@ use Rattle.ubik_calls.specs.declared.kinds.PacketKind.TheVariants as kind
 use Rattle.ubik_calls.specs.declared.replies.DebugIs.{DebugIs}
 use Rattle.ubik_calls.specs.declared.replies.Reply.{Reply}
 use Rattle.ubik_calls.specs.declared.replies.Reply.TheVariants as reply
+use Rattle.ubik_calls.specs.Fields.{Number, spelled, IsBounded}
+use Rattle.ubik_calls.specs.WireGrammar.{frame_fields, behind_length}
 
 infixl 10 ◌>>=◌
 abbrev pub ◌>>=◌ : {A B : Type 0} → Result A FrameFault → (A → Result B FrameFault) → Result B FrameFault
@@ -349,3 +352,8 @@ Gives (Err e) there = Fails e there
 abbrev pub Gets : {A : Type 0} → Reading → Result A FrameFault → Result (A × Reading) FrameFault → Type 0
 Gets new (Ok x) there = there ≡ Ok (x, new)
 Gets new (Err e) there = Fails e there
+
+-- The frame, of this kind, is spelled so behind its kind, up to the last byte.
+pub record IsBehind (from : Reading) (kind : ℕ) (f : Frame) : Type 0 where
+  pub text_is : spelled (Number kind ∷ []) ++ from.rest ≡ behind_length f
+  pub bounded : AllByRecursion IsBounded (frame_fields f)
