@@ -98,6 +98,22 @@ packet_kind_of n =
     else if n == 13 then Ok kind.Abort else if n == 14 then Ok kind.VersionKept
     else Err (fault.Kind n)
 
+abbrev pub kind_number : PacketKind → ℕ
+kind_number kind.Beacon = 1
+kind_number kind.Vote = 2
+kind_number kind.GetVersion = 3
+kind_number kind.VersionIs = 4
+kind_number kind.GetPiece = 5
+kind_number kind.Piece = 6
+kind_number kind.SendPiece = 7
+kind_number kind.PieceKept = 8
+kind_number kind.SetVersion = 9
+kind_number kind.Begin = 10
+kind_number kind.PutPiece = 11
+kind_number kind.Commit = 12
+kind_number kind.Abort = 13
+kind_number kind.VersionKept = 14
+
 unfoldable pub packet_kind_at : Reading → Result (PacketKind × Reading) FrameFault
 packet_kind_at from = do
   n ← number_at from

@@ -2,6 +2,7 @@
 //! about a server, each with the length that it has on the wire.
 #![tactic(auto)]
 
+mod bodies;
 mod fields;
 mod frames;
 mod kinds;
