@@ -1,5 +1,5 @@
 -- What bytes are read as: a frame, or the first fault from left to right.
-use Rattle.std.specs.Prelude.{◌∷◌, ◌≡◌, ℕ, ◌+◌, ◌-◌, ◌*◌, ◌^◌, Bool, true, false, List, [], ◌++◌, length, Result, Ok, Err, nat_lt, ◌==◌, ◌&&◌, min, if◌then◌else◌}
+use Rattle.std.specs.Prelude.{◌∷◌, ◌≡◌, ℕ, ◌+◌, ◌-◌, ◌*◌, ◌^◌, Bool, true, false, List, [], ◌++◌, length, drop, Result, Ok, Err, nat_lt, ◌==◌, ◌&&◌, min, if◌then◌else◌}
 use Rattle.std.specs.List.{AllByRecursion}
 use Rattle.ubik_types.specs.declared.hosts.Host.{Host}
 use Rattle.ubik_types.specs.declared.phases.Applied.{Applied}
@@ -22,8 +22,8 @@ use Rattle.ubik_calls.specs.declared.kinds.PacketKind.TheVariants as kind
 use Rattle.ubik_calls.specs.declared.replies.DebugIs.{DebugIs}
 use Rattle.ubik_calls.specs.declared.replies.Reply.{Reply}
 use Rattle.ubik_calls.specs.declared.replies.Reply.TheVariants as reply
-use Rattle.ubik_calls.specs.Fields.{Number, spelled, IsBounded}
-use Rattle.ubik_calls.specs.WireGrammar.{frame_fields, behind_length}
+use Rattle.ubik_calls.specs.Fields.{Field, Number, spelled, IsBounded}
+use Rattle.ubik_calls.specs.WireGrammar.{reply_fields, frame_fields, behind_length}
 
 infixl 10 ◌>>=◌
 abbrev pub ◌>>=◌ : {A B : Type 0} → Result A FrameFault → (A → Result B FrameFault) → Result B FrameFault
@@ -282,6 +282,22 @@ reply_at tag from =
     else if tag == 8 then Ok (reply.NoMemory, from) else if tag == 9 then bad_record_at from
     else Err (fault.Kind tag)
 
+abbrev pub reply_tag : Reply → ℕ
+reply_tag (reply.Ok answer) = 0
+reply_tag (reply.Rule number) = 1
+reply_tag (reply.NoQuorum now until phase applied) = 2
+reply_tag (reply.NotSync host heard) = 3
+reply_tag (reply.LineFull holder) = 4
+reply_tag (reply.TooLarge bytes) = 5
+reply_tag reply.Malformed = 6
+reply_tag reply.DiskFault = 7
+reply_tag reply.NoMemory = 8
+reply_tag (reply.BadRecord place) = 9
+
+-- the fields of a reply without its tag
+abbrev pub behind_tag : Reply → List Field
+behind_tag r = drop 1 (reply_fields r)
+
 unfoldable pub debug_is_at : Reading → Result (DebugIs × Reading) FrameFault
 debug_is_at from = do
   host ← host_at from
@@ -372,4 +388,9 @@ Gets new (Err e) there = Fails e there
 -- The frame, of this kind, is spelled so behind its kind, up to the last byte.
 pub record IsBehind (from : Reading) (kind : ℕ) (f : Frame) : Type 0 where
   pub text_is : spelled (Number kind ∷ []) ++ from.rest ≡ behind_length f
+  pub bounded : AllByRecursion IsBounded (frame_fields f)
+
+-- The frame is the reply of this number and tag, and is spelled so behind that tag, up to the last byte.
+pub record IsReplyBehind (from : Reading) (number tag : ℕ) (f : Frame) : Type 0 where
+  pub text_is : spelled (Number 2 ∷ Number number ∷ Number tag ∷ []) ++ from.rest ≡ behind_length f
   pub bounded : AllByRecursion IsBounded (frame_fields f)

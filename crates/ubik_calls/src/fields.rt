@@ -1,5 +1,5 @@
 //! Fields of frames, read from left to right.
-ghost use Rattle.std.specs.Prelude.{◌≡◌, ◌≤◌, ◌∷◌, [], IfOk};
+ghost use Rattle.std.specs.Prelude.{◌≡◌, ◌≤◌, ◌∷◌, [], IfOk, IsOk, length, drop};
 ghost use Rattle.ubik_calls.specs.Fields.{Number, Long, Truth, VersionOf, PhaseOf, Piece, Took, phase_number};
 ghost use Rattle.ubik_calls.specs.Reading.{Gets, Gives, number_at, long_at, flag_at, piece_at, version_word_at, version_at, phase_of, phase_at, host_at, end_at};
 
@@ -13,6 +13,8 @@ use xdr_base::XdrReader;
 pub(crate) fn number(reader: &mut XdrReader) -> Result<u32, FrameFault>
     ensures exact { Gets reader.new result (number_at reader.old) }
     ensures found { IfOk result (λ n. Took reader.old (Number n ∷ []) reader.new) }
+    ensures some { IsOk result → 4 ≤ length reader.old.rest }
+    ensures rest { IfOk result (λ _. reader.new.rest ≡ drop 4 reader.old.rest) }
 {
     Ok(reader.get_u32()?)
 }

@@ -9,13 +9,16 @@ mod kinds;
 mod laws;
 mod lengths;
 mod packets;
+mod reading;
 mod replies;
+mod tagged;
 mod writing;
 
 pub use frames::{Frame, FrameFault};
 pub use laws::{no_frame_begins_another, packets_are_as_long_as_said};
 pub use lengths::packet_len;
 pub use packets::{Body, MAX_PIECE, MAX_PIECES, Packet};
+pub use reading::decode;
 pub use replies::{DebugIs, Reply};
 pub use writing::encode;
 
