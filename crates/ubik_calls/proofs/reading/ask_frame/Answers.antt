@@ -1,4 +1,4 @@
-use Rattle.std.proofs.Common.{List, ℕ, drop, sym, ap, ◌∙◌, refl}
+use Rattle.std.proofs.Common.{drop, sym, ap, ◌∙◌, refl}
 use Rattle.std.proofs.lemmas.List.{drop-drop}
 use Rattle.ubik_calls.proofs.Taken.{behind_rest}
 use Rattle.ubik_calls.proofs.reading.ask_frame.Goals as goal

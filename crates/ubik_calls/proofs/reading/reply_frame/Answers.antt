@@ -1,7 +1,6 @@
-use Rattle.std.proofs.Common.{◌≡◌, arith, List, ℕ, drop, sym, ap, ◌∙◌, ◌∷◌, []}
+use Rattle.std.proofs.Common.{◌≡◌, arith, ℕ, drop, sym, ap, ◌∙◌, ◌∷◌, []}
 use Rattle.std.proofs.lemmas.List.{drop-drop}
-use Rattle.std.proofs.lemmas.Bool.{eqb-true}
-use Rattle.ubik_calls.specs.Fields.{Field, Number, AsTheyAre}
+use Rattle.ubik_calls.specs.Fields.{Number, AsTheyAre}
 use Rattle.ubik_calls.proofs.Taken.{behind_rest, took_then, reply_whole}
 use Rattle.ubik_calls.proofs.reading.reply_frame.Goals as goal
 
