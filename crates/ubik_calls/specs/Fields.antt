@@ -1,9 +1,11 @@
 -- The fields of a frame and how each is spelled (RFC 4506; that a version has words below 2^31 is own).
 use Rattle.std.specs.Prelude.{◌≡◌, ℕ, ◌<◌, ◌≤◌, ◌^◌, ◌/◌, ◌%◌, Bool, List, [], ◌∷◌, ◌++◌, length}
+use Rattle.std.specs.List.{AllByRecursion}
 use Rattle.ubik_types.specs.declared.phases.Phase.{Phase}
 use Rattle.ubik_types.specs.declared.phases.Phase.TheVariants as phase
 use Rattle.ubik_types.specs.declared.versions.Version.{Version}
 use Rattle.ubik_types.specs.Version.{IsVersion}
+use Rattle.xdr_base.specs.Reading.{Reading}
 use Rattle.xdr_base.specs.Spelling.{word, truth, opaque}
 
 pub data Field : Type 0 where
@@ -53,6 +55,11 @@ abbrev pub IsOfItsBits : Field → Type 0
 IsOfItsBits (Number n) = n < 2 ^ 32
 IsOfItsBits (Long n) = n < 2 ^ 64
 IsOfItsBits _ = Unit {0}
+
+-- The old reader stands before these fields, which may be sent, and the new one behind them.
+pub record Took (old : Reading) (fields : List Field) (new : Reading) : Type 0 where
+  pub text_is : old.rest ≡ spelled fields ++ new.rest
+  pub bounded : AllByRecursion IsBounded fields
 
 -- Behind the old text the new one has these fields.
 pub record Wrote (old : List ℕ) (fields : List Field) (new : List ℕ) : Type 0 where

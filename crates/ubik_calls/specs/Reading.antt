@@ -1,5 +1,6 @@
 -- What bytes are read as: a frame, or the first fault from left to right.
-use Rattle.std.specs.Prelude.{◌≡◌, ℕ, ◌+◌, ◌-◌, ◌*◌, ◌^◌, Bool, true, false, List, length, Result, Ok, Err, nat_lt, ◌==◌, ◌&&◌, min, if◌then◌else◌}
+use Rattle.std.specs.Prelude.{◌∷◌, ◌≡◌, ℕ, ◌+◌, ◌-◌, ◌*◌, ◌^◌, Bool, true, false, List, [], ◌++◌, length, drop, Result, Ok, Err, nat_lt, ◌==◌, ◌&&◌, min, if◌then◌else◌}
+use Rattle.std.specs.List.{AllByRecursion}
 use Rattle.ubik_types.specs.declared.hosts.Host.{Host}
 use Rattle.ubik_types.specs.declared.phases.Applied.{Applied}
 use Rattle.ubik_types.specs.declared.phases.Applied.TheVariants.{No, Unknown}
@@ -21,6 +22,8 @@ use Rattle.ubik_calls.specs.declared.kinds.PacketKind.TheVariants as kind
 use Rattle.ubik_calls.specs.declared.replies.DebugIs.{DebugIs}
 use Rattle.ubik_calls.specs.declared.replies.Reply.{Reply}
 use Rattle.ubik_calls.specs.declared.replies.Reply.TheVariants as reply
+use Rattle.ubik_calls.specs.Fields.{Field, Number, spelled, IsBounded}
+use Rattle.ubik_calls.specs.WireGrammar.{reply_fields, frame_fields, behind_length}
 
 infixl 10 ◌>>=◌
 abbrev pub ◌>>=◌ : {A B : Type 0} → Result A FrameFault → (A → Result B FrameFault) → Result B FrameFault
@@ -94,6 +97,22 @@ packet_kind_of n =
     else if n == 10 then Ok kind.Begin else if n == 11 then Ok kind.PutPiece else if n == 12 then Ok kind.Commit
     else if n == 13 then Ok kind.Abort else if n == 14 then Ok kind.VersionKept
     else Err (fault.Kind n)
+
+abbrev pub kind_number : PacketKind → ℕ
+kind_number kind.Beacon = 1
+kind_number kind.Vote = 2
+kind_number kind.GetVersion = 3
+kind_number kind.VersionIs = 4
+kind_number kind.GetPiece = 5
+kind_number kind.Piece = 6
+kind_number kind.SendPiece = 7
+kind_number kind.PieceKept = 8
+kind_number kind.SetVersion = 9
+kind_number kind.Begin = 10
+kind_number kind.PutPiece = 11
+kind_number kind.Commit = 12
+kind_number kind.Abort = 13
+kind_number kind.VersionKept = 14
 
 unfoldable pub packet_kind_at : Reading → Result (PacketKind × Reading) FrameFault
 packet_kind_at from = do
@@ -263,6 +282,22 @@ reply_at tag from =
     else if tag == 8 then Ok (reply.NoMemory, from) else if tag == 9 then bad_record_at from
     else Err (fault.Kind tag)
 
+abbrev pub reply_tag : Reply → ℕ
+reply_tag (reply.Ok answer) = 0
+reply_tag (reply.Rule number) = 1
+reply_tag (reply.NoQuorum now until phase applied) = 2
+reply_tag (reply.NotSync host heard) = 3
+reply_tag (reply.LineFull holder) = 4
+reply_tag (reply.TooLarge bytes) = 5
+reply_tag reply.Malformed = 6
+reply_tag reply.DiskFault = 7
+reply_tag reply.NoMemory = 8
+reply_tag (reply.BadRecord place) = 9
+
+-- the fields of a reply without its tag
+abbrev pub behind_tag : Reply → List Field
+behind_tag r = drop 1 (reply_fields r)
+
 unfoldable pub debug_is_at : Reading → Result (DebugIs × Reading) FrameFault
 debug_is_at from = do
   host ← host_at from
@@ -349,3 +384,13 @@ Gives (Err e) there = Fails e there
 abbrev pub Gets : {A : Type 0} → Reading → Result A FrameFault → Result (A × Reading) FrameFault → Type 0
 Gets new (Ok x) there = there ≡ Ok (x, new)
 Gets new (Err e) there = Fails e there
+
+-- The frame, of this kind, is spelled so behind its kind, up to the last byte.
+pub record IsBehind (from : Reading) (kind : ℕ) (f : Frame) : Type 0 where
+  pub text_is : spelled (Number kind ∷ []) ++ from.rest ≡ behind_length f
+  pub bounded : AllByRecursion IsBounded (frame_fields f)
+
+-- The frame is the reply of this number and tag, and is spelled so behind that tag, up to the last byte.
+pub record IsReplyBehind (from : Reading) (number tag : ℕ) (f : Frame) : Type 0 where
+  pub text_is : spelled (Number 2 ∷ Number number ∷ Number tag ∷ []) ++ from.rest ≡ behind_length f
+  pub bounded : AllByRecursion IsBounded (frame_fields f)

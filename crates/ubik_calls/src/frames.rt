@@ -2,7 +2,7 @@
 use crate::packets::Packet;
 use crate::replies::{DebugIs, Reply};
 use thiserror::Error;
-use ubik_types::Bytes;
+use ubik_types::{Bytes, NoMemory};
 use xdr_base::XdrFault;
 
 /// One frame. A client numbers its calls and questions, and the answer carries the number.
@@ -33,4 +33,26 @@ pub enum FrameFault {
     /// Memory ran out.
     #[error("out of memory")]
     NoMemory,
+}
+
+impl From<XdrFault> for FrameFault {
+    ghost use Rattle.std.specs.Prelude.{◌≡◌};
+    ghost use Rattle.ubik_calls.specs.declared.frames.FrameFault.TheVariants as fault;
+
+    ghost from_gives = { λ item e. e ≡ fault.Xdr item };
+
+    fn from(fault: XdrFault) -> Self {
+        FrameFault::Xdr(fault)
+    }
+}
+
+impl From<NoMemory> for FrameFault {
+    ghost use Rattle.std.specs.Prelude.{◌≡◌};
+    ghost use Rattle.ubik_calls.specs.declared.frames.FrameFault.TheVariants as fault;
+
+    ghost from_gives = { λ _ e. e ≡ fault.NoMemory };
+
+    fn from(_: NoMemory) -> Self {
+        FrameFault::NoMemory
+    }
 }

@@ -1,6 +1,6 @@
 //! The kinds of packets.
-ghost use Rattle.std.specs.Prelude.{◌≡◌};
-ghost use Rattle.ubik_calls.specs.Reading.{packet_kind_of};
+ghost use Rattle.std.specs.Prelude.{◌≡◌, IfOk};
+ghost use Rattle.ubik_calls.specs.Reading.{packet_kind_of, kind_number};
 
 use crate::frames::FrameFault;
 
@@ -25,7 +25,8 @@ pub(crate) enum PacketKind {
 
 /// The kind of this number; `Kind` where there is none.
 pub(crate) fn packet_kind_of(number: u32) -> Result<PacketKind, FrameFault>
-    ensures { result ≡ packet_kind_of number }
+    ensures exact { result ≡ packet_kind_of number }
+    ensures found { IfOk result (λ kind. number ≡ kind_number kind) }
 {
     match number {
         1 => Ok(PacketKind::Beacon),

@@ -7,6 +7,7 @@ use super::*;
 use std::alloc::Global;
 use std::test::Fail;
 use ubik_types::{Applied, Bytes, Host, NoMemory, Phase, Version, bytes_of};
+use xdr_base::XdrFault;
 
 /// Call 3 of the protection database, for the one name smith.
 const CALL: [u8; 20] = *b"\0\0\0\x03\0\0\0\x01\0\0\0\x05smith\0\0\0";
@@ -91,4 +92,122 @@ fn a_reply_of_each_tag(rt: HostRuntime) -> Result<(), Fail> {
     let bad = Reply::BadRecord { at: 64 };
     assert!(rt; is_spelled(alloc, bad, 16, b"\0\0\0\x09\0\0\0\x40")?);
     Ok(())
+}
+
+#[test]
+fn an_ask_is_read(rt: HostRuntime) -> Result<(), Fail> {
+    match decode(rt.alloc(), ASK)? {
+        Frame::Ask { number: 7, call } => assert_eq!(rt; call.as_slice(), CALL.as_slice()),
+        _ => panic!(rt; "another frame"),
+    }
+    let mut padded = ASK.to_vec(rt.alloc())?;
+    padded[31] = 1;
+    match decode(rt.alloc(), &padded)? {
+        Frame::Ask { call, .. } => assert_eq!(rt; call.as_slice(), &padded[12..]),
+        _ => panic!(rt; "another frame"),
+    }
+    let cut = fault_of(decode(rt.alloc(), &ASK[..28]));
+    assert_eq!(rt; cut, Some(FrameFault::Length { said: 28, have: 24 }));
+    Ok(())
+}
+
+/// The fault, where there is one.
+fn fault_of(read: Result<Frame, FrameFault>) -> Option<FrameFault> {
+    match read {
+        Ok(_) => None,
+        Err(fault) => Some(fault),
+    }
+}
+
+#[test]
+fn what_is_read_is_written_again(rt: HostRuntime) -> Result<(), Fail> {
+    let debug: &[u8] = b"\0\0\0\x08\0\0\0\x03\0\0\0\x07";
+    let told: &[u8] =
+        b"\0\0\0\x2c\0\0\0\x04\0\0\0\x07\x0a\0\0\x01\0\0\x04\x34\0\0\x04\x34\0\0\0\x02\0\0\0\x05\0\0\x04\x70\x0a\0\0\x01\x0a\0\0\x02\0\0\x04\x33";
+    let piece: &[u8] =
+        b"\0\0\0\x30\0\0\0\0\0\0\0\x06\x0a\0\0\x02\x0a\0\0\x01\0\0\x04\x34\0\0\0\0\0\0\0\0\0\0\0\x09\0\0\0\x04\0\0\0\x05smith\0\0\0";
+    for bytes in [ASK, BEACON, debug, told, piece] {
+        let frame = decode(rt.alloc(), bytes)?;
+        assert_eq!(rt; encode(rt.alloc(), &frame)?.as_slice(), bytes);
+    }
+    Ok(())
+}
+
+/// Bytes that are no frame, and why.
+type Refused = (&'static [u8], FrameFault);
+
+const REFUSED: [Refused; 16] = [
+    (b"\0\0\0", FrameFault::Length { said: 0, have: 0 }),
+    (
+        b"\0\0\0\x05\0\0\0\x05",
+        FrameFault::Length { said: 5, have: 4 },
+    ),
+    (
+        b"\0\x1f\xff\xfd",
+        FrameFault::Length {
+            said: 2_097_149,
+            have: 0,
+        },
+    ),
+    (b"\0\0\0\0", FrameFault::Xdr(XdrFault::Short { at: 4 })),
+    (b"\0\0\0\x04\0\0\0\x05", FrameFault::Kind { kind: 5 }),
+    (b"\0\0\0\x08\0\0\0\0\0\0\0\0", FrameFault::Kind { kind: 0 }),
+    (
+        b"\0\0\0\x08\0\0\0\0\0\0\0\x0f",
+        FrameFault::Kind { kind: 15 },
+    ),
+    (
+        b"\0\0\0\x0c\0\0\0\x02\0\0\0\x07\0\0\0\x0a",
+        FrameFault::Kind { kind: 10 },
+    ),
+    (
+        b"\0\0\0\x18\0\0\0\x02\0\0\0\x07\0\0\0\x02\0\0\0\0\0\0\0\0\0\0\0\x06",
+        FrameFault::Kind { kind: 6 },
+    ),
+    (
+        b"\0\0\0\x14\0\0\0\0\0\0\0\x0d\x0a\0\0\x01\x0a\0\0\x02\x80\0\0\0",
+        FrameFault::Version {
+            value: 2_147_483_648,
+        },
+    ),
+    (
+        b"\0\0\0\x18\0\0\0\0\0\0\0\x0d\x0a\0\0\x01\x0a\0\0\x02\0\0\0\x01\xff\xff\xff\xff",
+        FrameFault::Version {
+            value: 4_294_967_295,
+        },
+    ),
+    (
+        b"\0\0\0\x04\0\0\0\x03",
+        FrameFault::Xdr(XdrFault::Short { at: 8 }),
+    ),
+    (
+        b"\0\0\0\x18\0\0\0\0\0\0\0\x02\x0a\0\0\x01\x0a\0\0\x02\0\0\x04\x34\0\0\0\x02",
+        FrameFault::Xdr(XdrFault::BadBool { value: 2 }),
+    ),
+    (
+        b"\0\0\0\x0c\0\0\0\x03\0\0\0\x07\0\0\0\0",
+        FrameFault::Xdr(XdrFault::Rest { left: 4 }),
+    ),
+    (
+        b"\0\0\0\x20\0\0\0\0\0\0\0\x0b\x0a\0\0\x01\x0a\0\0\x02\0\0\0\0\0\0\0\0\0\0\0\0\0\0\x20\x01",
+        FrameFault::Xdr(XdrFault::TooLong { len: 8193 }),
+    ),
+    (
+        b"\0\0\0\x24\0\0\0\0\0\0\0\x0b\x0a\0\0\x01\x0a\0\0\x02\0\0\0\0\0\0\0\0\0\0\0\0\0\0\0\x01a\0\0\x01",
+        FrameFault::Xdr(XdrFault::Padding { at: 32 }),
+    ),
+];
+
+#[test]
+fn each_fault(rt: HostRuntime) {
+    for (bytes, fault) in REFUSED {
+        let read = fault_of(decode(rt.alloc(), bytes));
+        assert_eq!(rt; read, Some(fault), "{fault}");
+    }
+}
+
+#[test]
+fn laws_are_calls() {
+    no_frame_begins_another();
+    packets_are_as_long_as_said();
 }

@@ -1,0 +1,5 @@
+use Rattle.ubik_calls.proofs.Taken.{took_then}
+use Rattle.ubik_calls.proofs.bodies.get_piece.Goals as goal
+
+pub returns-clause-found : goal.returns-clause-found
+returns-clause-found c = took_then (took_then c.in_ok-number.ensures.found c.in_ok-version.ensures.found) c.in_ok-number-2.ensures.found
