@@ -139,10 +139,7 @@ fn tell_halted_step(text: &mut String, out: &mut Outputs, was_halted: bool) -> R
 
 /// A step of the server of a number, counted from 1. It is refused where no cell stands, where there is no such
 /// server, and where it is down.
-#[tactic(
-    auto,
-    using(crate::proofs::Stepping::site_told, crate::proofs::Stepping::site_short)
-)]
+#[tactic(auto, using(crate::proofs::Stepping::site_told, crate::proofs::Stepping::site_short))]
 pub fn step_site<D: StopDisk>(
     alloc: Global,
     site: Site<D>,
