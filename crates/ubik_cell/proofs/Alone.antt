@@ -1,10 +1,8 @@
 -- A step of the one server of a cell: what it shows has no packet, and memory that is not found is told, or was not needed.
-use Rattle.std.proofs.Common.{Bool, true, false, cond, ◌≡◌, ◌⊎◌, inl, inr, ℕ, List, [], ◌∷◌, ◌++◌, Option, Some, None, refl, sym, ap, subst, ◌∙◌}
+use Rattle.std.proofs.Common.{Bool, true, false, cond, ◌≡◌, ◌⊎◌, inl, inr, ℕ, List, [], ◌∷◌, ◌++◌, Option, Some, None, refl, sym, ap, subst}
 use Rattle.std.proofs.lemmas.Bool.{cond_both}
 use Rattle.ubik_types.specs.declared.versions.Version.{Version}
-use Rattle.ubik_types.specs.declared.phases.Phase.TheVariants as phases
 use Rattle.ubik_types.specs.Phase.{NoPhase}
-use Rattle.ubik_calls.specs.declared.packets.Packet.{Packet}
 use Rattle.ubik_calls.specs.declared.replies.Reply.{Reply}
 use Rattle.ubik_calls.specs.declared.replies.Reply.TheVariants as reply
 use Rattle.db_image.specs.Database.{Database}
@@ -13,13 +11,13 @@ use Rattle.cell_model.specs.declared.events.NodeEvent.TheVariants as event
 use Rattle.cell_model.specs.declared.events.Output.{Output}
 use Rattle.cell_model.specs.declared.events.Output.TheVariants as output
 use Rattle.cell_model.specs.Asks.{write_asked, served, asked_elsewhere, asked_as, asked, allows_reads}
-use Rattle.cell_model.specs.Lapse.{flight_refused, waiting_refused, writes_refused, without_writes, write_lapsed}
+use Rattle.cell_model.specs.Lapse.{flight_refused, waiting_refused, without_writes, write_lapsed}
 use Rattle.cell_model.specs.Node.{Server, Flight, Waiting}
 use Rattle.cell_model.specs.Node as model
 use Rattle.cell_model.specs.NodeRule.{step_of, handled}
 use Rattle.cell_model.specs.Step.{Member, Shown, Stepped, followed, showing, with_phase, leased, is_ready, is_short, short_after, outputs_of}
-use Rattle.cell_model.specs.World.{packet_in, packet_of, packets_of}
-use Rattle.cell_model.proofs.StepKinds.{IsAlone, IsAlonePhase, IsOwn, IsStep, AllTold, IsToldOutput, step_is}
+use Rattle.cell_model.specs.World.{packet_in}
+use Rattle.cell_model.proofs.StepKinds.{IsAlone, IsAlonePhase, IsOwn, IsStep, AllTold, IsToldOutput}
 use Rattle.ubik_node.specs.declared.nodes.Node.{Node}
 use Rattle.ubik_node.specs.declared.progress.Progress.{Progress}
 use Rattle.ubik_node.specs.declared.progress.Progress.TheVariants as progress

@@ -1,11 +1,10 @@
 -- One order, what is kept, and single replies: of each run of a cell of one, by the laws of such runs and of the database.
-use Rattle.std.proofs.Common.{◌≡◌, ◌≢◌, inl, inr, ℕ, Bool, true, false, List, [], ◌∷◌, ◌++◌, Option, Some, None, IsSome, get_or, refl, sym, ap, subst, ◌∙◌, arith}
-use Rattle.std.specs.Prelude.{All, Contains, IfSome, option_map}
-use Rattle.std.proofs.lemmas.List.Elements.{All-weaker, All-contains, Contains-append_right}
+use Rattle.std.proofs.Common.{◌≡◌, ◌≢◌, ℕ, Bool, List, [], ◌∷◌, ◌++◌, Option, Some, None, IsSome, get_or, refl, sym, ap, subst}
+use Rattle.std.specs.Prelude.{All, Contains, option_map}
+use Rattle.std.proofs.lemmas.List.Elements.{All-weaker}
 use Rattle.db_image.specs.Database.{Database}
 use Rattle.db_image.specs.declared.services.CallReply.{CallReply}
 use Rattle.db_image.specs.declared.services.CallReply.TheVariants as call_reply
-use Rattle.ubik_calls.specs.declared.replies.Reply.{Reply}
 use Rattle.ubik_calls.specs.declared.replies.Reply.TheVariants as reply
 use Rattle.cell_model.specs.Book.{Run, first_run, run_after, run_through, order_of}
 use Rattle.cell_model.specs.Durable.{Transaction}

@@ -1,5 +1,5 @@
 -- What a step of the one server makes of a world, and what is told of it.
-use Rattle.std.proofs.Common.{if◌then◌else◌, cond, ◌<◌, ◌≡◌, ◌⊎◌, inl, inr, ◌≤◌, ℕ, Bool, true, false, List, [], ◌∷◌, ◌++◌, Option, Some, None, refl, sym, ap, subst, ◌∙◌, arith, append_assoc}
+use Rattle.std.proofs.Common.{if◌then◌else◌, ◌<◌, ◌≡◌, ◌⊎◌, inl, inr, ◌≤◌, ℕ, Bool, true, false, List, [], ◌∷◌, ◌++◌, Option, None, refl, sym, ap, subst, ◌∙◌, arith, append_assoc}
 use Rattle.std.proofs.lemmas.List.{append-nil}
 use Rattle.std.specs.List.{cons_option}
 use Rattle.ubik_calls.specs.declared.packets.Packet.{Packet}
@@ -12,14 +12,14 @@ use Rattle.cell_model.specs.Durable.{Durable, durable_after_all}
 use Rattle.cell_model.specs.Node as model
 use Rattle.cell_model.specs.NodeRule.{step_of, refusals}
 use Rattle.cell_model.specs.Step.{Member, Evaluation, Shown, Stepped, outputs_of}
-use Rattle.cell_model.specs.World.{Happening, Halts, Happened, Site, World, Step, Fault, asked_after, packet_of, packets_of, number_after, seen_of_output, seen_from, happened_at, step_up, fault_up, halted_step, happens}
+use Rattle.cell_model.specs.World.{Happening, Halts, Happened, Site, Step, Fault, asked_after, packet_of, packets_of, number_after, seen_of_output, seen_from, happened_at, step_up, fault_up, halted_step, happens}
 use Rattle.cell_model.proofs.StepKinds.{step_is}
 use Rattle.ubik_node.specs.declared.nodes.StepEnd.TheVariants.{Done, Halted}
 use Rattle.ubik_node.specs.Node.{Steps}
 use Rattle.ubik_cell.specs.declared.sites.TheConstants.{FIRST_HOST}
 use Rattle.ubik_cell.specs.Lines.{IsTurn, HearsNone}
 use Rattle.ubik_cell.specs.Script.{Sound, Faulty, trigger_of, fault_count}
-use Rattle.ubik_cell.specs.Sites.{puts, HasNoShort, IsOneWorld, one_world, StepIs, StepTold, SameDatabase, StepShort}
+use Rattle.ubik_cell.specs.Sites.{puts, HasNoShort, one_world, StepIs, StepTold, SameDatabase, StepShort}
 use Rattle.ubik_cell.specs.Trace.{cell_hosts, trace, happening_line}
 use Rattle.ubik_cell.proofs.Alone.{only, own, AloneNode, AllQuiet, CameShort, quiet_step, still_alone, step_either}
 

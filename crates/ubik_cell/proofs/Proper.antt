@@ -1,14 +1,10 @@
 -- What is seen in a cell of one server of which each event is one that a script may bring: no packet, and only proper replies.
-use Rattle.std.proofs.Common.{Bool, true, false, true≢false, cond, ◌==◌, ◌≡◌, ◌≢◌, ◌⊎◌, ◌+◌, inl, inr, ℕ, zero, suc, List, [], ◌∷◌, ◌++◌, length, map, Option, Some, None, IsSome, refl, sym, ap, subst, ◌∙◌, arith}
+use Rattle.std.proofs.Common.{Bool, true, false, true≢false, ◌==◌, ◌≡◌, ◌≢◌, ◌+◌, ℕ, zero, suc, List, [], ◌∷◌, ◌++◌, length, map, Option, Some, None, IsSome, refl, sym, ap, subst, ◌∙◌}
 use Rattle.std.proofs.lemmas.Bool.{cond_both}
-use Rattle.std.proofs.lemmas.Bool.Decides.{nat_tests}
-use Rattle.std.proofs.lemmas.List.{append-nil}
 use Rattle.std.proofs.lemmas.List.Elements.{All-nil, All-cons, All-head, All-tail}
-use Rattle.std.specs.Prelude.{All, ◌&&◌, nat_lt, is_some, option_map}
-use Rattle.ubik_types.specs.declared.hosts.Host.{Host}
+use Rattle.std.specs.Prelude.{All, nat_lt, is_some, option_map}
 use Rattle.ubik_types.specs.declared.images.Change.{Change}
 use Rattle.ubik_types.specs.declared.versions.TheConstants.{MAX_COUNTER}
-use Rattle.ubik_types.specs.declared.versions.Version.{Version}
 use Rattle.ubik_types.specs.declared.phases.Phase.TheVariants as phases
 use Rattle.ubik_types.specs.declared.phases.Applied.TheVariants as applied
 use Rattle.ubik_types.specs.Logged.{too_large}
@@ -25,14 +21,14 @@ use Rattle.cell_model.specs.declared.events.NodeEvent.{NodeEvent}
 use Rattle.cell_model.specs.declared.events.NodeEvent.TheVariants as event
 use Rattle.cell_model.specs.declared.events.Output.{Output}
 use Rattle.cell_model.specs.declared.events.Output.TheVariants as output
-use Rattle.cell_model.specs.Asks.{read_reply, write_asked, served, asked_elsewhere, asked_as, asked, allows_reads, not_served}
+use Rattle.cell_model.specs.Asks.{read_reply, write_asked, served, asked_elsewhere, asked_as, allows_reads, not_served}
 use Rattle.cell_model.specs.Lapse.{flight_refused, waiting_refused, without_writes, write_lapsed, no_quorum}
 use Rattle.cell_model.specs.Node.{Node, Down, Halted, Up, Server, Flight, Waiting}
 use Rattle.cell_model.specs.NodeRule.{step_of, handled, refusals}
-use Rattle.cell_model.specs.Polls.{polling, new_poll, best_answer}
-use Rattle.cell_model.specs.Recovery.{relabelled, polled, polled_best, recovered}
-use Rattle.cell_model.specs.Step.{Basis, Evaluation, Shown, Stepped, followed, showing, quiet, with_phase, leased, is_ready, refusing, short_after}
-use Rattle.cell_model.specs.Writes.{written_in, written_changes, written_small, written_within, turned, last_counter}
+use Rattle.cell_model.specs.Polls.{polling, begun_poll, best_answer}
+use Rattle.cell_model.specs.Recovery.{relabelled, polled, recovered}
+use Rattle.cell_model.specs.Step.{Evaluation, Shown, Stepped, followed, showing, quiet, with_phase, leased, is_ready, refusing, short_after}
+use Rattle.cell_model.specs.Writes.{written_in, written_small, written_within, turned}
 use Rattle.std.specs.List.{cons_option}
 use Rattle.ubik_calls.specs.declared.packets.Packet.{Packet}
 use Rattle.cell_model.specs.Book.{Run, first_run, run_after, run_through}
@@ -101,8 +97,8 @@ module _ (s : Server) (now : ℕ) (heard : OwnHeard s.votes.sync) where
       (λ _. cond_both (version_lt s.version (best_answer poll)) _ _ IsFine (λ _. record { heard = heard; shown = (tt, tt) }) (λ _. relabelled_fine poll))
       (λ _. record { heard = heard; shown = tt })
 
-begun_fine : (s : Server) (now : ℕ) → OwnHeard s.votes.sync → IsFine (polled only (polling only s now) (new_poll only s now) now)
-begun_fine s now heard = polled_fine (polling only s now) now heard (new_poll only s now)
+begun_fine : (s : Server) (now : ℕ) → OwnHeard s.votes.sync → IsFine (polled only (polling only s now) (begun_poll only s now) now)
+begun_fine s now heard = polled_fine (polling only s now) now heard (begun_poll only s now)
 
 recovered_fine : (s : Server) (now : ℕ) (phase : PhaseRecord) → OwnHeard s.votes.sync → IsAlonePhase s.version phase → IsFine (recovered only s now phase)
 recovered_fine s now NoPhase heard is =

@@ -1,5 +1,5 @@
 -- A step of the one server, in the run in which it stands.
-use Rattle.std.proofs.Common.{if◌then◌else◌, cond, ◌≡◌, ◌⊎◌, inl, inr, ◌+◌, ◌-◌, ◌≤◌, ℕ, Bool, true, false, List, [], ◌∷◌, ◌++◌, Option, Some, None, IsSomeAnd, refl, sym, ap, subst, ◌∙◌, arith}
+use Rattle.std.proofs.Common.{if◌then◌else◌, ◌≡◌, inl, inr, ◌-◌, ℕ, Bool, true, false, List, ◌++◌, Option, Some, None, IsSomeAnd, refl, sym, ap, subst, ◌∙◌, arith}
 use Rattle.disk_base.specs.Files.{Files}
 use Rattle.prdb_entries.specs.Protection.{protection}
 use Rattle.prdb_entries.specs.declared.service.PrService.{PrService}
@@ -8,14 +8,13 @@ use Rattle.cell_model.specs.declared.events.NodeEvent.{NodeEvent}
 use Rattle.cell_model.specs.Book.{Run, run_after}
 use Rattle.cell_model.specs.Durable.{durable}
 use Rattle.cell_model.specs.Node as model
-use Rattle.cell_model.specs.World.{World, Event, Happening, Happened, happens}
+use Rattle.cell_model.specs.World.{World, Happening, Happened, happens}
 use Rattle.ubik_node.specs.declared.nodes.Node.{Node}
 use Rattle.ubik_node.specs.Node.{node_of, up_server}
-use Rattle.ubik_cell.specs.declared.sites.Site.{Site}
 use Rattle.ubik_cell.specs.declared.sites.Site.TheVariants as site
-use Rattle.ubik_cell.specs.Lines.{HasDisk, HasWorld, Stands, SiteTold}
+use Rattle.ubik_cell.specs.Lines.{HasDisk, HasWorld, SiteTold}
 use Rattle.ubik_cell.specs.Script.{Luck, Sound, step_event, event_at, node_at, is_up, is_up_at, is_there, fault_count}
-use Rattle.ubik_cell.specs.Sites.{IsOneWorld, one_world, StepIs, StepTold, SameDatabase, StepShort, SiteShort, ReadsAs, Reads, IsReadAs, site_held}
+use Rattle.ubik_cell.specs.Sites.{IsOneWorld, one_world, StepIs, StepTold, SameDatabase, StepShort, SiteShort, ReadsAs, site_held}
 use Rattle.ubik_cell.specs.Trace.{trace}
 use Rattle.ubik_cell.proofs.Holding.{node_reads, world_reads}
 use Rattle.ubik_cell.proofs.Telling.{same_some}

@@ -13,6 +13,7 @@ use ubik_types::{MAXSERVERS, NoMemory};
 
 mod chance;
 mod refusals;
+mod texts;
 
 /// A user is made and looked up.
 const FIRST_USER: &str =
