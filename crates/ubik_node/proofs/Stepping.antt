@@ -18,7 +18,7 @@ use Rattle.cell_model.specs.Lapse.{lapsed}
 use Rattle.cell_model.specs.Node as model
 use Rattle.cell_model.specs.NodeRule.{handled, place_of, received_packet, step_of}
 use Rattle.cell_model.specs.Recovery.{epoch_of, own_relabelling, recovery_turn}
-use Rattle.cell_model.specs.Step.{Basis, Member, Stepped, announcing, leased, outputs_of, quiet}
+use Rattle.cell_model.specs.Step.{Basis, Member, Stepped, announcing, leased, quiet}
 use Rattle.cell_model.specs.Voting.{beacon_turn}
 use Rattle.cell_model.specs.Writes.{write_turn}
 use Rattle.ubik_node.specs.declared.nodes.StepEnd.{StepEnd}
