@@ -25,7 +25,7 @@ use Rattle.cell_model.specs.Asks.{read_reply, write_asked, served, asked_elsewhe
 use Rattle.cell_model.specs.Lapse.{flight_refused, waiting_refused, without_writes, write_lapsed, no_quorum}
 use Rattle.cell_model.specs.Node.{Node, Down, Halted, Up, Server, Flight, Waiting}
 use Rattle.cell_model.specs.NodeRule.{step_of, handled, refusals}
-use Rattle.cell_model.specs.Polls.{polling, begun_poll, best_answer}
+use Rattle.cell_model.specs.Polls.{polling, new_poll, best_answer}
 use Rattle.cell_model.specs.Recovery.{relabelled, polled, recovered}
 use Rattle.cell_model.specs.Step.{Evaluation, Shown, Stepped, followed, showing, quiet, with_phase, leased, is_ready, refusing, short_after}
 use Rattle.cell_model.specs.Writes.{written_in, written_small, written_within, turned}
@@ -97,8 +97,8 @@ module _ (s : Server) (now : ℕ) (heard : OwnHeard s.votes.sync) where
       (λ _. cond_both (version_lt s.version (best_answer poll)) _ _ IsFine (λ _. record { heard = heard; shown = (tt, tt) }) (λ _. relabelled_fine poll))
       (λ _. record { heard = heard; shown = tt })
 
-begun_fine : (s : Server) (now : ℕ) → OwnHeard s.votes.sync → IsFine (polled only (polling only s now) (begun_poll only s now) now)
-begun_fine s now heard = polled_fine (polling only s now) now heard (begun_poll only s now)
+begun_fine : (s : Server) (now : ℕ) → OwnHeard s.votes.sync → IsFine (polled only (polling only s now) (new_poll only s now) now)
+begun_fine s now heard = polled_fine (polling only s now) now heard (new_poll only s now)
 
 recovered_fine : (s : Server) (now : ℕ) (phase : PhaseRecord) → OwnHeard s.votes.sync → IsAlonePhase s.version phase → IsFine (recovered only s now phase)
 recovered_fine s now NoPhase heard is =

@@ -1,5 +1,5 @@
 -- The only server of its cell.
-use Rattle.std.proofs.Common.{◌≡◌, ◌<◌, ℕ, Bool, true, List, [], ◌∷◌, length, refl, sym, ap, ◌∙◌, arith}
+use Rattle.std.proofs.Common.{◌≡◌, ◌<◌, ℕ, Bool, true, List, [], ◌∷◌, length, sym, ap, ◌∙◌, arith}
 use Rattle.ubik_types.specs.declared.hosts.Host.{Host}
 use Rattle.ubik_types.specs.Lease.{is_in_lease}
 use Rattle.cell_model.specs.Step.{Member, leased}

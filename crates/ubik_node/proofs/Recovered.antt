@@ -1,5 +1,5 @@
 -- The recovery turn of a server that is alone in its cell.
-use Rattle.std.proofs.Common.{◌≡◌, ℕ, Bool, true, false, cond, ltb, eqb, refl, sym, ap, subst, ◌∙◌, arith}
+use Rattle.std.proofs.Common.{◌≡◌, ℕ, Bool, true, false, cond, refl, sym, ap, subst, ◌∙◌, arith}
 use Rattle.std.proofs.lemmas.Bool.Decides.{nat_tests}
 use Rattle.ubik_types.specs.declared.hosts.Host.{Host}
 use Rattle.ubik_types.specs.declared.versions.Version.{Version}
@@ -11,7 +11,6 @@ use Rattle.cell_model.specs.Node.{Server}
 use Rattle.cell_model.specs.Polls.{best_answer, first_with}
 use Rattle.cell_model.specs.Recovery.{recovery_turn, relabelled, fetched_from, poll_begun}
 use Rattle.cell_model.specs.Step.{Stepped, quiet, leased}
-use Rattle.ubik_node.specs.declared.progress.Progress.{Progress}
 use Rattle.ubik_node.specs.declared.progress.Progress.TheVariants as progress
 use Rattle.ubik_node.specs.declared.recovering.Plan.{Plan}
 use Rattle.ubik_node.specs.declared.state.State.{State}
@@ -19,7 +18,7 @@ use Rattle.ubik_node.specs.Progress.{alone, own_poll, phase_record}
 use Rattle.ubik_node.specs.Recovering.{Recovers}
 use Rattle.ubik_node.specs.State.{server_of}
 use Rattle.ubik_node.proofs.Alone.{leased_alone}
-use Rattle.ubik_node.proofs.Rested.{in_phase, kept_phase, lapsed_is}
+use Rattle.ubik_node.proofs.Rested.{in_phase, lapsed_is}
 
 not_below_zero : (v : Version) → version_lt v zero_version ≡ false
 not_below_zero v = grind (arith, nat_tests)

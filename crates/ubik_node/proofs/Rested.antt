@@ -1,11 +1,11 @@
 -- A step after the lapse.
-use Rattle.std.proofs.Common.{◌≡◌, ℕ, Bool, true, false, cond, List, [], Option, None, refl, ap}
+use Rattle.std.proofs.Common.{◌≡◌, ℕ, Bool, true, false, cond, List, None, refl, ap}
 use Rattle.ubik_types.specs.declared.versions.Version.{Version}
 use Rattle.ubik_types.specs.Phase.{PhaseRecord, NoPhase}
 use Rattle.db_image.specs.Database.{Database}
 use Rattle.cell_model.specs.declared.events.NodeEvent.{NodeEvent}
 use Rattle.cell_model.specs.Lapse.{lapsed, phase_dropped}
-use Rattle.cell_model.specs.Node.{Server, ReceivedText}
+use Rattle.cell_model.specs.Node.{Server}
 use Rattle.cell_model.specs.NodeRule.{step_of, handled}
 use Rattle.cell_model.specs.Step.{Member, Stepped, quiet, followed, leased, is_fetch, short_after}
 use Rattle.ubik_node.specs.declared.progress.Progress.{Progress}

@@ -1,12 +1,12 @@
 -- Packets to each other server, one after the other.
-use Rattle.std.proofs.Common.{◌≡◌, ℕ, suc, ◌+◌, ◌<◌, ◌≤◌, ◌==◌, Bool, true, false, cond, Some, List, [], ◌∷◌, ◌++◌, length, drop, get_or, slice_get, refl, sym, ap, subst, ◌∙◌, append_assoc, add-one, arith}
+use Rattle.std.proofs.Common.{◌≡◌, ℕ, suc, ◌+◌, ◌<◌, ◌==◌, true, false, Some, List, [], ◌∷◌, ◌++◌, length, drop, get_or, slice_get, refl, sym, ap, ◌∙◌, append_assoc, add-one}
 use Rattle.std.proofs.lemmas.Option.{get_or_from_slice_get, slice_get-get_or}
 use Rattle.std.proofs.Math.Seq.{drop-cons}
 use Rattle.ubik_types.specs.declared.hosts.Host.{Host}
 use Rattle.ubik_calls.specs.declared.packets.Body.{Body}
 use Rattle.cell_model.specs.declared.events.Output.{Output}
 use Rattle.cell_model.specs.declared.events.Output.TheVariants.{Send}
-use Rattle.cell_model.specs.Step.{Member, Shown, outputs_of, packet_to, sends_from}
+use Rattle.cell_model.specs.Step.{Member, outputs_of, packet_to, sends_from}
 
 parted : (hosts : List Host) (k : ℕ) (host : Host) → k < length hosts → slice_get hosts k ≡ Some host → drop k hosts ≡ host ∷ drop (k + 1) hosts
 parted hosts k host inside at = let same = get_or_from_slice_get hosts k host host at in rw add-one (drop-cons hosts k host inside ∙ ap (λ (x : Host). x ∷ drop (suc k) hosts) same)

@@ -1,9 +1,7 @@
 -- Where a call is served.
 use Rattle.std.proofs.Common.{◌≡◌, ℕ, Bool, true, false, cond, List, Some, refl}
-use Rattle.ubik_types.specs.declared.versions.Version.{Version}
 use Rattle.db_image.specs.Database.{Database}
 use Rattle.cell_model.specs.Asks.{allows_reads, asked_as, read}
-use Rattle.cell_model.specs.Node.{Server}
 use Rattle.cell_model.specs.Step.{Member, Announced_image, Beacon_image, Stepped, is_ready, leased, told_version}
 use Rattle.ubik_node.specs.declared.state.State.{State}
 use Rattle.ubik_node.specs.State.{server_of}

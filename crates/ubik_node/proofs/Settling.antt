@@ -1,6 +1,6 @@
 -- Calls on the database file alone leave the other files as they were, also where a crash comes.
-use Rattle.std.proofs.Common.{◌≡◌, ◌⊎◌, inl, inr, ◌+◌, ℕ, List, length, Option, Some, None, IfSome, refl, sym, ap, subst, ◌∙◌}
-use Rattle.disk_base.specs.Crash.{CutShort, Follows, InFile, IsSettled, LeavesSame, Narrows, Only, OnlyIn, Torn}
+use Rattle.std.proofs.Common.{◌≡◌, ℕ, List, Option, Some, None, IfSome, sym, ap, subst, ◌∙◌}
+use Rattle.disk_base.specs.Crash.{Follows, InFile, IsSettled, LeavesSame, Narrows, Only, OnlyIn}
 use Rattle.disk_base.specs.declared.disks.FileNo.TheVariants.{Database}
 use Rattle.disk_base.specs.Files.{Files, file_of, with_file}
 use Rattle.std.specs.Prelude.{option_map}

@@ -11,7 +11,7 @@ use Rattle.cell_model.specs.declared.events.Output.{Output}
 use Rattle.cell_model.specs.declared.events.Output.TheVariants.{Send}
 use Rattle.cell_model.specs.NodeRule.{place_of, received_packet, received_from}
 use Rattle.cell_model.specs.Node as model
-use Rattle.cell_model.specs.Step.{Stepped, packet_to}
+use Rattle.cell_model.specs.Step.{packet_to}
 use Rattle.cell_model.specs.Voting.{beacon_kept}
 use Rattle.ubik_node.specs.declared.state.State.{State}
 use Rattle.ubik_node.specs.Progress.{beacon_of}

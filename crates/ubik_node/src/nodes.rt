@@ -1,8 +1,7 @@
 //! A server of a cell, one step at a time.
-ghost use Rattle.std.specs.Prelude.{◌≡◌, ◌≢◌, ◌+◌, ◌*◌, ◌<◌, ◌≤◌, Bool, ℕ, List, [], ◌∷◌, length, IfOk, IfErr, IfSome, IsErrOf, OnOk, OnErr, MatchResult, Some, true, false};
+ghost use Rattle.std.specs.Prelude.{◌≡◌, ◌≢◌, ◌+◌, ◌*◌, ◌<◌, ◌≤◌, ℕ, [], ◌∷◌, length, IfOk, IfErr, IfSome, IsErrOf, OnOk, OnErr, MatchResult, Some, true, false};
 ghost use Rattle.ubik_types.specs.declared.hosts.Host.{Host};
 ghost use Rattle.ubik_types.specs.Moment.{IsMoment};
-ghost use Rattle.cell_model.specs.Asks.{asked_as};
 ghost use Rattle.cell_model.specs.Node as model;
 ghost use Rattle.cell_model.specs.NodeRule.{refusals};
 ghost use Rattle.cell_model.specs.Step.{outputs_of, cell_size};
@@ -60,7 +59,7 @@ impl<D: Disk, V: Service> Node<D, V> {
     ghost use Rattle.ubik_node.specs.Verdict.{Judges, committed};
     ghost use Rattle.ubik_node.specs.Serving.{Answers, Reads, Writes};
     ghost use Rattle.ubik_node.specs.Progress.{alone, IsServing};
-    ghost use Rattle.ubik_node.specs.Node.{NothingPending, OnlyDatabase, node_of, up_server, own_member, IsStored, KeepsDisk, Makes, Steps, last_after};
+    ghost use Rattle.ubik_node.specs.Node.{NothingPending, OnlyDatabase, node_of, up_server, own_member, IsStored, KeepsDisk, Steps, last_after};
 
     /// Opens a server over its disk, at a moment in seconds: the server at a place of the cell. An empty
     /// database file is an empty database of version 0.0. No changing call of the disk is made. A refusal

@@ -1,13 +1,10 @@
 //! What a server keeps between two steps, apart from its disk, and the rules of votes, which change it alone.
-ghost use Rattle.std.specs.Prelude.{◌≡◌, ◌≤◌, ◌<◌, ℕ, Bool, List, length, IsTrue, IfSome, Some, true, []};
-ghost use Rattle.ubik_types.specs.Lease.{lease_end};
+ghost use Rattle.std.specs.Prelude.{◌≡◌, ◌≤◌, ◌<◌, Bool, List, length, IsTrue, Some, []};
 ghost use Rattle.ubik_types.specs.Moment.{IsMoment};
-ghost use Rattle.ubik_types.specs.Votes.{answers_yes};
-ghost use Rattle.ubik_calls.specs.declared.replies.DebugIs.{DebugIs};
 ghost use Rattle.db_image.specs.Database.{Database};
 ghost use Rattle.cell_model.specs.Lapse.{lapsed, no_quorum};
 ghost use Rattle.cell_model.specs.NodeRule.{received_packet, place_of};
-ghost use Rattle.cell_model.specs.Step.{cell_size, host_at, outputs_of, packet_to, sends_to_all, quiet};
+ghost use Rattle.cell_model.specs.Step.{outputs_of, packet_to, sends_to_all, quiet};
 ghost use Rattle.cell_model.specs.Voting.{own_beacon, beacon_turn, beacon_kept};
 ghost use Rattle.ubik_node.specs.Built.{IsOfVotes};
 ghost use Rattle.ubik_node.specs.Progress.{IsServing, is_held, beacon_of};

@@ -1,5 +1,5 @@
 //! What becomes of a writing call at a server that is alone in its cell, once the database has evaluated it.
-ghost use Rattle.std.specs.Prelude.{ℕ, List, ◌≡◌, ◌<◌, ◌≤◌, IfOk, unwrap_or, length};
+ghost use Rattle.std.specs.Prelude.{ℕ, List, ◌<◌, IfOk, unwrap_or};
 ghost use Rattle.ubik_types.specs.declared.hosts.Host.{Host};
 ghost use Rattle.cell_model.specs.Writes.{turned, written};
 ghost use Rattle.ubik_node.specs.Progress.{alone, IsServing};

@@ -1,4 +1,4 @@
-use Rattle.std.proofs.Common.{◌≡◌, Bool, true, false, sym, ap, ◌∙◌}
+use Rattle.std.proofs.Common.{◌≡◌, true, false, sym, ap, ◌∙◌}
 use Rattle.cell_model.specs.Step.{Announced_image, Beacon_image, told_version, is_ready}
 use Rattle.ubik_node.specs.Progress.{phase_record}
 use Rattle.ubik_node.specs.State.{member_of}

@@ -1,4 +1,4 @@
-use Rattle.std.proofs.Common.{◌≡◌, ◌+◌, ◌<◌, ◌∷◌, [], ◌++◌, List, length, drop, sym, ap, ◌∙◌, eq-eqb, ne_eqb, length-append, arith}
+use Rattle.std.proofs.Common.{◌≡◌, ◌+◌, ◌<◌, ◌∷◌, [], ◌++◌, List, length, drop, ap, ◌∙◌, eq-eqb, ne_eqb, length-append, arith}
 use Rattle.cell_model.specs.declared.events.Output.{Output}
 use Rattle.cell_model.specs.declared.events.Output.TheVariants.{Send}
 use Rattle.cell_model.specs.Step.{outputs_of, packet_to, sends_to_all}
