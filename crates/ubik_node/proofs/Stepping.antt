@@ -17,13 +17,8 @@ use Rattle.cell_model.specs.Durable.{durable}
 use Rattle.cell_model.specs.Lapse.{lapsed}
 use Rattle.cell_model.specs.Node as model
 use Rattle.cell_model.specs.NodeRule.{handled, place_of, received_packet, step_of}
-<<<<<<< HEAD
-use Rattle.cell_model.specs.Recovery.{first_of_epoch, own_relabelling, recovery_turn}
-use Rattle.cell_model.specs.Step.{Basis, Member, Stepped, announcing, leased, outputs_of, quiet}
-=======
 use Rattle.cell_model.specs.Recovery.{first_of_epoch, own_relabelling, recovery_turn}
 use Rattle.cell_model.specs.Step.{Basis, Member, Stepped, announcing, leased, quiet}
->>>>>>> 1d5bdf54302d6369d7be10a6758ec93492f62af7
 use Rattle.cell_model.specs.Voting.{beacon_turn}
 use Rattle.cell_model.specs.Writes.{write_turn}
 use Rattle.ubik_node.specs.declared.nodes.StepEnd.{StepEnd}
