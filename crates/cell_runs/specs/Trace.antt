@@ -25,7 +25,7 @@ use Rattle.cell_runs.specs.declared.endings.Which.{Which}
 use Rattle.cell_runs.specs.declared.endings.Which.TheVariants as which
 use Rattle.cell_runs.specs.declared.endings.Ending.{Ending}
 use Rattle.cell_runs.specs.declared.endings.Ending.TheVariants.{Refused, Limit}
-use Rattle.cell_runs.specs.Spoken.{Spoken}
+use Rattle.cell_runs.specs.ScriptDatabase.{ScriptDatabase}
 
 -- what is shown of a server that is up
 pub record Showing : Type 0 where
@@ -37,9 +37,9 @@ pub record Showing : Type 0 where
   pub len : ℕ
 
 -- what a line of a script tells: what is seen of its events, or the state of a server, which is no event
-pub data Telling : Type 0 where
-  Tells : (happening : Happening) → Telling
-  Shows : (server clock : ℕ) → (showing : Option Showing) → Telling
+pub data TraceItem : Type 0 where
+  Tells : (happening : Happening) → TraceItem
+  Shows : (server clock : ℕ) → (showing : Option Showing) → TraceItem
 
 -- a line is ended by an LF
 abbrev pub line_text : List ℕ → List ℕ
@@ -98,35 +98,35 @@ fields_of None = []
 fields_of (Some []) = []
 fields_of (Some (b ∷ bytes)) = 32 ∷ b ∷ bytes
 
-abbrev pub answer_text : Spoken → List ℕ → Option Evaluation → List ℕ
-answer_text spoken answer None = []
-answer_text spoken answer (Some e) = fields_of (spoken.answer_of e.call answer)
+abbrev pub answer_text : ScriptDatabase → List ℕ → Option Evaluation → List ℕ
+answer_text script_db answer None = []
+answer_text script_db answer (Some e) = fields_of (script_db.answer_of e.call answer)
 
 -- A reply behind the number of its call and its server. A call that a script can write is never malformed, and an image of a cell
 -- is never bad; want of memory ends a run.
-abbrev pub reply_text : Spoken → List Host → Reply → Option Evaluation → List ℕ
-reply_text spoken hosts (reply.Ok answer) e = codes " ok" ++ answer_text spoken answer e
-reply_text spoken hosts (reply.Rule number) e = codes " rule " ++ decimal number
-reply_text spoken hosts (reply.NoQuorum now until phase a) e =
+abbrev pub reply_text : ScriptDatabase → List Host → Reply → Option Evaluation → List ℕ
+reply_text script_db hosts (reply.Ok answer) e = codes " ok" ++ answer_text script_db answer e
+reply_text script_db hosts (reply.Rule number) e = codes " rule " ++ decimal number
+reply_text script_db hosts (reply.NoQuorum now until phase a) e =
     codes " noquorum " ++ decimal until ++ 32 ∷ phase_word phase ++ 32 ∷ applied_word a
-reply_text spoken hosts (reply.NotSync host heard) e = codes " notsync " ++ host_text hosts host
-reply_text spoken hosts (reply.LineFull holder) e = codes " linefull " ++ decimal holder
-reply_text spoken hosts (reply.TooLarge bytes) e = codes " toolarge " ++ decimal bytes
-reply_text spoken hosts reply.Malformed e = codes " malformed"
-reply_text spoken hosts reply.DiskFault e = codes " diskfault"
-reply_text spoken hosts (reply.BadRecord at) e = codes " badrecord " ++ decimal at
-reply_text spoken hosts reply.NoMemory e = codes " nomemory"
+reply_text script_db hosts (reply.NotSync host heard) e = codes " notsync " ++ host_text hosts host
+reply_text script_db hosts (reply.LineFull holder) e = codes " linefull " ++ decimal holder
+reply_text script_db hosts (reply.TooLarge bytes) e = codes " toolarge " ++ decimal bytes
+reply_text script_db hosts reply.Malformed e = codes " malformed"
+reply_text script_db hosts reply.DiskFault e = codes " diskfault"
+reply_text script_db hosts (reply.BadRecord at) e = codes " badrecord " ++ decimal at
+reply_text script_db hosts reply.NoMemory e = codes " nomemory"
 
-abbrev pub happening_text : Spoken → List Host → Happening → List ℕ
-happening_text spoken hosts (Sent number p) = packet_text hosts number p
-happening_text spoken hosts (Announced k version) = codes "announce " ++ server_text k ++ 32 ∷ version_text version
-happening_text spoken hosts (Replied k id r e) =
-    codes "reply " ++ decimal id ++ 32 ∷ server_text k ++ reply_text spoken hosts r e
-happening_text spoken hosts (Lost number) = codes "lost " ++ decimal number
-happening_text spoken hosts (Stops k) = codes "stopped " ++ server_text k
-happening_text spoken hosts (Halts k) = codes "halted " ++ server_text k
-happening_text spoken hosts (Restarts k version) = codes "restarted " ++ server_text k ++ 32 ∷ version_text version
-happening_text spoken hosts (Stays_down k) = codes "restarted " ++ server_text k ++ codes " diskfault"
+abbrev pub happening_text : ScriptDatabase → List Host → Happening → List ℕ
+happening_text script_db hosts (Sent number p) = packet_text hosts number p
+happening_text script_db hosts (Announced k version) = codes "announce " ++ server_text k ++ 32 ∷ version_text version
+happening_text script_db hosts (Replied k id r e) =
+    codes "reply " ++ decimal id ++ 32 ∷ server_text k ++ reply_text script_db hosts r e
+happening_text script_db hosts (Lost number) = codes "lost " ++ decimal number
+happening_text script_db hosts (Stops k) = codes "stopped " ++ server_text k
+happening_text script_db hosts (Halts k) = codes "halted " ++ server_text k
+happening_text script_db hosts (Restarts k version) = codes "restarted " ++ server_text k ++ 32 ∷ version_text version
+happening_text script_db hosts (Stays_down k) = codes "restarted " ++ server_text k ++ codes " diskfault"
 
 abbrev pub showing_text : Option Showing → List ℕ
 showing_text None = codes " down"
@@ -134,14 +134,14 @@ showing_text (Some s) =
     codes " version " ++ version_text s.version ++ codes " phase " ++ phase_word s.phase
     ++ codes " until " ++ decimal s.until ++ codes " length " ++ decimal s.len
 
-abbrev pub telling_text : Spoken → List Host → Telling → List ℕ
-telling_text spoken hosts (Tells h) = line_text (happening_text spoken hosts h)
-telling_text spoken hosts (Shows k clock s) =
+abbrev pub item_text : ScriptDatabase → List Host → TraceItem → List ℕ
+item_text script_db hosts (Tells h) = line_text (happening_text script_db hosts h)
+item_text script_db hosts (Shows k clock s) =
     line_text (codes "show " ++ server_text k ++ codes " clock " ++ decimal clock ++ showing_text s)
 
 -- the text of what was told
-abbrev pub trace : Spoken → List Host → List Telling → List ℕ
-trace spoken hosts tellings = flat_map (telling_text spoken hosts) tellings
+abbrev pub trace : ScriptDatabase → List Host → List TraceItem → List ℕ
+trace script_db hosts items = flat_map (item_text script_db hosts) items
 
 abbrev pub why_word : Why → List ℕ
 why_word why.Syntax = codes "syntax"

@@ -1,9 +1,9 @@
 -- A database as scripts speak of it: its calls and its answers in words.
 use Rattle.std.specs.Prelude.{ℕ, Bool, List, Option}
 use Rattle.db_image.specs.Database.{Database}
-use Rattle.cell_runs.specs.Language.{Kind}
+use Rattle.cell_script.specs.declared.lines.Kind.{Kind}
 
-pub record Spoken : Type 0 where
+pub record ScriptDatabase : Type 0 where
   pub database : Database
   -- the bytes of the call that words name, if they name one
   pub call_of : List (List ℕ) → Option (List ℕ)
@@ -14,4 +14,4 @@ pub record Spoken : Type 0 where
 
 -- the database of each kind
 abbrev pub Databases : Type 0
-Databases = Kind → Spoken
+Databases = Kind → ScriptDatabase
