@@ -13,3 +13,4 @@ pub mod SoundRecovery
 pub mod SoundSteps
 pub mod SoundWrites
 pub mod WholeWorld
+pub mod Voters
