@@ -1,10 +1,9 @@
 -- One more moment of a disk in memory.
-use Rattle.std.proofs.Common.{ap, ◌∙◌, ◌≡◌, inl, inr, ℕ, ◌+◌, List, [], ◌∷◌, arith}
+use Rattle.std.proofs.Common.{◌∙◌, ◌≡◌, inl, inr, ℕ, ◌+◌, List, [], ◌∷◌, arith}
 use Rattle.disk_base.specs.Files.{Files}
 use Rattle.disk_base.specs.Crash.{Elapses}
 use Rattle.disk_base.specs.Moments.{Moment, MayLeave, LeftSince}
 use Rattle.disk_base.specs.declared.memory_disks.MemDisk.{MemDisk}
-use Rattle.disk_base.specs.declared.moments.Moments.{Moments}
 use Rattle.disk_base.specs.MemDisk.{moment_of, disk_steps, disk_left_since, disk_may_leave}
 
 -- counts that are both one more
@@ -26,13 +25,13 @@ elapses moments n now = record {
 }
 
 -- a changing call
-pub Elapses-call : (old new : MemDisk) → new.moments.earlier ≡ moment_of old ∷ old.moments.earlier → disk_steps new ≡ disk_steps old + 1
+pub Elapses-call : (old new : MemDisk) → new.moments ≡ moment_of old ∷ old.moments → disk_steps new ≡ disk_steps old + 1
     → Elapses (disk_steps old) (disk_left_since old) (disk_left_since new) (disk_may_leave new)
-Elapses-call old new earlier steps = rw (earlier, steps) (elapses (moment_of old ∷ old.moments.earlier) (disk_steps old) (moment_of new))
+Elapses-call old new earlier steps = rw (earlier, steps) (elapses (moment_of old ∷ old.moments) (disk_steps old) (moment_of new))
 
 -- one that is ended
-pub Elapses-ended : (old begun new : MemDisk) → begun.moments.earlier ≡ moment_of old ∷ old.moments.earlier → disk_steps begun ≡ disk_steps old + 1
+pub Elapses-ended : (old begun new : MemDisk) → begun.moments ≡ moment_of old ∷ old.moments → disk_steps begun ≡ disk_steps old + 1
     → new.moments ≡ begun.moments → disk_steps new ≡ disk_steps begun
     → Elapses (disk_steps old) (disk_left_since old) (disk_left_since new) (disk_may_leave new)
 Elapses-ended old begun new earlier steps same_moments same_steps =
-    Elapses-call old new (ap (λ (m : Moments). m.earlier) same_moments ∙ earlier) (same_steps ∙ steps)
+    Elapses-call old new (same_moments ∙ earlier) (same_steps ∙ steps)

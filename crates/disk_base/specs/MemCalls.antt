@@ -44,5 +44,5 @@ passage_of calls = passage (stop_of calls) (fails_next calls.plan)
 
 -- the counts of changing calls and of faults stay
 pub record KeepsTallies (before after : MemCalls) : Type 0 where
-  pub steps : after.steps.count ≡ before.steps.count
-  pub faults : after.faults.count ≡ before.faults.count
+  pub steps : after.steps ≡ before.steps
+  pub faults : after.faults ≡ before.faults

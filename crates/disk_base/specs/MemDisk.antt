@@ -53,10 +53,10 @@ abbrev pub disk_stop : MemDisk → Stop
 disk_stop disk = stop_of disk.calls
 
 abbrev pub disk_steps : MemDisk → ℕ
-disk_steps disk = disk.calls.steps.count
+disk_steps disk = disk.calls.steps
 
 abbrev pub disk_faults : MemDisk → ℕ
-disk_faults disk = disk.calls.faults.count
+disk_faults disk = disk.calls.faults
 
 -- it tells its files
 abbrev pub disk_tells : MemDisk → Bool
@@ -71,7 +71,7 @@ disk_may_leave disk c = MayLeave (moment_of disk) c
 
 -- a moment is kept since the disk was made, or was last revived
 abbrev pub disk_left_since : MemDisk → ℕ → Files → Type 0
-disk_left_since disk since c = LeftSince (moment_of disk ∷ disk.moments.earlier) (disk_steps disk) since c
+disk_left_since disk since c = LeftSince (moment_of disk ∷ disk.moments) (disk_steps disk) since c
 
 -- which calls are to fail, and how many were made
 abbrev pub disk_plan : MemDisk → Plan

@@ -26,7 +26,7 @@ none_later (moment ∷ earlier) steps since c later (inr left) =
 pub only_now : (disk : MemDisk) (c : Files) → disk_left_since disk (disk_steps disk) c → disk_may_leave disk c
 only_now disk c (inl left) = left.1
 only_now disk c (inr left) =
-    absurd (none_later disk.moments.earlier (disk_steps disk) (disk_steps disk + 1) c (lt-add-one (disk_steps disk)) left)
+    absurd (none_later disk.moments (disk_steps disk) (disk_steps disk + 1) c (lt-add-one (disk_steps disk)) left)
 
 -- a crash may leave what a read gives
 pub may_be_read : (disk : MemDisk) (fs : Files) → Some (now_of disk) ≡ Some fs → disk_may_leave disk fs

@@ -156,7 +156,7 @@ impl MemDisk {
         ensures stopped { IsStopped (disk_stop self.new) → result ≢ Passage.Passes }
         ensures cause { HasCause (disk_faults self.old) (disk_faults self.new) (result ≢ Passage.Passes) }
         ensures files { self.new.files ≡ self.old.files }
-        ensures moments { self.new.moments.earlier ≡ moment_of self.old ∷ self.old.moments.earlier }
+        ensures moments { self.new.moments ≡ moment_of self.old ∷ self.old.moments }
         ensures steps { disk_steps self.new ≡ disk_steps self.old + 1 }
         ensures stop { disk_stop self.new ≡ after_change (disk_stop self.old) }
         ensures plan { disk_plan self.new ≡ after_call (disk_plan self.old) }

@@ -8,6 +8,7 @@ ghost use Rattle.ubik_votes.specs.Voter.{fresh_voter, after_beacon, after_own_be
 use crate::answers::{Given, still_heard};
 use crate::counts::{count, is_from, lease_end};
 use std::marker::Model;
+use ubik_types::MAXSERVERS;
 
 /// The votes that a server gives and gets. Servers are their places in the cell, moments are whole seconds
 /// from 1 to 2147483647.
@@ -17,7 +18,7 @@ pub struct Votes {
     me: usize,
     opened: u32,
     given: Given,
-    starts: [Option<u32>; 20],
+    starts: [Option<u32>; MAXSERVERS],
 }
 
 impl Model for Votes {
@@ -35,7 +36,7 @@ impl Model for Votes {
 impl Votes {
     /// The votes of server `me` of `n` servers, which starts now.
     pub fn start(n: usize, me: usize, now: u32) -> Votes
-        requires servers { n ≤ 20 }
+        requires servers { n ≤ MAXSERVERS }
         requires me { me < n }
         ensures { result ≡ fresh_voter n me now }
     {
@@ -44,7 +45,7 @@ impl Votes {
             me,
             opened: now,
             given: Given::fresh(now),
-            starts: [None; 20],
+            starts: [None; MAXSERVERS],
         }
     }
 
