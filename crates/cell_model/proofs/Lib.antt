@@ -1,15 +1,15 @@
 pub mod BlockChanges
+pub mod BookVersions
 pub mod Causes
 pub mod GivenReplies
 pub mod Kept
 pub mod KeptRuns
-pub mod Pages
 pub mod Recorded
 pub mod SingleReplies
 pub mod Sound
-pub mod StepKinds
 pub mod SoundReceiver
 pub mod SoundRecovery
 pub mod SoundSteps
 pub mod SoundWrites
+pub mod StepKinds
 pub mod WholeWorld

@@ -3,7 +3,7 @@ ghost use Rattle.std.specs.Prelude.{◌≡◌, ◌≢◌, ◌+◌, ◌<◌, ◌�
 ghost use Rattle.disk_base.specs.Plan.{IsFresh, after_call};
 ghost use Rattle.disk_base.specs.Count.{HasCause};
 ghost use Rattle.disk_base.specs.Stops.{IsStopped, after_change, armed, fill_left};
-ghost use Rattle.disk_base.specs.Stops.Stop.{Unarmed};
+ghost use Rattle.disk_base.specs.Stops.DiskStop.{Unarmed};
 ghost use Rattle.disk_base.specs.MemCalls.{stop_of, fails_now, passage_of, unless, KeepsTallies};
 
 use crate::Fill;

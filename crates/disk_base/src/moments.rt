@@ -1,28 +1,29 @@
-//! The moments that a disk in memory has had, for contracts alone.
+//! What was pending at the earlier moments of a disk in memory, for contracts alone.
 ghost use Rattle.std.specs.Prelude.{List, ◌≡◌, [], ◌∷◌};
-ghost use Rattle.disk_base.specs.Moments.{Moment};
+ghost use Rattle.disk_base.specs.Pending.{Pending};
 
 use crate::ghosts::{Ghost, Says};
 use crate::memory_disks::MemFiles;
 use std::marker::Model;
 
-/// What contracts see in a list of moments.
+/// What contracts see: what was pending, the newest first.
 struct History;
 
 impl Model for History {
-    ghost Value = { List Moment };
+    ghost Value = { List Pending };
 
     ghost view = { λ _. [] };
 }
 
-/// The moments before the present one, the newest first. It takes no memory, and nothing can ask for them.
+/// The moments of a disk before the present one, as what was pending at them, the newest first. It takes no memory, and
+/// nothing can ask for them.
 #[derive(Drop)]
 pub(crate) struct Moments {
     earlier: Ghost<History>,
 }
 
 impl Model for Moments {
-    ghost Value = { List Moment };
+    ghost Value = { List Pending };
 
     ghost view = { λ moments. moments.earlier.value };
 }
@@ -36,13 +37,13 @@ impl Says<(), History> for NoMoment {
 struct OneMore;
 
 impl<'a> Says<(&'a Moments, &'a MemFiles), History> for OneMore {
-    ghost use Rattle.disk_base.specs.MemDisk.{moment_in};
+    ghost use Rattle.disk_base.specs.MemDisk.{pending_in};
 
-    ghost says = { λ now. moment_in now.1.now ∷ now.0.now };
+    ghost says = { λ now. pending_in now.1.now ∷ now.0.now };
 }
 
 impl Moments {
-    ghost use Rattle.disk_base.specs.MemDisk.{moment_in};
+    ghost use Rattle.disk_base.specs.MemDisk.{pending_in};
 
     /// There was none.
     pub(crate) fn new() -> Moments
@@ -53,9 +54,9 @@ impl Moments {
         }
     }
 
-    /// The present moment of the files is one more.
+    /// The present moment of the files is one more earlier one.
     pub(crate) fn next(&self, files: &MemFiles) -> Moments
-        ensures { result ≡ moment_in files.now ∷ self.now }
+        ensures { result ≡ pending_in files.now ∷ self.now }
     {
         Moments {
             earlier: Ghost::of::<(&Moments, &MemFiles), OneMore>(&(self, files)),

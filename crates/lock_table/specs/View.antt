@@ -7,6 +7,6 @@ abbrev pub table_of : Inside → Table
 table_of t = record { held = t.held.items; line = t.line.items }
 
 -- the line has its room, and the table is one that the calls make
-pub record IsWhole (t : Inside) : Type 0 where
+pub record IsInOrder (t : Inside) : Type 0 where
   pub room : t.line.capacity ≡ 64
   pub table : IsLockTable (table_of t)

@@ -34,11 +34,11 @@ impl Model for LockTable {
 
     ghost Value = { Table };
 
-    ghost use Rattle.lock_table.specs.View.{table_of, IsWhole};
+    ghost use Rattle.lock_table.specs.View.{table_of, IsInOrder};
 
     ghost view = { table_of };
 
-    ghost invariant = { IsWhole };
+    ghost invariant = { IsInOrder };
 }
 
 impl LockTable {

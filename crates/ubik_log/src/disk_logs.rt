@@ -90,7 +90,7 @@ pub fn read_log<D: Disk>(alloc: Global, disk: &mut D) -> Result<LogState, LogFau
 pub fn keep_log<D: Disk>(_alloc: Global, disk: &mut D, log: &[u8]) -> Result<(), LogFault>
     requires header { 4 ≤ length log.now }
     requires empty { IfSome (D.files disk.old) (λ fs. fs.log ≡ []) }
-    ensures kept { OnOk result (KeepsLog D.Disk log.now disk.old disk.new) }
+    ensures stands { OnOk result (KeepsLog D.Disk log.now disk.old disk.new) }
     // A crash at any moment of the call leaves a discarded log.
     ensures moments { IfSome (D.files disk.old) (λ _. OnlyIn FileNo.Log [] (D.may_leave disk.old)
         → LeavesOnly D.steps D.left_since disk.old disk.new (After HasDiscarded (D.may_leave disk.old))) }
@@ -173,7 +173,7 @@ fn put_closed<D: Disk>(disk: &mut D, log: &[u8]) -> DiskEnd
     requires header { 4 ≤ length log.now }
     requires empty { IfSome (D.files disk.old) (λ fs. fs.log ≡ []) }
     requires fits { length log.now ≤ D.room disk.old FileNo.Log }
-    ensures kept { OnDone result (D.files disk.new ≡ option_map (with_log (closed log.now)) (D.files disk.old)) }
+    ensures stands { OnDone result (D.files disk.new ≡ option_map (with_log (closed log.now)) (D.files disk.old)) }
     ensures durable { OnDone result (IfSome (D.files disk.old) (λ _.
         Follows (λ d c. c ≡ with_log (closed log.now) d) (D.may_leave disk.old) (D.may_leave disk.new))) }
     ensures moments { IfSome (D.files disk.old) (λ _. OnlyIn FileNo.Log [] (D.may_leave disk.old)

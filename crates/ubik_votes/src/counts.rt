@@ -25,7 +25,7 @@ fn greater(before: Option<u32>, start: u32) -> u32
 /// The last moment of the lease, 0 where there is none.
 pub fn lease_end(starts: &[Option<u32>]) -> u32
     requires few { length starts.now ≤ MAXSERVERS }
-    requires moments { AreMoments starts.now }
+    requires starts { AreMoments starts.now }
     ensures { result ≡ lease_end (length starts.now) starts.now }
 {
     match quorum_start(starts) {
@@ -37,7 +37,7 @@ pub fn lease_end(starts: &[Option<u32>]) -> u32
 /// The greatest start that a vote quorum supports, 0 where there is none.
 fn quorum_start(starts: &[Option<u32>]) -> u32
     requires few { length starts.now ≤ MAXSERVERS }
-    requires moments { AreMoments starts.now }
+    requires starts { AreMoments starts.now }
     ensures greatest { result ≡ quorum_start (length starts.now) starts.now starts.now }
     ensures moment { result < 2 ^ 31 }
 {

@@ -5,7 +5,7 @@ ghost use Rattle.ubik_types.specs.Moment.{IsMoment};
 ghost use Rattle.ubik_types.specs.Votes.{answers_yes, sync_heard};
 ghost use Rattle.ubik_votes.specs.Voter.{fresh_voter, after_beacon, after_own_beacon, after_vote, leased_until, is_leased, is_due};
 
-use crate::answers::{Given, still_heard};
+use crate::answers::{GivenVotes, still_heard};
 use crate::counts::{count, is_from, lease_end};
 use std::marker::Model;
 use ubik_types::MAXSERVERS;
@@ -17,7 +17,7 @@ pub struct Votes {
     servers: usize,
     me: usize,
     opened: u32,
-    given: Given,
+    given: GivenVotes,
     starts: [Option<u32>; MAXSERVERS],
 }
 
@@ -44,7 +44,7 @@ impl Votes {
             servers: n,
             me,
             opened: now,
-            given: Given::fresh(now),
+            given: GivenVotes::fresh(now),
             starts: [None; MAXSERVERS],
         }
     }
