@@ -8,7 +8,7 @@ use Rattle.db_image.specs.declared.services.CallReply.TheVariants as call_reply
 use Rattle.ubik_calls.specs.declared.replies.Reply.TheVariants as reply
 use Rattle.cell_model.specs.Book.{Run, first_run, run_after, run_through, order_of}
 use Rattle.cell_model.specs.Durable.{Transaction}
-use Rattle.cell_model.specs.KeptLaws.{AcknowledgedStay, OksAreAcknowledged, SitesAreSingle, RepliesAreSingle, IsPlaced, IsRecorded, IsSingle, IsSeenSingle, IsAnsweredBy, Answered, answered, answered_by, single_answer}
+use Rattle.cell_model.specs.KeptLaws.{AcknowledgedStay, OksAreAcknowledged, SitesAreSingle, RepliesAreSingle, IsPlaced, IsRecorded, IsSingle, IsSeenSingle, IsAnsweredBy, Answered, answered_with, answered_by, single_answer}
 use Rattle.cell_model.specs.Laws.{AnnouncementsGrow, run_of_one}
 use Rattle.cell_model.specs.Node.{Node, Down, Halted, Up}
 use Rattle.cell_model.specs.Step.{Member}
@@ -38,9 +38,9 @@ same_trigger f g same w (Beacon_turn server) short = refl
 same_trigger f g same w (Recover_turn server) short = refl
 same_trigger f g same w (Asking server id call) short = by (site_of w server)
   where
-    by : (found : Option Site) → option_map (λ (site : Site). answered server id (f site.clock call)) found ≡ option_map (λ (site : Site). answered server id (g site.clock call)) found
+    by : (found : Option Site) → option_map (λ (site : Site). answered_with server id (f site.clock call)) found ≡ option_map (λ (site : Site). answered_with server id (g site.clock call)) found
     by None = refl
-    by (Some site) = ap (λ (r : CallReply). Some (answered server id r)) (same site.clock call)
+    by (Some site) = ap (λ (r : CallReply). Some (answered_with server id r)) (same site.clock call)
 
 same_answer : (f g : ℕ → List ℕ → CallReply) → ((now : ℕ) (call : List ℕ) → f now call ≡ g now call) → (w : World) (event : Event) → answered_by f w event ≡ answered_by g w event
 same_answer f g same w (Tick server seconds) = refl
@@ -62,18 +62,18 @@ good_read laws call (Some c) is some =
     }
 
 -- nothing that is told by the meaning of calls is that the database is bad
-bad_trigger : (transactions : List Transaction) (w : World) (trigger : Trigger) (short : List Bool) (server id at : ℕ) → answered_by (reply_of transactions) w (Step trigger short) ≢ Some (answered server id (call_reply.BadRecord at))
+bad_trigger : (transactions : List Transaction) (w : World) (trigger : Trigger) (short : List Bool) (server id at : ℕ) → answered_by (reply_of transactions) w (Step trigger short) ≢ Some (answered_with server id (call_reply.BadRecord at))
 bad_trigger transactions w (Delivery number) short server id at is = cc
 bad_trigger transactions w (Beacon_turn asked) short server id at is = cc
 bad_trigger transactions w (Recover_turn asked) short server id at is = cc
 bad_trigger transactions w (Asking asked i call) short server id at is = by (site_of w asked) is
   where
-    by : (found : Option Site) → option_map (λ (site : Site). answered asked i (reply_of transactions site.clock call)) found ≢ Some (answered server id (call_reply.BadRecord at))
+    by : (found : Option Site) → option_map (λ (site : Site). answered_with asked i (reply_of transactions site.clock call)) found ≢ Some (answered_with server id (call_reply.BadRecord at))
     by None never = cc
     by (Some site) same =
         never_bad transactions site.clock call at (ap (λ (s : Answered). s.reply) (same_some same))
 
-never_bad_record : (transactions : List Transaction) (w : World) (event : Event) (server id at : ℕ) → answered_by (reply_of transactions) w event ≢ Some (answered server id (call_reply.BadRecord at))
+never_bad_record : (transactions : List Transaction) (w : World) (event : Event) (server id at : ℕ) → answered_by (reply_of transactions) w event ≢ Some (answered_with server id (call_reply.BadRecord at))
 never_bad_record transactions w (Tick asked seconds) server id at is = cc
 never_bad_record transactions w (Tick_all seconds) server id at is = cc
 never_bad_record transactions w (Step trigger short) server id at is = bad_trigger transactions w trigger short server id at is

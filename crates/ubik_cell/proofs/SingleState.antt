@@ -6,7 +6,7 @@ use Rattle.db_image.specs.Database.{Outcome}
 use Rattle.cell_model.specs.Book.{Run, order_of}
 use Rattle.cell_model.specs.Durable.{Transaction}
 use Rattle.cell_model.specs.KeptLaws.{ChangesNothing, IsRecorded}
-use Rattle.cell_model.specs.SingleCopy.{image_from, image_of, reply_after}
+use Rattle.cell_model.specs.SingleCopy.{image_from, image_after, reply_after}
 use Rattle.prdb_entries.specs.Agreement.{IsMeant}
 use Rattle.prdb_entries.specs.Call.{PrCall, NewUser, NameToId}
 use Rattle.prdb_entries.specs.Layout.{StandsFor, layout}
@@ -36,7 +36,7 @@ stands_from laws image s (t ∷ transactions) stands =
     stands_from laws (protection.call image t.moment t.call).image (state_after s t.moment (call_of t.call)) transactions
     (stands_after laws image s t.moment t.call (call_of t.call) refl stands)
 
-pub image_stands : DatabaseLaws → (transactions : List Transaction) → StandsFor (image_of protection transactions) (state_of transactions)
+pub image_stands : DatabaseLaws → (transactions : List Transaction) → StandsFor (image_after protection transactions) (state_of transactions)
 image_stands laws transactions = stands_from laws [] initial_state transactions laws.first
 
 replied : DatabaseLaws → (image : List ℕ) (s : PrState) (now : ℕ) (bytes : List ℕ) (call : Option PrCall) → call_of bytes ≡ call → StandsFor image s → (protection.call image now bytes).reply ≡ reply_in s now call
@@ -46,7 +46,7 @@ replied laws image s now bytes (Some call) is stands = (laws.means s image bytes
 -- the single copy over images replies what the call means
 pub reply_meant : DatabaseLaws → (transactions : List Transaction) (now : ℕ) (bytes : List ℕ) → reply_after protection transactions now bytes ≡ reply_of transactions now bytes
 reply_meant laws transactions now bytes =
-    replied laws (image_of protection transactions) (state_of transactions) now bytes (call_of bytes) refl (image_stands laws transactions)
+    replied laws (image_after protection transactions) (state_of transactions) now bytes (call_of bytes) refl (image_stands laws transactions)
 
 state_from-append : (s : PrState) (front more : List Transaction) → state_from s (front ++ more) ≡ state_from (state_from s front) more
 state_from-append s [] more = refl
@@ -61,18 +61,18 @@ still laws image s now bytes None is stands same = refl
 still laws image s now bytes (Some call) is stands same = (laws.means s image bytes now call stands is).moves same
 
 -- a transaction that leaves the image leaves the state
-unmoved : DatabaseLaws → (order : List Transaction) (t : Transaction) → image_of protection (order ++ t ∷ []) ≡ image_of protection order → state_of (order ++ t ∷ []) ≡ state_of order
+unmoved : DatabaseLaws → (order : List Transaction) (t : Transaction) → image_after protection (order ++ t ∷ []) ≡ image_after protection order → state_of (order ++ t ∷ []) ≡ state_of order
 unmoved laws order t same =
     state_from-append initial_state order (t ∷ [])
-    ∙ still laws (image_of protection order) (state_of order) t.moment t.call (call_of t.call) refl (image_stands laws order) (sym (image_from-append [] order (t ∷ [])) ∙ same)
+    ∙ still laws (image_after protection order) (state_of order) t.moment t.call (call_of t.call) refl (image_stands laws order) (sym (image_from-append [] order (t ∷ [])) ∙ same)
 
 -- no transaction leaves an image that is shorter than before
-longer : DatabaseLaws → (order : List Transaction) (t : Transaction) → length (image_of protection order) ≤ length (image_of protection (order ++ t ∷ []))
+longer : DatabaseLaws → (order : List Transaction) (t : Transaction) → length (image_after protection order) ≤ length (image_after protection (order ++ t ∷ []))
 longer laws order t =
-    subst (λ (image : List ℕ). length (image_of protection order) ≤ length image) (sym (image_from-append [] order (t ∷ []))) (laws.never_shrinks (image_of protection order) t.call t.moment)
+    subst (λ (image : List ℕ). length (image_after protection order) ≤ length image) (sym (image_from-append [] order (t ∷ []))) (laws.never_shrinks (image_after protection order) t.call t.moment)
 
 -- a transaction that changes no block leaves the image
-same_image : DatabaseLaws → (order : List Transaction) (t : Transaction) → ChangesNothing protection order t → image_of protection (order ++ t ∷ []) ≡ image_of protection order
+same_image : DatabaseLaws → (order : List Transaction) (t : Transaction) → ChangesNothing protection order t → image_after protection (order ++ t ∷ []) ≡ image_after protection order
 same_image laws order t changes = changes.1 (omega arith) (longer laws order t)
 
 pub counted : DatabaseLaws → (r later : Run) (t : Transaction) → IsRecorded protection r later t → IsCounted r later t

@@ -3,8 +3,8 @@ use Rattle.std.specs.Prelude.{◌≡◌, ◌⊎◌, ◌+◌, ◌-◌, ◌<◌, �
 use Rattle.db_image.specs.Database.{Database}
 use Rattle.disk_base.specs.Crash.{IsSettled}
 use Rattle.disk_base.specs.Files.{Files, no_files}
-use Rattle.disk_base.specs.Stops.{Stop}
-use Rattle.disk_base.specs.Stops.Stop.{Unarmed}
+use Rattle.disk_base.specs.Stops.{DiskStop}
+use Rattle.disk_base.specs.Stops.DiskStop.{Unarmed}
 use Rattle.cell_model.specs.declared.events.NodeEvent.{NodeEvent}
 use Rattle.cell_model.specs.Book.{Run, run_after}
 use Rattle.cell_model.specs.Durable.{Durable, durable, no_database}
@@ -126,7 +126,7 @@ LineShort disk run result =
     IsReadAs disk run ⊎ ((ran : Line_run) × (result Sound ≡ Ok ran) × IsReadAs disk ran.stage.run)
 
 -- a disk that was opened anew: it is unarmed, and nothing is pending on it
-abbrev pub IsRevived : {D : Type 0} → (D → Stop) → (D → Option Files) → (D → Files → Type 0) → D → Type 0
+abbrev pub IsRevived : {D : Type 0} → (D → DiskStop) → (D → Option Files) → (D → Files → Type 0) → D → Type 0
 IsRevived stop files may_leave disk = (stop disk ≡ Unarmed) × IsSettled (files disk) (may_leave disk)
 
 -- a server that stays down, and tells so

@@ -8,11 +8,11 @@ use Rattle.ubik_types.specs.declared.versions.Version.{Version}
 use Rattle.ubik_types.specs.Version.{version_eq}
 use Rattle.db_image.specs.Database.{Database}
 use Rattle.cell_model.specs.declared.events.NodeEvent.{NodeEvent}
-use Rattle.cell_model.specs.Book.{Book, Page, list_of, list_or_none, entered}
+use Rattle.cell_model.specs.Book.{Book, BookVersion, list_of, list_or_none, entered}
 use Rattle.cell_model.specs.Durable.{Durable, Transaction, Made, durable, durable_after_all}
 use Rattle.cell_model.specs.Node.{Server}
 use Rattle.cell_model.specs.Recovery.{own_relabelling}
-use Rattle.cell_model.specs.SingleCopy.{image_from, image_of}
+use Rattle.cell_model.specs.SingleCopy.{image_from, image_after}
 use Rattle.cell_model.specs.Step.{Stepped}
 use Rattle.cell_model.specs.World.{entries_from}
 use Rattle.cell_model.specs.Writes.{own_commit}
@@ -24,13 +24,13 @@ same_version v =
     let counter : (v.counter == v.counter) ≡ true = grind (arith, nat_tests) in
     ap (λ (b : Bool). b && (v.counter == v.counter)) epoch ∙ counter
 
--- the list of the newest page
-pub newest : (page : Page) (book : Book) → list_of (page ∷ book) page.version ≡ Some page.transactions
-newest page book = ap (λ (b : Bool). cond b (Some page.transactions) (list_of book page.version)) (same_version page.version)
+-- the list of the newest version
+pub newest : (first : BookVersion) (book : Book) → list_of (first ∷ book) first.version ≡ Some first.transactions
+newest first book = ap (λ (b : Bool). cond b (Some first.transactions) (list_of book first.version)) (same_version first.version)
 
--- the list of a version that is not that of the newest page
-pub older : (page : Page) (book : Book) (v : Version) (list : List Transaction) → version_eq page.version v ≡ false → list_of book v ≡ Some list → list_of (page ∷ book) v ≡ Some list
-older page book v list other is = ap (λ (b : Bool). cond b (Some page.transactions) (list_of book v)) other ∙ is
+-- the list of a version that is not the newest
+pub older : (first : BookVersion) (book : Book) (v : Version) (list : List Transaction) → version_eq first.version v ≡ false → list_of book v ≡ Some list → list_of (first ∷ book) v ≡ Some list
+older first book v list other is = ap (λ (b : Bool). cond b (Some first.transactions) (list_of book v)) other ∙ is
 
 pub list_is : (book : Book) (v : Version) (list : List Transaction) → list_of book v ≡ Some list → list_or_none book v ≡ list
 list_is book v list is = ap (λ (o : Option (List Transaction)). unwrap_or o []) is
@@ -39,19 +39,19 @@ pub image_from-append : (db : Database) (image : List ℕ) (front more : List Tr
 image_from-append db image [] more = refl
 image_from-append db image (t ∷ front) more = image_from-append db (db.call image t.moment t.call).image front more
 
--- the pages of a relabelling and of a commit of the one server
-abbrev pub relabelled_page : Book → Version → Version → Page
-relabelled_page book old new =
+-- the versions that a relabelling and a commit of the one server make
+abbrev pub relabelled_version : Book → Version → Version → BookVersion
+relabelled_version book old new =
     record { version = new; before = old; transaction = None; maker = 0; transactions = list_or_none book old }
 
-abbrev pub committed_page : Book → Version → Version → Transaction → Page
-committed_page book old new t =
+abbrev pub committed_version : Book → Version → Version → Transaction → BookVersion
+committed_version book old new t =
     record { version = new; before = old; transaction = Some t; maker = 0; transactions = list_or_none book old ++ t ∷ [] }
 
 -- the list of a durable version, and the image that it leads to
 pub record IsListed (db : Database) (book : Book) (d : Durable) (list : List Transaction) : Type 0 where
   pub listed : list_of book d.version ≡ Some list
-  pub image_is : d.image ≡ image_of db list
+  pub image_is : d.image ≡ image_after db list
 
 -- the book after durable calls from a version on
 abbrev pub book_after : Book → Version → List Made → Book
@@ -69,13 +69,13 @@ module _ (db : Database) (book : Book) (d : Durable) (list : List Transaction) (
 
   pub goes_relabelled : (new : Version) → GoesOn db book d list (own_relabelling new ∷ []) []
   goes_relabelled new = record {
-    listed = newest (relabelled_page book d.version new) book ∙ ap (λ (l : List Transaction). Some l) (list_is book d.version list is.listed ∙ sym (append-nil list));
-    image_is = is.image_is ∙ ap (image_of db) (sym (append-nil list));
+    listed = newest (relabelled_version book d.version new) book ∙ ap (λ (l : List Transaction). Some l) (list_is book d.version list is.listed ∙ sym (append-nil list));
+    image_is = is.image_is ∙ ap (image_after db) (sym (append-nil list));
   }
 
   pub goes_committed : (new : Version) (changes : List Change) (now : ℕ) (call : List ℕ) → GoesOn db book d list (own_commit new changes (db.call d.image now call).image (made_at now call) ∷ []) (made_at now call ∷ [])
   goes_committed new changes now call = record {
-    listed = newest (committed_page book d.version new (made_at now call)) book ∙ ap (λ (l : List Transaction). Some (l ++ made_at now call ∷ [])) (list_is book d.version list is.listed);
+    listed = newest (committed_version book d.version new (made_at now call)) book ∙ ap (λ (l : List Transaction). Some (l ++ made_at now call ∷ [])) (list_is book d.version list is.listed);
     image_is = ap (λ (image : List ℕ). (db.call image now call).image) is.image_is ∙ sym (image_from-append db [] list (made_at now call ∷ []));
   }
 
