@@ -6,4 +6,4 @@ mod endings;
 mod limits;
 
 pub use endings::{Ending, Which};
-pub use limits::{MAX_LINES, MAX_PACKET_BYTES, MAX_PACKETS, MAX_STOP};
+pub use limits::{MAX_LINES, MAX_PACKET_BYTES, MAX_PACKETS};
