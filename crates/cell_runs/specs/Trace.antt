@@ -1,5 +1,5 @@
 -- The trace: the text of what is seen of a script, a line for each, in its order (own). Servers are counted from 1.
-use Rattle.std.specs.Prelude.{◌≡◌, ℕ, ◌+◌, IsSomeAnd, Bool, true, false, if◌then◌else◌, Option, Some, None, List, [], ◌∷◌, ◌++◌, codes, length}
+use Rattle.std.specs.Prelude.{◌≡◌, ℕ, ◌+◌, ◌==◌, IsSomeAnd, Bool, true, false, if◌then◌else◌, Option, Some, None, List, [], ◌∷◌, ◌++◌, codes, length}
 use Rattle.std.specs.Fmt.{decimal}
 use Rattle.std.specs.List.{flat_map}
 use Rattle.ubik_types.specs.declared.hosts.Host.{Host}
@@ -198,3 +198,16 @@ FitsReply _ call e = Unit {0}
 abbrev pub FitsCall : Output → List ℕ → Option Evaluation → Type 0
 FitsCall (output.Reply id r) call e = FitsReply r call e
 FitsCall _ call e = Unit {0}
+
+-- whether a disk fault or a stop of a server is seen
+abbrev pub is_fault_of : ℕ → Happening → Bool
+is_fault_of k (Stops server) = server == k
+is_fault_of k (Halts server) = server == k
+is_fault_of k (Stays_down server) = server == k
+is_fault_of k _ = false
+
+-- how many of a server are told
+abbrev pub fault_count : ℕ → List TraceItem → ℕ
+fault_count k [] = 0
+fault_count k (Tells h ∷ items) = (if is_fault_of k h then 1 else 0) + fault_count k items
+fault_count k (Shows server clock showing ∷ items) = fault_count k items

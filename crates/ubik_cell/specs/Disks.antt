@@ -6,6 +6,7 @@ use Rattle.disk_base.specs.Stops.{DiskStop}
 use Rattle.disk_base.specs.Stops.DiskStop.{Unarmed}
 use Rattle.cell_model.specs.World.{Site}
 use Rattle.cell_runs.specs.Script.{Cell}
+use Rattle.cell_sites.specs.Disks.{Held}
 use Rattle.ubik_node.specs.Database.{durable_of}
 
 -- an empty disk that is not to stop, and has not failed
@@ -16,17 +17,6 @@ pub record IsFresh {D : Type 0} (files : D → Option Files) (stop : D → DiskS
 
 abbrev pub AllFresh : {D : Type 0} → (D → Option Files) → (D → DiskStop) → (D → ℕ) → List D → Type 0
 AllFresh files stop faults disks = All (λ d. IsFresh files stop faults d) disks
-
--- what a disk reads as, where it tells it, and how often it has failed
-pub record Held : Type 0 where
-  pub files : Option Files
-  pub faults : ℕ
-
-abbrev pub held : {D : Type 0} → (D → Option Files) → (D → ℕ) → D → Held
-held files faults disk = record { files = files disk; faults = faults disk }
-
-abbrev pub all_held : {D : Type 0} → (D → Option Files) → (D → ℕ) → List D → List Held
-all_held files faults disks = map (held files faults) disks
 
 -- the database file is this durable state, and there is no log and no incoming file
 pub record ReadsDurable (site : Site) (fs : Files) : Type 0 where

@@ -6,7 +6,8 @@ use Rattle.script_promises.specs.Databases.{databases}
 use Rattle.script_promises.specs.Order.{HasOneOrder}
 use Rattle.script_promises.specs.Kept.{IsKept}
 use Rattle.script_promises.specs.Replies.{HasSingleReplies}
-use Rattle.ubik_cell.specs.Disks.{Held, ReadAsCell}
+use Rattle.cell_sites.specs.Disks.{Held, AreCauses}
+use Rattle.ubik_cell.specs.Disks.{ReadAsCell}
 use Rattle.ubik_cell.specs.Runs.{Runs, sound_lines}
 use Rattle.ubik_cell.specs.declared.cells.CellKind.{CellKind}
 use Rattle.ubik_cell.specs.declared.cells.CellKind.TheVariants as kind
@@ -33,7 +34,8 @@ untold_of kind.NoMemory readings script left before after run = run.more
 untold_of _ readings script left before after run = []
 
 -- One run: its bytes are those that were written, it is a run of the world, and in a cell of one server its committed transactions
--- have one order, what was acknowledged is kept, its replies are those of the single copy; and the disks hold it.
+-- have one order, what was acknowledged is kept, its replies are those of the single copy; each stop, halt and failed opening that it
+-- tells is a fault of that server's disk; and the disks hold the durable states.
 pub record Headline (k : CellKind) (script : List ℕ) (left : Option (List ℕ)) (before : List ℕ) (after : Option (List ℕ)) (disks : List Held) : Type 0 where
   pub readings : List LineRead
   pub run : Runs k databases readings script left before after
@@ -41,4 +43,5 @@ pub record Headline (k : CellKind) (script : List ℕ) (left : Option (List ℕ)
   pub one_order : OfOneAfter HasOneOrder readings
   pub kept : OfOneAfter IsKept readings
   pub single_copy : OfOneAfter HasSingleReplies readings
+  pub causes : AreCauses 0 (told databases readings).items disks
   pub disks : DisksHold readings (untold_of k readings script left before after run) disks
