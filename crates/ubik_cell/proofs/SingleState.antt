@@ -36,7 +36,8 @@ stands_from laws image s (t ∷ transactions) stands =
     stands_from laws (protection.call image t.moment t.call).image (state_after s t.moment (call_of t.call)) transactions
     (stands_after laws image s t.moment t.call (call_of t.call) refl stands)
 
-pub image_stands : DatabaseLaws → (transactions : List Transaction) → StandsFor (image_after protection transactions) (state_of transactions)
+pub image_stands : DatabaseLaws → (transactions : List Transaction)
+    → StandsFor (image_after protection transactions) (state_of transactions)
 image_stands laws transactions = stands_from laws [] initial_state transactions laws.first
 
 replied : DatabaseLaws → (image : List ℕ) (s : PrState) (now : ℕ) (bytes : List ℕ) (call : Option PrCall) → call_of bytes ≡ call → StandsFor image s → (protection.call image now bytes).reply ≡ reply_in s now call
@@ -46,7 +47,8 @@ replied laws image s now bytes (Some call) is stands = (laws.means s image bytes
 -- the single copy over images replies what the call means
 pub reply_meant : DatabaseLaws → (transactions : List Transaction) (now : ℕ) (bytes : List ℕ) → reply_after protection transactions now bytes ≡ reply_of transactions now bytes
 reply_meant laws transactions now bytes =
-    replied laws (image_after protection transactions) (state_of transactions) now bytes (call_of bytes) refl (image_stands laws transactions)
+    replied laws (image_after protection transactions) (state_of transactions) now bytes (call_of bytes) refl
+    (image_stands laws transactions)
 
 state_from-append : (s : PrState) (front more : List Transaction) → state_from s (front ++ more) ≡ state_from (state_from s front) more
 state_from-append s [] more = refl
