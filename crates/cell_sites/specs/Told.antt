@@ -29,8 +29,15 @@ pub record CellTold {D V : Type 0} (files : D → Option Files) (faults : D → 
 abbrev pub IsRefused : Why → (List Choice → Run_or_why) → Type 0
 IsRefused why run = (choices : List Choice) → run choices ≡ Err why
 
--- Memory ran out in a line: the disks read as before it, or as after it where no disk fails.
-abbrev pub IsShort : {D V : Type 0} → (D → Option Files) → (D → ℕ) → (List Choice → Run_or_why) → Cell → OpenCell D V → Type 0
-IsShort files faults run c after =
-    AreReadBy c.run.world.sites (helds files faults after)
-    ⊎ ((ran : Cell_run) × (run [] ≡ Ok ran) × AreReadBy ran.cell.run.world.sites (helds files faults after))
+-- Memory ran out in a line that was run with some choices, perhaps before all was told: the disks read as after it.
+pub record IsShortAfter {D V : Type 0} (files : D → Option Files) (faults : D → ℕ) (run : List Choice → Run_or_why) (before after : OpenCell D V) : Type 0 where
+  pub choices : List Choice
+  pub ran : Cell_run
+  pub is : run choices ≡ Ok ran
+  pub read : AreReadBy ran.cell.run.world.sites (helds files faults after)
+  pub causes : AreRises 0 ran.items (helds files faults before) (helds files faults after)
+
+-- Memory ran out in a line: the disks read as before it, or as after it.
+abbrev pub IsShort : {D V : Type 0} → (D → Option Files) → (D → ℕ) → (List Choice → Run_or_why) → Cell → (before after : OpenCell D V) → Type 0
+IsShort files faults run c before after =
+    AreReadBy c.run.world.sites (helds files faults after) ⊎ IsShortAfter files faults run before after
