@@ -27,7 +27,8 @@ use Rattle.cell_runs.specs.declared.endings.Ending.{Ending}
 use Rattle.cell_runs.specs.declared.endings.Ending.TheVariants.{Refused, Limit}
 use Rattle.cell_runs.specs.declared.endings.Which.TheVariants.{Lines, Packets, PacketBytes}
 use Rattle.cell_runs.specs.ScriptDatabase.{ScriptDatabase, Databases}
-use Rattle.cell_runs.specs.Trace.{Showing, TraceItem, Tells, Shows, trace, ending_text}
+use Rattle.cell_runs.specs.declared.traces.Showing.{Showing}
+use Rattle.cell_runs.specs.Trace.{TraceItem, Tells, Shows, trace, ending_text}
 
 -- The choices of a step or an opening: whether its disk fails; how many of its durable calls took place, where it does; and
 -- whether the durable call took place in which an armed disk stops.
@@ -45,7 +46,7 @@ first_choice [] = sound
 first_choice (choice ∷ _) = choice
 
 -- a line that was read, and the choices of the steps and openings in it, in their order
-pub record Reading : Type 0 where
+pub record LineRead : Type 0 where
   pub line : List ℕ
   pub choices : List Choice
 
@@ -341,12 +342,12 @@ asked_at script_db c choice id call None = Err why.Number
 asked_at script_db c choice id call (Some number) = at_up c number (λ k. stepped script_db c choice (Asking k id call))
 
 abbrev pub asked_in : ScriptDatabase → Cell → Choice → ℕ → List (List ℕ) → Option ℕ → Option (List ℕ) → Run_or_why
-asked_in script_db c choice id words server None = if script_db.is_unbuilt words then Err why.Unbuilt else Err why.Syntax
+asked_in script_db c choice id words server None = if script_db.words.is_unbuilt words then Err why.Unbuilt else Err why.Syntax
 asked_in script_db c choice id words server (Some call) = asked_at script_db c choice id call server
 
 -- the words of the call come first, and then the number of the server
 abbrev pub asked : ScriptDatabase → Cell → Choice → ℕ → List (List ℕ) → Option ℕ → Run_or_why
-asked script_db c choice id words server = asked_in script_db c choice id words server (script_db.call_of words)
+asked script_db c choice id words server = asked_in script_db c choice id words server (script_db.words.call_of words)
 
 abbrev pub next_line : Stage → Stage
 next_line st = record st { lines = st.lines + 1 }
@@ -415,13 +416,13 @@ servers_of None = 0
 servers_of (Some c) = cell_size_of c
 
 -- what becomes of a line; a script has 20,000 of them at most
-abbrev pub line_result : Databases → Stage → Reading → Result Line_run Ending
+abbrev pub line_result : Databases → Stage → LineRead → Result Line_run Ending
 line_result dbs st r =
     if nat_le MAX_LINES st.lines then Err (Limit Lines)
     else or_refused (meaning_run dbs (next_line st) r.choices (line_of (servers_of st.cell) r.line))
 
 -- where a script ended before its end: the number of the line, and why
-pub record Halt : Type 0 where
+pub record ScriptEnd : Type 0 where
   pub line : ℕ
   pub ending : Ending
 
@@ -430,18 +431,18 @@ pub record Told : Type 0 where
   pub stage : Stage
   pub items : List TraceItem
   pub text : List ℕ
-  pub halt : Option Halt
+  pub ended : Option ScriptEnd
 
 abbrev pub first_told : Told
-first_told = record { stage = first_stage; items = []; text = []; halt = None }
+first_told = record { stage = first_stage; items = []; text = []; ended = None }
 
-abbrev pub halt_text : Option Halt → List ℕ
-halt_text None = []
-halt_text (Some h) = ending_text h.line h.ending
+abbrev pub end_text : Option ScriptEnd → List ℕ
+end_text None = []
+end_text (Some h) = ending_text h.line h.ending
 
-abbrev pub halt_at : ℕ → Option Ending → Option Halt
-halt_at line None = None
-halt_at line (Some ending) = Some (record { line = line; ending = ending })
+abbrev pub ended_at : ℕ → Option Ending → Option ScriptEnd
+ended_at line None = None
+ended_at line (Some ending) = Some (record { line = line; ending = ending })
 
 abbrev pub text_in : Databases → Option Cell → List TraceItem → List ℕ
 text_in dbs None items = []
@@ -450,26 +451,26 @@ text_in dbs (Some c) items = trace (dbs (kind_of_cell c)) c.run.world.hosts item
 -- a line that was run tells what it tells, and where the script ends in it; one that was not tells why
 abbrev pub told_with : Databases → Told → Result Line_run Ending → Told
 told_with dbs t (Err ending) =
-    let halt = halt_at (t.stage.lines + 1) (Some ending) in
-    record t { text = t.text ++ halt_text halt; halt = halt }
+    let ended = ended_at (t.stage.lines + 1) (Some ending) in
+    record t { text = t.text ++ end_text ended; ended = ended }
 told_with dbs t (Ok run) =
-    let halt = halt_at (t.stage.lines + 1) run.ending in
+    let ended = ended_at (t.stage.lines + 1) run.ending in
     record {
       stage = run.stage;
       items = t.items ++ run.items;
-      text = t.text ++ text_in dbs run.stage.cell run.items ++ halt_text halt;
-      halt = halt;
+      text = t.text ++ text_in dbs run.stage.cell run.items ++ end_text ended;
+      ended = ended;
     }
 
 -- one more line; nothing is told after the line at which the script ended
-abbrev pub told_after : Databases → Told → Reading → Option Halt → Told
+abbrev pub told_after : Databases → Told → LineRead → Option ScriptEnd → Told
 told_after dbs t r None = told_with dbs t (line_result dbs t.stage r)
 told_after dbs t r (Some h) = t
 
 -- all that these lines tell
-abbrev pub told_from : Databases → Told → List Reading → Told
+abbrev pub told_from : Databases → Told → List LineRead → Told
 told_from dbs t [] = t
-told_from dbs t (r ∷ readings) = told_from dbs (told_after dbs t r t.halt) readings
+told_from dbs t (r ∷ readings) = told_from dbs (told_after dbs t r t.ended) readings
 
-abbrev pub told : Databases → List Reading → Told
+abbrev pub told : Databases → List LineRead → Told
 told dbs readings = told_from dbs first_told readings
