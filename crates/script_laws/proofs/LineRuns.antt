@@ -185,12 +185,12 @@ module _ (law : VotersVote) (script_db : ScriptDatabase) (asks : ℕ) (c : Cell)
   -- ---- an ask
 
   module _
-      (names : (words : List (List ℕ)) (call : List ℕ) → script_db.call_of words ≡ Some call → IsSome (script_db.database.writes call))
+      (names : (words : List (List ℕ)) (call : List ℕ) → script_db.words.call_of words ≡ Some call → IsSome (script_db.database.writes call))
       (choice : Choice) (words : List (List ℕ)) where
-    call_part : (server : Option ℕ) (call : Option (List ℕ)) → script_db.call_of words ≡ call
+    call_part : (server : Option ℕ) (call : Option (List ℕ)) → script_db.words.call_of words ≡ call
         → MayPart (asks + 1) (asked_in script_db c choice (asks + 1) words server call)
     call_part server None is =
-        cond_both (script_db.is_unbuilt words) (Err why.Unbuilt) (Err why.Syntax) (MayPart (asks + 1)) (λ _. tt) (λ _. tt)
+        cond_both (script_db.words.is_unbuilt words) (Err why.Unbuilt) (Err why.Syntax) (MayPart (asks + 1)) (λ _. tt) (λ _. tt)
     call_part None (Some call) is = tt
     call_part (Some number) (Some call) is =
         up_part (asks + 1) number (λ k. stepped script_db c choice (Asking k (asks + 1) call))
@@ -207,4 +207,4 @@ module _ (law : VotersVote) (script_db : ScriptDatabase) (asks : ℕ) (c : Cell)
         }))
 
     pub ask_part : (server : Option ℕ) → MayPart (asks + 1) (asked script_db c choice (asks + 1) words server)
-    ask_part server = call_part server (script_db.call_of words) refl
+    ask_part server = call_part server (script_db.words.call_of words) refl

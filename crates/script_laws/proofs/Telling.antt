@@ -19,7 +19,7 @@ use Rattle.cell_script.specs.declared.lines.Why.{Why}
 use Rattle.cell_script.specs.Meaning.{line_of}
 use Rattle.cell_runs.specs.declared.limits.TheConstants.{MAX_LINES}
 use Rattle.cell_runs.specs.declared.endings.Ending.{Ending}
-use Rattle.cell_runs.specs.Script.{Choice, Reading, Opening, Cell, Cell_run, Stage, Line_run, Run_or_why, Halt, Told, hosts_from, hosts_of, fails_at, first_choice, opened_cell, kind_of_cell, cell_size_of, servers_of, next_line, in_stage, asked, run_in, run_first, run_standing, line_run, meaning_run, or_refused, line_result, first_told, halt_text, halt_at, told_with, told_after, told_from, told}
+use Rattle.cell_runs.specs.Script.{Choice, LineRead, Opening, Cell, Cell_run, Stage, Line_run, Run_or_why, ScriptEnd, Told, hosts_from, hosts_of, fails_at, first_choice, opened_cell, kind_of_cell, cell_size_of, servers_of, next_line, in_stage, asked, run_in, run_first, run_standing, line_run, meaning_run, or_refused, line_result, first_told, end_text, ended_at, told_with, told_after, told_from, told}
 use Rattle.cell_runs.specs.ScriptDatabase.{ScriptDatabase, Databases}
 use Rattle.cell_runs.specs.Trace.{TraceItem, Tells, trace, item_text}
 use Rattle.script_laws.specs.Runs.{NamesCalls, database_of, first_of, happenings_of, passes_packets, IsScripted, IsRunOf, IsRunOfCell, ScriptsAreRuns}
@@ -173,7 +173,7 @@ module _ (law : VotersVote) (dbs : Databases) (names : NamesCalls dbs) where
   if_line cell true x y first second = first
   if_line cell false x y first second = second
 
-  pub result_line : (st : Stage) (r : Reading) → CellFits st.asks st.cell → IfOk (line_result dbs st r) (IsLine dbs st.cell)
+  pub result_line : (st : Stage) (r : LineRead) → CellFits st.asks st.cell → IfOk (line_result dbs st r) (IsLine dbs st.cell)
   result_line st r fits =
       if_line st.cell (nat_le MAX_LINES st.lines) _ _ tt
       (refused_line st.cell (meaning_run dbs (next_line st) r.choices (line_of (servers_of st.cell) r.line))
@@ -188,7 +188,7 @@ record IsSoFar (dbs : Databases) (t : Told) (c : Cell) : Type 0 where
   pub handed : length c.handed ≡ length c.run.world.packets
 
 abbrev SoFar : Databases → Told → Option Cell → Type 0
-SoFar dbs t None = (t.items ≡ []) × (t.text ≡ halt_text t.halt)
+SoFar dbs t None = (t.items ≡ []) × (t.text ≡ end_text t.ended)
 SoFar dbs t (Some c) = IsSoFar dbs t c
 
 fits_so_far : (dbs : Databases) (t : Told) (cell : Option Cell) → SoFar dbs t cell → CellFits t.stage.asks cell
@@ -196,20 +196,20 @@ fits_so_far dbs t None so = tt
 fits_so_far dbs t (Some c) so = (so.fits, so.handed)
 
 -- while the script goes on
-going_text : (halt : Option Halt) → halt ≡ None → halt_text halt ≡ []
-going_text halt goes = ap halt_text goes
+going_text : (ended : Option ScriptEnd) → ended ≡ None → end_text ended ≡ []
+going_text ended goes = ap end_text goes
 
-halts_by : (n : ℕ) (ending : Option Ending) → passes_packets (halt_at n ending) ≡ ends_by_packets ending
+halts_by : (n : ℕ) (ending : Option Ending) → passes_packets (ended_at n ending) ≡ ends_by_packets ending
 halts_by n None = refl
 halts_by n (Some ending) = refl
 
 -- the script ends before this line is run
-ended_line : (dbs : Databases) (t : Told) (ending : Ending) (cell : Option Cell) → t.halt ≡ None → SoFar dbs t cell
+ended_line : (dbs : Databases) (t : Told) (ending : Ending) (cell : Option Cell) → t.ended ≡ None → SoFar dbs t cell
     → SoFar dbs (told_with dbs t (Err ending)) cell
 ended_line dbs t ending None goes so =
-    (so.0, ap (λ (text : List ℕ). text ++ halt_text (halt_at (t.stage.lines + 1) (Some ending))) (so.1 ∙ going_text t.halt goes))
+    (so.0, ap (λ (text : List ℕ). text ++ end_text (ended_at (t.stage.lines + 1) (Some ending))) (so.1 ∙ going_text t.ended goes))
 ended_line dbs t ending (Some c) goes so =
-    let last = halt_text (halt_at (t.stage.lines + 1) (Some ending)) in
+    let last = end_text (ended_at (t.stage.lines + 1) (Some ending)) in
     let items = trace (dbs (kind_of_cell c)) c.run.world.hosts t.items in
     record {
       run = record {
@@ -221,7 +221,7 @@ ended_line dbs t ending (Some c) goes so =
         seen = record { back = so.run.seen.back; split = so.run.seen.split; whole = λ _. so.run.seen.whole (ap passes_packets goes) };
         text =
             ap (λ (text : List ℕ). text ++ last)
-            (so.run.text ∙ ap (λ (l : List ℕ). items ++ l) (going_text t.halt goes) ∙ append-nil items);
+            (so.run.text ∙ ap (λ (l : List ℕ). items ++ l) (going_text t.ended goes) ∙ append-nil items);
       };
       fits = so.fits;
       handed = so.handed;
@@ -231,7 +231,7 @@ trace-append : (script_db : ScriptDatabase) (hosts : List Host) (items more : Li
     → trace script_db hosts (items ++ more) ≡ trace script_db hosts items ++ trace script_db hosts more
 trace-append script_db hosts items more = flat_map-append (item_text script_db hosts) items more
 
-opened_line : VotersVote → (dbs : Databases) (t : Told) (run : Line_run) → t.halt ≡ None → SoFar dbs t None → Opens run
+opened_line : VotersVote → (dbs : Databases) (t : Told) (run : Line_run) → t.ended ≡ None → SoFar dbs t None → Opens run
     → SoFar dbs (told_with dbs t (Ok run)) run.stage.cell
 opened_line law dbs t run goes so is =
     subst (λ (x : Line_run). SoFar dbs (told_with dbs t (Ok x)) x.stage.cell) (sym is.is) (record {
@@ -250,7 +250,7 @@ opened_line law dbs t run goes so is =
         };
         text =
             ap (λ (text : List ℕ). text ++ trace (dbs is.kind) (hosts_of is.servers) (map Tells (first_seen 0 is.failed)) ++ [])
-            (so.1 ∙ going_text t.halt goes)
+            (so.1 ∙ going_text t.ended goes)
             ∙ ap (λ (l : List TraceItem). trace (dbs is.kind) (hosts_of is.servers) l ++ []) (sym items);
       };
       fits = first_fits law (hosts_of is.servers) is.stage.asks is.clock is.failed each;
@@ -268,7 +268,7 @@ opened_line law dbs t run goes so is =
 
 -- ---- a line that goes on with a run
 
-module _ (dbs : Databases) (t : Told) (c : Cell) (stage : Stage) (r : Cell_run) (goes : t.halt ≡ None) (so : IsSoFar dbs t c)
+module _ (dbs : Databases) (t : Told) (c : Cell) (stage : Stage) (r : Cell_run) (goes : t.ended ≡ None) (so : IsSoFar dbs t c)
     (part : IsPart (dbs (kind_of_cell c)) stage.asks c.opening c.events c.run r) where
   abbrev db : Database
   db = database_of dbs c
@@ -318,7 +318,7 @@ module _ (dbs : Databases) (t : Told) (c : Cell) (stage : Stage) (r : Cell_run) 
       let tells : List Host → List TraceItem → List ℕ = λ hosts items. trace (dbs (kind_of_cell c)) hosts items in
       let before = tells c.run.world.hosts t.items in
       ap (λ (text : List ℕ). (text ++ tells after.run.world.hosts r.items) ++ last)
-      (so.run.text ∙ ap (λ (l : List ℕ). before ++ l) (going_text t.halt goes) ∙ append-nil before ∙ ap
+      (so.run.text ∙ ap (λ (l : List ℕ). before ++ l) (going_text t.ended goes) ∙ append-nil before ∙ ap
       (λ (hosts : List Host). tells hosts t.items) (sym same_hosts))
       ∙ ap (λ (l : List ℕ). l ++ last) (sym (trace-append (dbs (kind_of_cell c)) after.run.world.hosts t.items r.items))
 
@@ -335,7 +335,7 @@ module _ (dbs : Databases) (t : Told) (c : Cell) (stage : Stage) (r : Cell_run) 
         (legal-append db (first_of c) c.events part.events so.run.legal
         (subst (λ (w : World). IsRun db w part.events) world_before part.legal));
     seen = record { back = part.back; split = seen_split; whole = λ none. part.whole (sym (halts_by (t.stage.lines + 1) r.ending) ∙ none) };
-    text = text_split (halt_text (halt_at (t.stage.lines + 1) r.ending));
+    text = text_split (end_text (ended_at (t.stage.lines + 1) r.ending));
   }
 
   so_far_after : SoFar dbs (told_with dbs t (Ok (ran stage r.cell r.items r.ending))) (Some r.cell)
@@ -348,34 +348,34 @@ module _ (dbs : Databases) (t : Told) (c : Cell) (stage : Stage) (r : Cell_run) 
 
 -- ---- each line, and all
 
-ran_line : VotersVote → (dbs : Databases) (t : Told) (run : Line_run) (cell : Option Cell) → t.halt ≡ None → SoFar dbs t cell
+ran_line : VotersVote → (dbs : Databases) (t : Told) (run : Line_run) (cell : Option Cell) → t.ended ≡ None → SoFar dbs t cell
     → IsLine dbs cell run → SoFar dbs (told_with dbs t (Ok run)) run.stage.cell
 ran_line law dbs t run None goes so (inl is) =
     subst (λ (x : Line_run). SoFar dbs (told_with dbs t (Ok x)) x.stage.cell) (sym is.is)
     (let P : Option Cell → Type 0 = λ o. SoFar dbs
     (told_with dbs t (Ok (record { stage = record is.stage { cell = o }; items = []; ending = None }))) o in
-    subst P (sym is.none) (append-nil t.items ∙ so.0, append-nil (t.text ++ []) ∙ append-nil t.text ∙ so.1 ∙ going_text t.halt goes))
+    subst P (sym is.none) (append-nil t.items ∙ so.0, append-nil (t.text ++ []) ∙ append-nil t.text ∙ so.1 ∙ going_text t.ended goes))
 ran_line law dbs t run None goes so (inr is) = opened_line law dbs t run goes so is
 ran_line law dbs t run (Some c) goes so is =
     subst (λ (x : Line_run). SoFar dbs (told_with dbs t (Ok x)) x.stage.cell) (sym is.is)
     (so_far_after dbs t c is.stage is.r goes so is.part)
 
-with_line : VotersVote → (dbs : Databases) (t : Told) (o : Result Line_run Ending) → t.halt ≡ None → SoFar dbs t t.stage.cell
+with_line : VotersVote → (dbs : Databases) (t : Told) (o : Result Line_run Ending) → t.ended ≡ None → SoFar dbs t t.stage.cell
     → IfOk o (IsLine dbs t.stage.cell) → SoFar dbs (told_with dbs t o) (told_with dbs t o).stage.cell
 with_line law dbs t (Err ending) goes so is = ended_line dbs t ending t.stage.cell goes so
 with_line law dbs t (Ok run) goes so is = ran_line law dbs t run t.stage.cell goes so is
 
 module _ (law : VotersVote) (dbs : Databases) (names : NamesCalls dbs) where
-  one_line : (t : Told) (r : Reading) (halt : Option Halt) → t.halt ≡ halt → SoFar dbs t t.stage.cell
-      → SoFar dbs (told_after dbs t r halt) (told_after dbs t r halt).stage.cell
+  one_line : (t : Told) (r : LineRead) (ended : Option ScriptEnd) → t.ended ≡ ended → SoFar dbs t t.stage.cell
+      → SoFar dbs (told_after dbs t r ended) (told_after dbs t r ended).stage.cell
   one_line t r None goes so =
       with_line law dbs t (line_result dbs t.stage r) goes so (result_line law dbs names t.stage r (fits_so_far dbs t t.stage.cell so))
   one_line t r (Some h) ended so = so
 
-  from_lines : (t : Told) (readings : List Reading) → SoFar dbs t t.stage.cell
+  from_lines : (t : Told) (readings : List LineRead) → SoFar dbs t t.stage.cell
       → SoFar dbs (told_from dbs t readings) (told_from dbs t readings).stage.cell
   from_lines t [] so = so
-  from_lines t (r ∷ readings) so = from_lines (told_after dbs t r t.halt) readings (one_line t r t.halt refl so)
+  from_lines t (r ∷ readings) so = from_lines (told_after dbs t r t.ended) readings (one_line t r t.ended refl so)
 
 run_so_far : (dbs : Databases) (t : Told) (cell : Option Cell) → SoFar dbs t cell → IsRunOfCell dbs t cell
 run_so_far dbs t None so = so

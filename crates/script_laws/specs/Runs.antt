@@ -7,14 +7,14 @@ use Rattle.cell_script.specs.declared.lines.Kind.{Kind}
 use Rattle.cell_runs.specs.declared.endings.Ending.{Ending}
 use Rattle.cell_runs.specs.declared.endings.Ending.TheVariants.{Limit}
 use Rattle.cell_runs.specs.declared.endings.Which.TheVariants.{Packets, PacketBytes}
-use Rattle.cell_runs.specs.Script.{Reading, Cell, Halt, Told, hosts_of, kind_of_cell, halt_text, told}
+use Rattle.cell_runs.specs.Script.{LineRead, Cell, ScriptEnd, Told, hosts_of, kind_of_cell, end_text, told}
 use Rattle.cell_runs.specs.ScriptDatabase.{Databases}
 use Rattle.cell_runs.specs.Trace.{TraceItem, Tells, Shows, trace}
 
 -- what the words of a script name is a call, of each kind of database
 abbrev pub NamesCalls : Databases → Type 0
 NamesCalls dbs =
-    (k : Kind) (words : List (List ℕ)) (call : List ℕ) → (dbs k).call_of words ≡ Some call → IsSome ((dbs k).database.writes call)
+    (k : Kind) (words : List (List ℕ)) (call : List ℕ) → (dbs k).words.call_of words ≡ Some call → IsSome ((dbs k).database.writes call)
 
 -- the database of a cell
 abbrev pub database_of : Databases → Cell → Database
@@ -40,7 +40,7 @@ is_of_packets (Limit Packets) = true
 is_of_packets (Limit PacketBytes) = true
 is_of_packets _ = false
 
-abbrev pub passes_packets : Option Halt → Bool
+abbrev pub passes_packets : Option ScriptEnd → Bool
 passes_packets None = false
 passes_packets (Some h) = is_of_packets h.ending
 
@@ -57,10 +57,10 @@ IsScripted db (Fault trigger short made) = AsksACall db trigger × (short ≡ []
 IsScripted db _ = Unit {0}
 
 -- All that was seen is told, in its order; where packets passed a limit it may be a front of that.
-pub record IsTold (halt : Option Halt) (seen : List Happening) (items : List TraceItem) : Type 0 where
+pub record IsTold (ended : Option ScriptEnd) (seen : List Happening) (items : List TraceItem) : Type 0 where
   pub back : List Happening
   pub split : seen ≡ happenings_of items ++ back
-  pub whole : passes_packets halt ≡ false → back ≡ []
+  pub whole : passes_packets ended ≡ false → back ≡ []
 
 -- What was told stands for a run of this cell: it was opened as a first world, each event is one of the world that those before it
 -- left, and one that a script may bring; what was seen is told, and the text says that.
@@ -70,12 +70,12 @@ pub record IsRunOf (dbs : Databases) (t : Told) (c : Cell) : Type 0 where
   pub run : c.run ≡ run_of (database_of dbs c) c c.events
   pub scripted : All (IsScripted (database_of dbs c)) c.events
   pub legal : IsRun (database_of dbs c) (first_of c) c.events
-  pub seen : IsTold t.halt (first_seen 0 c.opening.failed ++ seen_of (database_of dbs c) (first_of c) c.events) t.items
-  pub text : t.text ≡ trace (dbs (kind_of_cell c)) c.run.world.hosts t.items ++ halt_text t.halt
+  pub seen : IsTold t.ended (first_seen 0 c.opening.failed ++ seen_of (database_of dbs c) (first_of c) c.events) t.items
+  pub text : t.text ≡ trace (dbs (kind_of_cell c)) c.run.world.hosts t.items ++ end_text t.ended
 
 -- the same where a cell stands; before that nothing is told but why the script ended
 abbrev pub IsRunOfCell : Databases → Told → Option Cell → Type 0
-IsRunOfCell dbs t None = (t.items ≡ []) × (t.text ≡ halt_text t.halt)
+IsRunOfCell dbs t None = (t.items ≡ []) × (t.text ≡ end_text t.ended)
 IsRunOfCell dbs t (Some c) = IsRunOf dbs t c
 
 abbrev pub IsRunOfTold : Databases → Told → Type 0
@@ -83,4 +83,4 @@ IsRunOfTold dbs t = IsRunOfCell dbs t t.stage.cell
 
 -- What any lines tell, whatever the disks do, is what is seen of a run of the world.
 abbrev pub ScriptsAreRuns : Type 0
-ScriptsAreRuns = (dbs : Databases) → NamesCalls dbs → (readings : List Reading) → IsRunOfTold dbs (told dbs readings)
+ScriptsAreRuns = (dbs : Databases) → NamesCalls dbs → (readings : List LineRead) → IsRunOfTold dbs (told dbs readings)
