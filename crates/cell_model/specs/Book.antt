@@ -40,8 +40,8 @@ list_of (first ∷ book) v = if version_eq first.version v then Some first.trans
 abbrev pub list_or_none : Book → Version → List Transaction
 list_or_none book v = unwrap_or (list_of book v) []
 
--- The book with a new version: a relabelling of its own gives the new version the list of the version before, a commit that list and then the
--- transaction. What a server received adds none.
+-- The book with a new version: a relabelling of its own gives it the list of the version before, a commit that list and then
+-- the transaction. What a server received adds none.
 abbrev pub with_version : Book → ℕ → Version → Version → Reason → Book
 with_version book k old new Own_relabelling =
     record { version = new; before = old; transaction = None; maker = k; transactions = list_or_none book old } ∷ book

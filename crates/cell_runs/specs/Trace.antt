@@ -103,7 +103,8 @@ subject_text (body.VersionKept version) = version_text version
 
 abbrev pub packet_text : List Host → ℕ → Packet → List ℕ
 packet_text hosts number p =
-    codes "packet " ++ decimal number ++ 32 ∷ host_text hosts p.from ++ 62 ∷ host_text hosts p.to ++ 32 ∷ body_text p.body
+    codes "packet " ++ decimal number ++ 32 ∷ host_text hosts p.from ++ 62 ∷ host_text hosts p.to
+    ++ 32 ∷ kind_word p.body ++ 32 ∷ subject_text p.body
 
 -- the words of an answer, each behind a blank
 abbrev pub fields_text : List (List ℕ) → List ℕ

@@ -8,7 +8,7 @@ use Rattle.script_promises.specs.Kept.{IsKept}
 use Rattle.script_promises.specs.Replies.{HasSingleReplies}
 use Rattle.cell_sites.specs.Disks.{Held, AreCauses}
 use Rattle.ubik_cell.specs.Disks.{ReadAsCell}
-use Rattle.ubik_cell.specs.Runs.{Runs, sound_lines}
+use Rattle.ubik_cell.specs.Runs.{Runs, read_lines}
 use Rattle.ubik_cell.specs.declared.cells.CellKind.{CellKind}
 use Rattle.ubik_cell.specs.declared.cells.CellKind.TheVariants as kind
 
@@ -20,16 +20,18 @@ OfOne P (Some c) = cell_size_of c ≡ 1 → P c
 abbrev pub OfOneAfter : (Cell → Type 0) → List LineRead → Type 0
 OfOneAfter P readings = OfOne P (told databases readings).stage.cell
 
--- The disks read as the durable states of the run; where memory ran out in a line, perhaps as those after this line, whose run keeps
--- what was acknowledged too. No run was begun where a word was given.
+-- The disks read as the durable states of the run; where memory ran out in a line, perhaps as those after this line, whose faults are
+-- those of the disks and whose run keeps what was acknowledged too.
 pub record DisksHold (readings : List LineRead) (untold : List (List ℕ)) (disks : List Held) : Type 0 where
   pub more : List LineRead
-  pub run_or_not : (more ≡ []) ⊎ (more ≡ sound_lines untold)
+  pub run_or_not : (more ≡ []) ⊎ (read_lines more ≡ untold)
+  pub causes : AreCauses 0 (told databases (readings ++ more)).items disks
   pub read : ReadAsCell (told databases (readings ++ more)).stage.cell disks
   pub kept : OfOneAfter IsKept (readings ++ more)
 
 -- the line in which memory ran out, if it did in one
-abbrev pub untold_of : (k : CellKind) (readings : List LineRead) (script : List ℕ) (left : Option (List ℕ)) (before : List ℕ) (after : Option (List ℕ)) → Runs k databases readings script left before after → List (List ℕ)
+abbrev pub untold_of : (k : CellKind) (readings : List LineRead) (script : List ℕ) (left : Option (List ℕ)) (before : List ℕ)
+    (after : Option (List ℕ)) → Runs k databases readings script left before after → List (List ℕ)
 untold_of kind.NoMemory readings script left before after run = run.more
 untold_of _ readings script left before after run = []
 

@@ -82,7 +82,8 @@ module _ (T X Y : RattleType) (g : Ghosts Y.Denot X.Denot T.Denot) (d : Dict) wh
           enter ! C Λ function (place ∷ []) Post $ alloc_all ! (λ l. pass_all ! refl ((tt, tt), tt) $
           sets ! (agg ! (no_more !)) refl (tt, tt) $
           sets ! (agg ! (and_then ! (get ! refl) (no_more !))) refl (tt, (tt, tt)) $
-          use0 𝓛 (‵ owned) (makes_shadow 𝓛 owned ((λ vss. (tt, ((λ uss. (tt, tt)), tt))), tt) (((vstruct vnil ∷ [], tt), (refl, ((tt, (refl, tt)), tt))), tt)) $
+          use0 𝓛 (‵ owned) (makes_shadow 𝓛 owned ((λ vss. (tt, ((λ uss. (tt, tt)), tt))), tt)
+            (((vstruct vnil ∷ [], tt), (refl, ((tt, (refl, tt)), tt))), tt)) $
           returns ! (look_at ! 0 refl) $ free_all ! refl $
           suffices ! _ (ends_at 𝓛 ended stayed held z empty made (tt, tt) (tt, tt)) $ says ! refl $
           nothing ! $ nothing ! $ fjoin ! $ move ! (2 ∷ 0 ∷ 1 ∷ []) $ done !))
@@ -97,5 +98,6 @@ unfolding tables_of
 of_spec 𝓤 𝓛 𝓜 𝓡 wired T X Y LT LX LY g d met =
     let 𝓣 : Tables 𝓤 𝓛.H = tables_of 𝓤 𝓛.H 𝓜 (tables 𝓤 𝓛.H 𝓜 𝓡 𝓡.env) in
     let E : Ended = ended T X Y g d in
-    entered 𝓤 𝓛.H (triple_of 𝓛 E.signature (closing 𝓛 E (held T X Y g d 𝓛 𝓜.mem 𝓡.returns))) 𝓣.C 𝓣.Λ (#self (args T X Y g d)) (function T X Y g d)
+    entered 𝓤 𝓛.H (triple_of 𝓛 E.signature (closing 𝓛 E (held T X Y g d 𝓛 𝓜.mem 𝓡.returns))) 𝓣.C 𝓣.Λ
+    (#self (args T X Y g d)) (function T X Y g d)
     (code.unfolded 𝓤 𝓛.H 𝓜 𝓡 wired (T, (X, (Y, tt))) d) (meets T X Y g d 𝓛 𝓜.mem 𝓡.returns 𝓣)
