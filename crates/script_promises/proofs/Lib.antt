@@ -1,2 +1,6 @@
 pub mod Built
+pub mod Copies
+pub mod Proper
 pub mod SingleStates
+pub mod Unstopped
+pub mod Worth
