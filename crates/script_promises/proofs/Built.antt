@@ -153,7 +153,8 @@ three_built first a b c false rest is =
     (λ stop. absurd (true≢false (sym stop ∙ is))) (λ _. tt)))
 
 three_words_built : (servers : ℕ) (first a b c : List ℕ) (asks : Bool)
-    → IfOk (unless_later (is_later servers (first ∷ a ∷ b ∷ c ∷ [])) (cond asks (ask_line (a ∷ b ∷ c ∷ [])) (line_of_three first a b c))) IsBuilt
+    → let later = is_later servers (first ∷ a ∷ b ∷ c ∷ []) in
+    IfOk (unless_later later (cond asks (ask_line (a ∷ b ∷ c ∷ [])) (line_of_three first a b c))) IsBuilt
 three_words_built servers first a b c true = unless_built (is_later servers (first ∷ a ∷ b ∷ c ∷ [])) (ask_line (a ∷ b ∷ c ∷ [])) tt
 three_words_built servers first a b c false =
     three_built first a b c (bytes_eq first (codes "stop")) (bytes_eq first (codes "cell") && bytes_eq c (codes "vl")) refl

@@ -165,7 +165,8 @@ module _ (c : Cell) (one : IsOfOne c) where
       let later = run_through protection r middle in
       All (λ a. Contains later.acknowledged a × IsPlaced (order_in later) a) r.acknowledged
 
-  stays_placed : (middle : List Event) (r : Run) → Stays middle r → All (IsPlaced (order_in (run_through protection r middle))) r.acknowledged
+  stays_placed : (middle : List Event) (r : Run) → Stays middle r
+      → All (IsPlaced (order_in (run_through protection r middle))) r.acknowledged
   stays_placed middle r stays =
       let later = run_through protection r middle in
       All-weaker (λ a. Contains later.acknowledged a × IsPlaced (order_in later) a) (IsPlaced (order_in later)) (λ a both. both.1)
@@ -228,7 +229,8 @@ module _ (c : Cell) (one : IsOfOne c) where
   abbrev AllSingle : Event → Run → Type 0
   AllSingle e r = All (IsSeenSingle protection r (run_after protection r e) e) (happens protection r.world e).seen
 
-  pub single_replies : DatabaseLaws → RepliesAreSingle → All (IsScripted protection) c.events → All IsUnstopped c.events → HasSingleReplies c
+  pub single_replies : DatabaseLaws → RepliesAreSingle → All (IsScripted protection) c.events → All IsUnstopped c.events
+      → HasSingleReplies c
   single_replies laws law scripted up = λ front back e split.
       let r = run_at c front in
       let later = run_after protection r e in

@@ -53,7 +53,8 @@ abbrev pub AllQuiet : List Shown → Type 0
 AllQuiet [] = Unit {0}
 AllQuiet (one ∷ shown) = (packet_in one.output ≡ None) × AllQuiet shown
 
-quiet_output : (db : Database) (s : Server) (now : ℕ) (e : NodeEvent) (one : Shown) (o : Output) → one.output ≡ o → IsToldOutput db s now e o one.evaluation → packet_in one.output ≡ None
+quiet_output : (db : Database) (s : Server) (now : ℕ) (e : NodeEvent) (one : Shown) (o : Output) → one.output ≡ o
+    → IsToldOutput db s now e o one.evaluation → packet_in one.output ≡ None
 quiet_output db s now e one (output.Send packet) is told = absurd told
 quiet_output db s now e one (output.Reply id r) is told = ap packet_in is
 quiet_output db s now e one (output.Announce version) is told = absurd told
@@ -119,18 +120,21 @@ answered_own votes now claim is =
 module _ (s : Server) (now : ℕ) (heard : OwnHeard s.votes.sync) where
   relabelled_fine : (poll : Polled) → IsFine (relabelled only s poll now)
   relabelled_fine poll =
-      cond_both (nat_lt s.version.epoch now) _ _ IsFine (λ _. record { heard = heard; shown = (tt, tt) }) (λ _. record { heard = heard; shown = tt })
+      cond_both (nat_lt s.version.epoch now) _ _ IsFine (λ _. record { heard = heard; shown = (tt, tt) })
+      (λ _. record { heard = heard; shown = tt })
 
   polled_fine : (poll : Polled) → IsFine (polled only s poll now)
   polled_fine poll =
       cond_both (is_majority 1 (map is_some poll.answers)) _ _ IsFine
-      (λ _. cond_both (version_lt s.version (best_answer poll)) _ _ IsFine (λ _. record { heard = heard; shown = (tt, tt) }) (λ _. relabelled_fine poll))
+      (λ _. cond_both (version_lt s.version (best_answer poll)) _ _ IsFine (λ _. record { heard = heard; shown = (tt, tt) })
+      (λ _. relabelled_fine poll))
       (λ _. record { heard = heard; shown = tt })
 
 begun_fine : (s : Server) (now : ℕ) → OwnHeard s.votes.sync → IsFine (polled only (polling only s now) (new_poll only s now) now)
 begun_fine s now heard = polled_fine (polling only s now) now heard (new_poll only s now)
 
-recovered_fine : (s : Server) (now : ℕ) (phase : PhaseRecord) → OwnHeard s.votes.sync → IsAlonePhase s.version phase → IsFine (recovered only s now phase)
+recovered_fine : (s : Server) (now : ℕ) (phase : PhaseRecord) → OwnHeard s.votes.sync → IsAlonePhase s.version phase
+    → IsFine (recovered only s now phase)
 recovered_fine s now NoPhase heard is =
     cond_both (leased only s now) _ _ IsFine (λ _. begun_fine s now heard) (λ _. record { heard = heard; shown = tt })
 recovered_fine s now (Poll poll) heard is = polled_fine s now heard poll
@@ -146,11 +150,14 @@ pub record GoodCall (db : Database) (call : List ℕ) : Type 0 where
   pub some : IsSome (db.writes call)
   pub answers : (image : List ℕ) (now : ℕ) → (db.call image now call).reply ≢ call_reply.Malformed
 
-module _ (db : Database) (s : Server) (now id : ℕ) (call : List ℕ) (heard : OwnHeard s.votes.sync) (none : s.flight ≡ None) (good : GoodCall db call) where
-  replies : (r : Reply) (evaluation : Option Evaluation) → FineReply r → IsFine (showing s (record { output = output.Reply id r; evaluation = evaluation } ∷ []))
+module _ (db : Database) (s : Server) (now id : ℕ) (call : List ℕ) (heard : OwnHeard s.votes.sync) (none : s.flight ≡ None)
+    (good : GoodCall db call) where
+  replies : (r : Reply) (evaluation : Option Evaluation) → FineReply r
+      → IsFine (showing s (record { output = output.Reply id r; evaluation = evaluation } ∷ []))
   replies r evaluation fine = record { heard = heard; shown = (fine, tt) }
 
-  read_fine : (image : List ℕ) (e : Evaluation) (r : CallReply) → (db.call image now call).reply ≡ r → IsFine (showing s (read_reply id e r ∷ []))
+  read_fine : (image : List ℕ) (e : Evaluation) (r : CallReply) → (db.call image now call).reply ≡ r
+      → IsFine (showing s (read_reply id e r ∷ []))
   read_fine image e (call_reply.Done answer) is = replies (reply.Ok answer) (Some e) tt
   read_fine image e (call_reply.Rule number) is = replies (reply.Rule number) (Some e) tt
   read_fine image e call_reply.Malformed is = absurd (good.answers image now is)
@@ -160,7 +167,8 @@ module _ (db : Database) (s : Server) (now id : ℕ) (call : List ℕ) (heard : 
   refused [] = tt
   refused (w ∷ waiting) = (tt, refused waiting)
 
-  committed_fine : (answer image : List ℕ) (changes : List Change) (phase : PhaseRecord) → IsFine (written_in only s now id call answer image changes phase)
+  committed_fine : (answer image : List ℕ) (changes : List Change) (phase : PhaseRecord)
+      → IsFine (written_in only s now id call answer image changes phase)
   committed_fine answer image changes (Ready poll spread announced) = record { heard = heard; shown = (tt, (tt, tt)) }
   committed_fine answer image changes NoPhase = record { heard = heard; shown = tt }
   committed_fine answer image changes (Poll poll) = record { heard = heard; shown = tt }
@@ -174,7 +182,8 @@ module _ (db : Database) (s : Server) (now id : ℕ) (call : List ℕ) (heard : 
       cond_both (s.version.counter == MAX_COUNTER) _ _ IsFine (λ _. record { heard = heard; shown = (tt, refused s.waiting) })
       (λ _. committed_fine answer image (change ∷ changes) s.phase)
 
-  within_fine : (answer image : List ℕ) (changes : List Change) (passed : Option ℕ) → IsFine (written_within only s now id call answer image changes passed)
+  within_fine : (answer image : List ℕ) (changes : List Change) (passed : Option ℕ)
+      → IsFine (written_within only s now id call answer image changes passed)
   within_fine answer image changes None = small_fine answer image changes
   within_fine answer image changes (Some bytes) = replies (reply.TooLarge bytes) None tt
 
@@ -209,10 +218,14 @@ module _ (db : Database) (s : Server) (now id : ℕ) (call : List ℕ) (heard : 
       cond_both (h.0 == 0) _ _ (λ r. IsFine (showing s (refusing id r ∷ []))) (λ _. replies _ None tt)
       (λ other. absurd (true≢false (sym (ap (λ (n : ℕ). n == 0) is) ∙ other)))
 
+  unheard_fine : IsFine (showing s (refusing id (not_served only s now (sync_heard now s.votes)) ∷ []))
+  unheard_fine =
+      unserved_fine (sync_heard now s.votes) (own_pair (still_heard now s.votes.sync) (still_own now s.votes.sync heard))
+
   elsewhere_fine : (writes may_read : Bool) → IsFine (asked_elsewhere db only s now id call writes false may_read)
-  elsewhere_fine true may_read = unserved_fine (sync_heard now s.votes) (own_pair (still_heard now s.votes.sync) (still_own now s.votes.sync heard))
+  elsewhere_fine true may_read = unheard_fine
   elsewhere_fine false true = read_fine s.image _ _ refl
-  elsewhere_fine false false = unserved_fine (sync_heard now s.votes) (own_pair (still_heard now s.votes.sync) (still_own now s.votes.sync heard))
+  elsewhere_fine false false = unheard_fine
 
   as_fine : (o : Option Bool) → db.writes call ≡ o → IsFine (asked_as db only s now id call false o)
   as_fine None is = let P : Option Bool → Type 0 = λ o. IsSome o in let never = subst P is good.some in absurd (cc)
@@ -230,7 +243,8 @@ GoodEvent db event.BeaconTurn = Unit {0}
 GoodEvent db event.RecoverTurn = Unit {0}
 GoodEvent db (event.Ask id call) = GoodCall db call
 
-handled_fine : (db : Database) (s : Server) (now : ℕ) (e : NodeEvent) → GoodEvent db e → IsAlone s → OwnHeard s.votes.sync → IsFine (handled db only s now e [])
+handled_fine : (db : Database) (s : Server) (now : ℕ) (e : NodeEvent) → GoodEvent db e → IsAlone s → OwnHeard s.votes.sync
+    → IsFine (handled db only s now e [])
 handled_fine db s now (event.Packet p) good alone heard = absurd good
 handled_fine db s now event.BeaconTurn good alone heard =
     cond_both (beacon_is_due s.votes now 0 (leased only s now)) _ _ IsFine
@@ -239,9 +253,12 @@ handled_fine db s now event.BeaconTurn good alone heard =
 handled_fine db s now event.RecoverTurn good alone heard = recovered_fine s now s.phase heard alone.phase
 handled_fine db s now (event.Ask id call) good alone heard = as_fine db s now id call heard alone.flight good (db.writes call) refl
 
-pub step_fine : (db : Database) (s : Server) (now : ℕ) (e : NodeEvent) → GoodEvent db e → IsAlone s → OwnHeard s.votes.sync → IsFine (step_of db only s now e [])
+pub step_fine : (db : Database) (s : Server) (now : ℕ) (e : NodeEvent) → GoodEvent db e → IsAlone s → OwnHeard s.votes.sync
+    → IsFine (step_of db only s now e [])
 unfolding step_of
-step_fine db s now e good lone heard = cond_both (leased only s now) _ _ P (λ _. kept s.flight lone.flight) (λ _. lapses _ _ s.flight s.waiting lone.flight lone.waiting)
+step_fine db s now e good lone heard =
+    cond_both (leased only s now) _ _ P (λ _. kept s.flight lone.flight)
+    (λ _. lapses _ _ s.flight s.waiting lone.flight lone.waiting)
   where
     P : Stepped → Type 0
     P t = IsFine (followed t (λ after. handled db only after now e (short_after t.shown [])))
@@ -256,7 +273,8 @@ step_fine db s now e good lone heard = cond_both (leased only s now) _ _ P (λ _
     alone_dropped : IsAlone dropped
     alone_dropped = record { flight = refl; waiting = refl; beacon = lone.beacon; phase = tt }
 
-    lapses : (one other : Reply) (f : Option Flight) (waiting : List Waiting) → f ≡ None → waiting ≡ [] → P (showing dropped (flight_refused f one ++ waiting_refused waiting other))
+    lapses : (one other : Reply) (f : Option Flight) (waiting : List Waiting) → f ≡ None → waiting ≡ []
+        → P (showing dropped (flight_refused f one ++ waiting_refused waiting other))
     lapses one other None [] none is = handled_fine db dropped now e good alone_dropped heard
     lapses one other None (w ∷ waiting) none is = absurd (cc)
     lapses one other (Some f) waiting none is = absurd (cc)
@@ -270,16 +288,19 @@ FineSeen (Replied server id r evaluation) = FineReply r
 FineSeen (Halts server) = Unit {0}
 FineSeen _ = ⊥
 
-seen_output : (number : ℕ) (o : Output) (evaluation : Option Evaluation) → packet_in o ≡ None → FineOutput o → FineSeen (seen_of_output 0 number o evaluation)
+seen_output : (number : ℕ) (o : Output) (evaluation : Option Evaluation) → packet_in o ≡ None → FineOutput o
+    → FineSeen (seen_of_output 0 number o evaluation)
 seen_output number (output.Send packet) evaluation quiet fine = absurd (cc)
 seen_output number (output.Reply id r) evaluation quiet fine = fine
 seen_output number (output.Announce version) evaluation quiet fine = tt
 
-seen_fine : (number : ℕ) (shown : List Shown) (marks : List Happening) → AllQuiet shown → AllFine shown → All FineSeen marks → All FineSeen (seen_from 0 number shown ++ marks)
+seen_fine : (number : ℕ) (shown : List Shown) (marks : List Happening) → AllQuiet shown → AllFine shown → All FineSeen marks
+    → All FineSeen (seen_from 0 number shown ++ marks)
 seen_fine number [] marks quiet fine rest = rest
 seen_fine number (one ∷ shown) marks quiet fine rest =
     All-cons FineSeen (seen_of_output 0 number one.output one.evaluation) (seen_from 0 (number_after number (packet_of one)) shown ++ marks)
-    (seen_output number one.output one.evaluation quiet.0 fine.0) (seen_fine (number_after number (packet_of one)) shown marks quiet.1 fine.1 rest)
+    (seen_output number one.output one.evaluation quiet.0 fine.0)
+    (seen_fine (number_after number (packet_of one)) shown marks quiet.1 fine.1 rest)
 
 -- the server while it is up
 abbrev FineNode : Node → Type 0
@@ -326,7 +347,8 @@ own db event.BeaconTurn good = tt
 own db event.RecoverTurn good = tt
 own db (event.Ask id call) good = tt
 
-site_stepped : (db : Database) (trigger : Trigger) (e : NodeEvent) (site : Site) (node : Node) → GoodEvent db e → lost_at trigger ≡ [] → site.node ≡ node → FineNode node → FineSite (step_at db only trigger e [] site node)
+site_stepped : (db : Database) (trigger : Trigger) (e : NodeEvent) (site : Site) (node : Node) → GoodEvent db e → lost_at trigger ≡ []
+    → site.node ≡ node → FineNode node → FineSite (step_at db only trigger e [] site node)
 site_stepped db trigger e site Down good lost is fine = record {
   quiet = tt;
   fine = tt;
@@ -350,9 +372,11 @@ site_stepped db trigger e site (Up s) good lost is fine =
       node = (still_alone db s site.clock e t step, kept.heard);
     }
 
-site_failed : (db : Database) (e : NodeEvent) (made : ℕ) (site : Site) (node : Node) → site.node ≡ node → FineNode node → FineSite (fault_at db only e [] made site node)
+site_failed : (db : Database) (e : NodeEvent) (made : ℕ) (site : Site) (node : Node) → site.node ≡ node → FineNode node
+    → FineSite (fault_at db only e [] made site node)
 site_failed db e made site Down is fine = record { quiet = tt; fine = tt; marks = All-nil FineSeen; node = subst FineNode (sym is) tt }
-site_failed db e made site (Halted h) is fine = record { quiet = tt; fine = tt; marks = All-nil FineSeen; node = subst FineNode (sym is) tt }
+site_failed db e made site (Halted h) is fine =
+    record { quiet = tt; fine = tt; marks = All-nil FineSeen; node = subst FineNode (sym is) tt }
 site_failed db e made site (Up s) is fine = record { quiet = refusals_quiet e; fine = refusals_fine e; marks = halt_fine; node = tt }
 
 no_packets : (shown : List Shown) → AllQuiet shown → packets_of shown ≡ []
@@ -364,7 +388,9 @@ at_first site h fine = record {
   seen = seen_fine 1 h.shown h.marks fine.quiet fine.fine fine.marks;
   world = record {
     site = h.site;
-    is = ap (λ (packets : List Packet). record { hosts = the_host ∷ []; sites = h.site ∷ []; packets = packets }) (no_packets h.shown fine.quiet);
+    is =
+        ap (λ (packets : List Packet). record { hosts = the_host ∷ []; sites = h.site ∷ []; packets = packets })
+        (no_packets h.shown fine.quiet);
     node = fine.node;
   };
 }

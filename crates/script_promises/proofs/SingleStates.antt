@@ -56,7 +56,8 @@ image_from-append image (t ∷ front) more = image_from-append (protection.call 
 module _ (laws : DatabaseLaws) where
   stands_after : (image : List ℕ) (s : PrState) (now : ℕ) (bytes : List ℕ) (call : Option PrCall) → call_of bytes ≡ call
       → StandsFor image s → StandsFor (protection.call image now bytes).image (meant s now call).state
-  stands_after image s now bytes None is stands = subst (λ (o : Outcome). StandsFor o.image s) (sym (laws.no_call image bytes now is)) stands
+  stands_after image s now bytes None is stands =
+      subst (λ (o : Outcome). StandsFor o.image s) (sym (laws.no_call image bytes now is)) stands
   stands_after image s now bytes (Some call) is stands = (laws.means s image bytes now call stands is).stands
 
   stands_from : (image : List ℕ) (s : PrState) (transactions : List Transaction) → StandsFor image s

@@ -93,7 +93,8 @@ module _ (script_db : ScriptDatabase) where
     node_stays o (Halted h) = serves o.0 0
     node_stays o (Up s) =
         let w = c.run.world in
-        up_stays o.0 s.version (step_of script_db.database (member w o.0) s (clock_at w o.0) o.1 []).calls choice.fails (armed_at c.armed o.0)
+        let calls = (step_of script_db.database (member w o.0) s (clock_at w o.0) o.1 []).calls in
+        up_stays o.0 s.version calls choice.fails (armed_at c.armed o.0)
         (disarmed_at c.armed o.0 stays.armed)
 
     occasion_stays : (o : Option (ℕ × NodeEvent))
@@ -109,7 +110,8 @@ module _ (script_db : ScriptDatabase) where
       stepped_stays (record c { handed = set c.handed (number - 1) true }) choice (Delivery number)
       (record { events = stays.events; armed = stays.armed })
 
-  unless_stays : (r next : Cell_run) (ending : Option Ending) → StaysUp r.cell → StaysUp next.cell → StaysUp (unless_ended r ending next).cell
+  unless_stays : (r next : Cell_run) (ending : Option Ending) → StaysUp r.cell → StaysUp next.cell
+      → StaysUp (unless_ended r ending next).cell
   unless_stays r next None first second = second
   unless_stays r next (Some ending) first second = first
 
