@@ -7,6 +7,7 @@ use Rattle.disk_base.specs.Stops.DiskStop.{Unarmed}
 use Rattle.cell_model.specs.World.{Site}
 use Rattle.cell_runs.specs.Script.{Cell}
 use Rattle.cell_sites.specs.Disks.{Held}
+use Rattle.ubik_cell.specs.Lines.{IsUnwritten}
 use Rattle.ubik_node.specs.Database.{durable_of}
 
 -- an empty disk that is not to stop, and has not failed
@@ -30,7 +31,7 @@ IsReadAs site disk = disk.faults ≡ 0 → IsSomeAnd disk.files (ReadsDurable si
 
 -- so each of these servers; the disks behind theirs are empty
 abbrev pub AreReadAs : List Site → List Held → Type 0
-AreReadAs [] disks = All (λ disk. disk.files ≡ Some no_files) disks
+AreReadAs [] disks = All IsUnwritten disks
 AreReadAs (site ∷ sites) [] = ⊥
 AreReadAs (site ∷ sites) (disk ∷ disks) = IsReadAs site disk × AreReadAs sites disks
 

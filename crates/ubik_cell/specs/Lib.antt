@@ -2,3 +2,4 @@ pub mod Disks
 pub mod Headline
 pub mod Lines
 pub mod Runs
+pub mod Turns

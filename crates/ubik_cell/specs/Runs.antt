@@ -1,6 +1,7 @@
 -- What a run of a script has read and written when it ends.
-use Rattle.std.specs.Prelude.{◌≡◌, ◌≤◌, ℕ, Unit, Option, Some, None, List, [], ◌∷◌, ◌++◌, map, length, take}
-use Rattle.cell_script.specs.Lines.{lines_of, whole_lines}
+use Rattle.std.specs.Prelude.{◌≡◌, ◌≤◌, ℕ, Unit, Bool, true, false, Option, Some, None, All, List, [], ◌∷◌, ◌++◌, map, length, take}
+use Rattle.cell_script.specs.LineLaws.{text_of}
+use Rattle.cell_script.specs.Lines.{HasNoLf, lines_of, whole_lines}
 use Rattle.cell_runs.specs.declared.endings.Ending.{Ending}
 use Rattle.cell_runs.specs.declared.endings.Ending.TheVariants.{Refused, Limit}
 use Rattle.cell_runs.specs.Script.{LineRead, ScriptEnd, Databases, told}
@@ -121,3 +122,8 @@ IsDoneOrShort _ = ⊥
 -- a script without a line that ends it, where no disk fails
 abbrev pub IsInside : Databases → List ℕ → Type 0
 IsInside dbs text = (told dbs (sound_lines (lines_of text))).ended ≡ None
+
+-- so far these lines of a text were read, each with its LF; or all of the text, whose end was met
+abbrev pub IsConsumed : Bool → List ℕ → List ℕ → List (List ℕ) → Type 0
+IsConsumed false text left lines = (text ≡ text_of lines ++ left) × All HasNoLf lines
+IsConsumed true text left lines = (left ≡ []) × (lines_of text ≡ lines)
