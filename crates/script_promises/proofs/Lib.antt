@@ -1,4 +1,3 @@
-pub mod Built
 pub mod Copies
 pub mod Proper
 pub mod SingleStates

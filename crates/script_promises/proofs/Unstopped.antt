@@ -19,7 +19,7 @@ use Rattle.cell_runs.specs.declared.endings.Ending.{Ending}
 use Rattle.cell_runs.specs.declared.limits.TheConstants.{MAX_LINES, MAX_PACKETS}
 use Rattle.cell_runs.specs.Script.{Choice, LineRead, Armed, Cell, Stage, Line_run, Cell_run, Run_or_why, ScriptEnd, Told, DiskOutcome, Serves, Fails_after, first_choice, with_event, armed_at, counted_on, calls_on_all, stops_in, outcome_of_stop, outcome_up, outcome_at, outcome_of, node_in, place_in, stepped_so, stepped, delivered, first_waiting, dropped_of, all_delivered, unless_ended, resting, cell_size_of, servers_of, at_server, at_up, at_packet, is_down_at, unless_skewed, shown_site, run_in, asked_in, asked, in_stage, fails_at, opened_cell, next_line, run_first, kind_of_cell, run_standing, line_run, meaning_run, or_refused, line_result, first_told, told_with, told_after, told_from, told}
 use Rattle.cell_runs.specs.ScriptDatabase.{ScriptDatabase, Databases}
-use Rattle.script_promises.proofs.Built.{IsBuilt, line_built}
+use Rattle.script_laws.specs.Built.{IsBuiltLine, LinesAreBuilt}
 
 -- no server stops in this event, goes down, or is opened anew
 abbrev pub IsUnstopped : Event → Type 0
@@ -155,7 +155,7 @@ module _ (script_db : ScriptDatabase) where
     handed_stays : (handed : List Bool) → StaysUp (record c { handed = handed })
     handed_stays handed = record { events = stays.events; armed = stays.armed }
 
-    line_stays : (choices : List Choice) (l : Line) → IsBuilt l → MayStay (run_in script_db c choices l)
+    line_stays : (choices : List Choice) (l : Line) → IsBuiltLine (cell_size_of c) l → MayStay (run_in script_db c choices l)
     line_stays choices (line.Tick server seconds) built =
         server_stays server (λ k. unless_skewed script_db c (tick_at c.run.world.sites k seconds) (Tick k seconds))
         (λ k. skewed_stays (tick_at c.run.world.sites k seconds) (Tick k seconds) tt)
@@ -221,13 +221,13 @@ first_stays st choices (line.Crash server) none = tt
 first_stays st choices (line.Restart server) none = tt
 first_stays st choices (line.Show server) none = tt
 
-module _ (dbs : Databases) where
-  other_stays : (st : Stage) (choices : List Choice) (c : Cell) (l : Line) → StaysUp c → IsBuilt l
+module _ (law : LinesAreBuilt) (dbs : Databases) where
+  other_stays : (st : Stage) (choices : List Choice) (c : Cell) (l : Line) → StaysUp c → IsBuiltLine (cell_size_of c) l
       → RunStays (in_stage st (run_in (dbs (kind_of_cell c)) c choices l))
   other_stays st choices c l stays built =
       in_stage_stays st (run_in (dbs (kind_of_cell c)) c choices l) (line_stays (dbs (kind_of_cell c)) c stays choices l built)
 
-  standing_stays : (st : Stage) (choices : List Choice) (c : Cell) (l : Line) → StaysUp c → IsBuilt l
+  standing_stays : (st : Stage) (choices : List Choice) (c : Cell) (l : Line) → StaysUp c → IsBuiltLine (cell_size_of c) l
       → RunStays (run_standing dbs st choices c l)
   standing_stays st choices c (line.Ask server words) stays built =
       let script_db : ScriptDatabase = dbs (kind_of_cell c) in
@@ -248,8 +248,8 @@ module _ (dbs : Databases) where
   standing_stays st choices c (line.Restart server) stays built = absurd built
   standing_stays st choices c (line.Show server) stays built = other_stays st choices c (line.Show server) stays built
 
-  any_stays : (st : Stage) (choices : List Choice) (l : Line) (cell : Option Cell) → st.cell ≡ cell → MayStayUp cell → IsBuilt l
-      → RunStays (line_run dbs st choices l cell)
+  any_stays : (st : Stage) (choices : List Choice) (l : Line) (cell : Option Cell) → st.cell ≡ cell → MayStayUp cell
+      → IsBuiltLine (servers_of cell) l → RunStays (line_run dbs st choices l cell)
   any_stays st choices l None is stays built = first_stays st choices l is
   any_stays st choices l (Some c) is stays built = standing_stays st choices c l stays built
 
@@ -257,8 +257,8 @@ module _ (dbs : Databases) where
   refused_stays (Ok run) is = is
   refused_stays (Err w) is = tt
 
-  meant_stays : (st : Stage) (choices : List Choice) (meaning : Result Line Why) → MayStayUp st.cell → IfOk meaning IsBuilt
-      → RunStays (meaning_run dbs st choices meaning)
+  meant_stays : (st : Stage) (choices : List Choice) (meaning : Result Line Why) → MayStayUp st.cell
+      → IfOk meaning (IsBuiltLine (servers_of st.cell)) → RunStays (meaning_run dbs st choices meaning)
   meant_stays st choices (Err w) stays built = tt
   meant_stays st choices (Ok l) stays built = any_stays st choices l st.cell refl stays built
 
@@ -271,7 +271,7 @@ module _ (dbs : Databases) where
       let meaning : Result Line Why = line_of (servers_of st.cell) r.line in
       if_run_stays (nat_le MAX_LINES st.lines) _ _ tt
       (refused_stays (meaning_run dbs (next_line st) r.choices meaning)
-      (meant_stays (next_line st) r.choices meaning stays (line_built (servers_of st.cell) r.line)))
+      (meant_stays (next_line st) r.choices meaning stays (law (servers_of st.cell) r.line)))
 
   with_stays : (t : Told) (o : Result Line_run Ending) → MayStayUp t.stage.cell → RunStays o → MayStayUp (told_with dbs t o).stage.cell
   with_stays t (Err ending) stays is = stays

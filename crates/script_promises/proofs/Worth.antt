@@ -10,6 +10,7 @@ use Rattle.prdb_entries.specs.Protection.{protection}
 use Rattle.prdb_entries.specs.Reading.{call_of}
 use Rattle.prdb_entries.specs.Words.{call_in}
 use Rattle.cell_runs.specs.Script.{Cell, Told, cell_size_of, hosts_of, told}
+use Rattle.script_laws.specs.Built.{LinesAreBuilt}
 use Rattle.script_laws.specs.Runs.{NamesCalls, IsRunOf, IsRunOfCell, ScriptsAreRuns}
 use Rattle.script_promises.specs.Databases.{databases}
 use Rattle.script_promises.specs.Promises.{HasPromises, IsWorth, ScriptsKeepPromises}
@@ -30,6 +31,7 @@ pub record Laws : Type 0 where
   pub sites : SitesAreSingle
   pub replies : RepliesAreSingle
   pub runs : ScriptsAreRuns
+  pub built : LinesAreBuilt
 
 -- ---- words name calls
 
@@ -81,4 +83,4 @@ cell_worth laws t (Some c) run up = worth laws t c run up
 pub scripts_keep_promises : Laws → ScriptsKeepPromises
 scripts_keep_promises laws readings =
     cell_worth laws (told databases readings) (told databases readings).stage.cell (laws.runs databases (names_calls laws.names) readings)
-    (scripts_stay_up databases readings)
+    (scripts_stay_up laws.built databases readings)

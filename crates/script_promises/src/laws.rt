@@ -8,7 +8,7 @@ use cell_model::{
 use prdb_entries::{
     law_call_means, law_empty_is_initial, law_images_never_shrink, law_words_name_a_call,
 };
-use script_laws::law_scripts_are_runs;
+use script_laws::{law_lines_are_built, law_scripts_are_runs};
 
 /// Whatever the lines of a script, and whatever the disks do: in a cell of one server committed transactions have one order,
 /// which only grows; what was acknowledged stays in it, at its place; the database of the server, once it is ready, is that of
@@ -26,5 +26,6 @@ pub fn law_scripts_keep_promises()
     law_ok_is_acknowledged();
     law_sites_are_single();
     law_replies_are_single();
+    law_lines_are_built();
     law_scripts_are_runs();
 }
