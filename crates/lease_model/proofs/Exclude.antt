@@ -79,7 +79,7 @@ separated r s m h since x safe kept before get now other =
     with_voter r s m h since x safe kept get other both.0 (before.yes both.0 both.1) (now.yes both.0 both.2)
     (get_within s.servers both.0 (let w = within_get before.set both.0 true both.1 in let e = before.each in omega arith))
 
-exclude : (r : Rules) (s : Leases) → AreSafe r → Invariant r s → Exclude r s
+pub exclude : (r : Rules) (s : Leases) → AreSafe r → Invariant r s → Exclude r s
 exclude r s safe kept h k first second = by (slice_get s.servers h) (slice_get s.servers k) refl refl first second
   where
     by : (a b : Option Server) → slice_get s.servers h ≡ a → slice_get s.servers k ≡ b → IsSomeAnd a (λ x. IsLeasedIn r (length s.servers) x.standing x.clock) → IsSomeAnd b (λ x. IsLeasedIn r (length s.servers) x.standing x.clock) → h ≡ k

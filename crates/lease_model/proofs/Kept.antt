@@ -180,8 +180,9 @@ module _ (r : Rules) (k asker start now : ℕ) (yeses : List Yes) where
       earlier : (a b : Yes) → given_yes ≡ b → IsPast r asker now a → AreApart a b
       earlier a b is p =
           elim p.1 as (λ _. AreApart a b) [
-              inl q ↦ inl (q ∙ ap (λ (z : Yes). z.asker) is)
-            | inr q ↦ inr (inl (subst (λ (n : ℕ). a.at + r.keep < n) (ap (λ (z : Yes). z.at) is) q)) ]
+            | inl q ↦ inl (q ∙ ap (λ (z : Yes). z.asker) is)
+            | inr q ↦ inr (inl (subst (λ (n : ℕ). a.at + r.keep < n) (ap (λ (z : Yes). z.at) is) q))
+          ]
 
       turned : (a b : Yes) → AreApart a b → AreApart b a
       turned a b (inl p) = inl (sym p)

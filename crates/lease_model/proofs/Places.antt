@@ -60,10 +60,14 @@ at_before (x ∷ xs) (suc k) zero f y is = (x, refl, inr (λ same. omega arith, 
 at_before (x ∷ xs) (suc k) (suc j) f y is = later (at_before xs k j f y is)
   where
     later : Was xs k f j y → Was (x ∷ xs) (suc k) f (suc j) y
-    later w =
-        (w.0, w.1, elim w.2 as (λ _. ((suc j ≡ suc k) × (y ≡ f w.0)) ⊎ ((suc j ≡ suc k → ⊥) × (y ≡ w.0))) [
-            inl p ↦ inl (ap suc p.0, p.1)
-          | inr p ↦ inr (λ same. p.0 (omega arith), p.1) ])
+    later w = (
+      w.0,
+      w.1,
+      elim w.2 as (λ _. ((suc j ≡ suc k) × (y ≡ f w.0)) ⊎ ((suc j ≡ suc k → ⊥) × (y ≡ w.0))) [
+        | inl p ↦ inl (ap suc p.0, p.1)
+        | inr p ↦ inr (λ same. p.0 (omega arith), p.1)
+      ],
+    )
 
 pub at_length : (xs : List Server) (k : ℕ) (f : Server → Server) → length (at_server xs k f) ≡ length xs
 at_length [] k f = refl
@@ -137,8 +141,9 @@ with_start-either (x ∷ starts) zero s (suc v) t is = inr is
 with_start-either (x ∷ starts) (suc i) s zero t is = inr is
 with_start-either (x ∷ starts) (suc i) s (suc v) t is =
     elim (with_start-either starts i s v t is) as (λ _. ((suc v ≡ suc i) × (t ≡ s)) ⊎ (slice_get starts v ≡ Some (Some t))) [
-        inl p ↦ inl (ap suc p.0, p.1)
-      | inr p ↦ inr p ]
+      | inl p ↦ inl (ap suc p.0, p.1)
+      | inr p ↦ inr p
+    ]
 
 pub no_starts-length : (n : ℕ) → length (no_starts n) ≡ n
 no_starts-length zero = refl

@@ -72,9 +72,14 @@ pub record Invariant (r : Rules) (s : Leases) : Type 0 where
   pub apart : YesesApart r s.yeses
   pub counted : AllCounted s.servers s.yeses
 
--- A vote quorum has said yes to server m for starts from `since` on, but for the length of a lease.
+-- voter v has said yes to server m for a start from `since` on, but for the length of a lease
+abbrev pub HasSaidYes : Rules → Leases → ℕ → ℕ → ℕ → Type 0
+HasSaidYes r s v m since =
+    (start at : ℕ) × (since ≤ start + r.lease) × IsIn s.yeses (record { voter = v; asker = m; start = start; at = at })
+
+-- A vote quorum has.
 pub record WereGiven (r : Rules) (s : Leases) (m since : ℕ) : Type 0 where
   pub set : List Bool
   pub each : length set ≡ length s.servers
   pub suffices : r.suffices (length s.servers) set ≡ true
-  pub yes : (v : ℕ) → slice_get set v ≡ Some true → (start at : ℕ) × (since ≤ start + r.lease) × IsIn s.yeses (record { voter = v; asker = m; start = start; at = at })
+  pub yes : (v : ℕ) → slice_get set v ≡ Some true → HasSaidYes r s v m since

@@ -22,7 +22,8 @@ cell_rules = record { skew = SKEW; lease = SMALLTIME; keep = BIGTIME; start_bind
 -- two sets that suffice share a server
 abbrev pub Overlap : (ℕ → List Bool → Bool) → Type 0
 Overlap suffices =
-    (n : ℕ) (a b : List Bool) → length a ≡ n → length b ≡ n → suffices n a ≡ true → suffices n b ≡ true → SharesServer a b
+    (n : ℕ) (a b : List Bool) → length a ≡ n → length b ≡ n →
+    suffices n a ≡ true → suffices n b ≡ true → SharesServer a b
 
 -- A yes binds its voter for as long as a lease that rests on it can last, by whatever clock, also through a restart; and two vote
 -- quorums share a voter.

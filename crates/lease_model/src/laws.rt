@@ -2,6 +2,7 @@
 ghost use Rattle.lease_model.specs.Laws.{BothInLease, LeasesExclude, is_half};
 ghost use Rattle.lease_model.specs.Rules.{AreSafe, cell_rules};
 ghost use Rattle.std.specs.Prelude.{false};
+
 use ubik_types::vote_quorums_share_a_server;
 
 /// Where a yes is kept for as long as a lease and twice the skew, also through a restart, and two vote quorums share a
