@@ -1,5 +1,5 @@
 -- Every run of a cell, from its first world on: it is a run of the model of leases, leases exclude, and epochs rise.
-use Rattle.std.proofs.Common.{Bool, true, false, true≢false, cond, ◌≡◌, ℕ, zero, suc, ◌+◌, ◌<◌, ◌≤◌, ◌==◌, List, [], ◌∷◌, length, map, get_or, refl, sym, ap, subst, ◌∙◌, ◌⊎◌, inl, inr, arith}
+use Rattle.std.proofs.Common.{Bool, true, false, true≢false, ◌≡◌, ℕ, zero, suc, ◌<◌, ◌==◌, List, [], ◌∷◌, length, map, get_or, refl, sym, ap, subst, ◌∙◌, inl, inr, arith}
 use Rattle.std.proofs.lemmas.Bool.{cond-true}
 use Rattle.std.proofs.lemmas.Bool.Decides.{nat_tests}
 use Rattle.std.proofs.lemmas.List.{length-map}
@@ -8,7 +8,7 @@ use Rattle.std.proofs.lemmas.Option.{unwrap_or-slice_get}
 use Rattle.std.specs.Prelude.{Option, Some, None, nat_lt, slice_get, IsSomeAnd}
 use Rattle.std.specs.List.{position_or_len}
 use Rattle.ubik_types.specs.declared.hosts.Host.{Host}
-use Rattle.ubik_types.specs.Hosts.{IsAscending, IsCell}
+use Rattle.ubik_types.specs.Hosts.{IsAscending}
 use Rattle.db_image.specs.Database.{Database}
 use Rattle.lease_model.specs.Leases as leases
 use Rattle.lease_model.specs.Leases.{Leases, IsLeasedIn}
@@ -111,7 +111,7 @@ module _ (hosts : List Host) (clock : ℕ) where
     moments = first_each (λ k site. 0 < site.clock) failed (λ k b. moment);
     holds = first_each (λ k site. NodeHolds (runs.first cell_rules clock failed) k site.durable site.node) failed (λ k b. first_holds (runs.first cell_rules clock failed) k b);
     kept = first_keeps cell_rules clock failed;
-    pages = tt;
+    versions = tt;
     rises = tt;
   }
     where

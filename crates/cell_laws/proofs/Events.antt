@@ -1,10 +1,9 @@
 -- What an event of the world does at its server.
-use Rattle.std.proofs.Common.{Bool, true, false, true≢false, ◌≡◌, ℕ, zero, suc, ◌+◌, ◌<◌, ◌≤◌, List, [], ◌∷◌, ◌++◌, length, map, set, take, refl, sym, ap, subst, ◌∙◌, ◌⊎◌, inl, inr, arith}
-use Rattle.std.specs.Prelude.{Option, Some, None, slice_get}
+use Rattle.std.proofs.Common.{Bool, true, false, true≢false, ◌≡◌, ℕ, zero, suc, List, [], ◌∷◌, length, set, take, refl, sym, ap, subst, ◌∙◌, inl, inr}
 use Rattle.ubik_types.specs.declared.hosts.Host.{Host}
 use Rattle.ubik_types.specs.declared.versions.Version.{Version}
 use Rattle.db_image.specs.Database.{Database}
-use Rattle.lease_model.specs.Invariant.{Invariant, WereGiven}
+use Rattle.lease_model.specs.Invariant.{WereGiven}
 use Rattle.lease_model.specs.Leases as leases
 use Rattle.lease_model.specs.Leases.{Leases}
 use Rattle.lease_model.specs.Rules.{cell_rules}
@@ -13,13 +12,13 @@ use Rattle.lease_model.proofs.Places.{at_length}
 use Rattle.cell_model.specs.declared.events.NodeEvent.{NodeEvent}
 use Rattle.cell_model.specs.declared.events.NodeEvent.TheVariants as event
 use Rattle.cell_model.specs.Durable.{Durable, DurableCall, Commit, Relabel, Install, Made, durable_after, durable_after_all, version_after}
-use Rattle.cell_model.specs.Node.{Node, Down, Halted, Up, Server, opened_server, halted_from}
+use Rattle.cell_model.specs.Node.{Node, Down, Halted, Up, Server}
 use Rattle.cell_model.specs.NodeRule.{step_of, refusals}
 use Rattle.cell_model.specs.Step.{Member, Shown, Stepped}
-use Rattle.cell_model.specs.World.{Site, Trigger, Entry, SiteHappened, entries_from, asked_after, only_marks, halted_step, step_up, step_at, stop_up, stop_at, fault_up, fault_at, crash_at, restart_at, lost_at}
+use Rattle.cell_model.specs.World.{Site, Trigger, SiteHappened, entries_from, only_marks, halted_step, step_up, step_at, stop_up, stop_at, fault_up, fault_at, crash_at, restart_at, lost_at}
 use Rattle.cell_laws.specs.View.{voter_of, standing_of, view}
-use Rattle.cell_laws.proofs.Steps.{AllOther, AreLegal, Claims}
-use Rattle.cell_laws.proofs.Told.{ShownTold, Grew, grew_none, other_told}
+use Rattle.cell_laws.proofs.Steps.{AllOther, AreLegal}
+use Rattle.cell_laws.proofs.Told.{ShownTold, other_told}
 use Rattle.cell_laws.proofs.Sites.{NodeHolds, EventTold, Here, at_set, Voted, IsSeen, Does, step_does}
 
 -- A server of the world and what happened there: its durable calls are legal, and the model of leases has seen as much.

@@ -1,12 +1,11 @@
 -- A step of a server that is up, as the model of leases sees it: nothing happens there, or one event does.
-use Rattle.std.proofs.Common.{Bool, true, false, true≢false, cond, ◌≡◌, ℕ, zero, suc, ◌+◌, ◌<◌, ◌≤◌, ◌==◌, List, [], ◌∷◌, ◌++◌, length, map, set, refl, sym, ap, subst, ◌∙◌, ◌⊎◌, inl, inr, arith}
+use Rattle.std.proofs.Common.{Bool, true, false, true≢false, cond, ◌≡◌, ℕ, zero, suc, ◌<◌, List, [], ◌∷◌, ◌++◌, length, set, refl, sym, ap, subst, ◌∙◌, ◌⊎◌, inl, inr}
 use Rattle.std.proofs.lemmas.Bool.{cond_both}
 use Rattle.std.specs.Prelude.{Option, Some, None, ◌&&◌, slice_get}
 use Rattle.ubik_types.specs.declared.hosts.Host.{Host}
 use Rattle.ubik_types.specs.declared.versions.Version.{Version}
 use Rattle.ubik_types.specs.Lease.{is_in_lease, is_counted, with_start}
 use Rattle.ubik_types.specs.Votes.{answers_yes, beacon_is_due}
-use Rattle.ubik_calls.specs.declared.packets.Packet.{Packet}
 use Rattle.ubik_calls.specs.declared.packets.Body.{Body}
 use Rattle.ubik_calls.specs.declared.packets.Body.TheVariants as body
 use Rattle.db_image.specs.Database.{Database}
@@ -22,13 +21,13 @@ use Rattle.cell_model.specs.declared.events.NodeEvent.TheVariants as event
 use Rattle.cell_model.specs.Durable.{Durable, Made, Reason, Own_relabelling, Committed, Received, version_after}
 use Rattle.cell_model.specs.Lapse.{lapsed}
 use Rattle.cell_model.specs.Node.{Node, Down, Halted, Up, Server}
-use Rattle.cell_model.specs.NodeRule.{received_from, received_packet, place_of, handled, step_of}
-use Rattle.cell_model.specs.Step.{Member, Shown, Stepped, quiet, showing, followed, leased, is_ready, told_version, host_at, short_after}
-use Rattle.cell_model.specs.Voting.{own_beacon, beacon_taken, beacon_turn, beacon_received, vote_received}
+use Rattle.cell_model.specs.NodeRule.{received_from, received_packet, place_of, step_of}
+use Rattle.cell_model.specs.Step.{Member, Shown, Stepped, quiet, showing, leased, is_ready, told_version, host_at, short_after}
+use Rattle.cell_model.specs.Voting.{beacon_taken, beacon_turn, beacon_received, vote_received}
 use Rattle.cell_model.specs.World.{Site}
 use Rattle.cell_laws.specs.View.{voter_of, standing_of, view}
-use Rattle.cell_laws.proofs.Steps.{IsOther, AllOther, Ballot, ballot_of, IsLegalCall, AreLegal, legal_append, Claims, KeptRises, Fit, Rests, IsOtherEvent, lapsed_is, step_rests}
-use Rattle.cell_laws.proofs.Told.{TellsBeacon, TellsVote, Tells, IsTold, ShownTold, Grew, grew_none, told_append, other_told, beacons_told}
+use Rattle.cell_laws.proofs.Steps.{IsOther, Ballot, ballot_of, IsLegalCall, AreLegal, legal_append, Claims, Rests, lapsed_is, step_rests}
+use Rattle.cell_laws.proofs.Told.{TellsBeacon, TellsVote, Tells, IsTold, ShownTold, Grew, told_append, other_told, beacons_told}
 use Rattle.cell_laws.proofs.Votes.{voter_with, answered_yes, answered_no, yes_free, leased_is}
 
 -- ---- what grows stays given
@@ -272,9 +271,11 @@ module _ (db : Database) (hosts : List Host) (x : Leases) (k : ℕ) (site : Site
           vote : TellsVote (answered_model j start) start (answers_yes u.votes site.clock j claim) (place_of hosts (host_at hosts k)) (place_of hosts host)
           vote granted voter asker is_voter is_asker =
               let me : k ≡ voter = (let own : place_of hosts (host_at hosts k) ≡ Some k = here.own in cc) in
-              let it : j ≡ asker = cc in
-              (site.clock, subst (λ (voter : ℕ). IsIn (answered_model j start).yeses (record { voter = voter; asker = asker; start = start; at = site.clock })) me
-              (subst (λ (asker : ℕ). IsIn (answered_model j start).yeses (record { voter = k; asker = asker; start = start; at = site.clock })) it (0, refl)))
+              let it : j ≡ asker = cc in (
+                site.clock,
+                subst (λ (voter : ℕ). IsIn (answered_model j start).yeses (record { voter = voter; asker = asker; start = start; at = site.clock })) me
+                    (subst (λ (asker : ℕ). IsIn (answered_model j start).yeses (record { voter = k; asker = asker; start = start; at = site.clock })) it (0, refl)),
+              )
       by false none =
           quiet_vote (beacon_received m u site.clock host j start claim ready version).server (beacon_received m u site.clock host j start claim ready version).shown refl holds (answered_no u.votes u.starts site.clock j claim none)
           (λ granted voter asker is_voter is_asker. absurd (true≢false (sym granted ∙ none)), tt)

@@ -1,6 +1,6 @@
 -- What a step of a server does, rule by rule, as far as votes, the lease, its phase and its epoch go. All rules but those of
 -- votes leave the votes, and their packets carry none.
-use Rattle.std.proofs.Common.{Bool, true, false, true≢false, cond, ◌==◌, ◌≡◌, ℕ, zero, suc, ◌+◌, ◌<◌, ◌≤◌, List, [], ◌∷◌, ◌++◌, length, map, take, refl, sym, ap, subst, ◌∙◌, ◌⊎◌, inl, inr, arith}
+use Rattle.std.proofs.Common.{Bool, true, false, true≢false, cond, ◌==◌, ◌≡◌, ℕ, zero, suc, ◌+◌, ◌<◌, ◌≤◌, List, [], ◌∷◌, ◌++◌, length, map, refl, sym, ap, subst, ◌∙◌, arith}
 use Rattle.std.proofs.lemmas.Bool.{cond_both}
 use Rattle.std.proofs.lemmas.Bool.Decides.{nat_tests}
 use Rattle.std.specs.Prelude.{Option, Some, None, ◌&&◌, ◌||◌, not, nat_lt, nat_le, is_none, is_some}
@@ -18,12 +18,11 @@ use Rattle.ubik_types.specs.Logged.{too_large}
 use Rattle.ubik_types.specs.Phase.{Polled, Spread, PhaseRecord, NoPhase, Poll, Fetch, Relabel, Send, Ready}
 use Rattle.ubik_types.specs.Quorum.{is_majority}
 use Rattle.ubik_types.specs.Version.{version_lt, version_eq}
-use Rattle.ubik_types.specs.Votes.{VoteState, sync_heard}
+use Rattle.ubik_types.specs.Votes.{VoteState}
 use Rattle.ubik_calls.specs.declared.packets.TheConstants.{MAX_PIECES}
 use Rattle.ubik_calls.specs.declared.packets.Body.{Body}
 use Rattle.ubik_calls.specs.declared.packets.Body.TheVariants as body
 use Rattle.ubik_calls.specs.declared.replies.Reply.{Reply}
-use Rattle.ubik_calls.specs.declared.replies.Reply.TheVariants as reply
 use Rattle.db_image.specs.declared.services.CallReply.{CallReply}
 use Rattle.db_image.specs.declared.services.CallReply.TheVariants as call_reply
 use Rattle.db_image.specs.Database.{Database, changes_of}
@@ -32,17 +31,17 @@ use Rattle.cell_model.specs.declared.events.NodeEvent.{NodeEvent}
 use Rattle.cell_model.specs.declared.events.NodeEvent.TheVariants as event
 use Rattle.cell_model.specs.declared.events.Output.{Output}
 use Rattle.cell_model.specs.declared.events.Output.TheVariants as output
-use Rattle.cell_model.specs.Asks.{read_reply, read, write_asked, served, allows_reads, not_served, asked_elsewhere, asked_as, asked}
+use Rattle.cell_model.specs.Asks.{read_reply, read, write_asked, served, allows_reads, asked_elsewhere, asked_as}
 use Rattle.cell_model.specs.Durable.{Made, Reason, Own_relabelling, Committed, Received, version_after}
-use Rattle.cell_model.specs.Lapse.{no_quorum, flight_refused, waiting_refused, writes_refused, without_writes, phase_dropped, write_given_up, write_lapsed, lapsed}
+use Rattle.cell_model.specs.Lapse.{no_quorum, flight_refused, waiting_refused, writes_refused, phase_dropped, write_lapsed, lapsed}
 use Rattle.cell_model.specs.Node.{Server, KeptWrite, ReceivedText, Flight, Waiting}
 use Rattle.cell_model.specs.NodeRule.{received_from, received_packet, place_of, handled, step_of}
-use Rattle.cell_model.specs.Pieces.{piece_from, piece_count, numbered_piece}
-use Rattle.cell_model.specs.Polls.{new_poll, polling, with_answer, best_answer, first_with, only_holder, entry_at, is_marked}
-use Rattle.cell_model.specs.Receiver.{is_sending, answers_version_kept, answers_version_is, relabelled_by, set_version_received, text_went_on, send_piece_received, empty_write, begin_received, with_piece, kept_with, put_piece_received, committed_by, write_taken, whole_changes, whole_write, commit_received, kept_but, abort_received, get_version_received, get_piece_received}
-use Rattle.cell_model.specs.Recovery.{asks_versions, has_answered, sent_piece, spread_to, spread_answer, first_of_epoch, relabelled_to, relabelled, fetched_from, polled_best, polled, poll_asked, poll_begun, bytes_received, next_asked, spread_bodies, spread_again, recovered, recovery_turn, held_by, holder_added, lacking_sent, told_to_spread, fetch_refused, version_is_received, version_kept_received, next_sent, piece_kept_received, piece_fits, text_begun, continues, text_continued, text_with, is_whole, installed, fetch_installed, fetch_went_on, piece_received}
-use Rattle.cell_model.specs.Step.{Member, cell_size, Basis, Announced_image, Beacon_image, Evaluation, Shown, Stepped, quiet, showing, followed, leased, is_ready, is_fetch, told_version, with_phase, with_database, host_at, packet_to, sent, sends_to, sends_from, sends_to_each, is_short, short_after, refusing}
-use Rattle.cell_model.specs.Writes.{announced_image, put_pieces, write_bodies, next_version, own_write_begun, ended_write, flight_settled, settled_in, settled, last_counter, written_in, written_changes, written_small, written_within, turned, write_turn, is_free_in, is_free, next_turns, settled_with_turns}
+use Rattle.cell_model.specs.Pieces.{piece_count}
+use Rattle.cell_model.specs.Polls.{new_poll, polling, with_answer, best_answer, first_with, entry_at, is_marked}
+use Rattle.cell_model.specs.Receiver.{is_sending, answers_version_kept, answers_version_is, relabelled_by, set_version_received, text_went_on, send_piece_received, empty_write, begin_received, kept_with, put_piece_received, committed_by, write_taken, whole_changes, whole_write, commit_received, kept_but, abort_received, get_piece_received}
+use Rattle.cell_model.specs.Recovery.{asks_versions, has_answered, spread_to, spread_answer, first_of_epoch, relabelled_to, relabelled, polled, poll_asked, poll_begun, bytes_received, spread_bodies, spread_again, recovered, held_by, holder_added, lacking_sent, told_to_spread, version_is_received, version_kept_received, next_sent, piece_kept_received, piece_fits, text_begun, continues, text_continued, text_with, is_whole, installed, fetch_installed, fetch_went_on, piece_received}
+use Rattle.cell_model.specs.Step.{Member, cell_size, Basis, Announced_image, Beacon_image, Evaluation, Shown, Stepped, quiet, showing, followed, leased, is_ready, is_fetch, told_version, with_phase, with_database, packet_to, sent, sends_from, sends_to_each, is_short, short_after}
+use Rattle.cell_model.specs.Writes.{announced_image, put_pieces, write_bodies, next_version, own_write_begun, ended_write, flight_settled, settled_in, settled, written_in, written_changes, written_small, written_within, turned, write_turn, is_free_in, is_free, next_turns, settled_with_turns}
 
 -- ---- packets that carry no vote and ask for none
 

@@ -1,6 +1,6 @@
 -- Packets and the model of leases: each beacon on its way is one that it knows, and each yes is one that was given.
-use Rattle.std.proofs.Common.{Bool, true, false, cond, ◌≡◌, ℕ, zero, suc, ◌+◌, ◌<◌, ◌≤◌, ◌==◌, List, [], ◌∷◌, ◌++◌, length, map, refl, sym, ap, subst, ◌∙◌, ◌⊎◌, inl, inr, arith}
-use Rattle.std.specs.Prelude.{Option, Some, None, slice_get, filter_map}
+use Rattle.std.proofs.Common.{Bool, true, false, cond, ◌≡◌, ℕ, zero, suc, ◌+◌, ◌==◌, List, [], ◌∷◌, ◌++◌, length, refl, subst}
+use Rattle.std.specs.Prelude.{Option, Some, slice_get}
 use Rattle.std.specs.List.{cons_option}
 use Rattle.ubik_types.specs.declared.hosts.Host.{Host}
 use Rattle.ubik_types.specs.declared.versions.Version.{Version}
@@ -11,8 +11,8 @@ use Rattle.lease_model.specs.Leases.{Beacon, Yes, Leases, IsIn}
 use Rattle.cell_model.specs.declared.events.Output.{Output}
 use Rattle.cell_model.specs.declared.events.Output.TheVariants as output
 use Rattle.cell_model.specs.NodeRule.{place_of}
-use Rattle.cell_model.specs.Step.{Member, Shown, host_at, packet_to, sent, sends_from, sends_to_each}
-use Rattle.cell_model.specs.World.{packet_in, packet_of, packets_of}
+use Rattle.cell_model.specs.Step.{Member, Shown, host_at, packet_to, sent, sends_from}
+use Rattle.cell_model.specs.World.{packet_in, packets_of}
 use Rattle.cell_laws.proofs.Steps.{IsOther, IsOtherOutput, AllOther}
 
 abbrev pub TellsBeacon : Leases → ℕ → Option ℕ → Type 0

@@ -1,18 +1,16 @@
 -- What the rules of votes do to a server, as the model of leases sees it.
-use Rattle.std.proofs.Common.{Bool, true, false, true≢false, cond, ◌≡◌, ℕ, zero, suc, ◌+◌, ◌<◌, ◌≤◌, ◌==◌, List, [], ◌∷◌, ◌++◌, length, map, max, refl, sym, ap, subst, ◌∙◌, ◌⊎◌, inl, inr, arith}
+use Rattle.std.proofs.Common.{Bool, true, false, cond, ◌≡◌, ℕ, ◌+◌, ◌<◌, ◌≤◌, ◌==◌, List, [], ◌∷◌, max, refl, sym, ap, subst, ◌∙◌, ◌⊎◌, inl, inr, arith}
 use Rattle.std.proofs.lemmas.Bool.{cond-true, cond-false}
 use Rattle.std.proofs.lemmas.Bool.Decides.{nat_tests}
-use Rattle.std.specs.Prelude.{Option, Some, None, ◌&&◌, ◌||◌, nat_lt, nat_le}
+use Rattle.std.specs.Prelude.{Option, Some, None, ◌||◌, nat_lt}
 use Rattle.ubik_types.specs.declared.limits.TheConstants.{SMALLTIME, BIGTIME}
-use Rattle.ubik_types.specs.Lease.{with_start, is_counted, vote_counted, supporters, quorum_start, lease_from, lease_end, is_in_lease}
+use Rattle.ubik_types.specs.Lease.{supporters, quorum_start, lease_from, is_in_lease}
 use Rattle.ubik_types.specs.Quorum.{is_vote_quorum}
-use Rattle.ubik_types.specs.Votes.{VoteState, beacon_heard, prefers, says_yes, answers_yes, answered, is_server}
+use Rattle.ubik_types.specs.Votes.{VoteState, beacon_heard, answers_yes, answered, is_server}
 use Rattle.lease_model.specs.Leases.{Voter, IsLeased}
 use Rattle.lease_model.specs.Rules.{cell_rules}
-use Rattle.lease_model.specs.Runs.{is_free, said, counts}
+use Rattle.lease_model.specs.Runs.{is_free, said}
 use Rattle.lease_model.proofs.Places.{and_both, le_true}
-use Rattle.cell_model.specs.Node.{Server}
-use Rattle.cell_laws.specs.View.{voter_of}
 
 -- the votes of a server as a voter of the model
 abbrev pub voter_with : VoteState → List (Option ℕ) → Voter

@@ -1,9 +1,8 @@
 -- Each event of the world keeps what holds of a cell and of the model of leases beside it; and so does each run.
-use Rattle.std.proofs.Common.{Bool, true, false, cond, ◌≡◌, ℕ, zero, suc, ◌+◌, ◌<◌, ◌≤◌, ◌==◌, List, [], ◌∷◌, ◌++◌, length, map, set, refl, sym, ap, subst, ◌∙◌, ◌⊎◌, inl, inr, arith}
+use Rattle.std.proofs.Common.{Bool, true, false, ◌≡◌, ℕ, zero, suc, ◌+◌, ◌<◌, ◌≤◌, ◌==◌, List, [], ◌∷◌, length, map, set, refl, sym, ap, subst, ◌∙◌, ◌⊎◌, inl, inr, arith}
 use Rattle.std.proofs.lemmas.Bool.Decides.{nat_tests}
 use Rattle.std.proofs.lemmas.List.{map-set, length-map}
 use Rattle.std.specs.Prelude.{Option, Some, None, ◌&&◌, nat_lt, slice_get, option_and_then, option_map}
-use Rattle.ubik_types.specs.declared.hosts.Host.{Host}
 use Rattle.ubik_types.specs.declared.limits.TheConstants.{SKEW}
 use Rattle.ubik_types.specs.declared.versions.Version.{Version}
 use Rattle.ubik_calls.specs.declared.packets.Packet.{Packet}
@@ -13,21 +12,21 @@ use Rattle.lease_model.specs.Leases as leases
 use Rattle.lease_model.specs.Leases.{Leases}
 use Rattle.lease_model.specs.Rules.{AreSafe, cell_rules}
 use Rattle.lease_model.specs.Runs as runs
-use Rattle.lease_model.proofs.Exclude.{separated, lease_given}
+use Rattle.lease_model.proofs.Exclude.{separated}
 use Rattle.lease_model.proofs.Places.{and_both, within_get}
 use Rattle.lease_model.proofs.Steps.{step_keeps}
 use Rattle.cell_model.specs.declared.events.NodeEvent.{NodeEvent}
 use Rattle.cell_model.specs.declared.events.NodeEvent.TheVariants as event
-use Rattle.cell_model.specs.Book.{Page, Book, list_or_none, with_page, entered}
-use Rattle.cell_model.specs.Durable.{Durable, Transaction, Made, Reason, Own_relabelling, Committed, Received, version_after}
+use Rattle.cell_model.specs.Book.{BookVersion, Book, with_version, entered}
+use Rattle.cell_model.specs.Durable.{Durable, Made, Reason, Own_relabelling, Committed, Received, version_after}
 use Rattle.cell_model.specs.NodeRule.{place_of}
 use Rattle.cell_model.specs.Step.{Member, host_at}
 use Rattle.cell_model.specs.World.{World, Site, Trigger, Delivery, Beacon_turn, Recover_turn, Asking, Event, Tick, Tick_all, Step, Stop, Fault, Crash, Restart, Entry, SiteHappened, entries_from, packets_of, happened_at, happens_at, step_at, stop_at, fault_at, crash_at, restart_at, ticked, tick_at, packet_numbered, delivered, occasion, member, site_of, triggered, happens, clocks_of, are_near, may_tick, is_event}
 use Rattle.cell_laws.specs.Laws.{AllBelow, Rises}
-use Rattle.cell_laws.specs.View.{standing_of, view}
+use Rattle.cell_laws.specs.View.{view}
 use Rattle.cell_laws.proofs.Steps.{AreLegal, IsLegalCall}
 use Rattle.cell_laws.proofs.Told.{AllTold, Grew, grew_none, all_more, all_append, all_get, shown_told}
-use Rattle.cell_laws.proofs.Sites.{given_more, NodeHolds, holds_more, EventTold, Here, IsSeen, Voted}
+use Rattle.cell_laws.proofs.Sites.{given_more, NodeHolds, holds_more, EventTold, Here, IsSeen}
 use Rattle.cell_laws.proofs.Events.{Moved, step_moves, stop_moves_at, fault_moves_at, crash_moves, restart_moves}
 
 -- ---- lists of servers
@@ -61,19 +60,19 @@ set_same (z ∷ xs) (suc k) y is = ap (λ (rest : List leases.Server). z ∷ res
 
 -- ---- what holds of a cell, and of the model of leases beside it
 
--- of a page: a vote quorum has given its maker the votes of its epoch, and the maker has gone on from there
-abbrev pub PageHolds : List Site → Leases → Page → Type 0
-PageHolds sites x p =
+-- of a version in the book: a vote quorum has given its maker the votes of its epoch, and the maker has gone on from there
+abbrev pub VersionHolds : List Site → Leases → BookVersion → Type 0
+VersionHolds sites x p =
     WereGiven cell_rules x p.maker p.version.epoch
     × ((site : Site) → slice_get sites p.maker ≡ Some site → p.version.epoch ≤ site.durable.version.epoch)
 
-abbrev pub AllPages : (Page → Type 0) → Book → Type 0
-AllPages P [] = Unit {0}
-AllPages P (p ∷ book) = P p × AllPages P book
+abbrev pub AllVersions : (BookVersion → Type 0) → Book → Type 0
+AllVersions P [] = Unit {0}
+AllVersions P (p ∷ book) = P p × AllVersions P book
 
-pages_map : (P Q : Page → Type 0) (book : Book) → ((p : Page) → P p → Q p) → AllPages P book → AllPages Q book
-pages_map P Q [] f all = tt
-pages_map P Q (p ∷ book) f all = (f p all.0, pages_map P Q book f all.1)
+versions_map : (P Q : BookVersion → Type 0) (book : Book) → ((p : BookVersion) → P p → Q p) → AllVersions P book → AllVersions Q book
+versions_map P Q [] f all = tt
+versions_map P Q (p ∷ book) f all = (f p all.0, versions_map P Q book f all.1)
 
 pub record Good (w : World) (x : Leases) (book : Book) : Type 0 where
   pub servers : x.servers ≡ map view w.sites
@@ -83,7 +82,7 @@ pub record Good (w : World) (x : Leases) (book : Book) : Type 0 where
   pub moments : (k : ℕ) (site : Site) → slice_get w.sites k ≡ Some site → 0 < site.clock
   pub holds : (k : ℕ) (site : Site) → slice_get w.sites k ≡ Some site → NodeHolds x k site.durable site.node
   pub kept : Invariant cell_rules x
-  pub pages : AllPages (PageHolds w.sites x) book
+  pub versions : AllVersions (VersionHolds w.sites x) book
   pub rises : Rises book
 
 pub here_of : (w : World) (x : Leases) (book : Book) (k : ℕ) (site : Site) → Good w x book → site_of w k ≡ Some site → Here w.hosts x k site
@@ -104,52 +103,54 @@ eq_true a b is = grind (arith, nat_tests)
 eq_false : (a b : ℕ) → (a == b) ≡ false → a ≡ b → ⊥
 eq_false a b is same = grind (arith, nat_tests)
 
-all_below : (P : Page → Type 0) (epoch : ℕ) (book : Book) → ((p : Page) → P p → p.version.epoch < epoch) → AllPages P book → AllBelow epoch book
-all_below P epoch [] f all = tt
-all_below P epoch (p ∷ book) f all = (f p all.0, all_below P epoch book f all.1)
+all_below : (P : BookVersion → Type 0) (epoch : ℕ) (book : Book) → 0 < epoch → ((p : BookVersion) → P p → p.version.epoch < epoch) → AllVersions P book → AllBelow epoch book
+all_below P epoch [] some f all = some
+all_below P epoch (p ∷ book) some f all = (f p all.0, all_below P epoch book some f all.1)
 
 module _ (safe : AreSafe cell_rules) (w : World) (x : Leases) (k : ℕ) (site : Site) (here : Here w.hosts x k site) where
   abbrev Claim : ℕ → Type 0
   Claim = WereGiven cell_rules x k
 
-  -- a page, while this server has a version
-  abbrev Upto : Version → Page → Type 0
+  -- a version in the book, while this server has one
+  abbrev Upto : Version → BookVersion → Type 0
   Upto v p =
       WereGiven cell_rules x p.maker p.version.epoch
       × (p.maker ≡ k → p.version.epoch ≤ v.epoch)
       × ((p.maker ≡ k → ⊥) → (z : Site) → slice_get w.sites p.maker ≡ Some z → p.version.epoch ≤ z.durable.version.epoch)
 
-  upto_more : (v new : Version) → v.epoch ≤ new.epoch → (p : Page) → Upto v p → Upto new p
+  upto_more : (v new : Version) → v.epoch ≤ new.epoch → (p : BookVersion) → Upto v p → Upto new p
   upto_more v new rises p is = (is.0, λ own. (let h : p.version.epoch ≤ v.epoch = is.1 own in omega arith), is.2)
 
-  -- in lease this server is past the epoch of every page, and may make its clock the next one
-  past : (v : Version) → v.epoch < site.clock → Claim site.clock → (p : Page) → Upto v p → p.version.epoch < site.clock
+  -- in lease this server is past the epoch of every version in the book, and may make its clock the next one
+  past : (v : Version) → v.epoch < site.clock → Claim site.clock → (p : BookVersion) → Upto v p → p.version.epoch < site.clock
   past v less claim p is = by (p.maker == k) refl
     where
       by : (b : Bool) → (p.maker == k) ≡ b → p.version.epoch < site.clock
       by true own = let h : p.version.epoch ≤ v.epoch = is.1 (eq_true p.maker k own) in omega arith
       by false other = separated cell_rules x p.maker k p.version.epoch (view site) safe here.kept is.0 here.get claim (eq_false p.maker k other)
 
-  page_enters : (v new : Version) (reason : Reason) (book : Book) → IsLegalCall (Claim site.clock) Claim site.clock v new reason → AllPages (Upto v) book × Rises book → AllPages (Upto new) (with_page book k v new reason) × Rises (with_page book k v new reason)
-  page_enters v new Own_relabelling book legal kept =
+  version_enters : (v new : Version) (reason : Reason) (book : Book) → IsLegalCall (Claim site.clock) Claim site.clock v new reason → AllVersions (Upto v) book × Rises book → AllVersions (Upto new) (with_version book k v new reason) × Rises (with_version book k v new reason)
+  version_enters v new Own_relabelling book legal kept =
       let less : v.epoch < new.epoch = legal.0 in
       let is_now : new.epoch ≡ site.clock = legal.1 in
       let less_now : v.epoch < site.clock = omega arith in
-      let rises : v.epoch ≤ new.epoch = omega arith in
-      (((subst Claim (sym is_now) legal.2, λ own. omega arith, λ other. absurd (other refl)), pages_map (Upto v) (Upto new) book (upto_more v new rises) kept.0),
-      (λ none. subst (λ (e : ℕ). AllBelow e book) (sym is_now) (all_below (Upto v) site.clock book (past v less_now legal.2) kept.0), kept.1))
-  page_enters v new (Committed t) book legal kept =
+      let rises : v.epoch ≤ new.epoch = omega arith in (
+        ((subst Claim (sym is_now) legal.2, λ own. omega arith, λ other. absurd (other refl)), versions_map (Upto v) (Upto new) book (upto_more v new rises) kept.0),
+        (λ none. subst (λ (e : ℕ). AllBelow e book) (sym is_now) (all_below (Upto v) site.clock book here.moment (past v less_now legal.2) kept.0), kept.1),
+      )
+  version_enters v new (Committed t) book legal kept =
       let same : new.epoch ≡ v.epoch = legal.0 in
-      let rises : v.epoch ≤ new.epoch = omega arith in
-      (((subst Claim (sym same) legal.1, λ own. omega arith, λ other. absurd (other refl)), pages_map (Upto v) (Upto new) book (upto_more v new rises) kept.0),
-      (λ none. absurd (cc), kept.1))
-  page_enters v new Received book legal kept = (pages_map (Upto v) (Upto new) book (upto_more v new legal) kept.0, kept.1)
+      let rises : v.epoch ≤ new.epoch = omega arith in (
+        ((subst Claim (sym same) legal.1, λ own. omega arith, λ other. absurd (other refl)), versions_map (Upto v) (Upto new) book (upto_more v new rises) kept.0),
+        (λ none. absurd (cc), kept.1),
+      )
+  version_enters v new Received book legal kept = (versions_map (Upto v) (Upto new) book (upto_more v new legal) kept.0, kept.1)
 
-  pages_enter : (v last : Version) (calls : List Made) (book : Book) → AreLegal (Claim site.clock) Claim site.clock v calls last → AllPages (Upto v) book × Rises book → AllPages (Upto last) (entered book (entries_from k v calls)) × Rises (entered book (entries_from k v calls))
-  pages_enter v last [] book legal kept = subst (λ (u : Version). AllPages (Upto u) book × Rises book) legal kept
-  pages_enter v last (made ∷ calls) book legal kept =
-      pages_enter (version_after made.call) last calls (with_page book k v (version_after made.call) made.reason) legal.1
-      (page_enters v (version_after made.call) made.reason book legal.0 kept)
+  versions_enter : (v last : Version) (calls : List Made) (book : Book) → AreLegal (Claim site.clock) Claim site.clock v calls last → AllVersions (Upto v) book × Rises book → AllVersions (Upto last) (entered book (entries_from k v calls)) × Rises (entered book (entries_from k v calls))
+  versions_enter v last [] book legal kept = subst (λ (u : Version). AllVersions (Upto u) book × Rises book) legal kept
+  versions_enter v last (made ∷ calls) book legal kept =
+      versions_enter (version_after made.call) last calls (with_version book k v (version_after made.call) made.reason) legal.1
+      (version_enters v (version_after made.call) made.reason book legal.0 kept)
 
 -- ---- what happens at one server
 
@@ -161,16 +162,16 @@ module _ (safe : AreSafe cell_rules) (w : World) (x : Leases) (book : Book) (goo
   here : Here w.hosts x k site
   here = here_of w x book k site good is_at
 
-  upto : (p : Page) → PageHolds w.sites x p → Upto safe w x k site here site.durable.version p
+  upto : (p : BookVersion) → VersionHolds w.sites x p → Upto safe w x k site here site.durable.version p
   upto p is =
       (is.0, λ own. is.1 site (subst (λ (j : ℕ). slice_get w.sites j ≡ Some site) (sym own) is_at), λ other. is.1)
 
-  entered_is : AllPages (Upto safe w x k site here h.site.durable.version) (entered book h.entries) × Rises (entered book h.entries)
+  entered_is : AllVersions (Upto safe w x k site here h.site.durable.version) (entered book h.entries) × Rises (entered book h.entries)
   entered_is =
-      subst (λ (entries : List Entry). AllPages (Upto safe w x k site here h.site.durable.version) (entered book entries) × Rises (entered book entries))
+      subst (λ (entries : List Entry). AllVersions (Upto safe w x k site here h.site.durable.version) (entered book entries) × Rises (entered book entries))
       (sym moved.entries)
-      (pages_enter safe w x k site here site.durable.version h.site.durable.version moved.calls book moved.legal
-      (pages_map (PageHolds w.sites x) (Upto safe w x k site here site.durable.version) book upto good.pages, good.rises))
+      (versions_enter safe w x k site here site.durable.version h.site.durable.version moved.calls book moved.legal
+      (versions_map (VersionHolds w.sites x) (Upto safe w x k site here site.durable.version) book upto good.versions, good.rises))
 
   next_good : (y : Leases) → Invariant cell_rules y → Grew x y → y.servers ≡ set x.servers k (view h.site) → AllTold w.hosts y (packets_of h.shown) → Good (happened_at w k h).world y (entered book h.entries)
   next_good y kept grew servers told = record {
@@ -181,7 +182,7 @@ module _ (safe : AreSafe cell_rules) (w : World) (x : Leases) (book : Book) (goo
     moments = moments;
     holds = holds;
     kept = kept;
-    pages = pages_map (Upto safe w x k site here h.site.durable.version) (PageHolds (set w.sites k h.site) y) (entered book h.entries) page entered_is.0;
+    versions = versions_map (Upto safe w x k site here h.site.durable.version) (VersionHolds (set w.sites k h.site) y) (entered book h.entries) in_book entered_is.0;
     rises = entered_is.1;
   }
     where
@@ -201,8 +202,8 @@ module _ (safe : AreSafe cell_rules) (w : World) (x : Leases) (book : Book) (goo
               (subst (λ (i : ℕ). NodeHolds y i h.site.durable h.site.node) (sym p.0) (holds_more x y k h.site.durable h.site.node grew moved.holds))
           by (inr p) = holds_more x y j z.durable z.node grew (good.holds j z p.1)
 
-      page : (p : Page) → Upto safe w x k site here h.site.durable.version p → PageHolds (set w.sites k h.site) y p
-      page p is = (given_more x y p.maker p.version.epoch grew is.0, last)
+      in_book : (p : BookVersion) → Upto safe w x k site here h.site.durable.version p → VersionHolds (set w.sites k h.site) y p
+      in_book p is = (given_more x y p.maker p.version.epoch grew is.0, last)
         where
           last : (z : Site) → slice_get (set w.sites k h.site) p.maker ≡ Some z → p.version.epoch ≤ z.durable.version.epoch
           last z get = by (site_either w.sites k p.maker h.site z get)
@@ -219,10 +220,14 @@ module _ (safe : AreSafe cell_rules) (w : World) (x : Leases) (book : Book) (goo
           inl (next_good x good.kept (grew_none x)
           (set_same x.servers k (view h.site) (here.get ∙ ap (λ (y : leases.Server). Some y) (sym quiet.0))) (shown_told w.hosts x h.shown quiet.1))
       by (inr voted) =
-          inr (voted.e, voted.may, subst (λ (y : Leases). Good (happened_at w k h).world y (entered book h.entries)) (sym voted.is_next)
-          (next_good voted.next
-          (subst (Invariant cell_rules) voted.is_next (step_keeps cell_rules x voted.e safe.binds voted.may good.kept))
-          voted.grew voted.servers (shown_told w.hosts voted.next h.shown voted.told)))
+          inr (
+            voted.e,
+            voted.may,
+            subst (λ (y : Leases). Good (happened_at w k h).world y (entered book h.entries)) (sym voted.is_next)
+                (next_good voted.next
+                (subst (Invariant cell_rules) voted.is_next (step_keeps cell_rules x voted.e safe.binds voted.may good.kept))
+                voted.grew voted.servers (shown_told w.hosts voted.next h.shown voted.told)),
+          )
 
 -- ---- where a trigger brings a step
 
@@ -308,9 +313,12 @@ module _ (safe : AreSafe cell_rules) (w : World) (x : Leases) (book : Book) (goo
         subst (λ (d : Durable). NodeHolds y j d z.node) (sym old.3)
         (subst (NodeHolds y j old.0.durable) (sym old.4) (holds_more x y j old.0.durable old.0.node grew (good.holds j old.0 old.1)));
     kept = kept;
-    pages = pages_map (PageHolds w.sites x) (PageHolds sites y) book
-        (λ p is. (given_more x y p.maker p.version.epoch grew is.0, λ z get.
-        let old = later p.maker z get in subst (λ (d : Durable). p.version.epoch ≤ d.version.epoch) (sym old.3) (is.1 old.0 old.1))) good.pages;
+    versions = versions_map (VersionHolds w.sites x) (VersionHolds sites y) book
+        (λ p is. (
+          given_more x y p.maker p.version.epoch grew is.0,
+          λ z get.
+              let old = later p.maker z get in subst (λ (d : Durable). p.version.epoch ≤ d.version.epoch) (sym old.3) (is.1 old.0 old.1),
+        )) good.versions;
     rises = good.rises;
   }
 

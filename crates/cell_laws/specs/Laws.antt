@@ -1,7 +1,8 @@
 -- Laws of cells of every size.
-use Rattle.std.specs.Prelude.{◌≡◌, ℕ, ◌<◌, Bool, true, Option, None, List, [], ◌∷◌, map, IsSomeAnd}
+use Rattle.std.specs.Prelude.{◌≡◌, ℕ, ◌<◌, Bool, true, None, List, [], ◌∷◌, map, IsSomeAnd}
 use Rattle.db_image.specs.Database.{Database}
 use Rattle.ubik_types.specs.declared.hosts.Host.{Host}
+use Rattle.ubik_types.specs.Version.{zero_version}
 use Rattle.lease_model.specs.Rules.{cell_rules}
 use Rattle.lease_model.specs.Runs as leases
 use Rattle.cell_model.specs.Book.{Book, first_run, run_through, is_leased_node}
@@ -20,15 +21,15 @@ LeasesExclude =
     let w = world_after db (first_world hosts clock failed) events in
     (h k : ℕ) → IsInLease w h → IsInLease w k → h ≡ k
 
--- each of these pages is of an epoch below this one
+-- the first version, and each version in the book, is of an epoch below this one
 abbrev pub AllBelow : ℕ → Book → Type 0
-AllBelow epoch [] = Unit {0}
-AllBelow epoch (page ∷ book) = (page.version.epoch < epoch) × AllBelow epoch book
+AllBelow epoch [] = zero_version.epoch < epoch
+AllBelow epoch (newest ∷ book) = (newest.version.epoch < epoch) × AllBelow epoch book
 
--- pages, the newest first: the epoch of each relabelling is above that of every page before it
+-- a book, the newest version first: the epoch of each relabelling is above that of every version before it
 abbrev pub Rises : Book → Type 0
 Rises [] = Unit {0}
-Rises (page ∷ book) = (page.transaction ≡ None → AllBelow page.version.epoch book) × Rises book
+Rises (newest ∷ book) = (newest.transaction ≡ None → AllBelow newest.version.epoch book) × Rises book
 
 -- In each cell, after each run, the epoch of each relabelling is above every epoch in the book before it.
 abbrev pub EpochsRise : Type 0

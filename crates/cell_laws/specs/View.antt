@@ -1,8 +1,7 @@
 -- A cell as the model of leases sees it: of each server its clock, its last yes and the starts that it counted (own).
-use Rattle.std.specs.Prelude.{List, map}
 use Rattle.lease_model.specs.Leases as leases
 use Rattle.cell_model.specs.Node.{Node, Down, Halted, Up, Server}
-use Rattle.cell_model.specs.World.{Site, World}
+use Rattle.cell_model.specs.World.{Site}
 
 abbrev pub voter_of : Server → leases.Voter
 voter_of s = record { yes_to = s.votes.yes_to; yes_at = s.votes.yes_at; starts = s.starts }

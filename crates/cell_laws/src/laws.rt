@@ -1,5 +1,6 @@
 //! Laws of cells of 1 to 20 servers, over every run: each is the clause of a public call.
 ghost use Rattle.cell_laws.specs.Laws.{CellsKeepLeases, EpochsRise, LeasesExclude};
+
 use lease_model::law_rules_are_safe;
 
 /// Whatever happens in a cell, its votes, leases and clocks are those of a run of the model of leases, by the rules of a cell.

@@ -1,7 +1,6 @@
 -- Runs that leave two servers in lease, where a number is another one.
-use Rattle.std.proofs.Common.{◌≡◌, ℕ, ◌+◌, ◌*◌, ◌≤◌, false, List, [], ◌∷◌, refl, arith}
+use Rattle.std.proofs.Common.{◌+◌, ◌*◌, false, List, [], ◌∷◌, refl, arith}
 use Rattle.lease_model.specs.Laws.{BothInLease, is_half}
-use Rattle.lease_model.specs.Leases.{Beacon, Yes}
 use Rattle.lease_model.specs.Rules.{Rules, cell_rules}
 use Rattle.lease_model.specs.Runs.{Event, Tick, Tick_all, Ask, Answer, Count, Start, Stop}
 

@@ -1,13 +1,13 @@
 -- By the invariant at most one server is in lease, and leases of two servers are ordered by their clocks.
-use Rattle.std.proofs.Common.{Bool, true, false, ◌≡◌, ℕ, zero, suc, ◌+◌, ◌*◌, ◌<◌, ◌≤◌, ◌==◌, List, [], ◌∷◌, length, map, refl, sym, ap, subst, ◌∙◌, ◌⊎◌, inl, inr, arith}
+use Rattle.std.proofs.Common.{Bool, true, false, ◌≡◌, ℕ, ◌+◌, ◌*◌, ◌<◌, ◌≤◌, ◌==◌, List, length, refl, sym, ◌∙◌, ◌⊎◌, inl, inr, arith}
 use Rattle.std.proofs.lemmas.Bool.Decides.{nat_tests}
 use Rattle.std.specs.Prelude.{Option, Some, None, slice_get, IsSomeAnd}
 use Rattle.ubik_types.specs.Lease.{supporters}
-use Rattle.lease_model.specs.Invariant.{StartsGiven, AreCounted, IsCounted, Invariant, WereGiven}
+use Rattle.lease_model.specs.Invariant.{AreCounted, IsCounted, Invariant, WereGiven}
 use Rattle.lease_model.specs.Laws.{Exclude, LeasesExclude}
-use Rattle.lease_model.specs.Leases.{Voter, Standing, Down, Halted, Up, Server, Beacon, Yes, Leases, IsIn, IsLeased, IsLeasedIn, IsInLease}
+use Rattle.lease_model.specs.Leases.{Standing, Down, Halted, Up, Server, Leases, IsIn, IsLeased, IsLeasedIn}
 use Rattle.lease_model.specs.Rules.{Rules, AreSafe}
-use Rattle.lease_model.specs.Runs.{Event, IsRun, after_all, first}
+use Rattle.lease_model.specs.Runs.{after_all, first}
 use Rattle.lease_model.proofs.Places.{get_within, within_get, supporter_at, supporters-length}
 use Rattle.lease_model.proofs.Steps.{run_keeps, first_keeps}
 

@@ -1,15 +1,14 @@
 -- Each event keeps each part of the invariant.
-use Rattle.std.proofs.Common.{Bool, true, false, cond, ◌≡◌, ℕ, zero, suc, ◌+◌, ◌*◌, ◌<◌, ◌≤◌, ◌==◌, List, [], ◌∷◌, length, map, refl, sym, ap, subst, ◌∙◌, ◌⊎◌, inl, inr, arith}
+use Rattle.std.proofs.Common.{true, ◌≡◌, ℕ, ◌+◌, ◌<◌, ◌≤◌, List, ◌∷◌, length, map, sym, ap, subst, ◌∙◌, ◌⊎◌, inl, inr, arith}
 use Rattle.std.proofs.lemmas.Bool.Decides.{nat_tests}
-use Rattle.std.proofs.lemmas.List.{length-map}
 use Rattle.std.specs.Prelude.{Option, Some, None, nat_lt, slice_get}
 use Rattle.ubik_types.specs.Votes.{is_server}
-use Rattle.ubik_types.specs.Lease.{no_starts, with_start}
-use Rattle.lease_model.specs.Invariant.{ClocksNear, BeaconsPast, YesesPast, YesesGiven, MayBeTo, YesBinds, IsBound, AllBound, YesesApart, StartsGiven, AreCounted, IsCounted, AllCounted, Invariant}
-use Rattle.lease_model.specs.Leases.{Voter, Standing, Down, Halted, Up, Server, Beacon, Yes, Leases, IsIn}
-use Rattle.lease_model.specs.Rules.{Rules, AreSafe}
-use Rattle.lease_model.specs.Runs.{Event, Tick, Tick_all, Ask, Answer, Count, Start, Halt, Stop, at_server, ticked, started_voter, started, said, counts, if_up, votes, asks, counting, halted, halts, stops, asked_by, answered_by, after, is_free, is_free_in, is_free_at, clocks_of, are_near, IsEvent}
-use Rattle.lease_model.proofs.Places.{or_either, lt_true, get_within, within_get, get_same, in_more, in_cases, Was, at_before, at_length, Each, each_at, each_all, near_at, with_start-length, with_start-either, no_starts-length, no_starts-none}
+use Rattle.ubik_types.specs.Lease.{with_start}
+use Rattle.lease_model.specs.Invariant.{ClocksNear, BeaconsPast, YesesPast, YesesGiven, MayBeTo, YesBinds, IsBound, YesesApart, StartsGiven, AreCounted, IsCounted}
+use Rattle.lease_model.specs.Leases.{Voter, Standing, Down, Halted, Up, Server, Beacon, Yes, IsIn}
+use Rattle.lease_model.specs.Rules.{Rules}
+use Rattle.lease_model.specs.Runs.{at_server, ticked, said, is_free}
+use Rattle.lease_model.proofs.Places.{or_either, lt_true, get_same, in_more, in_cases, Was, at_before, each_all, with_start-length, with_start-either}
 
 -- ---- clocks that only go forward
 

@@ -1,9 +1,9 @@
 -- The numbers of a cell are safe.
-use Rattle.std.proofs.Common.{◌≡◌, ℕ, ◌+◌, ◌*◌, ◌<◌, Bool, true, List, length, refl, arith}
+use Rattle.std.proofs.Common.{◌≡◌, ℕ, ◌<◌, Bool, true, List, length, refl, arith}
 use Rattle.std.proofs.lemmas.Bool.Decides.{nat_tests}
 use Rattle.std.specs.Prelude.{nat_lt}
 use Rattle.ubik_types.specs.Quorum.{is_vote_quorum, IsVoteQuorum, SharesServer}
-use Rattle.lease_model.specs.Rules.{Rules, Overlap, AreSafe, cell_rules}
+use Rattle.lease_model.specs.Rules.{Overlap, AreSafe, cell_rules}
 
 lt_true : (a b : ℕ) → nat_lt a b ≡ true → a < b
 lt_true a b is = grind (arith, nat_tests)

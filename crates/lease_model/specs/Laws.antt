@@ -1,8 +1,8 @@
 -- Laws of leases, and runs that break them where a number is another one.
-use Rattle.std.specs.Prelude.{◌≡◌, ℕ, ◌*◌, false, true, nat_le, Bool, List, [], ◌∷◌}
+use Rattle.std.specs.Prelude.{◌≡◌, ℕ, ◌*◌, false, nat_le, Bool, List, [], ◌∷◌}
 use Rattle.ubik_types.specs.Quorum.{size}
 use Rattle.lease_model.specs.Leases.{Leases, IsInLease}
-use Rattle.lease_model.specs.Rules.{Rules, AreSafe, cell_rules}
+use Rattle.lease_model.specs.Rules.{Rules, AreSafe}
 use Rattle.lease_model.specs.Runs.{Event, IsRun, after_all, first}
 
 -- at most one server is in lease
