@@ -1,5 +1,6 @@
 -- What an event of the world does at its server.
-use Rattle.std.proofs.Common.{Bool, true, false, true≢false, ◌≡◌, ℕ, zero, suc, List, [], ◌∷◌, length, set, take, refl, sym, ap, subst, ◌∙◌, inl, inr}
+use Rattle.std.proofs.Common.{Bool, true, false, true≢false, ◌≡◌, ℕ, zero, suc, List, [], ◌∷◌, length, set, take, refl, sym, ap, subst, ◌∙◌}
+use Rattle.std.proofs.Common.{inl, inr}
 use Rattle.ubik_types.specs.declared.hosts.Host.{Host}
 use Rattle.ubik_types.specs.declared.versions.Version.{Version}
 use Rattle.db_image.specs.Database.{Database}
@@ -15,7 +16,8 @@ use Rattle.cell_model.specs.Durable.{Durable, DurableCall, Commit, Relabel, Inst
 use Rattle.cell_model.specs.Node.{Node, Down, Halted, Up, Server}
 use Rattle.cell_model.specs.NodeRule.{step_of, refusals}
 use Rattle.cell_model.specs.Step.{Member, Shown, Stepped}
-use Rattle.cell_model.specs.World.{Site, Trigger, SiteHappened, entries_from, only_marks, halted_step, step_up, step_at, stop_up, stop_at, fault_up, fault_at, crash_at, restart_at, lost_at}
+use Rattle.cell_model.specs.World.{Site, Trigger, SiteHappened, entries_from, only_marks, halted_step, step_up, step_at, stop_up, stop_at}
+use Rattle.cell_model.specs.World.{fault_up, fault_at, crash_at, restart_at, lost_at}
 use Rattle.cell_laws.specs.View.{voter_of, standing_of, view}
 use Rattle.cell_laws.proofs.Others.{AllOther}
 use Rattle.cell_laws.proofs.Parts.{AreLegal}

@@ -1,6 +1,7 @@
 -- What a step of a server does, rule by rule, as far as votes, the lease, its phase and its epoch go. All rules but those of
 -- votes leave the votes, and their packets carry none.
-use Rattle.std.proofs.Common.{Bool, true, false, cond, ◌==◌, ◌≡◌, ℕ, ◌+◌, ◌≤◌, List, [], ◌∷◌, ◌++◌, length, map, refl, sym, ap, subst, ◌∙◌, arith}
+use Rattle.std.proofs.Common.{Bool, true, false, cond, ◌==◌, ◌≡◌, ℕ, ◌+◌, ◌≤◌, List, [], ◌∷◌, ◌++◌, length, map, refl, sym, ap, subst, ◌∙◌}
+use Rattle.std.proofs.Common.{arith}
 use Rattle.std.proofs.lemmas.Bool.{cond_both}
 use Rattle.std.specs.Prelude.{Option, Some, None, ◌&&◌, ◌||◌, not, nat_lt, nat_le, is_none, is_some}
 use Rattle.lock_table.specs.declared.tables.TheConstants.{MAX_WAITING}
@@ -29,13 +30,23 @@ use Rattle.cell_model.specs.Lapse.{writes_refused, phase_dropped, write_lapsed, 
 use Rattle.cell_model.specs.Node.{Server, KeptWrite, ReceivedText, Flight, Waiting}
 use Rattle.cell_model.specs.NodeRule.{received_from, received_packet, place_of, handled, step_of}
 use Rattle.cell_model.specs.Polls.{new_poll, polling, with_answer, best_answer, first_with, entry_at, is_marked}
-use Rattle.cell_model.specs.Receiver.{is_sending, answers_version_kept, answers_version_is, relabelled_by, set_version_received, text_went_on, send_piece_received, empty_write, begin_received, kept_with, put_piece_received, committed_by, write_taken, whole_write, commit_received, kept_but, abort_received, get_piece_received}
-use Rattle.cell_model.specs.Recovery.{asks_versions, has_answered, first_of_epoch, relabelled_to, relabelled, polled, poll_asked, poll_begun, bytes_received, spread_again, recovered, held_by, holder_added, lacking_sent, told_to_spread, version_is_received, version_kept_received, next_sent, piece_kept_received, text_with, is_whole, installed, fetch_installed, fetch_went_on, piece_received}
-use Rattle.cell_model.specs.Step.{Member, cell_size, Basis, Announced_image, Beacon_image, Shown, Stepped, quiet, showing, followed, leased, is_ready, is_fetch, told_version, with_phase, with_database, is_short, short_after}
-use Rattle.cell_model.specs.Writes.{announced_image, next_version, own_write_begun, ended_write, flight_settled, settled_in, settled, written_in, written_changes, written_small, written_within, turned, write_turn, is_free_in, is_free, next_turns, settled_with_turns}
+use Rattle.cell_model.specs.Receiver.{is_sending, answers_version_kept, answers_version_is, relabelled_by, set_version_received}
+use Rattle.cell_model.specs.Receiver.{text_went_on, send_piece_received, empty_write, begin_received, kept_with, put_piece_received}
+use Rattle.cell_model.specs.Receiver.{committed_by, write_taken, whole_write, commit_received, kept_but, abort_received, get_piece_received}
+use Rattle.cell_model.specs.Recovery.{asks_versions, has_answered, first_of_epoch, relabelled_to, relabelled, polled, poll_asked}
+use Rattle.cell_model.specs.Recovery.{poll_begun, bytes_received, spread_again, recovered, held_by, holder_added, lacking_sent}
+use Rattle.cell_model.specs.Recovery.{told_to_spread, version_is_received, version_kept_received, next_sent, piece_kept_received, text_with}
+use Rattle.cell_model.specs.Recovery.{is_whole, installed, fetch_installed, fetch_went_on, piece_received}
+use Rattle.cell_model.specs.Step.{Member, cell_size, Basis, Announced_image, Beacon_image, Shown, Stepped, quiet, showing, followed, leased}
+use Rattle.cell_model.specs.Step.{is_ready, is_fetch, told_version, with_phase, with_database, is_short, short_after}
+use Rattle.cell_model.specs.Writes.{announced_image, next_version, own_write_begun, ended_write, flight_settled, settled_in, settled}
+use Rattle.cell_model.specs.Writes.{written_in, written_changes, written_small, written_within, turned, write_turn, is_free_in, is_free}
+use Rattle.cell_model.specs.Writes.{next_turns, settled_with_turns}
 use Rattle.cell_laws.specs.Invariant.{KeptRises, Claims}
-use Rattle.cell_laws.proofs.Others.{IsOther, AllOther, other_append, bodies_if, sends_other, write_other, spread_to_other, answer_other, spread_other, waiting_other, refused_other, read_other}
-use Rattle.cell_laws.proofs.Parts.{Ballot, ballot_of, is_held, AreLegal, legal_append, Fit, Rests, lt_true, and_both, or_none, lt_rises, not_lt_rises, eq_epoch, no, and_three, text_version, piece_rises, but_rises, whole_rises}
+use Rattle.cell_laws.proofs.Others.{IsOther, AllOther, other_append, bodies_if, sends_other, write_other, spread_to_other, answer_other}
+use Rattle.cell_laws.proofs.Others.{spread_other, waiting_other, refused_other, read_other}
+use Rattle.cell_laws.proofs.Parts.{Ballot, ballot_of, is_held, AreLegal, legal_append, Fit, Rests, lt_true, and_both, or_none, lt_rises}
+use Rattle.cell_laws.proofs.Parts.{not_lt_rises, eq_epoch, no, and_three, text_version, piece_rises, but_rises, whole_rises}
 
 -- events that are not of votes
 abbrev pub IsOtherEvent : NodeEvent → Type 0

@@ -1,5 +1,6 @@
 -- Each event of the world keeps what holds of a cell and of the model of leases beside it; and so does each run.
-use Rattle.std.proofs.Common.{Bool, true, false, ◌≡◌, ℕ, zero, suc, ◌+◌, ◌<◌, ◌≤◌, ◌==◌, List, [], ◌∷◌, length, map, set, refl, sym, ap, subst, ◌∙◌, ◌⊎◌, inl, inr, arith}
+use Rattle.std.proofs.Common.{Bool, true, false, ◌≡◌, ℕ, zero, suc, ◌+◌, ◌<◌, ◌≤◌, ◌==◌, List, [], ◌∷◌, length, map, set, refl, sym, ap}
+use Rattle.std.proofs.Common.{subst, ◌∙◌, ◌⊎◌, inl, inr, arith}
 use Rattle.std.proofs.lemmas.Bool.Decides.{nat_tests}
 use Rattle.std.proofs.lemmas.List.{map-set, length-map}
 use Rattle.std.specs.Prelude.{Option, Some, None, ◌&&◌, nat_lt, slice_get, option_and_then, option_map}
@@ -21,7 +22,10 @@ use Rattle.cell_model.specs.Book.{BookVersion, Book, with_version, entered}
 use Rattle.cell_model.specs.Durable.{Durable, Made, Reason, Own_relabelling, Committed, Received, version_after}
 use Rattle.cell_model.specs.NodeRule.{place_of}
 use Rattle.cell_model.specs.Step.{Member}
-use Rattle.cell_model.specs.World.{World, Site, Trigger, Delivery, Beacon_turn, Recover_turn, Asking, Event, Tick, Tick_all, Step, Stop, Fault, Crash, Restart, Entry, SiteHappened, entries_from, packets_of, happened_at, happens_at, step_at, stop_at, fault_at, crash_at, restart_at, ticked, tick_at, packet_numbered, delivered, occasion, member, site_of, triggered, happens, clocks_of, are_near, may_tick, is_event}
+use Rattle.cell_model.specs.World.{World, Site, Trigger, Delivery, Beacon_turn, Recover_turn, Asking, Event, Tick, Tick_all, Step, Stop}
+use Rattle.cell_model.specs.World.{Fault, Crash, Restart, Entry, SiteHappened, entries_from, packets_of, happened_at, happens_at, step_at}
+use Rattle.cell_model.specs.World.{stop_at, fault_at, crash_at, restart_at, ticked, tick_at, packet_numbered, delivered, occasion, member}
+use Rattle.cell_model.specs.World.{site_of, triggered, happens, clocks_of, are_near, may_tick, is_event}
 use Rattle.cell_laws.specs.Laws.{AllBelow, Rises}
 use Rattle.cell_laws.specs.View.{view}
 use Rattle.cell_laws.proofs.Parts.{AreLegal, IsLegalCall}

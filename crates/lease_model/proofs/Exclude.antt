@@ -80,7 +80,8 @@ with_voter r s m h since x safe kept get other v one two voter =
         let since_one : since ≤ one.0 + r.lease = one.2 in
         let since_two : x.clock ≤ two.0 + r.lease = two.2 in
         let outlasts : r.lease + 2 * r.skew ≤ r.keep = safe.outlasts in
-        ordered since x.clock r.skew r.lease r.keep one.0 one.1 two.0 two.1 voter.0.clock p from_one from_two by_one by_two near since_one since_two outlasts
+        ordered since x.clock r.skew r.lease r.keep one.0 one.1 two.0 two.1 voter.0.clock p from_one from_two by_one by_two near since_one
+        since_two outlasts
 
 -- Separation: where server m was given the yeses of a vote quorum for starts from `since` on, and another server is in lease, the
 -- clock of that one is past that moment.

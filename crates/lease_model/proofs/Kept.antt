@@ -4,11 +4,13 @@ use Rattle.std.proofs.lemmas.Bool.Decides.{nat_tests}
 use Rattle.std.specs.Prelude.{Option, Some, None, nat_lt, slice_get}
 use Rattle.ubik_types.specs.Votes.{is_server}
 use Rattle.ubik_types.specs.Lease.{with_start}
-use Rattle.lease_model.specs.Invariant.{ClocksNear, BeaconsPast, YesesPast, YesesGiven, MayBeTo, YesBinds, IsBound, YesesApart, StartsGiven, AreCounted, IsCounted}
+use Rattle.lease_model.specs.Invariant.{ClocksNear, BeaconsPast, YesesPast, YesesGiven, MayBeTo, YesBinds, IsBound, YesesApart, StartsGiven}
+use Rattle.lease_model.specs.Invariant.{AreCounted, IsCounted}
 use Rattle.lease_model.specs.Leases.{Voter, Standing, Down, Halted, Up, Server, Beacon, Yes, IsIn}
 use Rattle.lease_model.specs.Rules.{Rules}
 use Rattle.lease_model.specs.Runs.{at_server, ticked, said, is_free}
-use Rattle.lease_model.proofs.Places.{or_either, lt_true, get_same, in_more, in_cases, Was, at_before, each_all, with_start-length, with_start-either}
+use Rattle.lease_model.proofs.Places.{or_either, lt_true, get_same, in_more, in_cases, Was, at_before, each_all, with_start-length}
+use Rattle.lease_model.proofs.Places.{with_start-either}
 
 -- ---- clocks that only go forward
 

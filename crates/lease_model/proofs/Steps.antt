@@ -1,14 +1,19 @@
 -- Each event keeps the invariant, and so does each run.
-use Rattle.std.proofs.Common.{Bool, true, false, cond, ◌≡◌, ℕ, zero, suc, ◌+◌, ◌<◌, ◌≤◌, List, [], ◌∷◌, length, map, refl, sym, ap, subst, ◌⊎◌, inl, inr, arith}
+use Rattle.std.proofs.Common.{Bool, true, false, cond, ◌≡◌, ℕ, zero, suc, ◌+◌, ◌<◌, ◌≤◌, List, [], ◌∷◌, length, map, refl, sym, ap, subst}
+use Rattle.std.proofs.Common.{◌⊎◌, inl, inr, arith}
 use Rattle.std.proofs.lemmas.List.{length-map}
 use Rattle.std.specs.Prelude.{Option, Some, None, slice_get}
 use Rattle.ubik_types.specs.Lease.{no_starts}
 use Rattle.lease_model.specs.Invariant.{ClocksNear, BeaconsPast, IsBound, AreCounted, IsCounted, Invariant}
 use Rattle.lease_model.specs.Leases.{Standing, Down, Halted, Up, Server, Beacon, Yes, Leases, IsIn}
 use Rattle.lease_model.specs.Rules.{Rules}
-use Rattle.lease_model.specs.Runs.{Event, Tick, Tick_all, Ask, Answer, Count, Start, Halt, Stop, at_server, ticked, started_voter, started, said, counts, if_up, votes, asks, counting, halted, halts, stops, asked_by, answered_by, after, is_free_in, is_free_at, IsEvent, after_all, IsRun, first_server, first}
-use Rattle.lease_model.proofs.Places.{get_within, within_get, in_cases, at_length, Each, each_at, each_all, near_at, no_starts-length, no_starts-none}
-use Rattle.lease_model.proofs.Kept.{Older, older_at, older_all, same_at, near_same, beacons_older, yeses_older, counted_with, counted_more, IsPast, free_binds, bound_said, bound_other, apart_said, given_said, past_said}
+use Rattle.lease_model.specs.Runs.{Event, Tick, Tick_all, Ask, Answer, Count, Start, Halt, Stop, at_server, ticked, started_voter, started}
+use Rattle.lease_model.specs.Runs.{said, counts, if_up, votes, asks, counting, halted, halts, stops, asked_by, answered_by, after}
+use Rattle.lease_model.specs.Runs.{is_free_in, is_free_at, IsEvent, after_all, IsRun, first_server, first}
+use Rattle.lease_model.proofs.Places.{get_within, within_get, in_cases, at_length, Each, each_at, each_all, near_at, no_starts-length}
+use Rattle.lease_model.proofs.Places.{no_starts-none}
+use Rattle.lease_model.proofs.Kept.{Older, older_at, older_all, same_at, near_same, beacons_older, yeses_older, counted_with, counted_more}
+use Rattle.lease_model.proofs.Kept.{IsPast, free_binds, bound_said, bound_other, apart_said, given_said, past_said}
 
 -- ---- what the parts are at one server
 
