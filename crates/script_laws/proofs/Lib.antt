@@ -6,3 +6,5 @@ pub mod BuiltLines
 pub mod LineFacts
 pub mod LineRuns
 pub mod Telling
+pub mod SoundLines
+pub mod SoundTelling

@@ -1,6 +1,7 @@
 //! Laws of scripts: each is the clause of a call that does nothing.
 ghost use Rattle.script_laws.specs.Built.{LinesAreBuilt};
 ghost use Rattle.script_laws.specs.Runs.{ScriptsAreRuns};
+ghost use Rattle.script_laws.specs.Sound.{SoundFronts, SoundScripts};
 
 use cell_model::law_voters_vote;
 
@@ -18,3 +19,15 @@ pub fn law_scripts_are_runs()
 {
     law_voters_vote();
 }
+
+/// Where no fault of a disk is told, no choice of what disks do matters: the same lines where every disk is sound leave and tell
+/// the same, and end where these end.
+pub fn law_sound_scripts()
+    ensures { SoundScripts }
+{}
+
+/// A script that runs to its end where every disk is sound does not end before that where no fault of a disk is told: no front
+/// of it ends.
+pub fn law_sound_fronts()
+    ensures { SoundFronts }
+{}
