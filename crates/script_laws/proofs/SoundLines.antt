@@ -1,6 +1,6 @@
 -- Where no fault of a disk is told of a line, no choice in it matters: a step in which a disk fails or stops tells of it, and so does
 -- an opening in which one fails.
-use Rattle.std.proofs.Common.{Bool, true, false, cond, ◌≡◌, ℕ, zero, suc, ◌+◌, ◌-◌, ◌==◌, ◌&&◌, nat_lt, nat_le, List, [], ◌∷◌, ◌++◌, length, refl, sym, ap, ◌∙◌, arith}
+use Rattle.std.proofs.Common.{Bool, true, false, cond, ◌≡◌, ℕ, zero, suc, ◌+◌, ◌-◌, ◌==◌, ◌&&◌, nat_lt, nat_le, List, [], ◌∷◌, ◌++◌, length, refl, ap, ◌∙◌, arith}
 use Rattle.std.proofs.lemmas.Bool.Decides.{nat_tests}
 use Rattle.std.specs.Prelude.{Option, Some, None, Result, Ok, Err, IfOk, map, drop, set}
 use Rattle.db_image.specs.Database.{Database}
@@ -8,7 +8,7 @@ use Rattle.cell_model.specs.declared.events.NodeEvent.{NodeEvent}
 use Rattle.cell_model.specs.declared.events.NodeEvent.TheVariants as event
 use Rattle.cell_model.specs.Node.{Node, Down, Halted, Up, Server}
 use Rattle.cell_model.specs.NodeRule.{refusals}
-use Rattle.cell_model.specs.World.{Site, World, Trigger, Beacon_turn, Recover_turn, Asking, Delivery, Fault, Stop, Halts, Happened, SiteHappened, member, site_of, occasion, seen_from, first_seen, stop_at, fault_at, happened_at, happens_at, triggered, happens}
+use Rattle.cell_model.specs.World.{Site, World, Trigger, Beacon_turn, Recover_turn, Asking, Delivery, Fault, Stop, Halts, Happened, member, site_of, occasion, seen_from, first_seen, stop_at, fault_at, happened_at, happens_at, triggered, happens}
 use Rattle.cell_script.specs.Meaning.{line_of}
 use Rattle.cell_script.specs.declared.lines.Line.{Line}
 use Rattle.cell_script.specs.declared.lines.Line.TheVariants as line
@@ -18,7 +18,7 @@ use Rattle.cell_runs.specs.declared.limits.TheConstants.{MAX_LINES, MAX_PACKETS}
 use Rattle.cell_runs.specs.declared.endings.Ending.{Ending}
 use Rattle.cell_runs.specs.declared.endings.Ending.TheVariants.{Limit}
 use Rattle.cell_runs.specs.declared.endings.Which.TheVariants.{Lines}
-use Rattle.cell_runs.specs.Script.{Choice, sound, first_choice, LineRead, Cell, Cell_run, Stage, Line_run, Run_or_why, DiskOutcome, Fails_after, Stops_after, outcome_of_stop, outcome_at, outcome_of, node_in, place_in, within, stepped_so, stepped, delivered, first_waiting, joined_run, unless_ended, all_delivered, at_server, at_up, is_down_at, cell_size_of, run_in, asked, asked_in, in_stage, fails_at, opened, opened_cell, kind_of_cell, run_first, run_standing, line_run, meaning_run, or_refused, servers_of, next_line, line_result}
+use Rattle.cell_runs.specs.Script.{Choice, sound, first_choice, Cell, Cell_run, Stage, Line_run, Run_or_why, DiskOutcome, Fails_after, Stops_after, outcome_of_stop, outcome_at, outcome_of, node_in, place_in, bytes_of, within, stepped_so, stepped, delivered, first_waiting, joined_run, unless_ended, all_delivered, at_up, is_down_at, cell_size_of, run_in, asked, asked_in, in_stage, fails_at, opened_cell, kind_of_cell, run_first, run_standing, line_run, meaning_run, or_refused, servers_of, next_line, line_result}
 use Rattle.cell_runs.specs.ScriptDatabase.{ScriptDatabase, Databases}
 use Rattle.cell_runs.specs.Trace.{TraceItem, Tells, Shows, fault_count}
 use Rattle.script_laws.specs.Built.{IsBuiltLine}
@@ -28,7 +28,7 @@ use Rattle.script_laws.proofs.BuiltLines.{lines_are_built}
 -- ---- counts
 
 count-append : (k : ℕ) (xs ys : List TraceItem) → fault_count k (xs ++ ys) ≡ fault_count k xs + fault_count k ys
-count-append k [] ys = refl
+count-append k [] ys = omega arith
 count-append k (Tells h ∷ xs) ys = omega (arith, count-append k xs ys)
 count-append k (Shows server clock showing ∷ xs) ys = count-append k xs ys
 
@@ -57,7 +57,7 @@ refused_halt : (k number bytes : ℕ) (e : NodeEvent)
 refused_halt k number bytes (event.Packet p) = its_own k 0
 refused_halt k number bytes event.BeaconTurn = its_own k 0
 refused_halt k number bytes event.RecoverTurn = its_own k 0
-refused_halt k number bytes (event.Ask id call) = its_own k 0
+refused_halt k number bytes (event.Ask id call) = omega (arith, its_own k 0)
 
 module _ (db : Database) (w : World) (trigger : Trigger) (k : ℕ) (e : NodeEvent) (s : Server) (brought : occasion w trigger ≡ Some (k, e))
     (up : node_in (site_of w k) ≡ Up s) (made bytes : ℕ) where
@@ -98,9 +98,10 @@ module _ (script_db : ScriptDatabase) where
     node_same choice k e Down brought at free = refl
     node_same choice k e (Halted h) brought at free = refl
     node_same choice k e (Up s) brought at free =
+        let bytes : ℕ = bytes_of c.run.world.packets in
         up_same k _ choice.made choice.fails choice.took _
-        (λ made free. omega (arith, free k, fault_told script_db.database c.run.world trigger k e s brought at made _))
-        (λ made free. omega (arith, free k, stop_told script_db.database c.run.world trigger k e s brought at made _)) free
+        (λ made free. omega (arith, free k, fault_told script_db.database c.run.world trigger k e s brought at made bytes))
+        (λ made free. omega (arith, free k, stop_told script_db.database c.run.world trigger k e s brought at made bytes)) free
 
     outcome_same : (choice : Choice) (o : Option (ℕ × NodeEvent)) → occasion c.run.world trigger ≡ o
         → FreeStep (place_in o) (outcome_of script_db.database c.run.world choice c.armed o)
@@ -203,13 +204,18 @@ module _ (script_db : ScriptDatabase) (c : Cell) where
 fails_same : (n server : ℕ) (choices : List Choice) → HasNoFault (map Tells (first_seen server (fails_at n choices)))
     → fails_at n [] ≡ fails_at n choices
 fails_same zero server choices free = refl
-fails_same (suc n) server choices free = by (first_choice choices).fails free
+fails_same (suc n) server choices free =
+    by (first_choice choices).fails (fails_at n (drop 1 choices)) (fails_same n (server + 1) (drop 1 choices)) free
   where
-    by : (failed : Bool) → HasNoFault (map Tells (first_seen server (failed ∷ fails_at n (drop 1 choices))))
-        → false ∷ fails_at n [] ≡ failed ∷ fails_at n (drop 1 choices)
-    by true free = absurd (omega (arith, free server, its_own server
-      (fault_count server (map Tells (first_seen (server + 1) (fails_at n (drop 1 choices)))))))
-    by false free = ap (λ (l : List Bool). false ∷ l) (fails_same n (server + 1) (drop 1 choices) free)
+    by : (failed : Bool) (more : List Bool) → (HasNoFault (map Tells (first_seen (server + 1) more)) → fails_at n [] ≡ more)
+        → HasNoFault (map Tells (first_seen server (failed ∷ more))) → false ∷ fails_at n [] ≡ failed ∷ more
+    by true more same free = absurd (omega (
+      arith,
+      free server,
+      its_own server
+          (fault_count server (map Tells (first_seen (server + 1) more))),
+    ))
+    by false more same free = ap (λ (l : List Bool). false ∷ l) (same free)
 
 -- ---- a line of a script
 

@@ -1,8 +1,8 @@
 -- Lines of which no fault of a disk is told leave and tell what they do where every disk is sound.
-use Rattle.std.proofs.Common.{◌≡◌, ℕ, ◌+◌, List, [], ◌∷◌, ◌++◌, refl, sym, ap, ◌∙◌, arith}
+use Rattle.std.proofs.Common.{◌≡◌, ℕ, List, [], ◌∷◌, ◌++◌, refl, sym, ap, ◌∙◌}
 use Rattle.std.specs.Prelude.{Option, Some, None, Result, Ok, Err}
 use Rattle.cell_runs.specs.declared.endings.Ending.{Ending}
-use Rattle.cell_runs.specs.Script.{LineRead, Line_run, ScriptEnd, Told, first_told, line_result, told_with, told_after, told_from, told}
+use Rattle.cell_runs.specs.Script.{LineRead, Line_run, ScriptEnd, Told, first_told, line_result, told_with, told_after, told_from}
 use Rattle.cell_runs.specs.ScriptDatabase.{Databases}
 use Rattle.script_laws.specs.Sound.{HasNoFault, SoundScripts, SoundFronts, sound_lines, lines_read}
 use Rattle.script_laws.proofs.SoundLines.{FreeLine, front_free, back_free, result_same}

@@ -1,6 +1,6 @@
 -- Where no fault of a disk is told, no choice of what disks do matters (own).
-use Rattle.std.specs.Prelude.{◌≡◌, ℕ, Option, None, List, [], ◌++◌, map}
-use Rattle.cell_runs.specs.Script.{LineRead, Told, told}
+use Rattle.std.specs.Prelude.{◌≡◌, ℕ, None, List, [], ◌++◌, map}
+use Rattle.cell_runs.specs.Script.{LineRead, told}
 use Rattle.cell_runs.specs.ScriptDatabase.{Databases}
 use Rattle.cell_runs.specs.Trace.{TraceItem, fault_count}
 
