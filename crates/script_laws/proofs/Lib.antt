@@ -8,3 +8,4 @@ pub mod LineRuns
 pub mod Telling
 pub mod SoundLines
 pub mod SoundTelling
+pub mod ToldFaults

@@ -1,8 +1,9 @@
 -- Where no fault of a disk is told, no choice of what disks do matters (own).
-use Rattle.std.specs.Prelude.{◌≡◌, ℕ, None, List, [], ◌++◌, map}
-use Rattle.cell_runs.specs.Script.{LineRead, told}
+use Rattle.std.specs.Prelude.{◌≡◌, ◌≤◌, ℕ, Option, Some, None, List, [], ◌++◌, length, map}
+use Rattle.cell_runs.specs.Script.{LineRead, Cell, told}
 use Rattle.cell_runs.specs.ScriptDatabase.{Databases}
 use Rattle.cell_runs.specs.Trace.{TraceItem, fault_count}
+use Rattle.script_laws.specs.Runs.{NamesCalls}
 
 -- these lines where every disk is sound
 abbrev pub sound_lines : List (List ℕ) → List LineRead
@@ -27,3 +28,14 @@ abbrev pub SoundFronts : Type 0
 SoundFronts =
     (dbs : Databases) (readings : List LineRead) (later : List (List ℕ)) → HasNoFault (told dbs readings).items
     → (told dbs (sound_lines (lines_read readings ++ later))).ended ≡ None → (told dbs readings).ended ≡ None
+
+-- how many servers the cell has, 0 where none stands
+abbrev pub sites_told : Option Cell → ℕ
+sites_told None = 0
+sites_told (Some c) = length c.run.world.sites
+
+-- Faults are told of servers of the cell alone.
+abbrev pub FaultsHaveServers : Type 0
+FaultsHaveServers =
+    (dbs : Databases) → NamesCalls dbs → (readings : List LineRead) (k : ℕ) → sites_told (told dbs readings).stage.cell ≤ k
+    → fault_count k (told dbs readings).items ≡ 0

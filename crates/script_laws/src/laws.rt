@@ -1,7 +1,7 @@
 //! Laws of scripts: each is the clause of a call that does nothing.
 ghost use Rattle.script_laws.specs.Built.{LinesAreBuilt};
 ghost use Rattle.script_laws.specs.Runs.{ScriptsAreRuns};
-ghost use Rattle.script_laws.specs.Sound.{SoundFronts, SoundScripts};
+ghost use Rattle.script_laws.specs.Sound.{FaultsHaveServers, SoundFronts, SoundScripts};
 
 use cell_model::law_voters_vote;
 
@@ -26,8 +26,14 @@ pub fn law_sound_scripts()
     ensures { SoundScripts }
 {}
 
-/// A script that runs to its end where every disk is sound does not end before that where no fault of a disk is told: no front
-/// of it ends.
+/// A script that no line ends where every disk is sound is ended by none where no fault of a disk is told: no front of it is.
 pub fn law_sound_fronts()
     ensures { SoundFronts }
 {}
+
+/// Each fault of a disk that is told, each stop and each opening that fails is one of a server of the cell.
+pub fn law_faults_have_servers()
+    ensures { FaultsHaveServers }
+{
+    law_scripts_are_runs();
+}
