@@ -1,8 +1,9 @@
 -- Faults are told of servers of the cell alone.
-use Rattle.std.proofs.Common.{Bool, true, false, cond, ◌≡◌, ℕ, zero, suc, ◌+◌, ◌<◌, ◌≤◌, ◌==◌, List, [], ◌∷◌, ◌++◌, length, slice_get, refl, sym, ap, ◌∙◌, arith}
+use Rattle.std.proofs.Common.{Bool, true, false, cond, ◌≡◌, ℕ, ◌+◌, ◌<◌, ◌≤◌, ◌==◌, List, [], ◌∷◌, ◌++◌, length, refl, ap, ◌∙◌, arith}
 use Rattle.std.proofs.lemmas.Bool.Decides.{nat_tests}
-use Rattle.std.proofs.lemmas.List.{length-set}
-use Rattle.std.specs.Prelude.{Option, Some, None, map}
+use Rattle.std.proofs.lemmas.List.{length-map, length-set}
+use Rattle.std.proofs.lemmas.Option.{slice_get_within}
+use Rattle.std.specs.Prelude.{Option, Some, None}
 use Rattle.db_image.specs.Database.{Database}
 use Rattle.cell_model.specs.declared.events.NodeEvent.{NodeEvent}
 use Rattle.cell_model.specs.declared.events.Output.{Output}
@@ -15,9 +16,10 @@ use Rattle.cell_model.specs.World.{Site, World, Trigger, Event, Tick, Tick_all, 
 use Rattle.cell_runs.specs.Script.{Cell, Told, told}
 use Rattle.cell_runs.specs.ScriptDatabase.{Databases}
 use Rattle.cell_runs.specs.Trace.{TraceItem, Tells, Shows, is_fault_of, fault_count}
-use Rattle.script_laws.specs.Runs.{database_of, first_of, happenings_of, IsRunOf, IsRunOfCell, ScriptsAreRuns}
+use Rattle.script_laws.specs.Runs.{database_of, first_of, happenings_of, IsRunOfCell, ScriptsAreRuns}
 use Rattle.script_laws.specs.Sound.{sites_told, FaultsHaveServers}
 use Rattle.script_laws.proofs.Parts.{world_of_run}
+use Rattle.script_laws.proofs.Worlds.{length-tick}
 
 -- ---- counts
 
@@ -56,11 +58,6 @@ record IsMild (k : ℕ) (w : World) (h : Happened) : Type 0 where
   pub sites : length h.world.sites ≡ length w.sites
   pub none : faults k h.seen ≡ 0
 
-inside_of : (sites : List Site) (j : ℕ) (site : Site) → slice_get sites j ≡ Some site → j < length sites
-inside_of [] j site is = absurd (cc)
-inside_of (one ∷ sites) zero site is = omega arith
-inside_of (one ∷ sites) (suc j) site is = omega (arith, inside_of sites j site is)
-
 at_mild : (k j : ℕ) (w : World) (f : Site → SiteHappened) (o : Option Site) → site_of w j ≡ o → length w.sites ≤ k
     → ((site : Site) → j < k → faults k (f site).marks ≡ 0) → IsMild k w (happens_at w j f o)
 at_mild k j w f None is beyond mild = record { sites = refl; none = refl }
@@ -72,7 +69,7 @@ at_mild k j w f (Some site) is beyond mild = record {
         arith,
         faults-append k shown (f site).marks,
         shown_none k j (length w.packets + 1) (f site).shown,
-        mild site (omega (arith, inside_of w.sites j site is, beyond)),
+        mild site (omega (arith, slice_get_within w.sites j site is, beyond)),
       );
 }
 
@@ -107,18 +104,9 @@ triggered_mild k w f None beyond mild = record { sites = refl; none = refl }
 triggered_mild k w f (Some o) beyond mild =
     at_mild k o.0 w (f (member w o.0) o.1) (site_of w o.0) refl beyond (λ site below. mild (member w o.0) o.1 site below)
 
-length-tick : (sites : List Site) (k seconds : ℕ) → length (tick_at sites k seconds) ≡ length sites
-length-tick [] k seconds = refl
-length-tick (site ∷ sites) zero seconds = refl
-length-tick (site ∷ sites) (suc k) seconds = ap suc (length-tick sites k seconds)
-
-length-each : {X : Type 0} (f : X → Site) (xs : List X) → length (map f xs) ≡ length xs
-length-each f [] = refl
-length-each f (x ∷ xs) = ap suc (length-each f xs)
-
 event_mild : (db : Database) (k : ℕ) (w : World) (e : Event) → length w.sites ≤ k → IsMild k w (happens db w e)
 event_mild db k w (Tick server seconds) beyond = record { sites = length-tick w.sites server seconds; none = refl }
-event_mild db k w (Tick_all seconds) beyond = record { sites = length-each (ticked seconds) w.sites; none = refl }
+event_mild db k w (Tick_all seconds) beyond = record { sites = length-map w.sites (ticked seconds); none = refl }
 event_mild db k w (Step trigger short) beyond =
     triggered_mild k w (λ m e site. step_at db m trigger e short site site.node) (occasion w trigger) beyond
     (λ m e site below. step_marks db k m trigger e site short site.node)
@@ -172,7 +160,7 @@ cell_none dbs t k (Some c) is beyond =
     ap (λ (r : Run). length r.world.sites) is.run ∙ ap (λ (w : World). length w.sites) (world_of_run db (first_run (first_of c)) c.events)
     ∙ same_sites db (first_of c) c.events in
     let each : length (first_of c).sites ≡ length c.opening.failed =
-    length-each (first_site (length c.run.world.hosts) c.opening.clock) c.opening.failed in
+    length-map c.opening.failed (first_site (length c.run.world.hosts) c.opening.clock) in
     omega (
       arith,
       faults-told k t.items,

@@ -26,7 +26,7 @@ pub fn law_sound_scripts()
     ensures { SoundScripts }
 {}
 
-/// A script that no line ends where every disk is sound is ended by none where no fault of a disk is told: no front of it is.
+/// Where no line ends a script whose disks are all sound, none ends a front of it of which no fault of a disk is told.
 pub fn law_sound_fronts()
     ensures { SoundFronts }
 {}
