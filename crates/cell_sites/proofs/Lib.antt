@@ -1,0 +1,4 @@
+pub mod Happening
+pub mod Sweeping
+pub mod Telling
+pub mod Waiting
