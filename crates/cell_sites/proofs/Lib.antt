@@ -1,4 +1,8 @@
+pub mod Agreeing
+pub mod AtPlace
 pub mod Happening
+pub mod Running
+pub mod Shortage
 pub mod Sweeping
-pub mod Telling
+pub mod TellingOn
 pub mod Waiting

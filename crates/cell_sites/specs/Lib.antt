@@ -1,5 +1,6 @@
 pub mod Disks
 pub mod Packets
+pub mod Places
 pub mod Sites
 pub mod Sound
 pub mod Swept

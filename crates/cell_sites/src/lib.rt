@@ -4,7 +4,9 @@
 mod cells;
 mod faults;
 mod packets;
+mod places;
 mod sites;
+mod telling;
 
 pub use cells::OpenCell;
 pub use faults::LineFault;
