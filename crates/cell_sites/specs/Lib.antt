@@ -1,5 +1,8 @@
 pub mod Disks
+pub mod Opened
+pub mod OpenedServer
 pub mod Packets
+pub mod Places
 pub mod Sites
 pub mod Sound
 pub mod Swept

@@ -4,7 +4,10 @@
 mod cells;
 mod faults;
 mod packets;
+mod places;
+mod shows;
 mod sites;
+mod ticks;
 
-pub use cells::OpenCell;
+pub use cells::{OpenCell, law_cell_opened};
 pub use faults::LineFault;

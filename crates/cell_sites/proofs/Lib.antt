@@ -1,0 +1,4 @@
+pub mod AtPlace
+pub mod Hosts
+pub mod Sweeping
+pub mod Waiting
