@@ -1,0 +1,7 @@
+pub mod Worlds
+pub mod Steps
+pub mod Parts
+pub mod Deliveries
+pub mod LineFacts
+pub mod LineRuns
+pub mod Telling

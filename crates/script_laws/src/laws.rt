@@ -1,0 +1,13 @@
+//! Laws of scripts: each is the clause of a call that does nothing.
+ghost use Rattle.script_laws.specs.Runs.{ScriptsAreRuns};
+
+use cell_model::law_voters_vote;
+
+/// What each list of lines tells, whatever the disks do, is what is seen of a run of the world: its cell is opened as a first world,
+/// each event is one that the world allows and a script may bring, the cell's run is the fold over them, and the text tells
+/// what is seen, in its order. Only where packets pass a limit, what is seen behind that is not told.
+pub fn law_scripts_are_runs()
+    ensures { ScriptsAreRuns }
+{
+    law_voters_vote();
+}
