@@ -1,5 +1,5 @@
 -- The hosts of a cell, in their order.
-use Rattle.std.proofs.Common.{◌≡◌, ◌<◌, ◌≤◌, ◌+◌, ℕ, zero, suc, List, [], ◌∷◌, length, get_or, refl, sym, ap, subst, ◌∙◌, arith, ⊥}
+use Rattle.std.proofs.Common.{◌≡◌, ◌<◌, ◌≤◌, ◌+◌, ℕ, zero, suc, List, [], ◌∷◌, length, get_or, refl, sym, ap, subst, ◌∙◌, arith}
 use Rattle.std.specs.Prelude.{Contains, IsPermutation}
 use Rattle.std.proofs.lemmas.List.Sorted.{Contains-permutation, IsPermutation-sym}
 use Rattle.ubik_types.specs.declared.hosts.Host.{Host}
@@ -42,32 +42,33 @@ behind x xs ys up all z (k, lt, is) = by (all z (suc k, omega arith, is))
         absurd (omega (arith, more, e, f))
     by (suc j, lt', same) = (j, omega arith, same)
 
+none_in : (z : Host) → Contains [] z → ⊥
+none_in z (k, lt, is) = absurd (omega (arith, lt))
+
+same_first : (x y : Host) (xs ys : List Host) → IsAscending (x ∷ xs) → IsAscending (y ∷ ys) → Contains (y ∷ ys) x → Contains (x ∷ xs) y → x ≡ y
+same_first x y xs ys up up' (zero, lt, is) there = sym is
+same_first x y xs ys up up' (suc k, lt, is) (zero, lt', is') = is'
+same_first x y xs ys up up' (suc k, lt, is) (suc j, lt', is') =
+    let one : y.0 < (get_or ys k x).0 = above_first y ys k x up' (omega (arith, lt)) in
+    let two : x.0 < (get_or xs j y).0 = above_first x xs j y up (omega (arith, lt')) in
+    let e : (get_or ys k x).0 ≡ x.0 = ap (λ (h : Host). h.0) is in
+    let f : (get_or xs j y).0 ≡ y.0 = ap (λ (h : Host). h.0) is' in
+    absurd (omega (arith, one, two, e, f))
+
 -- two ascending lists of the same hosts are the same
 pub same_ascending : (xs ys : List Host) → IsAscending xs → IsAscending ys → ((z : Host) → Contains xs z → Contains ys z) → ((z : Host) → Contains ys z → Contains xs z) → xs ≡ ys
 same_ascending [] [] up up' to from = refl
-same_ascending [] (y ∷ ys) up up' to from = let none = from y (0, omega arith, refl) in absurd (omega (arith, none.1.0))
-same_ascending (x ∷ xs) [] up up' to from = let none = to x (0, omega arith, refl) in absurd (omega (arith, none.1.0))
-same_ascending (x ∷ xs) (y ∷ ys) up up' to from = by (first (to x (0, omega arith, refl)) (from y (0, omega arith, refl)))
-  where
-    first : Contains (y ∷ ys) x → Contains (x ∷ xs) y → x ≡ y
-    first (zero, lt, is) there = sym is
-    first (suc k, lt, is) (zero, lt', is') = is'
-    first (suc k, lt, is) (suc j, lt', is') =
-        let one : y.0 < (get_or ys k x).0 = above_first y ys k x up' (omega (arith, lt)) in
-        let two : x.0 < (get_or xs j y).0 = above_first x xs j y up (omega (arith, lt')) in
-        let e : (get_or ys k x).0 ≡ x.0 = ap (λ (h : Host). h.0) is in
-        let f : (get_or xs j y).0 ≡ y.0 = ap (λ (h : Host). h.0) is' in
-        absurd (omega (arith, one, two, e, f))
-
-    by : x ≡ y → x ∷ xs ≡ y ∷ ys
-    by is =
-        let P : Host → Type 0 = λ h. IsAscending (h ∷ ys) in
-        let Q : Host → Type 0 = λ h. (z : Host) → Contains (x ∷ xs) z → Contains (h ∷ ys) z in
-        let R : Host → Type 0 = λ h. (z : Host) → Contains (h ∷ ys) z → Contains (x ∷ xs) z in
-        let rest : xs ≡ ys =
-            same_ascending xs ys (rest_ascending x xs up) (rest_ascending y ys up')
-            (behind x xs ys up (subst Q (sym is) to)) (behind x ys xs (subst P (sym is) up') (subst R (sym is) from)) in
-        ap (λ (h : Host). h ∷ xs) is ∙ ap (λ (l : List Host). y ∷ l) rest
+same_ascending [] (y ∷ ys) up up' to from = absurd (none_in y (from y (0, omega arith, refl)))
+same_ascending (x ∷ xs) [] up up' to from = absurd (none_in x (to x (0, omega arith, refl)))
+same_ascending (x ∷ xs) (y ∷ ys) up up' to from =
+    let is : x ≡ y = same_first x y xs ys up up' (to x (0, omega arith, refl)) (from y (0, omega arith, refl)) in
+    let P : Host → Type 0 = λ h. IsAscending (h ∷ ys) in
+    let Q : Host → Type 0 = λ h. (z : Host) → Contains (x ∷ xs) z → Contains (h ∷ ys) z in
+    let R : Host → Type 0 = λ h. (z : Host) → Contains (h ∷ ys) z → Contains (x ∷ xs) z in
+    let rest : xs ≡ ys =
+        same_ascending xs ys (rest_ascending x xs up) (rest_ascending y ys up')
+        (behind x xs ys up (subst Q (sym is) to)) (behind x ys xs (subst P (sym is) up') (subst R (sym is) from)) in
+    ap (λ (h : Host). h ∷ xs) is ∙ ap (λ (l : List Host). y ∷ l) rest
 
 -- the cell that is made of the hosts of a script has them in their order
 pub cell_hosts : (n : ℕ) (hosts cell : List Host) → hosts ≡ hosts_of n → IsCell cell → IsPermutation hosts cell → cell ≡ hosts

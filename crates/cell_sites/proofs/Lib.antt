@@ -1,4 +1,9 @@
 pub mod AtPlace
+pub mod Happening
 pub mod Hosts
+pub mod Near
+pub mod Opening
+pub mod Reading
 pub mod Sweeping
+pub mod Telling
 pub mod Waiting

@@ -7,5 +7,6 @@ pub mod Sites
 pub mod Sound
 pub mod Swept
 pub mod SweptTo
+pub mod Telling
 pub mod Told
 pub mod Traffic

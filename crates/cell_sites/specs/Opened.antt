@@ -14,11 +14,11 @@ use Rattle.cell_sites.specs.Traffic.{no_traffic}
 use Rattle.cell_sites.specs.declared.cells.OpenCell.{OpenCell}
 
 -- the hosts of a cell of 1 to 20 servers, and room for all of these
-pub record HasRoom {D V : Type 0} (open : OpenCell D V) : Type 0 where
-  pub some : 1 ≤ length open.hosts.items
-  pub few : length open.hosts.items ≤ MAXSERVERS
-  pub hosts : open.hosts.items ≡ hosts_of (length open.hosts.items)
-  pub room : length open.hosts.items ≤ vec_capacity open.sites
+pub record HasRoom {D V : Type 0} (running : OpenCell D V) : Type 0 where
+  pub some : 1 ≤ length running.hosts.items
+  pub few : length running.hosts.items ≤ MAXSERVERS
+  pub hosts : running.hosts.items ≡ hosts_of (length running.hosts.items)
+  pub room : length running.hosts.items ≤ vec_capacity running.sites
 
 -- what is told of the openings of the first servers
 abbrev pub opening_items : List Bool → List TraceItem
@@ -26,15 +26,15 @@ opening_items failed = map Tells (first_seen 0 failed)
 
 -- The first servers of a cell were opened over these disks, at a clock; where a disk failed in that, its server is down. What is told of
 -- that was added to a text, and each fault is one of its disk.
-pub record ArePartOpened {D V : Type 0} (files : D → Option Files) (faults : D → ℕ) (db : ScriptDatabase) (clock : ℕ) (given : List D) (open : OpenCell D V) (text_before text_after : List ℕ) : Type 0 where
+pub record ArePartOpened {D V : Type 0} (files : D → Option Files) (faults : D → ℕ) (db : ScriptDatabase) (clock : ℕ) (given : List D) (running : OpenCell D V) (text_before text_after : List ℕ) : Type 0 where
   pub failed : List Bool
   pub each : length failed ≡ length given
-  pub sites : AreSitesOf open.sites.items (map (first_site (length open.hosts.items) clock) failed)
-  pub sound : AreSound files faults open.hosts.items 0 clock open.sites.items
-  pub packets : open.packets ≡ no_traffic
-  pub outputs : open.outputs ≡ []
-  pub told : text_after ≡ text_before ++ trace db open.hosts.items (opening_items failed)
-  pub causes : AreRises 0 (opening_items failed) (all_held files faults given) (helds files faults open)
+  pub sites : AreSitesOf running.sites.items (map (first_site (length running.hosts.items) clock) failed)
+  pub sound : AreSound files faults running.hosts.items 0 clock running.sites.items
+  pub packets : running.packets ≡ no_traffic
+  pub outputs : running.outputs ≡ []
+  pub told : text_after ≡ text_before ++ trace db running.hosts.items (opening_items failed)
+  pub causes : AreRises 0 (opening_items failed) (all_held files faults given) (helds files faults running)
 
 -- one more disk has its place in the cell; it never failed and is empty, or it failed
 pub record IsAdded {D V : Type 0} (files : D → Option Files) (faults : D → ℕ) (disk : D) (before after : OpenCell D V) : Type 0 where
@@ -44,9 +44,9 @@ pub record IsAdded {D V : Type 0} (files : D → Option Files) (faults : D → �
   pub empty : faults kept ≡ 0 → files kept ≡ Some no_files
 
 -- A cell was opened, whose servers have these disks: it is that of some choices of where a disk fails.
-pub record IsOpened {D V : Type 0} (files : D → Option Files) (faults : D → ℕ) (db : ScriptDatabase) (clock : ℕ) (k : Kind) (given : List D) (open : OpenCell D V) (text_before text_after : List ℕ) : Type 0 where
+pub record IsOpened {D V : Type 0} (files : D → Option Files) (faults : D → ℕ) (db : ScriptDatabase) (clock : ℕ) (k : Kind) (given : List D) (running : OpenCell D V) (text_before text_after : List ℕ) : Type 0 where
   pub choices : List Choice
-  pub stands : StandsFor open (opened_cell (length given) clock k (fails_at (length given) choices))
-  pub sound : IsSound files faults clock open
-  pub told : text_after ≡ text_before ++ trace db open.hosts.items (opening_items (fails_at (length given) choices))
-  pub causes : AreRises 0 (opening_items (fails_at (length given) choices)) (all_held files faults given) (helds files faults open)
+  pub stands : StandsFor running (opened_cell (length given) clock k (fails_at (length given) choices))
+  pub sound : IsSound files faults clock running
+  pub told : text_after ≡ text_before ++ trace db running.hosts.items (opening_items (fails_at (length given) choices))
+  pub causes : AreRises 0 (opening_items (fails_at (length given) choices)) (all_held files faults given) (helds files faults running)

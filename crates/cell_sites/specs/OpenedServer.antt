@@ -11,7 +11,7 @@ use Rattle.cell_sites.specs.declared.sites.Server.{Server}
 -- A server was opened on no database, and tells nothing; or, after a fault of its disk, it stays down and tells so.
 pub record ServerOpened {D V : Type 0} (faults : D → ℕ) (db : ScriptDatabase) (hosts : List Host) (me clock : ℕ) (disk : D) (server : Server D V) (text_before text_after : List ℕ) : Type 0 where
   pub fails : Bool
-  pub server : server_node server ≡ (first_site (length hosts) clock fails).node
+  pub node : server_node server ≡ (first_site (length hosts) clock fails).node
   pub cause : faults disk + (if fails then 1 else 0) ≤ faults (server_disk server)
   pub told : text_after ≡ text_before ++ trace db hosts (map Tells (first_seen me (fails ∷ [])))
 

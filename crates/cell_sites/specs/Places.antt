@@ -8,10 +8,10 @@ use Rattle.cell_sites.specs.declared.sites.Site.{Site}
 use Rattle.ubik_node.specs.declared.nodes.Node.{Node}
 
 -- the server at a place is up, or halted
-pub record IsUpAt {D V : Type 0} (open : OpenCell D V) (k : ℕ) : Type 0 where
+pub record IsUpAt {D V : Type 0} (running : OpenCell D V) (k : ℕ) : Type 0 where
   pub clock : ℕ
   pub node : Node D V
-  pub there : slice_get open.sites.items k ≡ Some (record { clock = clock; server = server.Up node })
+  pub there : slice_get running.sites.items k ≡ Some (record { clock = clock; server = server.Up node })
 
 -- a site whose clock went forward
 abbrev pub ticked_on : {D V : Type 0} → ℕ → Site D V → Site D V

@@ -44,10 +44,10 @@ impl<D: StopDisk, V: WordForms> OpenCell<D, V> {
         requires some { 1 ≤ servers }
         requires few { servers ≤ MAXSERVERS }
         ensures room { IfOk result HasRoom }
-        ensures hosts { IfOk result (λ open. open.hosts.items ≡ hosts_of servers) }
-        ensures none { IfOk result (λ open. open.sites.items ≡ []) }
-        ensures opened { IfOk result (λ open. (clock : ℕ) (text : List ℕ) →
-            ArePartOpened D.files D.faults (script_database V.database V.words) clock [] open text text) }
+        ensures hosts { IfOk result (λ running. running.hosts.items ≡ hosts_of servers) }
+        ensures none { IfOk result (λ running. running.sites.items ≡ []) }
+        ensures opened { IfOk result (λ running. (clock : ℕ) (text : List ℕ) →
+            ArePartOpened D.files D.faults (script_database V.database V.words) clock [] running text text) }
     {
         let hosts = first_hosts(alloc, servers)?;
         let packets = Packets::new(alloc, &hosts)?;
@@ -180,8 +180,8 @@ fn keep_down<D: StopDisk, V: WordForms>(
 
 /// A cell all of whose servers were opened stands for the opened cell of some choices.
 pub fn law_cell_opened<D: StopDisk, V: WordForms>()
-    ensures { (db : ScriptDatabase) (clock : ℕ) (k : Kind) (given : List D) (open : AnOpenCell D V) (text_before text_after : List ℕ) →
-        IsMoment clock → HasRoom open → length given ≡ length open.hosts.items →
-        ArePartOpened D.files D.faults db clock given open text_before text_after →
-        IsOpened D.files D.faults db clock k given open text_before text_after }
+    ensures { (db : ScriptDatabase) (clock : ℕ) (k : Kind) (given : List D) (running : AnOpenCell D V) (text_before text_after : List ℕ) →
+        IsMoment clock → HasRoom running → length given ≡ length running.hosts.items →
+        ArePartOpened D.files D.faults db clock given running text_before text_after →
+        IsOpened D.files D.faults db clock k given running text_before text_after }
 {}

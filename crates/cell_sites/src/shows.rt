@@ -21,7 +21,7 @@ impl<D: StopDisk, V: WordForms> OpenCell<D, V> {
     /// Tells the state of a server: of a halted one what it kept.
     pub fn show(&self, server: u64, text: &mut String) -> Result<(), LineFault>
         requires { (bound : ℕ) × IsSound D.files D.faults bound self.now }
-        ensures told { result ≡ Ok () → (c : Cell) → StandsFor self.now c →
+        ensures told { result ≡ Ok tt → (c : Cell) → StandsFor self.now c →
             CellTold D.files D.faults (script_database V.database V.words) (λ choices. run_in (script_database V.database V.words) c choices (line.Show server)) None self.now self.now (string_bytes text.old) (string_bytes text.new) }
         ensures limit { (which : Which) → result ≢ Err (LineFault.Limit which) }
         ensures refused { (why : Why) → result ≡ Err (LineFault.Refused why) →

@@ -1,0 +1,69 @@
+-- What is told of the outputs of a step, one after the other, up to a packet that passes a limit.
+use Rattle.std.specs.Prelude.{◌≡◌, ℕ, ◌+◌, ◌++◌, Option, Some, None, List, [], ◌∷◌, length, filter_map}
+use Rattle.ubik_types.specs.declared.hosts.Host.{Host}
+use Rattle.ubik_calls.specs.declared.packets.Packet.{Packet}
+use Rattle.ubik_calls.specs.declared.replies.Reply.TheVariants as reply
+use Rattle.ubik_calls.specs.Length.{packet_length}
+use Rattle.cell_model.specs.declared.events.Output.{Output}
+use Rattle.cell_model.specs.declared.events.Output.TheVariants as output
+use Rattle.cell_model.specs.Step.{Shown}
+use Rattle.cell_model.specs.World.{packet_in, packet_of, seen_of_output}
+use Rattle.cell_model.specs.Voters.{IsOfVotes}
+use Rattle.cell_runs.specs.declared.endings.Ending.{Ending}
+use Rattle.cell_runs.specs.ScriptDatabase.{ScriptDatabase}
+use Rattle.cell_runs.specs.Script.{bytes_of, passed_by}
+use Rattle.cell_runs.specs.Trace.{Tells, item_text}
+use Rattle.cell_sites.specs.Traffic.{Traffic, sent_all}
+
+-- the text so far, and the packets that were sent so far
+pub record Telling : Type 0 where
+  pub text : List ℕ
+  pub sent : List Packet
+
+-- a text and packets, and the limit that ended the telling, if one did
+pub record TellingRun : Type 0 where
+  pub after : Telling
+  pub ending : Option Ending
+
+-- the limit that the next packet passes
+abbrev pub passed_in : Telling → Option Packet → Option Ending
+passed_in t None = None
+passed_in t (Some p) = passed_by (length t.sent + 1) (bytes_of t.sent + packet_length p)
+
+abbrev pub sent_with : List Packet → Option Packet → List Packet
+sent_with sent None = sent
+sent_with sent (Some p) = sent ++ p ∷ []
+
+-- with what server k shows next
+abbrev pub with_shown : ScriptDatabase → List Host → ℕ → Telling → Shown → Telling
+with_shown script_db hosts k t one =
+    record {
+      text = t.text ++ item_text script_db hosts (Tells (seen_of_output k (length t.sent + 1) one.output one.evaluation));
+      sent = sent_with t.sent (packet_of one);
+    }
+
+abbrev pub unless_passed : Telling → Option Ending → TellingRun → TellingRun
+unless_passed t None rest = rest
+unless_passed t (Some ending) rest = record { after = t; ending = Some ending }
+
+-- what is told of all that server k shows
+abbrev pub told_of : ScriptDatabase → List Host → ℕ → Telling → List Shown → TellingRun
+told_of script_db hosts k t [] = record { after = t; ending = None }
+told_of script_db hosts k t (one ∷ shown) =
+    unless_passed t (passed_in t (packet_of one)) (told_of script_db hosts k (with_shown script_db hosts k t one) shown)
+
+-- an output that may be told: a packet is one of votes
+abbrev pub MayBeTold : Output → Type 0
+MayBeTold (output.Send packet) = IsOfVotes packet.body
+MayBeTold _ = Unit {0}
+
+abbrev pub IsNotShort : Output → Type 0
+IsNotShort (output.Reply id reply.NoMemory) = ⊥
+IsNotShort _ = Unit {0}
+
+-- the packets that were sent are those of a front of the outputs; all of them wait
+pub record IsFrontSent (before after : Traffic) (outputs : List Output) : Type 0 where
+  pub front : List Packet
+  pub back : List Packet
+  pub is : filter_map packet_in outputs ≡ front ++ back
+  pub sent : after ≡ sent_all before front
