@@ -1,6 +1,10 @@
 pub mod Agreeing
 pub mod AtPlace
 pub mod Happening
+pub mod Hosts
+pub mod Near
+pub mod Opening
+pub mod Reading
 pub mod Running
 pub mod Shortage
 pub mod Sweeping

@@ -1,4 +1,6 @@
 pub mod Disks
+pub mod Opened
+pub mod OpenedServer
 pub mod Packets
 pub mod Places
 pub mod Sites

@@ -7,8 +7,9 @@ use Rattle.script_promises.specs.Databases.{databases}
 use Rattle.script_promises.specs.Order.{HasOneOrder}
 use Rattle.script_promises.specs.Kept.{IsKept}
 use Rattle.script_promises.specs.Replies.{HasSingleReplies}
-use Rattle.cell_sites.specs.Disks.{Held, all_held, AreCauses}
+use Rattle.cell_sites.specs.Disks.{Held, all_held}
 use Rattle.ubik_cell.specs.Disks.{ReadAsCell}
+use Rattle.ubik_cell.specs.Lines.{HeldCauses}
 use Rattle.ubik_cell.specs.Runs.{Runs, read_lines}
 use Rattle.ubik_cell.specs.declared.cells.CellKind.{CellKind}
 use Rattle.ubik_cell.specs.declared.cells.CellKind.TheVariants as kind
@@ -26,7 +27,7 @@ OfOneAfter P readings = OfOne P (told databases readings).stage.cell
 pub record DisksHold (readings : List LineRead) (untold : List (List ℕ)) (disks : List Held) : Type 0 where
   pub more : List LineRead
   pub run_or_not : (more ≡ []) ⊎ (read_lines more ≡ untold)
-  pub causes : AreCauses 0 (told databases (readings ++ more)).items disks
+  pub causes : HeldCauses (told databases (readings ++ more)).stage.cell (told databases (readings ++ more)).items disks
   pub read : ReadAsCell (told databases (readings ++ more)).stage.cell disks
   pub kept : OfOneAfter IsKept (readings ++ more)
 
@@ -52,6 +53,6 @@ pub record Headline {D : Type 0} (files : D → Option Files) (faults : D → �
   pub one_order : OfOneAfter HasOneOrder readings
   pub kept : OfOneAfter IsKept readings
   pub single_copy : OfOneAfter HasSingleReplies readings
-  pub causes : AreCauses 0 (told databases readings).items (all_held files faults disks_after)
+  pub causes : HeldCauses (told databases readings).stage.cell (told databases readings).items (all_held files faults disks_after)
   pub disks : DisksHold readings (untold_of k readings script left before after run) (all_held files faults disks_after)
   pub others : OthersStay k (servers_of (told databases readings).stage.cell) disks_before disks_after

@@ -1,12 +1,14 @@
 -- What a run of a script's lines stands for.
-use Rattle.std.specs.Prelude.{◌≡◌, ◌≢◌, ◌⊎◌, ◌+◌, ◌*◌, ◌≤◌, ℕ, Unit, Option, Some, None, Result, Ok, Err, All, List, [], ◌∷◌, ◌++◌, length, map}
+use Rattle.std.specs.Prelude.{◌≡◌, ◌≢◌, ◌⊎◌, ◌+◌, ◌*◌, ◌≤◌, ℕ, Unit, Option, Some, None, Result, Ok, Err, All, List, [], ◌∷◌, ◌++◌, length, map, take}
 use Rattle.disk_base.specs.Files.{Files, no_files}
 use Rattle.ubik_types.specs.declared.limits.TheConstants.{MAXSERVERS}
 use Rattle.cell_model.specs.World.{Site}
 use Rattle.cell_script.specs.declared.lines.TheConstants.{MAX_CLOCK, MAX_TICK}
 use Rattle.cell_runs.specs.declared.endings.Ending.{Ending}
-use Rattle.cell_runs.specs.Script.{Cell, Choice, LineRead, ScriptEnd, Told, line_result, told_with}
+use Rattle.cell_runs.specs.Script.{Cell, Choice, LineRead, Line_run, ScriptEnd, Stage, Told, line_result, text_in, told_with}
 use Rattle.cell_runs.specs.ScriptDatabase.{ScriptDatabase, Databases}
+use Rattle.cell_runs.specs.Trace.{TraceItem}
+use Rattle.cell_script.specs.declared.lines.Why.{Why}
 use Rattle.cell_sites.specs.declared.cells.OpenCell.{OpenCell}
 use Rattle.cell_sites.specs.Disks.{Held, all_held, IsReadBy, AreCauses}
 use Rattle.cell_sites.specs.Sites.{StandsFor, helds}
@@ -52,12 +54,21 @@ cell_helds files faults (Some open) = helds files faults open
 abbrev pub run_helds : {D V : Type 0} → (D → Option Files) → (D → ℕ) → CellRun D V → List Held
 run_helds files faults run = cell_helds files faults run.cell ++ all_held files faults run.spare.items
 
+-- each disk of the cell failed at least as often as is told of its server; before a cell stands nothing is told
+abbrev pub HasCauses : {D V : Type 0} → (D → Option Files) → (D → ℕ) → Option (OpenCell D V) → List TraceItem → Type 0
+HasCauses files faults None items = items ≡ []
+HasCauses files faults (Some open) items = AreCauses 0 items (helds files faults open)
+
+-- a run stands at a stage, some lines before it
+pub record IsNear {D V : Type 0} (ahead : ℕ) (run : CellRun D V) (st : Stage) : Type 0 where
+  pub lines : st.lines ≡ run.lines + ahead
+  pub asks : st.asks ≡ run.asks
+  pub cell : CellStandsFor run.cell st.cell
+
 -- a run stands where the lines that were told left it
 pub record IsAt {D V : Type 0} (files : D → Option Files) (faults : D → ℕ) (run : CellRun D V) (t : Told) : Type 0 where
-  pub lines : t.stage.lines ≡ run.lines
-  pub asks : t.stage.asks ≡ run.asks
-  pub cell : CellStandsFor run.cell t.stage.cell
-  pub causes : AreCauses 0 t.items (run_helds files faults run)
+  pub stage : IsNear 0 run t.stage
+  pub causes : HasCauses files faults run.cell t.items
 
 -- a disk that never failed is empty
 abbrev pub IsUnwritten : Held → Type 0
@@ -73,10 +84,15 @@ abbrev pub sites_of : Option Cell → List Site
 sites_of None = []
 sites_of (Some c) = c.run.world.sites
 
+-- the same of the disks at an end
+abbrev pub HeldCauses : Option Cell → List TraceItem → List Held → Type 0
+HeldCauses None items disks = items ≡ []
+HeldCauses (Some c) items disks = AreCauses 0 items (take (length c.run.world.sites) disks)
+
 -- disks that hold what lines have left, of whose faults each has its cause
 pub record AreHeld (t : Told) (disks : List Held) : Type 0 where
   pub read : AreReadFirst (sites_of t.stage.cell) disks
-  pub causes : AreCauses 0 t.items disks
+  pub causes : HeldCauses t.stage.cell t.items disks
 
 -- where the script ended in a line, if it did
 abbrev pub ended_of : Told → Result (Unit {0}) RunEnd → Option ScriptEnd
@@ -105,3 +121,32 @@ LineShort files faults dbs line t after =
     AreHeld t (run_helds files faults after)
     ⊎ ((choices : List Choice)
     × AreHeld (told_with dbs t (line_result dbs t.stage (record { line = line; choices = choices }))) (run_helds files faults after))
+
+-- A line was run in a stage with some choices: it ended so, and what it told was added to a text.
+pub record StageTold {D V : Type 0} (files : D → Option Files) (faults : D → ℕ) (dbs : Databases) (run : List Choice → Result Line_run Why) (ended : Option Ending) (before after : CellRun D V) (text_before text_after : List ℕ) : Type 0 where
+  pub choices : List Choice
+  pub ran : Line_run
+  pub is : run choices ≡ Ok ran
+  pub ends : ran.ending ≡ ended
+  pub near : ended ≡ None → IsNear 1 after ran.stage
+  pub read : AreReadFirst (sites_of ran.stage.cell) (run_helds files faults after)
+  pub told : text_after ≡ text_before ++ text_in dbs ran.stage.cell ran.items
+  pub causes : (items : List TraceItem) → HasCauses files faults before.cell items → HasCauses files faults after.cell (items ++ ran.items)
+
+-- a line is refused for this reason, whatever its choices
+abbrev pub IsRefusedLine : Why → (List Choice → Result Line_run Why) → Type 0
+IsRefusedLine why run = (choices : List Choice) → run choices ≡ Err why
+
+-- what memory that ran out in a line left on the disks: what stood there before it, or what it left with some choices
+pub record ShortAfter {D V : Type 0} (files : D → Option Files) (faults : D → ℕ) (run : List Choice → Result Line_run Why) (before after : CellRun D V) : Type 0 where
+  pub choices : List Choice
+  pub ran : Line_run
+  pub is : run choices ≡ Ok ran
+  pub read : AreReadFirst (sites_of ran.stage.cell) (run_helds files faults after)
+  pub causes : (items : List TraceItem) → HasCauses files faults before.cell items → HeldCauses ran.stage.cell (items ++ ran.items) (run_helds files faults after)
+
+abbrev pub StageShort : {D V : Type 0} → (D → Option Files) → (D → ℕ) → (List Choice → Result Line_run Why) → Stage → (before after : CellRun D V) → Type 0
+StageShort files faults run st before after =
+    (AreReadFirst (sites_of st.cell) (run_helds files faults after)
+    × ((items : List TraceItem) → HasCauses files faults before.cell items → HeldCauses st.cell items (run_helds files faults after)))
+    ⊎ ShortAfter files faults run before after

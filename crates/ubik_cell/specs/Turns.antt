@@ -3,11 +3,11 @@ use Rattle.std.specs.Prelude.{◌≡◌, ◌≢◌, ◌⊎◌, ◌≤◌, ℕ, B
 use Rattle.disk_base.specs.Files.{Files}
 use Rattle.cell_runs.specs.Script.{LineRead, Told, servers_of, told}
 use Rattle.cell_runs.specs.ScriptDatabase.{Databases}
-use Rattle.cell_sites.specs.Disks.{Held, AreCauses}
+use Rattle.cell_sites.specs.Disks.{Held}
 use Rattle.ubik_cell.specs.declared.cells.CellKind.{CellKind}
 use Rattle.ubik_cell.specs.declared.cells.CellKind.TheVariants as kind
 use Rattle.ubik_cell.specs.declared.scripts.CellRun.{CellRun}
-use Rattle.ubik_cell.specs.Lines.{AreHeld, IsAt}
+use Rattle.ubik_cell.specs.Lines.{AreHeld, HeldCauses, IsAt}
 use Rattle.ubik_cell.specs.Runs.{IsConsumed, Runs, Wrote, read_lines}
 
 -- a run between two lines, where the source has ended or not
@@ -32,5 +32,5 @@ pub record Ran (k : CellKind) (dbs : Databases) (text : List ℕ) (left : Option
   pub run : Runs k dbs readings text left before after
   pub more : List LineRead
   pub run_or_not : (more ≡ []) ⊎ (read_lines more ≡ more_of k dbs readings text left before after run)
-  pub causes : AreCauses 0 (told dbs readings).items disks
+  pub causes : HeldCauses (told dbs readings).stage.cell (told dbs readings).items disks
   pub held : AreHeld (told dbs (readings ++ more)) disks

@@ -90,7 +90,23 @@ impl<D: StopDisk, V: WordForms> CellRun<D, V> {
     }
 
     /// Opens a cell of so many servers at a clock: at first and once.
-    fn open(&mut self, servers: u32, clock: u32, text: &mut String) -> Result<(), LineFault> {
+    fn open(&mut self, servers: u32, clock: u32, text: &mut String) -> Result<(), LineFault>
+        requires bounds { HasBounds (Line.Cell servers clock Kind.Protection) }
+        requires room { self.old.lines < MAX_LINES }
+        requires sound { IsSoundRun D.files D.faults self.old }
+        ensures told { result ≡ Ok () → (st : Stage) → IsNear 0 self.old st →
+            StageTold D.files D.faults (only (script_database V.database V.words)) (λ choices. line_run (only (script_database V.database V.words)) (next_line st) choices (Line.Cell servers clock Kind.Protection) st.cell) None self.old self.new (string_bytes text.old) (string_bytes text.new) }
+        ensures limit { (w : Which) → result ≡ Err (LineFault.Limit w) → (st : Stage) → IsNear 0 self.old st →
+            StageTold D.files D.faults (only (script_database V.database V.words)) (λ choices. line_run (only (script_database V.database V.words)) (next_line st) choices (Line.Cell servers clock Kind.Protection) st.cell) (Some (Ending.Limit w)) self.old self.new (string_bytes text.old) (string_bytes text.new) }
+        ensures refused { (why : Why) → result ≡ Err (LineFault.Refused why) → (st : Stage) → IsNear 0 self.old st → IsRefusedLine why (λ choices. line_run (only (script_database V.database V.words)) (next_line st) choices (Line.Cell servers clock Kind.Protection) st.cell) }
+        ensures quiet { (why : Why) → result ≡ Err (LineFault.Refused why) → (self.new ≡ self.old) × (string_bytes text.new ≡ string_bytes text.old) }
+        ensures short { result ≡ Err LineFault.NoMemory → (st : Stage) → IsNear 0 self.old st →
+            StageShort D.files D.faults (λ choices. line_run (only (script_database V.database V.words)) (next_line st) choices (Line.Cell servers clock Kind.Protection) st.cell) st self.old self.new }
+        ensures sound { result ≡ Ok () → IsSoundRun D.files D.faults self.new }
+        ensures disks { sites_in self.new.cell + vec_len self.new.spare ≡ MAXSERVERS }
+        ensures spare { self.new.spare.items ≡ drop (sites_in self.new.cell - sites_in self.old.cell) self.old.spare.items }
+        ensures lines { self.new.lines ≡ self.old.lines }
+    {
         if self.cell.is_some() {
             return Err(Why::Cell.into());
         }
@@ -109,7 +125,22 @@ impl<D: StopDisk, V: WordForms> CellRun<D, V> {
         server: Option<u64>,
         words: &Words,
         text: &mut String,
-    ) -> Result<(), LineFault> {
+    ) -> Result<(), LineFault>
+        requires room { self.old.lines < MAX_LINES }
+        requires sound { IsSoundRun D.files D.faults self.old }
+        ensures told { result ≡ Ok () → (st : Stage) → IsNear 0 self.old st →
+            StageTold D.files D.faults (only (script_database V.database V.words)) (λ choices. line_run (only (script_database V.database V.words)) (next_line st) choices (Line.Ask server words.now) st.cell) None self.old self.new (string_bytes text.old) (string_bytes text.new) }
+        ensures limit { (w : Which) → result ≡ Err (LineFault.Limit w) → (st : Stage) → IsNear 0 self.old st →
+            StageTold D.files D.faults (only (script_database V.database V.words)) (λ choices. line_run (only (script_database V.database V.words)) (next_line st) choices (Line.Ask server words.now) st.cell) (Some (Ending.Limit w)) self.old self.new (string_bytes text.old) (string_bytes text.new) }
+        ensures refused { (why : Why) → result ≡ Err (LineFault.Refused why) → (st : Stage) → IsNear 0 self.old st → IsRefusedLine why (λ choices. line_run (only (script_database V.database V.words)) (next_line st) choices (Line.Ask server words.now) st.cell) }
+        ensures quiet { (why : Why) → result ≡ Err (LineFault.Refused why) → (self.new ≡ self.old) × (string_bytes text.new ≡ string_bytes text.old) }
+        ensures short { result ≡ Err LineFault.NoMemory → (st : Stage) → IsNear 0 self.old st →
+            StageShort D.files D.faults (λ choices. line_run (only (script_database V.database V.words)) (next_line st) choices (Line.Ask server words.now) st.cell) st self.old self.new }
+        ensures sound { result ≡ Ok () → IsSoundRun D.files D.faults self.new }
+        ensures disks { sites_in self.new.cell + vec_len self.new.spare ≡ MAXSERVERS }
+        ensures spare { self.new.spare.items ≡ drop (sites_in self.new.cell - sites_in self.old.cell) self.old.spare.items }
+        ensures lines { self.new.lines ≡ self.old.lines }
+    {
         let Some(cell) = &mut self.cell else {
             return Err(server.map_or(Why::Number, |_| Why::Cell).into());
         };
@@ -124,7 +155,23 @@ impl<D: StopDisk, V: WordForms> CellRun<D, V> {
     }
 
     /// A line that was understood.
-    fn run_line(&mut self, line: &Line, text: &mut String) -> Result<(), LineFault> {
+    fn run_line(&mut self, line: &Line, text: &mut String) -> Result<(), LineFault>
+        requires bounds { HasBounds line.now }
+        requires room { self.old.lines < MAX_LINES }
+        requires sound { IsSoundRun D.files D.faults self.old }
+        ensures told { result ≡ Ok () → (st : Stage) → IsNear 0 self.old st →
+            StageTold D.files D.faults (only (script_database V.database V.words)) (λ choices. line_run (only (script_database V.database V.words)) (next_line st) choices line.now st.cell) None self.old self.new (string_bytes text.old) (string_bytes text.new) }
+        ensures limit { (w : Which) → result ≡ Err (LineFault.Limit w) → (st : Stage) → IsNear 0 self.old st →
+            StageTold D.files D.faults (only (script_database V.database V.words)) (λ choices. line_run (only (script_database V.database V.words)) (next_line st) choices line.now st.cell) (Some (Ending.Limit w)) self.old self.new (string_bytes text.old) (string_bytes text.new) }
+        ensures refused { (why : Why) → result ≡ Err (LineFault.Refused why) → (st : Stage) → IsNear 0 self.old st → IsRefusedLine why (λ choices. line_run (only (script_database V.database V.words)) (next_line st) choices line.now st.cell) }
+        ensures quiet { (why : Why) → result ≡ Err (LineFault.Refused why) → (self.new ≡ self.old) × (string_bytes text.new ≡ string_bytes text.old) }
+        ensures short { result ≡ Err LineFault.NoMemory → (st : Stage) → IsNear 0 self.old st →
+            StageShort D.files D.faults (λ choices. line_run (only (script_database V.database V.words)) (next_line st) choices line.now st.cell) st self.old self.new }
+        ensures sound { result ≡ Ok () → IsSoundRun D.files D.faults self.new }
+        ensures disks { sites_in self.new.cell + vec_len self.new.spare ≡ MAXSERVERS }
+        ensures spare { self.new.spare.items ≡ drop (sites_in self.new.cell - sites_in self.old.cell) self.old.spare.items }
+        ensures lines { self.new.lines ≡ self.old.lines }
+    {
         match line {
             Line::Nothing => Ok(()),
             Line::Cell { servers, clock, .. } => self.open(*servers, *clock, text),
