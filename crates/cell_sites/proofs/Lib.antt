@@ -2,11 +2,14 @@ pub mod Agreeing
 pub mod AtPlace
 pub mod Happening
 pub mod Hosts
+pub mod Made
 pub mod Near
+pub mod Nodes
 pub mod Opening
 pub mod Reading
 pub mod Running
 pub mod Shortage
+pub mod Soundly
 pub mod Sweeping
 pub mod TellingOn
 pub mod Waiting

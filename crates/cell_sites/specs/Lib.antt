@@ -5,6 +5,7 @@ pub mod Packets
 pub mod Places
 pub mod Sites
 pub mod Sound
+pub mod Stepped
 pub mod Swept
 pub mod SweptTo
 pub mod Telling
