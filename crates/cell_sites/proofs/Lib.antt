@@ -2,6 +2,7 @@ pub mod Agreeing
 pub mod AtPlace
 pub mod Happening
 pub mod Hosts
+pub mod Joined
 pub mod Made
 pub mod Near
 pub mod Nodes

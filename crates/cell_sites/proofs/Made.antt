@@ -32,7 +32,7 @@ use Rattle.cell_sites.specs.Stepped.{NodeStepped, member_at, up_site}
 use Rattle.cell_sites.proofs.Agreeing.{AreMarks}
 use Rattle.cell_sites.proofs.Happening.{up_happens, halted_happens, fault_happens, stepped_sound, stepped_fails}
 use Rattle.cell_sites.proofs.Nodes.{is_up, made_up}
-use Rattle.cell_sites.proofs.Shortage.{CameShort, step_either}
+use Rattle.cell_sites.proofs.Shortage.{IsEither, step_either}
 
 -- a server is halted in a step, and nothing else is seen beside outputs
 pub record MarksHalt {D V : Type 0} (faults : D → ℕ) (k : ℕ) (halts : Bool) (h : SiteHappened) (node later : Node D V) : Type 0 where
@@ -98,39 +98,47 @@ module _ {D V : Type 0} (files : D → Option Files) (faults : D → ℕ) (scrip
   voter : (s : model.Server) → up_server node ≡ s → IsVoter (member_at before k) s
   voter s is = subst (IsVoter (member_at before k)) is was.voter
 
-  -- a step for which memory was found
-  pub made_whole : (out : List Output) (b a : ℕ) → Steps script_db.database (member_at before k) Done e clock (node_of node) (node_of later) out b a
-      → ((s : model.Server) (t : Stepped) → CameShort s t → out ≡ outputs_of t.shown → ⊥) → faults node.disk ≤ faults later.disk
-      → StepMade faults script_db c before.hosts.items k trigger call false clock node later out
-  made_whole out b a steps found kept = by (node_of node) refl steps
+  -- a server that was up, and the step that it made, which is the one for which all memory was found, or came short
+  pub record DoneBy (out : List Output) (b a : ℕ) : Type 0 where
+    pub s : model.Server
+    pub short : List Bool
+    pub up : node_of node ≡ model.Up s
+    pub makes : Makes (made_of s short) (node_of later) out b a
+    pub either : IsEither s (made_of s short) (made_of s [])
+
+  pub done_by : (out : List Output) (b a : ℕ) → Steps script_db.database (member_at before k) Done e clock (node_of node) (node_of later) out b a → DoneBy out b a
+  done_by out b a steps = by (node_of node) refl steps
     where
-      by : (x : model.Node) → node_of node ≡ x → Steps script_db.database (member_at before k) Done e clock x (node_of later) out b a → StepMade faults script_db c before.hosts.items k trigger call false clock node later out
+      by : (x : model.Node) → node_of node ≡ x → Steps script_db.database (member_at before k) Done e clock x (node_of later) out b a → DoneBy out b a
       by model.Down is steps = absurd steps
       by (model.Halted h) is steps = absurd steps
       by (model.Up s) is (short, makes) =
           let takes = voter s (is_up node s is).1 in
-          let u = made_of s [] in
-          let same : made_of s short ≡ u = whole (step_either script_db.database (member_at before k) s clock e short taken takes.flight takes.waiting) in
-          let h : SiteHappened = step_up k site e s.version u in
-          let steps = law.steps script_db.database (member_at before k) s clock e [] me takes taken in
-          record {
-            ev = Step trigger [];
-            h = h;
-            choices = [];
-            is =
-                stepped_sound script_db c (length before.hosts.items) stands.unarmed trigger k e site o there
-                ∙ ap (happened c (Step trigger [])) (up_happens script_db.database c.run.world trigger k e site o there s (stood ∙ is))
-                ∙ ap (λ (t : Stepped). happened c (Step trigger []) (happened_at c.run.world k (step_up k site e s.version t))) (model_step s);
-            outputs = sym (makes.outputs ∙ ap (λ (t : Stepped). outputs_of t.shown) same);
-            answers = law.answers script_db.database (member_at before k) s clock e [] call me takes taken asks;
-            votes = steps.packets;
-            stood = record { clock = clocks; node = sym (makes.server ∙ ap (λ (t : Stepped). model.Up t.server) same) };
-            marks = marked faults k false h node later refl (λ never. cc) kept;
-          }
-        where
-          whole : (made_of s short ≡ made_of s []) ⊎ CameShort s (made_of s short) → made_of s short ≡ made_of s []
-          whole (inl same) = same
-          whole (inr came) = absurd (found s (made_of s short) came makes.outputs)
+          record { s = s; short = short; up = is; makes = makes; either = step_either script_db.database (member_at before k) s clock e short taken takes.flight takes.waiting }
+
+  -- a step for which memory was found
+  pub made_whole : (out : List Output) (b a : ℕ) (done : DoneBy out b a) → made_of done.s done.short ≡ made_of done.s [] → faults node.disk ≤ faults later.disk
+      → StepMade faults script_db c before.hosts.items k trigger call false clock node later out
+  made_whole out b a done same kept =
+      let s = done.s in
+      let u = made_of s [] in
+      let h : SiteHappened = step_up k site e s.version u in
+      let takes = voter s (is_up node s done.up).1 in
+      let steps = law.steps script_db.database (member_at before k) s clock e [] me takes taken in
+      record {
+        ev = Step trigger [];
+        h = h;
+        choices = [];
+        is =
+            stepped_sound script_db c (length before.hosts.items) stands.unarmed trigger k e site o there
+            ∙ ap (happened c (Step trigger [])) (up_happens script_db.database c.run.world trigger k e site o there s (stood ∙ done.up))
+            ∙ ap (λ (t : Stepped). happened c (Step trigger []) (happened_at c.run.world k (step_up k site e s.version t))) (model_step s);
+        outputs = sym (done.makes.outputs ∙ ap (λ (t : Stepped). outputs_of t.shown) same);
+        answers = law.answers script_db.database (member_at before k) s clock e [] call me takes taken asks;
+        votes = steps.packets;
+        stood = record { clock = clocks; node = sym (done.makes.server ∙ ap (λ (t : Stepped). model.Up t.server) same) };
+        marks = marked faults k false h node later refl (λ never. cc) kept;
+      }
 
   -- a step of a halted server, and one that halts it
   pub made_halted : (halts : Bool) (out : List Output) (b a : ℕ) → Steps script_db.database (member_at before k) Halted e clock (node_of node) (node_of later) out b a

@@ -1,5 +1,5 @@
 -- What is told of the outputs of a step, one after the other, up to a packet that passes a limit.
-use Rattle.std.specs.Prelude.{◌≡◌, ℕ, ◌+◌, ◌++◌, Option, Some, None, List, [], ◌∷◌, length}
+use Rattle.std.specs.Prelude.{◌≡◌, ℕ, ◌+◌, ◌++◌, Bool, if◌then◌else◌, Option, Some, None, List, [], ◌∷◌, length, map}
 use Rattle.ubik_types.specs.declared.hosts.Host.{Host}
 use Rattle.ubik_calls.specs.declared.packets.Packet.{Packet}
 use Rattle.ubik_calls.specs.declared.replies.Reply.TheVariants as reply
@@ -7,12 +7,12 @@ use Rattle.ubik_calls.specs.Length.{packet_length}
 use Rattle.cell_model.specs.declared.events.Output.{Output}
 use Rattle.cell_model.specs.declared.events.Output.TheVariants as output
 use Rattle.cell_model.specs.Step.{Shown}
-use Rattle.cell_model.specs.World.{packet_in, packet_of, seen_of_output}
+use Rattle.cell_model.specs.World.{Happening, Halts, packet_in, packet_of, seen_of_output}
 use Rattle.cell_model.specs.Voters.{IsOfVotes}
 use Rattle.cell_runs.specs.declared.endings.Ending.{Ending}
 use Rattle.cell_runs.specs.ScriptDatabase.{ScriptDatabase}
 use Rattle.cell_runs.specs.Script.{bytes_of, passed_by}
-use Rattle.cell_runs.specs.Trace.{Tells, item_text}
+use Rattle.cell_runs.specs.Trace.{Tells, item_text, trace}
 
 -- the text so far, and the packets that were sent so far
 pub record Telling : Type 0 where
@@ -62,3 +62,13 @@ MayBeTold _ = Unit {0}
 abbrev pub IsNotShort : Output → Type 0
 IsNotShort (output.Reply id reply.NoMemory) = ⊥
 IsNotShort _ = Unit {0}
+
+-- what is seen behind the outputs of a step: whether its server was halted
+abbrev pub halt_marks : ℕ → Bool → List Happening
+halt_marks k halts = if halts then Halts k ∷ [] else []
+
+-- all of a step was told: its outputs, and then whether its server was halted
+pub record WholeTold (script_db : ScriptDatabase) (hosts : List Host) (k : ℕ) (halts : Bool) (t : Telling) (shown : List Shown) (text_after : List ℕ) (sent_after : List Packet) : Type 0 where
+  pub text : List ℕ
+  pub told : told_of script_db hosts k t shown ≡ record { after = record { text = text; sent = sent_after }; ending = None }
+  pub marked : text_after ≡ text ++ trace script_db hosts (map Tells (halt_marks k halts))

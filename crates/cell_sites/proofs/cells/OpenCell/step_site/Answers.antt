@@ -4,6 +4,7 @@ use Rattle.cell_model.specs.Voters.{IsTaken}
 use Rattle.cell_sites.specs.Sound.{IsSoundNode}
 use Rattle.cell_sites.specs.Stepped.{NodeStepped}
 use Rattle.cell_sites.proofs.Soundly.{found_up, here}
+use Rattle.cell_sites.proofs.Joined.{rises}
 use Rattle.cell_sites.proofs.cells.OpenCell.step_site.Goals as goal
 
 pub step_node-requires-clause-moment : goal.step_node-requires-clause-moment
