@@ -44,7 +44,7 @@ use Rattle.cell_sites.proofs.Made.{DoneBy, StepMade, done_by, made_whole, made_h
 use Rattle.cell_sites.proofs.Nodes.{is_up}
 use Rattle.cell_sites.proofs.Reading.{cell_reads, server_reads}
 use Rattle.cell_sites.proofs.Running.{held_at, reads_both, reads_set, rises_set, whole, part, short_after}
-use Rattle.cell_sites.proofs.Shortage.{CameShort, IsEither}
+use Rattle.cell_sites.proofs.Shortage.{CameShort, IsEither, packet_keeps}
 use Rattle.cell_sites.proofs.Soundly.{IsHere, here, sound_after}
 
 -- ---- outputs
@@ -282,3 +282,80 @@ module _ {D V : Type 0} (files : D → Option Files) (faults : D → ℕ) (scrip
             either (inr short) = inl (reads_before (came (done is).s _ (site.is.node ∙ (done is).up) (done is).makes.server short))
         by Halted is = at_made (by_halted is)
         by NoMemory is = inl (reads_before (reads_later site.s.node (site.is.node ∙ sym (subst steps_as is ss.step.steps).0)))
+
+-- ---- a packet of votes
+
+-- a server that is up stays so with its version and image, or nothing is said of it
+abbrev pub KeepsUp : model.Node → model.Node → Type 0
+KeepsUp (model.Up s) (model.Up t) = (t.version ≡ s.version) × (t.image ≡ s.image)
+KeepsUp _ _ = Unit {0}
+
+-- what read as a server reads so still
+reads_over : (n x y : model.Node) (fs later : Files) → KeepsUp x y → ReadsNode n fs → ReadsNode x fs → ReadsNode y later → ReadsNode n later
+reads_over model.Down x y fs later keeps reads own new = absurd reads
+reads_over (model.Halted h) x y fs later keeps reads own new = absurd reads
+reads_over (model.Up a) model.Down y fs later keeps reads own new = absurd own
+reads_over (model.Up a) (model.Halted h) y fs later keeps reads own new = absurd own
+reads_over (model.Up a) (model.Up s) model.Down fs later keeps reads own new = absurd new
+reads_over (model.Up a) (model.Up s) (model.Halted h) fs later keeps reads own new = absurd new
+reads_over (model.Up a) (model.Up s) (model.Up t) fs later keeps reads own new =
+    (new.0 ∙ ap (λ (v : Version). Some (durable v t.image)) keeps.0 ∙ ap (λ (i : List ℕ). Some (durable s.version i)) keeps.1 ∙ sym own.0 ∙ reads.0, new.1, new.2)
+
+both_read : (n x y : model.Node) (files later : Option Files) → KeepsUp x y → IsSomeAnd files (ReadsNode n) → IsSomeAnd files (ReadsNode x) → IsSomeAnd later (ReadsNode y) → IsSomeAnd later (ReadsNode n)
+both_read n x y None later keeps reads own new = absurd reads
+both_read n x y (Some fs) None keeps reads own new = absurd new
+both_read n x y (Some fs) (Some after) keeps reads own new = reads_over n x y fs after keeps reads own new
+
+reads_keep : {D V : Type 0} (files : D → Option Files) (faults : D → ℕ) (ss : List ModelSite) (sites : List (Site D V)) (k : ℕ) (site later : Site D V) → slice_get sites k ≡ Some site
+    → ((n : model.Node) → IsReadBy n (held_at files faults site) → IsReadBy n (held_at files faults later)) → AreReadBy ss (map (held_at {V = V} files faults) sites) → AreReadBy ss (map (held_at {V = V} files faults) (set sites k later))
+reads_keep files faults ss [] k site later there one read = cc
+reads_keep files faults [] (x ∷ sites) k site later there one read = absurd read
+reads_keep {D} {V} files faults (s ∷ ss) (x ∷ sites) zero site later there one read =
+    let e : x ≡ site = cc in (one s.node (subst (λ (y : Site D V). IsReadBy s.node (held_at files faults y)) e read.0), read.1)
+reads_keep files faults (s ∷ ss) (x ∷ sites) (suc k) site later there one read = (read.0, reads_keep files faults ss sites k site later there one read.1)
+
+module _ {D V : Type 0} (files : D → Option Files) (faults : D → ℕ) (script_db : ScriptDatabase) (before mid after : OpenCell D V) (k : ℕ) (p : Packet) (end : StepEnd) (halts : Bool) (bound : ℕ) (sound : IsSound files faults bound before) (taken : IsTaken (member_at before k) (event.Packet p)) (ss : SiteStepped files faults script_db.database k (event.Packet p) end halts before mid) (sites : after.sites.items ≡ mid.sites.items) where
+  stays : IsHere files faults bound before k ss.clock ss.node
+  stays = here files faults bound before k ss.clock ss.node sound ss.there
+
+  keeps_up : KeepsUp (node_of ss.node) (node_of ss.later)
+  keeps_up = by end refl
+    where
+      P : StepEnd → Type 0
+      P x = Steps script_db.database (member_at before k) x (event.Packet p) ss.clock (node_of ss.node) (node_of ss.later) mid.outputs ss.step.calls ss.step.calls_after
+
+      up : (x y : model.Node) → node_of ss.node ≡ x → Steps script_db.database (member_at before k) Done (event.Packet p) ss.clock x y mid.outputs ss.step.calls ss.step.calls_after → KeepsUp x y
+      up model.Down y is steps = absurd steps
+      up (model.Halted h) y is steps = tt
+      up (model.Up s) y is (short, makes) =
+          let voter = subst (IsVoter (member_at before k)) (is_up ss.node s is).1 stays.sound.voter in
+          let keeps = packet_keeps script_db.database (member_at before k) s ss.clock p short taken.votes voter.flight in
+          subst (λ (n : model.Node). KeepsUp (model.Up s) n) (sym makes.server) (keeps.version, keeps.image_is)
+
+      halted : (x y : model.Node) → Steps script_db.database (member_at before k) Halted (event.Packet p) ss.clock x y mid.outputs ss.step.calls ss.step.calls_after → KeepsUp x y
+      halted model.Down y steps = absurd steps
+      halted (model.Halted h) y steps = tt
+      halted (model.Up s) y steps = subst (λ (n : model.Node). KeepsUp (model.Up s) n) (sym steps.0) tt
+
+      same : (x y : model.Node) → y ≡ x → KeepsUp x y
+      same model.Down y is = tt
+      same (model.Halted h) y is = tt
+      same (model.Up s) y is = subst (λ (n : model.Node). KeepsUp (model.Up s) n) (sym is) (refl, refl)
+
+      by : (x : StepEnd) → end ≡ x → KeepsUp (node_of ss.node) (node_of ss.later)
+      by Done is = up (node_of ss.node) (node_of ss.later) refl (subst P is ss.step.steps)
+      by Halted is = halted (node_of ss.node) (node_of ss.later) (subst P is ss.step.steps)
+      by NoMemory is = same (node_of ss.node) (node_of ss.later) (subst P is ss.step.steps).0
+
+  keeps_node : (n : model.Node) → IsReadBy n (held files faults ss.node.disk) → IsReadBy n (held files faults ss.later.disk)
+  keeps_node n read = λ none.
+      let kept = ss.step.never_falls in
+      let old : faults ss.node.disk ≡ 0 = omega (arith, kept, none) in
+      both_read n (node_of ss.node) (node_of ss.later) (files ss.node.disk) (files ss.later.disk) keeps_up (read old)
+      (server_reads files faults (member_at before k) ss.clock (Up ss.node) stays.sound old)
+      (server_reads files faults (member_at before k) ss.clock (Up ss.later) ss.step.sound none)
+
+  pub keeps : (models : List ModelSite) → AreReadBy models (helds files faults before) → AreReadBy models (helds files faults after)
+  keeps models read =
+      subst (λ (l : List (Site D V)). AreReadBy models (map (held_at {V = V} files faults) l)) (sym (sites ∙ ss.sites))
+      (reads_keep files faults models before.sites.items k (up_site ss.clock ss.node) (up_site ss.clock ss.later) ss.there keeps_node read)
