@@ -1,5 +1,5 @@
 -- The hosts of a cell, in their order.
-use Rattle.std.proofs.Common.{◌≡◌, ◌<◌, ◌≤◌, ◌+◌, ℕ, zero, suc, List, [], ◌∷◌, length, get_or, refl, sym, ap, subst, ◌∙◌, arith}
+use Rattle.std.proofs.Common.{◌≡◌, ◌<◌, ◌≤◌, ◌+◌, ℕ, zero, suc, List, [], ◌∷◌, ◌++◌, length, get_or, refl, sym, ap, subst, ◌∙◌, arith}
 use Rattle.std.specs.Prelude.{Contains, IsPermutation}
 use Rattle.std.proofs.lemmas.List.Sorted.{Contains-permutation, IsPermutation-sym}
 use Rattle.ubik_types.specs.declared.hosts.Host.{Host}
@@ -76,3 +76,16 @@ cell_hosts n hosts cell are is same =
     sym (same_ascending hosts cell (subst IsAscending (sym are) (ascending_from 0 n)) is.ascending
     (λ z there. Contains-permutation hosts cell z same there)
     (λ z there. Contains-permutation cell hosts z (IsPermutation-sym hosts cell same) there))
+
+next_from : (k n : ℕ) → hosts_from k n ++ record { 0 = 167772161 + (k + n) } ∷ [] ≡ hosts_from k (suc n)
+next_from k zero = ap (λ (m : ℕ). record { 0 = 167772161 + m } ∷ []) (omega arith)
+next_from k (suc n) =
+    let same : k + suc n ≡ k + 1 + n = omega arith in
+    ap (λ (m : ℕ). record { 0 = 167772161 + k } ∷ (hosts_from (k + 1) n ++ record { 0 = 167772161 + m } ∷ [])) same
+    ∙ ap (λ (l : List Host). record { 0 = 167772161 + k } ∷ l) (next_from (k + 1) n)
+
+-- the host behind the first ones
+pub next_host : (n : ℕ) → hosts_of n ++ record { 0 = 167772161 + n } ∷ [] ≡ hosts_of (n + 1)
+next_host n =
+    let same : n + 1 ≡ suc n = omega arith in
+    ap (λ (m : ℕ). hosts_of n ++ record { 0 = 167772161 + m } ∷ []) (omega arith) ∙ next_from 0 n ∙ ap hosts_of (sym same)

@@ -2,8 +2,11 @@ pub mod AtPlace
 pub mod Happening
 pub mod Hosts
 pub mod Near
+pub mod Opened
 pub mod Opening
 pub mod Reading
+pub mod Showing
 pub mod Sweeping
 pub mod Telling
+pub mod Ticking
 pub mod Waiting

@@ -17,6 +17,7 @@ ghost use Rattle.cell_sites.specs.declared.cells.OpenCell.{OpenCell as AnOpenCel
 
 use crate::packets::Packets;
 use crate::sites::{Server, Site};
+use cell_model::law_voters_vote;
 use cell_runs::{Mark, tell_mark};
 use db_image::WordForms;
 use disk_base::{Refused, StopDisk};
@@ -146,6 +147,7 @@ fn open_server<D: StopDisk, V: WordForms>(
     ensures sound { OnOk result.1 (IsSoundServer D.files D.faults (record { hosts = hosts.now; me = me }) clock result.0) }
     ensures kept { IsEmptied D.files D.faults disk (server_disk result.0) }
 {
+    law_voters_vote();
     let Ok(cell) = Cell::new(alloc, hosts) else {
         return (Server::Down(disk), Err(NoMemory));
     };
