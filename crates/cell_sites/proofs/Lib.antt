@@ -1,3 +1,4 @@
+pub mod Agreeing
 pub mod AtPlace
 pub mod Happening
 pub mod Hosts
@@ -5,8 +6,10 @@ pub mod Near
 pub mod Opened
 pub mod Opening
 pub mod Reading
+pub mod Running
+pub mod Shortage
 pub mod Showing
 pub mod Sweeping
-pub mod Telling
+pub mod TellingOn
 pub mod Ticking
 pub mod Waiting

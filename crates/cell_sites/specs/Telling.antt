@@ -1,5 +1,5 @@
 -- What is told of the outputs of a step, one after the other, up to a packet that passes a limit.
-use Rattle.std.specs.Prelude.{◌≡◌, ℕ, ◌+◌, ◌++◌, Option, Some, None, List, [], ◌∷◌, length, filter_map}
+use Rattle.std.specs.Prelude.{◌≡◌, ℕ, ◌+◌, ◌++◌, Option, Some, None, List, [], ◌∷◌, length}
 use Rattle.ubik_types.specs.declared.hosts.Host.{Host}
 use Rattle.ubik_calls.specs.declared.packets.Packet.{Packet}
 use Rattle.ubik_calls.specs.declared.replies.Reply.TheVariants as reply
@@ -13,7 +13,6 @@ use Rattle.cell_runs.specs.declared.endings.Ending.{Ending}
 use Rattle.cell_runs.specs.ScriptDatabase.{ScriptDatabase}
 use Rattle.cell_runs.specs.Script.{bytes_of, passed_by}
 use Rattle.cell_runs.specs.Trace.{Tells, item_text}
-use Rattle.cell_sites.specs.Traffic.{Traffic, sent_all}
 
 -- the text so far, and the packets that were sent so far
 pub record Telling : Type 0 where
@@ -25,10 +24,13 @@ pub record TellingRun : Type 0 where
   pub after : Telling
   pub ending : Option Ending
 
--- the limit that the next packet passes
+-- the limit that the next packet passes, after these
+abbrev pub passed_after : List Packet → Option Packet → Option Ending
+passed_after sent None = None
+passed_after sent (Some p) = passed_by (length sent + 1) (bytes_of sent + packet_length p)
+
 abbrev pub passed_in : Telling → Option Packet → Option Ending
-passed_in t None = None
-passed_in t (Some p) = passed_by (length t.sent + 1) (bytes_of t.sent + packet_length p)
+passed_in t packet = passed_after t.sent packet
 
 abbrev pub sent_with : List Packet → Option Packet → List Packet
 sent_with sent None = sent
@@ -60,10 +62,3 @@ MayBeTold _ = Unit {0}
 abbrev pub IsNotShort : Output → Type 0
 IsNotShort (output.Reply id reply.NoMemory) = ⊥
 IsNotShort _ = Unit {0}
-
--- the packets that were sent are those of a front of the outputs; all of them wait
-pub record IsFrontSent (before after : Traffic) (outputs : List Output) : Type 0 where
-  pub front : List Packet
-  pub back : List Packet
-  pub is : filter_map packet_in outputs ≡ front ++ back
-  pub sent : after ≡ sent_all before front

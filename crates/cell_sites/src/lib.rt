@@ -7,6 +7,7 @@ mod packets;
 mod places;
 mod shows;
 mod sites;
+mod telling;
 mod ticks;
 
 pub use cells::{OpenCell, law_cell_opened};
