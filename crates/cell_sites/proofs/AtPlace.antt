@@ -96,18 +96,22 @@ sound_set files faults hosts place bound (x ∷ sites) zero site are is =
     let me : place + 0 ≡ place = omega arith in
     (subst (λ (n : ℕ). IsSoundSite files faults (record { hosts = hosts; me = n }) bound site) me is, are.1)
 sound_set files faults hosts place bound (x ∷ sites) (suc k) site are is =
-    let me : place + suc k ≡ place + 1 + k = omega arith in
-    (are.0, sound_set files faults hosts (place + 1) bound sites k site are.1
-    (subst (λ (n : ℕ). IsSoundSite files faults (record { hosts = hosts; me = n }) bound site) me is))
+    let me : place + suc k ≡ place + 1 + k = omega arith in (
+      are.0,
+      sound_set files faults hosts (place + 1) bound sites k site are.1
+          (subst (λ (n : ℕ). IsSoundSite files faults (record { hosts = hosts; me = n }) bound site) me is),
+    )
 
 pub sound_push : {D V : Type 0} (files : D → Option Files) (faults : D → ℕ) (hosts : List Host) (place bound : ℕ) (sites : List (Site D V)) (site : Site D V) → AreSound files faults hosts place bound sites → IsSoundSite files faults (record { hosts = hosts; me = place + length sites }) bound site → AreSound files faults hosts place bound (sites ++ site ∷ [])
 sound_push files faults hosts place bound [] site are is =
     let me : place + 0 ≡ place = omega arith in
     (subst (λ (n : ℕ). IsSoundSite files faults (record { hosts = hosts; me = n }) bound site) me is, tt)
 sound_push files faults hosts place bound (x ∷ sites) site are is =
-    let me : place + length (x ∷ sites) ≡ place + 1 + length sites = omega arith in
-    (are.0, sound_push files faults hosts (place + 1) bound sites site are.1
-    (subst (λ (n : ℕ). IsSoundSite files faults (record { hosts = hosts; me = n }) bound site) me is))
+    let me : place + length (x ∷ sites) ≡ place + 1 + length sites = omega arith in (
+      are.0,
+      sound_push files faults hosts (place + 1) bound sites site are.1
+          (subst (λ (n : ℕ). IsSoundSite files faults (record { hosts = hosts; me = n }) bound site) me is),
+    )
 
 -- ---- disks
 

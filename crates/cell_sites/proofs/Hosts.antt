@@ -1,9 +1,8 @@
 -- The hosts of a cell, in their order.
-use Rattle.std.proofs.Common.{◌≡◌, ◌<◌, ◌≤◌, ◌+◌, ℕ, zero, suc, List, [], ◌∷◌, ◌++◌, length, get_or, refl, sym, ap, subst, ◌∙◌, arith}
+use Rattle.std.proofs.Common.{◌≡◌, ◌<◌, ◌+◌, ℕ, zero, suc, List, [], ◌∷◌, ◌++◌, length, get_or, refl, sym, ap, subst, ◌∙◌, arith}
 use Rattle.std.specs.Prelude.{Contains, IsPermutation}
 use Rattle.std.proofs.lemmas.List.Sorted.{Contains-permutation, IsPermutation-sym}
 use Rattle.ubik_types.specs.declared.hosts.Host.{Host}
-use Rattle.ubik_types.specs.declared.limits.TheConstants.{MAXSERVERS}
 use Rattle.ubik_types.specs.Hosts.{IsAscending, IsCell}
 use Rattle.cell_runs.specs.Script.{hosts_from, hosts_of}
 
@@ -66,8 +65,8 @@ same_ascending (x ∷ xs) (y ∷ ys) up up' to from =
     let Q : Host → Type 0 = λ h. (z : Host) → Contains (x ∷ xs) z → Contains (h ∷ ys) z in
     let R : Host → Type 0 = λ h. (z : Host) → Contains (h ∷ ys) z → Contains (x ∷ xs) z in
     let rest : xs ≡ ys =
-        same_ascending xs ys (rest_ascending x xs up) (rest_ascending y ys up')
-        (behind x xs ys up (subst Q (sym is) to)) (behind x ys xs (subst P (sym is) up') (subst R (sym is) from)) in
+    same_ascending xs ys (rest_ascending x xs up) (rest_ascending y ys up')
+    (behind x xs ys up (subst Q (sym is) to)) (behind x ys xs (subst P (sym is) up') (subst R (sym is) from)) in
     ap (λ (h : Host). h ∷ xs) is ∙ ap (λ (l : List Host). y ∷ l) rest
 
 -- the cell that is made of the hosts of a script has them in their order

@@ -21,8 +21,8 @@ use Rattle.cell_runs.specs.declared.traces.Mark.TheVariants as mark
 use Rattle.cell_sites.specs.Disks.{Held, AreRises, all_held, held}
 use Rattle.cell_sites.specs.Opened.{ArePartOpened, HasRoom, IsAdded, IsOpened, opening_items}
 use Rattle.cell_sites.specs.OpenedServer.{IsEmptied, ServerOpened}
-use Rattle.cell_sites.specs.Sites.{AreSitesOf, StandsFor, disks_of, helds, server_disk, server_node, site_disk}
-use Rattle.cell_sites.specs.Sound.{AreSound, IsSound, IsSoundNode, IsSoundServer, IsSoundSite}
+use Rattle.cell_sites.specs.Sites.{AreSitesOf, StandsFor, helds, server_disk, site_disk}
+use Rattle.cell_sites.specs.Sound.{AreSound, IsSoundNode, IsSoundServer, IsSoundSite}
 use Rattle.cell_sites.specs.Traffic.{Traffic}
 use Rattle.cell_sites.specs.declared.cells.OpenCell.{OpenCell}
 use Rattle.cell_sites.specs.declared.sites.Server.{Server}
@@ -61,25 +61,25 @@ next_opened {D} {V} files faults db clock given running before told after disk s
       failed = failed ++ one.fails ∷ [];
       each = let x = length_snoc failed one.fails in let y = length_snoc given disk in omega (arith, x, y, each);
       sites = subst (λ (l : List (Site D V)). AreSitesOf l (map first (failed ++ one.fails ∷ []))) (sym pushed)
-        (subst (λ (l : List ModelSite). AreSitesOf (items ++ site ∷ []) l) (sym (map-append first failed (one.fails ∷ [])))
-        (sites_push items (map first failed) site (first one.fails) p.sites (record { clock = refl; node = sym one.node })));
+          (subst (λ (l : List ModelSite). AreSitesOf (items ++ site ∷ []) l) (sym (map-append first failed (one.fails ∷ [])))
+          (sites_push items (map first failed) site (first one.fails) p.sites (record { clock = refl; node = sym one.node })));
       sound = subst (λ (l : List (Site D V)). AreSound files faults hosts 0 clock l) (sym pushed)
-        (sound_push files faults hosts 0 clock items site p.sound
-        (subst (λ (n : ℕ). IsSoundSite files faults (record { hosts = hosts; me = n }) clock site) (omega arith)
-        (record { moment = moment; within = omega arith; server = sound })));
+          (sound_push files faults hosts 0 clock items site p.sound
+          (subst (λ (n : ℕ). IsSoundSite files faults (record { hosts = hosts; me = n }) clock site) (omega arith)
+          (record { moment = moment; within = omega arith; server = sound })));
       packets = p.packets;
       outputs = p.outputs;
       told = one.told
-        ∙ ap (λ (n : ℕ). told ++ trace db hosts (map Tells (first_seen n (one.fails ∷ [])))) count
-        ∙ ap (λ (l : List ℕ). l ++ trace db hosts more) p.told
-        ∙ append_assoc before (trace db hosts (opening_items failed)) (trace db hosts more)
-        ∙ ap (λ (l : List ℕ). before ++ l) (sym (flat_map-append (item_text db hosts) (opening_items failed) more))
-        ∙ ap (λ (l : List TraceItem). before ++ trace db hosts l) (sym (items_more failed one.fails));
+          ∙ ap (λ (n : ℕ). told ++ trace db hosts (map Tells (first_seen n (one.fails ∷ [])))) count
+          ∙ ap (λ (l : List ℕ). l ++ trace db hosts more) p.told
+          ∙ append_assoc before (trace db hosts (opening_items failed)) (trace db hosts more)
+          ∙ ap (λ (l : List ℕ). before ++ l) (sym (flat_map-append (item_text db hosts) (opening_items failed) more))
+          ∙ ap (λ (l : List TraceItem). before ++ trace db hosts l) (sym (items_more failed one.fails));
       causes = subst (λ (l : List Held). AreRises 0 (opening_items (failed ++ one.fails ∷ [])) l (helds files faults (record running { sites = sites }))) (sym (map-append (held files faults) given (disk ∷ [])))
-        (subst (λ (l : List Held). AreRises 0 (opening_items (failed ++ one.fails ∷ [])) (all_held files faults given ++ held files faults disk ∷ []) l)
-        (sym (ap (map (λ (x : Site D V). held files faults (site_disk x))) pushed ∙ map-append (λ (x : Site D V). held files faults (site_disk x)) items (site ∷ [])))
-        (rises_more failed one.fails (all_held files faults given) (helds files faults running) (held files faults disk) (held files faults (server_disk s))
-        (each ∙ sym (length-map given (held files faults))) p.causes one.cause));
+          (subst (λ (l : List Held). AreRises 0 (opening_items (failed ++ one.fails ∷ [])) (all_held files faults given ++ held files faults disk ∷ []) l)
+          (sym (ap (map (λ (x : Site D V). held files faults (site_disk x))) pushed ∙ map-append (λ (x : Site D V). held files faults (site_disk x)) items (site ∷ [])))
+          (rises_more failed one.fails (all_held files faults given) (helds files faults running) (held files faults disk) (held files faults (server_disk s))
+          (each ∙ sym (length-map given (held files faults))) p.causes one.cause));
     }
 
 pub next_added : {D V : Type 0} (files : D → Option Files) (faults : D → ℕ) (clock : ℕ) (running : OpenCell D V) (disk : D) (s : Server D V) (sites : Vec (Site D V) Global) → sites.items ≡ running.sites.items ++ record { clock = clock; server = s } ∷ [] → IsEmptied files faults disk (server_disk s) → IsAdded files faults disk running (record running { sites = sites })
@@ -157,7 +157,7 @@ up_told faults db hosts cell me clock disk n d text same none up kept =
     record {
       fails = false;
       node = up ∙ ap (λ (l : List Host). model.Up (model.opened_server (length l) d clock)) same
-        ∙ ap (λ (e : Durable). model.Up (model.opened_server (length hosts) e clock)) none;
+          ∙ ap (λ (e : Durable). model.Up (model.opened_server (length hosts) e clock)) none;
       cause = omega (arith, kept);
       told = sym (append-nil text);
     }
@@ -172,8 +172,8 @@ up_sound files faults hosts cell me clock disk n d votes same empty up mine stor
       last = omega (arith, last);
       member = mine ∙ ap (λ (l : List Host). record { hosts = l; me = me }) same;
       voter = subst (λ (l : List Host). IsVoter (record { hosts = l; me = me }) (up_server n)) same
-        (subst (λ (u : model.Server). IsVoter (record { hosts = cell; me = me }) u) (sym (up_is n.halted (up_server n) (model.opened_server (length cell) d clock) up))
-        (votes (record { hosts = cell; me = me }) d clock));
+          (subst (λ (u : model.Server). IsVoter (record { hosts = cell; me = me }) u) (sym (up_is n.halted (up_server n) (model.opened_server (length cell) d clock) up))
+          (votes (record { hosts = cell; me = me }) d clock));
       stored = stored;
       alone = λ whole.
           let P : Option Files → Type 0 = λ f. IsSomeAnd f (λ fs. (fs.log ≡ []) × (fs.incoming ≡ [])) in

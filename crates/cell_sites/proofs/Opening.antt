@@ -1,9 +1,8 @@
 -- A cell that is opened server by server.
-use Rattle.std.proofs.Common.{if◌then◌else◌, ◌≡◌, ◌≢◌, ◌<◌, ◌≤◌, ◌+◌, ◌++◌, ℕ, zero, suc, Bool, true, false, List, [], ◌∷◌, length, map, Option, Some, None, IfSome, refl, sym, ap, subst, ◌∙◌, arith}
+use Rattle.std.proofs.Common.{if◌then◌else◌, ◌≡◌, ◌≢◌, ◌<◌, ◌≤◌, ◌+◌, ◌++◌, ℕ, Bool, true, false, List, [], ◌∷◌, length, map, Option, Some, None, IfSome, refl, sym, ap, subst, ◌∙◌, arith}
 use Rattle.std.specs.Prelude.{◌==◌}
 use Rattle.std.proofs.lemmas.Bool.{eq-eqb, ne_eqb}
 use Rattle.std.proofs.lemmas.List.{map-append}
-use Rattle.std.proofs.lemmas.Grind.{flat_map-append}
 use Rattle.disk_base.specs.Files.{Files, no_files}
 use Rattle.cell_model.specs.Durable.{Durable, no_database}
 use Rattle.cell_model.specs.Node as model
@@ -105,9 +104,10 @@ rises_push k items more (a ∷ before) (b ∷ after) x y are none last =
     let P : ℕ → Type 0 = λ n. x.faults + fault_count n (items ++ more) ≤ y.faults in
     let same : k + length (a ∷ before) ≡ k + 1 + length before = omega arith in
     let sum = count_append k items more in
-    let zero_more = none k (omega arith) in
-    (omega (arith, are.0, sum, zero_more),
-    rises_push (k + 1) items more before after x y are.1 (λ j less. none j (omega (arith, less))) (subst P same last))
+    let zero_more = none k (omega arith) in (
+      omega (arith, are.0, sum, zero_more),
+      rises_push (k + 1) items more before after x y are.1 (λ j less. none j (omega (arith, less))) (subst P same last),
+    )
 
 -- one more server was opened
 pub rises_more : (failed : List Bool) (fails : Bool) (before after : List Held) (x y : Held) → length failed ≡ length before → AreRises 0 (opening_items failed) before after → x.faults + of fails ≤ y.faults → AreRises 0 (opening_items (failed ++ fails ∷ [])) (before ++ x ∷ []) (after ++ y ∷ [])

@@ -8,7 +8,7 @@ use Rattle.ubik_types.specs.Lease.{lease_end}
 use Rattle.ubik_types.specs.Phase.{phase_of}
 use Rattle.cell_model.specs.Node as model
 use Rattle.cell_model.specs.Step.{Member, cell_size as member_size}
-use Rattle.cell_model.specs.World.{Site as ModelSite, site_of}
+use Rattle.cell_model.specs.World.{site_of}
 use Rattle.cell_runs.specs.declared.traces.Showing.{Showing}
 use Rattle.cell_runs.specs.Script.{Cell, Run_or_why, cell_size_of, shown_site, showing_of}
 use Rattle.cell_runs.specs.ScriptDatabase.{ScriptDatabase}
@@ -25,7 +25,7 @@ use Rattle.cell_sites.specs.declared.sites.Server.{Server}
 use Rattle.cell_sites.specs.declared.sites.Server.TheVariants as server
 use Rattle.cell_sites.specs.declared.sites.Site.{Site}
 use Rattle.ubik_node.specs.declared.nodes.Node.{Node}
-use Rattle.ubik_node.specs.Node.{node_of, own_member, up_server}
+use Rattle.ubik_node.specs.Node.{own_member, up_server}
 use Rattle.cell_sites.proofs.AtPlace.{site_at, sound_at}
 
 shows_none : (k j clock : ℕ) (showing : Option Showing) (disks : List Held) → AreRises k (Shows j clock showing ∷ []) disks disks
@@ -50,11 +50,11 @@ show_told files faults db running c k site showing run hosts before after stands
       ends = refl;
       cell = stands;
       told = told
-        ∙ ap (λ (l : List Host). before ++ item_text db l (Shows k site.clock showing)) same
-        ∙ ap (λ (l : List ℕ). before ++ l) (sym (append-nil (item_text db running.hosts.items (Shows k site.clock showing))))
-        ∙ ap (λ (l : List TraceItem). before ++ trace db running.hosts.items l) (sym items);
+          ∙ ap (λ (l : List Host). before ++ item_text db l (Shows k site.clock showing)) same
+          ∙ ap (λ (l : List ℕ). before ++ l) (sym (append-nil (item_text db running.hosts.items (Shows k site.clock showing))))
+          ∙ ap (λ (l : List TraceItem). before ++ trace db running.hosts.items l) (sym items);
       causes = subst (λ (l : List TraceItem). AreRises 0 l (helds files faults running) (helds files faults running)) (sym items)
-        (shows_none 0 k site.clock showing (helds files faults running));
+          (shows_none 0 k site.clock showing (helds files faults running));
     }
 
 pub showing_down : {D V : Type 0} (n : ℕ) (s : Server D V) (disk : D) (showing : Option Showing) → s ≡ server.Down disk → showing ≡ None → showing ≡ showing_of n (server_node s)

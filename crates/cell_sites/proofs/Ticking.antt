@@ -1,5 +1,5 @@
 -- Clocks of a running cell that go forward.
-use Rattle.std.proofs.Common.{if◌then◌else◌, ◌≡◌, ◌≢◌, ◌<◌, ◌≤◌, ◌+◌, ◌-◌, ◌^◌, ◌&&◌, ◌++◌, ℕ, zero, suc, Bool, true, false, Option, List, [], ◌∷◌, Some, None, Result, Ok, Err, length, map, set, get_or, replicate, refl, sym, ap, subst, ◌∙◌, arith, cond}
+use Rattle.std.proofs.Common.{if◌then◌else◌, ◌≡◌, ◌<◌, ◌≤◌, ◌+◌, ◌-◌, ◌^◌, ◌&&◌, ◌++◌, ℕ, zero, suc, Bool, true, false, Option, List, [], ◌∷◌, Some, None, Result, Ok, Err, length, map, set, get_or, replicate, refl, sym, ap, subst, ◌∙◌, arith}
 use Rattle.std.specs.Prelude.{slice_get, IsErrAnd}
 use Rattle.std.specs.Vec.{with_item, with_items}
 use Rattle.std.proofs.lemmas.List.{append-nil, length-set, length-map, map-set}
@@ -7,14 +7,14 @@ use Rattle.std.proofs.Math.Seq.{map-set_same}
 use Rattle.std.proofs.lemmas.Option.{get_or_from_slice_get, slice_get_within}
 use Rattle.disk_base.specs.Files.{Files}
 use Rattle.ubik_types.specs.declared.hosts.Host.{Host}
-use Rattle.ubik_types.specs.declared.limits.TheConstants.{MAX_MOMENT, SKEW}
+use Rattle.ubik_types.specs.declared.limits.TheConstants.{MAX_MOMENT}
 use Rattle.cell_model.specs.Step.{Member}
-use Rattle.cell_model.specs.World.{Site as ModelSite, Event, Tick, Tick_all, are_near, are_moments, clocks_of, may_tick, tick_at, ticked}
+use Rattle.cell_model.specs.World.{Site as ModelSite, Tick, Tick_all, are_near, are_moments, clocks_of, may_tick, tick_at, ticked}
 use Rattle.cell_script.specs.declared.lines.Why.{Why}
 use Rattle.cell_script.specs.declared.lines.Why.TheVariants as why
 use Rattle.cell_runs.specs.Script.{Cell, Run_or_why, hosts_of, unless_skewed, with_event}
 use Rattle.cell_runs.specs.ScriptDatabase.{ScriptDatabase}
-use Rattle.cell_sites.specs.Disks.{AreRises, Held, held}
+use Rattle.cell_sites.specs.Disks.{Held, held}
 use Rattle.cell_sites.specs.Places.{IsNearAt, ticked_on}
 use Rattle.cell_sites.specs.Sites.{AreSitesOf, StandsFor, helds, site_disk}
 use Rattle.cell_sites.specs.Sound.{AreSound, IsSound, IsSoundServer, IsSoundSite, clocks_in}
@@ -24,7 +24,7 @@ use Rattle.cell_sites.specs.declared.sites.Server.{Server}
 use Rattle.cell_sites.specs.declared.sites.Server.TheVariants as server
 use Rattle.cell_sites.specs.declared.sites.Site.{Site}
 use Rattle.cell_sites.proofs.AtPlace.{rises_same, sites_all_ticked, sites_clocks, sites_ticked, sound_at, sound_set}
-use Rattle.cell_sites.proofs.Near.{AreNear, moments_make, near_all, near_make, near_read, near_set, near_unset}
+use Rattle.cell_sites.proofs.Near.{moments_make, near_all, near_make, near_read, near_set, near_unset}
 use Rattle.cell_sites.proofs.Waiting.{items_with}
 
 -- ---- one site
@@ -49,16 +49,18 @@ site_later files faults m bound seconds site fits sound =
 pub sound_weaker : {D V : Type 0} (files : D → Option Files) (faults : D → ℕ) (hosts : List Host) (place bound more : ℕ) (sites : List (Site D V)) → bound ≤ more → AreSound files faults hosts place bound sites → AreSound files faults hosts place more sites
 sound_weaker files faults hosts place bound more [] le sound = tt
 sound_weaker files faults hosts place bound more (site ∷ sites) le sound =
-    let within = sound.0.within in
-    (record { moment = sound.0.moment; within = omega (arith, within, le); server = sound.0.server },
-    sound_weaker files faults hosts (place + 1) bound more sites le sound.1)
+    let within = sound.0.within in (
+      record { moment = sound.0.moment; within = omega (arith, within, le); server = sound.0.server },
+      sound_weaker files faults hosts (place + 1) bound more sites le sound.1,
+    )
 
 sound_ticked : {D V : Type 0} (files : D → Option Files) (faults : D → ℕ) (hosts : List Host) (place bound bound' seconds : ℕ) (sites : List (Site D V)) → bound + seconds ≤ MAX_MOMENT → AreSound files faults hosts place bound sites → AreSound files faults hosts place bound' sites → AreSound files faults hosts place (bound' + seconds) (map (ticked_on seconds) sites)
 sound_ticked files faults hosts place bound bound' seconds [] fits sound sound' = tt
 sound_ticked files faults hosts place bound bound' seconds (site ∷ sites) fits sound sound' =
-    let within = sound.0.within in
-    (site_later files faults (record { hosts = hosts; me = place }) bound' seconds site (omega (arith, fits, within)) sound'.0,
-    sound_ticked files faults hosts (place + 1) bound bound' seconds sites fits sound.1 sound'.1)
+    let within = sound.0.within in (
+      site_later files faults (record { hosts = hosts; me = place }) bound' seconds site (omega (arith, fits, within)) sound'.0,
+      sound_ticked files faults hosts (place + 1) bound bound' seconds sites fits sound.1 sound'.1,
+    )
 
 -- ---- clocks
 
@@ -122,15 +124,15 @@ tick_sound {D} {V} files faults bound most running k seconds site sound fits the
       few = omega (arith, few, same);
       hosts = sound.hosts ∙ ap hosts_of (sym same);
       sites = sound_set files faults running.hosts.items 0 (bound + seconds) items k x
-        (sound_weaker files faults running.hosts.items 0 bound (bound + seconds) items (omega arith) sound.sites)
-        (site_later files faults (record { hosts = running.hosts.items; me = 0 + k }) bound seconds site fits (sound_at files faults running.hosts.items 0 bound items k site sound.sites there));
+          (sound_weaker files faults running.hosts.items 0 bound (bound + seconds) items (omega arith) sound.sites)
+          (site_later files faults (record { hosts = running.hosts.items; me = 0 + k }) bound seconds site fits (sound_at files faults running.hosts.items 0 bound items k site sound.sites there));
       near = ap are_near clocks ∙ near_make (set (clocks_in items) k x.clock)
-        (near_set (clocks_in items) k x.clock (near_read (clocks_in items) sound.near) (omega (arith, within, as_many)) (omega (arith, old))
-        (λ j less other.
-            let one = some_site items j less in
-            let e : get_or (clocks_in items) j 0 ≡ one.site.clock = clock_there items j one.site one.there in
-            let n = near j one.site one.there other in
-            omega (arith, e, n)));
+          (near_set (clocks_in items) k x.clock (near_read (clocks_in items) sound.near) (omega (arith, within, as_many)) (omega (arith, old))
+          (λ j less other.
+          let one = some_site items j less in
+          let e : get_or (clocks_in items) j 0 ≡ one.site.clock = clock_there items j one.site one.there in
+          let n = near j one.site one.there other in
+          omega (arith, e, n)));
       packets = sound.packets;
       told = sound.told;
     }
@@ -171,7 +173,7 @@ tick_told files faults db bound running c k seconds site run text sound fits sta
       choices = [];
       ran = with_event db c (Tick k seconds);
       is = is ∙ ap (λ (b : Bool). if b then Ok (with_event db c (Tick k seconds)) else Err why.Skew)
-        (may files faults (bound + seconds) (ticked_at running k seconds site) (tick_at c.run.world.sites k seconds) after (tick_sites_of running c k seconds site stands there));
+          (may files faults (bound + seconds) (ticked_at running k seconds site) (tick_at c.run.world.sites k seconds) after (tick_sites_of running c k seconds site stands there));
       ends = refl;
       cell = tick_stands db running c k seconds site stands there;
       told = sym (append-nil text);
@@ -240,9 +242,9 @@ all_sound {D} {V} files faults bound bound' running sites seconds are sound fits
       few = omega (arith, few, same);
       hosts = sound.hosts ∙ ap hosts_of (sym same);
       sites = subst (λ (l : List (Site D V)). AreSound files faults running.hosts.items 0 (bound' + seconds) l) (sym is)
-        (sound_ticked files faults running.hosts.items 0 bound bound' seconds items fits sound.sites sound'.sites);
+          (sound_ticked files faults running.hosts.items 0 bound bound' seconds items fits sound.sites sound'.sites);
       near = ap (λ (l : List (Site D V)). are_near (clocks_in l)) is ∙ ap are_near (clocks_ticked items seconds)
-        ∙ near_make (map (λ (n : ℕ). n + seconds) (clocks_in items)) (near_all (clocks_in items) seconds (near_read (clocks_in items) sound.near));
+          ∙ near_make (map (λ (n : ℕ). n + seconds) (clocks_in items)) (near_all (clocks_in items) seconds (near_read (clocks_in items) sound.near));
       packets = sound.packets;
       told = sound.told;
     }
@@ -255,7 +257,7 @@ all_told {D} {V} files faults db bound running sites c seconds text are sound fi
       choices = [];
       ran = with_event db c (Tick_all seconds);
       is = ap (λ (b : Bool). if b then Ok (with_event db c (Tick_all seconds)) else Err why.Skew)
-        (may files faults (bound + seconds) (all_ticked running sites) (map (ticked seconds) c.run.world.sites) (all_sound files faults bound bound running sites seconds are sound fits sound) ss);
+          (may files faults (bound + seconds) (all_ticked running sites) (map (ticked seconds) c.run.world.sites) (all_sound files faults bound bound running sites seconds are sound fits sound) ss);
       ends = refl;
       cell = record {
         hosts = stands.hosts;

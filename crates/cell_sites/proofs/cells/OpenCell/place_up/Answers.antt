@@ -19,14 +19,15 @@ returns-in-Down-clause-up g c = λ c' does same stands.
     (down_at c.args.self.now c' c.in_ok-k.k c.index.result.now _ stands (site_there c.args.self.now.sites.items c.in_ok-k.k c.index.result.now c.in_ok-k.ensures.place.1 c.index.ensures) c.in-Down.is)
 
 pub returns-in-Up-clause-place : goal.returns-in-Up-clause-place
-returns-in-Up-clause-place g c =
-    (c.in_ok-k.ensures.place.0,
-    record {
-      clock = c.index.result.now.clock;
-      node = c.in-Up.field-0;
-      there = site_there c.args.self.now.sites.items c.in_ok-k.k c.index.result.now c.in_ok-k.ensures.place.1 c.index.ensures
+returns-in-Up-clause-place g c = (
+  c.in_ok-k.ensures.place.0,
+  record {
+    clock = c.index.result.now.clock;
+    node = c.in-Up.field-0;
+    there = site_there c.args.self.now.sites.items c.in_ok-k.k c.index.result.now c.in_ok-k.ensures.place.1 c.index.ensures
         ∙ ap (λ (s : _). Some (record { clock = c.index.result.now.clock; server = s })) c.in-Up.is;
-    })
+  },
+)
 
 pub returns-in-Up-clause-up : goal.returns-in-Up-clause-up
 returns-in-Up-clause-up g c = λ c' does same stands.

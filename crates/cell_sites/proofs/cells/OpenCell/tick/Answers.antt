@@ -15,10 +15,12 @@ use Rattle.cell_sites.proofs.Ticking.{fits_at, helds_ticked, refused_so, tick_sk
 use Rattle.cell_sites.proofs.cells.OpenCell.tick.Goals as goal
 
 pub returns-in_err-k-clause-refused : goal.returns-in_err-k-clause-refused
-returns-in_err-k-clause-refused g c = λ w is.
-    (refl, λ c' stands choices.
-        c.in_err-k.ensures.there c' (λ k. unless_skewed (script_database g.V.Service.database g.V.WordForms.words) c' (tick_at c'.run.world.sites k c.args.seconds) (Tick k c.args.seconds)) (cell_size g.D.Disk.files g.D.Disk.faults c.requires.0 c.args.self.now c' c.requires.1 stands)
-        ∙ ap Err (refused_so c.from_residual.result c.in_err-k.field-0.0 w c.from_residual.ensures.1 is))
+returns-in_err-k-clause-refused g c = λ w is. (
+  refl,
+  λ c' stands choices.
+      c.in_err-k.ensures.there c' (λ k. unless_skewed (script_database g.V.Service.database g.V.WordForms.words) c' (tick_at c'.run.world.sites k c.args.seconds) (Tick k c.args.seconds)) (cell_size g.D.Disk.files g.D.Disk.faults c.requires.0 c.args.self.now c' c.requires.1 stands)
+      ∙ ap Err (refused_so c.from_residual.result c.in_err-k.field-0.0 w c.from_residual.ensures.1 is),
+)
 
 pub returns-in_err-k-clause-never_falls : goal.returns-in_err-k-clause-never_falls
 returns-in_err-k-clause-never_falls g c = rises_none 0 _
@@ -31,11 +33,13 @@ overflow_add-now g c =
 
 pub returns-then-not-is_near-clause-refused : goal.returns-then-not-is_near-clause-refused
 returns-then-not-is_near-clause-refused g c = λ w is.
-    let there = site_there c.args.self.now.sites.items c.in_ok-k.k c.index.result.now c.in_ok-k.ensures.place.1 c.index.ensures in
-    (refl, λ c' stands choices.
-        c.in_ok-k.ensures.there c' (λ k. unless_skewed (script_database g.V.Service.database g.V.WordForms.words) c' (tick_at c'.run.world.sites k c.args.seconds) (Tick k c.args.seconds)) (cell_size g.D.Disk.files g.D.Disk.faults c.requires.0 c.args.self.now c' c.requires.1 stands)
-        ∙ tick_skews (script_database g.V.Service.database g.V.WordForms.words) c.args.self.now c' c.in_ok-k.k c.args.seconds c.index.result.now stands there (λ near. let t = c.is_near.ensures.1 (subst (λ (l : List _). IsNearAt l c.in_ok-k.k (c.index.result.now.clock + c.args.seconds)) (sym c.deref.ensures.value) near) in cc)
-        ∙ ap Err (let same : why.Skew ≡ w = cc in same))
+    let there = site_there c.args.self.now.sites.items c.in_ok-k.k c.index.result.now c.in_ok-k.ensures.place.1 c.index.ensures in (
+      refl,
+      λ c' stands choices.
+          c.in_ok-k.ensures.there c' (λ k. unless_skewed (script_database g.V.Service.database g.V.WordForms.words) c' (tick_at c'.run.world.sites k c.args.seconds) (Tick k c.args.seconds)) (cell_size g.D.Disk.files g.D.Disk.faults c.requires.0 c.args.self.now c' c.requires.1 stands)
+          ∙ tick_skews (script_database g.V.Service.database g.V.WordForms.words) c.args.self.now c' c.in_ok-k.k c.args.seconds c.index.result.now stands there (λ near. let t = c.is_near.ensures.1 (subst (λ (l : List _). IsNearAt l c.in_ok-k.k (c.index.result.now.clock + c.args.seconds)) (sym c.deref.ensures.value) near) in cc)
+          ∙ ap Err (let same : why.Skew ≡ w = cc in same),
+    )
 
 pub returns-then-not-is_near-clause-never_falls : goal.returns-then-not-is_near-clause-never_falls
 returns-then-not-is_near-clause-never_falls g c = rises_none 0 _
