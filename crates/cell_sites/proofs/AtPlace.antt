@@ -1,13 +1,22 @@
 -- Sites that stand for those of a model, one after the other.
-use Rattle.std.proofs.Common.{◌≡◌, ◌<◌, ◌≤◌, ◌+◌, ℕ, zero, suc, List, [], ◌∷◌, ◌++◌, Option, Some, None, length, map, set, get_or, refl, sym, ap, subst, ◌∙◌, arith}
+use Rattle.std.proofs.Common.{if◌then◌else◌, ◌≡◌, ◌<◌, ◌+◌, ℕ, zero, suc, Bool, true, false, List, [], ◌∷◌, ◌++◌, Option, Some, length, map, set, get_or, refl, sym, ap, subst, ◌∙◌, arith}
 use Rattle.std.specs.Prelude.{slice_get}
 use Rattle.disk_base.specs.Files.{Files}
 use Rattle.ubik_types.specs.declared.hosts.Host.{Host}
-use Rattle.cell_model.specs.World.{Site as ModelSite, clocks_of, tick_at, ticked}
-use Rattle.cell_sites.specs.Disks.{Held, AreRises, held}
+use Rattle.std.proofs.lemmas.Option.{slice_get_read}
+use Rattle.cell_model.specs.Node as model
+use Rattle.cell_model.specs.World.{Site as ModelSite, clocks_of, is_down, tick_at, ticked}
+use Rattle.cell_runs.specs.Script.{Cell, cell_size_of, is_down_at, node_in}
+use Rattle.ubik_node.specs.declared.nodes.Node.{Node}
+use Rattle.ubik_node.specs.Node.{up_server}
+use Rattle.cell_sites.proofs.Hosts.{length-hosts_of}
+use Rattle.cell_sites.specs.declared.cells.OpenCell.{OpenCell}
+use Rattle.cell_sites.specs.declared.sites.Server.{Server}
+use Rattle.cell_sites.specs.declared.sites.Server.TheVariants as server
+use Rattle.cell_sites.specs.Disks.{Held, AreRises}
 use Rattle.cell_sites.specs.Places.{ticked_on}
-use Rattle.cell_sites.specs.Sites.{AreSitesOf, IsSiteOf, site_disk}
-use Rattle.cell_sites.specs.Sound.{AreSound, IsSoundSite, clocks_in}
+use Rattle.cell_sites.specs.Sites.{AreSitesOf, IsSiteOf, StandsFor, server_node}
+use Rattle.cell_sites.specs.Sound.{AreSound, IsSound, IsSoundSite, clocks_in}
 use Rattle.cell_sites.specs.declared.sites.Site.{Site}
 
 pub sites_length : {D V : Type 0} (sites : List (Site D V)) (ss : List ModelSite) → AreSitesOf sites ss → length ss ≡ length sites
@@ -87,18 +96,22 @@ sound_set files faults hosts place bound (x ∷ sites) zero site are is =
     let me : place + 0 ≡ place = omega arith in
     (subst (λ (n : ℕ). IsSoundSite files faults (record { hosts = hosts; me = n }) bound site) me is, are.1)
 sound_set files faults hosts place bound (x ∷ sites) (suc k) site are is =
-    let me : place + suc k ≡ place + 1 + k = omega arith in
-    (are.0, sound_set files faults hosts (place + 1) bound sites k site are.1
-    (subst (λ (n : ℕ). IsSoundSite files faults (record { hosts = hosts; me = n }) bound site) me is))
+    let me : place + suc k ≡ place + 1 + k = omega arith in (
+      are.0,
+      sound_set files faults hosts (place + 1) bound sites k site are.1
+          (subst (λ (n : ℕ). IsSoundSite files faults (record { hosts = hosts; me = n }) bound site) me is),
+    )
 
 pub sound_push : {D V : Type 0} (files : D → Option Files) (faults : D → ℕ) (hosts : List Host) (place bound : ℕ) (sites : List (Site D V)) (site : Site D V) → AreSound files faults hosts place bound sites → IsSoundSite files faults (record { hosts = hosts; me = place + length sites }) bound site → AreSound files faults hosts place bound (sites ++ site ∷ [])
 sound_push files faults hosts place bound [] site are is =
     let me : place + 0 ≡ place = omega arith in
     (subst (λ (n : ℕ). IsSoundSite files faults (record { hosts = hosts; me = n }) bound site) me is, tt)
 sound_push files faults hosts place bound (x ∷ sites) site are is =
-    let me : place + length (x ∷ sites) ≡ place + 1 + length sites = omega arith in
-    (are.0, sound_push files faults hosts (place + 1) bound sites site are.1
-    (subst (λ (n : ℕ). IsSoundSite files faults (record { hosts = hosts; me = n }) bound site) me is))
+    let me : place + length (x ∷ sites) ≡ place + 1 + length sites = omega arith in (
+      are.0,
+      sound_push files faults hosts (place + 1) bound sites site are.1
+          (subst (λ (n : ℕ). IsSoundSite files faults (record { hosts = hosts; me = n }) bound site) me is),
+    )
 
 -- ---- disks
 
@@ -109,3 +122,34 @@ rises_none k (disk ∷ disks) = (omega arith, rises_none (k + 1) disks)
 
 pub rises_same : (before after : List Held) → after ≡ before → AreRises 0 [] before after
 rises_same before after same = subst (λ (l : List Held). AreRises 0 [] before l) (sym same) (rises_none 0 before)
+
+-- ---- a server that was read
+
+pub site_there : {X : Type 0} (xs : List X) (k : ℕ) (x : X) → k < length xs → x ≡ get_or xs k x → slice_get xs k ≡ Some x
+site_there xs k x less is = slice_get_read xs (length xs) k x refl less is
+
+pub down_at : {D V : Type 0} (running : OpenCell D V) (c : Cell) (k : ℕ) (site : Site D V) (disk : D) → StandsFor running c → slice_get running.sites.items k ≡ Some site → site.server ≡ server.Down disk → is_down_at c k ≡ true
+down_at {D} {V} running c k site disk stands there is =
+    let at = site_at running.sites.items c.run.world.sites k site stands.sites there in
+    ap (λ (o : Option ModelSite). is_down (node_in o)) at.there ∙ ap is_down (at.is.node ∙ ap (λ (s : Server D V). server_node s) is)
+
+is_up : (halted : Bool) (u : model.Server) → is_down (if halted then model.Halted (model.halted_from u) else model.Up u) ≡ false
+is_up true u = refl
+is_up false u = refl
+
+pub up_at : {D V : Type 0} (running : OpenCell D V) (c : Cell) (k : ℕ) (site : Site D V) (n : Node D V) → StandsFor running c → slice_get running.sites.items k ≡ Some site → site.server ≡ server.Up n → is_down_at c k ≡ false
+up_at {D} {V} running c k site n stands there is =
+    let at = site_at running.sites.items c.run.world.sites k site stands.sites there in
+    ap (λ (o : Option ModelSite). is_down (node_in o)) at.there ∙ ap is_down (at.is.node ∙ ap (λ (s : Server D V). server_node s) is)
+    ∙ is_up n.halted (up_server n)
+
+pub cell_size : {D V : Type 0} (files : D → Option Files) (faults : D → ℕ) (bound : ℕ) (running : OpenCell D V) (c : Cell) → IsSound files faults bound running → StandsFor running c → cell_size_of c ≡ length running.sites.items
+cell_size files faults bound running c sound stands =
+    ap (λ (l : List Host). length l) (stands.hosts ∙ sound.hosts) ∙ length-hosts_of (length running.sites.items)
+
+pub get_set_before : {X : Type 0} (xs : List X) (i k : ℕ) (y : X) → i < k → slice_get (set xs i y) k ≡ slice_get xs k
+get_set_before [] i k y less = refl
+get_set_before (x ∷ xs) zero zero y less = absurd (omega (arith, less))
+get_set_before (x ∷ xs) zero (suc k) y less = refl
+get_set_before (x ∷ xs) (suc i) zero y less = absurd (omega (arith, less))
+get_set_before (x ∷ xs) (suc i) (suc k) y less = get_set_before xs i k y (omega (arith, less))

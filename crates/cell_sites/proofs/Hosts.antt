@@ -1,9 +1,8 @@
 -- The hosts of a cell, in their order.
-use Rattle.std.proofs.Common.{◌≡◌, ◌<◌, ◌≤◌, ◌+◌, ℕ, zero, suc, List, [], ◌∷◌, length, get_or, refl, sym, ap, subst, ◌∙◌, arith}
+use Rattle.std.proofs.Common.{◌≡◌, ◌<◌, ◌+◌, ℕ, zero, suc, List, [], ◌∷◌, ◌++◌, length, get_or, refl, sym, ap, subst, ◌∙◌, arith}
 use Rattle.std.specs.Prelude.{Contains, IsPermutation}
 use Rattle.std.proofs.lemmas.List.Sorted.{Contains-permutation, IsPermutation-sym}
 use Rattle.ubik_types.specs.declared.hosts.Host.{Host}
-use Rattle.ubik_types.specs.declared.limits.TheConstants.{MAXSERVERS}
 use Rattle.ubik_types.specs.Hosts.{IsAscending, IsCell}
 use Rattle.cell_runs.specs.Script.{hosts_from, hosts_of}
 
@@ -66,8 +65,8 @@ same_ascending (x ∷ xs) (y ∷ ys) up up' to from =
     let Q : Host → Type 0 = λ h. (z : Host) → Contains (x ∷ xs) z → Contains (h ∷ ys) z in
     let R : Host → Type 0 = λ h. (z : Host) → Contains (h ∷ ys) z → Contains (x ∷ xs) z in
     let rest : xs ≡ ys =
-        same_ascending xs ys (rest_ascending x xs up) (rest_ascending y ys up')
-        (behind x xs ys up (subst Q (sym is) to)) (behind x ys xs (subst P (sym is) up') (subst R (sym is) from)) in
+    same_ascending xs ys (rest_ascending x xs up) (rest_ascending y ys up')
+    (behind x xs ys up (subst Q (sym is) to)) (behind x ys xs (subst P (sym is) up') (subst R (sym is) from)) in
     ap (λ (h : Host). h ∷ xs) is ∙ ap (λ (l : List Host). y ∷ l) rest
 
 -- the cell that is made of the hosts of a script has them in their order
@@ -76,3 +75,16 @@ cell_hosts n hosts cell are is same =
     sym (same_ascending hosts cell (subst IsAscending (sym are) (ascending_from 0 n)) is.ascending
     (λ z there. Contains-permutation hosts cell z same there)
     (λ z there. Contains-permutation cell hosts z (IsPermutation-sym hosts cell same) there))
+
+next_from : (k n : ℕ) → hosts_from k n ++ record { 0 = 167772161 + (k + n) } ∷ [] ≡ hosts_from k (suc n)
+next_from k zero = ap (λ (m : ℕ). record { 0 = 167772161 + m } ∷ []) (omega arith)
+next_from k (suc n) =
+    let same : k + suc n ≡ k + 1 + n = omega arith in
+    ap (λ (m : ℕ). record { 0 = 167772161 + k } ∷ (hosts_from (k + 1) n ++ record { 0 = 167772161 + m } ∷ [])) same
+    ∙ ap (λ (l : List Host). record { 0 = 167772161 + k } ∷ l) (next_from (k + 1) n)
+
+-- the host behind the first ones
+pub next_host : (n : ℕ) → hosts_of n ++ record { 0 = 167772161 + n } ∷ [] ≡ hosts_of (n + 1)
+next_host n =
+    let same : n + 1 ≡ suc n = omega arith in
+    ap (λ (m : ℕ). hosts_of n ++ record { 0 = 167772161 + m } ∷ []) (omega arith) ∙ next_from 0 n ∙ ap hosts_of (sym same)

@@ -1,8 +1,8 @@
 -- Clocks that are near, before and after a tick.
-use Rattle.std.proofs.Common.{◌≡◌, ◌≢◌, ◌<◌, ◌≤◌, ◌+◌, ◌&&◌, ◌⊎◌, ℕ, zero, suc, Bool, true, false, List, [], ◌∷◌, length, map, set, get_or, inl, inr, refl, sym, ap, subst, ◌∙◌, arith}
-use Rattle.std.specs.Prelude.{All, nat_le, nat_lt}
+use Rattle.std.proofs.Common.{◌≡◌, ◌≢◌, ◌<◌, ◌≤◌, ◌+◌, ◌&&◌, ◌⊎◌, ℕ, zero, suc, Bool, true, false, List, [], ◌∷◌, length, map, set, get_or, inl, inr, refl, ap, ◌∙◌, arith}
+use Rattle.std.specs.Prelude.{nat_le, nat_lt}
 use Rattle.std.specs.List.{list_all}
-use Rattle.std.proofs.lemmas.Bool.{leb-true, le-leb, eq-eqb}
+use Rattle.std.proofs.lemmas.Bool.{leb-true, le-leb}
 use Rattle.std.proofs.lemmas.List.{get_or-set_same, get_or-set_other}
 use Rattle.std.proofs.lemmas.List.Sums.{AllPass-from_list_all, list_all-from_AllPass}
 use Rattle.ubik_types.specs.declared.limits.TheConstants.{MAX_MOMENT, SKEW}
@@ -32,9 +32,9 @@ pub near_make : (clocks : List ℕ) → AreNear clocks → are_near clocks ≡ t
 unfolding within_all
 near_make clocks near =
     list_all-from_AllPass (within_all clocks) clocks (λ i d lt.
-        list_all-from_AllPass (λ (b : ℕ). nat_le (get_or clocks i d) (b + SKEW)) clocks (λ j e lt'.
-            le-leb (get_or clocks i d) (get_or clocks j e + SKEW)
-            (let n = near i j lt lt' in omega (arith, n, any_default clocks i d lt, any_default clocks j e lt'))))
+    list_all-from_AllPass (λ (b : ℕ). nat_le (get_or clocks i d) (b + SKEW)) clocks (λ j e lt'.
+    le-leb (get_or clocks i d) (get_or clocks j e + SKEW)
+    (let n = near i j lt lt' in omega (arith, n, any_default clocks i d lt, any_default clocks j e lt'))))
 
 same_or_not : (i k : ℕ) → (i ≡ k) ⊎ (i ≢ k)
 same_or_not zero zero = inl refl
@@ -53,28 +53,28 @@ near_set clocks k now near there later ok i j lt lt' =
     let at : get_or (set clocks k now) k 0 ≡ now = get_or-set_same clocks k now 0 there in
     let same : length (set clocks k now) ≡ length clocks = length_set clocks k now in
     elim (same_or_not i k) [
-      inl is ↦ elim (same_or_not j k) [
-        inl is' ↦
-          let x : get_or (set clocks k now) i 0 ≡ now = ap (λ (n : ℕ). get_or (set clocks k now) n 0) is ∙ at in
-          let y : get_or (set clocks k now) j 0 ≡ now = ap (λ (n : ℕ). get_or (set clocks k now) n 0) is' ∙ at in
-          omega (arith, x, y)
+      | inl is ↦ elim (same_or_not j k) [
+        | inl is' ↦
+            let x : get_or (set clocks k now) i 0 ≡ now = ap (λ (n : ℕ). get_or (set clocks k now) n 0) is ∙ at in
+            let y : get_or (set clocks k now) j 0 ≡ now = ap (λ (n : ℕ). get_or (set clocks k now) n 0) is' ∙ at in
+            omega (arith, x, y)
         | inr other' ↦
-          let x : get_or (set clocks k now) i 0 ≡ now = ap (λ (n : ℕ). get_or (set clocks k now) n 0) is ∙ at in
-          let y : get_or (set clocks k now) j 0 ≡ get_or clocks j 0 = get_or-set_other clocks k j now 0 other' in
-          let n = ok j (omega (arith, lt', same)) other' in
-          omega (arith, x, y, n)
+            let x : get_or (set clocks k now) i 0 ≡ now = ap (λ (n : ℕ). get_or (set clocks k now) n 0) is ∙ at in
+            let y : get_or (set clocks k now) j 0 ≡ get_or clocks j 0 = get_or-set_other clocks k j now 0 other' in
+            let n = ok j (omega (arith, lt', same)) other' in
+            omega (arith, x, y, n)
       ]
       | inr other ↦ elim (same_or_not j k) [
-        inl is' ↦
-          let x : get_or (set clocks k now) i 0 ≡ get_or clocks i 0 = get_or-set_other clocks k i now 0 other in
-          let y : get_or (set clocks k now) j 0 ≡ now = ap (λ (n : ℕ). get_or (set clocks k now) n 0) is' ∙ at in
-          let n = near i k (omega (arith, lt, same)) there in
-          omega (arith, x, y, n, later)
+        | inl is' ↦
+            let x : get_or (set clocks k now) i 0 ≡ get_or clocks i 0 = get_or-set_other clocks k i now 0 other in
+            let y : get_or (set clocks k now) j 0 ≡ now = ap (λ (n : ℕ). get_or (set clocks k now) n 0) is' ∙ at in
+            let n = near i k (omega (arith, lt, same)) there in
+            omega (arith, x, y, n, later)
         | inr other' ↦
-          let x : get_or (set clocks k now) i 0 ≡ get_or clocks i 0 = get_or-set_other clocks k i now 0 other in
-          let y : get_or (set clocks k now) j 0 ≡ get_or clocks j 0 = get_or-set_other clocks k j now 0 other' in
-          let n = near i j (omega (arith, lt, same)) (omega (arith, lt', same)) in
-          omega (arith, x, y, n)
+            let x : get_or (set clocks k now) i 0 ≡ get_or clocks i 0 = get_or-set_other clocks k i now 0 other in
+            let y : get_or (set clocks k now) j 0 ≡ get_or clocks j 0 = get_or-set_other clocks k j now 0 other' in
+            let n = near i j (omega (arith, lt, same)) (omega (arith, lt', same)) in
+            omega (arith, x, y, n)
       ]
     ]
 
@@ -117,7 +117,7 @@ both false b is is' = is
 pub moments_make : (clocks : List ℕ) → ((k : ℕ) → k < length clocks → (0 < get_or clocks k 0) × (get_or clocks k 0 ≤ MAX_MOMENT)) → are_moments clocks ≡ true
 moments_make clocks all =
     list_all-from_AllPass (λ (a : ℕ). nat_lt 0 a && nat_le a MAX_MOMENT) clocks (λ k d lt.
-        let n = all k lt in
-        let e = any_default clocks k d lt in
-        both (nat_lt 0 (get_or clocks k d)) (nat_le (get_or clocks k d) MAX_MOMENT)
-        (le-leb 1 (get_or clocks k d) (omega (arith, n.0, e))) (le-leb (get_or clocks k d) MAX_MOMENT (omega (arith, n.1, e))))
+    let n = all k lt in
+    let e = any_default clocks k d lt in
+    both (nat_lt 0 (get_or clocks k d)) (nat_le (get_or clocks k d) MAX_MOMENT)
+    (le-leb 1 (get_or clocks k d) (omega (arith, n.0, e))) (le-leb (get_or clocks k d) MAX_MOMENT (omega (arith, n.1, e))))

@@ -1,9 +1,8 @@
 -- A cell that is opened server by server.
-use Rattle.std.proofs.Common.{if◌then◌else◌, ◌≡◌, ◌≢◌, ◌<◌, ◌≤◌, ◌+◌, ◌++◌, ℕ, zero, suc, Bool, true, false, List, [], ◌∷◌, length, map, Option, Some, None, IfSome, refl, sym, ap, subst, ◌∙◌, arith}
+use Rattle.std.proofs.Common.{if◌then◌else◌, ◌≡◌, ◌≢◌, ◌<◌, ◌≤◌, ◌+◌, ◌++◌, ℕ, Bool, true, false, List, [], ◌∷◌, length, map, Option, Some, None, IfSome, refl, sym, ap, subst, ◌∙◌, arith}
 use Rattle.std.specs.Prelude.{◌==◌}
 use Rattle.std.proofs.lemmas.Bool.{eq-eqb, ne_eqb}
 use Rattle.std.proofs.lemmas.List.{map-append}
-use Rattle.std.proofs.lemmas.Grind.{flat_map-append}
 use Rattle.disk_base.specs.Files.{Files, no_files}
 use Rattle.cell_model.specs.Durable.{Durable, no_database}
 use Rattle.cell_model.specs.Node as model
@@ -66,13 +65,17 @@ count_append k [] more = omega arith
 count_append k (Tells h ∷ items) more = let rest = count_append k items more in omega (arith, rest)
 count_append k (Shows server clock showing ∷ items) more = count_append k items more
 
+-- one where it is so
+abbrev of : Bool → ℕ
+of b = if b then 1 else 0
+
 -- nothing is told of the servers below the first, and of those behind the last
 count_below : (j k : ℕ) (failed : List Bool) → j < k → fault_count j (map Tells (first_seen k failed)) ≡ 0
 count_below j k [] less = refl
 count_below j k (false ∷ failed) less = count_below j (k + 1) failed (omega arith)
 count_below j k (true ∷ failed) less =
     let rest = count_below j (k + 1) failed (omega arith) in
-    let one : (if k == j then 1 else 0) ≡ 0 = ap (λ (b : Bool). if b then 1 else 0) (ne_eqb k j (λ is. absurd (omega (arith, is)))) in
+    let one : of (k == j) ≡ 0 = ap of (ne_eqb k j (λ is. absurd (omega (arith, is)))) in
     omega (arith, rest, one)
 
 count_behind : (j k : ℕ) (failed : List Bool) → k + length failed ≤ j → fault_count j (map Tells (first_seen k failed)) ≡ 0
@@ -80,13 +83,13 @@ count_behind j k [] past = refl
 count_behind j k (false ∷ failed) past = count_behind j (k + 1) failed (omega arith)
 count_behind j k (true ∷ failed) past =
     let rest = count_behind j (k + 1) failed (omega arith) in
-    let one : (if k == j then 1 else 0) ≡ 0 = ap (λ (b : Bool). if b then 1 else 0) (ne_eqb k j (λ is. absurd (omega (arith, is)))) in
+    let one : of (k == j) ≡ 0 = ap of (ne_eqb k j (λ is. absurd (omega (arith, is)))) in
     omega (arith, rest, one)
 
-count_at : (j k : ℕ) (fails : Bool) → j ≡ k → fault_count j (map Tells (first_seen k (fails ∷ []))) ≡ (if fails then 1 else 0)
+count_at : (j k : ℕ) (fails : Bool) → j ≡ k → fault_count j (map Tells (first_seen k (fails ∷ []))) ≡ of fails
 count_at j k false is = refl
 count_at j k true is =
-    let one : (if k == j then 1 else 0) ≡ 1 = ap (λ (b : Bool). if b then 1 else 0) (eq-eqb k j (sym is)) in
+    let one : of (k == j) ≡ 1 = ap of (eq-eqb k j (sym is)) in
     omega (arith, one)
 
 -- more is told, which is no fault of these servers
@@ -101,12 +104,13 @@ rises_push k items more (a ∷ before) (b ∷ after) x y are none last =
     let P : ℕ → Type 0 = λ n. x.faults + fault_count n (items ++ more) ≤ y.faults in
     let same : k + length (a ∷ before) ≡ k + 1 + length before = omega arith in
     let sum = count_append k items more in
-    let zero_more = none k (omega arith) in
-    (omega (arith, are.0, sum, zero_more),
-    rises_push (k + 1) items more before after x y are.1 (λ j less. none j (omega (arith, less))) (subst P same last))
+    let zero_more = none k (omega arith) in (
+      omega (arith, are.0, sum, zero_more),
+      rises_push (k + 1) items more before after x y are.1 (λ j less. none j (omega (arith, less))) (subst P same last),
+    )
 
 -- one more server was opened
-pub rises_more : (failed : List Bool) (fails : Bool) (before after : List Held) (x y : Held) → length failed ≡ length before → AreRises 0 (opening_items failed) before after → x.faults + (if fails then 1 else 0) ≤ y.faults → AreRises 0 (opening_items (failed ++ fails ∷ [])) (before ++ x ∷ []) (after ++ y ∷ [])
+pub rises_more : (failed : List Bool) (fails : Bool) (before after : List Held) (x y : Held) → length failed ≡ length before → AreRises 0 (opening_items failed) before after → x.faults + of fails ≤ y.faults → AreRises 0 (opening_items (failed ++ fails ∷ [])) (before ++ x ∷ []) (after ++ y ∷ [])
 rises_more failed fails before after x y same are last =
     let more = map Tells (first_seen (length failed) (fails ∷ [])) in
     let old = count_behind (0 + length before) 0 failed (omega (arith, same)) in
@@ -124,5 +128,6 @@ choices_of [] = []
 choices_of (fails ∷ failed) = record sound { fails = fails } ∷ choices_of failed
 
 pub chosen : (failed : List Bool) → fails_at (length failed) (choices_of failed) ≡ failed
+unfolding choices_of
 chosen [] = refl
 chosen (fails ∷ failed) = ap (λ (l : List Bool). fails ∷ l) (chosen failed)

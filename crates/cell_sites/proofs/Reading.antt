@@ -7,9 +7,8 @@ use Rattle.cell_model.specs.Node as model
 use Rattle.cell_model.specs.Step.{Member}
 use Rattle.cell_model.specs.World.{Site as ModelSite}
 use Rattle.cell_runs.specs.Script.{Cell}
-use Rattle.ubik_node.specs.declared.nodes.Node.{Node}
 use Rattle.ubik_node.specs.Database.{durable_of}
-use Rattle.ubik_node.specs.Node.{node_of, up_server}
+use Rattle.ubik_node.specs.Node.{up_server}
 use Rattle.cell_sites.specs.Disks.{AreReadBy, IsReadBy, ReadsNode, held}
 use Rattle.cell_sites.specs.Sites.{AreSitesOf, StandsFor, helds, server_disk, server_node, site_disk}
 use Rattle.cell_sites.specs.Sound.{AreSound, IsSound, IsSoundServer}
@@ -39,10 +38,11 @@ pub sites_read : {D V : Type 0} (files : D → Option Files) (faults : D → ℕ
 sites_read files faults hosts place bound [] [] sound are = tt
 sites_read files faults hosts place bound [] (s ∷ ss) sound are = absurd are
 sites_read files faults hosts place bound (site ∷ sites) [] sound are = absurd are
-sites_read files faults hosts place bound (site ∷ sites) (s ∷ ss) sound are =
-    (subst (λ (n : model.Node). IsReadBy n (held files faults (site_disk site))) (sym are.0.node)
-    (server_reads files faults (record { hosts = hosts; me = place }) site.clock site.server sound.0.server),
-    sites_read files faults hosts (place + 1) bound sites ss sound.1 are.1)
+sites_read files faults hosts place bound (site ∷ sites) (s ∷ ss) sound are = (
+  subst (λ (n : model.Node). IsReadBy n (held files faults (site_disk site))) (sym are.0.node)
+      (server_reads files faults (record { hosts = hosts; me = place }) site.clock site.server sound.0.server),
+  sites_read files faults hosts (place + 1) bound sites ss sound.1 are.1,
+)
 
 -- between two lines
 pub cell_reads : {D V : Type 0} (files : D → Option Files) (faults : D → ℕ) (bound : ℕ) (running : OpenCell D V) (c : Cell) → IsSound files faults bound running → StandsFor running c → AreReadBy c.run.world.sites (helds files faults running)

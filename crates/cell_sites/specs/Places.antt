@@ -1,8 +1,7 @@
 -- A server at a place of a running cell.
-use Rattle.std.specs.Prelude.{◌≡◌, ◌≢◌, ◌≤◌, ◌+◌, ℕ, Option, Some, List, slice_get}
+use Rattle.std.specs.Prelude.{◌≡◌, ◌≢◌, ◌≤◌, ◌+◌, ℕ, Some, List, slice_get}
 use Rattle.ubik_types.specs.declared.limits.TheConstants.{SKEW}
 use Rattle.cell_sites.specs.declared.cells.OpenCell.{OpenCell}
-use Rattle.cell_sites.specs.declared.sites.Server.{Server}
 use Rattle.cell_sites.specs.declared.sites.Server.TheVariants as server
 use Rattle.cell_sites.specs.declared.sites.Site.{Site}
 use Rattle.ubik_node.specs.declared.nodes.Node.{Node}

@@ -1,5 +1,6 @@
 //! A running cell: opened server by server, and closed.
-ghost use Rattle.std.specs.Prelude.{◌≡◌, ◌≢◌, ◌++◌, ◌≤◌, ◌<◌, ◌+◌, ◌∷◌, ℕ, List, [], length, map, IfOk, OnOk, Option, Some, vec_capacity, vec_len};
+ghost use Rattle.std.specs.Prelude.{◌≡◌, ◌≢◌, ◌++◌, ◌≤◌, ◌<◌, ◌+◌, ◌∷◌, ℕ, List};
+ghost use Rattle.std.specs.Prelude.{[], length, map, IfOk, OnOk, Option, Some, vec_capacity, vec_len};
 ghost use Rattle.std.specs.String.{string_bytes};
 ghost use Rattle.disk_base.specs.Files.{Files, no_files};
 ghost use Rattle.ubik_types.specs.declared.hosts.Host.{Host};
@@ -17,6 +18,7 @@ ghost use Rattle.cell_sites.specs.declared.cells.OpenCell.{OpenCell as AnOpenCel
 
 use crate::packets::Packets;
 use crate::sites::{Server, Site};
+use cell_model::law_voters_vote;
 use cell_runs::{Mark, tell_mark};
 use db_image::WordForms;
 use disk_base::{Refused, StopDisk};
@@ -71,12 +73,7 @@ impl<D: StopDisk, V: WordForms> OpenCell<D, V> {
 
     /// Opens the next server over its disk, at a clock. Where the disk fails the server stays down, which is told, and its disk is
     /// revived. The disk has its place in the cell also where memory ran out.
-    pub fn open_next(
-        &mut self,
-        disk: D,
-        clock: u32,
-        text: &mut String,
-    ) -> Result<(), NoMemory>
+    pub fn open_next(&mut self, disk: D, clock: u32, text: &mut String) -> Result<(), NoMemory>
         requires moment { IsMoment clock }
         requires room { HasRoom self.old }
         requires next { length self.old.sites.items < length self.old.hosts.items }
@@ -142,10 +139,12 @@ fn open_server<D: StopDisk, V: WordForms>(
     requires me { me < length hosts.now }
     requires moment { IsMoment clock }
     requires empty { D.files disk ≡ Some no_files }
-    ensures told { OnOk result.1 (ServerOpened D.faults (script_database V.database V.words) hosts.now me clock disk result.0 (string_bytes text.old) (string_bytes text.new)) }
+    ensures told { OnOk result.1 (ServerOpened D.faults (script_database V.database V.words) hosts.now me clock disk result.0
+        (string_bytes text.old) (string_bytes text.new)) }
     ensures sound { OnOk result.1 (IsSoundServer D.files D.faults (record { hosts = hosts.now; me = me }) clock result.0) }
     ensures kept { IsEmptied D.files D.faults disk (server_disk result.0) }
 {
+    law_voters_vote();
     let Ok(cell) = Cell::new(alloc, hosts) else {
         return (Server::Down(disk), Err(NoMemory));
     };

@@ -22,13 +22,17 @@ impl<D: StopDisk, V: WordForms> OpenCell<D, V> {
     pub fn show(&self, server: u64, text: &mut String) -> Result<(), LineFault>
         requires { (bound : ℕ) × IsSound D.files D.faults bound self.now }
         ensures told { result ≡ Ok tt → (c : Cell) → StandsFor self.now c →
-            CellTold D.files D.faults (script_database V.database V.words) (λ choices. run_in (script_database V.database V.words) c choices (line.Show server)) None self.now self.now (string_bytes text.old) (string_bytes text.new) }
+            CellTold D.files D.faults (script_database V.database V.words)
+            (λ choices. run_in (script_database V.database V.words) c choices (line.Show server)) None self.now self.now
+            (string_bytes text.old) (string_bytes text.new) }
         ensures limit { (which : Which) → result ≢ Err (LineFault.Limit which) }
         ensures refused { (why : Why) → result ≡ Err (LineFault.Refused why) →
-            (c : Cell) → StandsFor self.now c → IsRefused why (λ choices. run_in (script_database V.database V.words) c choices (line.Show server)) }
+            (c : Cell) → StandsFor self.now c → IsRefused why
+            (λ choices. run_in (script_database V.database V.words) c choices (line.Show server)) }
         ensures quiet { (why : Why) → result ≡ Err (LineFault.Refused why) → string_bytes text.new ≡ string_bytes text.old }
         ensures short { result ≡ Err LineFault.NoMemory → (c : Cell) → StandsFor self.now c →
-            IsShort D.files D.faults (λ choices. run_in (script_database V.database V.words) c choices (line.Show server)) c self.now self.now }
+            IsShort D.files D.faults
+            (λ choices. run_in (script_database V.database V.words) c choices (line.Show server)) c self.now self.now }
     {
         let k = self.place(server)?;
         let site = &self.sites[k];

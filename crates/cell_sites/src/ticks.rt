@@ -24,10 +24,14 @@ impl<D: StopDisk, V: WordForms> OpenCell<D, V> {
     pub fn tick(&mut self, server: u64, seconds: u32) -> Result<(), Why>
         requires { (bound : ℕ) × IsSound D.files D.faults bound self.old × (bound + seconds ≤ MAX_MOMENT) }
         ensures told { result ≡ Ok tt → (c : Cell) (text : List ℕ) → StandsFor self.old c →
-            CellTold D.files D.faults (script_database V.database V.words) (λ choices. run_in (script_database V.database V.words) c choices (line.Tick server seconds)) None self.old self.new text text }
+            CellTold D.files D.faults (script_database V.database V.words)
+            (λ choices. run_in (script_database V.database V.words) c choices (line.Tick server seconds))
+            None self.old self.new text text }
         ensures refused { (why : AWhy) → result ≡ Err why → (self.new ≡ self.old)
-            × ((c : Cell) → StandsFor self.old c → IsRefused why (λ choices. run_in (script_database V.database V.words) c choices (line.Tick server seconds))) }
-        ensures sound { result ≡ Ok tt → (bound : ℕ) → IsSound D.files D.faults bound self.old → IsSound D.files D.faults (bound + seconds) self.new }
+            × ((c : Cell) → StandsFor self.old c → IsRefused why
+            (λ choices. run_in (script_database V.database V.words) c choices (line.Tick server seconds))) }
+        ensures sound { result ≡ Ok tt → (bound : ℕ) → IsSound D.files D.faults bound self.old
+            → IsSound D.files D.faults (bound + seconds) self.new }
         ensures never_falls { AreRises 0 [] (helds D.files D.faults self.old) (helds D.files D.faults self.new) }
         ensures same { length self.new.sites.items ≡ length self.old.sites.items }
     {
@@ -44,7 +48,9 @@ impl<D: StopDisk, V: WordForms> OpenCell<D, V> {
     pub fn tick_all(&mut self, seconds: u32)
         requires { (bound : ℕ) × IsSound D.files D.faults bound self.old × (bound + seconds ≤ MAX_MOMENT) }
         ensures told { (c : Cell) (text : List ℕ) → StandsFor self.old c →
-            CellTold D.files D.faults (script_database V.database V.words) (λ choices. run_in (script_database V.database V.words) c choices (line.TickAll seconds)) None self.old self.new text text }
+            CellTold D.files D.faults (script_database V.database V.words)
+            (λ choices. run_in (script_database V.database V.words) c choices (line.TickAll seconds))
+            None self.old self.new text text }
         ensures sound { (bound : ℕ) → IsSound D.files D.faults bound self.old → IsSound D.files D.faults (bound + seconds) self.new }
         ensures never_falls { AreRises 0 [] (helds D.files D.faults self.old) (helds D.files D.faults self.new) }
         ensures same { length self.new.sites.items ≡ length self.old.sites.items }
