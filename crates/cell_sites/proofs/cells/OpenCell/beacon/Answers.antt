@@ -9,7 +9,6 @@ use Rattle.cell_script.specs.declared.lines.Line.TheVariants as line
 use Rattle.cell_sites.specs.declared.faults.LineFault.TheVariants as fault
 use Rattle.cell_sites.proofs.AtPlace.{rises_same}
 use Rattle.cell_sites.proofs.Lining.{short_as, size_of, told_as}
-use Rattle.cell_sites.proofs.Soundly.{host_count}
 use Rattle.cell_sites.proofs.cells.OpenCell.beacon.Goals as goal
 
 pub returns-in_err-k-clause-refused : goal.returns-in_err-k-clause-refused
