@@ -1,0 +1,46 @@
+-- The durable state of a server, and the calls that change it: each leads from one durable state to one
+-- other, whole (own).
+use Rattle.std.specs.Prelude.{ℕ, ◌+◌, Bool, if◌then◌else◌, List, [], length}
+use Rattle.ubik_types.specs.declared.images.Change.{Change}
+use Rattle.ubik_types.specs.declared.versions.Version.{Version}
+use Rattle.ubik_types.specs.Version.{zero_version}
+
+pub record Durable : Type 0 where
+  pub version : Version
+  pub image : List ℕ
+
+abbrev pub durable : Version → List ℕ → Durable
+durable version image = record { version = version; image = image }
+
+-- of a database that nothing was written to
+abbrev pub no_database : Durable
+no_database = record { version = zero_version; image = [] }
+
+pub data DurableCall : Type 0 where
+  -- changes, one after the other, under another version; and the image that they lead to
+  Commit : (version : Version) → (changes : List Change) → (image : List ℕ) → DurableCall
+  -- the same image under another version
+  Relabel : (version : Version) → DurableCall
+  -- a whole image in place of the one before, under another version
+  Install : (version : Version) → (image : List ℕ) → DurableCall
+
+abbrev pub durable_after : Durable → DurableCall → Durable
+durable_after d (Commit version changes image) = durable version image
+durable_after d (Relabel version) = record d { version = version }
+durable_after d (Install version image) = durable version image
+
+abbrev pub version_after : DurableCall → Version
+version_after (Commit version changes image) = version
+version_after (Relabel version) = version
+version_after (Install version image) = version
+
+-- How many changes of its files a durable call asks of a disk, beside those that keep and end its log: an install cuts the
+-- image to nothing, and puts it anew.
+abbrev pub change_count : DurableCall → ℕ
+change_count (Commit version changes image) = length changes
+change_count (Relabel version) = 0
+change_count (Install version image) = 2
+
+-- How many changing calls of the disk a durable call makes: one more where the database file has no label yet.
+abbrev pub disk_calls : (has_label : Bool) → DurableCall → ℕ
+disk_calls has_label call = 13 + change_count call + (if has_label then 0 else 1)

@@ -1,0 +1,7 @@
+pub mod Applied
+pub mod Closing
+pub mod Ending
+pub mod Heads
+pub mod Redoing
+pub mod Redone
+pub mod Telling
