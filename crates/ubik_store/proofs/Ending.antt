@@ -9,7 +9,6 @@ use Rattle.ubik_types.specs.declared.images.Change.TheVariants.{Put, Cut}
 use Rattle.ubik_types.specs.declared.versions.Version.{Version}
 use Rattle.ubik_types.specs.Version.{IsVersion}
 use Rattle.ubik_types.specs.Image.{extended, changed, effect}
-use Rattle.durable_state.specs.Durable.{durable}
 use Rattle.disk_base.specs.declared.disks.Disk.{Ghosts}
 use Rattle.disk_base.specs.declared.disks.FileNo.TheVariants.{Database, Log}
 use Rattle.disk_base.specs.Files.{Files, laid}
@@ -138,7 +137,7 @@ log_there n change (Some fs) new is there = let P : Option Files → Type 0 = λ
 abbrev pub LeavesEffect : {D : Type 0} (g : Ghosts D) (old new : D) (v : Version) (changes : List Change) → Files → Type 0
 LeavesEffect g old new v changes fs =
     (told : List Change) → LeadsTo fs told v changes → Narrows (MayRedo fs told) (g.may_leave old)
-    → LeavesOnly g.steps g.left_since old new (λ c. StandsFor c (durable v (effect (image_of fs.database) told)))
+    → LeavesOnly g.steps g.left_since old new (λ c. StandsFor c v (effect (image_of fs.database) told))
 
 -- and then nothing is pending
 abbrev pub SettlesAfter : {D : Type 0} (g : Ghosts D) (old new : D) (v : Version) (changes : List Change) → Files → Type 0
@@ -147,20 +146,20 @@ SettlesAfter g old new v changes fs =
 
 module _ (fs : Files) (told changes : List Change) (v : Version) (leads : LeadsTo fs told v changes) where
   -- with the log there still
-  pub stands_by_log : (c : Files) → MayRedo fs told c → StandsFor c (durable v (effect (image_of fs.database) told))
+  pub stands_by_log : (c : Files) → MayRedo fs told c → StandsFor c v (effect (image_of fs.database) told)
   stands_by_log c may =
-      subst (λ (image : List ℕ). StandsFor c (durable v image)) (redone told (image_of fs.database) (image_of c.database) may.redoes)
+      subst (λ (image : List ℕ). StandsFor c v image) (redone told (image_of fs.database) (image_of c.database) may.redoes)
       (by_log c told v (subst (λ (log : List ℕ). IsCommitted log told v) (sym may.log) leads.committed) may.fits)
 
   -- and by the label, once the changes are made
   stands_by_label : (c d : Files) → IsVersion v → IsSeamless (length (image_of fs.database)) changes → MayRedo fs told d → d.database ≡ finished changes v fs.database
-      → c ≡ with_log c.log d → IsDiscarded c.log → StandsFor c (durable v (effect (image_of fs.database) told))
+      → c ≡ with_log c.log d → IsDiscarded c.log → StandsFor c v (effect (image_of fs.database) told)
   stands_by_label c d is seamless may finished_is same discarded =
       let file : c.database ≡ finished changes v fs.database = ap (λ (f : Files). f.database) same ∙ finished_is in
       let image : image_of c.database ≡ effect (image_of fs.database) told = ap image_of file ∙ image_finished changes v fs.database seamless ∙ leads.same in
       let fits : length (finished changes v fs.database) ≤ MAX_DATABASE_LEN = subst (λ (xs : List ℕ). length xs ≤ MAX_DATABASE_LEN) finished_is may.fits in
       let version : version_of_database c.database ≡ Some v = ap version_of_database file ∙ version_labelled v (applied changes (with_head fs.database)) is fits in
-      subst (λ (xs : List ℕ). StandsFor c (durable v xs)) image (by_label c v discarded version)
+      subst (λ (xs : List ℕ). StandsFor c v xs) image (by_label c v discarded version)
 
   same_log : (c d : Files) → MayRedo fs told d → c ≡ with_log c.log d → c.log ≡ fs.log → MayRedo fs told c
   same_log c d may same log = record {
@@ -172,7 +171,7 @@ module _ (fs : Files) (told changes : List Change) (v : Version) (leads : LeadsT
 
   -- while the log is ended
   pub stands_either : (left : Files → Type 0) → IsVersion v → IsSeamless (length (image_of fs.database)) changes → Narrows (MayRedo fs told) left → OnlyIn Database (finished changes v fs.database) left
-      → (c : Files) → After (HasLogOrNone fs.log) left c → StandsFor c (durable v (effect (image_of fs.database) told))
+      → (c : Files) → After (HasLogOrNone fs.log) left c → StandsFor c v (effect (image_of fs.database) told)
   stands_either left is seamless may only c from = elim from.2.0 [
     | inl same ↦ stands_by_log c (same_log c from.0 (may from.0 from.1) from.2.1 same)
     | inr discarded ↦ stands_by_label c from.0 is seamless (may from.0 from.1) (only from.0 from.1) from.2.1 discarded
@@ -201,12 +200,12 @@ module _ {D : Type 0} (g : Ghosts D) (fs : Files) (told changes : List Change) (
       → LeavesOnly g.steps g.left_since old mid (MayRedo fs told)
       → g.files mid ≡ Some (with_database (finished changes v) fs) → OnlyIn Database (finished changes v fs.database) (g.may_leave mid)
       → IfSome (g.files mid) (LeavesLog g mid new)
-      → LeavesOnly g.steps g.left_since old new (λ c. StandsFor c (durable v (effect (image_of fs.database) told)))
+      → LeavesOnly g.steps g.left_since old new (λ c. StandsFor c v (effect (image_of fs.database) told))
   run_ended {old} {mid} {new} is seamless run files only ends =
       let may = narrowed g run in
       let last = of_told (g.files mid) (with_database (finished changes v) fs) (LeavesLog g mid new) files ends in
       let logs : OnlyIn Log fs.log (g.may_leave mid) = λ c left. (may c left).log in
-      let Stands : Files → Type 0 = λ c. StandsFor c (durable v (effect (image_of fs.database) told)) in
+      let Stands : Files → Type 0 = λ c. StandsFor c v (effect (image_of fs.database) told) in
       joined g.steps g.left_since old mid new Stands
       (widened g.steps g.left_since old mid (MayRedo fs told) Stands (stands_by_log fs told changes v leads) run)
       (widened g.steps g.left_since mid new (After (HasLogOrNone fs.log) (g.may_leave mid)) Stands (stands_either fs told changes v leads (g.may_leave mid) is seamless may only)

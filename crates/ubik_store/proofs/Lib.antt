@@ -1,5 +1,6 @@
 pub mod Applied
 pub mod Closing
+pub mod Committing
 pub mod Ending
 pub mod Heads
 pub mod Redoing

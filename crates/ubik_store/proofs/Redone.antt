@@ -1,5 +1,5 @@
 -- The changes of a log have one effect on all images that a crash may leave while they are made.
-use Rattle.std.proofs.Common.{◌≡◌, ◌<◌, ◌≤◌, ◌⊎◌, inl, inr, ℕ, ◌+◌, ◌-◌, max, min, List, [], ◌∷◌, ◌++◌, length, take, drop, replicate, get_or, refl, sym, ap, subst, ◌∙◌, arith, length-take, length-drop, length-append, append_assoc, get_or-take, get_or-drop}
+use Rattle.std.proofs.Common.{◌≡◌, ◌<◌, ◌≤◌, ◌⊎◌, inl, inr, ℕ, zero, suc, ◌+◌, ◌-◌, max, min, List, [], ◌∷◌, ◌++◌, length, take, drop, replicate, get_or, refl, sym, ap, subst, ◌∙◌, arith, length-take, length-drop, length-append, append_assoc, get_or-take, get_or-drop}
 use Rattle.std.proofs.lemmas.Grind.{common_steps}
 use Rattle.std.proofs.lemmas.Bool.{cases_lt}
 use Rattle.std.proofs.lemmas.List.{ext_get_or, get_or-append_right, get_or_append_left}
@@ -174,3 +174,9 @@ redoes_cut changes base old new to one cut same = record {
   len = len_cut changes to (length old) (length new) one (cut_low to old new cut) (cut_high to old new cut) ∙ same.len;
   bytes = λ p left. cut_bytes to p old new cut (left_by_one changes (Cut to) p one left) ∙ same.bytes p left;
 }
+
+pub one_at : (changes : List Change) (k : ℕ) (d : Change) → k < length changes → IsOne changes (get_or changes k d)
+unfolding IsOne
+one_at [] k d below = absurd (omega arith)
+one_at (change ∷ changes) zero d below = inl refl
+one_at (change ∷ changes) (suc k) d below = inr (one_at changes k d (omega arith))

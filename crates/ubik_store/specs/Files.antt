@@ -1,9 +1,8 @@
 -- What the files of a server stand for (own): the version and the image that a server opened on them has.
-use Rattle.std.specs.Prelude.{◌≡◌, ◌⊎◌, ℕ, ◌≤◌, nat_lt, if◌then◌else◌, Some, List, [], length, replicate}
+use Rattle.std.specs.Prelude.{◌≡◌, ◌⊎◌, ℕ, ◌≤◌, Some, List, length}
 use Rattle.ubik_types.specs.declared.images.Change.{Change}
 use Rattle.ubik_types.specs.declared.versions.Version.{Version}
 use Rattle.ubik_types.specs.Image.{effect}
-use Rattle.durable_state.specs.Durable.{Durable, durable}
 use Rattle.disk_base.specs.Files.{Files}
 use Rattle.page_file.specs.declared.label.TheConstants.{MAX_DATABASE_LEN}
 use Rattle.page_file.specs.Label.{version_of_database}
@@ -11,21 +10,16 @@ use Rattle.page_file.specs.Pages.{image_of}
 use Rattle.ubik_log.specs.LogGrammar.{IsCommitted, IsDiscarded}
 
 -- Files whose database file is no longer than a label and the longest image, by cases.
-pub data StandsFor : Files → Durable → Type 0 where
+pub data StandsFor : Files → Version → List ℕ → Type 0 where
   -- with a committed log: its version, and what its changes make of the bytes behind the label
   by_log : (fs : Files) (changes : List Change) (version : Version)
       → IsCommitted fs.log changes version → length fs.database ≤ MAX_DATABASE_LEN
-      → StandsFor fs (durable version (effect (image_of fs.database) changes))
+      → StandsFor fs version (effect (image_of fs.database) changes)
   -- with any other: the version of the label, or the first one where the file is empty, and the bytes behind it
   by_label : (fs : Files) (version : Version)
       → IsDiscarded fs.log → version_of_database fs.database ≡ Some version
-      → StandsFor fs (durable version (image_of fs.database))
+      → StandsFor fs version (image_of fs.database)
 
--- the files stand for the one or for the other
-abbrev pub StandsForEither : Durable → Durable → Files → Type 0
-StandsForEither before after fs = StandsFor fs before ⊎ StandsFor fs after
-
--- nothing is in the log, and the database file has this version
-pub record IsAtRest (version : Version) (fs : Files) : Type 0 where
-  pub log : fs.log ≡ []
-  pub labelled : version_of_database fs.database ≡ Some version
+-- the files stand for the one version and image, or for the other
+abbrev pub StandsForEither : Version → List ℕ → Version → List ℕ → Files → Type 0
+StandsForEither own image v changed fs = StandsFor fs own image ⊎ StandsFor fs v changed

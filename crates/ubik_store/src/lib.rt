@@ -6,4 +6,8 @@ mod commits;
 mod faults;
 mod redo;
 
+pub use commits::commit_changes;
 pub use faults::StoreFault;
+
+#[cfg(test)]
+mod tests;

@@ -12,7 +12,6 @@ ghost use Rattle.ubik_log.specs.Gate.{IsOpen};
 ghost use Rattle.ubik_log.specs.LogFile.{HasLogOrNone};
 ghost use Rattle.ubik_log.specs.LogGrammar.{IsWithinImage};
 ghost use Rattle.ubik_types.specs.Image.{effect};
-ghost use Rattle.durable_state.specs.Durable.{durable};
 ghost use Rattle.ubik_store.specs.Files.{StandsFor};
 ghost use Rattle.ubik_store.specs.Calls.{CallsAtMost};
 ghost use Rattle.ubik_store.specs.Moments.{MayRedo, with_database, with_head, head_calls, changed_file, applied, labelled, without_log, ended, LeadsTo};
@@ -175,7 +174,7 @@ pub(crate) fn redo<D: Disk>(
     ensures files { OnOk result (D.files disk.new ≡ option_map (ended changes.now v) (D.files disk.old)) }
     ensures moments { IfSome (D.files disk.old) (λ fs. (told : List Change) → LeadsTo fs told v changes.now
         → Narrows (MayRedo fs told) (D.may_leave disk.old)
-        → LeavesOnly D.steps D.left_since disk.old disk.new (λ c. StandsFor c (durable v (effect (image_of fs.database) told)))) }
+        → LeavesOnly D.steps D.left_since disk.old disk.new (λ c. StandsFor c v (effect (image_of fs.database) told))) }
     ensures settled { OnOk result (IfSome (D.files disk.old) (λ fs. (told : List Change) → LeadsTo fs told v changes.now
         → Narrows (MayRedo fs told) (D.may_leave disk.old) → IsSettled (D.files disk.new) (D.may_leave disk.new))) }
     ensures steps { OnOk result (IfSome (D.files disk.old) (λ fs.
