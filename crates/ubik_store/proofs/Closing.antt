@@ -1,5 +1,5 @@
 -- A log whose gate was closed says nothing, wherever it is cut off.
-use Rattle.std.proofs.Common.{◌≡◌, inl, inr, ⊎_elim, ℕ, ◌<◌, ◌≤◌, List, [], ◌∷◌, length, take, get_or, refl, sym, ap, subst, ◌∙◌, arith, get_or-take, length-take}
+use Rattle.std.proofs.Common.{◌≡◌, inl, inr, ℕ, List, [], ◌∷◌, length, take, get_or, refl, ap, subst, ◌∙◌, arith, get_or-take}
 use Rattle.std.proofs.lemmas.Bool.{cases_lt}
 use Rattle.std.proofs.lemmas.Grind.{common_steps}
 use Rattle.disk_base.specs.declared.disks.Disk.{Ghosts}

@@ -1,5 +1,5 @@
 -- What a crash leaves while a log is kept and its gate is opened.
-use Rattle.std.proofs.Common.{◌≡◌, ◌<◌, ◌≤◌, ◌⊎◌, inl, inr, ℕ, ◌-◌, List, [], length, drop, get_or, Option, Some, None, refl, sym, ap, subst, ◌∙◌, arith, length-drop}
+use Rattle.std.proofs.Common.{◌≡◌, ◌<◌, ◌≤◌, ◌⊎◌, inl, inr, ℕ, List, [], length, get_or, Option, Some, None, refl, sym, ap, subst, ◌∙◌, arith, length-drop}
 use Rattle.std.specs.List.{All}
 use Rattle.ubik_store.specs.Redo.{IsCovered, Ends}
 use Rattle.std.specs.Option.{option_map}
@@ -16,7 +16,7 @@ use Rattle.disk_base.proofs.Runs.{joined, rested}
 use Rattle.page_file.specs.declared.label.TheConstants.{MAX_DATABASE_LEN}
 use Rattle.page_file.specs.Label.{version_of_database}
 use Rattle.page_file.specs.Pages.{Known, Agrees, AgreesIn, image_of}
-use Rattle.ubik_log.specs.Gate.{closed, with_gate}
+use Rattle.ubik_log.specs.Gate.{closed}
 use Rattle.ubik_log.specs.LogFile.{with_log, gate_set, HasDiscarded, HasLogOrNone}
 use Rattle.ubik_log.specs.LogGrammar.{IsCommitted, IsDiscarded}
 use Rattle.ubik_log.proofs.Gates.{opened_log_is_committed, short_log_is_discarded}

@@ -1,5 +1,5 @@
 -- How a committed log comes to its end, and what a crash leaves meanwhile.
-use Rattle.std.proofs.Common.{◌≡◌, ◌<◌, ◌≤◌, ◌⊎◌, inl, inr, ℕ, ◌+◌, ◌-◌, List, [], ◌∷◌, ◌++◌, length, take, drop, get_or, replicate, Option, Some, None, IfSome, refl, sym, ap, subst, ◌∙◌, arith, length-take, length-drop, length-append, append_assoc}
+use Rattle.std.proofs.Common.{◌≡◌, ◌≤◌, inl, inr, ℕ, ◌+◌, ◌-◌, List, [], ◌∷◌, ◌++◌, length, take, drop, get_or, replicate, Option, Some, None, IfSome, refl, sym, ap, subst, ◌∙◌, arith, length-take, length-drop, length-append}
 use Rattle.std.specs.Option.{option_map}
 use Rattle.std.proofs.lemmas.Grind.{common_steps}
 use Rattle.std.proofs.lemmas.Bool.{cases_lt}
@@ -15,7 +15,7 @@ use Rattle.disk_base.specs.Files.{Files, laid}
 use Rattle.disk_base.specs.Crash.{Narrows, LeavesOnly, LeavesOthers, OnlyIn, IsSettled, After}
 use Rattle.disk_base.proofs.Runs.{widened, joined}
 use Rattle.page_file.specs.declared.label.TheConstants.{MAX_DATABASE_LEN}
-use Rattle.page_file.specs.Label.{label, version_of_label, version_by, version_of_database}
+use Rattle.page_file.specs.Label.{label, version_by, version_of_database}
 use Rattle.page_file.specs.Pages.{Known, image_of, LabelledAs, Agrees, AgreesIn}
 use Rattle.page_file.proofs.Labels.{version_by_again, version_of_filled}
 use Rattle.ubik_log.specs.Gate.{IsOpen}

@@ -1,11 +1,11 @@
 -- A database file that is shorter than a label gets one of zero bytes.
-use Rattle.std.proofs.Common.{◌≡◌, ◌<◌, ◌≤◌, ℕ, ◌+◌, Bool, true, false, List, [], ◌++◌, length, drop, replicate, Option, Some, None, IfSome, cond, ltb, refl, sym, ap, subst, ◌∙◌, arith}
+use Rattle.std.proofs.Common.{◌≡◌, ◌<◌, ◌≤◌, ℕ, ◌+◌, Bool, true, false, List, ◌++◌, length, replicate, Option, Some, None, IfSome, cond, ltb, sym, ap, ◌∙◌, arith}
 use Rattle.std.specs.Option.{option_map}
 use Rattle.std.proofs.lemmas.Bool.Decides.{nat_tests}
 use Rattle.std.proofs.lemmas.List.{drop_all, append-nil}
 use Rattle.disk_base.specs.declared.disks.FileNo.TheVariants.{Database}
 use Rattle.disk_base.specs.Files.{Files, with_file, laid}
-use Rattle.ubik_store.specs.Moments.{with_database, with_head, head_calls}
+use Rattle.ubik_store.specs.Moments.{with_database, with_head}
 
 laid_over : (file zeros : List ℕ) → length file < 64 → length zeros ≡ 64 → laid file 0 zeros ≡ zeros
 laid_over file zeros short long =

@@ -1,21 +1,19 @@
 -- What a crash leaves in the midst of a change has the same effect under the log.
-use Rattle.std.proofs.Common.{◌≡◌, ◌<◌, ◌≤◌, inl, inr, ℕ, ◌+◌, ◌-◌, max, List, ◌++◌, length, take, drop, refl, sym, ap, subst, ◌∙◌, arith, length-take, length-drop}
-use Rattle.std.proofs.lemmas.Grind.{common_steps}
+use Rattle.std.proofs.Common.{◌≡◌, ◌≤◌, inl, inr, ℕ, ◌+◌, ◌-◌, List, length, take, drop, sym, ap, subst, ◌∙◌, arith, length-take, length-drop}
 use Rattle.std.proofs.lemmas.List.{drop-drop, drop-take}
 use Rattle.ubik_types.specs.declared.images.Change.{Change}
 use Rattle.ubik_types.specs.declared.images.Change.TheVariants.{Put, Cut}
-use Rattle.ubik_types.specs.declared.limits.TheConstants.{MAX_IMAGE}
 use Rattle.disk_base.specs.declared.disks.Disk.{Ghosts}
 use Rattle.disk_base.specs.declared.disks.FileNo.{FileNo}
 use Rattle.disk_base.specs.declared.disks.FileNo.TheVariants.{Database}
 use Rattle.disk_base.specs.Files.{Files}
 use Rattle.disk_base.specs.Crash.{Torn, CutShort, InFile, Narrows, Follows, LeavesOnly, LeavesSame}
-use Rattle.disk_base.specs.Runs.{OneChange, Writes, Cuts, Syncs}
+use Rattle.disk_base.specs.Runs.{OneChange, Syncs}
 use Rattle.disk_base.proofs.Runs.{called, rested, joined}
 use Rattle.page_file.specs.declared.label.TheConstants.{MAX_DATABASE_LEN}
 use Rattle.page_file.specs.Pages.{image_of}
 use Rattle.ubik_log.specs.LogGrammar.{IsWithinImage}
-use Rattle.ubik_store.specs.Redo.{Redoes, Tears, IsCovered}
+use Rattle.ubik_store.specs.Redo.{Redoes, IsCovered}
 use Rattle.ubik_store.specs.Moments.{MayRedo}
 use Rattle.ubik_store.proofs.Redone.{IsOne, redoes_torn, redoes_cut}
 

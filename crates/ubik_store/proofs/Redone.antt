@@ -1,5 +1,5 @@
 -- The changes of a log have one effect on all images that a crash may leave while they are made.
-use Rattle.std.proofs.Common.{◌≡◌, ◌<◌, ◌≤◌, ◌⊎◌, inl, inr, ℕ, zero, suc, ◌+◌, ◌-◌, max, min, List, [], ◌∷◌, ◌++◌, length, take, drop, replicate, get_or, refl, sym, ap, subst, ◌∙◌, arith, length-take, length-drop, length-append, append_assoc, get_or-take, get_or-drop}
+use Rattle.std.proofs.Common.{◌≡◌, ◌<◌, ◌≤◌, ◌⊎◌, inl, inr, ℕ, zero, suc, ◌+◌, ◌-◌, max, min, List, [], ◌∷◌, ◌++◌, length, take, drop, get_or, refl, sym, ap, subst, ◌∙◌, arith, length-take, append_assoc, get_or-take, get_or-drop}
 use Rattle.std.proofs.lemmas.Grind.{common_steps}
 use Rattle.std.proofs.lemmas.Bool.{cases_lt}
 use Rattle.std.proofs.lemmas.List.{ext_get_or, get_or-append_right, get_or_append_left}
@@ -7,7 +7,7 @@ use Rattle.ubik_types.specs.declared.images.Change.{Change}
 use Rattle.ubik_types.specs.declared.images.Change.TheVariants.{Put, Cut}
 use Rattle.ubik_types.specs.Image.{extended, changed, effect}
 use Rattle.disk_base.specs.Crash.{Torn, CutShort}
-use Rattle.ubik_store.specs.Redo.{changed_len, len_after, Leaves, AllLeave, Redoes, IsSeamless}
+use Rattle.ubik_store.specs.Redo.{changed_len, len_after, Leaves, AllLeave, Redoes}
 
 -- how long an image is after a change
 pub length-changed : (image : List ℕ) (change : Change) → length (changed image change) ≡ changed_len (length image) change

@@ -1,4 +1,4 @@
-use Rattle.std.proofs.Common.{◌≡◌, ◌+◌, ◌∙◌, ◌⊎◌, rules, inl, inr, List, [], length, Some, refl, ap, arith}
+use Rattle.std.proofs.Common.{◌≡◌, ◌+◌, ◌∙◌, ◌⊎◌, rules, inl, inr, [], length, Some, refl, ap, arith}
 use Rattle.std.proofs.lemmas.Bool.{false≢true}
 use Rattle.std.specs.Option.{option_map}
 use Rattle.std.specs.Prelude.{Result, Ok, Err, IfErr, IsErr, IsErrOf}
@@ -6,20 +6,16 @@ use Rattle.ubik_log.specs.declared.disk_logs.LogFault.{LogFault}
 use Rattle.ubik_log.specs.declared.disk_logs.LogFault.TheVariants as logs
 use Rattle.ubik_store.specs.declared.faults.StoreFault.{StoreFault}
 use Rattle.ubik_store.specs.declared.faults.StoreFault.TheVariants as faults
-use Rattle.ubik_types.specs.declared.images.Change.{Change}
-use Rattle.ubik_types.specs.declared.versions.Version.{Version}
 use Rattle.ubik_types.specs.Image.{effect}
 use Rattle.disk_base.specs.declared.disks.Disk.{Ghosts}
 use Rattle.disk_base.specs.declared.disks.FileNo.TheVariants.{Log}
-use Rattle.disk_base.specs.Files.{Files}
-use Rattle.disk_base.specs.Crash.{Narrows, LeavesOnly, Only, OnlyIn, IsSettled, After}
+use Rattle.disk_base.specs.Crash.{LeavesOnly, OnlyIn, After}
 use Rattle.disk_base.proofs.Runs.{widened, joined}
-use Rattle.page_file.specs.Label.{version_of_database}
 use Rattle.page_file.specs.Pages.{image_of}
 use Rattle.ubik_log.specs.Gate.{closed}
 use Rattle.ubik_log.specs.LogFile.{with_log, HasDiscarded, HasLogOrNone}
 use Rattle.ubik_store.specs.Files.{StandsFor, StandsForEither}
-use Rattle.ubik_store.specs.Moments.{LeadsTo, head_calls, ended}
+use Rattle.ubik_store.specs.Moments.{head_calls, ended}
 use Rattle.ubik_store.proofs.Applied.{calls_of, calls_joined, calls_as}
 use Rattle.ubik_store.proofs.Committing.{LeavesEither, fits_of, stands_before, stands_in_gate, leads_itself, may_redo_all, opened_files, ended_from, only_log, settled_at}
 use Rattle.ubik_store.proofs.Ending.{LeavesEffect, SettlesAfter}

@@ -1,7 +1,6 @@
 use Rattle.std.proofs.Common.{◌≡◌, inl, refl, rules, arith}
 use Rattle.disk_base.specs.declared.disks.FileNo.TheVariants.{Log}
 use Rattle.disk_base.specs.declared.disks.DiskEnd.TheVariants.{Failed}
-use Rattle.disk_base.specs.Files.{Files}
 use Rattle.disk_base.specs.Crash.{CutShort, InFile, After}
 use Rattle.disk_base.specs.Runs.{Cuts, Syncs}
 use Rattle.disk_base.proofs.Runs.{called, joined, cut_changes, sync_changes, changes_joined, changes_as}

@@ -1,6 +1,5 @@
-use Rattle.std.proofs.Common.{◌∙◌, ap, refl, arith}
+use Rattle.std.proofs.Common.{refl, arith}
 use Rattle.std.proofs.lemmas.Bool.{false≢true}
-use Rattle.std.specs.Option.{option_map}
 use Rattle.disk_base.proofs.Runs.{widened, joined, changes_joined, changes_as}
 use Rattle.ubik_store.proofs.Closing.{cut_off, LeavesLog}
 use Rattle.ubik_store.proofs.Telling.{told, of_some}

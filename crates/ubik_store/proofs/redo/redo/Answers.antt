@@ -2,19 +2,17 @@ use Rattle.std.proofs.Common.{◌≡◌, ◌+◌, ◌∙◌, ℕ, List, length, 
 use Rattle.std.proofs.lemmas.Bool.{false≢true}
 use Rattle.std.specs.Option.{option_map}
 use Rattle.std.specs.Result.{is_err}
-use Rattle.disk_base.specs.declared.disks.FileNo.TheVariants.{Database, Log}
+use Rattle.disk_base.specs.declared.disks.FileNo.TheVariants.{Database}
 use Rattle.disk_base.specs.Files.{Files}
-use Rattle.disk_base.specs.Crash.{LeavesOnly, OnlyIn, After}
+use Rattle.disk_base.specs.Crash.{OnlyIn}
 use Rattle.disk_base.proofs.Runs.{widened, joined}
 use Rattle.page_file.specs.Pages.{Known, Agrees, AgreesIn, image_of}
 use Rattle.ubik_types.specs.declared.images.Change.{Change}
 use Rattle.ubik_types.specs.declared.versions.Version.{Version}
-use Rattle.ubik_log.specs.Gate.{IsOpen}
-use Rattle.ubik_log.specs.LogFile.{HasLogOrNone}
-use Rattle.ubik_store.specs.Moments.{MayRedo, LeadsTo, with_database, head_calls, with_head, without_log, applied, labelled, finished}
+use Rattle.ubik_store.specs.Moments.{MayRedo, with_database, head_calls, with_head, without_log, applied, labelled, finished}
 use Rattle.ubik_store.specs.Redo.{IsSeamless}
 use Rattle.ubik_store.proofs.Applied.{calls_of, calls_joined, calls_as}
-use Rattle.ubik_store.proofs.Ending.{agrees_headed, finished_files, ended_files, log_there, stands_by_log, stands_either, is_open, settled_end, run_ended, LeavesEffect, SettlesAfter}
+use Rattle.ubik_store.proofs.Ending.{agrees_headed, finished_files, ended_files, log_there, stands_by_log, settled_end, run_ended, LeavesEffect, SettlesAfter}
 use Rattle.ubik_store.proofs.Redoing.{narrowed}
 use Rattle.ubik_store.proofs.Telling.{told, of_told, of_some}
 use Rattle.ubik_store.proofs.redo.redo.Goals as goal
