@@ -8,6 +8,3 @@ pub const MAX_PACKETS: u32 = 200_000;
 
 /// The most bytes that these packets have as frames, all together.
 pub const MAX_PACKET_BYTES: u64 = 67_108_864;
-
-/// The most changing calls of a disk that a `stop` lets pass.
-pub const MAX_STOP: u32 = 1_000_000;

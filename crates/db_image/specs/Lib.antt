@@ -1,2 +1,4 @@
 pub mod Blocks
+pub mod CallWords
 pub mod Database
+pub mod Meaning

@@ -4,9 +4,11 @@
 
 mod blocks;
 mod services;
+mod words;
 
 pub use blocks::{changes_between, law_changes_lead, too_large};
 pub use services::{CallReply, Layout, Service};
+pub use words::WordForms;
 
 #[cfg(test)]
 mod tests;
