@@ -44,7 +44,7 @@ pub(crate) fn keep_and_redo<D: Disk>(
     ensures files { OnOk result (D.files disk.new ≡ option_map (ended changes.now v) (D.files disk.old)) }
     ensures moments { IfSome (D.files disk.old) (λ fs. (own : Version) → version_of_database fs.database ≡ Some own
         → LeavesOnly D.steps D.left_since disk.old disk.new
-            (StandsForEither own (image_of fs.database) v (effect (image_of fs.database) changes.now))) }
+        (StandsForEither own (image_of fs.database) v (effect (image_of fs.database) changes.now))) }
     ensures settled { OnOk result (IsSettled (D.files disk.new) (D.may_leave disk.new)) }
     ensures steps { OnOk result (IfSome (D.files disk.old) (λ fs.
         D.steps disk.new ≡ D.steps disk.old + (13 + length changes.now + head_calls fs.database))) }
@@ -106,7 +106,7 @@ pub fn commit_changes<D: Disk>(
     ensures files { OnOk result (D.files disk.new ≡ option_map (ended changes.now v) (D.files disk.old)) }
     ensures moments { IfSome (D.files disk.old) (λ fs. (own : Version) → version_of_database fs.database ≡ Some own
         → LeavesOnly D.steps D.left_since disk.old disk.new
-            (StandsForEither own (image_of fs.database) v (effect (image_of fs.database) changes.now))) }
+        (StandsForEither own (image_of fs.database) v (effect (image_of fs.database) changes.now))) }
     ensures settled { OnOk result (IsSettled (D.files disk.new) (D.may_leave disk.new)) }
     ensures steps { OnOk result (IfSome (D.files disk.old) (λ fs.
         D.steps disk.new ≡ D.steps disk.old + (13 + length changes.now + head_calls fs.database))) }

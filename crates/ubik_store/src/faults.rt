@@ -1,5 +1,5 @@
 //! Why a call of a store was not done.
-use page_file::PageFault;
+use page_file::{LABEL_LEN, PageFault};
 use thiserror::Error;
 use ubik_log::LogFault;
 use ubik_types::{NoMemory, Version};
@@ -11,10 +11,10 @@ pub enum StoreFault {
     /// The disk failed.
     #[error("the disk failed")]
     DiskFault,
-    /// The database file of `len` bytes is too long, or does not begin with a label. `head` has its first 64
-    /// bytes, and zero bytes where it is shorter.
+    /// The database file of `len` bytes is too long, or does not begin with a label. `head` has as many of its first
+    /// bytes as a label has, and zero bytes where it is shorter.
     #[error("a database file of {len} bytes has no label")]
-    BadLabel { len: u64, head: [u8; 64] },
+    BadLabel { len: u64, head: [u8; LABEL_LEN] },
     /// The puts of a transaction would have `bytes` bytes, or the image would.
     #[error("{bytes} bytes are too many")]
     TooLarge { bytes: u64 },

@@ -137,7 +137,7 @@ fn empty_log_file<D: Disk>(disk: &mut D) -> DiskEnd
 
 /// Closes the gate of the log, and empties its file.
 fn end_log<D: Disk>(disk: &mut D) -> Result<(), LogFault>
-    requires there { IfSome (D.files disk.old) (λ fs. 4 ≤ length fs.log) }
+    requires header { IfSome (D.files disk.old) (λ fs. 4 ≤ length fs.log) }
     requires fits { D.files disk.old ≡ None → 4 ≤ D.room disk.old FileNo.Log }
     ensures files { OnOk result (D.files disk.new ≡ option_map without_log (D.files disk.old)) }
     ensures durable { OnOk result (IfSome (D.files disk.old) (λ _. OnlyIn FileNo.Log [] (D.may_leave disk.new))) }
@@ -169,7 +169,7 @@ pub(crate) fn redo<D: Disk>(
     requires within { All IsWithinImage changes.now }
     requires fits { All (λ change. Ends change (D.room disk.old FileNo.Database)) changes.now }
     requires head_fits { 64 ≤ D.room disk.old FileNo.Database }
-    requires there { IfSome (D.files disk.old) (λ fs. 4 ≤ length fs.log) }
+    requires header { IfSome (D.files disk.old) (λ fs. 4 ≤ length fs.log) }
     requires log_fits { D.files disk.old ≡ None → 4 ≤ D.room disk.old FileNo.Log }
     ensures files { OnOk result (D.files disk.new ≡ option_map (ended changes.now v) (D.files disk.old)) }
     ensures moments { IfSome (D.files disk.old) (λ fs. (told : List Change) → LeadsTo fs told v changes.now

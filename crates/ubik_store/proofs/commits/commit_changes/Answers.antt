@@ -28,7 +28,7 @@ returns-clause-moments g c = told _ (LeavesEither g.D.Disk c.args.disk.now c.kee
     let made = c.in_ok-reserve.ensures.reserves in
     let rest = of_told _ fs (LeavesEither g.D.Disk c.reserve.new.disk c.keep_and_redo.new.disk c.args.v changes) (made.files ∙ is) c.keep_and_redo.ensures.moments own labelled in
     let Run : List Change → Type 0 = λ cs. LeavesOnly g.D.Disk.steps g.D.Disk.left_since c.args.disk.now c.keep_and_redo.new.disk
-        (StandsForEither own (image_of fs.database) c.args.v (effect (image_of fs.database) cs)) in
+    (StandsForEither own (image_of fs.database) c.args.v (effect (image_of fs.database) cs)) in
     subst Run c.as_slice-3.ensures
     (room_first g.D.Disk (StandsForEither own (image_of fs.database) c.args.v image) made
     (stands_at_rest fs own c.args.v image _ (of_told _ fs (λ fs. fs.log ≡ []) is c.requires.empty) labelled (settled_at _ fs _ is c.requires.settled)) rest))

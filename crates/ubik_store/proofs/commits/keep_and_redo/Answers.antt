@@ -41,8 +41,8 @@ returns-in_err-open_gate-clause-moments g c = told _ (LeavesEither g.D.Disk c.ar
     let first = widened g.D.Disk.steps g.D.Disk.left_since _ _ (After HasDiscarded (g.D.Disk.may_leave c.args.disk.now)) Stands
     (stands_before fs own c.args.v c.args.changes.now c.args.log.now _ only labelled)
     (kept (only_log fs [] _ (of_told _ fs (λ fs. fs.log ≡ []) is c.requires.empty) only)) in
-    let mid : g.D.Disk.files c.keep_log.new.disk ≡ Some (with_log (closed c.args.log.now) fs) = c.in_ok-keep_log.ensures.kept.files ∙ ap (option_map (with_log (closed c.args.log.now))) is in
-    let mid_only = settled_at _ (with_log (closed c.args.log.now) fs) _ mid (c.in_ok-keep_log.ensures.kept.settled c.requires.settled) in
+    let mid : g.D.Disk.files c.keep_log.new.disk ≡ Some (with_log (closed c.args.log.now) fs) = c.in_ok-keep_log.ensures.stands.files ∙ ap (option_map (with_log (closed c.args.log.now))) is in
+    let mid_only = settled_at _ (with_log (closed c.args.log.now) fs) _ mid (c.in_ok-keep_log.ensures.stands.settled c.requires.settled) in
     let second = widened g.D.Disk.steps g.D.Disk.left_since _ _ (After (HasLogOrNone c.args.log.now) (g.D.Disk.may_leave c.keep_log.new.disk)) Stands
     (stands_in_gate fs own c.args.v c.args.changes.now c.args.log.now _ mid_only c.requires.committed (fits_of _ _ fs c.requires.agrees is c.requires.len) labelled)
     (c.open_gate.ensures.either c.args.log.now c.args.changes.now c.args.v c.requires.committed (only_log _ (closed c.args.log.now) _ refl mid_only)) in
@@ -71,7 +71,7 @@ returns-in_err-open_gate-clause-calls g c =
 pub returns-clause-files : goal.returns-clause-files
 returns-clause-files g c =
     ok_map c.redo.result _ _ c.redo.ensures.files (λ is. is ∙ ended_from c.args.log.now c.args.changes.now c.args.v _ _
-    (opened_files c.args.log.now c.args.changes.now c.args.v _ _ _ c.requires.committed c.in_ok-keep_log.ensures.kept.files c.in_ok-open_gate.ensures.set.files))
+    (opened_files c.args.log.now c.args.changes.now c.args.v _ _ _ c.requires.committed c.in_ok-keep_log.ensures.stands.files c.in_ok-open_gate.ensures.set.files))
 
 pub returns-clause-moments : goal.returns-clause-moments
 returns-clause-moments g c = told _ (LeavesEither g.D.Disk c.args.disk.now c.redo.new.disk c.args.v c.args.changes.now) (λ fs is own labelled.
@@ -81,15 +81,15 @@ returns-clause-moments g c = told _ (LeavesEither g.D.Disk c.args.disk.now c.red
     let first = widened g.D.Disk.steps g.D.Disk.left_since _ _ (After HasDiscarded (g.D.Disk.may_leave c.args.disk.now)) Stands
     (stands_before fs own c.args.v c.args.changes.now c.args.log.now _ only labelled)
     (kept (only_log fs [] _ (of_told _ fs (λ fs. fs.log ≡ []) is c.requires.empty) only)) in
-    let mid : g.D.Disk.files c.keep_log.new.disk ≡ Some (with_log (closed c.args.log.now) fs) = c.in_ok-keep_log.ensures.kept.files ∙ ap (option_map (with_log (closed c.args.log.now))) is in
-    let mid_settled = c.in_ok-keep_log.ensures.kept.settled c.requires.settled in
+    let mid : g.D.Disk.files c.keep_log.new.disk ≡ Some (with_log (closed c.args.log.now) fs) = c.in_ok-keep_log.ensures.stands.files ∙ ap (option_map (with_log (closed c.args.log.now))) is in
+    let mid_settled = c.in_ok-keep_log.ensures.stands.settled c.requires.settled in
     let mid_only = settled_at _ (with_log (closed c.args.log.now) fs) _ mid mid_settled in
     let fits = fits_of _ _ fs c.requires.agrees is c.requires.len in
     let second = widened g.D.Disk.steps g.D.Disk.left_since _ _ (After (HasLogOrNone c.args.log.now) (g.D.Disk.may_leave c.keep_log.new.disk)) Stands
     (stands_in_gate fs own c.args.v c.args.changes.now c.args.log.now _ mid_only c.requires.committed fits labelled)
     (c.open_gate.ensures.either c.args.log.now c.args.changes.now c.args.v c.requires.committed (only_log _ (closed c.args.log.now) _ refl mid_only)) in
     let opened : g.D.Disk.files c.open_gate.new.disk ≡ Some (with_log c.args.log.now fs) =
-    opened_files c.args.log.now c.args.changes.now c.args.v _ _ _ c.requires.committed c.in_ok-keep_log.ensures.kept.files c.in_ok-open_gate.ensures.set.files ∙ ap (option_map (with_log c.args.log.now)) is in
+    opened_files c.args.log.now c.args.changes.now c.args.v _ _ _ c.requires.committed c.in_ok-keep_log.ensures.stands.files c.in_ok-open_gate.ensures.set.files ∙ ap (option_map (with_log c.args.log.now)) is in
     let open_only = settled_at _ (with_log c.args.log.now fs) _ opened (c.in_ok-open_gate.ensures.set.settled mid_settled) in
     let whole = of_told _ (with_log c.args.log.now fs) (LeavesEffect g.D.Disk c.open_gate.new.disk c.redo.new.disk c.args.v c.args.changes.now) opened c.redo.ensures.moments in
     let third = widened g.D.Disk.steps g.D.Disk.left_since _ _ (λ x. StandsFor x c.args.v (effect (image_of fs.database) c.args.changes.now)) Stands (λ x stands. inr stands)
@@ -99,10 +99,10 @@ returns-clause-moments g c = told _ (LeavesEither g.D.Disk c.args.disk.now c.red
 pub returns-clause-settled : goal.returns-clause-settled
 returns-clause-settled g c =
     ok_both c.redo.result _ _ _ c.redo.ensures.files c.redo.ensures.settled (λ files settled.
-    let from = opened_files c.args.log.now c.args.changes.now c.args.v _ _ _ c.requires.committed c.in_ok-keep_log.ensures.kept.files c.in_ok-open_gate.ensures.set.files in
+    let from = opened_files c.args.log.now c.args.changes.now c.args.v _ _ _ c.requires.committed c.in_ok-keep_log.ensures.stands.files c.in_ok-open_gate.ensures.set.files in
     settled_told (ended c.args.changes.now c.args.v) _ _ _ (files ∙ ended_from c.args.log.now c.args.changes.now c.args.v _ _ from) (λ fs is.
     let opened : g.D.Disk.files c.open_gate.new.disk ≡ Some (with_log c.args.log.now fs) = from ∙ ap (option_map (with_log c.args.log.now)) is in
-    let open_only = settled_at _ (with_log c.args.log.now fs) _ opened (c.in_ok-open_gate.ensures.set.settled (c.in_ok-keep_log.ensures.kept.settled c.requires.settled)) in
+    let open_only = settled_at _ (with_log c.args.log.now fs) _ opened (c.in_ok-open_gate.ensures.set.settled (c.in_ok-keep_log.ensures.stands.settled c.requires.settled)) in
     of_told _ (with_log c.args.log.now fs) (SettlesAfter g.D.Disk c.open_gate.new.disk c.redo.new.disk c.args.v c.args.changes.now) opened settled
     c.args.changes.now (leads_itself fs c.args.v c.args.changes.now c.args.log.now c.requires.committed)
     (may_redo_all (with_log c.args.log.now fs) c.args.changes.now _ (fits_of _ _ fs c.requires.agrees is c.requires.len) open_only)))
@@ -112,10 +112,10 @@ returns-clause-steps g c =
     ok_map c.redo.result _ _ c.redo.ensures.steps (λ rose.
     told _ (λ fs. g.D.Disk.steps c.redo.new.disk ≡ g.D.Disk.steps c.args.disk.now + (13 + length c.args.changes.now + head_calls fs.database)) (λ fs is.
     let opened : g.D.Disk.files c.open_gate.new.disk ≡ Some (with_log c.args.log.now fs) =
-    opened_files c.args.log.now c.args.changes.now c.args.v _ _ _ c.requires.committed c.in_ok-keep_log.ensures.kept.files c.in_ok-open_gate.ensures.set.files ∙ ap (option_map (with_log c.args.log.now)) is in
+    opened_files c.args.log.now c.args.changes.now c.args.v _ _ _ c.requires.committed c.in_ok-keep_log.ensures.stands.files c.in_ok-open_gate.ensures.set.files ∙ ap (option_map (with_log c.args.log.now)) is in
     let last : g.D.Disk.steps c.redo.new.disk ≡ g.D.Disk.steps c.open_gate.new.disk + (7 + length c.args.changes.now + head_calls fs.database) =
     of_told _ (with_log c.args.log.now fs) (λ fs. g.D.Disk.steps c.redo.new.disk ≡ g.D.Disk.steps c.open_gate.new.disk + (7 + length c.args.changes.now + head_calls fs.database)) opened rose in
-    omega (arith, last, c.in_ok-keep_log.ensures.kept.steps, c.in_ok-open_gate.ensures.set.steps)))
+    omega (arith, last, c.in_ok-keep_log.ensures.stands.steps, c.in_ok-open_gate.ensures.set.steps)))
 
 pub returns-clause-calls : goal.returns-clause-calls
 returns-clause-calls g c =

@@ -47,11 +47,11 @@ returns-in_err-put_label-clause-calls g c =
     calls_as (omega arith) (λ _. cc) (λ _. ap is_err c.in_err-put_label.was)
     (calls_joined (calls_joined c.in_ok-put_head.ensures.calls false≢true c.in_ok-apply_all.ensures.calls) false≢true c.put_label.ensures.calls)
 
-pub end_log-requires-clause-there : goal.end_log-requires-clause-there
-end_log-requires-clause-there g c =
+pub end_log-requires-clause-header : goal.end_log-requires-clause-header
+end_log-requires-clause-header g c =
     log_there 4 (finished c.args.changes.now c.args.v) _ _
     (finished_files c.args.changes.now c.args.v _ _ _ _ c.in_ok-put_head.ensures.files c.in_ok-apply_all.ensures.files c.in_ok-put_label.ensures.files)
-    c.requires.there
+    c.requires.header
 
 -- how long the image is, by the pages
 seamless_of : (len : ℕ) (files : Option Files) (fs : Files) (pages : Known) (changes : List Change) → pages.len ≡ len → AgreesIn pages files → files ≡ Some fs → IsSeamless len changes → IsSeamless (length (image_of fs.database)) changes
