@@ -1,5 +1,7 @@
 pub mod Cells
 pub mod Events
+pub mod Others
+pub mod Parts
 pub mod Sites
 pub mod Steps
 pub mod Told

@@ -1,5 +1,6 @@
 -- A step of a server that is up, as the model of leases sees it: nothing happens there, or one event does.
-use Rattle.std.proofs.Common.{Bool, true, false, true≢false, cond, ◌≡◌, ℕ, zero, suc, ◌<◌, List, [], ◌∷◌, ◌++◌, length, set, refl, sym, ap, subst, ◌∙◌, ◌⊎◌, inl, inr}
+use Rattle.std.proofs.Common.{Bool, true, false, true≢false, cond, ◌≡◌, ℕ, zero, suc, ◌<◌, List, [], ◌∷◌, ◌++◌, length, set, refl, sym, ap}
+use Rattle.std.proofs.Common.{subst, ◌∙◌, ◌⊎◌, inl, inr}
 use Rattle.std.proofs.lemmas.Bool.{cond_both}
 use Rattle.std.specs.Prelude.{Option, Some, None, ◌&&◌, slice_get}
 use Rattle.ubik_types.specs.declared.hosts.Host.{Host}
@@ -26,8 +27,11 @@ use Rattle.cell_model.specs.Step.{Member, Shown, Stepped, quiet, showing, leased
 use Rattle.cell_model.specs.Voting.{beacon_taken, beacon_turn, beacon_received, vote_received}
 use Rattle.cell_model.specs.World.{Site}
 use Rattle.cell_laws.specs.View.{voter_of, standing_of, view}
-use Rattle.cell_laws.proofs.Steps.{IsOther, Ballot, ballot_of, IsLegalCall, AreLegal, legal_append, Claims, Rests, lapsed_is, step_rests}
-use Rattle.cell_laws.proofs.Told.{TellsBeacon, TellsVote, Tells, IsTold, ShownTold, Grew, told_append, other_told, beacons_told}
+use Rattle.cell_laws.proofs.Others.{IsOther}
+use Rattle.cell_laws.proofs.Parts.{Ballot, ballot_of, IsLegalCall, AreLegal, legal_append, Rests}
+use Rattle.cell_laws.specs.Invariant.{TellsBeacon, TellsVote, Tells, IsTold, Claims, NodeHolds}
+use Rattle.cell_laws.proofs.Steps.{lapsed_is, step_rests}
+use Rattle.cell_laws.proofs.Told.{ShownTold, Grew, told_append, other_told, beacons_told}
 use Rattle.cell_laws.proofs.Votes.{voter_with, answered_yes, answered_no, yes_free, leased_is}
 
 -- ---- what grows stays given
@@ -39,13 +43,6 @@ given_more x y m since grew g = record {
   suffices = subst (λ (n : ℕ). cell_rules.suffices n g.set ≡ true) (sym grew.same) g.suffices;
   yes = λ v is. let w = g.yes v is in (w.0, w.1, w.2, grew.yeses _ w.3);
 }
-
--- What holds of a server of the world beside what the model of leases knows: its version is durable, and where it sends, a quorum
--- has given it the votes of its epoch.
-abbrev pub NodeHolds : Leases → ℕ → Durable → Node → Type 0
-NodeHolds x k d Down = Unit {0}
-NodeHolds x k d (Halted h) = Unit {0}
-NodeHolds x k d (Up s) = (d.version ≡ s.version) × Claims (WereGiven cell_rules x k) s
 
 pub holds_more : (x y : Leases) (k : ℕ) (d : Durable) (node : Node) → Grew x y → NodeHolds x k d node → NodeHolds y k d node
 holds_more x y k d Down grew holds = tt
@@ -67,7 +64,8 @@ pub record Here (hosts : List Host) (x : Leases) (k : ℕ) (site : Site) : Type 
   pub kept : Invariant cell_rules x
   pub holds : NodeHolds x k site.durable site.node
 
-pub at_set : (xs : List leases.Server) (k : ℕ) (f : leases.Server → leases.Server) (y : leases.Server) → slice_get xs k ≡ Some y → runs.at_server xs k f ≡ set xs k (f y)
+pub at_set : (xs : List leases.Server) (k : ℕ) (f : leases.Server → leases.Server) (y : leases.Server) → slice_get xs k ≡ Some y →
+    runs.at_server xs k f ≡ set xs k (f y)
 at_set [] k f y is = refl
 at_set (z ∷ xs) zero f y is = let same : z ≡ y = cc in ap (λ (a : leases.Server). f a ∷ xs) same
 at_set (z ∷ xs) (suc k) f y is = ap (λ (rest : List leases.Server). z ∷ rest) (at_set xs k f y is)
@@ -97,7 +95,8 @@ pub record Does (hosts : List Host) (x : Leases) (k clock : ℕ) (s : Server) (t
   pub seen : IsSeen hosts x k (seen_voter clock (voter_of s)) (seen_voter clock (voter_of t.server)) t.shown
 
 -- another reason to be in lease
-legal_by : (A B : Type 0) (Claim : ℕ → Type 0) (now : ℕ) (v last : Version) (calls : List Made) → (A → B) → AreLegal A Claim now v calls last → AreLegal B Claim now v calls last
+legal_by : (A B : Type 0) (Claim : ℕ → Type 0) (now : ℕ) (v last : Version) (calls : List Made) → (A → B) →
+    AreLegal A Claim now v calls last → AreLegal B Claim now v calls last
 legal_by A B Claim now v last [] f legal = legal
 legal_by A B Claim now v last (made ∷ calls) f legal =
     (one made.reason legal.0, legal_by A B Claim now (version_after made.call) last calls f legal.1)
@@ -107,7 +106,8 @@ legal_by A B Claim now v last (made ∷ calls) f legal =
     one (Committed t) is = is
     one Received is = is
 
-module _ (db : Database) (hosts : List Host) (x : Leases) (k : ℕ) (site : Site) (s : Server) (here : Here hosts x k site) (is_up : site.node ≡ Up s) where
+module _ (db : Database) (hosts : List Host) (x : Leases) (k : ℕ) (site : Site) (s : Server) (here : Here hosts x k site)
+    (is_up : site.node ≡ Up s) where
   abbrev m : Member
   m = record { hosts = hosts; me = k }
 
@@ -123,7 +123,8 @@ module _ (db : Database) (hosts : List Host) (x : Leases) (k : ℕ) (site : Site
   claim_now : is_in_lease (length hosts) s.starts site.clock ≡ true → Claim site.clock
   claim_now is =
       lease_given cell_rules x k (seen_voter site.clock (voter_of s)) here.kept get_up
-      (subst (λ (n : ℕ). IsLeased cell_rules n s.starts site.clock) (sym here.size) (leased_is (length hosts) s.starts site.clock here.moment is))
+      (subst (λ (n : ℕ). IsLeased cell_rules n s.starts site.clock) (sym here.size)
+      (leased_is (length hosts) s.starts site.clock here.moment is))
 
   abbrev RestsHere : Server → Stepped → Type 0
   RestsHere u t = Rests m site.clock (ballot_of s) Claim u t
@@ -166,21 +167,30 @@ module _ (db : Database) (hosts : List Host) (x : Leases) (k : ℕ) (site : Site
   vote_does v vote = record {
     legal = legal_by _ (Claim site.clock) Claim site.clock s.version v.server.version (lapse.calls ++ v.calls) claim_now
         (legal_append _ Claim site.clock s.version u.version v.server.version lapse.calls v.calls lapse_rests.legal
-        (subst (λ (calls : List Made). AreLegal (is_in_lease (length hosts) s.starts site.clock ≡ true) Claim site.clock u.version calls v.server.version) (sym vote.calls) (sym vote.version)));
+        (subst
+        (λ (calls : List Made). AreLegal
+        (is_in_lease (length hosts) s.starts site.clock ≡ true) Claim site.clock u.version calls v.server.version) (sym vote.calls)
+        (sym vote.version)));
     claims = vote.claims;
     seen = vote.seen;
   }
 
-  quiet_vote : (v : Server) (shown : List Shown) → v.version ≡ u.version → Claims Claim v → voter_of v ≡ voter_of u → ShownTold hosts x shown → IsVote (showing v shown)
+  quiet_vote : (v : Server) (shown : List Shown) → v.version ≡ u.version → Claims Claim v → voter_of v ≡ voter_of u →
+      ShownTold hosts x shown → IsVote (showing v shown)
   quiet_vote v shown version holds same told = record {
     calls = refl;
     version = version;
     claims = holds;
-    seen = inl (ap (seen_voter site.clock) (same ∙ u_is), told_append hosts x lapse.shown shown (other_told hosts x lapse.shown lapse_rests.other) told);
+    seen =
+        inl (
+          ap (seen_voter site.clock) (same ∙ u_is),
+          told_append hosts x lapse.shown shown (other_told hosts x lapse.shown lapse_rests.other) told,
+        );
   }
 
   -- the free voter of the model
-  free_here : (asker : ℕ) (claim : Bool) → answers_yes u.votes site.clock asker claim ≡ true → runs.is_free_at cell_rules asker (slice_get x.servers k) ≡ true
+  free_here : (asker : ℕ) (claim : Bool) → answers_yes u.votes site.clock asker claim ≡ true →
+      runs.is_free_at cell_rules asker (slice_get x.servers k) ≡ true
   free_here asker claim granted =
       ap (runs.is_free_at cell_rules asker) get_up
       ∙ (ap (runs.is_free cell_rules asker site.clock) (sym u_is) ∙ yes_free u.votes u.starts site.clock asker claim granted)
@@ -207,7 +217,9 @@ module _ (db : Database) (hosts : List Host) (x : Leases) (k : ℕ) (site : Site
       may = free_here k claim granted;
       next = asked_model;
       is_next = ap (runs.asked_by x k) get_up;
-      servers = at_set x.servers k (runs.asks k) (seen_voter site.clock (voter_of s)) get_up ∙ ap (λ (v : leases.Voter). set x.servers k (seen_voter site.clock v)) same;
+      servers =
+          at_set x.servers k (runs.asks k) (seen_voter site.clock (voter_of s)) get_up
+          ∙ ap (λ (v : leases.Voter). set x.servers k (seen_voter site.clock v)) same;
       grew = asked_grew;
       told = told_append hosts asked_model lapse.shown _ (other_told hosts asked_model lapse.shown lapse_rests.other)
           (beacons_told m asked_model 0 hosts site.clock claim (claim && is_ready u.phase)
@@ -227,7 +239,8 @@ module _ (db : Database) (hosts : List Host) (x : Leases) (k : ℕ) (site : Site
 
   turn_is : IsVote (beacon_turn m u site.clock)
   turn_is =
-      cond_both (beacon_is_due u.votes site.clock k (leased m u site.clock)) (beacon_taken m u site.clock (leased m u site.clock)) (quiet u) IsVote
+      cond_both (beacon_is_due u.votes site.clock k (leased m u site.clock)) (beacon_taken m u site.clock (leased m u site.clock))
+      (quiet u) IsVote
       (λ due. taken_is (leased m u site.clock) due)
       (λ _. quiet_vote u [] refl lapse_rests.fit.claims refl tt)
 
@@ -243,13 +256,15 @@ module _ (db : Database) (hosts : List Host) (x : Leases) (k : ℕ) (site : Site
     same = at_length x.servers k (runs.votes j);
   }
 
-  beacon_is : (host : Host) (j start : ℕ) (claim ready : Bool) (version : Version) → place_of hosts host ≡ Some j → TellsBeacon x start (place_of hosts host) → IsVote (beacon_received m u site.clock host j start claim ready version)
+  beacon_is : (host : Host) (j start : ℕ) (claim ready : Bool) (version : Version) → place_of hosts host ≡ Some j →
+      TellsBeacon x start (place_of hosts host) → IsVote (beacon_received m u site.clock host j start claim ready version)
   beacon_is host j start claim ready version from told = by (answers_yes u.votes site.clock j claim) refl
     where
       holds : Claims Claim (beacon_received m u site.clock host j start claim ready version).server
       holds = record { sending = lapse_rests.fit.claims.sending; kept = lapse_rests.fit.claims.kept }
 
-      by : (b : Bool) → answers_yes u.votes site.clock j claim ≡ b → IsVote (beacon_received m u site.clock host j start claim ready version)
+      by : (b : Bool) → answers_yes u.votes site.clock j claim ≡ b →
+          IsVote (beacon_received m u site.clock host j start claim ready version)
       by true granted = record {
         calls = refl;
         version = refl;
@@ -259,30 +274,44 @@ module _ (db : Database) (hosts : List Host) (x : Leases) (k : ℕ) (site : Site
           may = (told j from, free_here j claim granted);
           next = answered_model j start;
           is_next = ap (runs.answered_by x k (record { asker = j; start = start })) get_up;
-          servers = at_set x.servers k (runs.votes j) (seen_voter site.clock (voter_of s)) get_up ∙ ap (λ (v : leases.Voter). set x.servers k (seen_voter site.clock v)) same;
+          servers =
+              at_set x.servers k (runs.votes j) (seen_voter site.clock (voter_of s)) get_up
+              ∙ ap (λ (v : leases.Voter). set x.servers k (seen_voter site.clock v)) same;
           grew = answered_grew j start;
-          told = told_append hosts (answered_model j start) lapse.shown _ (other_told hosts (answered_model j start) lapse.shown lapse_rests.other) (vote, tt);
+          told =
+              told_append hosts (answered_model j start) lapse.shown _
+              (other_told hosts (answered_model j start) lapse.shown lapse_rests.other) (vote, tt);
         });
       }
         where
           same : runs.said j site.clock (voter_of s) ≡ voter_of (beacon_received m u site.clock host j start claim ready version).server
-          same = ap (λ (v : leases.Voter). runs.said j site.clock v) (sym u_is) ∙ sym (answered_yes u.votes u.starts site.clock j claim granted)
+          same =
+              ap (λ (v : leases.Voter). runs.said j site.clock v) (sym u_is)
+              ∙ sym (answered_yes u.votes u.starts site.clock j claim granted)
 
-          vote : TellsVote (answered_model j start) start (answers_yes u.votes site.clock j claim) (place_of hosts (host_at hosts k)) (place_of hosts host)
+          vote : TellsVote (answered_model j start) start (answers_yes u.votes site.clock j claim) (place_of hosts (host_at hosts k))
+              (place_of hosts host)
           vote granted voter asker is_voter is_asker =
               let me : k ≡ voter = (let own : place_of hosts (host_at hosts k) ≡ Some k = here.own in cc) in
               let it : j ≡ asker = cc in (
                 site.clock,
-                subst (λ (voter : ℕ). IsIn (answered_model j start).yeses (record { voter = voter; asker = asker; start = start; at = site.clock })) me
-                    (subst (λ (asker : ℕ). IsIn (answered_model j start).yeses (record { voter = k; asker = asker; start = start; at = site.clock })) it (0, refl)),
+                subst
+                    (λ (voter : ℕ). IsIn (answered_model j start).yeses
+                    (record { voter = voter; asker = asker; start = start; at = site.clock })) me
+                    (subst
+                    (λ (asker : ℕ). IsIn (answered_model j start).yeses
+                    (record { voter = k; asker = asker; start = start; at = site.clock })) it (0, refl)),
               )
       by false none =
-          quiet_vote (beacon_received m u site.clock host j start claim ready version).server (beacon_received m u site.clock host j start claim ready version).shown refl holds (answered_no u.votes u.starts site.clock j claim none)
+          quiet_vote (beacon_received m u site.clock host j start claim ready version).server
+          (beacon_received m u site.clock host j start claim ready version).shown refl holds
+          (answered_no u.votes u.starts site.clock j claim none)
           (λ granted voter asker is_voter is_asker. absurd (true≢false (sym granted ∙ none)), tt)
 
   -- ---- a vote
 
-  vote_is : (host : Host) (j start : ℕ) (granted : Bool) → place_of hosts host ≡ Some j → TellsVote x start granted (place_of hosts host) (Some k) → IsVote (vote_received m u j start granted)
+  vote_is : (host : Host) (j start : ℕ) (granted : Bool) → place_of hosts host ≡ Some j →
+      TellsVote x start granted (place_of hosts host) (Some k) → IsVote (vote_received m u j start granted)
   vote_is host j start granted from told = by (granted && is_counted u.opened k u.starts start) refl
     where
       P : List (Option ℕ) → Type 0
@@ -298,7 +327,9 @@ module _ (db : Database) (hosts : List Host) (x : Leases) (k : ℕ) (site : Site
           may = given.1;
           next = counted_model;
           is_next = refl;
-          servers = at_set x.servers k (runs.counting one_yes) (seen_voter site.clock (voter_of s)) get_up ∙ ap (λ (v : leases.Voter). set x.servers k (seen_voter site.clock (runs.counts j start v))) (sym u_is);
+          servers =
+              at_set x.servers k (runs.counting one_yes) (seen_voter site.clock (voter_of s)) get_up
+              ∙ ap (λ (v : leases.Voter). set x.servers k (seen_voter site.clock (runs.counts j start v))) (sym u_is);
           grew = record { beacons = λ b is. is; yeses = λ one is. is; same = at_length x.servers k (runs.counting one_yes) };
           told = told_append hosts counted_model lapse.shown [] (other_told hosts counted_model lapse.shown lapse_rests.other) tt;
         });
@@ -316,12 +347,14 @@ module _ (db : Database) (hosts : List Host) (x : Leases) (k : ℕ) (site : Site
 
   -- ---- every event
 
-  received_does : (host : Host) (j : ℕ) (c : Body) (short : List Bool) → place_of hosts host ≡ Some j → Tells x c (place_of hosts host) (Some k) → IsVote (received_from db m u site.clock host j c short) ⊎ IsOther c
+  received_does : (host : Host) (j : ℕ) (c : Body) (short : List Bool) → place_of hosts host ≡ Some j →
+      Tells x c (place_of hosts host) (Some k) → IsVote (received_from db m u site.clock host j c short) ⊎ IsOther c
   received_does host j (body.Beacon start claim ready version) short from told = inl (beacon_is host j start claim ready version from told)
   received_does host j (body.Vote start granted) short from told = inl (vote_is host j start granted from told)
   received_does host j _ short from told = inr tt
 
-  pub step_does : (e : NodeEvent) (short : List Bool) → EventTold hosts x k e → Does hosts x k site.clock s (step_of db m s site.clock e short)
+  pub step_does : (e : NodeEvent) (short : List Bool) → EventTold hosts x k e →
+      Does hosts x k site.clock s (step_of db m s site.clock e short)
   unfolding step_of
   step_does (event.Packet p) short told = by (place_of hosts p.from) refl
     where
@@ -334,7 +367,8 @@ module _ (db : Database) (hosts : List Host) (x : Leases) (k : ℕ) (site : Site
       here_to : Tells x p.body (place_of hosts p.from) (Some k)
       here_to = subst (Tells x p.body (place_of hosts p.from)) told.1 told.0
 
-      kind : (j : ℕ) → place_of hosts p.from ≡ Some j → IsVote (received_from db m u site.clock p.from j p.body (short_after lapse.shown short)) ⊎ IsOther p.body → P (Some j)
+      kind : (j : ℕ) → place_of hosts p.from ≡ Some j →
+          IsVote (received_from db m u site.clock p.from j p.body (short_after lapse.shown short)) ⊎ IsOther p.body → P (Some j)
       kind j from (inl vote) = vote_does (received_from db m u site.clock p.from j p.body (short_after lapse.shown short)) vote
       kind j from (inr other) = subst P from (rest other)
 

@@ -1,16 +1,14 @@
 -- What a step of a server does, rule by rule, as far as votes, the lease, its phase and its epoch go. All rules but those of
 -- votes leave the votes, and their packets carry none.
-use Rattle.std.proofs.Common.{Bool, true, false, true≢false, cond, ◌==◌, ◌≡◌, ℕ, zero, suc, ◌+◌, ◌<◌, ◌≤◌, List, [], ◌∷◌, ◌++◌, length, map, refl, sym, ap, subst, ◌∙◌, arith}
+use Rattle.std.proofs.Common.{Bool, true, false, cond, ◌==◌, ◌≡◌, ℕ, ◌+◌, ◌≤◌, List, [], ◌∷◌, ◌++◌, length, map, refl, sym, ap, subst, ◌∙◌}
+use Rattle.std.proofs.Common.{arith}
 use Rattle.std.proofs.lemmas.Bool.{cond_both}
-use Rattle.std.proofs.lemmas.Bool.Decides.{nat_tests}
 use Rattle.std.specs.Prelude.{Option, Some, None, ◌&&◌, ◌||◌, not, nat_lt, nat_le, is_none, is_some}
 use Rattle.lock_table.specs.declared.tables.TheConstants.{MAX_WAITING}
 use Rattle.ubik_types.specs.declared.hosts.Host.{Host}
 use Rattle.ubik_types.specs.declared.images.Change.{Change}
 use Rattle.ubik_types.specs.declared.limits.TheConstants.{SMALLTIME}
-use Rattle.ubik_types.specs.declared.phases.Phase.{Phase}
 use Rattle.ubik_types.specs.declared.phases.Phase.TheVariants as phases
-use Rattle.ubik_types.specs.declared.phases.Applied.TheVariants as applied
 use Rattle.ubik_types.specs.declared.versions.TheConstants.{MAX_COUNTER}
 use Rattle.ubik_types.specs.declared.versions.Version.{Version}
 use Rattle.ubik_types.specs.Lease.{is_in_lease}
@@ -18,256 +16,37 @@ use Rattle.ubik_types.specs.Logged.{too_large}
 use Rattle.ubik_types.specs.Phase.{Polled, Spread, PhaseRecord, NoPhase, Poll, Fetch, Relabel, Send, Ready}
 use Rattle.ubik_types.specs.Quorum.{is_majority}
 use Rattle.ubik_types.specs.Version.{version_lt, version_eq}
-use Rattle.ubik_types.specs.Votes.{VoteState}
 use Rattle.ubik_calls.specs.declared.packets.TheConstants.{MAX_PIECES}
 use Rattle.ubik_calls.specs.declared.packets.Body.{Body}
 use Rattle.ubik_calls.specs.declared.packets.Body.TheVariants as body
-use Rattle.ubik_calls.specs.declared.replies.Reply.{Reply}
 use Rattle.db_image.specs.declared.services.CallReply.{CallReply}
 use Rattle.db_image.specs.declared.services.CallReply.TheVariants as call_reply
 use Rattle.db_image.specs.Database.{Database, changes_of}
 use Rattle.ubik_calls.specs.declared.packets.Packet.{Packet}
 use Rattle.cell_model.specs.declared.events.NodeEvent.{NodeEvent}
 use Rattle.cell_model.specs.declared.events.NodeEvent.TheVariants as event
-use Rattle.cell_model.specs.declared.events.Output.{Output}
-use Rattle.cell_model.specs.declared.events.Output.TheVariants as output
-use Rattle.cell_model.specs.Asks.{read_reply, read, write_asked, served, allows_reads, asked_elsewhere, asked_as}
-use Rattle.cell_model.specs.Durable.{Made, Reason, Own_relabelling, Committed, Received, version_after}
-use Rattle.cell_model.specs.Lapse.{no_quorum, flight_refused, waiting_refused, writes_refused, phase_dropped, write_lapsed, lapsed}
+use Rattle.cell_model.specs.Asks.{read, write_asked, served, allows_reads, asked_elsewhere, asked_as}
+use Rattle.cell_model.specs.Lapse.{writes_refused, phase_dropped, write_lapsed, lapsed}
 use Rattle.cell_model.specs.Node.{Server, KeptWrite, ReceivedText, Flight, Waiting}
 use Rattle.cell_model.specs.NodeRule.{received_from, received_packet, place_of, handled, step_of}
-use Rattle.cell_model.specs.Pieces.{piece_count}
 use Rattle.cell_model.specs.Polls.{new_poll, polling, with_answer, best_answer, first_with, entry_at, is_marked}
-use Rattle.cell_model.specs.Receiver.{is_sending, answers_version_kept, answers_version_is, relabelled_by, set_version_received, text_went_on, send_piece_received, empty_write, begin_received, kept_with, put_piece_received, committed_by, write_taken, whole_changes, whole_write, commit_received, kept_but, abort_received, get_piece_received}
-use Rattle.cell_model.specs.Recovery.{asks_versions, has_answered, spread_to, spread_answer, first_of_epoch, relabelled_to, relabelled, polled, poll_asked, poll_begun, bytes_received, spread_bodies, spread_again, recovered, held_by, holder_added, lacking_sent, told_to_spread, version_is_received, version_kept_received, next_sent, piece_kept_received, piece_fits, text_begun, continues, text_continued, text_with, is_whole, installed, fetch_installed, fetch_went_on, piece_received}
-use Rattle.cell_model.specs.Step.{Member, cell_size, Basis, Announced_image, Beacon_image, Evaluation, Shown, Stepped, quiet, showing, followed, leased, is_ready, is_fetch, told_version, with_phase, with_database, packet_to, sent, sends_from, sends_to_each, is_short, short_after}
-use Rattle.cell_model.specs.Writes.{announced_image, put_pieces, write_bodies, next_version, own_write_begun, ended_write, flight_settled, settled_in, settled, written_in, written_changes, written_small, written_within, turned, write_turn, is_free_in, is_free, next_turns, settled_with_turns}
-
--- ---- packets that carry no vote and ask for none
-
-abbrev pub IsOther : Body → Type 0
-IsOther (body.Beacon start claim ready version) = ⊥
-IsOther (body.Vote start granted) = ⊥
-IsOther _ = Unit {0}
-
-abbrev pub IsOtherOutput : Output → Type 0
-IsOtherOutput (output.Send packet) = IsOther packet.body
-IsOtherOutput _ = Unit {0}
-
-abbrev pub AllOther : List Shown → Type 0
-AllOther [] = Unit {0}
-AllOther (one ∷ shown) = IsOtherOutput one.output × AllOther shown
-
-abbrev AllOtherBodies : List Body → Type 0
-AllOtherBodies [] = Unit {0}
-AllOtherBodies (b ∷ bodies) = IsOther b × AllOtherBodies bodies
-
-pub other_append : (shown more : List Shown) → AllOther shown → AllOther more → AllOther (shown ++ more)
-other_append [] more all rest = rest
-other_append (one ∷ shown) more all rest = (all.0, other_append shown more all.1 rest)
-
-bodies_append : (bodies more : List Body) → AllOtherBodies bodies → AllOtherBodies more → AllOtherBodies (bodies ++ more)
-bodies_append [] more all rest = rest
-bodies_append (b ∷ bodies) more all rest = (all.0, bodies_append bodies more all.1 rest)
-
-sent_other : (m : Member) (host : Host) (bodies : List Body) → AllOtherBodies bodies → AllOther (map (λ (b : Body). sent (packet_to m host b)) bodies)
-sent_other m host [] all = tt
-sent_other m host (b ∷ bodies) all = (all.0, sent_other m host bodies all.1)
-
-other_if : (b : Bool) (x y : List Shown) → AllOther x → AllOther y → AllOther (cond b x y)
-other_if true x y first second = first
-other_if false x y first second = second
-
-bodies_if : (b : Bool) (x y : List Body) → AllOtherBodies x → AllOtherBodies y → AllOtherBodies (cond b x y)
-bodies_if true x y first second = first
-bodies_if false x y first second = second
-
-sends_from_other : (m : Member) (k : ℕ) (hosts : List Host) (bodies : ℕ → List Body) → ((k : ℕ) → AllOtherBodies (bodies k)) → AllOther (sends_from m k hosts bodies)
-sends_from_other m k [] bodies all = tt
-sends_from_other m k (host ∷ hosts) bodies all =
-    other_append (cond (k == m.me) [] (map (λ (b : Body). sent (packet_to m host b)) (bodies k))) (sends_from m (k + 1) hosts bodies)
-    (other_if (k == m.me) [] _ tt (sent_other m host (bodies k) (all k)))
-    (sends_from_other m (k + 1) hosts bodies all)
-
-sends_other : (m : Member) (bodies : ℕ → List Body) → ((k : ℕ) → AllOtherBodies (bodies k)) → AllOther (sends_to_each m bodies)
-sends_other m bodies all = sends_from_other m 0 m.hosts bodies all
-
-put_other : (new : Version) (text : List ℕ) (number left : ℕ) → AllOtherBodies (put_pieces new text number left)
-put_other new text number zero = tt
-put_other new text number (suc left) = (tt, put_other new text (number + 1) left)
-
-write_other : (old new : Version) (text : List ℕ) → AllOtherBodies (write_bodies old new text)
-write_other old new text =
-    (tt, bodies_append (put_pieces new text 0 (piece_count text)) (body.Commit old new ∷ []) (put_other new text 0 (piece_count text)) (tt, tt))
-
-spread_to_other : (s : Server) (poll : ℕ) (old : Version) (has_old : Bool) → IsOther (spread_to s poll old has_old)
-spread_to_other s poll old true = tt
-spread_to_other s poll old false = tt
-
-answer_other : (s : Server) (poll : Polled) (old : Version) (v : Option Version) → AllOtherBodies (spread_answer s poll old v)
-answer_other s poll old None = tt
-answer_other s poll old (Some v) = (spread_to_other s poll.number old (version_eq v old), tt)
-
-spread_other : (s : Server) (poll : Polled) (announced : Version) (f : Option Flight) → AllOtherBodies (spread_bodies s poll announced f)
-spread_other s poll announced None = (tt, tt)
-spread_other s poll announced (Some f) = write_other announced s.version _
-
-waiting_other : (waiting : List Waiting) (r : Reply) → AllOther (waiting_refused waiting r)
-waiting_other [] r = tt
-waiting_other (w ∷ waiting) r = (tt, waiting_other waiting r)
-
-flight_other : (f : Option Flight) (r : Reply) → AllOther (flight_refused f r)
-flight_other None r = tt
-flight_other (Some f) r = (tt, tt)
-
-refused_other : (m : Member) (s : Server) (now : ℕ) (phase : Phase) → AllOther (writes_refused m s now phase)
-refused_other m s now phase =
-    other_append (flight_refused s.flight (no_quorum m s now phase applied.Unknown)) _ (flight_other s.flight _) (waiting_other s.waiting _)
-
-read_other : (id : ℕ) (e : Evaluation) (r : CallReply) → AllOther (read_reply id e r ∷ [])
-read_other id e (call_reply.Done answer) = (tt, tt)
-read_other id e (call_reply.Rule number) = (tt, tt)
-read_other id e call_reply.Malformed = (tt, tt)
-read_other id e (call_reply.BadRecord at) = (tt, tt)
-
--- ---- what holds of a server between the parts of a step
-
--- what its votes and its lease are made of
-pub record Ballot : Type 0 where
-  pub votes : VoteState
-  pub starts : List (Option ℕ)
-
-abbrev pub ballot_of : Server → Ballot
-ballot_of s = record { votes = s.votes; starts = s.starts }
-
-abbrev pub is_held : PhaseRecord → Bool
-is_held NoPhase = false
-is_held _ = true
-
--- a kept write leads no further back
-abbrev pub KeptRises : Version → Option KeptWrite → Type 0
-KeptRises v None = Unit {0}
-KeptRises v (Some w) = v.epoch ≤ w.new.epoch
-
--- What may happen to the epoch of a server in a durable call: it relabels in its lease, and makes its clock the epoch; it commits
--- in an epoch that it may claim; or it takes over what is no older.
-abbrev pub IsLegalCall : Type 0 → (ℕ → Type 0) → ℕ → Version → Version → Reason → Type 0
-IsLegalCall Lease Claim now v new Own_relabelling = (v.epoch < new.epoch) × (new.epoch ≡ now) × Lease
-IsLegalCall Lease Claim now v new (Committed t) = (new.epoch ≡ v.epoch) × Claim v.epoch
-IsLegalCall Lease Claim now v new Received = v.epoch ≤ new.epoch
-
--- durable calls that lead from one version to another
-abbrev pub AreLegal : Type 0 → (ℕ → Type 0) → ℕ → Version → List Made → Version → Type 0
-AreLegal Lease Claim now v [] last = v ≡ last
-AreLegal Lease Claim now v (made ∷ calls) last =
-    IsLegalCall Lease Claim now v (version_after made.call) made.reason × AreLegal Lease Claim now (version_after made.call) calls last
-
-pub legal_append : (Lease : Type 0) (Claim : ℕ → Type 0) (now : ℕ) (v middle last : Version) (calls more : List Made) → AreLegal Lease Claim now v calls middle → AreLegal Lease Claim now middle more last → AreLegal Lease Claim now v (calls ++ more) last
-legal_append Lease Claim now v middle last [] more first second =
-    subst (λ (u : Version). AreLegal Lease Claim now u more last) (sym first) second
-legal_append Lease Claim now v middle last (made ∷ calls) more first second =
-    (first.0, legal_append Lease Claim now (version_after made.call) middle last calls more first.1 second)
-
--- of a server that leads or has led, with its epoch: what it may claim
-pub record Claims (Claim : ℕ → Type 0) (s : Server) : Type 0 where
-  pub sending : is_sending s.phase ≡ true → Claim s.version.epoch
-  pub kept : KeptRises s.version s.kept
-
--- the server in the midst of a step: the votes are those from before; a phase is held in the lease alone
-pub record Fit (m : Member) (now : ℕ) (b : Ballot) (Claim : ℕ → Type 0) (s : Server) : Type 0 where
-  pub ballot : ballot_of s ≡ b
-  pub held : is_held s.phase ≡ true → is_in_lease (cell_size m) b.starts now ≡ true
-  pub claims : Claims Claim s
-
--- a step that leaves the votes
-pub record Rests (m : Member) (now : ℕ) (b : Ballot) (Claim : ℕ → Type 0) (s : Server) (t : Stepped) : Type 0 where
-  pub fit : Fit m now b Claim t.server
-  pub other : AllOther t.shown
-  pub legal : AreLegal (is_in_lease (cell_size m) b.starts now ≡ true) Claim now s.version t.calls t.server.version
-
-lt_true : (a b : ℕ) → nat_lt a b ≡ true → a < b
-lt_true a b is = grind (arith, nat_tests)
-
-lt_false : (a b : ℕ) → nat_lt a b ≡ false → b ≤ a
-lt_false a b is = grind (arith, nat_tests)
-
-eq_true : (a b : ℕ) → (a == b) ≡ true → a ≡ b
-eq_true a b is = grind (arith, nat_tests)
-
-and_both : (a b : Bool) → (a && b) ≡ true → (a ≡ true) × (b ≡ true)
-and_both true b is = (refl, is)
-and_both false b is = absurd (cc)
-
-or_none : (a b : Bool) → (a || b) ≡ false → (a ≡ false) × (b ≡ false)
-or_none true b is = absurd (cc)
-or_none false b is = (refl, is)
-
--- versions that rise
-lt_rises : (a b : Version) → version_lt a b ≡ true → a.epoch ≤ b.epoch
-lt_rises a b is = by (nat_lt a.epoch b.epoch) refl is
-  where
-    by : (t : Bool) → nat_lt a.epoch b.epoch ≡ t → (t || ((a.epoch == b.epoch) && nat_lt a.counter b.counter)) ≡ true → a.epoch ≤ b.epoch
-    by true less is = let h : a.epoch < b.epoch = lt_true _ _ less in omega arith
-    by false less is = let h : a.epoch ≡ b.epoch = eq_true _ _ (and_both (a.epoch == b.epoch) _ is).0 in omega arith
-
-not_lt_rises : (a b : Version) → version_lt a b ≡ false → b.epoch ≤ a.epoch
-not_lt_rises a b is = lt_false _ _ (or_none (nat_lt a.epoch b.epoch) _ is).0
-
-eq_epoch : (a b : Version) → version_eq a b ≡ true → a.epoch ≡ b.epoch
-eq_epoch a b is = eq_true _ _ (and_both (a.epoch == b.epoch) _ is).0
-
-no : {A : Type 0} → false ≡ true → A
-no is = absurd (true≢false (sym is))
-
-and_three : (a b c : Bool) → (a && b && c) ≡ true → (a ≡ true) × (b ≡ true)
-and_three true true c is = (refl, refl)
-and_three true false c is = no is
-and_three false b c is = no is
-
--- the text with a piece is of the version of that piece
-text_version : (may_begin : Bool) (k : ℕ) (version : Version) (total at : ℕ) (bytes : List ℕ) (held : Option ReceivedText) (one : ReceivedText) → text_with may_begin k version total at bytes held ≡ Some one → one.version.epoch ≡ version.epoch
-text_version may_begin k version total at bytes held one is = fits (piece_fits total at bytes) is
-  where
-    continued : (held : Option ReceivedText) → text_continued k version total at bytes held ≡ Some one → one.version.epoch ≡ version.epoch
-    continued None is = absurd (cc)
-    continued (Some text) is = by (continues k version total at text) refl is
-      where
-        by : (t : Bool) → continues k version total at text ≡ t → cond t (Some (record text { bytes = text.bytes ++ bytes })) None ≡ Some one → one.version.epoch ≡ version.epoch
-        by true goes is =
-            let same : record text { bytes = text.bytes ++ bytes } ≡ one = cc in
-            let epoch : text.version.epoch ≡ version.epoch = eq_epoch text.version version (and_three (text.server == k) (version_eq text.version version) (text.total == total) (and_both _ _ goes).0).1 in
-            ap (λ (z : ReceivedText). z.version.epoch) (sym same) ∙ epoch
-        by false goes is = absurd (cc)
-
-    begun : (t : Bool) → cond t (Some (text_begun k version total bytes)) None ≡ Some one → one.version.epoch ≡ version.epoch
-    begun true is = let same : text_begun k version total bytes ≡ one = cc in ap (λ (z : ReceivedText). z.version.epoch) (sym same)
-    begun false is = absurd (cc)
-
-    starts : (t : Bool) → cond t (cond may_begin (Some (text_begun k version total bytes)) None) (text_continued k version total at bytes held) ≡ Some one → one.version.epoch ≡ version.epoch
-    starts true is = begun may_begin is
-    starts false is = continued held is
-
-    fits : (t : Bool) → cond t (cond (at == 0) (cond may_begin (Some (text_begun k version total bytes)) None) (text_continued k version total at bytes held)) None ≡ Some one → one.version.epoch ≡ version.epoch
-    fits true is = starts (at == 0) is
-    fits false is = absurd (cc)
-
--- what becomes of a kept write
-piece_rises : (v new : Version) (number : ℕ) (bytes : List ℕ) (kept : Option KeptWrite) → KeptRises v kept → KeptRises v (kept_with new number bytes kept)
-piece_rises v new number bytes None rises = tt
-piece_rises v new number bytes (Some w) rises =
-    cond_both (version_eq w.new new && nat_lt number (length w.pieces)) _ _ (λ (w : KeptWrite). v.epoch ≤ w.new.epoch) (λ _. rises) (λ _. rises)
-
-but_rises : (v new : Version) (kept : Option KeptWrite) → KeptRises v kept → KeptRises v (kept_but new kept)
-but_rises v new None rises = tt
-but_rises v new (Some w) rises = cond_both (version_eq w.new new) _ _ (KeptRises v) (λ _. tt) (λ _. rises)
-
-whole_rises : (v new : Version) (kept : Option KeptWrite) (one : List Change) → whole_write new kept ≡ Some one → KeptRises v kept → v.epoch ≤ new.epoch
-whole_rises v new None one is rises = absurd (cc)
-whole_rises v new (Some w) one is rises = by (version_eq w.new new) refl is
-  where
-    by : (t : Bool) → version_eq w.new new ≡ t → cond t (whole_changes w) None ≡ Some one → v.epoch ≤ new.epoch
-    by true same is = let e : w.new.epoch ≡ new.epoch = eq_epoch w.new new same in omega arith
-    by false same is = absurd (cc)
+use Rattle.cell_model.specs.Receiver.{is_sending, answers_version_kept, answers_version_is, relabelled_by, set_version_received}
+use Rattle.cell_model.specs.Receiver.{text_went_on, send_piece_received, empty_write, begin_received, kept_with, put_piece_received}
+use Rattle.cell_model.specs.Receiver.{committed_by, write_taken, whole_write, commit_received, kept_but, abort_received, get_piece_received}
+use Rattle.cell_model.specs.Recovery.{asks_versions, has_answered, first_of_epoch, relabelled_to, relabelled, polled, poll_asked}
+use Rattle.cell_model.specs.Recovery.{poll_begun, bytes_received, spread_again, recovered, held_by, holder_added, lacking_sent}
+use Rattle.cell_model.specs.Recovery.{told_to_spread, version_is_received, version_kept_received, next_sent, piece_kept_received, text_with}
+use Rattle.cell_model.specs.Recovery.{is_whole, installed, fetch_installed, fetch_went_on, piece_received}
+use Rattle.cell_model.specs.Step.{Member, cell_size, Basis, Announced_image, Beacon_image, Shown, Stepped, quiet, showing, followed, leased}
+use Rattle.cell_model.specs.Step.{is_ready, is_fetch, told_version, with_phase, with_database, is_short, short_after}
+use Rattle.cell_model.specs.Writes.{announced_image, next_version, own_write_begun, ended_write, flight_settled, settled_in, settled}
+use Rattle.cell_model.specs.Writes.{written_in, written_changes, written_small, written_within, turned, write_turn, is_free_in, is_free}
+use Rattle.cell_model.specs.Writes.{next_turns, settled_with_turns}
+use Rattle.cell_laws.specs.Invariant.{KeptRises, Claims}
+use Rattle.cell_laws.proofs.Others.{IsOther, AllOther, other_append, bodies_if, sends_other, write_other, spread_to_other, answer_other}
+use Rattle.cell_laws.proofs.Others.{spread_other, waiting_other, refused_other, read_other}
+use Rattle.cell_laws.proofs.Parts.{Ballot, ballot_of, is_held, AreLegal, legal_append, Fit, Rests, lt_true, and_both, or_none, lt_rises}
+use Rattle.cell_laws.proofs.Parts.{not_lt_rises, eq_epoch, no, and_three, text_version, piece_rises, but_rises, whole_rises}
 
 -- events that are not of votes
 abbrev pub IsOtherEvent : NodeEvent → Type 0
@@ -277,7 +56,8 @@ IsOtherEvent _ = Unit {0}
 
 -- ---- rule by rule
 
-module _ (db : Database) (m : Member) (now : ℕ) (b : Ballot) (Claim : ℕ → Type 0) (claim_now : is_in_lease (cell_size m) b.starts now ≡ true → Claim now) where
+module _ (db : Database) (m : Member) (now : ℕ) (b : Ballot) (Claim : ℕ → Type 0)
+    (claim_now : is_in_lease (cell_size m) b.starts now ≡ true → Claim now) where
   abbrev Leased : Type 0
   Leased = is_in_lease (cell_size m) b.starts now ≡ true
 
@@ -307,13 +87,16 @@ module _ (db : Database) (m : Member) (now : ℕ) (b : Ballot) (Claim : ℕ → 
     legal = subst (λ (v : Version). AreLegal Leased Claim now v t.calls t.server.version) same r.legal;
   }
 
-  pub follows : (s : Server) (t : Stepped) (next : Server → Stepped) → R s t → (F t.server → R t.server (next t.server)) → R s (followed t next)
+  pub follows : (s : Server) (t : Stepped) (next : Server → Stepped) → R s t → (F t.server → R t.server (next t.server)) →
+      R s (followed t next)
   follows s t next first second =
       let then : R t.server (next t.server) = second first.fit in
       record {
         fit = then.fit;
         other = other_append t.shown (next t.server).shown first.other then.other;
-        legal = legal_append Leased Claim now s.version t.server.version (next t.server).server.version t.calls (next t.server).calls first.legal then.legal;
+        legal =
+            legal_append Leased Claim now s.version t.server.version (next t.server).server.version t.calls
+            (next t.server).calls first.legal then.legal;
       }
 
   lease_of : (s : Server) → F s → leased m s now ≡ true → Leased
@@ -326,7 +109,8 @@ module _ (db : Database) (m : Member) (now : ℕ) (b : Ballot) (Claim : ℕ → 
 
   -- ---- holders
 
-  flight_settled_is : (s : Server) (poll : Polled) (spread : Spread) (announced : Version) (f : Option Flight) → F s → Leased → Claim s.version.epoch → R s (flight_settled m s poll spread announced f)
+  flight_settled_is : (s : Server) (poll : Polled) (spread : Spread) (announced : Version) (f : Option Flight) → F s → Leased →
+      Claim s.version.epoch → R s (flight_settled m s poll spread announced f)
   flight_settled_is s poll spread announced None fit lease claim = rests s fit
   flight_settled_is s poll spread announced (Some f) fit lease claim =
       either s (is_majority (cell_size m) spread.holders) _ _ (λ _. ended) (λ _. rests s fit)
@@ -356,7 +140,8 @@ module _ (db : Database) (m : Member) (now : ℕ) (b : Ballot) (Claim : ℕ → 
 
   -- ---- writes
 
-  written_in_is : (s : Server) (id : ℕ) (call answer image : List ℕ) (changes : List Change) (phase : PhaseRecord) → s.phase ≡ phase → F s → R s (written_in m s now id call answer image changes phase)
+  written_in_is : (s : Server) (id : ℕ) (call answer image : List ℕ) (changes : List Change) (phase : PhaseRecord) → s.phase ≡ phase → F s →
+      R s (written_in m s now id call answer image changes phase)
   written_in_is s id call answer image changes NoPhase at fit = rests s fit
   written_in_is s id call answer image changes (Poll poll) at fit = rests s fit
   written_in_is s id call answer image changes (Fetch poll best host) at fit = rests s fit
@@ -380,7 +165,8 @@ module _ (db : Database) (m : Member) (now : ℕ) (b : Ballot) (Claim : ℕ → 
   waiting_fit s waiting fit =
       record { ballot = fit.ballot; held = fit.held; claims = record { sending = fit.claims.sending; kept = fit.claims.kept } }
 
-  written_changes_is : (s : Server) (id : ℕ) (call answer image : List ℕ) (changes : List Change) → F s → Leased → R s (written_changes m s now id call answer image changes)
+  written_changes_is : (s : Server) (id : ℕ) (call answer image : List ℕ) (changes : List Change) → F s → Leased →
+      R s (written_changes m s now id call answer image changes)
   written_changes_is s id call answer image changes fit lease =
       either s (s.version.counter == MAX_COUNTER) _ _
       (λ _. turns s (polling m (record s { waiting = [] }) now) _ refl
@@ -388,17 +174,21 @@ module _ (db : Database) (m : Member) (now : ℕ) (b : Ballot) (Claim : ℕ → 
       (tt, waiting_other s.waiting _))
       (λ _. written_in_is s id call answer image changes s.phase refl fit)
 
-  written_small_is : (s : Server) (id : ℕ) (call answer image : List ℕ) (changes : List Change) → F s → Leased → R s (written_small m s now id call answer image changes)
+  written_small_is : (s : Server) (id : ℕ) (call answer image : List ℕ) (changes : List Change) → F s → Leased →
+      R s (written_small m s now id call answer image changes)
   written_small_is s id call answer image [] fit lease = shows s _ fit (tt, tt)
-  written_small_is s id call answer image (change ∷ changes) fit lease = written_changes_is s id call answer image (change ∷ changes) fit lease
+  written_small_is s id call answer image (change ∷ changes) fit lease =
+      written_changes_is s id call answer image (change ∷ changes) fit lease
 
-  written_within_is : (s : Server) (id : ℕ) (call answer image : List ℕ) (changes : List Change) (passed : Option ℕ) → F s → Leased → R s (written_within m s now id call answer image changes passed)
+  written_within_is : (s : Server) (id : ℕ) (call answer image : List ℕ) (changes : List Change) (passed : Option ℕ) → F s → Leased →
+      R s (written_within m s now id call answer image changes passed)
   written_within_is s id call answer image changes None fit lease = written_small_is s id call answer image changes fit lease
   written_within_is s id call answer image changes (Some bytes) fit lease = shows s _ fit (tt, tt)
 
   turned_is : (s : Server) (id : ℕ) (call image : List ℕ) (r : CallReply) → F s → Leased → R s (turned db m s now id call image r)
   turned_is s id call image (call_reply.Done answer) fit lease =
-      written_within_is s id call answer image (changes_of db s.image image) (too_large 0 (length s.image) (changes_of db s.image image)) fit lease
+      written_within_is s id call answer image (changes_of db s.image image)
+      (too_large 0 (length s.image) (changes_of db s.image image)) fit lease
   turned_is s id call image (call_reply.Rule number) fit lease = shows s _ fit (tt, tt)
   turned_is s id call image call_reply.Malformed fit lease = shows s _ fit (tt, tt)
   turned_is s id call image (call_reply.BadRecord at) fit lease = shows s _ fit (tt, tt)
@@ -421,9 +211,11 @@ module _ (db : Database) (m : Member) (now : ℕ) (b : Ballot) (Claim : ℕ → 
   next_turns_is (w ∷ waiting) s short fit =
       either s (is_free s) _ _
       (λ free. follows s (write_turn db m (record s { waiting = waiting }) now w.id w.call (is_short short))
-      (λ after. next_turns db m now waiting after (short_after (write_turn db m (record s { waiting = waiting }) now w.id w.call (is_short short)).shown short))
+      (λ after. next_turns db m now waiting after
+      (short_after (write_turn db m (record s { waiting = waiting }) now w.id w.call (is_short short)).shown short))
       (before s (record s { waiting = waiting }) _ refl
-      (turn_is (record s { waiting = waiting }) w.id w.call (is_short short) (waiting_fit s waiting fit) (fit.held (free_held s.phase s.flight free))))
+      (turn_is (record s { waiting = waiting }) w.id w.call (is_short short) (waiting_fit s waiting fit)
+      (fit.held (free_held s.phase s.flight free))))
       (λ fit. next_turns_is waiting _ _ fit))
       (λ _. rests s fit)
 
@@ -439,7 +231,8 @@ module _ (db : Database) (m : Member) (now : ℕ) (b : Ballot) (Claim : ℕ → 
       either s short _ _ (λ _. shows s _ fit (tt, tt))
       (λ _. shows s _ fit (read_other id (record { call = call; moment = now; basis = basis }) (db.call image now call).reply))
 
-  write_asked_is : (s : Server) (id : ℕ) (call : List ℕ) (short : Bool) (f : Option Flight) → F s → Leased → R s (write_asked db m s now id call short f)
+  write_asked_is : (s : Server) (id : ℕ) (call : List ℕ) (short : Bool) (f : Option Flight) → F s → Leased →
+      R s (write_asked db m s now id call short f)
   write_asked_is s id call short None fit lease = turn_is s id call short fit lease
   write_asked_is s id call short (Some f) fit lease =
       either s (nat_le MAX_WAITING (length s.waiting)) _ _ (λ _. shows s _ fit (tt, tt))
@@ -451,7 +244,8 @@ module _ (db : Database) (m : Member) (now : ℕ) (b : Ballot) (Claim : ℕ → 
       either s writes _ _ (λ _. write_asked_is s id call short s.flight fit lease)
       (λ _. read_is s id call (announced_image s) (Announced_image (told_version s.phase s.version)) short fit)
 
-  elsewhere_is : (s : Server) (id : ℕ) (call : List ℕ) (writes short may_read : Bool) → F s → R s (asked_elsewhere db m s now id call writes short may_read)
+  elsewhere_is : (s : Server) (id : ℕ) (call : List ℕ) (writes short may_read : Bool) → F s →
+      R s (asked_elsewhere db m s now id call writes short may_read)
   elsewhere_is s id call writes short may_read fit =
       either s writes _ _ (λ _. shows s _ fit (tt, tt))
       (λ _. either s may_read _ _ (λ _. read_is s id call s.image (Beacon_image s.version) short fit) (λ _. shows s _ fit (tt, tt)))
@@ -474,7 +268,9 @@ module _ (db : Database) (m : Member) (now : ℕ) (b : Ballot) (Claim : ℕ → 
       made : nat_lt s.version.epoch now ≡ true → R s (relabelled_to m s poll (first_of_epoch now))
       made less = record {
         fit = record { ballot = fit.ballot; held = λ _. lease; claims = record { sending = λ _. claim_now lease; kept = tt } };
-        other = sends_other m _ (λ k. answer_other (relabelled_to m s poll (first_of_epoch now)).server poll s.version (entry_at poll.answers k));
+        other =
+            sends_other m _
+            (λ k. answer_other (relabelled_to m s poll (first_of_epoch now)).server poll s.version (entry_at poll.answers k));
         legal = ((lt_true _ _ less, refl, lease), refl);
       }
 
@@ -507,7 +303,8 @@ module _ (db : Database) (m : Member) (now : ℕ) (b : Ballot) (Claim : ℕ → 
       either s (leased m s now) _ _ (λ is. poll_begun_is s fit (lease_of s fit is)) (λ _. rests s fit)
   recovered_is s (Poll poll) at fit = poll_asked_is s poll fit (fit.held (ap is_held at))
   recovered_is s (Fetch poll best k) at fit =
-      either s (nat_lt (poll.number + SMALLTIME) now) _ _ (λ _. poll_begun_is s fit (fit.held (ap is_held at))) (λ _. shows s _ fit (tt, tt))
+      either s (nat_lt (poll.number + SMALLTIME) now) _ _ (λ _. poll_begun_is s fit (fit.held (ap is_held at)))
+      (λ _. shows s _ fit (tt, tt))
   recovered_is s (Relabel poll) at fit = relabelled_is s poll fit (fit.held (ap is_held at))
   recovered_is s (Send poll spread) at fit =
       follows s (spread_again m s poll spread s.version) (settled m) (spread_is s poll spread s.version fit) (settled_is s)
@@ -515,12 +312,14 @@ module _ (db : Database) (m : Member) (now : ℕ) (b : Ballot) (Claim : ℕ → 
 
   -- ---- pieces
 
-  next_sent_is : (s : Server) (host : Host) (poll : Polled) (version : Version) (next : ℕ) (f : Option Flight) → F s → R s (next_sent m s host poll version next f)
+  next_sent_is : (s : Server) (host : Host) (poll : Polled) (version : Version) (next : ℕ) (f : Option Flight) → F s →
+      R s (next_sent m s host poll version next f)
   next_sent_is s host poll version next None fit =
       either s (version_eq version s.version && nat_lt next (length s.image)) _ _ (λ _. shows s _ fit (tt, tt)) (λ _. rests s fit)
   next_sent_is s host poll version next (Some f) fit = rests s fit
 
-  piece_kept_is : (s : Server) (host : Host) (version : Version) (next : ℕ) (phase : PhaseRecord) → F s → R s (piece_kept_received m s host version next phase)
+  piece_kept_is : (s : Server) (host : Host) (version : Version) (next : ℕ) (phase : PhaseRecord) → F s →
+      R s (piece_kept_received m s host version next phase)
   piece_kept_is s host version next NoPhase fit = rests s fit
   piece_kept_is s host version next (Poll poll) fit = rests s fit
   piece_kept_is s host version next (Fetch poll best k) fit = rests s fit
@@ -533,28 +332,33 @@ module _ (db : Database) (m : Member) (now : ℕ) (b : Ballot) (Claim : ℕ → 
   taken_fit s version image idle fit =
       record { ballot = fit.ballot; held = fit.held; claims = record { sending = λ is. no (sym idle ∙ is); kept = tt } }
 
-  installed_is : (s : Server) (version : Version) (image : List ℕ) → is_sending s.phase ≡ false → s.version.epoch ≤ version.epoch → F s → R s (installed s version image)
+  installed_is : (s : Server) (version : Version) (image : List ℕ) → is_sending s.phase ≡ false → s.version.epoch ≤ version.epoch → F s →
+      R s (installed s version image)
   installed_is s version image idle rises fit = record { fit = taken_fit s version image idle fit; other = tt; legal = (rises, refl) }
 
   text_fit : (s : Server) (text : Option ReceivedText) → F s → F (record s { received = text })
   text_fit s text fit =
       record { ballot = fit.ballot; held = fit.held; claims = record { sending = fit.claims.sending; kept = fit.claims.kept } }
 
-  fetch_is : (s : Server) (poll : Polled) (best : Version) (from : ℕ) (text : Option ReceivedText) → is_sending s.phase ≡ false → F s → Leased → R s (fetch_went_on m s now poll best from text)
+  fetch_is : (s : Server) (poll : Polled) (best : Version) (from : ℕ) (text : Option ReceivedText) → is_sending s.phase ≡ false → F s →
+      Leased → R s (fetch_went_on m s now poll best from text)
   fetch_is s poll best from None idle fit lease = rests s fit
   fetch_is s poll best from (Some text) idle fit lease =
       either s (is_whole text) _ _
       (λ _. follows s (fetch_installed s best text.bytes) (λ after. relabelled m after poll now)
-      (either s (version_lt s.version best) _ _ (λ less. installed_is s best text.bytes idle (lt_rises s.version best less) fit) (λ _. rests s fit))
+      (either s (version_lt s.version best) _ _ (λ less. installed_is s best text.bytes idle (lt_rises s.version best less) fit)
+      (λ _. rests s fit))
       (λ fit. relabelled_is (fetch_installed s best text.bytes).server poll fit lease))
       (λ _. turns s (record s { received = Some text }) _ refl (text_fit s (Some text) fit) (tt, tt))
 
-  piece_received_is : (s : Server) (k number : ℕ) (version : Version) (total at : ℕ) (bytes : List ℕ) (phase : PhaseRecord) → s.phase ≡ phase → F s → R s (piece_received m s now k number version total at bytes phase)
+  piece_received_is : (s : Server) (k number : ℕ) (version : Version) (total at : ℕ) (bytes : List ℕ) (phase : PhaseRecord) →
+      s.phase ≡ phase → F s → R s (piece_received m s now k number version total at bytes phase)
   piece_received_is s k number version total at bytes NoPhase is fit = rests s fit
   piece_received_is s k number version total at bytes (Poll poll) is fit = rests s fit
   piece_received_is s k number version total at bytes (Fetch poll best from) is fit =
       either s (k == from && number == poll.number && version_eq version best) _ _
-      (λ _. fetch_is s poll best from (text_with (bytes_received s.received == 0) k version total at bytes s.received) (ap is_sending is) fit (fit.held (ap is_held is)))
+      (λ _. fetch_is s poll best from (text_with (bytes_received s.received == 0) k version total at bytes s.received)
+      (ap is_sending is) fit (fit.held (ap is_held is)))
       (λ _. rests s fit)
   piece_received_is s k number version total at bytes (Relabel poll) is fit = rests s fit
   piece_received_is s k number version total at bytes (Send poll spread) is fit = rests s fit
@@ -589,28 +393,34 @@ module _ (db : Database) (m : Member) (now : ℕ) (b : Ballot) (Claim : ℕ → 
         claims = record { sending = λ is. fit.claims.sending (sym (held_sending s.phase k) ∙ is); kept = fit.claims.kept };
       }
 
-  lacking_is : (s : Server) (host : Host) (poll : Polled) (spread : Spread) (version : Version) (f : Option Flight) → F s → R s (lacking_sent m s host poll spread version f)
+  lacking_is : (s : Server) (host : Host) (poll : Polled) (spread : Spread) (version : Version) (f : Option Flight) → F s →
+      R s (lacking_sent m s host poll spread version f)
   lacking_is s host poll spread version None fit = shows s _ fit (spread_to_other s poll.number spread.old _, tt)
   lacking_is s host poll spread version (Some f) fit = rests s fit
 
-  told_is : (s : Server) (host : Host) (k : ℕ) (poll : Polled) (spread : Spread) (number : ℕ) (version : Version) (short : List Bool) → F s → R s (told_to_spread db m s now host k poll spread number version short)
+  told_is : (s : Server) (host : Host) (k : ℕ) (poll : Polled) (spread : Spread) (number : ℕ) (version : Version) (short : List Bool) →
+      F s → R s (told_to_spread db m s now host k poll spread number version short)
   told_is s host k poll spread number version short fit =
       either s (number == poll.number) _ _
-      (λ _. either s (version_eq version s.version) _ _ (λ _. holder_is s k short fit) (λ _. lacking_is s host poll spread version s.flight fit))
+      (λ _. either s (version_eq version s.version) _ _ (λ _. holder_is s k short fit)
+      (λ _. lacking_is s host poll spread version s.flight fit))
       (λ _. rests s fit)
 
-  version_told_is : (s : Server) (host : Host) (k number : ℕ) (version : Version) (short : List Bool) (phase : PhaseRecord) → s.phase ≡ phase → F s → R s (version_is_received db m s now host k number version short phase)
+  version_told_is : (s : Server) (host : Host) (k number : ℕ) (version : Version) (short : List Bool) (phase : PhaseRecord) →
+      s.phase ≡ phase → F s → R s (version_is_received db m s now host k number version short phase)
   version_told_is s host k number version short NoPhase at fit = rests s fit
   version_told_is s host k number version short (Poll poll) at fit =
       either s (number == poll.number) _ _ (λ _. polled_is s (with_answer poll k version) fit (fit.held (ap is_held at))) (λ _. rests s fit)
   version_told_is s host k number version short (Fetch poll best from) at fit =
       either s (from == k && not (version_eq version best)) _ _
-      (λ _. turns s (polling m s now) [] refl (in_phase s (Poll (new_poll m s now)) fit (fit.held (ap is_held at)) (λ is. no is)) tt) (λ _. rests s fit)
+      (λ _. turns s (polling m s now) [] refl (in_phase s (Poll (new_poll m s now)) fit (fit.held (ap is_held at)) (λ is. no is)) tt)
+      (λ _. rests s fit)
   version_told_is s host k number version short (Relabel poll) at fit = rests s fit
   version_told_is s host k number version short (Send poll spread) at fit = told_is s host k poll spread number version short fit
   version_told_is s host k number version short (Ready poll spread announced) at fit = told_is s host k poll spread number version short fit
 
-  version_kept_is : (s : Server) (k : ℕ) (version : Version) (short : List Bool) (phase : PhaseRecord) → F s → R s (version_kept_received db m s now k version short phase)
+  version_kept_is : (s : Server) (k : ℕ) (version : Version) (short : List Bool) (phase : PhaseRecord) → F s →
+      R s (version_kept_received db m s now k version short phase)
   version_kept_is s k version short NoPhase fit = rests s fit
   version_kept_is s k version short (Poll poll) fit = rests s fit
   version_kept_is s k version short (Fetch poll best from) fit = rests s fit
@@ -633,7 +443,8 @@ module _ (db : Database) (m : Member) (now : ℕ) (b : Ballot) (Claim : ℕ → 
       either s (is_sending s.phase) _ _ (λ _. rests s fit)
       (λ idle. either s (version_eq s.version new) _ _ (λ _. keeps_is s host fit)
       (λ _. either s (version_eq s.version old && version_lt old new) _ _
-      (λ is. follows s (relabelled_by s new) (answers_version_kept m host) (set_here idle (and_both (version_eq s.version old) _ is)) (keeps_is _ host))
+      (λ is. follows s (relabelled_by s new) (answers_version_kept m host) (set_here idle (and_both (version_eq s.version old) _ is))
+      (keeps_is _ host))
       (λ _. tells_is s host poll fit)))
     where
       set_here : is_sending s.phase ≡ false → (version_eq s.version old ≡ true) × (version_lt old new ≡ true) → R s (relabelled_by s new)
@@ -642,14 +453,17 @@ module _ (db : Database) (m : Member) (now : ℕ) (b : Ballot) (Claim : ℕ → 
           let rises : old.epoch ≤ new.epoch = lt_rises old new is.1 in
           record { fit = taken_fit s new s.image idle fit; other = tt; legal = (omega arith, refl) }
 
-  text_is : (s : Server) (host : Host) (poll : ℕ) (text : Option ReceivedText) → is_sending s.phase ≡ false → ((one : ReceivedText) → text ≡ Some one → s.version.epoch ≤ one.version.epoch) → F s → R s (text_went_on m s host poll text)
+  text_is : (s : Server) (host : Host) (poll : ℕ) (text : Option ReceivedText) → is_sending s.phase ≡ false →
+      ((one : ReceivedText) → text ≡ Some one → s.version.epoch ≤ one.version.epoch) → F s → R s (text_went_on m s host poll text)
   text_is s host poll None idle rises fit = rests s fit
   text_is s host poll (Some text) idle rises fit =
       either s (is_whole text) _ _
-      (λ _. follows s (installed s text.version text.bytes) (answers_version_kept m host) (installed_is s text.version text.bytes idle (rises text refl) fit) (keeps_is _ host))
+      (λ _. follows s (installed s text.version text.bytes) (answers_version_kept m host)
+      (installed_is s text.version text.bytes idle (rises text refl) fit) (keeps_is _ host))
       (λ _. turns s (record s { received = Some text }) _ refl (text_fit s (Some text) fit) (tt, tt))
 
-  piece_taken_is : (s : Server) (host : Host) (k poll : ℕ) (version : Version) (total at : ℕ) (bytes : List ℕ) → F s → R s (send_piece_received m s host k poll version total at bytes)
+  piece_taken_is : (s : Server) (host : Host) (k poll : ℕ) (version : Version) (total at : ℕ) (bytes : List ℕ) → F s →
+      R s (send_piece_received m s host k poll version total at bytes)
   piece_taken_is s host k poll version total at bytes fit =
       either s (is_sending s.phase || is_fetch s.phase) _ _ (λ _. rests s fit)
       (λ idle. either s (version_eq s.version version) _ _ (λ _. keeps_is s host fit)
@@ -668,7 +482,8 @@ module _ (db : Database) (m : Member) (now : ℕ) (b : Ballot) (Claim : ℕ → 
   write_kept_is s old new pieces len fit =
       either s (is_sending s.phase) _ _ (λ _. rests s fit)
       (λ _. either s (version_eq s.version old && version_lt old new && nat_le pieces MAX_PIECES) _ _
-      (λ is. turns s (record s { kept = Some (empty_write old new pieces len) }) [] refl (kept_fit s (Some (empty_write old new pieces len)) (rises is) fit) tt)
+      (λ is. turns s (record s { kept = Some (empty_write old new pieces len) }) [] refl
+      (kept_fit s (Some (empty_write old new pieces len)) (rises is) fit) tt)
       (λ _. rests s fit))
     where
       rises : (version_eq s.version old && version_lt old new && nat_le pieces MAX_PIECES) ≡ true → s.version.epoch ≤ new.epoch
@@ -681,9 +496,11 @@ module _ (db : Database) (m : Member) (now : ℕ) (b : Ballot) (Claim : ℕ → 
   write_piece_is : (s : Server) (new : Version) (number : ℕ) (bytes : List ℕ) → F s → R s (put_piece_received s new number bytes)
   write_piece_is s new number bytes fit =
       either s (is_sending s.phase) _ _ (λ _. rests s fit)
-      (λ _. turns s (record s { kept = kept_with new number bytes s.kept }) [] refl (kept_fit s _ (piece_rises s.version new number bytes s.kept fit.claims.kept) fit) tt)
+      (λ _. turns s (record s { kept = kept_with new number bytes s.kept }) [] refl
+      (kept_fit s _ (piece_rises s.version new number bytes s.kept fit.claims.kept) fit) tt)
 
-  taken_is : (s : Server) (host : Host) (new : Version) (changes : Option (List Change)) → is_sending s.phase ≡ false → ((one : List Change) → changes ≡ Some one → s.version.epoch ≤ new.epoch) → F s → R s (write_taken m s host new changes)
+  taken_is : (s : Server) (host : Host) (new : Version) (changes : Option (List Change)) → is_sending s.phase ≡ false →
+      ((one : List Change) → changes ≡ Some one → s.version.epoch ≤ new.epoch) → F s → R s (write_taken m s host new changes)
   taken_is s host new None idle rises fit = rests s fit
   taken_is s host new (Some changes) idle rises fit =
       either s (is_none (too_large 0 (length s.image) changes)) _ _
@@ -702,17 +519,21 @@ module _ (db : Database) (m : Member) (now : ℕ) (b : Ballot) (Claim : ℕ → 
   write_dropped_is : (s : Server) (new : Version) → F s → R s (abort_received s new)
   write_dropped_is s new fit =
       either s (is_sending s.phase) _ _ (λ _. rests s fit)
-      (λ _. turns s (record s { kept = kept_but new s.kept }) [] refl (kept_fit s _ (but_rises s.version new s.kept fit.claims.kept) fit) tt)
+      (λ _. turns s (record s { kept = kept_but new s.kept }) [] refl
+      (kept_fit s _ (but_rises s.version new s.kept fit.claims.kept) fit) tt)
 
-  piece_asked_is : (s : Server) (host : Host) (poll : ℕ) (version : Version) (at : ℕ) → F s → R s (get_piece_received m s host poll version at)
+  piece_asked_is : (s : Server) (host : Host) (poll : ℕ) (version : Version) (at : ℕ) → F s →
+      R s (get_piece_received m s host poll version at)
   piece_asked_is s host poll version at fit =
-      either s (version_eq s.version version && (at == 0 || nat_lt at (length s.image))) _ _ (λ _. shows s _ fit (tt, tt)) (λ _. tells_is s host poll fit)
+      either s (version_eq s.version version && (at == 0 || nat_lt at (length s.image))) _ _ (λ _. shows s _ fit (tt, tt))
+      (λ _. tells_is s host poll fit)
 
   -- ---- the lapse
 
   pub lapsed_is : (s : Server) → ballot_of s ≡ b → Claims Claim s → R s (lapsed m s now)
   lapsed_is s ballot claims =
-      either s (leased m s now) _ _ (λ is. kept (subst (λ (c : Ballot). is_in_lease (cell_size m) c.starts now ≡ true) ballot is) s.flight) (λ _. dropped)
+      either s (leased m s now) _ _ (λ is. kept (subst (λ (c : Ballot). is_in_lease (cell_size m) c.starts now ≡ true) ballot is) s.flight)
+      (λ _. dropped)
     where
       dropped : R s (phase_dropped m s now)
       dropped = record {
@@ -727,21 +548,25 @@ module _ (db : Database) (m : Member) (now : ℕ) (b : Ballot) (Claim : ℕ → 
           either s (nat_lt (f.began + SMALLTIME) now) _ _
           (λ _. record {
             fit = record { ballot = ballot; held = λ _. lease; claims = record { sending = λ is. no is; kept = claims.kept } };
-            other = other_append (writes_refused m s now phases.Poll) _ (refused_other m s now phases.Poll) (sends_other m _ (λ k. (tt, tt)));
+            other =
+                other_append (writes_refused m s now phases.Poll) _ (refused_other m s now phases.Poll) (sends_other m _ (λ k. (tt, tt)));
             legal = refl;
           })
           (λ _. rests s (record { ballot = ballot; held = λ _. lease; claims = claims }))
 
   -- ---- every event but those of votes
 
-  received_is : (s : Server) (host : Host) (k : ℕ) (c : Body) (short : List Bool) → IsOther c → F s → R s (received_from db m s now host k c short)
+  received_is : (s : Server) (host : Host) (k : ℕ) (c : Body) (short : List Bool) → IsOther c → F s →
+      R s (received_from db m s now host k c short)
   received_is s host k (body.Beacon start claim ready version) short other fit = absurd other
   received_is s host k (body.Vote start granted) short other fit = absurd other
   received_is s host k (body.GetVersion poll) short other fit = tells_is s host poll fit
   received_is s host k (body.VersionIs poll version) short other fit = version_told_is s host k poll version short s.phase refl fit
   received_is s host k (body.GetPiece poll version offset) short other fit = piece_asked_is s host poll version offset fit
-  received_is s host k (body.Piece poll version total offset bytes) short other fit = piece_received_is s k poll version total offset bytes s.phase refl fit
-  received_is s host k (body.SendPiece poll version total offset bytes) short other fit = piece_taken_is s host k poll version total offset bytes fit
+  received_is s host k (body.Piece poll version total offset bytes) short other fit =
+      piece_received_is s k poll version total offset bytes s.phase refl fit
+  received_is s host k (body.SendPiece poll version total offset bytes) short other fit =
+      piece_taken_is s host k poll version total offset bytes fit
   received_is s host k (body.PieceKept poll version next) short other fit = piece_kept_is s host version next s.phase fit
   received_is s host k (body.SetVersion poll old new) short other fit = version_set_is s host poll old new fit
   received_is s host k (body.Begin old new pieces len) short other fit = write_kept_is s old new pieces len fit
@@ -750,7 +575,8 @@ module _ (db : Database) (m : Member) (now : ℕ) (b : Ballot) (Claim : ℕ → 
   received_is s host k (body.Abort new) short other fit = write_dropped_is s new fit
   received_is s host k (body.VersionKept version) short other fit = version_kept_is s k version short s.phase fit
 
-  packet_is : (s : Server) (p : Packet) (short : List Bool) (place : Option ℕ) → IsOther p.body → F s → R s (received_packet db m s now p short place)
+  packet_is : (s : Server) (p : Packet) (short : List Bool) (place : Option ℕ) → IsOther p.body → F s →
+      R s (received_packet db m s now p short place)
   packet_is s p short None other fit = rests s fit
   packet_is s p short (Some k) other fit = received_is s p.from k p.body short other fit
 
@@ -760,7 +586,8 @@ module _ (db : Database) (m : Member) (now : ℕ) (b : Ballot) (Claim : ℕ → 
   handled_is s event.RecoverTurn short other fit = recovered_is s s.phase refl fit
   handled_is s (event.Ask id call) short other fit = asked_as_is s id call (is_short short) (db.writes call) fit
 
-  pub step_rests : (s : Server) (e : NodeEvent) (short : List Bool) → IsOtherEvent e → ballot_of s ≡ b → Claims Claim s → R s (step_of db m s now e short)
+  pub step_rests : (s : Server) (e : NodeEvent) (short : List Bool) → IsOtherEvent e → ballot_of s ≡ b → Claims Claim s →
+      R s (step_of db m s now e short)
   unfolding step_of
   step_rests s e short other ballot claims =
       follows s (lapsed m s now) (λ after. handled db m after now e (short_after (lapsed m s now).shown short)) (lapsed_is s ballot claims)

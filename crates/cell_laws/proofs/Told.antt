@@ -13,28 +13,8 @@ use Rattle.cell_model.specs.declared.events.Output.TheVariants as output
 use Rattle.cell_model.specs.NodeRule.{place_of}
 use Rattle.cell_model.specs.Step.{Member, Shown, host_at, packet_to, sent, sends_from}
 use Rattle.cell_model.specs.World.{packet_in, packets_of}
-use Rattle.cell_laws.proofs.Steps.{IsOther, IsOtherOutput, AllOther}
-
-abbrev pub TellsBeacon : Leases → ℕ → Option ℕ → Type 0
-TellsBeacon x start from = (h : ℕ) → from ≡ Some h → IsIn x.beacons (record { asker = h; start = start })
-
-abbrev pub IsGiven : Leases → ℕ → ℕ → ℕ → Type 0
-IsGiven x v h start = (at : ℕ) × IsIn x.yeses (record { voter = v; asker = h; start = start; at = at })
-
-abbrev pub TellsVote : Leases → ℕ → Bool → Option ℕ → Option ℕ → Type 0
-TellsVote x start granted from to = granted ≡ true → (v h : ℕ) → from ≡ Some v → to ≡ Some h → IsGiven x v h start
-
-abbrev pub Tells : Leases → Body → Option ℕ → Option ℕ → Type 0
-Tells x (body.Beacon start claim ready version) from to = TellsBeacon x start from
-Tells x (body.Vote start granted) from to = TellsVote x start granted from to
-Tells x _ from to = Unit {0}
-
-abbrev pub IsTold : List Host → Leases → Packet → Type 0
-IsTold hosts x p = Tells x p.body (place_of hosts p.from) (place_of hosts p.to)
-
-abbrev pub AllTold : List Host → Leases → List Packet → Type 0
-AllTold hosts x [] = Unit {0}
-AllTold hosts x (p ∷ packets) = IsTold hosts x p × AllTold hosts x packets
+use Rattle.cell_laws.proofs.Others.{IsOther, IsOtherOutput, AllOther}
+use Rattle.cell_laws.specs.Invariant.{TellsBeacon, Tells, IsTold, AllTold}
 
 abbrev OutputTold : List Host → Leases → Output → Type 0
 OutputTold hosts x (output.Send packet) = IsTold hosts x packet
@@ -65,20 +45,24 @@ all_more hosts x y [] grew all = tt
 all_more hosts x y (p ∷ packets) grew all =
     (tells_more x y p.body (place_of hosts p.from) (place_of hosts p.to) grew all.0, all_more hosts x y packets grew all.1)
 
-pub all_append : (hosts : List Host) (x : Leases) (packets more : List Packet) → AllTold hosts x packets → AllTold hosts x more → AllTold hosts x (packets ++ more)
+pub all_append : (hosts : List Host) (x : Leases) (packets more : List Packet) → AllTold hosts x packets → AllTold hosts x more →
+    AllTold hosts x (packets ++ more)
 all_append hosts x [] more all rest = rest
 all_append hosts x (p ∷ packets) more all rest = (all.0, all_append hosts x packets more all.1 rest)
 
-pub all_get : (hosts : List Host) (x : Leases) (packets : List Packet) (k : ℕ) (p : Packet) → AllTold hosts x packets → slice_get packets k ≡ Some p → IsTold hosts x p
+pub all_get : (hosts : List Host) (x : Leases) (packets : List Packet) (k : ℕ) (p : Packet) → AllTold hosts x packets →
+    slice_get packets k ≡ Some p → IsTold hosts x p
 all_get hosts x [] k p all is = absurd (cc)
 all_get hosts x (q ∷ packets) zero p all is = let same : q ≡ p = cc in subst (IsTold hosts x) same all.0
 all_get hosts x (q ∷ packets) (suc k) p all is = all_get hosts x packets k p all.1 is
 
-pub told_append : (hosts : List Host) (x : Leases) (shown more : List Shown) → ShownTold hosts x shown → ShownTold hosts x more → ShownTold hosts x (shown ++ more)
+pub told_append : (hosts : List Host) (x : Leases) (shown more : List Shown) → ShownTold hosts x shown → ShownTold hosts x more →
+    ShownTold hosts x (shown ++ more)
 told_append hosts x [] more all rest = rest
 told_append hosts x (one ∷ shown) more all rest = (all.0, told_append hosts x shown more all.1 rest)
 
-packets_told : (hosts : List Host) (x : Leases) (o : Output) (packets : List Packet) → OutputTold hosts x o → AllTold hosts x packets → AllTold hosts x (cons_option (packet_in o) packets)
+packets_told : (hosts : List Host) (x : Leases) (o : Output) (packets : List Packet) → OutputTold hosts x o → AllTold hosts x packets →
+    AllTold hosts x (cons_option (packet_in o) packets)
 packets_told hosts x (output.Send packet) packets told all = (told, all)
 packets_told hosts x (output.Reply id r) packets told all = all
 packets_told hosts x (output.Announce version) packets told all = all
@@ -103,7 +87,9 @@ other_told hosts x [] all = tt
 other_told hosts x (one ∷ shown) all = (output_other hosts x one.output all.0, other_told hosts x shown all.1)
 
 -- a beacon to each other server
-pub beacons_told : (m : Member) (x : Leases) (k : ℕ) (hosts : List Host) (start : ℕ) (claim ready : Bool) (version : Version) → TellsBeacon x start (place_of m.hosts (host_at m.hosts m.me)) → ShownTold m.hosts x (sends_from m k hosts (λ k. body.Beacon start claim ready version ∷ []))
+pub beacons_told : (m : Member) (x : Leases) (k : ℕ) (hosts : List Host) (start : ℕ) (claim ready : Bool) (version : Version) →
+    TellsBeacon x start (place_of m.hosts (host_at m.hosts m.me)) →
+    ShownTold m.hosts x (sends_from m k hosts (λ k. body.Beacon start claim ready version ∷ []))
 beacons_told m x k [] start claim ready version told = tt
 beacons_told m x k (host ∷ hosts) start claim ready version told =
     told_append m.hosts x (cond (k == m.me) [] (sent (packet_to m host (body.Beacon start claim ready version)) ∷ [])) _ (by (k == m.me))

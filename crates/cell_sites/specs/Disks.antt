@@ -1,5 +1,5 @@
 -- What the disks of a running cell read as, and how often they failed.
-use Rattle.std.specs.Prelude.{◌≡◌, ◌≤◌, ℕ, ◌+◌, Unit, Option, Some, None, IsSomeAnd, List, [], ◌∷◌, map}
+use Rattle.std.specs.Prelude.{◌≡◌, ◌≤◌, ℕ, ◌+◌, Option, Some, None, IsSomeAnd, List, [], ◌∷◌, map}
 use Rattle.disk_base.specs.Files.{Files}
 use Rattle.cell_model.specs.Durable.{durable}
 use Rattle.cell_model.specs.Node.{Node, Down, Halted, Up}

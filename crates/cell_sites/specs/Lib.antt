@@ -1,8 +1,13 @@
 pub mod Disks
+pub mod Opened
+pub mod OpenedServer
 pub mod Packets
+pub mod Places
 pub mod Sites
 pub mod Sound
+pub mod Stepped
 pub mod Swept
 pub mod SweptTo
+pub mod Telling
 pub mod Told
 pub mod Traffic

@@ -1,5 +1,5 @@
 -- What a running cell stands for: a cell of the model.
-use Rattle.std.specs.Prelude.{◌≡◌, ℕ, Unit, Option, Some, None, List, [], ◌∷◌, length, map, replicate}
+use Rattle.std.specs.Prelude.{◌≡◌, ℕ, Option, Some, None, List, [], ◌∷◌, length, map, replicate}
 use Rattle.disk_base.specs.Files.{Files}
 use Rattle.cell_model.specs.Node.{Node, Down, Halted, Up}
 use Rattle.cell_model.specs.World.{Site as ModelSite}
@@ -25,11 +25,11 @@ abbrev pub site_disk : {D V : Type 0} → Site D V → D
 site_disk site = server_disk site.server
 
 abbrev pub disks_of : {D V : Type 0} → OpenCell D V → List D
-disks_of open = map site_disk open.sites.items
+disks_of running = map site_disk running.sites.items
 
 -- what its disks read as, in their order
 abbrev pub helds : {D V : Type 0} → (D → Option Files) → (D → ℕ) → OpenCell D V → List Held
-helds files faults open = map (λ site. held files faults (site_disk site)) open.sites.items
+helds files faults running = map (λ site. held files faults (site_disk site)) running.sites.items
 
 -- the clock and the server of the model; what is durable of it, and which ids were asked, is not kept beside them
 pub record IsSiteOf {D V : Type 0} (site : Site D V) (s : ModelSite) : Type 0 where
@@ -42,9 +42,9 @@ AreSitesOf (site ∷ sites) (s ∷ others) = IsSiteOf site s × AreSitesOf sites
 AreSitesOf _ _ = ⊥
 
 -- a running cell whose packets are these, and no disk of which is to stop
-pub record StandsFor {D V : Type 0} (open : OpenCell D V) (c : Cell) : Type 0 where
-  pub hosts : c.run.world.hosts ≡ open.hosts.items
-  pub sites : AreSitesOf open.sites.items c.run.world.sites
-  pub sent : c.run.world.packets ≡ open.packets.sent
-  pub handed : c.handed ≡ open.packets.handed
-  pub unarmed : c.armed ≡ replicate (length open.hosts.items) None
+pub record StandsFor {D V : Type 0} (running : OpenCell D V) (c : Cell) : Type 0 where
+  pub hosts : c.run.world.hosts ≡ running.hosts.items
+  pub sites : AreSitesOf running.sites.items c.run.world.sites
+  pub sent : c.run.world.packets ≡ running.packets.sent
+  pub handed : c.handed ≡ running.packets.handed
+  pub unarmed : c.armed ≡ replicate (length running.hosts.items) None

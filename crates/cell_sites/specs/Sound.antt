@@ -1,5 +1,5 @@
 -- What is kept true of a running cell.
-use Rattle.std.specs.Prelude.{◌≡◌, ◌+◌, ◌<◌, ◌≤◌, ℕ, Unit, true, false, Option, IsSomeAnd, All, List, [], ◌∷◌, length, map}
+use Rattle.std.specs.Prelude.{◌≡◌, ◌+◌, ◌<◌, ◌≤◌, ℕ, true, false, Option, IsSomeAnd, All, List, [], ◌∷◌, length, map}
 use Rattle.disk_base.specs.Files.{Files}
 use Rattle.ubik_types.specs.declared.hosts.Host.{Host}
 use Rattle.ubik_types.specs.declared.limits.TheConstants.{MAXSERVERS}
@@ -35,7 +35,7 @@ IsSoundServer files faults m clock (server.Up node) = IsSoundNode files faults m
 
 pub record IsSoundSite {D V : Type 0} (files : D → Option Files) (faults : D → ℕ) (m : Member) (bound : ℕ) (site : Site D V) : Type 0 where
   pub moment : IsMoment site.clock
-  pub bound : site.clock ≤ bound
+  pub within : site.clock ≤ bound
   pub server : IsSoundServer files faults m site.clock site.server
 
 -- so each of these sites, the first of which has this place among the hosts
@@ -48,11 +48,11 @@ abbrev pub clocks_in : {D V : Type 0} → List (Site D V) → List ℕ
 clocks_in sites = map (λ site. site.clock) sites
 
 -- A running cell of 1 to 20 servers, whose clocks are near and at most this bound, and whose packets are all of votes.
-pub record IsSound {D V : Type 0} (files : D → Option Files) (faults : D → ℕ) (bound : ℕ) (open : OpenCell D V) : Type 0 where
-  pub some : 1 ≤ length open.sites.items
-  pub few : length open.sites.items ≤ MAXSERVERS
-  pub hosts : open.hosts.items ≡ hosts_of (length open.sites.items)
-  pub sites : AreSound files faults open.hosts.items 0 bound open.sites.items
-  pub near : are_near (clocks_in open.sites.items) ≡ true
-  pub packets : All (IsVotePacket open.hosts.items) open.packets.sent
-  pub told : open.outputs ≡ []
+pub record IsSound {D V : Type 0} (files : D → Option Files) (faults : D → ℕ) (bound : ℕ) (running : OpenCell D V) : Type 0 where
+  pub some : 1 ≤ length running.sites.items
+  pub few : length running.sites.items ≤ MAXSERVERS
+  pub hosts : running.hosts.items ≡ hosts_of (length running.sites.items)
+  pub sites : AreSound files faults running.hosts.items 0 bound running.sites.items
+  pub near : are_near (clocks_in running.sites.items) ≡ true
+  pub packets : All (IsVotePacket running.hosts.items) running.packets.sent
+  pub told : running.outputs ≡ []

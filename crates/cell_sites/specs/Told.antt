@@ -12,8 +12,8 @@ use Rattle.cell_sites.specs.declared.cells.OpenCell.{OpenCell}
 
 -- where a script goes on, the cell stands for what the line left; where it ends in the line, its disks read so
 abbrev pub IsAfter : {D V : Type 0} → (D → Option Files) → (D → ℕ) → Option Ending → OpenCell D V → Cell → Type 0
-IsAfter files faults None open c = StandsFor open c
-IsAfter files faults (Some ending) open c = AreReadBy c.run.world.sites (helds files faults open)
+IsAfter files faults None running c = StandsFor running c
+IsAfter files faults (Some ending) running c = AreReadBy c.run.world.sites (helds files faults running)
 
 -- A line was run with some choices: it ended so, what it told was added to a text, and each fault that it told is one of that disk.
 pub record CellTold {D V : Type 0} (files : D → Option Files) (faults : D → ℕ) (db : ScriptDatabase) (run : List Choice → Run_or_why) (ended : Option Ending) (before after : OpenCell D V) (text_before text_after : List ℕ) : Type 0 where

@@ -1,15 +1,34 @@
-//! A running cell: its opening and its end.
-ghost use Rattle.std.specs.Prelude.{◌≡◌, ◌++◌, ◌≤◌, ◌<◌, ◌+◌, ℕ, [], length, IfOk, Some, vec_capacity, vec_len};
-ghost use Rattle.disk_base.specs.Files.{no_files};
+//! A running cell: opened server by server, and closed.
+ghost use Rattle.std.specs.Prelude.{◌≡◌, ◌≢◌, ◌++◌, ◌≤◌, ◌<◌, ◌+◌, ◌∷◌, ℕ, List};
+ghost use Rattle.std.specs.Prelude.{[], length, map, IfOk, OnOk, Option, Some, vec_capacity, vec_len};
+ghost use Rattle.std.specs.String.{string_bytes};
+ghost use Rattle.disk_base.specs.Stops.DiskStop.{Unarmed};
+ghost use Rattle.disk_base.specs.Files.{Files, no_files};
+ghost use Rattle.ubik_types.specs.declared.hosts.Host.{Host};
 ghost use Rattle.ubik_types.specs.declared.limits.TheConstants.{MAXSERVERS};
+ghost use Rattle.ubik_types.specs.Moment.{IsMoment};
+ghost use Rattle.cell_script.specs.declared.lines.Kind.{Kind};
+ghost use Rattle.cell_runs.specs.Script.{hosts_of};
+ghost use Rattle.cell_runs.specs.ScriptDatabase.{ScriptDatabase, script_database};
+ghost use Rattle.cell_runs.specs.Trace.{mark_text};
+ghost use Rattle.cell_sites.specs.OpenedServer.{IsEmptied, ServerOpened};
+ghost use Rattle.cell_sites.specs.Opened.{ArePartOpened, HasRoom, IsAdded, IsOpened};
+ghost use Rattle.cell_sites.specs.Sites.{disks_of, server_disk};
+ghost use Rattle.cell_sites.specs.Sound.{IsSoundServer};
+ghost use Rattle.cell_sites.specs.declared.cells.OpenCell.{OpenCell as AnOpenCell};
 
 use crate::packets::Packets;
-use crate::sites::Site;
+use crate::sites::{Server, Site};
+use cell_model::law_voters_vote;
+use cell_runs::{Mark, tell_mark};
 use db_image::WordForms;
-use disk_base::StopDisk;
+use disk_base::{Refused, StopDisk};
 use std::alloc::Global;
-use ubik_node::Outputs;
-use ubik_types::{Host, NoMemory};
+use ubik_node::{Node, Outputs, StoreFault};
+use ubik_types::{Cell, Host, NoMemory};
+
+/// The host of the first server of a cell, 10.0.0.1. The others follow it.
+const FIRST_HOST: u32 = 167_772_161;
 
 /// A cell that stands: its servers with their clocks and disks, and the packets between them. It runs one line of a script after
 /// the other. Servers are numbered from 1, as packets are.
@@ -21,3 +40,150 @@ pub struct OpenCell<D: StopDisk, V: WordForms> {
     pub packets: Packets,
     pub outputs: Outputs,
 }
+
+impl<D: StopDisk, V: WordForms> OpenCell<D, V> {
+    /// A cell of so many servers, none of which is opened. Room for all of them is taken here.
+    pub fn new(alloc: Global, servers: usize) -> Result<OpenCell<D, V>, NoMemory>
+        requires some { 1 ≤ servers }
+        requires few { servers ≤ MAXSERVERS }
+        ensures room { IfOk result HasRoom }
+        ensures hosts { IfOk result (λ running. running.hosts.items ≡ hosts_of servers) }
+        ensures none { IfOk result (λ running. running.sites.items ≡ []) }
+        ensures opened { IfOk result (λ running. (clock : ℕ) (text : List ℕ) →
+            ArePartOpened D.files D.faults (script_database V.database V.words) clock [] running text text) }
+    {
+        let hosts = first_hosts(alloc, servers)?;
+        let packets = Packets::new(alloc, &hosts)?;
+        let outputs = Outputs::make(alloc)?;
+        let sites = Vec::with_capacity(alloc, servers)?;
+        Ok(OpenCell {
+            alloc,
+            hosts,
+            sites,
+            packets,
+            outputs,
+        })
+    }
+
+    /// How many servers the cell has, where all of them were opened.
+    pub fn servers(&self) -> usize
+        ensures { result ≡ length self.now.sites.items }
+    {
+        self.sites.len()
+    }
+
+    /// Opens the next server over its disk, at a clock. Where the disk fails the server stays down, which is told, and its disk is
+    /// revived. The disk has its place in the cell also where memory ran out.
+    pub fn open_next(&mut self, disk: D, clock: u32, text: &mut String) -> Result<(), NoMemory>
+        requires moment { IsMoment clock }
+        requires room { HasRoom self.old }
+        requires next { length self.old.sites.items < length self.old.hosts.items }
+        requires empty { D.files disk ≡ Some no_files }
+        ensures opened { OnOk result ((given : List D) (text_before : List ℕ) →
+            ArePartOpened D.files D.faults (script_database V.database V.words) clock given self.old text_before (string_bytes text.old) →
+            ArePartOpened D.files D.faults (script_database V.database V.words) clock (given ++ disk ∷ []) self.new
+            text_before (string_bytes text.new)) }
+        ensures added { IsAdded D.files D.faults disk self.old self.new }
+        ensures room { HasRoom self.new }
+        ensures hosts { self.new.hosts.items ≡ self.old.hosts.items }
+        ensures count { length self.new.sites.items ≡ length self.old.sites.items + 1 }
+    {
+        let me = self.sites.len();
+        let (server, told) = open_server(self.alloc, &self.hosts, me, disk, clock, text);
+        match self.sites.push(Site { clock, server }) {
+            Ok(()) => told,
+            Err(_) => unreachable!(),
+        }
+    }
+
+    /// Takes all servers down, and adds their disks in their order.
+    pub fn close(self, disks: &mut Vec<D>)
+        requires { length disks.old.items + length self.sites.items ≤ vec_capacity disks.old }
+        ensures disks { disks.new.items ≡ disks.old.items ++ disks_of self }
+        ensures room { vec_capacity disks.old ≤ vec_capacity disks.new }
+    {
+        let OpenCell { sites, .. } = self;
+        let mut sites = sites;
+        sites.reverse();
+        while let Some(site) = sites.pop() {
+            match disks.push(site.server.close()) {
+                Ok(()) => {}
+                Err(_) => unreachable!(),
+            }
+        }
+        sites.destroy_empty();
+    }
+}
+
+/// The hosts of the first servers.
+fn first_hosts(alloc: Global, servers: usize) -> Result<Vec<Host>, NoMemory>
+    requires { servers ≤ MAXSERVERS }
+    ensures { IfOk result (λ hosts. hosts.items ≡ hosts_of servers) }
+{
+    let mut hosts = Vec::with_capacity(alloc, servers)?;
+    for k in 0..servers {
+        hosts.push(Host(FIRST_HOST + k as u32))?;
+    }
+    Ok(hosts)
+}
+
+/// Opens the server at a place of the cell of these hosts over its disk. Where the disk fails it stays down, and its disk is revived.
+fn open_server<D: StopDisk, V: WordForms>(
+    alloc: Global,
+    hosts: &[Host],
+    me: usize,
+    disk: D,
+    clock: u32,
+    text: &mut String,
+) -> (Server<D, V>, Result<(), NoMemory>)
+    requires cell { hosts.now ≡ hosts_of (length hosts.now) }
+    requires few { length hosts.now ≤ MAXSERVERS }
+    requires me { me < length hosts.now }
+    requires moment { IsMoment clock }
+    requires empty { D.files disk ≡ Some no_files }
+    ensures told { OnOk result.1 (ServerOpened D.faults (script_database V.database V.words) hosts.now me clock disk result.0
+        (string_bytes text.old) (string_bytes text.new)) }
+    ensures sound { OnOk result.1 (IsSoundServer D.files D.faults (record { hosts = hosts.now; me = me }) clock result.0) }
+    ensures kept { IsEmptied D.files D.faults disk (server_disk result.0) }
+{
+    law_voters_vote();
+    let Ok(cell) = Cell::new(alloc, hosts) else {
+        return (Server::Down(disk), Err(NoMemory));
+    };
+    match Node::open(alloc, cell, me, disk, clock) {
+        Ok(node) => (Server::Up(node), Ok(())),
+        Err(refused) => keep_down(me, refused, text),
+    }
+}
+
+/// Keeps a server down whose opening was refused. Its disk is revived, unless memory ran out.
+fn keep_down<D: StopDisk, V: WordForms>(
+    me: usize,
+    refused: Refused<D, StoreFault>,
+    text: &mut String,
+) -> (Server<D, V>, Result<(), NoMemory>)
+    requires { me < 20 }
+    ensures down { (kept : D) × (result.0 ≡ Server.Down kept) × (D.faults kept ≡ D.faults refused.disk)
+        × (refused.why ≡ StoreFault.NoMemory → D.files kept ≡ D.files refused.disk) }
+    ensures revived { refused.why ≢ StoreFault.NoMemory → D.stop (server_disk result.0) ≡ Unarmed }
+    ensures told { OnOk result.1 ((refused.why ≢ StoreFault.NoMemory)
+        × (string_bytes text.new ≡ string_bytes text.old ++ mark_text (Mark.StaysDown me))) }
+{
+    let Refused { disk, why } = refused;
+    if let StoreFault::NoMemory = why {
+        return (Server::Down(disk), Err(NoMemory));
+    }
+    let mut disk = disk;
+    disk.revive();
+    let server = me as u32;
+    let told = tell_mark(text, Mark::StaysDown { server });
+    (Server::Down(disk), told)
+}
+
+/// A cell all of whose servers were opened stands for the opened cell of some choices.
+pub fn law_cell_opened<D: StopDisk, V: WordForms>()
+    ensures { (db : ScriptDatabase) (clock : ℕ) (k : Kind) (given : List D) (running : AnOpenCell D V) (text_before text_after : List ℕ) →
+        IsMoment clock → HasRoom running → length given ≡ length running.hosts.items →
+        ArePartOpened D.files D.faults db clock given running text_before text_after →
+        IsOpened D.files D.faults db clock k given running text_before text_after }
+{}

@@ -4,7 +4,12 @@
 mod cells;
 mod faults;
 mod packets;
+mod places;
+mod shows;
 mod sites;
+mod steps;
+mod telling;
+mod ticks;
 
-pub use cells::OpenCell;
+pub use cells::{OpenCell, law_cell_opened};
 pub use faults::LineFault;

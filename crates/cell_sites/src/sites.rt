@@ -1,4 +1,7 @@
 //! A server of a running cell.
+ghost use Rattle.std.specs.Prelude.{◌≡◌};
+ghost use Rattle.cell_sites.specs.Sites.{server_disk};
+
 use db_image::WordForms;
 use disk_base::StopDisk;
 use ubik_node::Node;
@@ -10,6 +13,18 @@ pub enum Server<D: StopDisk, V: WordForms> {
     Down(D),
     /// It is up, or halted.
     Up(Node<D, V>),
+}
+
+impl<D: StopDisk, V: WordForms> Server<D, V> {
+    /// The disk, with the server taken down.
+    pub(crate) fn close(self) -> D
+        ensures { result ≡ server_disk self }
+    {
+        match self {
+            Server::Down(disk) => disk,
+            Server::Up(node) => node.close(),
+        }
+    }
 }
 
 /// A server with its clock, in seconds.

@@ -4,11 +4,13 @@ use Rattle.std.proofs.lemmas.Bool.Decides.{nat_tests}
 use Rattle.std.specs.Prelude.{Option, Some, None, nat_lt, slice_get}
 use Rattle.ubik_types.specs.Votes.{is_server}
 use Rattle.ubik_types.specs.Lease.{with_start}
-use Rattle.lease_model.specs.Invariant.{ClocksNear, BeaconsPast, YesesPast, YesesGiven, MayBeTo, YesBinds, IsBound, YesesApart, StartsGiven, AreCounted, IsCounted}
+use Rattle.lease_model.specs.Invariant.{ClocksNear, BeaconsPast, YesesPast, YesesGiven, MayBeTo, YesBinds, IsBound, YesesApart, StartsGiven}
+use Rattle.lease_model.specs.Invariant.{AreCounted, IsCounted}
 use Rattle.lease_model.specs.Leases.{Voter, Standing, Down, Halted, Up, Server, Beacon, Yes, IsIn}
 use Rattle.lease_model.specs.Rules.{Rules}
 use Rattle.lease_model.specs.Runs.{at_server, ticked, said, is_free}
-use Rattle.lease_model.proofs.Places.{or_either, lt_true, get_same, in_more, in_cases, Was, at_before, each_all, with_start-length, with_start-either}
+use Rattle.lease_model.proofs.Places.{or_either, lt_true, get_same, in_more, in_cases, Was, at_before, each_all, with_start-length}
+use Rattle.lease_model.proofs.Places.{with_start-either}
 
 -- ---- clocks that only go forward
 
@@ -20,7 +22,8 @@ Older xs ys = (j : ℕ) (y : Server) → slice_get ys j ≡ Some y → (x : Serv
 abbrev pub SameClocks : List Server → List Server → Type 0
 SameClocks xs ys = (j : ℕ) (y : Server) → slice_get ys j ≡ Some y → (x : Server) × (slice_get xs j ≡ Some x) × (x.clock ≡ y.clock)
 
-was_older : (xs : List Server) (k j : ℕ) (f : Server → Server) (y : Server) → ((x : Server) → x.clock ≤ (f x).clock) → (w : Was xs k f j y) → w.0.clock ≤ y.clock
+was_older : (xs : List Server) (k j : ℕ) (f : Server → Server) (y : Server) → ((x : Server) → x.clock ≤ (f x).clock) →
+    (w : Was xs k f j y) → w.0.clock ≤ y.clock
 was_older xs k j f y grows w = by w.2
   where
     by : ((j ≡ k) × (y ≡ f w.0)) ⊎ ((j ≡ k → ⊥) × (y ≡ w.0)) → w.0.clock ≤ y.clock
@@ -55,7 +58,8 @@ near_same r xs ys same near j k x y at_j at_k =
     let right : b.0.clock ≡ y.clock = b.2 in
     omega arith
 
-pub beacons_older : (xs ys : List Server) (beacons : List Beacon) → length ys ≡ length xs → Older xs ys → BeaconsPast xs beacons → BeaconsPast ys beacons
+pub beacons_older : (xs ys : List Server) (beacons : List Beacon) → length ys ≡ length xs → Older xs ys → BeaconsPast xs beacons →
+    BeaconsPast ys beacons
 beacons_older xs ys beacons same older past b inside = (within, before)
   where
     within : b.asker < length ys
@@ -77,24 +81,31 @@ yeses_older xs ys yeses older past y x inside get =
 
 -- ---- counted starts
 
-pub given_more : (k : ℕ) (y : Yes) (yeses : List Yes) (starts : List (Option ℕ)) → StartsGiven k yeses starts → StartsGiven k (y ∷ yeses) starts
+pub given_more : (k : ℕ) (y : Yes) (yeses : List Yes) (starts : List (Option ℕ)) → StartsGiven k yeses starts →
+    StartsGiven k (y ∷ yeses) starts
 given_more k y yeses starts given v s is = let w = given v s is in (w.0, in_more y yeses _ w.1)
 
 -- a start that was given is counted
-given_with : (k : ℕ) (yeses : List Yes) (starts : List (Option ℕ)) (voter start at : ℕ) → IsIn yeses (record { voter = voter; asker = k; start = start; at = at }) → StartsGiven k yeses starts → StartsGiven k yeses (with_start starts voter start)
+given_with : (k : ℕ) (yeses : List Yes) (starts : List (Option ℕ)) (voter start at : ℕ) →
+    IsIn yeses (record { voter = voter; asker = k; start = start; at = at }) → StartsGiven k yeses starts →
+    StartsGiven k yeses (with_start starts voter start)
 given_with k yeses starts voter start at inside given v s is = by (with_start-either starts voter start v s is)
   where
-    by : ((v ≡ voter) × (s ≡ start)) ⊎ (slice_get starts v ≡ Some (Some s)) → (at : ℕ) × IsIn yeses (record { voter = v; asker = k; start = s; at = at })
+    by : ((v ≡ voter) × (s ≡ start)) ⊎ (slice_get starts v ≡ Some (Some s)) →
+        (at : ℕ) × IsIn yeses (record { voter = v; asker = k; start = s; at = at })
     by (inl p) =
         let same : record { voter = voter; asker = k; start = start; at = at } ≡ record { voter = v; asker = k; start = s; at = at } = cc in
         (at, subst (IsIn yeses) same inside)
     by (inr p) = given v s p
 
-pub counted_with : (k : ℕ) (yeses : List Yes) (n : ℕ) (starts : List (Option ℕ)) (voter start at : ℕ) → IsIn yeses (record { voter = voter; asker = k; start = start; at = at }) → AreCounted k yeses n starts → AreCounted k yeses n (with_start starts voter start)
+pub counted_with : (k : ℕ) (yeses : List Yes) (n : ℕ) (starts : List (Option ℕ)) (voter start at : ℕ) →
+    IsIn yeses (record { voter = voter; asker = k; start = start; at = at }) → AreCounted k yeses n starts →
+    AreCounted k yeses n (with_start starts voter start)
 counted_with k yeses n starts voter start at inside counted =
     (given_with k yeses starts voter start at inside counted.0, with_start-length starts voter start ∙ counted.1)
 
-pub counted_more : (k : ℕ) (y : Yes) (yeses : List Yes) (n : ℕ) (standing : Standing) → IsCounted k yeses n standing → IsCounted k (y ∷ yeses) n standing
+pub counted_more : (k : ℕ) (y : Yes) (yeses : List Yes) (n : ℕ) (standing : Standing) → IsCounted k yeses n standing →
+    IsCounted k (y ∷ yeses) n standing
 counted_more k y yeses n Down is = tt
 counted_more k y yeses n (Halted starts) is = (given_more k y yeses starts is.0, is.1)
 counted_more k y yeses n (Up v) is = (given_more k y yeses v.starts is.0, is.1)
@@ -117,7 +128,8 @@ free_either r asker now v free = by (or_either (nat_lt (v.yes_at + r.keep) now) 
 abbrev pub IsPast : Rules → ℕ → ℕ → Yes → Type 0
 IsPast r asker now y = (y.at ≤ now) × ((y.asker ≡ asker) ⊎ (y.at + r.keep < now))
 
-pub free_binds : (r : Rules) (k asker now : ℕ) (yeses : List Yes) (v : Voter) → IsBound r k yeses now (Up v) → is_free r asker now v ≡ true → (y : Yes) → IsIn yeses y → y.voter ≡ k → IsPast r asker now y
+pub free_binds : (r : Rules) (k asker now : ℕ) (yeses : List Yes) (v : Voter) → IsBound r k yeses now (Up v) →
+    is_free r asker now v ≡ true → (y : Yes) → IsIn yeses y → y.voter ≡ k → IsPast r asker now y
 free_binds r k asker now yeses v bound free y inside of_k = (not_after, by (free_either r asker now v free) old.1)
   where
     old : (y.at ≤ v.yes_at) × (MayBeTo y.asker v.yes_to ⊎ (y.at + r.keep < v.yes_at))
@@ -132,7 +144,8 @@ free_binds r k asker now yeses v bound free y inside of_k = (not_after, by (free
     not_after : y.at ≤ now
     not_after = omega arith
 
-    by : (v.yes_at + r.keep < now) ⊎ (v.yes_to ≡ Some asker) → MayBeTo y.asker v.yes_to ⊎ (y.at + r.keep < v.yes_at) → (y.asker ≡ asker) ⊎ (y.at + r.keep < now)
+    by : (v.yes_at + r.keep < now) ⊎ (v.yes_to ≡ Some asker) → MayBeTo y.asker v.yes_to ⊎ (y.at + r.keep < v.yes_at) →
+        (y.asker ≡ asker) ⊎ (y.at + r.keep < now)
     by (inl p) q = inr (omega arith)
     by (inr p) (inl q) = inl (subst (MayBeTo y.asker) p q)
     by (inr p) (inr q) = inr (omega arith)
@@ -144,7 +157,8 @@ module _ (r : Rules) (k asker start now : ℕ) (yeses : List Yes) where
   given_yes = record { voter = k; asker = asker; start = start; at = now }
 
   -- its voter is bound by it
-  pub bound_said : (v : Voter) → ((y : Yes) → IsIn yeses y → y.voter ≡ k → IsPast r asker now y) → YesBinds r k (given_yes ∷ yeses) (said asker now v)
+  pub bound_said : (v : Voter) → ((y : Yes) → IsIn yeses y → y.voter ≡ k → IsPast r asker now y) →
+      YesBinds r k (given_yes ∷ yeses) (said asker now v)
   bound_said v past y inside of_k = by (in_cases given_yes yeses y inside)
     where
       old : IsPast r asker now y → (y.at ≤ now) × (MayBeTo y.asker (Some asker) ⊎ (y.at + r.keep < now))
@@ -157,7 +171,8 @@ module _ (r : Rules) (k asker start now : ℕ) (yeses : List Yes) where
       by (inr p) = old (past y p of_k)
 
   -- all others are bound as before
-  pub bound_other : (j : ℕ) (clock : ℕ) (standing : Standing) → (j ≡ k → ⊥) → IsBound r j yeses clock standing → IsBound r j (given_yes ∷ yeses) clock standing
+  pub bound_other : (j : ℕ) (clock : ℕ) (standing : Standing) → (j ≡ k → ⊥) → IsBound r j yeses clock standing →
+      IsBound r j (given_yes ∷ yeses) clock standing
   bound_other j clock Down other is = tt
   bound_other j clock (Halted starts) other is = tt
   bound_other j clock (Up v) other is = (is.0, each)
@@ -205,7 +220,8 @@ module _ (r : Rules) (k asker start now : ℕ) (yeses : List Yes) where
       by (inl p) = subst (λ (z : Yes). z.start ≤ z.at + r.skew) p soon
       by (inr p) = given y p
 
-  pub past_said : (xs : List Server) (x : Server) → slice_get xs k ≡ Some x → now ≤ x.clock → YesesPast xs yeses → YesesPast xs (given_yes ∷ yeses)
+  pub past_said : (xs : List Server) (x : Server) → slice_get xs k ≡ Some x → now ≤ x.clock → YesesPast xs yeses →
+      YesesPast xs (given_yes ∷ yeses)
   past_said xs x get clock past y z inside at_z = by (in_cases given_yes yeses y inside)
     where
       by : (given_yes ≡ y) ⊎ IsIn yeses y → y.at ≤ z.clock

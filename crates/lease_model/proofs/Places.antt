@@ -1,5 +1,6 @@
 -- Places in lists: what stands where after a change of one server.
-use Rattle.std.proofs.Common.{Bool, true, false, ◌≡◌, ℕ, zero, suc, ◌+◌, ◌<◌, ◌≤◌, List, [], ◌∷◌, length, map, max, refl, sym, ap, subst, ◌∙◌, ◌⊎◌, inl, inr, arith}
+use Rattle.std.proofs.Common.{Bool, true, false, ◌≡◌, ℕ, zero, suc, ◌+◌, ◌<◌, ◌≤◌, List, [], ◌∷◌, length, map, max, refl, sym, ap, subst}
+use Rattle.std.proofs.Common.{◌∙◌, ◌⊎◌, inl, inr, arith}
 use Rattle.std.specs.Prelude.{Option, Some, None, ◌&&◌, ◌||◌, slice_get}
 use Rattle.std.specs.List.{list_all}
 use Rattle.std.proofs.lemmas.Bool.Decides.{nat_tests}
@@ -78,7 +79,9 @@ at_length (x ∷ xs) (suc k) f = ap suc (at_length xs k f)
 abbrev pub Each : (ℕ → Server → Type 0) → List Server → Type 0
 Each P xs = (k : ℕ) (x : Server) → slice_get xs k ≡ Some x → P k x
 
-pub each_at : (P Q : ℕ → Server → Type 0) (xs : List Server) (k : ℕ) (f : Server → Server) → Each P xs → ((x : Server) → slice_get xs k ≡ Some x → P k x → Q k (f x)) → ((j : ℕ) (x : Server) → (j ≡ k → ⊥) → P j x → Q j x) → Each Q (at_server xs k f)
+pub each_at : (P Q : ℕ → Server → Type 0) (xs : List Server) (k : ℕ) (f : Server → Server) → Each P xs →
+    ((x : Server) → slice_get xs k ≡ Some x → P k x → Q k (f x)) → ((j : ℕ) (x : Server) → (j ≡ k → ⊥) → P j x → Q j x) →
+    Each Q (at_server xs k f)
 each_at P Q xs k f all there others j y is = by w.2
   where
     w : Was xs k f j y
@@ -91,7 +94,8 @@ each_at P Q xs k f all there others j y is = by w.2
         subst (λ (z : Server). Q j z) (sym p.1) (subst (λ (i : ℕ). Q i (f w.0)) (sym p.0) here)
     by (inr p) = subst (λ (z : Server). Q j z) (sym p.1) (others j w.0 p.0 (all j w.0 w.1))
 
-pub each_all : (P Q : ℕ → Server → Type 0) (xs : List Server) (f : Server → Server) → Each P xs → ((j : ℕ) (x : Server) → P j x → Q j (f x)) → Each Q (map f xs)
+pub each_all : (P Q : ℕ → Server → Type 0) (xs : List Server) (f : Server → Server) → Each P xs →
+    ((j : ℕ) (x : Server) → P j x → Q j (f x)) → Each Q (map f xs)
 each_all P Q [] f all step j y is = absurd (cc)
 each_all P Q (x ∷ xs) f all step zero y is =
     let same : f x ≡ y = cc in subst (λ (z : Server). Q 0 z) same (step 0 x (all 0 x refl))
@@ -111,9 +115,11 @@ clock_at [] k x is = absurd (cc)
 clock_at (y ∷ xs) zero x is = let same : y ≡ x = cc in ap (λ (z : Server). Some z.clock) same
 clock_at (y ∷ xs) (suc k) x is = clock_at xs k x is
 
-pub near_at : (skew : ℕ) (xs : List Server) (j k : ℕ) (x y : Server) → are_near skew (clocks_of xs) ≡ true → slice_get xs j ≡ Some x → slice_get xs k ≡ Some y → x.clock ≤ y.clock + skew
+pub near_at : (skew : ℕ) (xs : List Server) (j k : ℕ) (x y : Server) → are_near skew (clocks_of xs) ≡ true → slice_get xs j ≡ Some x →
+    slice_get xs k ≡ Some y → x.clock ≤ y.clock + skew
 near_at skew xs j k x y near at_j at_k =
-    let row = all_at (λ (a : ℕ). list_all (λ (b : ℕ). nat_le a (b + skew)) (clocks_of xs)) (clocks_of xs) j x.clock near (clock_at xs j x at_j) in
+    let row =
+    all_at (λ (a : ℕ). list_all (λ (b : ℕ). nat_le a (b + skew)) (clocks_of xs)) (clocks_of xs) j x.clock near (clock_at xs j x at_j) in
     le_true _ _ (all_at (λ (b : ℕ). nat_le x.clock (b + skew)) (clocks_of xs) k y.clock row (clock_at xs k y at_k))
 
 -- ---- starts
@@ -132,11 +138,13 @@ counted_either (Some b) s t is =
     let greater : max b s ≡ t = cc in
     elim (max_either b s t greater) as (λ _. (t ≡ s) ⊎ (Some b ≡ Some t)) [ inl p ↦ inl p | inr p ↦ inr (ap (λ (n : ℕ). Some n) p) ]
 
-pub with_start-either : (starts : List (Option ℕ)) (i s v t : ℕ) → slice_get (with_start starts i s) v ≡ Some (Some t) → ((v ≡ i) × (t ≡ s)) ⊎ (slice_get starts v ≡ Some (Some t))
+pub with_start-either : (starts : List (Option ℕ)) (i s v t : ℕ) → slice_get (with_start starts i s) v ≡ Some (Some t) →
+    ((v ≡ i) × (t ≡ s)) ⊎ (slice_get starts v ≡ Some (Some t))
 with_start-either [] i s v t is = inr is
 with_start-either (x ∷ starts) zero s zero t is =
     let here : counted x s ≡ Some t = cc in
-    elim (counted_either x s t here) as (λ _. ((zero ≡ zero) × (t ≡ s)) ⊎ (Some x ≡ Some (Some t))) [ inl p ↦ inl (refl, p) | inr p ↦ inr (ap (λ (o : Option ℕ). Some o) p) ]
+    elim (counted_either x s t here) as
+    (λ _. ((zero ≡ zero) × (t ≡ s)) ⊎ (Some x ≡ Some (Some t))) [ inl p ↦ inl (refl, p) | inr p ↦ inr (ap (λ (o : Option ℕ). Some o) p) ]
 with_start-either (x ∷ starts) zero s (suc v) t is = inr is
 with_start-either (x ∷ starts) (suc i) s zero t is = inr is
 with_start-either (x ∷ starts) (suc i) s (suc v) t is =
@@ -159,7 +167,8 @@ is_from_at : (s : ℕ) (o : Option ℕ) → is_from s o ≡ true → (t : ℕ) �
 is_from_at s None is = absurd (cc)
 is_from_at s (Some t) is = (t, refl, le_true s t is)
 
-pub supporter_at : (starts : List (Option ℕ)) (s v : ℕ) → slice_get (supporters starts s) v ≡ Some true → (t : ℕ) × (slice_get starts v ≡ Some (Some t)) × (s ≤ t)
+pub supporter_at : (starts : List (Option ℕ)) (s v : ℕ) → slice_get (supporters starts s) v ≡ Some true →
+    (t : ℕ) × (slice_get starts v ≡ Some (Some t)) × (s ≤ t)
 supporter_at [] s v is = absurd (cc)
 supporter_at (x ∷ starts) s zero is =
     let from : is_from s x ≡ true = cc in

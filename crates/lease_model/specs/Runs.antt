@@ -1,6 +1,7 @@
 -- What may happen to votes, leases and clocks: ticks, beacons, yeses that are given and counted, and servers that start, halt and
 -- stop. Every free choice is a field of the event (own).
-use Rattle.std.specs.Prelude.{◌≡◌, ℕ, zero, suc, ◌+◌, Bool, true, false, ◌||◌, nat_lt, nat_le, if◌then◌else◌, Option, Some, None, List, [], ◌∷◌, length, map, slice_get}
+use Rattle.std.specs.Prelude.{◌≡◌, ℕ, zero, suc, ◌+◌, Bool, true, false, ◌||◌, nat_lt, nat_le, if◌then◌else◌, Option, Some, None, List, []}
+use Rattle.std.specs.Prelude.{◌∷◌, length, map, slice_get}
 use Rattle.std.specs.List.{list_all}
 use Rattle.ubik_types.specs.Lease.{no_starts, with_start}
 use Rattle.ubik_types.specs.Votes.{is_server}

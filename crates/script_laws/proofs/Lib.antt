@@ -6,3 +6,6 @@ pub mod BuiltLines
 pub mod LineFacts
 pub mod LineRuns
 pub mod Telling
+pub mod SoundLines
+pub mod SoundTelling
+pub mod ToldFaults

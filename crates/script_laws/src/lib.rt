@@ -4,4 +4,7 @@
 
 mod laws;
 
-pub use laws::{law_lines_are_built, law_scripts_are_runs};
+pub use laws::{
+    law_faults_have_servers, law_lines_are_built, law_scripts_are_runs, law_sound_fronts,
+    law_sound_scripts,
+};

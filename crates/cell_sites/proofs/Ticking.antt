@@ -1,0 +1,289 @@
+-- Clocks of a running cell that go forward.
+use Rattle.std.proofs.Common.{if◌then◌else◌, ◌≡◌, ◌<◌, ◌≤◌, ◌+◌, ◌-◌, ◌^◌, ◌&&◌, ◌++◌, ℕ, zero, suc, Bool, true, false, Option, List, [], ◌∷◌, Some, None, Result, Ok, Err, length, map, set, get_or, replicate, refl, sym, ap, subst, ◌∙◌, arith}
+use Rattle.std.specs.Prelude.{slice_get, IsErrAnd}
+use Rattle.std.specs.Vec.{with_item, with_items}
+use Rattle.std.proofs.lemmas.List.{append-nil, length-set, length-map, map-set}
+use Rattle.std.proofs.Math.Seq.{map-set_same}
+use Rattle.std.proofs.lemmas.Option.{get_or_from_slice_get, slice_get_within}
+use Rattle.disk_base.specs.Files.{Files}
+use Rattle.ubik_types.specs.declared.hosts.Host.{Host}
+use Rattle.ubik_types.specs.declared.limits.TheConstants.{MAX_MOMENT}
+use Rattle.cell_model.specs.Step.{Member}
+use Rattle.cell_model.specs.World.{Site as ModelSite, Tick, Tick_all, are_near, are_moments, clocks_of, may_tick, tick_at, ticked}
+use Rattle.cell_script.specs.declared.lines.Why.{Why}
+use Rattle.cell_script.specs.declared.lines.Why.TheVariants as why
+use Rattle.cell_runs.specs.Script.{Cell, Run_or_why, hosts_of, unless_skewed, with_event}
+use Rattle.cell_runs.specs.ScriptDatabase.{ScriptDatabase}
+use Rattle.cell_sites.specs.Disks.{Held, held}
+use Rattle.cell_sites.specs.Places.{IsNearAt, ticked_on}
+use Rattle.cell_sites.specs.Sites.{AreSitesOf, StandsFor, helds, site_disk}
+use Rattle.cell_sites.specs.Sound.{AreSound, IsSound, IsSoundServer, IsSoundSite, clocks_in}
+use Rattle.cell_sites.specs.Told.{CellTold}
+use Rattle.cell_sites.specs.declared.cells.OpenCell.{OpenCell}
+use Rattle.cell_sites.specs.declared.sites.Server.{Server}
+use Rattle.cell_sites.specs.declared.sites.Server.TheVariants as server
+use Rattle.cell_sites.specs.declared.sites.Site.{Site}
+use Rattle.cell_sites.proofs.AtPlace.{rises_same, sites_all_ticked, sites_clocks, sites_ticked, sound_at, sound_set}
+use Rattle.cell_sites.proofs.Near.{moments_make, near_all, near_make, near_read, near_set, near_unset}
+use Rattle.cell_sites.proofs.Waiting.{items_with}
+
+-- ---- one site
+
+pub server_later : {D V : Type 0} (files : D → Option Files) (faults : D → ℕ) (m : Member) (clock later : ℕ) (s : Server D V) → clock ≤ later → IsSoundServer files faults m clock s → IsSoundServer files faults m later s
+server_later files faults m clock later (server.Down disk) le sound = sound
+server_later files faults m clock later (server.Up n) le sound =
+    let last = sound.last in
+    record { last = omega (arith, last, le); member = sound.member; voter = sound.voter; stored = sound.stored; alone = sound.alone; cause = sound.cause }
+
+pub site_later : {D V : Type 0} (files : D → Option Files) (faults : D → ℕ) (m : Member) (bound seconds : ℕ) (site : Site D V) → site.clock + seconds ≤ MAX_MOMENT → IsSoundSite files faults m bound site → IsSoundSite files faults m (bound + seconds) (ticked_on seconds site)
+site_later files faults m bound seconds site fits sound =
+    let some = sound.moment.some in
+    let within = sound.within in
+    let end : 2 ^ 31 ≡ 2147483648 = refl in
+    record {
+      moment = record { some = omega (arith, some); fits = omega (arith, fits, end) };
+      within = omega (arith, within);
+      server = server_later files faults m site.clock (site.clock + seconds) site.server (omega arith) sound.server;
+    }
+
+pub sound_weaker : {D V : Type 0} (files : D → Option Files) (faults : D → ℕ) (hosts : List Host) (place bound more : ℕ) (sites : List (Site D V)) → bound ≤ more → AreSound files faults hosts place bound sites → AreSound files faults hosts place more sites
+sound_weaker files faults hosts place bound more [] le sound = tt
+sound_weaker files faults hosts place bound more (site ∷ sites) le sound =
+    let within = sound.0.within in (
+      record { moment = sound.0.moment; within = omega (arith, within, le); server = sound.0.server },
+      sound_weaker files faults hosts (place + 1) bound more sites le sound.1,
+    )
+
+sound_ticked : {D V : Type 0} (files : D → Option Files) (faults : D → ℕ) (hosts : List Host) (place bound bound' seconds : ℕ) (sites : List (Site D V)) → bound + seconds ≤ MAX_MOMENT → AreSound files faults hosts place bound sites → AreSound files faults hosts place bound' sites → AreSound files faults hosts place (bound' + seconds) (map (ticked_on seconds) sites)
+sound_ticked files faults hosts place bound bound' seconds [] fits sound sound' = tt
+sound_ticked files faults hosts place bound bound' seconds (site ∷ sites) fits sound sound' =
+    let within = sound.0.within in (
+      site_later files faults (record { hosts = hosts; me = place }) bound' seconds site (omega (arith, fits, within)) sound'.0,
+      sound_ticked files faults hosts (place + 1) bound bound' seconds sites fits sound.1 sound'.1,
+    )
+
+-- ---- clocks
+
+moments_in : {D V : Type 0} (files : D → Option Files) (faults : D → ℕ) (hosts : List Host) (place bound : ℕ) (sites : List (Site D V)) → AreSound files faults hosts place bound sites → (k : ℕ) → k < length (clocks_in sites) → (0 < get_or (clocks_in sites) k 0) × (get_or (clocks_in sites) k 0 ≤ MAX_MOMENT)
+moments_in files faults hosts place bound [] sound k less = absurd (omega arith)
+moments_in files faults hosts place bound (site ∷ sites) sound zero less =
+    let fits = sound.0.moment.fits in
+    let end : 2 ^ 31 ≡ 2147483648 = refl in
+    (sound.0.moment.some, omega (arith, fits, end))
+moments_in files faults hosts place bound (site ∷ sites) sound (suc k) less = moments_in files faults hosts (place + 1) bound sites sound.1 k (omega arith)
+
+clock_there : {D V : Type 0} (sites : List (Site D V)) (k : ℕ) (site : Site D V) → slice_get sites k ≡ Some site → get_or (clocks_in sites) k 0 ≡ site.clock
+clock_there [] k site there = cc
+clock_there {D} {V} (x ∷ sites) zero site there = let same : x ≡ site = cc in ap (λ (s : Site D V). s.clock) same
+clock_there (x ∷ sites) (suc k) site there = clock_there sites k site there
+
+pub record HasClock {D V : Type 0} (sites : List (Site D V)) (k : ℕ) : Type 0 where
+  pub site : Site D V
+  pub there : slice_get sites k ≡ Some site
+
+some_site : {D V : Type 0} (sites : List (Site D V)) (k : ℕ) → k < length (clocks_in sites) → HasClock sites k
+some_site [] k less = absurd (omega arith)
+some_site (x ∷ sites) zero less = record { site = x; there = refl }
+some_site (x ∷ sites) (suc k) less = let rest = some_site sites k (omega arith) in record { site = rest.site; there = rest.there }
+
+both : (a b : Bool) → a ≡ true → b ≡ true → (a && b) ≡ true
+both true true is is' = refl
+both true false is is' = is'
+both false b is is' = is
+
+left_of : (a b : Bool) → (a && b) ≡ true → a ≡ true
+left_of true b is = refl
+left_of false b is = is
+
+-- clocks of a sound cell may be those after a tick
+pub may : {D V : Type 0} (files : D → Option Files) (faults : D → ℕ) (bound : ℕ) (after : OpenCell D V) (ss : List ModelSite) → IsSound files faults bound after → AreSitesOf after.sites.items ss → may_tick ss ≡ true
+may files faults bound after ss sound are =
+    let clocks = sites_clocks after.sites.items ss are in
+    subst (λ (l : List ℕ). (are_near l && are_moments l) ≡ true) (sym clocks)
+    (both (are_near (clocks_in after.sites.items)) (are_moments (clocks_in after.sites.items)) sound.near
+    (moments_make (clocks_in after.sites.items) (moments_in files faults after.hosts.items 0 bound after.sites.items sound.sites)))
+
+-- ---- one clock
+
+abbrev pub ticked_at : {D V : Type 0} → OpenCell D V → ℕ → ℕ → Site D V → OpenCell D V
+ticked_at running k seconds site = record running { sites = with_item running.sites k (ticked_on seconds site) }
+
+pub tick_sound : {D V : Type 0} (files : D → Option Files) (faults : D → ℕ) (bound most : ℕ) (running : OpenCell D V) (k seconds : ℕ) (site : Site D V) → IsSound files faults bound running → site.clock + seconds ≤ MAX_MOMENT → slice_get running.sites.items k ≡ Some site → IsNearAt running.sites.items k (site.clock + seconds) → IsSound files faults (bound + seconds) (ticked_at running k seconds site)
+tick_sound {D} {V} files faults bound most running k seconds site sound fits there near =
+    let items = running.sites.items in
+    let x = ticked_on seconds site in
+    let same : length (set items k x) ≡ length items = length-set items k x in
+    let some = sound.some in
+    let few = sound.few in
+    let old : get_or (clocks_in items) k 0 ≡ site.clock = clock_there items k site there in
+    let within : k < length items = slice_get_within items k site there in
+    let as_many : length (clocks_in items) ≡ length items = length-map items (λ (s : Site D V). s.clock) in
+    let clocks : clocks_in (set items k x) ≡ set (clocks_in items) k x.clock = map-set (λ (s : Site D V). s.clock) items k x in
+    record {
+      some = omega (arith, some, same);
+      few = omega (arith, few, same);
+      hosts = sound.hosts ∙ ap hosts_of (sym same);
+      sites = sound_set files faults running.hosts.items 0 (bound + seconds) items k x
+          (sound_weaker files faults running.hosts.items 0 bound (bound + seconds) items (omega arith) sound.sites)
+          (site_later files faults (record { hosts = running.hosts.items; me = 0 + k }) bound seconds site fits (sound_at files faults running.hosts.items 0 bound items k site sound.sites there));
+      near = ap are_near clocks ∙ near_make (set (clocks_in items) k x.clock)
+          (near_set (clocks_in items) k x.clock (near_read (clocks_in items) sound.near) (omega (arith, within, as_many)) (omega (arith, old))
+          (λ j less other.
+          let one = some_site items j less in
+          let e : get_or (clocks_in items) j 0 ≡ one.site.clock = clock_there items j one.site one.there in
+          let n = near j one.site one.there other in
+          omega (arith, e, n)));
+      packets = sound.packets;
+      told = sound.told;
+    }
+
+none_more : {X : Type 0} (xs : List X) (handed : List Bool) → handed ++ replicate (length xs - length xs) false ≡ handed
+none_more xs handed =
+    let none : length xs - length xs ≡ 0 = omega arith in
+    ap (λ (n : ℕ). handed ++ replicate n false) none ∙ append-nil handed
+
+pub tick_sites_of : {D V : Type 0} (running : OpenCell D V) (c : Cell) (k seconds : ℕ) (site : Site D V) → StandsFor running c → slice_get running.sites.items k ≡ Some site → AreSitesOf (ticked_at running k seconds site).sites.items (tick_at c.run.world.sites k seconds)
+tick_sites_of {D} {V} running c k seconds site stands there =
+    let same : get_or running.sites.items k site ≡ site = get_or_from_slice_get running.sites.items k site site there in
+    subst (λ (s : Site D V). AreSitesOf (set running.sites.items k (ticked_on seconds s)) (tick_at c.run.world.sites k seconds)) same
+    (sites_ticked running.sites.items c.run.world.sites k seconds site stands.sites)
+
+pub tick_stands : {D V : Type 0} (db : ScriptDatabase) (running : OpenCell D V) (c : Cell) (k seconds : ℕ) (site : Site D V) → StandsFor running c → slice_get running.sites.items k ≡ Some site → StandsFor (ticked_at running k seconds site) (with_event db c (Tick k seconds)).cell
+tick_stands db running c k seconds site stands there =
+    record {
+      hosts = stands.hosts;
+      sites = tick_sites_of running c k seconds site stands there;
+      sent = stands.sent;
+      handed = none_more c.run.world.packets c.handed ∙ stands.handed;
+      unarmed = stands.unarmed;
+    }
+
+pub helds_ticked : {D V : Type 0} (files : D → Option Files) (faults : D → ℕ) (running : OpenCell D V) (k seconds : ℕ) (site : Site D V) → slice_get running.sites.items k ≡ Some site → helds files faults (ticked_at running k seconds site) ≡ helds files faults running
+helds_ticked {D} {V} files faults running k seconds site there =
+    let same : get_or running.sites.items k site ≡ site = get_or_from_slice_get running.sites.items k site site there in
+    map-set_same (λ (s : Site D V). held files faults (site_disk s)) running.sites.items k (ticked_on seconds site) site
+    (ap (λ (s : Site D V). held files faults (site_disk s)) (sym same))
+
+pub tick_told : {D V : Type 0} (files : D → Option Files) (faults : D → ℕ) (db : ScriptDatabase) (bound : ℕ) (running : OpenCell D V) (c : Cell) (k seconds : ℕ) (site : Site D V) (run : Run_or_why) (text : List ℕ) → IsSound files faults bound running → bound + seconds ≤ MAX_MOMENT → StandsFor running c → slice_get running.sites.items k ≡ Some site → IsNearAt running.sites.items k (site.clock + seconds) → run ≡ unless_skewed db c (tick_at c.run.world.sites k seconds) (Tick k seconds) → CellTold files faults db (λ choices. run) None running (ticked_at running k seconds site) text text
+tick_told files faults db bound running c k seconds site run text sound fits stands there near is =
+    let at = sound_at files faults running.hosts.items 0 bound running.sites.items k site sound.sites there in
+    let within = at.within in
+    let after = tick_sound files faults bound bound running k seconds site sound (omega (arith, within, fits)) there near in
+    record {
+      choices = [];
+      ran = with_event db c (Tick k seconds);
+      is = is ∙ ap (λ (b : Bool). if b then Ok (with_event db c (Tick k seconds)) else Err why.Skew)
+          (may files faults (bound + seconds) (ticked_at running k seconds site) (tick_at c.run.world.sites k seconds) after (tick_sites_of running c k seconds site stands there));
+      ends = refl;
+      cell = tick_stands db running c k seconds site stands there;
+      told = sym (append-nil text);
+      causes = rises_same (helds files faults running) (helds files faults (ticked_at running k seconds site)) (helds_ticked files faults running k seconds site there);
+    }
+
+-- one that would part the clocks
+pub tick_skews : {D V : Type 0} (db : ScriptDatabase) (running : OpenCell D V) (c : Cell) (k seconds : ℕ) (site : Site D V) → StandsFor running c → slice_get running.sites.items k ≡ Some site → (IsNearAt running.sites.items k (site.clock + seconds) → ⊥) → unless_skewed db c (tick_at c.run.world.sites k seconds) (Tick k seconds) ≡ Err why.Skew
+tick_skews {D} {V} db running c k seconds site stands there parted = by (may_tick ss) refl
+  where
+    ss : List ModelSite
+    ss = tick_at c.run.world.sites k seconds
+
+    items : List (Site D V)
+    items = running.sites.items
+
+    near_then : may_tick ss ≡ true → IsNearAt items k (site.clock + seconds)
+    near_then is j other at less =
+        let x = ticked_on seconds site in
+        let are = tick_sites_of running c k seconds site stands there in
+        let clocks : clocks_of ss ≡ set (clocks_in items) k x.clock = sites_clocks (set items k x) ss are ∙ map-set (λ (s : Site D V). s.clock) items k x in
+        let near = near_read (set (clocks_in items) k x.clock) (subst (λ (l : List ℕ). are_near l ≡ true) clocks (left_of (are_near (clocks_of ss)) (are_moments (clocks_of ss)) is)) in
+        let as_many : length (clocks_in items) ≡ length items = length-map items (λ (s : Site D V). s.clock) in
+        let here = slice_get_within items k site there in
+        let there' = slice_get_within items j other at in
+        let n = near_unset (clocks_in items) k x.clock near (omega (arith, here, as_many)) j (omega (arith, there', as_many)) less in
+        let e = clock_there items j other at in
+        omega (arith, n, e)
+
+    by : (b : Bool) → may_tick ss ≡ b → unless_skewed db c ss (Tick k seconds) ≡ Err why.Skew
+    by true is = absurd (parted (near_then is))
+    by false is = ap (λ (b : Bool). if b then Ok (with_event db c (Tick k seconds)) else Err why.Skew) is
+
+-- ---- all clocks
+
+abbrev pub all_ticked : {D V : Type 0} → OpenCell D V → List (Site D V) → OpenCell D V
+all_ticked running sites = record running { sites = with_items running.sites sites }
+
+all_items : {D V : Type 0} (running : OpenCell D V) (sites : List (Site D V)) (seconds : ℕ) → sites ≡ map (ticked_on seconds) running.sites.items → (all_ticked running sites).sites.items ≡ map (ticked_on seconds) running.sites.items
+all_items running sites seconds are =
+    items_with running.sites sites (ap length are ∙ length-map running.sites.items (ticked_on seconds)) ∙ are
+
+clocks_ticked : {D V : Type 0} (sites : List (Site D V)) (seconds : ℕ) → clocks_in (map (ticked_on seconds) sites) ≡ map (λ (n : ℕ). n + seconds) (clocks_in sites)
+clocks_ticked [] seconds = refl
+clocks_ticked (site ∷ sites) seconds = ap (λ (l : List ℕ). (site.clock + seconds) ∷ l) (clocks_ticked sites seconds)
+
+helds_of_ticked : {D V : Type 0} (files : D → Option Files) (faults : D → ℕ) (sites : List (Site D V)) (seconds : ℕ) → map (λ (s : Site D V). held files faults (site_disk s)) (map (ticked_on seconds) sites) ≡ map (λ (s : Site D V). held files faults (site_disk s)) sites
+helds_of_ticked files faults [] seconds = refl
+helds_of_ticked files faults (site ∷ sites) seconds = ap (λ (l : List Held). held files faults (site_disk site) ∷ l) (helds_of_ticked files faults sites seconds)
+
+pub helds_all : {D V : Type 0} (files : D → Option Files) (faults : D → ℕ) (running : OpenCell D V) (sites : List (Site D V)) (seconds : ℕ) → sites ≡ map (ticked_on seconds) running.sites.items → helds files faults (all_ticked running sites) ≡ helds files faults running
+helds_all {D} {V} files faults running sites seconds are =
+    ap (map (λ (s : Site D V). held files faults (site_disk s))) (all_items running sites seconds are)
+    ∙ helds_of_ticked files faults running.sites.items seconds
+
+pub all_sound : {D V : Type 0} (files : D → Option Files) (faults : D → ℕ) (bound bound' : ℕ) (running : OpenCell D V) (sites : List (Site D V)) (seconds : ℕ) → sites ≡ map (ticked_on seconds) running.sites.items → IsSound files faults bound running → bound + seconds ≤ MAX_MOMENT → IsSound files faults bound' running → IsSound files faults (bound' + seconds) (all_ticked running sites)
+all_sound {D} {V} files faults bound bound' running sites seconds are sound fits sound' =
+    let items = running.sites.items in
+    let after = map (ticked_on seconds) items in
+    let is = all_items running sites seconds are in
+    let same : length (all_ticked running sites).sites.items ≡ length items = ap length is ∙ length-map items (ticked_on seconds) in
+    let some = sound.some in
+    let few = sound.few in
+    record {
+      some = omega (arith, some, same);
+      few = omega (arith, few, same);
+      hosts = sound.hosts ∙ ap hosts_of (sym same);
+      sites = subst (λ (l : List (Site D V)). AreSound files faults running.hosts.items 0 (bound' + seconds) l) (sym is)
+          (sound_ticked files faults running.hosts.items 0 bound bound' seconds items fits sound.sites sound'.sites);
+      near = ap (λ (l : List (Site D V)). are_near (clocks_in l)) is ∙ ap are_near (clocks_ticked items seconds)
+          ∙ near_make (map (λ (n : ℕ). n + seconds) (clocks_in items)) (near_all (clocks_in items) seconds (near_read (clocks_in items) sound.near));
+      packets = sound.packets;
+      told = sound.told;
+    }
+
+pub all_told : {D V : Type 0} (files : D → Option Files) (faults : D → ℕ) (db : ScriptDatabase) (bound : ℕ) (running : OpenCell D V) (sites : List (Site D V)) (c : Cell) (seconds : ℕ) (text : List ℕ) → sites ≡ map (ticked_on seconds) running.sites.items → IsSound files faults bound running → bound + seconds ≤ MAX_MOMENT → StandsFor running c → CellTold files faults db (λ choices. unless_skewed db c (map (ticked seconds) c.run.world.sites) (Tick_all seconds)) None running (all_ticked running sites) text text
+all_told {D} {V} files faults db bound running sites c seconds text are sound fits stands =
+    let is = all_items running sites seconds are in
+    let ss = subst (λ (l : List (Site D V)). AreSitesOf l (map (ticked seconds) c.run.world.sites)) (sym is) (sites_all_ticked running.sites.items c.run.world.sites seconds stands.sites) in
+    record {
+      choices = [];
+      ran = with_event db c (Tick_all seconds);
+      is = ap (λ (b : Bool). if b then Ok (with_event db c (Tick_all seconds)) else Err why.Skew)
+          (may files faults (bound + seconds) (all_ticked running sites) (map (ticked seconds) c.run.world.sites) (all_sound files faults bound bound running sites seconds are sound fits sound) ss);
+      ends = refl;
+      cell = record {
+        hosts = stands.hosts;
+        sites = ss;
+        sent = stands.sent;
+        handed = none_more c.run.world.packets c.handed ∙ stands.handed;
+        unarmed = stands.unarmed;
+      };
+      told = sym (append-nil text);
+      causes = rises_same (helds files faults running) (helds files faults (all_ticked running sites)) (helds_all files faults running sites seconds are);
+    }
+
+pub fits_at : {D V : Type 0} (files : D → Option Files) (faults : D → ℕ) (bound seconds : ℕ) (running : OpenCell D V) (k : ℕ) (site : Site D V) → IsSound files faults bound running → bound + seconds ≤ MAX_MOMENT → slice_get running.sites.items k ≡ Some site → site.clock + seconds ≤ MAX_MOMENT
+fits_at files faults bound seconds running k site sound fits there =
+    let at = sound_at files faults running.hosts.items 0 bound running.sites.items k site sound.sites there in
+    let within = at.within in
+    omega (arith, within, fits)
+
+-- ---- the place that was read
+
+pub refused_so : {T : Type 0} (r : Result T Why) (w w' : Why) → IsErrAnd r (λ e. e ≡ w) → r ≡ Err w' → w ≡ w'
+refused_so (Ok x) w w' is is' = absurd is
+refused_so (Err e) w w' is is' = cc
+
+-- a site that is written as it was read, but for its clock
+pub ticked_so : {D V : Type 0} (running : OpenCell D V) (k seconds : ℕ) (site other : Site D V) → slice_get running.sites.items k ≡ Some site → slice_get running.sites.items k ≡ Some other → ticked_at running k seconds site ≡ record running { sites = with_item running.sites k (record { clock = site.clock + seconds; server = other.server }) }
+ticked_so {D} {V} running k seconds site other there there' =
+    let same : site ≡ other = cc in
+    ap (λ (s : Site D V). record running { sites = with_item running.sites k (record { clock = site.clock + seconds; server = s.server }) }) same

@@ -1,0 +1,38 @@
+//! The place of a server in a cell.
+ghost use Rattle.std.specs.Prelude.{◌≡◌, ◌-◌, ◌<◌, ℕ, IfOk, MatchResult, Ok, Err, length};
+ghost use Rattle.cell_runs.specs.Script.{Cell, Cell_run, Run_or_why, at_server, at_up, cell_size_of};
+ghost use Rattle.cell_sites.specs.Places.{IsUpAt};
+ghost use Rattle.cell_sites.specs.Sites.{StandsFor};
+
+use crate::cells::OpenCell;
+use crate::sites::Server;
+use cell_script::Why;
+use db_image::WordForms;
+use disk_base::StopDisk;
+
+impl<D: StopDisk, V: WordForms> OpenCell<D, V> {
+    /// The place of the server of a number, which is counted from 1.
+    pub(crate) fn place(&self, server: u64) -> Result<usize, Why>
+        ensures place { IfOk result (λ k. (k ≡ server - 1) × (k < length self.now.sites.items)) }
+        ensures there { (c : Cell) (does : ℕ → Run_or_why) → cell_size_of c ≡ length self.now.sites.items →
+            MatchResult result (λ k. at_server c server does ≡ does k) (λ why. at_server c server does ≡ Err why) }
+    {
+        if server == 0 || server > self.sites.len() as u64 {
+            return Err(Why::Server);
+        }
+        Ok(server as usize - 1)
+    }
+
+    /// The same of a server that is up.
+    pub(crate) fn place_up(&self, server: u64) -> Result<usize, Why>
+        ensures place { IfOk result (λ k. (k ≡ server - 1) × IsUpAt self.now k) }
+        ensures up { (c : Cell) (does : ℕ → Cell_run) → cell_size_of c ≡ length self.now.sites.items → StandsFor self.now c →
+            MatchResult result (λ k. at_up c server does ≡ Ok (does k)) (λ why. at_up c server does ≡ Err why) }
+    {
+        let k = self.place(server)?;
+        match &self.sites[k].server {
+            Server::Down(_) => Err(Why::State),
+            Server::Up(_) => Ok(k),
+        }
+    }
+}

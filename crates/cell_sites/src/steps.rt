@@ -1,0 +1,203 @@
+//! Steps of one server: its turns, and the calls that it is asked.
+ghost use Rattle.std.specs.Prelude.{◌≡◌, ◌≢◌, ◌<◌, ◌≤◌, ◌+◌, ◌-◌, ◌++◌, ℕ, List, Some, None, All, OnOk, IfOk, Ok, Err, length, filter_map, []};
+ghost use Rattle.std.specs.String.{string_bytes};
+ghost use Rattle.cell_model.specs.Step.{Shown, outputs_of};
+ghost use Rattle.cell_model.specs.World.{Site as ModelSite, Trigger, occasion, packet_in};
+ghost use Rattle.ubik_calls.specs.declared.packets.Packet.{Packet as APacket};
+ghost use Rattle.cell_sites.specs.Telling.{IsNotShort, MayBeTold, WholeTold, told_of};
+ghost use Rattle.cell_sites.specs.Traffic.{sent_all};
+ghost use Rattle.cell_model.specs.Voters.{AnswersCall, AsksNoOther, IsTaken};
+ghost use Rattle.cell_runs.specs.declared.endings.Ending.TheVariants as ending;
+ghost use Rattle.cell_runs.specs.declared.endings.Which.{Which as AWhich};
+ghost use Rattle.cell_runs.specs.ScriptDatabase.{script_database};
+ghost use Rattle.cell_runs.specs.Script.{Cell, Choice, first_choice, stepped, run_in, asked_at};
+ghost use Rattle.cell_script.specs.declared.lines.Line.TheVariants as line;
+ghost use Rattle.cell_script.specs.declared.lines.Why.{Why as AWhy};
+ghost use Rattle.cell_sites.specs.Disks.{AreReadBy, AreRises};
+ghost use Rattle.cell_sites.specs.Places.{IsUpAt};
+ghost use Rattle.cell_sites.specs.Sites.{StandsFor, helds};
+ghost use Rattle.cell_sites.specs.Sound.{IsSound, IsSoundNode};
+ghost use Rattle.cell_sites.specs.Stepped.{NodeStepped, SiteStepped, member_at};
+ghost use Rattle.cell_sites.specs.Told.{CellTold, IsRefused, IsShort};
+ghost use Rattle.ubik_node.specs.Node.{own_member};
+ghost use Rattle.ubik_types.specs.Moment.{IsMoment};
+
+use crate::cells::OpenCell;
+use crate::faults::LineFault;
+use crate::sites::Server;
+use crate::telling::tell_outputs;
+use cell_model::law_voters_vote;
+use cell_runs::{Mark, tell_mark};
+use db_image::WordForms;
+use disk_base::StopDisk;
+use ubik_node::{Node, NodeEvent, Outputs, StepEnd};
+use ubik_types::{Bytes, bytes_of};
+
+impl<D: StopDisk, V: WordForms> OpenCell<D, V> {
+    /// A beacon turn of a server, which is counted from 1.
+    pub fn beacon(&mut self, server: u64, text: &mut String) -> Result<(), LineFault>
+        requires { (bound : ℕ) × IsSound D.files D.faults bound self.old }
+        ensures told { result ≡ Ok tt → (c : Cell) → StandsFor self.old c →
+            CellTold D.files D.faults (script_database V.database V.words) (λ choices. run_in (script_database V.database V.words) c choices (line.Beacon server)) None self.old self.new (string_bytes text.old) (string_bytes text.new) }
+        ensures limit { (which : AWhich) → result ≡ Err (LineFault.Limit which) → (c : Cell) → StandsFor self.old c →
+            CellTold D.files D.faults (script_database V.database V.words) (λ choices. run_in (script_database V.database V.words) c choices (line.Beacon server)) (Some (ending.Limit which)) self.old self.new (string_bytes text.old) (string_bytes text.new) }
+        ensures refused { (why : AWhy) → result ≡ Err (LineFault.Refused why) → (self.new ≡ self.old)
+            × ((c : Cell) → StandsFor self.old c → IsRefused why (λ choices. run_in (script_database V.database V.words) c choices (line.Beacon server))) }
+        ensures quiet { (why : AWhy) → result ≡ Err (LineFault.Refused why) → string_bytes text.new ≡ string_bytes text.old }
+        ensures short { result ≡ Err LineFault.NoMemory → (c : Cell) → StandsFor self.old c →
+            IsShort D.files D.faults (λ choices. run_in (script_database V.database V.words) c choices (line.Beacon server)) c self.old self.new }
+        ensures sound { result ≡ Ok tt → (bound : ℕ) → IsSound D.files D.faults bound self.old → IsSound D.files D.faults bound self.new }
+        ensures never_falls { AreRises 0 [] (helds D.files D.faults self.old) (helds D.files D.faults self.new) }
+        ensures same { length self.new.sites.items ≡ length self.old.sites.items }
+    {
+        let k = self.place_up(server)?;
+        self.step(k, NodeEvent::BeaconTurn, &[], text)
+    }
+
+    /// A recovery turn of the server of a cell of one.
+    pub fn recover(&mut self, server: u64, text: &mut String) -> Result<(), LineFault>
+        requires sound { (bound : ℕ) × IsSound D.files D.faults bound self.old }
+        requires alone { length self.old.sites.items ≡ 1 }
+        ensures told { result ≡ Ok tt → (c : Cell) → StandsFor self.old c →
+            CellTold D.files D.faults (script_database V.database V.words) (λ choices. run_in (script_database V.database V.words) c choices (line.Recover server)) None self.old self.new (string_bytes text.old) (string_bytes text.new) }
+        ensures limit { (which : AWhich) → result ≡ Err (LineFault.Limit which) → (c : Cell) → StandsFor self.old c →
+            CellTold D.files D.faults (script_database V.database V.words) (λ choices. run_in (script_database V.database V.words) c choices (line.Recover server)) (Some (ending.Limit which)) self.old self.new (string_bytes text.old) (string_bytes text.new) }
+        ensures refused { (why : AWhy) → result ≡ Err (LineFault.Refused why) → (self.new ≡ self.old)
+            × ((c : Cell) → StandsFor self.old c → IsRefused why (λ choices. run_in (script_database V.database V.words) c choices (line.Recover server))) }
+        ensures quiet { (why : AWhy) → result ≡ Err (LineFault.Refused why) → string_bytes text.new ≡ string_bytes text.old }
+        ensures short { result ≡ Err LineFault.NoMemory → (c : Cell) → StandsFor self.old c →
+            IsShort D.files D.faults (λ choices. run_in (script_database V.database V.words) c choices (line.Recover server)) c self.old self.new }
+        ensures sound { result ≡ Ok tt → (bound : ℕ) → IsSound D.files D.faults bound self.old → IsSound D.files D.faults bound self.new }
+        ensures never_falls { AreRises 0 [] (helds D.files D.faults self.old) (helds D.files D.faults self.new) }
+        ensures same { length self.new.sites.items ≡ length self.old.sites.items }
+    {
+        let k = self.place_up(server)?;
+        self.step(k, NodeEvent::RecoverTurn, &[], text)
+    }
+
+    /// A call at a server, under an id that no call had before.
+    pub fn ask(
+        &mut self,
+        server: u64,
+        id: u32,
+        call: Bytes,
+        text: &mut String,
+    ) -> Result<(), LineFault>
+        requires { (bound : ℕ) × IsSound D.files D.faults bound self.old }
+        ensures told { result ≡ Ok tt → (c : Cell) → StandsFor self.old c →
+            CellTold D.files D.faults (script_database V.database V.words) (λ choices. asked_at (script_database V.database V.words) c (first_choice choices) id call (Some server)) None self.old self.new (string_bytes text.old) (string_bytes text.new) }
+        ensures limit { (which : AWhich) → result ≡ Err (LineFault.Limit which) → (c : Cell) → StandsFor self.old c →
+            CellTold D.files D.faults (script_database V.database V.words) (λ choices. asked_at (script_database V.database V.words) c (first_choice choices) id call (Some server)) (Some (ending.Limit which)) self.old self.new (string_bytes text.old) (string_bytes text.new) }
+        ensures refused { (why : AWhy) → result ≡ Err (LineFault.Refused why) → (self.new ≡ self.old)
+            × ((c : Cell) → StandsFor self.old c → IsRefused why (λ choices. asked_at (script_database V.database V.words) c (first_choice choices) id call (Some server))) }
+        ensures quiet { (why : AWhy) → result ≡ Err (LineFault.Refused why) → string_bytes text.new ≡ string_bytes text.old }
+        ensures short { result ≡ Err LineFault.NoMemory → (c : Cell) → StandsFor self.old c →
+            IsShort D.files D.faults (λ choices. asked_at (script_database V.database V.words) c (first_choice choices) id call (Some server)) c self.old self.new }
+        ensures sound { result ≡ Ok tt → (bound : ℕ) → IsSound D.files D.faults bound self.old → IsSound D.files D.faults bound self.new }
+        ensures never_falls { AreRises 0 [] (helds D.files D.faults self.old) (helds D.files D.faults self.new) }
+        ensures same { length self.new.sites.items ≡ length self.old.sites.items }
+    {
+        let k = self.place_up(server)?;
+        let asked = bytes_of(self.alloc, call.as_slice())?;
+        self.step(k, NodeEvent::Ask { id, call: asked }, call.as_slice(), text)
+    }
+
+    /// A step of a server that is up, at its clock; `call` is what the event asks, if it asks something.
+    pub(crate) fn step(
+        &mut self,
+        k: usize,
+        event: NodeEvent,
+        call: &[u8],
+        text: &mut String,
+    ) -> Result<(), LineFault>
+        requires sound { (bound : ℕ) × IsSound D.files D.faults bound self.old }
+        requires up { IsUpAt self.old k }
+        requires taken { IsTaken (member_at self.old k) event }
+        requires asks { AsksNoOther event call.now }
+        ensures told { result ≡ Ok tt → (c : Cell) (trigger : Trigger) → StandsFor self.old c → occasion c.run.world trigger ≡ Some (k, event) →
+            CellTold D.files D.faults (script_database V.database V.words) (λ choices. Ok (stepped (script_database V.database V.words) c (first_choice choices) trigger)) None self.old self.new (string_bytes text.old) (string_bytes text.new) }
+        ensures limit { (which : AWhich) → result ≡ Err (LineFault.Limit which) → (c : Cell) (trigger : Trigger) → StandsFor self.old c → occasion c.run.world trigger ≡ Some (k, event) →
+            CellTold D.files D.faults (script_database V.database V.words) (λ choices. Ok (stepped (script_database V.database V.words) c (first_choice choices) trigger)) (Some (ending.Limit which)) self.old self.new (string_bytes text.old) (string_bytes text.new) }
+        ensures refused { (why : AWhy) → result ≢ Err (LineFault.Refused why) }
+        ensures short { result ≡ Err LineFault.NoMemory → (c : Cell) (trigger : Trigger) → StandsFor self.old c → occasion c.run.world trigger ≡ Some (k, event) →
+            IsShort D.files D.faults (λ choices. Ok (stepped (script_database V.database V.words) c (first_choice choices) trigger)) c self.old self.new }
+        ensures sound { result ≡ Ok tt → (bound : ℕ) → IsSound D.files D.faults bound self.old → IsSound D.files D.faults bound self.new }
+        ensures never_falls { AreRises 0 [] (helds D.files D.faults self.old) (helds D.files D.faults self.new) }
+        // A packet of votes leaves what disks read as.
+        ensures keeps { (packet : APacket) → event ≡ NodeEvent.Packet packet → (sites : List ModelSite) → AreReadBy sites (helds D.files D.faults self.old) → AreReadBy sites (helds D.files D.faults self.new) }
+        ensures same { length self.new.sites.items ≡ length self.old.sites.items }
+    {
+        law_voters_vote();
+        let (end, halts) = self.step_site(k, event);
+        match end {
+            StepEnd::NoMemory => Err(LineFault::NoMemory),
+            StepEnd::Done | StepEnd::Halted => self.tell_step(k, halts, call, text),
+        }
+    }
+
+    /// Tells a step of the server at a place: what it put out, and then whether it was halted.
+    fn tell_step(
+        &mut self,
+        k: usize,
+        halts: bool,
+        call: &[u8],
+        text: &mut String,
+    ) -> Result<(), LineFault>
+        requires place { k < 20 }
+        requires votes { All MayBeTold self.old.outputs }
+        ensures told { result ≡ Ok tt → (shown : List Shown) → outputs_of shown ≡ self.old.outputs → All (λ one. AnswersCall call.now one) shown →
+            WholeTold (script_database V.database V.words) self.old.hosts.items k halts (record { text = string_bytes text.old; sent = self.old.packets.sent }) shown (string_bytes text.new) self.new.packets.sent }
+        ensures limit { (which : AWhich) → result ≡ Err (LineFault.Limit which) → (shown : List Shown) → outputs_of shown ≡ self.old.outputs → All (λ one. AnswersCall call.now one) shown →
+            told_of (script_database V.database V.words) self.old.hosts.items k (record { text = string_bytes text.old; sent = self.old.packets.sent }) shown
+                ≡ record { after = record { text = string_bytes text.new; sent = self.new.packets.sent }; ending = Some (ending.Limit which) } }
+        ensures refused { (why : AWhy) → result ≢ Err (LineFault.Refused why) }
+        ensures found { result ≡ Ok tt → All IsNotShort self.old.outputs }
+        ensures sends { result ≡ Ok tt → self.new.packets ≡ sent_all self.old.packets (filter_map packet_in self.old.outputs) }
+        ensures emptied { result ≡ Ok tt → self.new.outputs ≡ [] }
+        ensures hosts { self.new.hosts.items ≡ self.old.hosts.items }
+        ensures sites { self.new.sites.items ≡ self.old.sites.items }
+    {
+        let server = k as u32;
+        tell_outputs::<V>(text, &self.hosts, server, call, &mut self.outputs, &mut self.packets)?;
+        if halts {
+            tell_mark(text, Mark::Halts { server })?;
+        }
+        Ok(())
+    }
+
+    /// A step of a server that is up, at its clock, which leaves what it put out; and whether the server was halted in it.
+    fn step_site(&mut self, k: usize, event: NodeEvent) -> (StepEnd, bool)
+        requires sound { (bound : ℕ) × IsSound D.files D.faults bound self.old }
+        requires up { IsUpAt self.old k }
+        requires taken { IsTaken (member_at self.old k) event }
+        ensures { SiteStepped D.files D.faults V.database k event result.0 result.1 self.old self.new }
+    {
+        let site = &mut self.sites[k];
+        let clock = site.clock;
+        let Server::Up(node) = &mut site.server else {
+            unreachable!();
+        };
+        step_node(node, clock, event, &mut self.outputs)
+    }
+}
+
+/// A step of a server that is up, at a moment; and whether the server was halted in it.
+fn step_node<D: StopDisk, V: WordForms>(
+    node: &mut Node<D, V>,
+    clock: u32,
+    event: NodeEvent,
+    out: &mut Outputs,
+) -> (StepEnd, bool)
+    requires moment { IsMoment clock }
+    requires sound { IsSoundNode D.files D.faults (own_member node.old) clock node.old }
+    requires taken { IsTaken (own_member node.old) event }
+    requires empty { out.old ≡ [] }
+    ensures { NodeStepped D.files D.faults V.database (own_member node.old) clock event result.0 result.1 node.old node.new out.new }
+{
+    let was_halted = node.halted();
+    match node.step(clock, event, out) {
+        StepEnd::Halted => (StepEnd::Halted, !was_halted),
+        StepEnd::Done => (StepEnd::Done, false),
+        StepEnd::NoMemory => (StepEnd::NoMemory, false),
+    }
+}

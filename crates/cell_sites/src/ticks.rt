@@ -1,0 +1,82 @@
+//! Clocks that go forward.
+ghost use Rattle.std.specs.Prelude.{◌≡◌, ◌≤◌, ◌+◌, ◌<◌, ℕ, List, [], None, Ok, Err, Some, IsTrue, ◌↔◌, length, map, slice_get};
+ghost use Rattle.ubik_types.specs.declared.limits.TheConstants.{MAX_MOMENT};
+ghost use Rattle.cell_runs.specs.ScriptDatabase.{script_database};
+ghost use Rattle.cell_runs.specs.Script.{Cell, run_in};
+ghost use Rattle.cell_script.specs.declared.lines.Line.TheVariants as line;
+ghost use Rattle.cell_script.specs.declared.lines.Why.{Why as AWhy};
+ghost use Rattle.cell_sites.specs.Disks.{AreRises};
+ghost use Rattle.cell_sites.specs.Places.{IsNearAt, ticked_on};
+ghost use Rattle.cell_sites.specs.Sites.{StandsFor, helds};
+ghost use Rattle.cell_sites.specs.Sound.{IsSound};
+ghost use Rattle.cell_sites.specs.Told.{CellTold, IsRefused};
+ghost use Rattle.cell_sites.specs.declared.sites.Site.{Site as ASite};
+
+use crate::cells::OpenCell;
+use crate::sites::Site;
+use cell_script::Why;
+use db_image::WordForms;
+use disk_base::StopDisk;
+use ubik_types::SKEW;
+
+impl<D: StopDisk, V: WordForms> OpenCell<D, V> {
+    /// The clock of a server goes forward. That is refused where it would be more than 7 seconds past another one.
+    pub fn tick(&mut self, server: u64, seconds: u32) -> Result<(), Why>
+        requires { (bound : ℕ) × IsSound D.files D.faults bound self.old × (bound + seconds ≤ MAX_MOMENT) }
+        ensures told { result ≡ Ok tt → (c : Cell) (text : List ℕ) → StandsFor self.old c →
+            CellTold D.files D.faults (script_database V.database V.words)
+            (λ choices. run_in (script_database V.database V.words) c choices (line.Tick server seconds))
+            None self.old self.new text text }
+        ensures refused { (why : AWhy) → result ≡ Err why → (self.new ≡ self.old)
+            × ((c : Cell) → StandsFor self.old c → IsRefused why
+            (λ choices. run_in (script_database V.database V.words) c choices (line.Tick server seconds))) }
+        ensures sound { result ≡ Ok tt → (bound : ℕ) → IsSound D.files D.faults bound self.old
+            → IsSound D.files D.faults (bound + seconds) self.new }
+        ensures never_falls { AreRises 0 [] (helds D.files D.faults self.old) (helds D.files D.faults self.new) }
+        ensures same { length self.new.sites.items ≡ length self.old.sites.items }
+    {
+        let k = self.place(server)?;
+        let now = self.sites[k].clock + seconds;
+        if !is_near(&self.sites, k, now) {
+            return Err(Why::Skew);
+        }
+        self.sites[k].clock = now;
+        Ok(())
+    }
+
+    /// All clocks go forward.
+    pub fn tick_all(&mut self, seconds: u32)
+        requires { (bound : ℕ) × IsSound D.files D.faults bound self.old × (bound + seconds ≤ MAX_MOMENT) }
+        ensures told { (c : Cell) (text : List ℕ) → StandsFor self.old c →
+            CellTold D.files D.faults (script_database V.database V.words)
+            (λ choices. run_in (script_database V.database V.words) c choices (line.TickAll seconds))
+            None self.old self.new text text }
+        ensures sound { (bound : ℕ) → IsSound D.files D.faults bound self.old → IsSound D.files D.faults (bound + seconds) self.new }
+        ensures never_falls { AreRises 0 [] (helds D.files D.faults self.old) (helds D.files D.faults self.new) }
+        ensures same { length self.new.sites.items ≡ length self.old.sites.items }
+    {
+        tick_sites(&mut self.sites, seconds);
+    }
+}
+
+/// The clocks of these servers go forward.
+fn tick_sites<D: StopDisk, V: WordForms>(sites: &mut [Site<D, V>], seconds: u32)
+    requires { (k : ℕ) (site : ASite D V) → slice_get sites.old k ≡ Some site → site.clock + seconds ≤ MAX_MOMENT }
+    ensures { sites.new ≡ map (ticked_on seconds) sites.old }
+{
+    for site in sites.iter_mut() {
+        site.clock += seconds;
+    }
+}
+
+/// Whether a clock at a place is not more than 7 seconds past any other one.
+fn is_near<D: StopDisk, V: WordForms>(sites: &[Site<D, V>], k: usize, now: u32) -> bool
+    ensures { IsTrue result ↔ IsNearAt sites.now k now }
+{
+    for j in 0..sites.len() {
+        if j != k && u64::from(now) > u64::from(sites[j].clock) + u64::from(SKEW) {
+            return false;
+        }
+    }
+    true
+}
