@@ -46,7 +46,7 @@ named law words (Some c) at call is =
     let Q : List ℕ → Type 0 = λ bytes. P (call_of bytes) in
     subst Q (same_some is) (subst P (sym (law words c at)) refl)
 
-names_calls : NamesItsCalls → NamesCalls databases
+pub names_calls : NamesItsCalls → NamesCalls databases
 names_calls law k words call is = named law words (call_in words) refl call is
 
 -- ---- a cell of one server

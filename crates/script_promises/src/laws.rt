@@ -1,4 +1,6 @@
 //! Laws of scripts of one server: each is the clause of a call that does nothing.
+ghost use Rattle.script_laws.specs.Runs.{NamesCalls};
+ghost use Rattle.script_promises.specs.Databases.{databases};
 ghost use Rattle.script_promises.specs.Promises.{ScriptsKeepPromises};
 
 use cell_model::{
@@ -28,4 +30,11 @@ pub fn law_scripts_keep_promises()
     law_replies_are_single();
     law_lines_are_built();
     law_scripts_are_runs();
+}
+
+/// What the words of a script name is a call of its database. So `law_scripts_are_runs` speaks of scripts over these databases.
+pub fn law_words_are_calls()
+    ensures { NamesCalls databases }
+{
+    law_words_name_a_call();
 }
