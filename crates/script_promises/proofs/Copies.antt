@@ -5,7 +5,7 @@ use Rattle.std.specs.Prelude.{All, Contains, option_map}
 use Rattle.ubik_calls.specs.declared.replies.Reply.TheVariants as reply
 use Rattle.db_image.specs.declared.services.CallReply.{CallReply}
 use Rattle.db_image.specs.declared.services.CallReply.TheVariants as call_reply
-use Rattle.cell_model.specs.Book.{Acknowledgement, Run, first_run, run_after, run_through}
+use Rattle.cell_model.specs.Book.{Run, first_run, run_after, run_through}
 use Rattle.cell_model.specs.Durable.{Transaction}
 use Rattle.cell_model.specs.KeptLaws.{AcknowledgedStay, OksAreAcknowledged, SitesAreSingle, RepliesAreSingle, IsPlaced, IsRecorded, IsSingle, IsSeenSingle, IsAnsweredBy, Answered, answered_with, answered_by, single_answer}
 use Rattle.cell_model.specs.Laws.{AnnouncementsGrow, Grows, run_of_one}
@@ -20,9 +20,9 @@ use Rattle.prdb_entries.specs.Reading.{call_of}
 use Rattle.cell_runs.specs.Script.{Cell}
 use Rattle.script_laws.specs.Runs.{first_of, IsScripted}
 use Rattle.script_laws.proofs.Parts.{run-append}
-use Rattle.script_promises.specs.Kept.{HasState, IsCounted, IsKept, IsSiteOf, asked_at, state_after}
+use Rattle.script_promises.specs.Kept.{HasState, IsCounted, IsKept, IsSiteOf, transaction_at, state_after}
 use Rattle.script_promises.specs.Order.{HasOneOrder, order_in, run_at}
-use Rattle.script_promises.specs.Replies.{HasSingleReplies, IsProper, IsSeenOf, reply_after, single_in}
+use Rattle.script_promises.specs.Replies.{HasSingleReplies, IsProper, IsSeenOf, meant_reply, single_in}
 use Rattle.script_promises.proofs.Proper.{FineSeen, FineWorld, GoodCall, first_fine, fine_run, the_host}
 use Rattle.script_promises.proofs.SingleStates.{DatabaseLaws, image_stands, reply_meant, never_bad, over_call, counted}
 use Rattle.script_promises.proofs.Unstopped.{IsUnstopped}
@@ -79,17 +79,17 @@ module _ (transactions : List Transaction) (w : World) (server id at : ℕ) wher
   BadAnswer o = o ≡ Some (answered_with server id (call_reply.BadRecord at))
 
   bad_site : (asked i : ℕ) (call : List ℕ) (found : Option Site)
-      → BadAnswer (option_map (λ (site : Site). answered_with asked i (reply_after transactions site.clock call)) found) → ⊥
+      → BadAnswer (option_map (λ (site : Site). answered_with asked i (meant_reply transactions site.clock call)) found) → ⊥
   bad_site asked i call None is = cc
   bad_site asked i call (Some site) is = never_bad transactions site.clock call at (ap (λ (s : Answered). s.reply) (same_some is))
 
-  bad_trigger : (trigger : Trigger) (short : List Bool) → BadAnswer (answered_by (reply_after transactions) w (Step trigger short)) → ⊥
+  bad_trigger : (trigger : Trigger) (short : List Bool) → BadAnswer (answered_by (meant_reply transactions) w (Step trigger short)) → ⊥
   bad_trigger (Delivery number) short is = cc
   bad_trigger (Beacon_turn asked) short is = cc
   bad_trigger (Recover_turn asked) short is = cc
   bad_trigger (Asking asked i call) short is = bad_site asked i call (site_of w asked) is
 
-  never_bad_record : (event : Event) → BadAnswer (answered_by (reply_after transactions) w event) → ⊥
+  never_bad_record : (event : Event) → BadAnswer (answered_by (meant_reply transactions) w event) → ⊥
   never_bad_record (Tick asked seconds) is = cc
   never_bad_record (Tick_all seconds) is = cc
   never_bad_record (Step trigger short) is = bad_trigger trigger short is
@@ -101,7 +101,7 @@ module _ (transactions : List Transaction) (w : World) (server id at : ℕ) wher
 -- what is seen is proper
 module _ (transactions : List Transaction) (w : World) (event : Event) where
   abbrev Seen : Happening → Type 0
-  Seen seen = IsSeenOf (answered_by (reply_after transactions) w event) seen
+  Seen seen = IsSeenOf (answered_by (meant_reply transactions) w event) seen
 
   proper : (seen : Happening) → FineSeen seen → Seen seen → IsProper seen
   proper (Sent number packet) fine is = fine
@@ -201,20 +201,20 @@ module _ (c : Cell) (one : IsOfOne c) where
     abbrev Recorded : Run → Type 0
     Recorded r =
         Contains (happens protection r.world asking).seen (Replied server id (reply.Ok fields) evaluation) →
-        IfSome (site_of r.world server) (λ site. IsRecorded protection r (run_after protection r asking) (asked_at call site))
+        IfSome (site_of r.world server) (λ site. IsRecorded protection r (run_after protection r asking) (transaction_at call site))
 
     kept_recorded : DatabaseLaws → OksAreAcknowledged → (front : List Event) → protection.writes call ≡ Some true
         → Contains (happens protection (run_at c front).world asking).seen (Replied server id (reply.Ok fields) evaluation)
         → IfSome (site_of (run_at c front).world server)
-        (λ site. IsCounted (run_at c front) (run_after protection (run_at c front) asking) (asked_at call site))
+        (λ site. IsCounted (run_at c front) (run_after protection (run_at c front) asking) (transaction_at call site))
     kept_recorded laws law front writes seen =
         let r = run_at c front in
         let later = run_after protection r asking in
-        over_some (λ site. IsRecorded protection r later (asked_at call site)) (λ site. IsCounted r later (asked_at call site))
+        over_some (λ site. IsRecorded protection r later (transaction_at call site)) (λ site. IsCounted r later (transaction_at call site))
         (site_of r.world server)
         (subst Recorded (same_run front)
         (λ shown. law protection the_host c.opening.clock one.failed front server id call fields evaluation short writes shown) seen)
-        (λ site. counted laws r later (asked_at call site))
+        (λ site. counted laws r later (transaction_at call site))
 
   pub kept : DatabaseLaws → AcknowledgedStay → SitesAreSingle → OksAreAcknowledged → IsKept c
   kept laws stay sites oks = record {
@@ -236,7 +236,7 @@ module _ (c : Cell) (one : IsOfOne c) where
       let later = run_after protection r e in
       let order = order_in r in
       let same : single_answer protection order r.world e ≡ single_in r e =
-      same_answer (single.reply_after protection order) (reply_after order) (reply_meant laws order) r.world e in
+      same_answer (single.reply_after protection order) (meant_reply order) (reply_meant laws order) r.world e in
       let first : FineWorld (first_of c) = subst FineWorld (sym one.first) (first_fine c.opening.clock one.failed) in
       let fine : All FineSeen (happens protection r.world e).seen =
       fine_run protection (λ call some. good_read call (call_of call) refl some) (first_run (first_of c)) front back e first

@@ -33,7 +33,7 @@ use Rattle.cell_model.specs.Step.{Member, Evaluation, Shown, Stepped, followed, 
 use Rattle.cell_model.specs.Writes.{written_in, written_small, written_within, turned}
 use Rattle.std.specs.List.{cons_option}
 use Rattle.ubik_calls.specs.declared.packets.Packet.{Packet}
-use Rattle.cell_model.specs.Book.{Run, first_run, run_after, run_through}
+use Rattle.cell_model.specs.Book.{Run, run_after, run_through}
 use Rattle.cell_model.specs.World.{Site, World, Trigger, Delivery, Beacon_turn, Recover_turn, Asking, Event, Tick, Tick_all, Step, Stop, Fault, Crash, Restart, Happening, Announced, Replied, Halts, Happened, SiteHappened, ticked, packet_in, packet_of, packets_of, number_after, seen_of_output, seen_from, happened_at, lost_at, step_at, fault_at, nothing, happens, first_world}
 use Rattle.cell_model.proofs.KeptRuns.{world_of}
 use Rattle.script_laws.specs.Runs.{AsksACall, IsScripted}

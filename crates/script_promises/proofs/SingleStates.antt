@@ -21,7 +21,7 @@ use Rattle.prdb_entries.specs.Reading.{call_of}
 use Rattle.prdb_entries.specs.State.{PrState, initial_state}
 use Rattle.script_promises.specs.Kept.{IsCounted, state_after}
 use Rattle.script_promises.specs.Order.{order_in}
-use Rattle.script_promises.specs.Replies.{reply_after}
+use Rattle.script_promises.specs.Replies.{meant_reply}
 
 -- over an image that stands for a state the outcome is what the call means there
 abbrev pub CallMeans : Type 0
@@ -79,7 +79,7 @@ module _ (laws : DatabaseLaws) where
 
   -- the single copy over images replies what the call means
   pub reply_meant : (transactions : List Transaction) (now : ℕ) (bytes : List ℕ)
-      → single.reply_after protection transactions now bytes ≡ reply_after transactions now bytes
+      → single.reply_after protection transactions now bytes ≡ meant_reply transactions now bytes
   reply_meant transactions now bytes =
       replied (image_of transactions) (state_after transactions) now bytes (call_of bytes) refl (image_stands transactions)
 
@@ -140,7 +140,7 @@ reply_good s now None = tt
 reply_good s now (Some call) = meaning_good s now call
 
 -- no call means that the database is bad
-pub never_bad : (transactions : List Transaction) (now : ℕ) (bytes : List ℕ) (at : ℕ) → reply_after transactions now bytes ≢ BadRecord at
+pub never_bad : (transactions : List Transaction) (now : ℕ) (bytes : List ℕ) (at : ℕ) → meant_reply transactions now bytes ≢ BadRecord at
 never_bad transactions now bytes at is = subst IsGood is (reply_good (state_after transactions) now (call_of bytes))
 
 -- ---- a reply that is not that the bytes asked are no call

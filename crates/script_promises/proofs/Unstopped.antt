@@ -1,5 +1,5 @@
 -- In the cell of a script no disk is armed, so no server stops in an event, and none goes down or is opened anew.
-use Rattle.std.proofs.Common.{Bool, true, false, cond, ◌≡◌, ℕ, zero, suc, ◌+◌, ◌-◌, ◌&&◌, List, [], ◌∷◌, ◌++◌, Option, Some, None, IfSome, Result, Ok, Err, IfOk, refl, sym, ap, subst}
+use Rattle.std.proofs.Common.{Bool, true, false, cond, ◌≡◌, ℕ, zero, suc, ◌+◌, ◌-◌, ◌&&◌, List, [], ◌∷◌, Option, Some, None, IfSome, Result, Ok, Err, IfOk, refl, sym, subst}
 use Rattle.std.proofs.lemmas.List.Elements.{All-nil, All-cons, All-append}
 use Rattle.std.specs.Prelude.{All, drop, map, length, nat_le, nat_lt, replicate, set}
 use Rattle.ubik_types.specs.declared.versions.Version.{Version}
@@ -17,7 +17,7 @@ use Rattle.cell_script.specs.declared.lines.Why.TheVariants as why
 use Rattle.cell_script.specs.Meaning.{line_of}
 use Rattle.cell_runs.specs.declared.endings.Ending.{Ending}
 use Rattle.cell_runs.specs.declared.limits.TheConstants.{MAX_LINES, MAX_PACKETS}
-use Rattle.cell_runs.specs.Script.{Choice, LineRead, Armed, Cell, Stage, Line_run, Cell_run, Run_or_why, ScriptEnd, Told, DiskOutcome, Serves, Fails_after, first_choice, with_event, armed_at, counted_on, calls_on_all, stops_in, outcome_of_stop, outcome_up, outcome_at, outcome_of, node_in, place_in, stepped_so, stepped, delivered, first_waiting, dropped_of, all_delivered, unless_ended, resting, cell_size_of, servers_of, at_server, at_up, at_packet, is_down_at, unless_skewed, shown_site, run_in, asked_in, asked, in_stage, fails_at, opened_cell, next_line, run_first, kind_of_cell, run_standing, line_run, meaning_run, or_refused, line_result, first_told, told_with, told_after, told_from, told}
+use Rattle.cell_runs.specs.Script.{Choice, LineRead, Armed, Cell, Stage, Line_run, Cell_run, Run_or_why, ScriptEnd, Told, DiskOutcome, Serves, Fails_after, first_choice, with_event, armed_at, counted_on, calls_on_all, stops_in, outcome_of_stop, outcome_at, outcome_of, node_in, place_in, stepped_so, stepped, delivered, first_waiting, dropped_of, all_delivered, unless_ended, resting, cell_size_of, servers_of, at_server, at_up, at_packet, is_down_at, unless_skewed, shown_site, run_in, asked_in, asked, in_stage, next_line, run_first, kind_of_cell, run_standing, line_run, meaning_run, or_refused, line_result, first_told, told_with, told_after, told_from, told}
 use Rattle.cell_runs.specs.ScriptDatabase.{ScriptDatabase, Databases}
 use Rattle.script_laws.specs.Built.{IsBuiltLine, LinesAreBuilt}
 

@@ -13,7 +13,7 @@ use Rattle.cell_runs.specs.Script.{Cell, Told, cell_size_of, hosts_of, told}
 use Rattle.script_laws.specs.Built.{LinesAreBuilt}
 use Rattle.script_laws.specs.Runs.{NamesCalls, IsRunOf, IsRunOfCell, ScriptsAreRuns}
 use Rattle.script_promises.specs.Databases.{databases}
-use Rattle.script_promises.specs.Promises.{HasPromises, IsWorth, ScriptsKeepPromises}
+use Rattle.script_promises.specs.Promises.{KeepsPromises, ScriptsKeepPromises}
 use Rattle.script_promises.proofs.Copies.{IsOfOne, kept, one_order, single_replies}
 use Rattle.script_promises.proofs.SingleStates.{DatabaseLaws}
 use Rattle.script_promises.proofs.Unstopped.{MayStayUp, StaysUp, scripts_stay_up}
@@ -46,7 +46,7 @@ named law words (Some c) at call is =
     let Q : List ℕ → Type 0 = λ bytes. P (call_of bytes) in
     subst Q (same_some is) (subst P (sym (law words c at)) refl)
 
-names_calls : NamesItsCalls → NamesCalls databases
+pub names_calls : NamesItsCalls → NamesCalls databases
 names_calls law k words call is = named law words (call_in words) refl call is
 
 -- ---- a cell of one server
@@ -67,7 +67,7 @@ of_one t c run one = of_failed c c.opening.failed refl (run.first.each ∙ one) 
 
 -- ---- what it is worth
 
-worth : Laws → (t : Told) (c : Cell) → IsRunOf databases t c → StaysUp c → IsWorth c
+worth : Laws → (t : Told) (c : Cell) → IsRunOf databases t c → StaysUp c → KeepsPromises c
 worth laws t c run up one =
     let is : IsOfOne c = of_one t c run one in
     record {
@@ -76,7 +76,7 @@ worth laws t c run up one =
       replies = single_replies c is laws.database laws.replies run.scripted up.events;
     }
 
-cell_worth : Laws → (t : Told) (cell : Option Cell) → IsRunOfCell databases t cell → MayStayUp cell → IfSome cell IsWorth
+cell_worth : Laws → (t : Told) (cell : Option Cell) → IsRunOfCell databases t cell → MayStayUp cell → IfSome cell KeepsPromises
 cell_worth laws t None run up = tt
 cell_worth laws t (Some c) run up = worth laws t c run up
 

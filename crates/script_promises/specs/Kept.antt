@@ -36,8 +36,8 @@ abbrev pub IsCounted : (r later : Run) → Transaction → Type 0
 IsCounted r later t = IsAcknowledged r later t ⊎ (state_after (order_in r ++ t ∷ []) ≡ state_after (order_in r))
 
 -- the call that a server evaluates at its clock
-abbrev pub asked_at : List ℕ → Site → Transaction
-asked_at call site = record { moment = site.clock; call = call }
+abbrev pub transaction_at : List ℕ → Site → Transaction
+transaction_at call site = record { moment = site.clock; call = call }
 
 pub record IsKept (c : Cell) : Type 0 where
   -- what was acknowledged at any place of the run is in the order at each later one, at its place
@@ -53,4 +53,4 @@ pub record IsKept (c : Cell) : Type 0 where
       c.events ≡ front ++ e ∷ back → protection.writes call ≡ Some true →
       let r = run_at c front in
       Contains (happens protection r.world e).seen (Replied server id (reply.Ok fields) evaluation) →
-      IfSome (site_of r.world server) (λ site. IsCounted r (run_after protection r e) (asked_at call site))
+      IfSome (site_of r.world server) (λ site. IsCounted r (run_after protection r e) (transaction_at call site))

@@ -1,8 +1,7 @@
 -- One order of the committed transactions of a cell (own).
 use Rattle.std.specs.Prelude.{List}
-use Rattle.cell_model.specs.Book.{Run}
+use Rattle.cell_model.specs.Book.{Run, order_of}
 use Rattle.cell_model.specs.Durable.{Transaction}
-use Rattle.cell_model.specs.Book.{order_of}
 use Rattle.cell_model.specs.Laws.{Grows}
 use Rattle.cell_model.specs.World.{Event}
 use Rattle.prdb_entries.specs.Protection.{protection}

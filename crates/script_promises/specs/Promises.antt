@@ -12,9 +12,10 @@ pub record HasPromises (c : Cell) : Type 0 where
   pub kept : IsKept c
   pub replies : HasSingleReplies c
 
-abbrev pub IsWorth : Cell → Type 0
-IsWorth c = cell_size_of c ≡ 1 → HasPromises c
+-- so it is where the cell has one server
+abbrev pub KeepsPromises : Cell → Type 0
+KeepsPromises c = cell_size_of c ≡ 1 → HasPromises c
 
 -- Whatever the lines, and whatever the disks do: a cell of one server that stands after them has this.
 abbrev pub ScriptsKeepPromises : Type 0
-ScriptsKeepPromises = (readings : List LineRead) → IfSome (told databases readings).stage.cell IsWorth
+ScriptsKeepPromises = (readings : List LineRead) → IfSome (told databases readings).stage.cell KeepsPromises

@@ -1,4 +1,4 @@
--- The replies in a cell of one server are those of a single copy, and nothing else is seen that such a cell cannot show (own).
+-- The replies in a cell of one server are those of a single copy, and nothing is seen that such a cell cannot show (own).
 use Rattle.std.specs.Prelude.{◌≡◌, ℕ, Option, List, ◌∷◌, ◌++◌, All}
 use Rattle.db_image.specs.Meaning.{reply_of}
 use Rattle.db_image.specs.declared.services.CallReply.{CallReply}
@@ -14,8 +14,8 @@ use Rattle.cell_runs.specs.Script.{Cell}
 use Rattle.script_promises.specs.Order.{run_at, order_in}
 
 -- what the single copy replies to a call after these transactions
-abbrev pub reply_after : List Transaction → (now : ℕ) → List ℕ → CallReply
-reply_after order = reply_of protection_meaning order
+abbrev pub meant_reply : List Transaction → (now : ℕ) → List ℕ → CallReply
+meant_reply order = reply_of protection_meaning order
 
 -- No reply is that the bytes asked are no call, that the database is bad, that memory ran out, that another server is the sync
 -- site, or that a line is full.
@@ -41,7 +41,7 @@ IsSeenOf single _ = Unit {0}
 
 -- what the single copy answers after a run, in an event
 abbrev pub single_in : Run → Event → Option Answered
-single_in r e = answered_by (reply_after (order_in r)) r.world e
+single_in r e = answered_by (meant_reply (order_in r)) r.world e
 
 -- Each reply Ok or Rule of an event is what its call means for the state of the order before the event, at the clock of
 -- the server; and nothing is seen but announcements, proper replies and halts.

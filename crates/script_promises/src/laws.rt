@@ -1,4 +1,6 @@
 //! Laws of scripts of one server: each is the clause of a call that does nothing.
+ghost use Rattle.script_laws.specs.Runs.{NamesCalls};
+ghost use Rattle.script_promises.specs.Databases.{databases};
 ghost use Rattle.script_promises.specs.Promises.{ScriptsKeepPromises};
 
 use cell_model::{
@@ -12,7 +14,7 @@ use script_laws::{law_lines_are_built, law_scripts_are_runs};
 
 /// Whatever the lines of a script, and whatever the disks do: in a cell of one server committed transactions have one order,
 /// which only grows; what was acknowledged stays in it, at its place; the database of the server, once it is ready, is that of
-/// the single copy; and each reply of the database is the single copy's to the call that was asked. Nothing else is seen that
+/// the single copy; and each reply of the database is the single copy's to the call that was asked. Nothing is seen that
 /// such a cell cannot show: no packet, and no reply for want of memory, of another server, or of a bad call or database.
 pub fn law_scripts_keep_promises()
     ensures { ScriptsKeepPromises }
@@ -28,4 +30,11 @@ pub fn law_scripts_keep_promises()
     law_replies_are_single();
     law_lines_are_built();
     law_scripts_are_runs();
+}
+
+/// What the words of a script name is a call of its database. So `law_scripts_are_runs` speaks of scripts over these databases.
+pub fn law_words_are_calls()
+    ensures { NamesCalls databases }
+{
+    law_words_name_a_call();
 }

@@ -4,4 +4,4 @@
 
 mod laws;
 
-pub use laws::law_scripts_keep_promises;
+pub use laws::{law_scripts_keep_promises, law_words_are_calls};
