@@ -16,6 +16,7 @@ pub use hosts::{Cell, CellFault, Host};
 pub use images::{Bytes, Change, Changes, bytes_of, changes_new, changes_push};
 pub use limits::{
     BIGTIME, MAX_CHANGES, MAX_IMAGE, MAX_MOMENT, MAXSERVERS, POLLTIME, RPCTIMEOUT, SKEW, SMALLTIME,
+    law_limits_are_these,
 };
 pub use memory::NoMemory;
 pub use phases::{Applied, Phase};

@@ -1,4 +1,14 @@
 //! Limits of time and size, each once. Times are in seconds.
+ghost use Rattle.std.specs.Prelude.{◌≡◌};
+ghost use Rattle.ubik_types.specs.declared.limits.TheConstants.{
+  BIGTIME,
+  MAXSERVERS,
+  MAX_CHANGES,
+  MAX_IMAGE,
+  MAX_MOMENT,
+  SKEW,
+  SMALLTIME,
+};
 
 /// How long a lease lasts after the start that it rests on, in seconds (Ubik's SMALLTIME).
 pub const SMALLTIME: u32 = 60;
@@ -28,3 +38,14 @@ pub const MAX_IMAGE: usize = 16_777_216;
 
 /// The most bytes that the changes of one call may lay into an image, all puts together (own).
 pub const MAX_CHANGES: usize = 1_048_576;
+
+/// The limits that the definitions name are these numbers.
+pub fn law_limits_are_these()
+    ensures lease { SMALLTIME ≡ 60 }
+    ensures votes { BIGTIME ≡ 75 }
+    ensures skew { SKEW ≡ 7 }
+    ensures servers { MAXSERVERS ≡ 20 }
+    ensures moment { MAX_MOMENT ≡ 2147483647 }
+    ensures image { MAX_IMAGE ≡ 16777216 }
+    ensures changes { MAX_CHANGES ≡ 1048576 }
+{}
