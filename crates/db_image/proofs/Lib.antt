@@ -1,2 +1,10 @@
+pub mod BlockNumbers
+pub mod Bytes
+pub mod Folds
 pub mod Laid
+pub mod Laying
+pub mod Loading
+pub mod Ranges
+pub mod ReadSteps
 pub mod Steps
+pub mod Writes

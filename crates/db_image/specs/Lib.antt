@@ -1,2 +1,9 @@
+pub mod Asked
 pub mod Blocks
 pub mod Database
+pub mod Draft
+pub mod Ends
+pub mod Images
+pub mod Meaning
+pub mod Places
+pub mod VecImage
