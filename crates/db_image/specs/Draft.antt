@@ -43,6 +43,10 @@ byte_over o at beneath =
 unfoldable pub bytes_over : Overlay → List ℕ → List ℕ
 bytes_over o beneath = map (λ at. byte_over o at (slice_index beneath at)) (range_with_len 0 o.len)
 
+-- a buffer shows bytes from a position on, and zero bytes behind their end
+abbrev pub ShowsFrom : (at : ℕ) → (bytes buf : List ℕ) → Type 0
+ShowsFrom at bytes buf = (i : ℕ) → i < length buf → slice_index buf i ≡ slice_index bytes (at + i)
+
 -- A changed block of a draft of so many bytes: what it is now, zero bytes behind the draft's end, and what stands beneath.
 pub record IsChanged (l : Layout) (len : ℕ) (beneath : Option (List ℕ)) (k : ℕ) (b : ChangedBlock) : Type 0 where
   pub full : length b.new.items ≡ block_size l k

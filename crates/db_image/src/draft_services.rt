@@ -1,6 +1,5 @@
 //! A database as a server sees it, which reads of an image what it needs.
 ghost use Rattle.std.specs.Prelude.{◌≡◌, ◌≤◌, ℕ, List, [], Option, IfSome};
-ghost use Rattle.ubik_types.specs.declared.TheConstants.{MAX_IMAGE};
 ghost use Rattle.db_image.specs.Ends.{IsAnswered, IsShort};
 ghost use Rattle.db_image.specs.Images.{OnlyReads};
 ghost use Rattle.db_image.specs.Meaning.{Meaning, IsStep, Call, state_after, image_after};
@@ -53,7 +52,7 @@ pub trait DraftService {
         now: u32,
         call: &[u8],
     ) -> CallEnd
-        requires { image.old.len ≤ MAX_IMAGE }
+        requires { image.old.len ≤ 16777216 }
         ensures meant { IfSome image.old.bytes (λ bytes. (s : meaning.State) → meaning.StandsFor bytes s
             → IsAnswered meaning s bytes now call.now result image.new.bytes) }
         ensures short { IsShort result }

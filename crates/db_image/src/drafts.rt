@@ -23,6 +23,7 @@ pub struct Draft<I: ImageRead> {
 }
 
 impl<I: ImageRead> Model for Draft<I> {
+    ghost use Rattle.std.specs.Option.{option_map};
     ghost use Rattle.db_image.specs.Draft.{Drafted, IsLaid, bytes_over};
 
     ghost Value = { Drafted I };

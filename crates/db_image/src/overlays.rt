@@ -6,14 +6,13 @@ ghost use Rattle.ubik_types.specs.declared.images.Change.TheVariants.{Put};
 ghost use Rattle.db_image.specs.Images.{OnlyReads, ReadsAtMost, IsOfImage};
 ghost use Rattle.db_image.specs.Blocks.{block_at, block_change};
 ghost use Rattle.db_image.specs.Places.{block_number, block_start, block_size};
-ghost use Rattle.db_image.specs.Draft.{changed_at, byte_of, byte_over, IsLaid, IsFull, SameBytes, IsLoaded, Lays, Replaces, Keeps, IsLaidOver, bytes_over, range_cost, put_cost};
+ghost use Rattle.db_image.specs.Draft.{changed_at, byte_of, byte_over, IsLaid, IsFull, SameBytes, IsLoaded, Lays, Replaces, Keeps, IsLaidOver, ShowsFrom, bytes_over, range_cost, put_cost};
 
 use crate::places::place_of;
 use crate::services::Layout;
 use crate::{ImageRead, ReadEnd, RecordFault};
 use std::alloc::{AllocError, Global};
 use std::collections::BTreeMap;
-use ubik_types::{Bytes, Change, Changes, NoMemory, bytes_of, changes_new, changes_push};
 
 /// A block that was changed: what it was, as far as the image beneath goes, and the whole block as it is.
 #[derive(Drop)]
@@ -50,18 +49,29 @@ fn clear(buf: &mut [u8])
     }
 }
 
+/// Reads bytes of an image into the front of a buffer.
+fn read_front<I: ImageRead>(image: &mut I, at: u32, buf: &mut [u8], count: usize) -> ReadEnd
+    requires within { at + count ≤ I.size image.old }
+    requires fits { count ≤ length buf.old }
+    ensures front { result ≡ ReadEnd.Done → IfSome (I.held image.old) (λ bytes. take count buf.new ≡ take count (drop at bytes)) }
+    ensures behind { drop count buf.new ≡ drop count buf.old }
+    ensures reads { ReadsAtMost I.ImageRead count image.old image.new (result ≡ ReadEnd.DiskFault) }
+{
+    let end = image.read(at, &mut buf[..count]);
+    end
+}
+
 /// Reads bytes of an image from a position on, and zero bytes behind its end.
 fn read_padded<I: ImageRead>(image: &mut I, at: u32, buf: &mut [u8]) -> ReadEnd
-    ensures bytes { result ≡ ReadEnd.Done → IfSome (I.held image.old) (λ bytes. (i : ℕ) → i < length buf.new → slice_index buf.new i ≡ slice_index bytes (at + i)) }
+    ensures bytes { result ≡ ReadEnd.Done → IfSome (I.held image.old) (λ bytes. ShowsFrom at bytes buf.new) }
     ensures reads { ReadsAtMost I.ImageRead (length buf.old) image.old image.new (result ≡ ReadEnd.DiskFault) }
 {
     clear(buf);
     let held = (image.len().saturating_sub(at) as usize).min(buf.len());
-    let mut end = ReadEnd::Done;
-    if held > 0 {
-        end = image.read(at, &mut buf[..held]);
+    if held == 0 {
+        return ReadEnd::Done;
     }
-    end
+    read_front(image, at, buf, held)
 }
 
 /// What an image has of a block.
@@ -266,28 +276,5 @@ impl Overlay {
         self.len = self.len.max(end);
         self.lay(at, bytes);
         Ok(())
-    }
-
-    /// Adds the put of a block, where it is new or a byte of it is another one than beneath.
-    fn push_change(
-        &self,
-        changes: &mut Changes,
-        size: u32,
-        number: u64,
-        at: u32,
-    ) -> Result<(), NoMemory>
-        requires at { at ≡ block_start self.now.layout number }
-        ensures { OnOk result ((beneath : List ℕ) → IsLaid self.now size (Some beneath)
-            → changes.new ≡ changes.old ++ block_change beneath (bytes_over self.now beneath) at (block_size self.now.layout number)) }
-    {
-        let block = if number == 0 { self.layout.head } else { self.layout.block };
-        let count = self.len.saturating_sub(at).min(block) as usize;
-        let bytes = match self.blocks.get(&number) {
-            Some(changed) if changed.old.as_slice() == &changed.new[..count] => return Ok(()),
-            Some(changed) => bytes_of(self.alloc, &changed.new[..count])?,
-            None if at < size || count == 0 => return Ok(()),
-            None => Bytes::new(padded(self.alloc, &[], count)?),
-        };
-        changes_push(changes, Change::Put { at, bytes })
     }
 }

@@ -1,4 +1,4 @@
-use Rattle.std.proofs.Common.{◌≡◌, ◌-◌, ◌+◌, ◌<◌, ℕ, IsErrOf, Option, List, subst, sym, ap, refl, arith}
+use Rattle.std.proofs.Common.{◌≡◌, ◌-◌, ◌+◌, ◌<◌, ℕ, IsErrOf, Option, List, subst, rules, arith}
 use Rattle.db_image.specs.declared.services.Layout.{Layout}
 use Rattle.db_image.specs.declared.faults.RecordFault.TheVariants.{DiskFault}
 use Rattle.db_image.specs.Images.{ReadsAtMost}
@@ -21,7 +21,7 @@ returns-in_err-load-clause-reads g c =
     reads_within g.I.ImageRead _ _ c.args.image.now c.load.new.image _ _
       (reads_block g.I.ImageRead l c.args.at c.args.end from p c.args.image.now c.loop-from.image c.load.new.image _ _ some place inv.reached inv.reads read)
       (cost_failed l c.args.at c.args.end from p some place (omega arith) inv.reached)
-      ?
+      (λ h. search rules)
 
 pub loop-from-preserved : goal.loop-from-preserved
 loop-from-preserved g c =
@@ -37,7 +37,7 @@ loop-from-preserved g c =
       laid = rw (c.load.ensures.reads.reads.size, c.load.ensures.reads.reads.held) c.load.ensures.laid;
       same = same_then (g.I.ImageRead.held c.args.image.now) c.args.self.now c.loop-from.self c.load.new.self inv.same
         (subst (λ (b : Option (List ℕ)). SameBytes b c.loop-from.self c.load.new.self) inv.reads.reads.held c.load.ensures.same);
-      loaded = loaded_more c.loop-from.self c.load.new.self _ c.args.at from p inv.laid.block c.place_of-place.ensures inv.loaded c.load.ensures.same ?;
+      loaded = loaded_more c.loop-from.self c.load.new.self _ c.args.at from p inv.laid.block c.place_of-place.ensures inv.loaded c.load.ensures.same c.in_ok-load.ensures.loaded;
       reads = reads_within g.I.ImageRead _ _ c.args.image.now c.load.new.image _ _
         (reads_block g.I.ImageRead l c.args.at c.args.end from p c.args.image.now c.loop-from.image c.load.new.image _ _ some place inv.reached inv.reads read)
         (omega arith) (λ h. absurd h);
@@ -50,4 +50,4 @@ returns-clause-reads g c =
     let l = c.args.self.now.layout in
     reads_within g.I.ImageRead _ _ c.args.image.now c.loop-from.image _ _ inv.reads
       (cost_within l c.args.at c.args.end c.loop-from.from (subst (λ (m : Layout). 0 < m.block) inv.same.layout inv.laid.block) inv.reached)
-      (λ h. ?)
+      (λ h. cc)
