@@ -1,11 +1,14 @@
 -- What a read of a draft shows.
 use Rattle.std.proofs.Common.{◌≡◌, ℕ, ◌+◌, ◌-◌, ◌<◌, ◌≤◌, min, Option, Some, None, IfSome, List, length, slice_index, take, drop, refl, sym, ap, ◌∙◌, ⊎_elim, arith}
-use Rattle.std.specs.Option.{ForSome}
+use Rattle.std.specs.Option.{option_map}
 use Rattle.std.proofs.lemmas.Bool.{cases_lt}
 use Rattle.std.proofs.lemmas.List.{ext_get_or, get_or-take, get_or-drop, get_or_past, length-take-le, length-drop}
 use Rattle.std.proofs.lemmas.List.FromFn.{length-map-range_with_len, get_or-map-range_with_len}
 use Rattle.db_image.specs.declared.overlays.Overlay.{Overlay}
-use Rattle.db_image.specs.Draft.{byte_over, bytes_over, IsLaid, IsFull, ShowsFrom}
+use Rattle.db_image.specs.declared.overlays.ChangedBlock.{ChangedBlock}
+use Rattle.db_image.specs.Places.{block_number, block_start}
+use Rattle.db_image.specs.Draft.{changed_at, byte_of, byte_over, bytes_over, IsLaid, IsFull, ShowsFrom}
+use Rattle.db_image.proofs.Loading.{byte_is}
 
 -- nothing of the image lies there
 pub padded_none : (held : Option (List ℕ)) (size at : ℕ) (now : List ℕ) → IfSome held (λ bytes. length bytes ≡ size) → min (size - at) (length now) ≡ 0
@@ -50,3 +53,16 @@ read_is (Some bytes) o at n padded now within len long shows covered =
 
 pub full_of : (o : Overlay) (size : ℕ) (held : Option (List ℕ)) → IsLaid o size held → IsFull o
 full_of o size held laid k b is = (laid.each k b is).full
+
+-- a draft in which nothing is changed has the bytes beneath
+pub over_none : (held : Option (List ℕ)) (o : Overlay) → ((k : ℕ) → changed_at o k ≡ None) → IfSome held (λ bytes. length bytes ≡ o.len) → option_map (bytes_over o) held ≡ held
+over_none None o none told = refl
+over_none (Some bytes) o none told =
+    ap Some (ext_get_or 0 (bytes_over o bytes) bytes (bytes_len o bytes ∙ sym told) (λ i below.
+      bytes_at o bytes i (omega (arith, below, bytes_len o bytes))
+      ∙ byte_is o i (slice_index bytes i)
+      ∙ ap (λ (b : Option ChangedBlock). byte_of b (i - block_start o.layout (block_number o.layout i)) (slice_index bytes i)) (none (block_number o.layout i))))
+
+pub over_told : (held : Option (List ℕ)) (o : Overlay) → IfSome (option_map (bytes_over o) held) (λ bytes. length bytes ≡ o.len)
+over_told None o = tt
+over_told (Some bytes) o = bytes_len o bytes

@@ -1,4 +1,4 @@
-//! A draft: an image with changed blocks, from which a database's changes follow.
+//! A draft: an image with changed blocks.
 ghost use Rattle.std.specs.Prelude.{◌≡◌, ◌+◌, ◌<◌, ◌≤◌, ◌^◌, List, ℕ, IfSome, IfOk, IfErr, OnOk, OnErr, IsErrOf, length, max, take, drop};
 ghost use Rattle.std.specs.Option.{option_map};
 ghost use Rattle.ubik_types.specs.Image.{changed};
@@ -9,11 +9,10 @@ ghost use Rattle.db_image.specs.Draft.{StaysAsItWas, put_cost};
 ghost use Rattle.db_image.specs.Images.{ReadsAtMost, IsOfImage};
 
 use crate::overlays::Overlay;
-use crate::{ImageRead, Layout, ReadEnd, RecordFault};
+use crate::{ImageRead, Layout, ReadEnd};
 use std::alloc::Global;
 use std::collections::BTreeMap;
 use std::marker::Model;
-use ubik_types::Changes;
 
 /// An image with changed blocks. It reads the image beneath where no block was changed, and keeps only the blocks that were.
 #[derive(Drop)]
@@ -55,29 +54,6 @@ impl<I: ImageRead> Draft<I> {
             blocks: BTreeMap::new(alloc),
         };
         Draft { image, over }
-    }
-
-    /// Lays bytes at a position, after zero bytes where the draft is shorter. After a fault the draft has the bytes that it had.
-    pub fn put(&mut self, at: u32, bytes: &[u8]) -> Result<(), RecordFault>
-        requires { at + length bytes.now < 2 ^ 32 }
-        ensures bytes { OnOk result (self.new.bytes ≡ option_map (λ image. changed image (Put at bytes.now)) self.old.bytes) }
-        ensures len { OnOk result (self.new.len ≡ max self.old.len (at + length bytes.now)) }
-        ensures layout { self.new.layout ≡ self.old.layout }
-        ensures same { OnErr result (StaysAsItWas self.old self.new) }
-        ensures fault { IfErr result IsOfImage }
-        ensures reads { ReadsAtMost I.ImageRead (put_cost self.old.layout (length bytes.now)) self.old.image self.new.image
-            (IsErrOf result RecordFault.DiskFault) }
-    {
-        self.over.put(&mut self.image, at, bytes)
-    }
-
-    /// One put of each whole block that is new or in which a byte is another one than beneath, ascending. The image is not read.
-    pub fn finish(self) -> Result<Changes, RecordFault>
-        ensures changes { IfOk result (λ changes. IfSome (I.held self.image) (λ old. IfSome self.bytes (λ new.
-            changes ≡ changes_between self.layout.head self.layout.block old new))) }
-        ensures fault { IfErr result (λ fault. fault ≡ RecordFault.NoMemory) }
-    {
-        { let _ = self; Err(RecordFault::NoMemory) }
     }
 }
 

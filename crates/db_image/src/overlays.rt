@@ -221,22 +221,6 @@ impl Overlay {
         }
     }
 
-    /// Brings the blocks among the changed ones that a put of a range takes.
-    fn prepare<I: ImageRead>(&mut self, image: &mut I, at: u32, end: u32) -> Result<(), RecordFault>
-        requires laid { IsLaid self.old (I.size image.old) (I.held image.old) }
-        ensures laid { IsLaid self.new (I.size image.old) (I.held image.old) }
-        ensures same { SameBytes (I.held image.old) self.old self.new }
-        ensures loaded { OnOk result (IsLoaded self.new at end) }
-        ensures grown { OnOk result (self.old.len < end → IsSome (changed_at self.new (block_number self.new.layout (I.size image.old)))) }
-        ensures fault { IfErr result IsOfImage }
-        ensures reads { ReadsAtMost I.ImageRead (put_cost self.old.layout (end - at)) image.old image.new (IsErrOf result RecordFault.DiskFault) }
-    {
-        if end > self.len {
-            self.load(image, u64::from(image.len()))?;
-        }
-        self.load_range(image, u64::from(at), u64::from(end))
-    }
-
     /// Reads an image from a position on, and zero bytes behind its end.
     pub fn read<I: ImageRead>(&self, image: &mut I, at: u32, buf: &mut [u8]) -> ReadEnd
         requires laid { IsLaid self.now (I.size image.old) (I.held image.old) }
@@ -244,6 +228,7 @@ impl Overlay {
         ensures bytes { result ≡ ReadEnd.Done → IfSome (I.held image.old) (λ beneath. buf.new ≡ take (length buf.old) (drop at (bytes_over self.now beneath))) }
         ensures reads { ReadsAtMost I.ImageRead (length buf.old) image.old image.new (result ≡ ReadEnd.DiskFault) }
     {
+        prove!(buf.len() <= self.len as usize);
         match read_padded(image, at, buf) {
             ReadEnd::Done => {
                 self.cover(at, buf);
@@ -251,30 +236,5 @@ impl Overlay {
             }
             end => end,
         }
-    }
-
-    /// Lays bytes at a position. After a fault all bytes are as they were.
-    pub fn put<I: ImageRead>(
-        &mut self,
-        image: &mut I,
-        at: u32,
-        bytes: &[u8],
-    ) -> Result<(), RecordFault>
-        requires laid { IsLaid self.old (I.size image.old) (I.held image.old) }
-        requires fits { at + length bytes.now < 2 ^ 32 }
-        ensures laid { IsLaid self.new (I.size image.old) (I.held image.old) }
-        ensures bytes { OnOk result (IfSome (I.held image.old) (λ beneath. bytes_over self.new beneath ≡ changed (bytes_over self.old beneath) (Put at bytes.now))) }
-        ensures len { OnOk result (self.new.len ≡ max self.old.len (at + length bytes.now)) }
-        ensures layout { self.new.layout ≡ self.old.layout }
-        ensures same { OnErr result (IfSome (I.held image.old) (λ beneath. bytes_over self.new beneath ≡ bytes_over self.old beneath)) }
-        ensures same_len { OnErr result (self.new.len ≡ self.old.len) }
-        ensures fault { IfErr result IsOfImage }
-        ensures reads { ReadsAtMost I.ImageRead (put_cost self.old.layout (length bytes.now)) image.old image.new (IsErrOf result RecordFault.DiskFault) }
-    {
-        let end = at + bytes.len() as u32;
-        self.prepare(image, at, end)?;
-        self.len = self.len.max(end);
-        self.lay(at, bytes);
-        Ok(())
     }
 }
