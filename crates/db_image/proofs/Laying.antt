@@ -29,6 +29,25 @@ over_behind xs bytes offset i fits behind = grind (arith, places)
 over_len : (xs bytes : List ℕ) (offset : ℕ) → offset + length bytes ≤ length xs → length (take offset xs ++ bytes ++ drop (offset + length bytes) xs) ≡ length xs
 over_len xs bytes offset fits = grind (arith, places)
 
+-- what stood beneath a block, through two steps
+abbrev Before : Overlay → ℕ → ChangedBlock → Type 0
+Before o k c = (b : ChangedBlock) × (changed_at o k ≡ Some b) × (c.old.items ≡ b.old.items)
+
+each_then : (o m n : Overlay) (k : ℕ) (c : ChangedBlock) → Before m k c → ((d : ChangedBlock) → changed_at m k ≡ Some d → Before o k d) → Before o k c
+each_then o m n k c then first =
+    let before = first then.0 then.1 in
+    (before.0, before.1, then.2 ∙ before.2)
+
+each_part : (o n : Overlay) (number : ℕ) (b c : ChangedBlock) (k : ℕ) (d : ChangedBlock) → changed_at o number ≡ Some b → Replaces number c o n → c.old.items ≡ b.old.items
+    → changed_at n k ≡ Some d → Before o k d
+each_part o n number b c k d was replaces old is =
+    ⊎_elim
+      (λ (same : k ≡ number).
+        let this : c ≡ d = cc (replaces.here, is, same) in
+        (b, ap (changed_at o) same ∙ was, sym (ap (λ (x : ChangedBlock). x.old.items) this) ∙ old))
+      (λ (other : k ≢ number). (d, sym (replaces.others k other) ∙ is, refl))
+      (cases_eq k number)
+
 -- one loop step after another
 pub lays_none : (o : Overlay) (at : ℕ) (bytes : List ℕ) → Lays at (take 0 bytes) o o
 lays_none o at bytes = record {
@@ -38,6 +57,7 @@ lays_none o at bytes = record {
   len = refl;
   layout = refl;
   kept = λ k h. h;
+  each = λ k c is. (c, is, refl);
 }
 
 pub lays_then : (o m n : Overlay) (at : ℕ) (xs ys : List ℕ) → Lays at xs o m → Lays (at + length xs) ys m n → Lays at (xs ++ ys) o n
@@ -58,6 +78,7 @@ lays_then o m n at xs ys first then = record {
   len = then.len ∙ first.len;
   layout = then.layout ∙ first.layout;
   kept = λ k h. then.kept k (first.kept k h);
+  each = λ k c is. each_then o m n k c (then.each k c is) (λ d there. first.each k d there);
 }
 
 -- a byte of a block in which it stays
@@ -108,6 +129,7 @@ lays_part o n at p bytes b c some place was replaces laid fits full = record {
   len = replaces.len;
   layout = replaces.layout;
   kept = λ k is. is_kept o n p.number c k replaces is;
+  each = λ k d is. each_part o n p.number b c k d was replaces laid.old is;
 }
 
 lays_case : (was now : Option ChangedBlock) (o n : Overlay) (at : ℕ) (p : Place) (bytes : List ℕ) → changed_at o p.number ≡ was → changed_at n p.number ≡ now

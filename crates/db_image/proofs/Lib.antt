@@ -5,6 +5,7 @@ pub mod Folds
 pub mod Laid
 pub mod Laying
 pub mod Loading
+pub mod Putting
 pub mod Ranges
 pub mod ReadSteps
 pub mod Steps

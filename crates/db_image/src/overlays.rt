@@ -237,4 +237,61 @@ impl Overlay {
             end => end,
         }
     }
+
+    /// Brings the block in which the image ends among the changed ones, where a put up to an end makes the draft longer.
+    fn load_last<I: ImageRead>(&mut self, image: &mut I, end: u32) -> Result<(), RecordFault>
+        requires laid { IsLaid self.old (I.size image.old) (I.held image.old) }
+        ensures laid { IsLaid self.new (I.size image.old) (I.held image.old) }
+        ensures same { SameBytes (I.held image.old) self.old self.new }
+        ensures grown { OnOk result (self.old.len < end → IsSome (changed_at self.new (block_number self.new.layout (I.size image.old)))) }
+        ensures fault { IfErr result IsOfImage }
+        ensures reads { ReadsAtMost I.ImageRead (self.old.layout.head + self.old.layout.block) image.old image.new (IsErrOf result RecordFault.DiskFault) }
+    {
+        if end <= self.len {
+            return Ok(());
+        }
+        let at = u64::from(image.len());
+        self.load(image, at)?;
+        Ok(())
+    }
+
+    /// Brings the blocks among the changed ones that a put of a range takes.
+    fn prepare<I: ImageRead>(&mut self, image: &mut I, at: u32, end: u32) -> Result<(), RecordFault>
+        requires laid { IsLaid self.old (I.size image.old) (I.held image.old) }
+        ensures laid { IsLaid self.new (I.size image.old) (I.held image.old) }
+        ensures same { SameBytes (I.held image.old) self.old self.new }
+        ensures loaded { OnOk result (IsLoaded self.new at end) }
+        ensures grown { OnOk result (self.old.len < end → IsSome (changed_at self.new (block_number self.new.layout (I.size image.old)))) }
+        ensures fault { IfErr result IsOfImage }
+        ensures reads { ReadsAtMost I.ImageRead (put_cost self.old.layout (end - at)) image.old image.new (IsErrOf result RecordFault.DiskFault) }
+    {
+        self.load_last(image, end)?;
+        self.load_range(image, u64::from(at), u64::from(end))?;
+        Ok(())
+    }
+
+    /// Lays bytes at a position. After a fault all bytes are as they were.
+    pub fn put<I: ImageRead>(
+        &mut self,
+        image: &mut I,
+        at: u32,
+        bytes: &[u8],
+    ) -> Result<(), RecordFault>
+        requires laid { IsLaid self.old (I.size image.old) (I.held image.old) }
+        requires fits { at + length bytes.now < 2 ^ 32 }
+        ensures laid { IsLaid self.new (I.size image.old) (I.held image.old) }
+        ensures bytes { OnOk result (IfSome (I.held image.old) (λ beneath. bytes_over self.new beneath ≡ changed (bytes_over self.old beneath) (Put at bytes.now))) }
+        ensures len { OnOk result (self.new.len ≡ max self.old.len (at + length bytes.now)) }
+        ensures layout { self.new.layout ≡ self.old.layout }
+        ensures same { OnErr result (IfSome (I.held image.old) (λ beneath. bytes_over self.new beneath ≡ bytes_over self.old beneath)) }
+        ensures same_len { OnErr result (self.new.len ≡ self.old.len) }
+        ensures fault { IfErr result IsOfImage }
+        ensures reads { ReadsAtMost I.ImageRead (put_cost self.old.layout (length bytes.now)) image.old image.new (IsErrOf result RecordFault.DiskFault) }
+    {
+        let end = at + bytes.len() as u32;
+        self.prepare(image, at, end)?;
+        self.len = self.len.max(end);
+        self.lay(at, bytes);
+        Ok(())
+    }
 }
