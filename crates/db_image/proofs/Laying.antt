@@ -132,23 +132,22 @@ lays_part o n at p bytes b c some place was replaces laid fits full = record {
   each = λ k d is. each_part o n p.number b c k d was replaces laid.old is;
 }
 
-lays_case : (was now : Option ChangedBlock) (o n : Overlay) (at : ℕ) (p : Place) (bytes : List ℕ) → changed_at o p.number ≡ was → changed_at n p.number ≡ now
-    → IsSome was → IfSome was (λ b. IsSomeAnd now (λ c. IsLaidOver p.offset bytes b c)) → ((q : ℕ) → q ≢ p.number → changed_at n q ≡ changed_at o q)
-    → n.len ≡ o.len → n.layout ≡ o.layout → 0 < o.layout.block → IsPlace o.layout at p → IsFull o → p.offset + length bytes ≤ p.size → Lays at bytes o n
-lays_case None now o n at p bytes was is some here others len layout positive place full fits = cc
-lays_case (Some b) None o n at p bytes was is some here others len layout positive place full fits = absurd here
-lays_case (Some b) (Some c) o n at p bytes was is some here others len layout positive place full fits =
-    let whole : length b.new.items ≡ block_size o.layout p.number = full p.number b was in
-    lays_part o n at p bytes b c positive place was
-      (record { here = is; others = others; len = len; layout = layout }) here (omega (arith, whole, place.size, fits)) whole
+-- the block before a write in it, and the block after it
+pair_of : (was now : Option ChangedBlock) (offset : ℕ) (bytes : List ℕ) → IsSome was → IfSome was (λ b. IsSomeAnd now (λ c. IsLaidOver offset bytes b c))
+    → (b : ChangedBlock) × (c : ChangedBlock) × (was ≡ Some b) × (now ≡ Some c) × IsLaidOver offset bytes b c
+pair_of None now offset bytes some here = absurd (cc)
+pair_of (Some b) None offset bytes some here = absurd here
+pair_of (Some b) (Some c) offset bytes some here = (b, c, refl, refl, here)
 
 -- what a write in one block leaves
 pub lays_from : (o n : Overlay) (at : ℕ) (p : Place) (bytes : List ℕ) → IsSome (changed_at o (block_number o.layout at))
     → IfSome (changed_at o p.number) (λ b. IsSomeAnd (changed_at n p.number) (λ c. IsLaidOver p.offset bytes b c)) → ((q : ℕ) → q ≢ p.number → changed_at n q ≡ changed_at o q)
     → n.len ≡ o.len → n.layout ≡ o.layout → 0 < o.layout.block → IsPlace o.layout at p → IsFull o → p.offset + length bytes ≤ p.size → Lays at bytes o n
 lays_from o n at p bytes some here others len layout positive place full fits =
-    lays_case (changed_at o p.number) (changed_at n p.number) o n at p bytes refl refl
-      (subst (λ (k : ℕ). IsSome (changed_at o k)) (sym place.number) some) here others len layout positive place full fits
+    let two = pair_of (changed_at o p.number) (changed_at n p.number) p.offset bytes (subst (λ (k : ℕ). IsSome (changed_at o k)) (sym place.number) some) here in
+    let whole : length two.0.new.items ≡ block_size o.layout p.number = full p.number two.0 two.2 in
+    lays_part o n at p bytes two.0 two.1 positive place two.2
+      (record { here = two.3; others = others; len = len; layout = layout }) two.4 (omega (arith, whole, place.size, fits)) whole
 
 -- one part more was laid
 pub lays_more : (o m n : Overlay) (at done count : ℕ) (bytes : List ℕ) → done ≤ length bytes → Lays at (take done bytes) o m → Lays (at + done) (take count (drop done bytes)) m n

@@ -1,5 +1,5 @@
 -- A put: the draft afterwards, and its bytes.
-use Rattle.std.proofs.Common.{◌≡◌, ◌≢◌, ℕ, ◌+◌, ◌-◌, ◌<◌, ◌≤◌, max, Option, Some, None, IsSome, IfSome, List, ◌++◌, length, slice_index, take, drop, replicate, refl, sym, ap, subst, ◌∙◌, ⊎_elim, arith}
+use Rattle.std.proofs.Common.{◌≡◌, ◌≢◌, ℕ, ◌+◌, ◌-◌, ◌<◌, ◌≤◌, max, Option, Some, None, Result, Ok, Err, OnErr, IsSome, IfSome, List, ◌++◌, length, slice_index, take, drop, replicate, refl, sym, ap, subst, ◌∙◌, ⊎_elim, arith}
 use Rattle.std.proofs.lemmas.Bool.{cases_lt}
 use Rattle.std.proofs.lemmas.List.{places, ext_get_or, get_or_past}
 use Rattle.ubik_types.specs.Image.{changed}
@@ -13,10 +13,10 @@ use Rattle.db_image.proofs.Loading.{byte_is, byte_stays}
 use Rattle.db_image.proofs.Covering.{bytes_at, bytes_len}
 
 -- a draft of more bytes, of the same blocks
-pub record Raises (len : ℕ) (old new : Overlay) : Type 0 where
+pub record Raises (end : ℕ) (old new : Overlay) : Type 0 where
   pub blocks : (k : ℕ) → changed_at new k ≡ changed_at old k
   pub layout : new.layout ≡ old.layout
-  pub len : new.len ≡ max old.len len
+  pub len : new.len ≡ max old.len end
 
 pub raised_laid : (o n : Overlay) (end size : ℕ) (beneath : Option (List ℕ)) → IsLaid o size beneath → Raises end o n → (o.len < end → IsSome (changed_at o (block_number o.layout size)))
     → IsLaid n size beneath
@@ -133,3 +133,22 @@ same_bytes None o m size laid after same = tt
 same_bytes (Some xs) o m size laid after same =
     ext_get_or 0 (bytes_over m xs) (bytes_over o xs) (bytes_len m xs ∙ same.len ∙ sym (bytes_len o xs)) (λ p below.
       shown m size xs p after ∙ same.bytes xs refl p ∙ sym (shown o size xs p laid))
+
+-- after a put the draft is as it has to be
+pub put_laid : (m r n : Overlay) (at size : ℕ) (bytes : List ℕ) (beneath : Option (List ℕ)) → Lays at bytes r n → IsFull n → IsLaid m size beneath
+    → (m.len < at + length bytes → IsSome (changed_at m (block_number m.layout size))) → ((k : ℕ) → changed_at r k ≡ changed_at m k) → r.layout ≡ m.layout
+    → r.len ≡ max m.len (at + length bytes) → IsLaid n size beneath
+put_laid m r n at size bytes beneath lays full laid grown blocks layout len =
+    lays_laid r n at size bytes beneath
+      (raised_laid m r (at + length bytes) size beneath laid (record { blocks = blocks; layout = layout; len = len }) grown) (omega (arith, len)) lays full
+
+-- and its bytes are those of the put
+pub put_shows : (o m r n : Overlay) (at size : ℕ) (bytes : List ℕ) (beneath : Option (List ℕ)) → Lays at bytes r n → IsLaid n size beneath → IsLaid o size beneath → SameBytes beneath o m
+    → ((k : ℕ) → changed_at r k ≡ changed_at m k) → r.layout ≡ m.layout → r.len ≡ max m.len (at + length bytes)
+    → IfSome beneath (λ xs. bytes_over n xs ≡ changed (bytes_over o xs) (Put at bytes))
+put_shows o m r n at size bytes beneath lays after laid same blocks layout len =
+    put_bytes beneath o m r n size at bytes laid same (record { blocks = blocks; layout = layout; len = len }) after lays
+
+pub on_err : {X E : Type 0} (r : Result X E) (P : Type 0) → P → OnErr r P
+on_err (Ok x) P p = tt
+on_err (Err e) P p = p

@@ -9,7 +9,7 @@ ghost use Rattle.db_image.specs.Draft.{StaysAsItWas, put_cost};
 ghost use Rattle.db_image.specs.Images.{ReadsAtMost, IsOfImage};
 
 use crate::overlays::Overlay;
-use crate::{ImageRead, Layout, ReadEnd};
+use crate::{ImageRead, Layout, ReadEnd, RecordFault};
 use std::alloc::Global;
 use std::collections::BTreeMap;
 use std::marker::Model;
@@ -54,6 +54,20 @@ impl<I: ImageRead> Draft<I> {
             blocks: BTreeMap::new(alloc),
         };
         Draft { image, over }
+    }
+
+    /// Lays bytes at a position, after zero bytes where the draft is shorter. After a fault the draft has the bytes that it had.
+    pub fn put(&mut self, at: u32, bytes: &[u8]) -> Result<(), RecordFault>
+        requires { at + length bytes.now < 2 ^ 32 }
+        ensures bytes { OnOk result (self.new.bytes ≡ option_map (λ image. changed image (Put at bytes.now)) self.old.bytes) }
+        ensures len { OnOk result (self.new.len ≡ max self.old.len (at + length bytes.now)) }
+        ensures layout { self.new.layout ≡ self.old.layout }
+        ensures same { OnErr result (StaysAsItWas self.old self.new) }
+        ensures fault { IfErr result IsOfImage }
+        ensures reads { ReadsAtMost I.ImageRead (put_cost self.old.layout (length bytes.now)) self.old.image self.new.image
+            (IsErrOf result RecordFault.DiskFault) }
+    {
+        self.over.put(&mut self.image, at, bytes)
     }
 }
 
