@@ -21,3 +21,6 @@ pub use services::{CallReply, Layout, Service};
 
 #[cfg(test)]
 mod tests;
+
+#[cfg(test)]
+mod draft_tests;
