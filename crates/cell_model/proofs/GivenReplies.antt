@@ -26,7 +26,7 @@ use Rattle.cell_model.specs.World.{Site, World, Trigger, Delivery, Beacon_turn, 
 use Rattle.cell_model.specs.Writes.{own_commit}
 use Rattle.cell_model.proofs.Kept.{Stands, StandsUp, StandsNode, KnowsUp, seen_at, step_at_site}
 use Rattle.cell_model.proofs.KeptRuns.{world_of, by_trigger, IsKept, event_leaves, goes_on, first_kept, knows}
-use Rattle.cell_model.proofs.Pages.{book_after, list_is, goes_committed}
+use Rattle.cell_model.proofs.BookVersions.{book_after, list_is, goes_committed}
 use Rattle.cell_model.proofs.SingleReplies.{told_single}
 use Rattle.cell_model.proofs.StepKinds.{one_of, IsOwn, IsGiven, IsTold, IsToldOutput, AllTold, made_at, IsStep, step_is}
 

@@ -23,7 +23,7 @@ use Rattle.cell_model.specs.Recovery.{own_relabelling}
 use Rattle.cell_model.specs.Step.{Evaluation, Shown, Stepped, is_ready}
 use Rattle.cell_model.specs.World.{Site, Happening, Sent, Announced, Replied, Lost, Stops, Halts, Restarts, Stays_down, SiteHappened, packet_in, packets_of, number_after, packet_of, seen_of_output, seen_from, step_up}
 use Rattle.cell_model.specs.Writes.{own_commit}
-use Rattle.cell_model.proofs.Pages.{IsListed, book_after, list_is, goes_relabelled, goes_committed}
+use Rattle.cell_model.proofs.BookVersions.{IsListed, book_after, list_is, goes_relabelled, goes_committed}
 use Rattle.cell_model.proofs.StepKinds.{IsAlone, IsTold, IsToldOutput, AllTold, Rests, Relabels, Commits, made_at}
 
 -- ---- the one server

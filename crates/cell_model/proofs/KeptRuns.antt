@@ -18,7 +18,7 @@ use Rattle.cell_model.specs.NodeRule.{step_of, refusals}
 use Rattle.cell_model.specs.Step.{Member, Stepped}
 use Rattle.cell_model.specs.World.{nothing, triggered, occasion, Site, World, Trigger, Delivery, Beacon_turn, Recover_turn, Asking, Event, Tick, Tick_all, Step, Stop, Fault, Crash, Restart, Happened, SiteHappened, packets_of, seen_from, lost_at, halted_step, step_at, step_up, stop_at, fault_at, crash_at, restart_at, only_marks, happened_at, ticked, happens, first_world}
 use Rattle.cell_model.proofs.Kept.{Stands, StandsUp, StandsNode, KnowsUp, Leaves, AllSilent, silent_leaves, silent_append, all_begin_more, slice_get-front, site_up, rests_leaves, relabels_leaves, commits_leaves}
-use Rattle.cell_model.proofs.Pages.{IsListed, book_after, broken_goes}
+use Rattle.cell_model.proofs.BookVersions.{IsListed, book_after, broken_goes}
 use Rattle.cell_model.proofs.StepKinds.{one_of, IsAlone, IsOwn, IsStep, step_is}
 
 -- ---- one site

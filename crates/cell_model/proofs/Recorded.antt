@@ -15,14 +15,14 @@ use Rattle.cell_model.specs.KeptLaws.{ChangesNothing, OksAreAcknowledged}
 use Rattle.cell_model.specs.Laws.{run_of_one}
 use Rattle.cell_model.specs.Node.{Node, Down, Halted, Up, Server}
 use Rattle.cell_model.specs.NodeRule.{step_of}
-use Rattle.cell_model.specs.SingleCopy.{image_of}
+use Rattle.cell_model.specs.SingleCopy.{image_after}
 use Rattle.cell_model.specs.Step.{Evaluation, Shown, Stepped}
 use Rattle.cell_model.specs.World.{Site, World, Step, Asking, Happening, Announced, Replied, SiteHappened, number_after, packet_of, seen_of_output, seen_from, step_at, step_up, site_of, happens}
 use Rattle.cell_model.specs.Writes.{own_commit}
 use Rattle.cell_model.proofs.BlockChanges.{same_image}
 use Rattle.cell_model.proofs.Kept.{Stands, StandsUp, StandsNode, KnowsUp, seen_at, step_at_site}
 use Rattle.cell_model.proofs.KeptRuns.{world_of, run_kept, knows}
-use Rattle.cell_model.proofs.Pages.{book_after, list_is, image_from-append, goes_committed}
+use Rattle.cell_model.proofs.BookVersions.{book_after, list_is, image_from-append, goes_committed}
 use Rattle.cell_model.proofs.SingleReplies.{ready_image}
 use Rattle.cell_model.proofs.StepKinds.{one_of, IsTold, IsToldOutput, AllTold, made_at, commit_evaluation, IsStep, step_is}
 
@@ -42,19 +42,19 @@ same_call : (id other : ℕ) (call bytes : List ℕ) → event.Ask id call ≡ e
 same_call id other call bytes is = cc
 
 -- a call that changes no block of the image of the order
-unchanged : (db : Database) (order : List Transaction) (image : List ℕ) (now : ℕ) (call : List ℕ) → image ≡ image_of db order → changes_of db image (db.call image now call).image ≡ [] → ChangesNothing db order (made_at now call)
+unchanged : (db : Database) (order : List Transaction) (image : List ℕ) (now : ℕ) (call : List ℕ) → image ≡ image_after db order → changes_of db image (db.call image now call).image ≡ [] → ChangesNothing db order (made_at now call)
 unchanged db order image now call is none =
-    (no_changes, λ some longer. same_image db.head db.block (image_of db order) (image_of db (order ++ made_at now call ∷ [])) no_changes some longer)
+    (no_changes, λ some longer. same_image db.head db.block (image_after db order) (image_after db (order ++ made_at now call ∷ [])) no_changes some longer)
   where
-    after : (db.call image now call).image ≡ image_of db (order ++ made_at now call ∷ [])
+    after : (db.call image now call).image ≡ image_after db (order ++ made_at now call ∷ [])
     after = ap (λ (i : List ℕ). (db.call i now call).image) is ∙ sym (image_from-append db [] order (made_at now call ∷ []))
 
-    no_changes : changes_of db (image_of db order) (image_of db (order ++ made_at now call ∷ [])) ≡ []
+    no_changes : changes_of db (image_after db order) (image_after db (order ++ made_at now call ∷ [])) ≡ []
     no_changes =
-        let old : changes_of db image (db.call image now call).image ≡ changes_of db (image_of db order) (db.call image now call).image =
+        let old : changes_of db image (db.call image now call).image ≡ changes_of db (image_after db order) (db.call image now call).image =
         ap (λ (i : List ℕ). changes_of db i (db.call image now call).image) is in
-        let new : changes_of db (image_of db order) (db.call image now call).image ≡ changes_of db (image_of db order) (image_of db (order ++ made_at now call ∷ [])) =
-        ap (changes_of db (image_of db order)) after in
+        let new : changes_of db (image_after db order) (db.call image now call).image ≡ changes_of db (image_after db order) (image_after db (order ++ made_at now call ∷ [])) =
+        ap (changes_of db (image_after db order)) after in
         sym new ∙ sym old ∙ none
 
 module _ (db : Database) (book : Book) (ann : List Announcement) (acks : List Acknowledgement) (s : Server) (now id : ℕ) (call : List ℕ) (list : List Transaction) (up : KnowsUp db book ann s list) (writes : db.writes call ≡ Some true) where

@@ -17,24 +17,24 @@ use Rattle.cell_model.specs.declared.events.Output.{Output}
 use Rattle.cell_model.specs.declared.events.Output.TheVariants as output
 use Rattle.cell_model.specs.Book.{Book, Announcement, list_of, list_or_none, entered, announced, order_of}
 use Rattle.cell_model.specs.Durable.{Durable, Transaction, Made, durable}
-use Rattle.cell_model.specs.KeptLaws.{IsSingle, SitesAreSingle, Answered, answered, single_answer, IsAnsweredBy, IsReplyOf, IsOfSingleCopy, IsUngiven, IsEvaluated, RepliesAreSingle}
+use Rattle.cell_model.specs.KeptLaws.{IsSingle, SitesAreSingle, Answered, answered_with, single_answer, IsAnsweredBy, IsReplyOf, IsOfSingleCopy, IsUngiven, IsEvaluated, RepliesAreSingle}
 use Rattle.cell_model.specs.Laws.{run_of_one}
 use Rattle.cell_model.specs.Node.{Node, Down, Halted, Up, Server}
 use Rattle.cell_model.specs.NodeRule.{step_of, refusals}
-use Rattle.cell_model.specs.SingleCopy.{image_of, reply_after}
+use Rattle.cell_model.specs.SingleCopy.{image_after, reply_after}
 use Rattle.cell_model.specs.Step.{Evaluation, Shown, Stepped, leased, is_ready}
 use Rattle.cell_model.specs.World.{Site, World, Trigger, Delivery, Beacon_turn, Recover_turn, Asking, Event, Tick, Tick_all, Step, Stop, Fault, Crash, Restart, Happening, Happened, Announced, Replied, Lost, Stops, Halts, Restarts, Stays_down, occasion, SiteHappened, member, number_after, packet_of, seen_of_output, seen_from, lost_at, step_at, step_up, stop_at, fault_at, site_of, happens}
 use Rattle.cell_model.specs.Writes.{own_commit, image_before}
 use Rattle.cell_model.proofs.Kept.{Stands, StandsUp, StandsNode, KnowsUp, seen_at, step_at_site}
 use Rattle.cell_model.proofs.KeptRuns.{world_of, by_trigger, run_kept, knows}
-use Rattle.cell_model.proofs.Pages.{book_after, committed_page, older, list_is, goes_committed}
+use Rattle.cell_model.proofs.BookVersions.{book_after, committed_version, older, list_is, goes_committed}
 use Rattle.cell_model.proofs.StepKinds.{one_of, IsOwn, IsAnswer, IsGiven, IsTold, IsToldOutput, AllTold, Rests, Relabels, Commits, made_at, commit_evaluation, IsStep, step_is}
 
 -- ---- the database of a ready server
 
 -- where it is ready, its image is that of the order
-pub ready_image : (db : Database) (book : Book) (ann : List Announcement) (s : Server) (list : List Transaction) → KnowsUp db book ann s list → is_ready s.phase ≡ true → s.image ≡ image_of db (order_of ann)
-ready_image db book ann s list up ready = up.is.image_is ∙ ap (image_of db) (sym (up.ready ready))
+pub ready_image : (db : Database) (book : Book) (ann : List Announcement) (s : Server) (list : List Transaction) → KnowsUp db book ann s list → is_ready s.phase ≡ true → s.image ≡ image_after db (order_of ann)
+ready_image db book ann s list up ready = up.is.image_is ∙ ap (image_after db) (sym (up.ready ready))
 
 node_single : (db : Database) (book : Book) (ann : List Announcement) (host : Host) (site : Site) (node : Node) → site.node ≡ node → Stands db book ann site → IsSingle db (order_of ann) (one_of host) site.clock node
 node_single db book ann host site Down is stands = tt
@@ -75,7 +75,7 @@ AllTells db single book ann h =
 -- what the single copy answers to the call of the event
 abbrev Answers : Database → Option Answered → List Transaction → ℕ → NodeEvent → Type 0
 Answers db single order now e =
-    (id : ℕ) (call : List ℕ) → e ≡ event.Ask id call → single ≡ Some (answered 0 id (reply_after db order now call))
+    (id : ℕ) (call : List ℕ) → e ≡ event.Ask id call → single ≡ Some (answered_with 0 id (reply_after db order now call))
 
 -- the database's answer is the single copy's
 pub told_single : (db : Database) (book : Book) (ann : List Announcement) (s : Server) (now : ℕ) (e : NodeEvent) (list : List Transaction) (id : ℕ) (answer : CallReply) → KnowsUp db book ann s list → (a : IsAnswer db s now e id answer) → reply_after db (order_of ann) now a.call ≡ answer
@@ -83,9 +83,9 @@ told_single db book ann s now e list id answer up a =
     ap (λ (image : List ℕ). (db.call image now a.call).reply) (sym (ready_image db book ann s list up a.ready)) ∙ a.answer_is
 
 module _ (db : Database) (single : Option Answered) (book : Book) (ann : List Announcement) (s : Server) (now : ℕ) (e : NodeEvent) (list : List Transaction) (up : KnowsUp db book ann s list) (answers : Answers db single (order_of ann) now e) where
-  answer_single : (id : ℕ) (answer : CallReply) → IsAnswer db s now e id answer → single ≡ Some (answered 0 id answer)
+  answer_single : (id : ℕ) (answer : CallReply) → IsAnswer db s now e id answer → single ≡ Some (answered_with 0 id answer)
   answer_single id answer a =
-      answers id a.call a.asked ∙ ap (λ (r : CallReply). Some (answered 0 id r)) (told_single db book ann s now e list id answer up a)
+      answers id a.call a.asked ∙ ap (λ (r : CallReply). Some (answered_with 0 id r)) (told_single db book ann s now e list id answer up a)
 
   -- the version of a ready server has the order as its list
   version_listed : is_ready s.phase ≡ true → list_of book s.version ≡ Some (order_of ann)
@@ -151,14 +151,14 @@ module _ (db : Database) (single : Option Answered) (book : Book) (ann : List An
       evaluation = commit_evaluation now made.answered.call s.version made.new
 
       after : Book
-      after = committed_page book s.version made.new one ∷ book
+      after = committed_version book s.version made.new one ∷ book
 
       T : Happening → Type 0
       T = Tells db single (order_of ann) (list_or_none after made.new) after
 
       committed : IsOfSingleCopy db (order_of ann) (list_or_none after made.new) after evaluation (reply.Ok made.answer)
       committed = record {
-        listed = older (committed_page book s.version made.new one) book s.version (order_of ann) made.fresh (version_listed made.answered.ready);
+        listed = older (committed_version book s.version made.new one) book s.version (order_of ann) made.fresh (version_listed made.answered.ready);
         replied = told_single db book ann s now e list made.id (call_reply.Done made.answer) up made.answered;
         next =
             list_is after made.new (list ++ one ∷ []) (goes_committed db book (durable s.version s.image) list up.is made.new made.changes now made.answered.call).listed

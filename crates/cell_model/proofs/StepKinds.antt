@@ -31,6 +31,7 @@ use Rattle.cell_model.specs.NodeRule.{handled, step_of}
 use Rattle.cell_model.specs.Polls.{polling, best_answer}
 use Rattle.cell_model.specs.Recovery.{first_of_epoch, own_relabelling, relabelled, polled, poll_begun, recovered, recovery_turn}
 use Rattle.cell_model.specs.Step.{Member, Announced_image, Commit_on, Evaluation, Shown, Stepped, quiet, showing, followed, leased, is_ready, told_version, with_phase, announcing, refusing, replying, is_short, short_after}
+pub use Rattle.cell_model.specs.Voters.{IsAlonePhase}
 use Rattle.cell_model.specs.Writes.{next_version, own_commit, image_before, written_in, written_small, written_within, turned, last_counter}
 
 -- the one server of a cell
@@ -38,15 +39,6 @@ abbrev pub one_of : Host → Member
 one_of host = record { hosts = host ∷ []; me = 0 }
 
 -- ---- a server that is alone
-
--- A poll knows its own version alone; nothing is fetched, and nothing is sent; its own version is the announced one.
-abbrev pub IsAlonePhase : Version → PhaseRecord → Type 0
-IsAlonePhase own NoPhase = Unit {0}
-IsAlonePhase own (Poll poll) = poll.answers ≡ Some own ∷ []
-IsAlonePhase own (Fetch poll best host) = ⊥
-IsAlonePhase own (Relabel poll) = Unit {0}
-IsAlonePhase own (Send poll spread) = ⊥
-IsAlonePhase own (Ready poll spread announced) = announced ≡ own
 
 pub record IsAlone (s : Server) : Type 0 where
   pub flight : s.flight ≡ None
@@ -157,14 +149,14 @@ abbrev pub IsStep : Database → Server → ℕ → NodeEvent → Stepped → Ty
 IsStep db s now e t = Rests db s now e t ⊎ (Relabels s t ⊎ Commits db s now e t)
 
 -- no version is below itself, and none is below the first one
-lt_itself : (v : Version) → version_lt v v ≡ false
+pub lt_itself : (v : Version) → version_lt v v ≡ false
 lt_itself v =
     let epoch : nat_lt v.epoch v.epoch ≡ false = grind (arith, nat_tests) in
     let counter : nat_lt v.counter v.counter ≡ false = grind (arith, nat_tests) in
     let same : (v.epoch == v.epoch) ≡ true = grind (arith, nat_tests) in
     ap (λ (b : Bool). b || (v.epoch == v.epoch && nat_lt v.counter v.counter)) epoch ∙ ap (λ (b : Bool). b && nat_lt v.counter v.counter) same ∙ counter
 
-lt_zero : (v : Version) → version_lt v zero_version ≡ false
+pub lt_zero : (v : Version) → version_lt v zero_version ≡ false
 lt_zero v =
     let epoch : nat_lt v.epoch 0 ≡ false = grind (arith, nat_tests) in
     let counter : nat_lt v.counter 0 ≡ false = grind (arith, nat_tests) in
@@ -421,7 +413,7 @@ dropped_alone : (s : Server) → IsAlone s → IsAlone (dropped s)
 dropped_alone s alone = record { flight = refl; waiting = refl; beacon = alone.beacon; phase = tt }
 
 -- there is no write to drop
-none_refused : (f : Option Flight) (waiting : List Waiting) (one other : Reply) → f ≡ None → waiting ≡ [] → flight_refused f one ++ waiting_refused waiting other ≡ []
+pub none_refused : (f : Option Flight) (waiting : List Waiting) (one other : Reply) → f ≡ None → waiting ≡ [] → flight_refused f one ++ waiting_refused waiting other ≡ []
 none_refused None [] one other none is = refl
 none_refused None (w ∷ waiting) one other none is = absurd (cc)
 none_refused (Some f) waiting one other none is = absurd (cc)

@@ -19,40 +19,40 @@ use Rattle.cell_model.specs.Step.{Member, Basis, Commit_on, Evaluation, cell_siz
 use Rattle.cell_model.specs.World.{World, Site, Event, Beacon_turn, Step, Happening, Sent, Announced, Replied, Happened, Entry, happens, member, site_of}
 use Rattle.cell_model.specs.Writes.{announced_image}
 
--- A page of the book: a version, the one before it, which transaction led from there, if one did, which server made it, and all
+-- A version in the book: itself, the one before it, which transaction led from there, if one did, which server made it, and all
 -- transactions that lead to it.
-pub record Page : Type 0 where
+pub record BookVersion : Type 0 where
   pub version : Version
   pub before : Version
   pub transaction : Option Transaction
   pub maker : ℕ
   pub transactions : List Transaction
 
--- the book of versions, the newest page first
+-- the book of versions, the newest one first
 abbrev pub Book : Type 0
-Book = List Page
+Book = List BookVersion
 
 -- the list of a version, where the book has it; nothing leads to the first version
 abbrev pub list_of : Book → Version → Option (List Transaction)
 list_of [] v = if version_eq zero_version v then Some [] else None
-list_of (page ∷ book) v = if version_eq page.version v then Some page.transactions else list_of book v
+list_of (first ∷ book) v = if version_eq first.version v then Some first.transactions else list_of book v
 
 abbrev pub list_or_none : Book → Version → List Transaction
 list_or_none book v = unwrap_or (list_of book v) []
 
--- A new page: a relabelling of its own gives the new version the list of the version before, a commit that list and then the
--- transaction. What a server received adds none.
-abbrev pub with_page : Book → ℕ → Version → Version → Reason → Book
-with_page book k old new Own_relabelling =
+-- The book with a new version: a relabelling of its own gives it the list of the version before, a commit that list and then
+-- the transaction. What a server received adds none.
+abbrev pub with_version : Book → ℕ → Version → Version → Reason → Book
+with_version book k old new Own_relabelling =
     record { version = new; before = old; transaction = None; maker = k; transactions = list_or_none book old } ∷ book
-with_page book k old new (Committed t) =
+with_version book k old new (Committed t) =
     record { version = new; before = old; transaction = Some t; maker = k; transactions = list_or_none book old ++ t ∷ [] } ∷ book
-with_page book k old new Received = book
+with_version book k old new Received = book
 
 abbrev pub entered : Book → List Entry → Book
 entered book [] = book
 entered book (e ∷ entries) =
-    entered (with_page book e.server e.before (version_after e.made.call) e.made.reason) entries
+    entered (with_version book e.server e.before (version_after e.made.call) e.made.reason) entries
 
 -- an announcement: which server announced which version, and the list of that version
 pub record Announcement : Type 0 where

@@ -4,6 +4,7 @@ use Rattle.std.specs.Prelude.{ℕ, ◌+◌, Bool, if◌then◌else◌, List, [],
 use Rattle.ubik_types.specs.declared.images.Change.{Change}
 use Rattle.ubik_types.specs.declared.versions.Version.{Version}
 use Rattle.ubik_types.specs.Version.{zero_version}
+pub use Rattle.db_image.specs.Meaning.{Transaction}
 
 pub record Durable : Type 0 where
   pub version : Version
@@ -23,11 +24,6 @@ pub data DurableCall : Type 0 where
   Relabel : (version : Version) → DurableCall
   -- a whole image in place of the one before, under another version
   Install : (version : Version) → (image : List ℕ) → DurableCall
-
--- a call of a client, and the moment at which it was evaluated
-pub record Transaction : Type 0 where
-  pub moment : ℕ
-  pub call : List ℕ
 
 -- why a durable call was made
 pub data Reason : Type 0 where

@@ -11,7 +11,7 @@ use Rattle.cell_model.specs.Book.{Book, Run, Acknowledgement, Given, list_of, ru
 use Rattle.cell_model.specs.Durable.{Transaction}
 use Rattle.cell_model.specs.Laws.{Begins, run_of_one}
 use Rattle.cell_model.specs.Node.{Node, Down, Halted, Up}
-use Rattle.cell_model.specs.SingleCopy.{image_of, reply_after}
+use Rattle.cell_model.specs.SingleCopy.{image_after, reply_after}
 use Rattle.cell_model.specs.Step.{Member, Basis, Announced_image, Beacon_image, Commit_on, Evaluation}
 use Rattle.cell_model.specs.World.{Site, World, Asking, Event, Step, Happening, Replied, member, site_of, happens}
 
@@ -37,8 +37,8 @@ IsAcknowledged r later t =
 -- byte, and the image did not become shorter, it is the same.
 abbrev pub ChangesNothing : Database → List Transaction → Transaction → Type 0
 ChangesNothing db order t =
-    let old = image_of db order in
-    let new = image_of db (order ++ t ∷ []) in
+    let old = image_after db order in
+    let new = image_after db (order ++ t ∷ []) in
     (changes_of db old new ≡ []) × (0 < db.block → length old ≤ length new → new ≡ old)
 
 abbrev pub IsRecorded : Database → (r later : Run) → Transaction → Type 0
@@ -58,7 +58,7 @@ OksAreAcknowledged =
 abbrev pub IsSingle : Database → List Transaction → Member → ℕ → Node → Type 0
 IsSingle db order m clock Down = Unit {0}
 IsSingle db order m clock (Halted h) = Unit {0}
-IsSingle db order m clock (Up s) = is_ready_site m clock (Up s) ≡ true → site_database s ≡ image_of db order
+IsSingle db order m clock (Up s) = is_ready_site m clock (Up s) ≡ true → site_database s ≡ image_after db order
 
 -- Whatever happens, the database of each ready sync site is the image of the single copy after the order.
 abbrev pub SitesAreSingle : Type 0
@@ -73,14 +73,14 @@ pub record Answered : Type 0 where
   pub id : ℕ
   pub reply : CallReply
 
-abbrev pub answered : ℕ → ℕ → CallReply → Answered
-answered server id r = record { server = server; id = id; reply = r }
+abbrev pub answered_with : ℕ → ℕ → CallReply → Answered
+answered_with server id r = record { server = server; id = id; reply = r }
 
 -- what a copy answers at an event, if it replies so at a moment to a call: its reply to the call that is asked, at the clock of
 -- the server asked. In all other events there is nothing to answer.
 abbrev pub answered_by : (ℕ → List ℕ → CallReply) → World → Event → Option Answered
 answered_by reply w (Step (Asking server id call) short) =
-    option_map (λ (site : Site). answered server id (reply site.clock call)) (site_of w server)
+    option_map (λ (site : Site). answered_with server id (reply site.clock call)) (site_of w server)
 answered_by reply w _ = None
 
 -- the same of the single copy after these transactions
@@ -89,9 +89,9 @@ single_answer db order = answered_by (reply_after db order)
 
 -- what a reply says of the database is this answer. Ok, Rule and BadRecord say something of it, the others do not.
 abbrev pub IsAnsweredBy : Option Answered → ℕ → ℕ → Reply → Type 0
-IsAnsweredBy single server id (reply.Ok fields) = single ≡ Some (answered server id (call_reply.Done fields))
-IsAnsweredBy single server id (reply.Rule number) = single ≡ Some (answered server id (call_reply.Rule number))
-IsAnsweredBy single server id (reply.BadRecord at) = single ≡ Some (answered server id (call_reply.BadRecord at))
+IsAnsweredBy single server id (reply.Ok fields) = single ≡ Some (answered_with server id (call_reply.Done fields))
+IsAnsweredBy single server id (reply.Rule number) = single ≡ Some (answered_with server id (call_reply.Rule number))
+IsAnsweredBy single server id (reply.BadRecord at) = single ≡ Some (answered_with server id (call_reply.BadRecord at))
 IsAnsweredBy single server id _ = Unit {0}
 
 -- the version on which a call was evaluated

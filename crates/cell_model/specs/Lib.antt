@@ -13,6 +13,7 @@ pub mod Receiver
 pub mod Recovery
 pub mod SingleCopy
 pub mod Step
+pub mod Voters
 pub mod Voting
 pub mod World
 pub mod Writes

@@ -10,9 +10,9 @@ image_from db image [] = image
 image_from db image (t ∷ transactions) = image_from db (db.call image t.moment t.call).image transactions
 
 -- the image of a list of transactions: from the empty one on
-abbrev pub image_of : Database → List Transaction → List ℕ
-image_of db transactions = image_from db [] transactions
+abbrev pub image_after : Database → List Transaction → List ℕ
+image_after db transactions = image_from db [] transactions
 
 -- what the single copy replies to a call after these transactions
 abbrev pub reply_after : Database → List Transaction → ℕ → List ℕ → CallReply
-reply_after db transactions now call = (db.call (image_of db transactions) now call).reply
+reply_after db transactions now call = (db.call (image_after db transactions) now call).reply

@@ -8,6 +8,7 @@ ghost use Rattle.cell_model.specs.KeptLaws.{
   SitesAreSingle,
 };
 ghost use Rattle.cell_model.specs.Laws.{AnnouncementsGrow, DatabaseIsDurable};
+ghost use Rattle.cell_model.specs.Voters.{VotersVote};
 
 /// In each cell, whatever happens, the durable state of each server that is up, and not halted, is its version and its
 /// image: none serves a database that is not durable.
@@ -53,4 +54,11 @@ pub fn law_replies_are_single()
 /// found no memory.
 pub fn law_replies_have_causes()
     ensures { RepliesHaveCauses }
+{}
+
+/// A server that takes part in votes, and in a cell of one alone in recovery and writes, stays one in each event that it takes. It
+/// sends packets of votes from host to host of the cell alone, in a larger cell it makes no durable call, and each Ok answers the
+/// call that is asked in that event. A server that was just opened is one.
+pub fn law_voters_vote()
+    ensures { VotersVote }
 {}

@@ -9,5 +9,5 @@ mod laws;
 pub use events::{NodeEvent, Output};
 pub use laws::{
     law_acknowledged_stay, law_announcements_grow, law_database_is_durable, law_ok_is_acknowledged,
-    law_replies_are_single, law_replies_have_causes, law_sites_are_single,
+    law_replies_are_single, law_replies_have_causes, law_sites_are_single, law_voters_vote,
 };

@@ -1,4 +1,3 @@
-pub mod Language
 pub mod Script
-pub mod Spoken
+pub mod ScriptDatabase
 pub mod Trace

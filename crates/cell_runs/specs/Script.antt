@@ -16,36 +16,39 @@ use Rattle.cell_model.specs.Node.{Node, Down, Halted, Up, Server}
 use Rattle.cell_model.specs.NodeRule.{place_of, step_of}
 use Rattle.cell_model.specs.Step.{host_at}
 use Rattle.cell_model.specs.World.{Site, World, Trigger, Delivery, Beacon_turn, Recover_turn, Asking, Event, Tick, Tick_all, Step, Stop, Fault, Crash, Restart, Happening, Sent, Happened, happens, first_world, first_seen, calls_on, occasion, member, site_of, is_down, may_tick, tick_at, ticked}
-use Rattle.cell_runs.specs.Language.{Kind, Line, line_of}
-use Rattle.cell_runs.specs.Language as line
+use Rattle.cell_script.specs.declared.lines.Kind.{Kind}
+use Rattle.cell_script.specs.declared.lines.Line.{Line}
+use Rattle.cell_script.specs.declared.lines.Line.TheVariants as line
+use Rattle.cell_script.specs.Meaning.{line_of}
 use Rattle.cell_script.specs.declared.lines.Why.{Why}
 use Rattle.cell_script.specs.declared.lines.Why.TheVariants as why
 use Rattle.cell_runs.specs.declared.limits.TheConstants.{MAX_LINES, MAX_PACKETS, MAX_PACKET_BYTES}
 use Rattle.cell_runs.specs.declared.endings.Ending.{Ending}
 use Rattle.cell_runs.specs.declared.endings.Ending.TheVariants.{Refused, Limit}
 use Rattle.cell_runs.specs.declared.endings.Which.TheVariants.{Lines, Packets, PacketBytes}
-use Rattle.cell_runs.specs.Spoken.{Spoken, Databases}
-use Rattle.cell_runs.specs.Trace.{Showing, Telling, Tells, Shows, trace, ending_text}
+use Rattle.cell_runs.specs.ScriptDatabase.{ScriptDatabase, Databases}
+use Rattle.cell_runs.specs.declared.traces.Showing.{Showing}
+use Rattle.cell_runs.specs.Trace.{TraceItem, Tells, Shows, trace, ending_text}
 
 -- The choices of a step or an opening: whether its disk fails; how many of its durable calls took place, where it does; and
 -- whether the durable call took place in which an armed disk stops.
-pub record Luck : Type 0 where
+pub record Choice : Type 0 where
   pub fails : Bool
   pub made : ℕ
   pub took : Bool
 
-abbrev pub sound : Luck
+abbrev pub sound : Choice
 sound = record { fails = false; made = 0; took = false }
 
 -- the choice for the first step of a line; where nothing is said of it the disk is sound
-abbrev pub first_luck : List Luck → Luck
-first_luck [] = sound
-first_luck (luck ∷ _) = luck
+abbrev pub first_choice : List Choice → Choice
+first_choice [] = sound
+first_choice (choice ∷ _) = choice
 
 -- a line that was read, and the choices of the steps and openings in it, in their order
-pub record Reading : Type 0 where
+pub record LineRead : Type 0 where
   pub line : List ℕ
-  pub lucks : List Luck
+  pub choices : List Choice
 
 -- a disk that is to stop: how many changing calls it lets pass, and how many there were since
 pub record Armed : Type 0 where
@@ -79,13 +82,13 @@ first_stage = record { lines = 0; asks = 0; cell = None }
 -- what a line leaves, what it tells, and how the script ends in it, if it does
 pub record Line_run : Type 0 where
   pub stage : Stage
-  pub tells : List Telling
+  pub items : List TraceItem
   pub ending : Option Ending
 
 -- what a part of a line leaves of a cell, what it tells, and how the script ends in it, if it does
 pub record Cell_run : Type 0 where
   pub cell : Cell
-  pub tells : List Telling
+  pub items : List TraceItem
   pub ending : Option Ending
 
 -- server k, which is counted from 0, has the host 10.0.0.(k + 1)
@@ -110,18 +113,18 @@ passed_by number bytes =
 -- What is told of what was seen after packets of so many bytes: all of it, or what stands before the first packet that passes a
 -- limit.
 pub record Within : Type 0 where
-  pub tells : List Telling
+  pub items : List TraceItem
   pub ending : Option Ending
 
-abbrev pub within_more : Telling → Within → Within
-within_more telling rest = record { tells = telling ∷ rest.tells; ending = rest.ending }
+abbrev pub within_more : TraceItem → Within → Within
+within_more item rest = record { items = item ∷ rest.items; ending = rest.ending }
 
-abbrev pub within_packet : Telling → Option Ending → Within → Within
-within_packet telling None rest = within_more telling rest
-within_packet telling (Some ending) rest = record { tells = []; ending = Some ending }
+abbrev pub within_packet : TraceItem → Option Ending → Within → Within
+within_packet item None rest = within_more item rest
+within_packet item (Some ending) rest = record { items = []; ending = Some ending }
 
 abbrev pub within : ℕ → List Happening → Within
-within bytes [] = record { tells = []; ending = None }
+within bytes [] = record { items = []; ending = None }
 within bytes (Sent number p ∷ seen) =
     within_packet (Tells (Sent number p)) (passed_by number (bytes + packet_length p)) (within (bytes + packet_length p) seen)
 within bytes (h ∷ seen) = within_more (Tells h) (within bytes seen)
@@ -139,10 +142,10 @@ cell_after c e h =
 abbrev pub happened : Cell → Event → Happened → Cell_run
 happened c e h =
     let told = within (bytes_of c.run.world.packets) h.seen in
-    record { cell = cell_after c e h; tells = told.tells; ending = told.ending }
+    record { cell = cell_after c e h; items = told.items; ending = told.ending }
 
-abbrev pub with_event : Spoken → Cell → Event → Cell_run
-with_event spoken c e = happened c e (happens spoken.database c.run.world e)
+abbrev pub with_event : ScriptDatabase → Cell → Event → Cell_run
+with_event script_db c e = happened c e (happens script_db.database c.run.world e)
 
 abbrev pub one_more : Option ℕ → Option ℕ
 one_more None = None
@@ -176,82 +179,82 @@ counted_on calls None = None
 counted_on calls (Some armed) = Some (record armed { made = armed.made + calls })
 
 -- a step that the server of a trigger makes: what the disk does in it
-pub data Fate : Type 0 where
+pub data DiskOutcome : Type 0 where
   -- it serves the step, in so many changing calls
-  Serves : (calls : ℕ) → Fate
-  Fails_after : (made : ℕ) → Fate
-  Stops_after : (made : ℕ) → Fate
+  Serves : (calls : ℕ) → DiskOutcome
+  Fails_after : (made : ℕ) → DiskOutcome
+  Stops_after : (made : ℕ) → DiskOutcome
 
-abbrev pub fate_of_stop : ℕ → Bool → Option ℕ → Fate
-fate_of_stop calls took None = Serves calls
-fate_of_stop calls took (Some made) = Stops_after (if took then made + 1 else made)
+abbrev pub outcome_of_stop : ℕ → Bool → Option ℕ → DiskOutcome
+outcome_of_stop calls took None = Serves calls
+outcome_of_stop calls took (Some made) = Stops_after (if took then made + 1 else made)
 
 -- an armed disk stops where it must; else it fails or not
-abbrev pub fate_up : Luck → Version → List Made → Option Armed → Fate
-fate_up luck version calls armed =
-    if luck.fails then Fails_after luck.made
-    else fate_of_stop (calls_on_all version calls) luck.took (stops_in version calls armed)
+abbrev pub outcome_up : Choice → Version → List Made → Option Armed → DiskOutcome
+outcome_up choice version calls armed =
+    if choice.fails then Fails_after choice.made
+    else outcome_of_stop (calls_on_all version calls) choice.took (stops_in version calls armed)
 
 -- a server that is down or halted makes no call of its disk
-abbrev pub fate_at : Database → World → Luck → List (Option Armed) → ℕ × NodeEvent → Node → Fate
-fate_at db w luck armed o (Up s) =
-    fate_up luck s.version (step_of db (member w o.0) s (clock_at w o.0) o.1 []).calls (armed_at armed o.0)
-fate_at db w luck armed o _ = Serves 0
+abbrev pub outcome_at : Database → World → Choice → List (Option Armed) → ℕ × NodeEvent → Node → DiskOutcome
+outcome_at db w choice armed o (Up s) =
+    outcome_up choice s.version (step_of db (member w o.0) s (clock_at w o.0) o.1 []).calls (armed_at armed o.0)
+outcome_at db w choice armed o _ = Serves 0
 
 abbrev pub node_in : Option Site → Node
 node_in None = Down
 node_in (Some site) = site.node
 
-abbrev pub fate_of : Database → World → Luck → List (Option Armed) → Option (ℕ × NodeEvent) → Fate
-fate_of db w luck armed None = Serves 0
-fate_of db w luck armed (Some o) = fate_at db w luck armed o (node_in (site_of w o.0))
+abbrev pub outcome_of : Database → World → Choice → List (Option Armed) → Option (ℕ × NodeEvent) → DiskOutcome
+outcome_of db w choice armed None = Serves 0
+outcome_of db w choice armed (Some o) = outcome_at db w choice armed o (node_in (site_of w o.0))
 
 abbrev pub place_in : Option (ℕ × NodeEvent) → ℕ
 place_in None = 0
 place_in (Some o) = o.0
 
 -- The step that a trigger brings: no call in it finds no memory, for that ends a run. A stop disarms its disk.
-abbrev pub stepped_so : Spoken → Cell → Trigger → ℕ → Fate → Cell_run
-stepped_so spoken c trigger k (Serves calls) =
-    with_event spoken (record c { armed = set c.armed k (counted_on calls (armed_at c.armed k)) }) (Step trigger [])
-stepped_so spoken c trigger k (Fails_after made) = with_event spoken c (Fault trigger [] made)
-stepped_so spoken c trigger k (Stops_after made) =
-    with_event spoken (record c { armed = set c.armed k None }) (Stop trigger [] made)
+abbrev pub stepped_so : ScriptDatabase → Cell → Trigger → ℕ → DiskOutcome → Cell_run
+stepped_so script_db c trigger k (Serves calls) =
+    with_event script_db (record c { armed = set c.armed k (counted_on calls (armed_at c.armed k)) }) (Step trigger [])
+stepped_so script_db c trigger k (Fails_after made) = with_event script_db c (Fault trigger [] made)
+stepped_so script_db c trigger k (Stops_after made) =
+    with_event script_db (record c { armed = set c.armed k None }) (Stop trigger [] made)
 
-abbrev pub stepped : Spoken → Cell → Luck → Trigger → Cell_run
-stepped spoken c luck trigger =
+abbrev pub stepped : ScriptDatabase → Cell → Choice → Trigger → Cell_run
+stepped script_db c choice trigger =
     let w = c.run.world in
     let o = occasion w trigger in
-    stepped_so spoken c trigger (place_in o) (fate_of spoken.database w luck c.armed o)
+    stepped_so script_db c trigger (place_in o) (outcome_of script_db.database w choice c.armed o)
 
 -- a packet is delivered, and waits no longer
-abbrev pub delivered : Spoken → Cell → Luck → ℕ → Cell_run
-delivered spoken c luck number =
-    stepped spoken (record c { handed = set c.handed (number - 1) true }) luck (Delivery number)
+abbrev pub delivered : ScriptDatabase → Cell → Choice → ℕ → Cell_run
+delivered script_db c choice number =
+    stepped script_db (record c { handed = set c.handed (number - 1) true }) choice (Delivery number)
 
 -- the lowest number of a packet that waits, those from `number` on being looked at
 abbrev pub first_waiting : ℕ → List Bool → Option ℕ
 first_waiting number [] = None
 first_waiting number (handed ∷ more) = if handed then first_waiting (number + 1) more else Some number
 
-abbrev pub joined_run : List Telling → Cell_run → Cell_run
-joined_run tells r = record r { tells = tells ++ r.tells }
+abbrev pub joined_run : List TraceItem → Cell_run → Cell_run
+joined_run items r = record r { items = items ++ r.items }
 
 abbrev pub resting : Cell → Cell_run
-resting c = record { cell = c; tells = []; ending = None }
+resting c = record { cell = c; items = []; ending = None }
 
 abbrev pub unless_ended : Cell_run → Option Ending → Cell_run → Cell_run
-unless_ended r None next = joined_run r.tells next
+unless_ended r None next = joined_run r.items next
 unless_ended r (Some ending) next = r
 
 -- Waiting packets are delivered one after the other, the lowest number first, those among them that are sent meanwhile. There
 -- are no more of them than a script may send.
-abbrev pub all_delivered : Spoken → (most : ℕ) → Cell → List Luck → Option ℕ → Cell_run
-all_delivered spoken most c lucks None = resting c
-all_delivered spoken zero c lucks (Some number) = resting c
-all_delivered spoken (suc most) c lucks (Some number) =
-    let r = delivered spoken c (first_luck lucks) number in
-    unless_ended r r.ending (all_delivered spoken most r.cell (drop 1 lucks) (first_waiting 1 r.cell.handed))
+abbrev pub all_delivered : ScriptDatabase → (most : ℕ) → Cell → List Choice → Option ℕ → Cell_run
+all_delivered script_db most c choices None = resting c
+all_delivered script_db zero c choices (Some number) = resting c
+all_delivered script_db (suc most) c choices (Some number) =
+    let r = delivered script_db c (first_choice choices) number in
+    unless_ended r r.ending (all_delivered script_db most r.cell (drop 1 choices) (first_waiting 1 r.cell.handed))
 
 -- packets to or from a host wait no longer
 abbrev pub is_of_host : Host → Packet → Bool
@@ -269,7 +272,7 @@ showing_of n (Halted h) = Some (record { version = h.version; phase = h.phase; u
 showing_of n (Up s) =
     Some (record { version = s.version; phase = phase_of s.phase; until = lease_end n s.starts; len = length s.image })
 
-abbrev pub shown_site : ℕ → ℕ → Option Site → List Telling
+abbrev pub shown_site : ℕ → ℕ → Option Site → List TraceItem
 shown_site n k None = []
 shown_site n k (Some site) = Shows k site.clock (showing_of n site.node) ∷ []
 
@@ -301,50 +304,50 @@ abbrev pub at_packet : Cell → ℕ → Cell_run → Run_or_why
 at_packet c number r = if nat_lt 0 number && nat_le number (length c.run.world.packets) then Ok r else Err why.Packet
 
 -- a tick that would part two clocks is refused; by the bounds of a script's numbers clocks stay moments
-abbrev pub unless_skewed : Spoken → Cell → List Site → Event → Run_or_why
-unless_skewed spoken c sites e = if may_tick sites then Ok (with_event spoken c e) else Err why.Skew
+abbrev pub unless_skewed : ScriptDatabase → Cell → List Site → Event → Run_or_why
+unless_skewed script_db c sites e = if may_tick sites then Ok (with_event script_db c e) else Err why.Skew
 
 -- the line in a cell that stands, but for an ask
-abbrev pub run_in : Spoken → Cell → List Luck → Line → Run_or_why
-run_in spoken c lucks (line.Tick server seconds) =
-    at_server c server (λ k. unless_skewed spoken c (tick_at c.run.world.sites k seconds) (Tick k seconds))
-run_in spoken c lucks (line.TickAll seconds) =
-    unless_skewed spoken c (map (ticked seconds) c.run.world.sites) (Tick_all seconds)
-run_in spoken c lucks (line.Beacon server) = at_up c server (λ k. stepped spoken c (first_luck lucks) (Beacon_turn k))
-run_in spoken c lucks (line.Recover server) = at_up c server (λ k. stepped spoken c (first_luck lucks) (Recover_turn k))
-run_in spoken c lucks (line.Deliver packet) = at_packet c packet (delivered spoken c (first_luck lucks) packet)
-run_in spoken c lucks (line.Drop packet) = at_packet c packet (resting (record c { handed = set c.handed (packet - 1) true }))
-run_in spoken c lucks (line.DropAll server) =
+abbrev pub run_in : ScriptDatabase → Cell → List Choice → Line → Run_or_why
+run_in script_db c choices (line.Tick server seconds) =
+    at_server c server (λ k. unless_skewed script_db c (tick_at c.run.world.sites k seconds) (Tick k seconds))
+run_in script_db c choices (line.TickAll seconds) =
+    unless_skewed script_db c (map (ticked seconds) c.run.world.sites) (Tick_all seconds)
+run_in script_db c choices (line.Beacon server) = at_up c server (λ k. stepped script_db c (first_choice choices) (Beacon_turn k))
+run_in script_db c choices (line.Recover server) = at_up c server (λ k. stepped script_db c (first_choice choices) (Recover_turn k))
+run_in script_db c choices (line.Deliver packet) = at_packet c packet (delivered script_db c (first_choice choices) packet)
+run_in script_db c choices (line.Drop packet) = at_packet c packet (resting (record c { handed = set c.handed (packet - 1) true }))
+run_in script_db c choices (line.DropAll server) =
     at_up c server (λ k. resting (record c { handed = dropped_of (host_at c.run.world.hosts k) c.run.world.packets c.handed }))
-run_in spoken c lucks line.DeliverAll = Ok (all_delivered spoken MAX_PACKETS c lucks (first_waiting 1 c.handed))
-run_in spoken c lucks (line.Stop server calls f) =
+run_in script_db c choices line.DeliverAll = Ok (all_delivered script_db MAX_PACKETS c choices (first_waiting 1 c.handed))
+run_in script_db c choices (line.Stop server calls f) =
     at_up c server (λ k. resting (record c { armed = set c.armed k (Some (record { calls = calls; made = 0 })) }))
-run_in spoken c lucks (line.Crash server) =
-    at_up c server (λ k. with_event spoken (record c { armed = set c.armed k None }) (Crash k))
-run_in spoken c lucks (line.Restart server) =
-    at_down c server (λ k. with_event spoken c (Restart k (first_luck lucks).fails))
-run_in spoken c lucks (line.Show server) =
+run_in script_db c choices (line.Crash server) =
+    at_up c server (λ k. with_event script_db (record c { armed = set c.armed k None }) (Crash k))
+run_in script_db c choices (line.Restart server) =
+    at_down c server (λ k. with_event script_db c (Restart k (first_choice choices).fails))
+run_in script_db c choices (line.Show server) =
     at_server c server (λ k. Ok (record {
       cell = c;
-      tells = shown_site (cell_size_of c) k (site_of c.run.world k);
+      items = shown_site (cell_size_of c) k (site_of c.run.world k);
       ending = None;
     }))
-run_in spoken c lucks (line.Cell servers clock k) = Err why.Cell
-run_in spoken c lucks line.Nothing = Ok (resting c)
-run_in spoken c lucks (line.Ask server words) = Err why.Syntax
+run_in script_db c choices (line.Cell servers clock k) = Err why.Cell
+run_in script_db c choices line.Nothing = Ok (resting c)
+run_in script_db c choices (line.Ask server words) = Err why.Syntax
 
 -- a call at a server that is up, under the next number
-abbrev pub asked_at : Spoken → Cell → Luck → ℕ → List ℕ → Option ℕ → Run_or_why
-asked_at spoken c luck id call None = Err why.Number
-asked_at spoken c luck id call (Some number) = at_up c number (λ k. stepped spoken c luck (Asking k id call))
+abbrev pub asked_at : ScriptDatabase → Cell → Choice → ℕ → List ℕ → Option ℕ → Run_or_why
+asked_at script_db c choice id call None = Err why.Number
+asked_at script_db c choice id call (Some number) = at_up c number (λ k. stepped script_db c choice (Asking k id call))
 
-abbrev pub asked_in : Spoken → Cell → Luck → ℕ → List (List ℕ) → Option ℕ → Option (List ℕ) → Run_or_why
-asked_in spoken c luck id words server None = if spoken.is_unbuilt words then Err why.Unbuilt else Err why.Syntax
-asked_in spoken c luck id words server (Some call) = asked_at spoken c luck id call server
+abbrev pub asked_in : ScriptDatabase → Cell → Choice → ℕ → List (List ℕ) → Option ℕ → Option (List ℕ) → Run_or_why
+asked_in script_db c choice id words server None = if script_db.words.is_unbuilt words then Err why.Unbuilt else Err why.Syntax
+asked_in script_db c choice id words server (Some call) = asked_at script_db c choice id call server
 
 -- the words of the call come first, and then the number of the server
-abbrev pub asked : Spoken → Cell → Luck → ℕ → List (List ℕ) → Option ℕ → Run_or_why
-asked spoken c luck id words server = asked_in spoken c luck id words server (spoken.call_of words)
+abbrev pub asked : ScriptDatabase → Cell → Choice → ℕ → List (List ℕ) → Option ℕ → Run_or_why
+asked script_db c choice id words server = asked_in script_db c choice id words server (script_db.words.call_of words)
 
 abbrev pub next_line : Stage → Stage
 next_line st = record st { lines = st.lines + 1 }
@@ -352,12 +355,12 @@ next_line st = record st { lines = st.lines + 1 }
 abbrev pub in_stage : Stage → Run_or_why → Result Line_run Why
 in_stage st (Err w) = Err w
 in_stage st (Ok r) =
-    Ok (record { stage = record st { cell = Some r.cell }; tells = r.tells; ending = r.ending })
+    Ok (record { stage = record st { cell = Some r.cell }; items = r.items; ending = r.ending })
 
 -- at each server of n whether the disk fails in the opening
-abbrev pub fails_at : ℕ → List Luck → List Bool
-fails_at zero lucks = []
-fails_at (suc n) lucks = (first_luck lucks).fails ∷ fails_at n (drop 1 lucks)
+abbrev pub fails_at : ℕ → List Choice → List Bool
+fails_at zero choices = []
+fails_at (suc n) choices = (first_choice choices).fails ∷ fails_at n (drop 1 choices)
 
 abbrev pub opened_cell : ℕ → ℕ → Kind → List Bool → Cell
 opened_cell n clock k failed =
@@ -370,97 +373,104 @@ opened_cell n clock k failed =
     }
 
 -- a cell is opened: at first and once
-abbrev pub opened : Stage → List Luck → ℕ → ℕ → Kind → Line_run
-opened st lucks n clock k =
+abbrev pub opened : Stage → List Choice → ℕ → ℕ → Kind → Line_run
+opened st choices n clock k =
     record {
-      stage = record st { cell = Some (opened_cell n clock k (fails_at n lucks)) };
-      tells = map Tells (first_seen 0 (fails_at n lucks));
+      stage = record st { cell = Some (opened_cell n clock k (fails_at n choices)) };
+      items = map Tells (first_seen 0 (fails_at n choices));
       ending = None;
     }
 
 -- where no cell stands: a cell may be opened, and of an ask the number of the server is judged alone
-abbrev pub run_first : Stage → List Luck → Line → Result Line_run Why
-run_first st lucks line.Nothing = Ok (record { stage = st; tells = []; ending = None })
-run_first st lucks (line.Cell servers clock k) = Ok (opened st lucks servers clock k)
-run_first st lucks (line.Ask None words) = Err why.Number
-run_first st lucks _ = Err why.Cell
+abbrev pub run_first : Stage → List Choice → Line → Result Line_run Why
+run_first st choices line.Nothing = Ok (record { stage = st; items = []; ending = None })
+run_first st choices (line.Cell servers clock k) = Ok (opened st choices servers clock k)
+run_first st choices (line.Ask None words) = Err why.Number
+run_first st choices _ = Err why.Cell
 
 abbrev pub kind_of_cell : Cell → Kind
 kind_of_cell c = c.opening.kind
 
-abbrev pub run_standing : Databases → Stage → List Luck → Cell → Line → Result Line_run Why
-run_standing dbs st lucks c (line.Ask server words) =
+abbrev pub run_standing : Databases → Stage → List Choice → Cell → Line → Result Line_run Why
+run_standing dbs st choices c (line.Ask server words) =
     in_stage (record st { asks = st.asks + 1 })
-    (asked (dbs (kind_of_cell c)) c (first_luck lucks) (st.asks + 1) words server)
-run_standing dbs st lucks c l = in_stage st (run_in (dbs (kind_of_cell c)) c lucks l)
+    (asked (dbs (kind_of_cell c)) c (first_choice choices) (st.asks + 1) words server)
+run_standing dbs st choices c l = in_stage st (run_in (dbs (kind_of_cell c)) c choices l)
 
-abbrev pub line_run : Databases → Stage → List Luck → Line → Option Cell → Result Line_run Why
-line_run dbs st lucks l None = run_first st lucks l
-line_run dbs st lucks l (Some c) = run_standing dbs st lucks c l
+abbrev pub line_run : Databases → Stage → List Choice → Line → Option Cell → Result Line_run Why
+line_run dbs st choices l None = run_first st choices l
+line_run dbs st choices l (Some c) = run_standing dbs st choices c l
 
 -- a line that was understood, or was not
-abbrev pub meaning_run : Databases → Stage → List Luck → Result Line Why → Result Line_run Why
-meaning_run dbs st lucks (Err w) = Err w
-meaning_run dbs st lucks (Ok l) = line_run dbs st lucks l st.cell
+abbrev pub meaning_run : Databases → Stage → List Choice → Result Line Why → Result Line_run Why
+meaning_run dbs st choices (Err w) = Err w
+meaning_run dbs st choices (Ok l) = line_run dbs st choices l st.cell
 
 abbrev pub or_refused : Result Line_run Why → Result Line_run Ending
 or_refused (Ok run) = Ok run
 or_refused (Err w) = Err (Refused w)
 
+-- how many servers the cell has that stands; 0 where none does
+abbrev pub servers_of : Option Cell → ℕ
+servers_of None = 0
+servers_of (Some c) = cell_size_of c
+
 -- what becomes of a line; a script has 20,000 of them at most
-abbrev pub line_result : Databases → Stage → Reading → Result Line_run Ending
+abbrev pub line_result : Databases → Stage → LineRead → Result Line_run Ending
 line_result dbs st r =
     if nat_le MAX_LINES st.lines then Err (Limit Lines)
-    else or_refused (meaning_run dbs (next_line st) r.lucks (line_of r.line))
+    else or_refused (meaning_run dbs (next_line st) r.choices (line_of (servers_of st.cell) r.line))
 
 -- where a script ended before its end: the number of the line, and why
-pub record Halt : Type 0 where
+pub record ScriptEnd : Type 0 where
   pub line : ℕ
   pub ending : Ending
 
--- what the lines so far left, the trace, and where the script ended, if it did
+-- what the lines so far left, all that they told, the text of it, and where the script ended, if it did
 pub record Told : Type 0 where
   pub stage : Stage
+  pub items : List TraceItem
   pub text : List ℕ
-  pub halt : Option Halt
+  pub ended : Option ScriptEnd
 
 abbrev pub first_told : Told
-first_told = record { stage = first_stage; text = []; halt = None }
+first_told = record { stage = first_stage; items = []; text = []; ended = None }
 
-abbrev pub halt_text : Option Halt → List ℕ
-halt_text None = []
-halt_text (Some h) = ending_text h.line h.ending
+abbrev pub end_text : Option ScriptEnd → List ℕ
+end_text None = []
+end_text (Some h) = ending_text h.line h.ending
 
-abbrev pub halt_at : ℕ → Option Ending → Option Halt
-halt_at line None = None
-halt_at line (Some ending) = Some (record { line = line; ending = ending })
+abbrev pub ended_at : ℕ → Option Ending → Option ScriptEnd
+ended_at line None = None
+ended_at line (Some ending) = Some (record { line = line; ending = ending })
 
-abbrev pub text_in : Databases → Option Cell → List Telling → List ℕ
-text_in dbs None tells = []
-text_in dbs (Some c) tells = trace (dbs (kind_of_cell c)) c.run.world.hosts tells
+abbrev pub text_in : Databases → Option Cell → List TraceItem → List ℕ
+text_in dbs None items = []
+text_in dbs (Some c) items = trace (dbs (kind_of_cell c)) c.run.world.hosts items
 
 -- a line that was run tells what it tells, and where the script ends in it; one that was not tells why
 abbrev pub told_with : Databases → Told → Result Line_run Ending → Told
 told_with dbs t (Err ending) =
-    let halt = halt_at (t.stage.lines + 1) (Some ending) in
-    record t { text = t.text ++ halt_text halt; halt = halt }
+    let ended = ended_at (t.stage.lines + 1) (Some ending) in
+    record t { text = t.text ++ end_text ended; ended = ended }
 told_with dbs t (Ok run) =
-    let halt = halt_at (t.stage.lines + 1) run.ending in
+    let ended = ended_at (t.stage.lines + 1) run.ending in
     record {
       stage = run.stage;
-      text = t.text ++ text_in dbs run.stage.cell run.tells ++ halt_text halt;
-      halt = halt;
+      items = t.items ++ run.items;
+      text = t.text ++ text_in dbs run.stage.cell run.items ++ end_text ended;
+      ended = ended;
     }
 
 -- one more line; nothing is told after the line at which the script ended
-abbrev pub told_after : Databases → Told → Reading → Option Halt → Told
+abbrev pub told_after : Databases → Told → LineRead → Option ScriptEnd → Told
 told_after dbs t r None = told_with dbs t (line_result dbs t.stage r)
 told_after dbs t r (Some h) = t
 
 -- all that these lines tell
-abbrev pub told_from : Databases → Told → List Reading → Told
+abbrev pub told_from : Databases → Told → List LineRead → Told
 told_from dbs t [] = t
-told_from dbs t (r ∷ readings) = told_from dbs (told_after dbs t r t.halt) readings
+told_from dbs t (r ∷ readings) = told_from dbs (told_after dbs t r t.ended) readings
 
-abbrev pub told : Databases → List Reading → Told
+abbrev pub told : Databases → List LineRead → Told
 told dbs readings = told_from dbs first_told readings

@@ -4,6 +4,8 @@
 
 mod endings;
 mod limits;
+mod traces;
 
 pub use endings::{Ending, Which};
-pub use limits::{MAX_LINES, MAX_PACKET_BYTES, MAX_PACKETS, MAX_STOP};
+pub use limits::{MAX_LINES, MAX_PACKET_BYTES, MAX_PACKETS, law_limits_are_these};
+pub use traces::{Mark, Showing, tell_ending, tell_mark, tell_output, tell_show};

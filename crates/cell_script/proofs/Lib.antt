@@ -1,4 +1,5 @@
 pub mod Bounds
+pub mod Firsts
 pub mod Reading
 pub mod WordLaws
 pub mod Writing

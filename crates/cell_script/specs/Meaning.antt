@@ -1,123 +1,158 @@
--- What the lines of a script mean, as far as they are built, and why a line has no meaning.
-use Rattle.std.specs.Prelude.{ℕ, ◌≤◌, ◌==◌, ◌||◌, nat_lt, Bool, true, if◌then◌else◌, List, [], ◌∷◌, length, codes, Option, Some, None, option_and_then, Result, Ok, Err}
+-- What the lines of a script mean, and why a line has no meaning, as far as the line alone tells (own).
+use Rattle.std.specs.Prelude.{ℕ, ◌≤◌, ◌==◌, ◌||◌, ◌&&◌, nat_lt, Bool, true, false, if◌then◌else◌, List, [], ◌∷◌, length, codes, Option, Some, None, option_map, option_and_then, Result, Ok, Err}
 use Rattle.std.specs.Option.{option_or}
 use Rattle.std.specs.Str.{bytes_eq}
+use Rattle.ubik_types.specs.declared.limits.TheConstants.{MAXSERVERS}
 use Rattle.ubik_types.specs.Moment.{IsMoment}
+use Rattle.disk_base.specs.declared.disks.Fill.{Fill}
+use Rattle.disk_base.specs.declared.disks.Fill.TheVariants as fill
 use Rattle.script_words.specs.Numbers.{number_of, number_within}
 use Rattle.cell_script.specs.Words.{words_of}
 use Rattle.cell_script.specs.declared.readers.TheConstants.{MAX_LINE}
-use Rattle.cell_script.specs.declared.lines.TheConstants.{MAX_CLOCK, MAX_TICK}
+use Rattle.cell_script.specs.declared.lines.TheConstants.{MAX_CLOCK, MAX_TICK, MAX_STOP}
+use Rattle.cell_script.specs.declared.lines.Kind.{Kind}
+use Rattle.cell_script.specs.declared.lines.Kind.TheVariants.{Location, Protection}
 use Rattle.cell_script.specs.declared.lines.Line.{Line}
-use Rattle.cell_script.specs.declared.lines.Line.TheVariants as line
+use Rattle.cell_script.specs.declared.lines.Line.TheVariants.{Nothing, Cell, Tick, TickAll, Beacon, Recover, Deliver, Drop, DropAll, DeliverAll, Ask, Stop, Crash, Restart, Show}
 use Rattle.cell_script.specs.declared.lines.Why.{Why}
 use Rattle.cell_script.specs.declared.lines.Why.TheVariants.{Syntax, Number, Unbuilt}
-use Rattle.cell_script.specs.declared.lines.Turn.{Turn as LineTurn}
-use Rattle.cell_script.specs.declared.lines.Turn.TheVariants as turn
-use Rattle.cell_script.specs.declared.lines.FirstWord.{FirstWord}
-use Rattle.cell_script.specs.declared.lines.FirstWord.TheVariants.{Cell, TickAll, Turn, Ask, Later}
 
--- lines that are not built yet, and have one further word
-abbrev pub has_one_argument : List ℕ → Bool
-has_one_argument word =
-    bytes_eq word (codes "deliver") || bytes_eq word (codes "drop") || bytes_eq word (codes "dropall")
-    || bytes_eq word (codes "crash") || bytes_eq word (codes "restart") || bytes_eq word (codes "show")
-
--- the first words of all lines that are not built yet, and how many words stand behind each
-abbrev pub later_word_of : List ℕ → Option FirstWord
-later_word_of word =
-    if has_one_argument word then Some (Later 1)
-    else (if bytes_eq word (codes "deliverall") then Some (Later 0)
-    else (if bytes_eq word (codes "tick") then Some (Later 2)
-    else (if bytes_eq word (codes "stop") then Some (Later 3) else None)))
-
--- the first words of lines that are built
-abbrev pub first_word_of : List ℕ → Option FirstWord
-first_word_of word =
-    if bytes_eq word (codes "cell") then Some Cell
-    else (if bytes_eq word (codes "tickall") then Some TickAll
-    else (if bytes_eq word (codes "beacon") then Some (Turn turn.Beacon)
-    else (if bytes_eq word (codes "recover") then Some (Turn turn.Recover)
-    else (if bytes_eq word (codes "ask") then Some Ask else None))))
+-- the kind of a database
+abbrev pub kind_of : List ℕ → Option Kind
+kind_of word =
+    if bytes_eq word (codes "pt") then Some Protection
+    else (if bytes_eq word (codes "vl") then Some Location else None)
 
 -- the number of a server, from 1 on
 abbrev pub server_of : List ℕ → Option ℕ
 server_of word = option_and_then (λ n. if n == 0 then None else Some n) (number_of word)
 
--- a line with this number, where there is one
-abbrev pub numbered : (ℕ → Line) → Option ℕ → Result Line Why
-numbered f None = Err Number
-numbered f (Some n) = Ok (f n)
+-- what a stop leaves of what was written and not synced
+abbrev pub fill_of : List ℕ → Option Fill
+fill_of word =
+    if bytes_eq word (codes "old") then Some fill.Old
+    else (if bytes_eq word (codes "new") then Some fill.New else option_map fill.Byte (number_within 0 255 word))
 
--- a cell of so many servers that keeps a protection database; more than one are not built
-abbrev pub cell_of : Option ℕ → List ℕ → Result Line Why
-cell_of None clock = Err Number
-cell_of (Some servers) clock =
-    if servers == 1 then numbered line.Cell (number_within 1 MAX_CLOCK clock) else Err Unbuilt
+abbrev pub or_number : Option Line → Result Line Why
+or_number None = Err Number
+or_number (Some l) = Ok l
 
-abbrev pub one_server : List ℕ → List ℕ → Result Line Why
-one_server servers clock = cell_of (number_within 1 20 servers) clock
+abbrev pub numbered_cell : Kind → Option ℕ → Option ℕ → Option Line
+numbered_cell k (Some servers) (Some clock) = Some (Cell servers clock k)
+numbered_cell k _ _ = None
 
--- the number of servers, their clock, and the kind of their database; a location database is not built
-abbrev pub cell_line : List (List ℕ) → Result Line Why
-cell_line (servers ∷ clock ∷ kind ∷ []) =
-    if bytes_eq kind (codes "pt") then one_server servers clock
-    else (if bytes_eq kind (codes "vl") then Err Unbuilt else Err Syntax)
-cell_line _ = Err Syntax
+-- a cell of 1 to 20 servers at a clock; the kind of its database is a word of the language
+abbrev pub cell_in : List ℕ → List ℕ → Option Kind → Result Line Why
+cell_in servers clock None = Err Syntax
+cell_in servers clock (Some k) =
+    or_number (numbered_cell k (number_within 1 MAXSERVERS servers) (number_within 1 MAX_CLOCK clock))
 
--- the seconds by which all clocks go on
-abbrev pub tick_all_line : List (List ℕ) → Result Line Why
-tick_all_line (seconds ∷ []) = numbered line.TickAll (number_within 1 MAX_TICK seconds)
-tick_all_line _ = Err Syntax
+abbrev pub numbered_tick : Option ℕ → Option ℕ → Option Line
+numbered_tick (Some server) (Some seconds) = Some (Tick server seconds)
+numbered_tick _ _ = None
 
-abbrev pub turn_of : LineTurn → ℕ → Line
-turn_of turn.Beacon server = line.Beacon server
-turn_of turn.Recover server = line.Recover server
+abbrev pub numbered_stop : Option ℕ → Option ℕ → Option Fill → Option Line
+numbered_stop (Some server) (Some calls) (Some f) = Some (Stop server calls f)
+numbered_stop _ _ _ = None
 
--- a server and nothing more
-abbrev pub turn_line : LineTurn → List (List ℕ) → Result Line Why
-turn_line t (server ∷ []) = numbered (turn_of t) (server_of server)
-turn_line t _ = Err Syntax
+-- lines of a first word and nothing more, of one further word, two, and three
+abbrev pub line_of_none : List ℕ → Result Line Why
+line_of_none first = if bytes_eq first (codes "deliverall") then Ok DeliverAll else Err Syntax
 
--- a line that is not built, with so many words behind the first
-abbrev pub later_line : ℕ → List (List ℕ) → Result Line Why
-later_line count arguments = if length arguments == count then Err Unbuilt else Err Syntax
+abbrev pub line_of_server : List ℕ → Option (ℕ → Line)
+line_of_server first =
+    if bytes_eq first (codes "beacon") then Some Beacon
+    else (if bytes_eq first (codes "recover") then Some Recover
+    else (if bytes_eq first (codes "dropall") then Some DropAll
+    else (if bytes_eq first (codes "crash") then Some Crash
+    else (if bytes_eq first (codes "restart") then Some Restart
+    else (if bytes_eq first (codes "show") then Some Show else None)))))
 
--- a server and one word or more; the server is judged after the call
+-- lines that name a packet, by any number
+abbrev pub line_of_packet : List ℕ → Option (ℕ → Line)
+line_of_packet first =
+    if bytes_eq first (codes "deliver") then Some Deliver
+    else (if bytes_eq first (codes "drop") then Some Drop else None)
+
+abbrev pub with_number : Option (ℕ → Line) → Option ℕ → Option (Result Line Why)
+with_number None n = None
+with_number (Some f) n = Some (or_number (option_map f n))
+
+abbrev pub or_syntax : Option (Result Line Why) → Result Line Why
+or_syntax None = Err Syntax
+or_syntax (Some r) = r
+
+abbrev pub line_of_one : List ℕ → List ℕ → Result Line Why
+line_of_one first a =
+    if bytes_eq first (codes "tickall") then or_number (option_map TickAll (number_within 1 MAX_TICK a))
+    else or_syntax (option_or (with_number (line_of_server first) (server_of a)) (with_number (line_of_packet first) (number_of a)))
+
+abbrev pub line_of_two : List ℕ → List ℕ → List ℕ → Result Line Why
+line_of_two first a b =
+    if bytes_eq first (codes "tick") then or_number (numbered_tick (server_of a) (number_within 1 MAX_TICK b)) else Err Syntax
+
+abbrev pub line_of_three : List ℕ → List ℕ → List ℕ → List ℕ → Result Line Why
+line_of_three first a b c =
+    if bytes_eq first (codes "cell") then cell_in a b (kind_of c)
+    else (if bytes_eq first (codes "stop") then or_number (numbered_stop (server_of a) (number_within 0 MAX_STOP b) (fill_of c))
+    else Err Syntax)
+
+-- a server and one word of a call or more; the server is judged after the call
 abbrev pub ask_line : List (List ℕ) → Result Line Why
-ask_line (server ∷ word ∷ words) = Ok (line.Ask (server_of server) (word ∷ words))
+ask_line (server ∷ word ∷ words) = Ok (Ask (server_of server) (word ∷ words))
 ask_line _ = Err Syntax
 
--- a line by its first word and the others
-abbrev pub line_by : Option FirstWord → List (List ℕ) → Result Line Why
-line_by None arguments = Err Syntax
-line_by (Some Cell) arguments = cell_line arguments
-line_by (Some TickAll) arguments = tick_all_line arguments
-line_by (Some (Turn t)) arguments = turn_line t arguments
-line_by (Some Ask) arguments = ask_line arguments
-line_by (Some (Later count)) arguments = later_line count arguments
+abbrev pub line_of_counted : List ℕ → List (List ℕ) → Result Line Why
+line_of_counted first [] = line_of_none first
+line_of_counted first (a ∷ []) = line_of_one first a
+line_of_counted first (a ∷ b ∷ []) = line_of_two first a b
+line_of_counted first (a ∷ b ∷ c ∷ []) = line_of_three first a b c
+line_of_counted first _ = Err Syntax
 
--- the line of these words
-abbrev pub line_of_words : List (List ℕ) → Result Line Why
-line_of_words [] = Err Syntax
-line_of_words (first ∷ arguments) = line_by (option_or (first_word_of first) (later_word_of first)) arguments
+-- the line of these words, in the whole language
+abbrev pub whole_line : List (List ℕ) → Result Line Why
+whole_line [] = Err Syntax
+whole_line (first ∷ arguments) =
+    if bytes_eq first (codes "ask") then ask_line arguments else line_of_counted first arguments
 
-abbrev pub line_of_split : Option (List (List ℕ)) → Result Line Why
-line_of_split None = Err Syntax
-line_of_split (Some words) = line_of_words words
+-- Lines that are not built yet, by their words and by how many servers the cell has that stands, 0 where none does: stops, crashes
+-- and openings, a location database, and recovery in a cell of several servers.
+abbrev pub is_later : (servers : ℕ) → List (List ℕ) → Bool
+is_later servers (first ∷ a ∷ []) =
+    bytes_eq first (codes "crash") || bytes_eq first (codes "restart")
+    || (bytes_eq first (codes "recover") && nat_lt 1 servers)
+is_later servers (first ∷ a ∷ b ∷ c ∷ []) =
+    bytes_eq first (codes "stop") || (bytes_eq first (codes "cell") && bytes_eq c (codes "vl"))
+is_later servers _ = false
+
+-- that a line is not built is judged after its syntax, and before its numbers
+abbrev pub unless_later : Bool → Result Line Why → Result Line Why
+unless_later true (Ok l) = Err Unbuilt
+unless_later true (Err Number) = Err Unbuilt
+unless_later later r = r
+
+abbrev pub line_of_words : (servers : ℕ) → List (List ℕ) → Result Line Why
+line_of_words servers words = unless_later (is_later servers words) (whole_line words)
+
+abbrev pub line_of_split : (servers : ℕ) → Option (List (List ℕ)) → Result Line Why
+line_of_split servers None = Err Syntax
+line_of_split servers (Some words) = line_of_words servers words
 
 -- an empty line, or a comment, which begins with `#`
 abbrev pub is_idle : List ℕ → Bool
 is_idle [] = true
 is_idle (b ∷ bytes) = b == 35
 
--- what a line means, or why it means nothing
-abbrev pub line_of : List ℕ → Result Line Why
-line_of bytes =
+-- what a line means where a cell of so many servers stands, or none, or why it means nothing
+abbrev pub line_of : (servers : ℕ) → List ℕ → Result Line Why
+line_of servers bytes =
     if nat_lt MAX_LINE (length bytes) then Err Syntax
-    else (if is_idle bytes then Ok line.Nothing else line_of_split (words_of bytes))
+    else (if is_idle bytes then Ok Nothing else line_of_split servers (words_of bytes))
 
 -- the numbers of a line are within their bounds
 abbrev pub HasBounds : Line → Type 0
-HasBounds (line.Cell clock) = IsMoment clock × (clock ≤ MAX_CLOCK)
-HasBounds (line.TickAll seconds) = (1 ≤ seconds) × (seconds ≤ MAX_TICK)
+HasBounds (Cell servers clock kind) = (1 ≤ servers) × (servers ≤ MAXSERVERS) × IsMoment clock × (clock ≤ MAX_CLOCK)
+HasBounds (Tick server seconds) = (1 ≤ seconds) × (seconds ≤ MAX_TICK)
+HasBounds (TickAll seconds) = (1 ≤ seconds) × (seconds ≤ MAX_TICK)
+HasBounds (Stop server calls f) = calls ≤ MAX_STOP
 HasBounds _ = Unit {0}

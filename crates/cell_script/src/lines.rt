@@ -1,18 +1,23 @@
 //! The lines of a script, understood.
-ghost use Rattle.std.specs.Prelude.{◌≡◌, IfOk, IfSome};
-ghost use Rattle.cell_script.specs.Meaning.{first_word_of, later_word_of, has_one_argument, server_of, cell_line, one_server, tick_all_line, turn_line, later_line, ask_line, line_of_words, is_idle, line_of, HasBounds};
+ghost use Rattle.std.specs.Prelude.{◌≡◌, IfOk};
+ghost use Rattle.cell_script.specs.Meaning.{ask_line, server_of, line_of_server, with_number, or_syntax, line_of_none, line_of_one, line_of_two, line_of_three, line_of_counted, whole_line, is_later, line_of_words, is_idle, line_of, HasBounds};
 
+use crate::arguments::{cell_line, server_of, stop_line};
 use crate::readers::MAX_LINE;
 use crate::splits::{Words, split_words};
+use disk_base::Fill;
 use script_words::{number, number_within};
 use std::alloc::Global;
-use ubik_types::{Bytes, MAXSERVERS, NoMemory};
+use ubik_types::{Bytes, NoMemory};
 
 /// The latest clock at which a cell is opened, in seconds.
 pub const MAX_CLOCK: u32 = 1_000_000_000;
 
 /// The most seconds of a line by which clocks go on.
 pub const MAX_TICK: u32 = 50_000;
+
+/// The most changing calls of a disk that a `stop` lets pass.
+pub const MAX_STOP: u32 = 1_000_000;
 
 /// Why a line of a script is refused: the first of these that holds, in the order syntax, unbuilt, number, cell,
 /// server, state, packet, skew.
@@ -37,45 +42,92 @@ pub enum Why {
     Unbuilt,
 }
 
-/// A line of a script, as far as this stage builds them. Servers are numbered from 1.
+/// What a database is of.
+#[derive(Clone, Copy, Debug, PartialEq, Eq)]
+pub enum Kind {
+    /// Where volumes are: `vl`.
+    Location,
+    /// Users and groups: `pt`.
+    Protection,
+}
+
+/// A line of a script. Servers and packets are numbered from 1; a packet of another number was never sent.
 #[derive(Drop)]
 pub enum Line {
     /// An empty line or a comment.
     Nothing,
-    /// Opens a cell of one server that keeps a protection database; the clock is in seconds.
-    Cell { clock: u32 },
+    /// Opens a cell of so many servers that keep a database of this kind; the clock is in seconds.
+    Cell {
+        servers: u32,
+        clock: u32,
+        kind: Kind,
+    },
+    /// Adds so many seconds to the clock of a server.
+    Tick {
+        server: u64,
+        seconds: u32,
+    },
     /// Adds so many seconds to all clocks.
-    TickAll { seconds: u32 },
+    TickAll {
+        seconds: u32,
+    },
     /// A beacon turn of a server.
-    Beacon { server: u64 },
+    Beacon {
+        server: u64,
+    },
     /// A recovery turn of a server.
-    Recover { server: u64 },
+    Recover {
+        server: u64,
+    },
+    /// Hands a packet to the server that it was sent to.
+    Deliver {
+        packet: u64,
+    },
+    /// Loses a packet.
+    Drop {
+        packet: u64,
+    },
+    /// Loses the packets that wait for a server.
+    DropAll {
+        server: u64,
+    },
+    /// Hands over the packets that wait, and those that are sent in answer.
+    DeliverAll,
     /// Asks a server a call, which is in words. The server is none where its word is no number of a server, which
     /// is judged after the call.
-    Ask { server: Option<u64>, call: Words },
+    Ask {
+        server: Option<u64>,
+        call: Words,
+    },
+    /// Arms the disk of a server: it lets so many changing calls pass and stops in the next one. The fill says what
+    /// that leaves of the bytes which were not synced.
+    Stop {
+        server: u64,
+        calls: u32,
+        fill: Fill,
+    },
+    /// Stops a server.
+    Crash {
+        server: u64,
+    },
+    /// Opens a server that is down.
+    Restart {
+        server: u64,
+    },
+    /// Tells the state of a server.
+    Show {
+        server: u64,
+    },
 }
 
-/// A turn of a server.
-#[derive(Clone, Copy)]
-enum Turn {
-    Beacon,
-    Recover,
-}
-
-/// The first word of a line.
-#[derive(Clone, Copy)]
-enum FirstWord {
-    Cell,
-    TickAll,
-    Turn(Turn),
-    Ask,
-    /// A line that is not built yet, which has so many further words.
-    Later { arguments: usize },
-}
-
-/// What a line means, or why it is refused, as far as the line alone tells. The error is want of memory.
-pub fn line_meaning(alloc: Global, line: &[u8]) -> Result<Result<Line, Why>, NoMemory>
-    ensures meaning { IfOk result (λ meaning. meaning ≡ line_of line.now) }
+/// What a line means where a cell of so many servers stands, 0 where none does; or why it is refused, as far as
+/// the line alone tells. The error is want of memory.
+pub fn line_meaning(
+    alloc: Global,
+    line: &[u8],
+    servers: usize,
+) -> Result<Result<Line, Why>, NoMemory>
+    ensures meaning { IfOk result (λ meaning. meaning ≡ line_of servers line.now) }
     ensures bounds { IfOk result (λ meaning. IfOk meaning HasBounds) }
 {
     if line.len() > MAX_LINE {
@@ -86,7 +138,7 @@ pub fn line_meaning(alloc: Global, line: &[u8]) -> Result<Result<Line, Why>, NoM
     }
     match split_words(alloc, line)? {
         None => Ok(Err(Why::Syntax)),
-        Some(words) => Ok(words_meaning(words)),
+        Some(words) => Ok(words_meaning(words, servers)),
     }
 }
 
@@ -100,131 +152,50 @@ fn is_idle(line: &[u8]) -> bool
     }
 }
 
-/// What a line of these words means.
-fn words_meaning(mut words: Words) -> Result<Line, Why>
-    ensures { result ≡ line_of_words words }
+/// What a line of these words means: that it is not built is judged after its syntax, and before its numbers.
+fn words_meaning(words: Words, servers: usize) -> Result<Line, Why>
+    ensures { result ≡ line_of_words servers words }
 {
-    let Some(first) = words.take_first() else {
-        return Err(Why::Syntax);
-    };
-    match first_word(first.as_slice()).or(later_word(first.as_slice())) {
-        None => Err(Why::Syntax),
-        Some(FirstWord::Cell) => cell_line(words.as_slice()),
-        Some(FirstWord::TickAll) => tick_all_line(words.as_slice()),
-        Some(FirstWord::Turn(turn)) => turn_line(turn, words.as_slice()),
-        Some(FirstWord::Ask) => ask_line(words),
-        Some(FirstWord::Later { arguments }) => later_line(arguments, words.as_slice()),
+    if !is_later(words.as_slice(), servers) {
+        return whole_line(words);
+    }
+    match whole_line(words) {
+        Ok(_) | Err(Why::Number) => Err(Why::Unbuilt),
+        Err(why) => Err(why),
     }
 }
 
-/// The first word of a line that is built.
-fn first_word(word: &[u8]) -> Option<FirstWord>
-    ensures { result ≡ first_word_of word.now }
+/// Whether a line of these words is not built yet: stops, crashes and openings, a location database, and recovery
+/// in a cell of several servers.
+fn is_later(words: &[Bytes], servers: usize) -> bool
+    ensures { result ≡ is_later servers words.now }
 {
-    match word {
-        b"cell" => Some(FirstWord::Cell),
-        b"tickall" => Some(FirstWord::TickAll),
-        b"beacon" => Some(FirstWord::Turn(Turn::Beacon)),
-        b"recover" => Some(FirstWord::Turn(Turn::Recover)),
-        b"ask" => Some(FirstWord::Ask),
-        _ => None,
-    }
-}
-
-/// The first word of a line that is not built yet.
-fn later_word(word: &[u8]) -> Option<FirstWord>
-    ensures { result ≡ later_word_of word.now }
-{
-    if has_one_argument(word) {
-        Some(FirstWord::Later { arguments: 1 })
-    } else if word == b"deliverall".as_slice() {
-        Some(FirstWord::Later { arguments: 0 })
-    } else if word == b"tick".as_slice() {
-        Some(FirstWord::Later { arguments: 2 })
-    } else if word == b"stop".as_slice() {
-        Some(FirstWord::Later { arguments: 3 })
-    } else {
-        None
-    }
-}
-
-/// Whether a line of this first word is not built yet, and has one further word.
-fn has_one_argument(word: &[u8]) -> bool
-    ensures { result ≡ has_one_argument word.now }
-{
-    word == b"deliver".as_slice()
-        || word == b"drop".as_slice()
-        || word == b"dropall".as_slice()
-        || word == b"crash".as_slice()
-        || word == b"restart".as_slice()
-        || word == b"show".as_slice()
-}
-
-/// `cell SERVERS CLOCK KIND`, where the kind is `pt` or `vl`. One server with `pt` is built.
-fn cell_line(arguments: &[Bytes]) -> Result<Line, Why>
-    ensures { result ≡ cell_line arguments.now }
-{
-    let [servers, clock, kind] = arguments else {
-        return Err(Why::Syntax);
-    };
-    match kind.as_slice() {
-        b"pt" => one_server(servers.as_slice(), clock.as_slice()),
-        b"vl" => Err(Why::Unbuilt),
-        _ => Err(Why::Syntax),
-    }
-}
-
-/// A cell of 1 to 20 servers, of which one is built, with a clock from 1 to [`MAX_CLOCK`].
-fn one_server(servers: &[u8], clock: &[u8]) -> Result<Line, Why>
-    ensures { result ≡ one_server servers.now clock.now }
-{
-    match number_within(servers, 1, MAXSERVERS as u32) {
-        None => Err(Why::Number),
-        Some(1) => match number_within(clock, 1, MAX_CLOCK) {
-            None => Err(Why::Number),
-            Some(clock) => Ok(Line::Cell { clock }),
+    match words {
+        [first, _] => match first.as_slice() {
+            b"crash" | b"restart" => true,
+            b"recover" => servers > 1,
+            _ => false,
         },
-        Some(_) => Err(Why::Unbuilt),
+        [first, _, _, last] => match first.as_slice() {
+            b"stop" => true,
+            b"cell" => last.as_slice() == b"vl".as_slice(),
+            _ => false,
+        },
+        _ => false,
     }
 }
 
-/// `tickall SECONDS`, 1 to [`MAX_TICK`].
-fn tick_all_line(arguments: &[Bytes]) -> Result<Line, Why>
-    ensures { result ≡ tick_all_line arguments.now }
+/// The line of these words, in the whole language.
+fn whole_line(mut words: Words) -> Result<Line, Why>
+    ensures { result ≡ whole_line words }
 {
-    let [seconds] = arguments else {
-        return Err(Why::Syntax);
-    };
-    match number_within(seconds.as_slice(), 1, MAX_TICK) {
-        None => Err(Why::Number),
-        Some(seconds) => Ok(Line::TickAll { seconds }),
-    }
-}
-
-/// `beacon SERVER` or `recover SERVER`.
-fn turn_line(turn: Turn, arguments: &[Bytes]) -> Result<Line, Why>
-    ensures { result ≡ turn_line turn arguments.now }
-{
-    let [server] = arguments else {
-        return Err(Why::Syntax);
-    };
-    match server_number(server.as_slice()) {
-        None => Err(Why::Number),
-        Some(server) => Ok(match turn {
-            Turn::Beacon => Line::Beacon { server },
-            Turn::Recover => Line::Recover { server },
-        }),
-    }
-}
-
-/// A line that is not built yet, which has so many further words.
-fn later_line(count: usize, arguments: &[Bytes]) -> Result<Line, Why>
-    ensures { result ≡ later_line count arguments.now }
-{
-    if arguments.len() == count {
-        Err(Why::Unbuilt)
-    } else {
-        Err(Why::Syntax)
+    match words.as_slice() {
+        [] => Err(Why::Syntax),
+        [first, ..] if first.as_slice() == b"ask".as_slice() => {
+            let _ = words.take_first();
+            ask_line(words)
+        }
+        [first, arguments @ ..] => line_of_counted(first.as_slice(), arguments),
     }
 }
 
@@ -232,122 +203,104 @@ fn later_line(count: usize, arguments: &[Bytes]) -> Result<Line, Why>
 fn ask_line(mut arguments: Words) -> Result<Line, Why>
     ensures { result ≡ ask_line arguments }
 {
-    let Some(first) = arguments.take_first() else {
-        return Err(Why::Syntax);
-    };
+    let first = arguments.take_first().ok_or(Why::Syntax)?;
     if arguments.as_slice().is_empty() {
         return Err(Why::Syntax);
     }
-    Ok(Line::Ask {
-        server: server_number(first.as_slice()),
-        call: arguments,
-    })
+    let server = server_of(first.as_slice());
+    let call = arguments;
+    Ok(Line::Ask { server, call })
 }
 
-/// The number of a server, from 1 on.
-fn server_number(word: &[u8]) -> Option<u64>
-    ensures { result ≡ server_of word.now }
+/// A line by its first word and how many words stand behind it.
+fn line_of_counted(first: &[u8], arguments: &[Bytes]) -> Result<Line, Why>
+    ensures { result ≡ line_of_counted first.now arguments.now }
 {
-    match number(word)? {
-        0 => None,
-        server => Some(server),
+    match arguments {
+        [] => line_of_none(first),
+        [a] => line_of_one(first, a.as_slice()),
+        [a, b] => line_of_two(first, a.as_slice(), b.as_slice()),
+        [a, b, c] => line_of_three(first, a.as_slice(), b.as_slice(), c.as_slice()),
+        _ => Err(Why::Syntax),
     }
 }
 
-#[cfg(test)]
-mod tests {
-    use super::*;
-    use std::test::Fail;
-
-    /// A line without its words: what it does, its number, and how many words a call has.
-    fn outline(line: &Line) -> (&'static str, u64, usize) {
-        match line {
-            Line::Nothing => ("nothing", 0, 0),
-            Line::Cell { clock } => ("cell", u64::from(*clock), 0),
-            Line::TickAll { seconds } => ("tickall", u64::from(*seconds), 0),
-            Line::Beacon { server } => ("beacon", *server, 0),
-            Line::Recover { server } => ("recover", *server, 0),
-            Line::Ask { server, call } => ("ask", server.unwrap_or(0), call.as_slice().len()),
-        }
+/// `deliverall`.
+fn line_of_none(first: &[u8]) -> Result<Line, Why>
+    ensures { result ≡ line_of_none first.now }
+{
+    match first {
+        b"deliverall" => Ok(Line::DeliverAll),
+        _ => Err(Why::Syntax),
     }
+}
 
-    fn seen(meaning: &Result<Line, Why>) -> Result<(&'static str, u64, usize), Why> {
-        match meaning {
-            Ok(line) => Ok(outline(line)),
-            Err(why) => Err(*why),
-        }
+/// `tickall SECONDS`, 1 to [`MAX_TICK`]; `deliver PACKET` or `drop PACKET`; or a line that names a server.
+fn line_of_one(first: &[u8], word: &[u8]) -> Result<Line, Why>
+    ensures { result ≡ line_of_one first.now word.now }
+{
+    match first {
+        b"tickall" => Ok(Line::TickAll {
+            seconds: number_within(word, 1, MAX_TICK).ok_or(Why::Number)?,
+        }),
+        b"deliver" => Ok(Line::Deliver {
+            packet: number(word).ok_or(Why::Number)?,
+        }),
+        b"drop" => Ok(Line::Drop {
+            packet: number(word).ok_or(Why::Number)?,
+        }),
+        _ => line_at_server(first, word),
     }
+}
 
-    #[test]
-    fn understands_lines(rt: HostRuntime) -> Result<(), Fail> {
-        for (line, want) in [
-            ("", ("nothing", 0, 0)),
-            ("# cell", ("nothing", 0, 0)),
-            ("cell 1 1000 pt", ("cell", 1000, 0)),
-            ("tickall \t 76", ("tickall", 76, 0)),
-            ("beacon 1", ("beacon", 1, 0)),
-            ("recover 21", ("recover", 21, 0)),
-            ("beacon 18446744073709551615", ("beacon", u64::MAX, 0)),
-            ("ask 1 newentry smith 0 0", ("ask", 1, 4)),
-            ("ask 0 nametoid", ("ask", 0, 1)),
-        ] {
-            let meaning = line_meaning(rt.alloc(), line.as_bytes())?;
-            assert_eq!(rt; seen(&meaning), Ok(want), "at {line}");
-        }
-        Ok(())
+/// The name of a turn, a loss, a crash, an opening or a showing, and a server.
+fn line_at_server(first: &[u8], word: &[u8]) -> Result<Line, Why>
+    ensures { result ≡ or_syntax (with_number (line_of_server first.now) (server_of word.now)) }
+{
+    match first {
+        b"beacon" => Ok(Line::Beacon {
+            server: server_of(word).ok_or(Why::Number)?,
+        }),
+        b"recover" => Ok(Line::Recover {
+            server: server_of(word).ok_or(Why::Number)?,
+        }),
+        b"dropall" => Ok(Line::DropAll {
+            server: server_of(word).ok_or(Why::Number)?,
+        }),
+        b"crash" => Ok(Line::Crash {
+            server: server_of(word).ok_or(Why::Number)?,
+        }),
+        b"restart" => Ok(Line::Restart {
+            server: server_of(word).ok_or(Why::Number)?,
+        }),
+        b"show" => Ok(Line::Show {
+            server: server_of(word).ok_or(Why::Number)?,
+        }),
+        _ => Err(Why::Syntax),
     }
+}
 
-    #[test]
-    fn tells_why_a_line_is_refused(rt: HostRuntime) -> Result<(), Fail> {
-        for (why, lines) in [
-            (
-                Why::Syntax,
-                [
-                    " ",
-                    "beacon 1 ",
-                    "dance 1",
-                    "cell 1 1000",
-                    "cell 0 0 ka",
-                    "ask 1",
-                    "tick 1",
-                    "deliverall 1",
-                    "stop 1 0",
-                ],
-            ),
-            (
-                Why::Unbuilt,
-                [
-                    "cell 1 0 vl",
-                    "cell 0 x vl",
-                    "cell 2 0 pt",
-                    "cell 20 x pt",
-                    "show x",
-                    "deliverall",
-                    "tick 0 0",
-                    "stop 1 0 mad",
-                    "drop 0",
-                ],
-            ),
-            (
-                Why::Number,
-                [
-                    "cell 0 1000 pt",
-                    "cell 21 1000 pt",
-                    "cell 1 0 pt",
-                    "cell 1 1000000001 pt",
-                    "tickall 50001",
-                    "tickall 05",
-                    "beacon 0",
-                    "recover one",
-                    "recover 18446744073709551616",
-                ],
-            ),
-        ] {
-            for line in lines {
-                let meaning = line_meaning(rt.alloc(), line.as_bytes())?;
-                assert_eq!(rt; seen(&meaning), Err(why), "at {line}");
-            }
+/// `tick SERVER SECONDS`, with 1 to [`MAX_TICK`] seconds.
+fn line_of_two(first: &[u8], server: &[u8], seconds: &[u8]) -> Result<Line, Why>
+    ensures { result ≡ line_of_two first.now server.now seconds.now }
+{
+    match first {
+        b"tick" => {
+            let server = server_of(server).ok_or(Why::Number)?;
+            let seconds = number_within(seconds, 1, MAX_TICK).ok_or(Why::Number)?;
+            Ok(Line::Tick { server, seconds })
         }
-        Ok(())
+        _ => Err(Why::Syntax),
+    }
+}
+
+/// `cell SERVERS CLOCK KIND` or `stop SERVER CALLS FILL`.
+fn line_of_three(first: &[u8], a: &[u8], b: &[u8], c: &[u8]) -> Result<Line, Why>
+    ensures { result ≡ line_of_three first.now a.now b.now c.now }
+{
+    match first {
+        b"cell" => cell_line(a, b, c),
+        b"stop" => stop_line(a, b, c),
+        _ => Err(Why::Syntax),
     }
 }

@@ -1,5 +1,5 @@
 -- In which block a position lies.
-use Rattle.std.proofs.Common.{◌≡◌, ℕ, suc, zero, ◌+◌, ◌-◌, ◌*◌, ◌/◌, ◌%◌, ◌<◌, ◌≤◌, true, false, cond, sym, ap, ◌∙◌, refl, ⊎_elim, arith}
+use Rattle.std.proofs.Common.{◌≡◌, ℕ, suc, zero, ◌+◌, ◌-◌, ◌*◌, ◌/◌, ◌%◌, ◌<◌, ◌≤◌, sym, ap, ◌∙◌, ⊎_elim, arith}
 use Rattle.std.proofs.lemmas.Bool.{cases_lt}
 use Rattle.std.proofs.Math.Nat.{mul_comm, mul-suc}
 use Rattle.std.proofs.lemmas.Nat.{div-mul-add}
@@ -50,12 +50,12 @@ pub lies_in : (l : Layout) (at : ℕ) → 0 < l.block
     → (block_start l (block_number l at) ≤ at) × (at < block_start l (block_number l at) + block_size l (block_number l at))
 lies_in l at some =
     ⊎_elim
-      (λ (head : at < l.head). rw (number_in_head l at head) (omega arith, omega arith))
-      (λ (behind : l.head ≤ at).
-        let k : ℕ = (at - l.head) / l.block in
-        let parts : l.block * k + (at - l.head) % l.block ≡ at - l.head = omega arith in
-        rw (number_behind l at behind) (omega (arith, parts), omega (arith, parts)))
-      (cases_lt at l.head)
+    (λ (head : at < l.head). rw (number_in_head l at head) (omega arith, omega arith))
+    (λ (behind : l.head ≤ at).
+    let k : ℕ = (at - l.head) / l.block in
+    let parts : l.block * k + (at - l.head) % l.block ≡ at - l.head = omega arith in
+    rw (number_behind l at behind) (omega (arith, parts), omega (arith, parts)))
+    (cases_lt at l.head)
 
 start_next : (l : Layout) (k : ℕ) → block_start l (suc k) ≡ block_start l k + block_size l k
 start_next l zero = omega arith

@@ -1,5 +1,5 @@
 -- The bytes of a draft, one by one.
-use Rattle.std.proofs.Common.{◌≡◌, ℕ, suc, zero, ◌+◌, ◌-◌, ◌<◌, ◌≤◌, Option, Some, None, List, length, slice_index, refl, sym, ap, ◌∙◌, arith}
+use Rattle.std.proofs.Common.{◌≡◌, ℕ, ◌+◌, ◌-◌, ◌<◌, ap, ◌∙◌, arith}
 use Rattle.db_image.specs.declared.overlays.Overlay.{Overlay}
 use Rattle.db_image.specs.Places.{block_number, block_start, block_size}
 use Rattle.db_image.specs.Draft.{changed_at, byte_of, byte_over}

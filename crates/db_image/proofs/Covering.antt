@@ -22,13 +22,13 @@ pub padded_front : (held : Option (List ℕ)) (size at n : ℕ) (cleared now : L
 padded_front None size at n cleared now told count zero behind front = tt
 padded_front (Some bytes) size at n cleared now told count zero behind front = λ i below.
     ⊎_elim
-      (λ (before : i < n).
-        sym (get_or-take n now i 0 before) ∙ ap (λ (xs : List ℕ). slice_index xs i) front ∙ get_or-take n (drop at bytes) i 0 before ∙ get_or-drop at bytes i 0)
-      (λ (past : n ≤ i).
-        let e : n + (i - n) ≡ i = omega arith in
-        ap (slice_index now) (sym e) ∙ sym (get_or-drop n now (i - n) 0) ∙ ap (λ (xs : List ℕ). slice_index xs (i - n)) behind ∙ get_or-drop n cleared (i - n) 0
-        ∙ zero (n + (i - n)) ∙ sym (get_or_past bytes (at + i) 0 (omega (arith, told, count, past, below))))
-      (cases_lt i n)
+    (λ (before : i < n).
+    sym (get_or-take n now i 0 before) ∙ ap (λ (xs : List ℕ). slice_index xs i) front ∙ get_or-take n (drop at bytes) i 0 before ∙ get_or-drop at bytes i 0)
+    (λ (past : n ≤ i).
+    let e : n + (i - n) ≡ i = omega arith in
+    ap (slice_index now) (sym e) ∙ sym (get_or-drop n now (i - n) 0) ∙ ap (λ (xs : List ℕ). slice_index xs (i - n)) behind ∙ get_or-drop n cleared (i - n) 0
+    ∙ zero (n + (i - n)) ∙ sym (get_or_past bytes (at + i) 0 (omega (arith, told, count, past, below))))
+    (cases_lt i n)
 
 pub bytes_len : (o : Overlay) (beneath : List ℕ) → length (bytes_over o beneath) ≡ o.len
 unfolding bytes_over
@@ -46,10 +46,10 @@ read_is (Some bytes) o at n padded now within len long shows covered =
     let all : List ℕ = bytes_over o bytes in
     let whole : length (take n (drop at all)) ≡ n = length-take-le n (drop at all) (omega (arith, length-drop at all, bytes_len o bytes)) in
     ext_get_or 0 now (take n (drop at all)) (len ∙ sym whole) (λ i below.
-      covered i below
-      ∙ ap (byte_over o (at + i)) (shows i (omega arith))
-      ∙ sym (bytes_at o bytes (at + i) (omega arith))
-      ∙ sym (get_or-take n (drop at all) i 0 (omega arith) ∙ get_or-drop at all i 0))
+    covered i below
+    ∙ ap (byte_over o (at + i)) (shows i (omega arith))
+    ∙ sym (bytes_at o bytes (at + i) (omega arith))
+    ∙ sym (get_or-take n (drop at all) i 0 (omega arith) ∙ get_or-drop at all i 0))
 
 pub full_of : (o : Overlay) (size : ℕ) (held : Option (List ℕ)) → IsLaid o size held → IsFull o
 full_of o size held laid k b is = (laid.each k b is).full
@@ -59,9 +59,9 @@ pub over_none : (held : Option (List ℕ)) (o : Overlay) → ((k : ℕ) → chan
 over_none None o none told = refl
 over_none (Some bytes) o none told =
     ap Some (ext_get_or 0 (bytes_over o bytes) bytes (bytes_len o bytes ∙ sym told) (λ i below.
-      bytes_at o bytes i (omega (arith, below, bytes_len o bytes))
-      ∙ byte_is o i (slice_index bytes i)
-      ∙ ap (λ (b : Option ChangedBlock). byte_of b (i - block_start o.layout (block_number o.layout i)) (slice_index bytes i)) (none (block_number o.layout i))))
+    bytes_at o bytes i (omega (arith, below, bytes_len o bytes))
+    ∙ byte_is o i (slice_index bytes i)
+    ∙ ap (λ (b : Option ChangedBlock). byte_of b (i - block_start o.layout (block_number o.layout i)) (slice_index bytes i)) (none (block_number o.layout i))))
 
 pub over_told : (held : Option (List ℕ)) (o : Overlay) → IfSome (option_map (bytes_over o) held) (λ bytes. length bytes ≡ o.len)
 over_told None o = tt

@@ -1,15 +1,15 @@
 -- Bytes that are laid over changed blocks.
-use Rattle.std.proofs.Common.{◌≡◌, ◌≢◌, ℕ, ◌+◌, ◌-◌, ◌<◌, ◌≤◌, Option, Some, None, IsSome, IsSomeAnd, IfSome, List, [], ◌++◌, length, slice_index, take, drop, refl, sym, ap, subst, ◌∙◌, ⊎_elim, arith}
+use Rattle.std.proofs.Common.{◌≡◌, ◌≢◌, ℕ, ◌+◌, ◌-◌, ◌<◌, ◌≤◌, Option, Some, None, IsSome, IsSomeAnd, IfSome, List, ◌++◌, length, slice_index, take, drop, refl, sym, ap, subst, ◌∙◌, ⊎_elim, arith}
 use Rattle.std.proofs.Math.Seq.{take-add}
 use Rattle.std.proofs.lemmas.Bool.{cases_lt, cases_eq}
-use Rattle.std.proofs.lemmas.List.{places, length-append, length-take-le, take_all}
+use Rattle.std.proofs.lemmas.List.{places, length-append, length-take-le}
 use Rattle.db_image.specs.declared.overlays.Overlay.{Overlay}
 use Rattle.db_image.specs.declared.overlays.ChangedBlock.{ChangedBlock}
 use Rattle.db_image.specs.declared.services.Layout.{Layout}
 use Rattle.db_image.specs.declared.places.Place.{Place}
 use Rattle.db_image.specs.Places.{block_number, block_start, block_size, IsPlace}
 use Rattle.db_image.specs.Draft.{changed_at, byte_of, byte_over, IsFull, IsLaidOver, Replaces, Lays}
-use Rattle.db_image.proofs.BlockNumbers.{lies_in, number_same}
+use Rattle.db_image.proofs.BlockNumbers.{lies_in}
 use Rattle.db_image.proofs.Bytes.{byte_in}
 use Rattle.db_image.proofs.Loading.{byte_stays, is_kept}
 
@@ -42,11 +42,11 @@ each_part : (o n : Overlay) (number : ℕ) (b c : ChangedBlock) (k : ℕ) (d : C
     → changed_at n k ≡ Some d → Before o k d
 each_part o n number b c k d was replaces old is =
     ⊎_elim
-      (λ (same : k ≡ number).
-        let this : c ≡ d = cc (replaces.here, is, same) in
-        (b, ap (changed_at o) same ∙ was, sym (ap (λ (x : ChangedBlock). x.old.items) this) ∙ old))
-      (λ (other : k ≢ number). (d, sym (replaces.others k other) ∙ is, refl))
-      (cases_eq k number)
+    (λ (same : k ≡ number).
+    let this : c ≡ d = cc (replaces.here, is, same) in
+    (b, ap (changed_at o) same ∙ was, sym (ap (λ (x : ChangedBlock). x.old.items) this) ∙ old))
+    (λ (other : k ≢ number). (d, sym (replaces.others k other) ∙ is, refl))
+    (cases_eq k number)
 
 -- one loop step after another
 pub lays_none : (o : Overlay) (at : ℕ) (bytes : List ℕ) → Lays at (take 0 bytes) o o
@@ -63,18 +63,18 @@ lays_none o at bytes = record {
 pub lays_then : (o m n : Overlay) (at : ℕ) (xs ys : List ℕ) → Lays at xs o m → Lays (at + length xs) ys m n → Lays at (xs ++ ys) o n
 lays_then o m n at xs ys first then = record {
   inside = λ i beneath below.
-    ⊎_elim
+      ⊎_elim
       (λ (front : i < length xs).
-        then.before (at + i) beneath (omega arith) ∙ first.inside i beneath front ∙ grind (arith, places))
+      then.before (at + i) beneath (omega arith) ∙ first.inside i beneath front ∙ grind (arith, places))
       (λ (back : length xs ≤ i).
-        let e : at + length xs + (i - length xs) ≡ at + i = omega arith in
-        let within : i - length xs < length ys = omega (arith, below, length-append xs ys) in
-        ap (λ (p : ℕ). byte_over n p beneath) (sym e) ∙ then.inside (i - length xs) beneath within ∙ grind (arith, places))
+      let e : at + length xs + (i - length xs) ≡ at + i = omega arith in
+      let within : i - length xs < length ys = omega (arith, below, length-append xs ys) in
+      ap (λ (p : ℕ). byte_over n p beneath) (sym e) ∙ then.inside (i - length xs) beneath within ∙ grind (arith, places))
       (cases_lt i (length xs));
   before = λ p beneath h. then.before p beneath (omega arith) ∙ first.before p beneath h;
   behind = λ p beneath h.
-    let far : at + length xs + length ys ≤ p = omega (arith, h, length-append xs ys) in
-    then.behind p beneath far ∙ first.behind p beneath (omega arith);
+      let far : at + length xs + length ys ≤ p = omega (arith, h, length-append xs ys) in
+      then.behind p beneath far ∙ first.behind p beneath (omega arith);
   len = then.len ∙ first.len;
   layout = then.layout ∙ first.layout;
   kept = λ k h. then.kept k (first.kept k h);
@@ -86,7 +86,7 @@ stays_in : (o n : Overlay) (k : ℕ) (b c : ChangedBlock) (q beneath : ℕ) → 
     → slice_index c.new.items (q - block_start o.layout k) ≡ slice_index b.new.items (q - block_start o.layout k) → byte_over n q beneath ≡ byte_over o q beneath
 stays_in o n k b c q beneath some was replaces here same =
     let lies : (block_start o.layout k ≤ q) × (q < block_start o.layout k + block_size o.layout k) =
-        subst (λ (r : ℕ). (block_start o.layout r ≤ q) × (q < block_start o.layout r + block_size o.layout r)) here (lies_in o.layout q some) in
+    subst (λ (r : ℕ). (block_start o.layout r ≤ q) × (q < block_start o.layout r + block_size o.layout r)) here (lies_in o.layout q some) in
     let i : ℕ = q - block_start o.layout k in
     let e : block_start o.layout k + i ≡ q = omega (arith, lies.0) in
     byte_in n k i q beneath (rw replaces.layout e) (rw replaces.layout (omega (arith, lies.1, lies.0)))
@@ -106,24 +106,24 @@ pub lays_part : (o n : Overlay) (at : ℕ) (p : Place) (bytes : List ℕ) (b c :
     → length b.new.items ≡ block_size o.layout p.number → Lays at bytes o n
 lays_part o n at p bytes b c some place was replaces laid fits full = record {
   inside = λ i beneath below.
-    byte_in n p.number (p.offset + i) (at + i) beneath (rw replaces.layout (omega (arith, place.offset))) (rw replaces.layout (omega (arith, below, fits, full)))
-    ∙ ap (λ (d : Option ChangedBlock). byte_of d (p.offset + i) beneath) replaces.here
-    ∙ ap (λ (xs : List ℕ). slice_index xs (p.offset + i)) laid.new
-    ∙ over_at b.new.items bytes p.offset i fits below;
+      byte_in n p.number (p.offset + i) (at + i) beneath (rw replaces.layout (omega (arith, place.offset))) (rw replaces.layout (omega (arith, below, fits, full)))
+      ∙ ap (λ (d : Option ChangedBlock). byte_of d (p.offset + i) beneath) replaces.here
+      ∙ ap (λ (xs : List ℕ). slice_index xs (p.offset + i)) laid.new
+      ∙ over_at b.new.items bytes p.offset i fits below;
   before = λ q beneath h.
-    ⊎_elim
+      ⊎_elim
       (λ (here : block_number o.layout q ≡ p.number).
-        stays_in o n p.number b c q beneath some was replaces here
-          (ap (λ (xs : List ℕ). slice_index xs (q - block_start o.layout p.number)) laid.new
-           ∙ over_before b.new.items bytes p.offset (q - block_start o.layout p.number) fits (before_part o.layout q at p some place here h)))
+      stays_in o n p.number b c q beneath some was replaces here
+      (ap (λ (xs : List ℕ). slice_index xs (q - block_start o.layout p.number)) laid.new
+      ∙ over_before b.new.items bytes p.offset (q - block_start o.layout p.number) fits (before_part o.layout q at p some place here h)))
       (λ (other : block_number o.layout q ≢ p.number). byte_stays o n q beneath replaces.layout (replaces.others _ other))
       (cases_eq (block_number o.layout q) p.number);
   behind = λ q beneath h.
-    ⊎_elim
+      ⊎_elim
       (λ (here : block_number o.layout q ≡ p.number).
-        stays_in o n p.number b c q beneath some was replaces here
-          (ap (λ (xs : List ℕ). slice_index xs (q - block_start o.layout p.number)) laid.new
-           ∙ over_behind b.new.items bytes p.offset (q - block_start o.layout p.number) fits (omega (arith, h, place.offset))))
+      stays_in o n p.number b c q beneath some was replaces here
+      (ap (λ (xs : List ℕ). slice_index xs (q - block_start o.layout p.number)) laid.new
+      ∙ over_behind b.new.items bytes p.offset (q - block_start o.layout p.number) fits (omega (arith, h, place.offset))))
       (λ (other : block_number o.layout q ≢ p.number). byte_stays o n q beneath replaces.layout (replaces.others _ other))
       (cases_eq (block_number o.layout q) p.number);
   len = replaces.len;
@@ -147,7 +147,7 @@ lays_from o n at p bytes some here others len layout positive place full fits =
     let two = pair_of (changed_at o p.number) (changed_at n p.number) p.offset bytes (subst (λ (k : ℕ). IsSome (changed_at o k)) (sym place.number) some) here in
     let whole : length two.0.new.items ≡ block_size o.layout p.number = full p.number two.0 two.2 in
     lays_part o n at p bytes two.0 two.1 positive place two.2
-      (record { here = two.3; others = others; len = len; layout = layout }) two.4 (omega (arith, whole, place.size, fits)) whole
+    (record { here = two.3; others = others; len = len; layout = layout }) two.4 (omega (arith, whole, place.size, fits)) whole
 
 -- one part more was laid
 pub lays_more : (o m n : Overlay) (at done count : ℕ) (bytes : List ℕ) → done ≤ length bytes → Lays at (take done bytes) o m → Lays (at + done) (take count (drop done bytes)) m n
@@ -155,4 +155,4 @@ pub lays_more : (o m n : Overlay) (at done count : ℕ) (bytes : List ℕ) → d
 lays_more o m n at done count bytes within first then =
     subst (λ (xs : List ℕ). Lays at xs o n) (sym (take-add done count bytes))
     (lays_then o m n at (take done bytes) (take count (drop done bytes)) first
-      (subst (λ (d : ℕ). Lays (at + d) (take count (drop done bytes)) m n) (sym (length-take-le done bytes within)) then))
+    (subst (λ (d : ℕ). Lays (at + d) (take count (drop done bytes)) m n) (sym (length-take-le done bytes within)) then))

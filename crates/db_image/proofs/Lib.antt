@@ -1,7 +1,6 @@
 pub mod BlockNumbers
 pub mod Bytes
 pub mod Covering
-pub mod Folds
 pub mod Laid
 pub mod Laying
 pub mod Loading

@@ -1,5 +1,5 @@
 -- A block that is loaded: the draft has the same bytes.
-use Rattle.std.proofs.Common.{◌≡◌, ◌≢◌, ℕ, ◌+◌, ◌-◌, ◌<◌, ◌≤◌, min, Option, Some, None, IsSome, is_some, false, List, ◌++◌, length, slice_index, take, drop, replicate, refl, sym, ap, subst, ◌∙◌, ⊎_elim, arith}
+use Rattle.std.proofs.Common.{◌≡◌, ◌≢◌, ℕ, ◌+◌, ◌-◌, ◌<◌, ◌≤◌, min, Option, Some, None, IsSome, is_some, false, List, ◌++◌, length, slice_index, replicate, refl, sym, ap, subst, ◌∙◌, ⊎_elim, arith}
 use Rattle.std.specs.Option.{ForSome}
 use Rattle.std.proofs.lemmas.Bool.{cases_lt, cases_eq}
 use Rattle.std.proofs.lemmas.List.{places, length-append, length-replicate}
@@ -26,9 +26,9 @@ padded_at : (bytes : List ℕ) (start size i : ℕ) → i < size
     → slice_index (block_at bytes start size ++ replicate (size - length (block_at bytes start size)) 0) i ≡ slice_index bytes (start + i)
 padded_at bytes start size i within =
     ⊎_elim
-      (λ (there : i < length (block_at bytes start size)). grind (arith, places))
-      (λ (past : length (block_at bytes start size) ≤ i). padded_past (block_at bytes start size) _ i past ∙ grind (arith, places))
-      (cases_lt i (length (block_at bytes start size)))
+    (λ (there : i < length (block_at bytes start size)). grind (arith, places))
+    (λ (past : length (block_at bytes start size) ≤ i). padded_past (block_at bytes start size) _ i past ∙ grind (arith, places))
+    (cases_lt i (length (block_at bytes start size)))
 
 -- what the byte at a position is, by its block
 pub byte_is : (o : Overlay) (at beneath : ℕ) → byte_over o at beneath ≡ byte_of (changed_at o (block_number o.layout at)) (at - block_start o.layout (block_number o.layout at)) beneath
@@ -65,9 +65,9 @@ keeps_same o n beneath keeps = record {
 pub is_kept : (o n : Overlay) (k : ℕ) (b : ChangedBlock) (q : ℕ) → Replaces k b o n → IsSome (changed_at o q) → IsSome (changed_at n q)
 is_kept o n k b q replaces is =
     ⊎_elim
-      (λ (same : q ≡ k). rw (same, replaces.here) refl)
-      (λ (other : q ≢ k). rw (replaces.others q other) is)
-      (cases_eq q k)
+    (λ (same : q ≡ k). rw (same, replaces.here) refl)
+    (λ (other : q ≢ k). rw (replaces.others q other) is)
+    (cases_eq q k)
 
 -- a byte of a block that was loaded is that beneath
 loaded_byte : (o n : Overlay) (size : ℕ) (bytes : List ℕ) (k : ℕ) (b : ChangedBlock) (at : ℕ) → 0 < o.layout.block → changed_at o k ≡ None → Replaces k b o n
@@ -75,15 +75,15 @@ loaded_byte : (o n : Overlay) (size : ℕ) (bytes : List ℕ) (k : ℕ) (b : Cha
     → block_number o.layout at ≡ k → byte_over n at (slice_index bytes at) ≡ byte_over o at (slice_index bytes at)
 loaded_byte o n size bytes k b at some absent replaces old new here =
     let lies : (block_start o.layout k ≤ at) × (at < block_start o.layout k + block_size o.layout k) =
-        subst (λ (q : ℕ). (block_start o.layout q ≤ at) × (at < block_start o.layout q + block_size o.layout q)) here (lies_in o.layout at some) in
+    subst (λ (q : ℕ). (block_start o.layout q ≤ at) × (at < block_start o.layout q + block_size o.layout q)) here (lies_in o.layout at some) in
     let i : ℕ = at - block_start o.layout k in
     let e : block_start o.layout k + i ≡ at = omega (arith, lies.0) in
     let x : ℕ = slice_index bytes at in
     let after : byte_over n at x ≡ slice_index b.new.items i =
-        byte_in n k i at x (rw replaces.layout e) (rw replaces.layout (omega (arith, lies.1, lies.0)))
-        ∙ ap (λ (c : Option ChangedBlock). byte_of c i x) replaces.here in
+    byte_in n k i at x (rw replaces.layout e) (rw replaces.layout (omega (arith, lies.1, lies.0)))
+    ∙ ap (λ (c : Option ChangedBlock). byte_of c i x) replaces.here in
     let before : byte_over o at x ≡ x =
-        byte_in o k i at x e (omega (arith, lies.1, lies.0)) ∙ ap (λ (c : Option ChangedBlock). byte_of c i x) absent in
+    byte_in o k i at x e (omega (arith, lies.1, lies.0)) ∙ ap (λ (c : Option ChangedBlock). byte_of c i x) absent in
     after
     ∙ ap (λ (c : List ℕ). slice_index c i) (new ∙ ap (λ (c : List ℕ). c ++ replicate (block_size o.layout k - length c) 0) old)
     ∙ padded_at bytes (block_start o.layout k) (block_size o.layout k) i (omega (arith, lies.1, lies.0))
@@ -105,12 +105,12 @@ loads_laid o n size beneath k b laid replaces fresh = record {
   told = laid.told;
   longer = rw replaces.len laid.longer;
   each = λ q c is.
-    rw (replaces.layout, replaces.len)
-    (⊎_elim
+      rw (replaces.layout, replaces.len)
+      (⊎_elim
       (λ (same : q ≡ k).
-        let this : b ≡ c = cc (replaces.here, is, same) in
-        subst (λ (d : ChangedBlock). IsChanged o.layout o.len beneath q d) this
-        (subst (λ (r : ℕ). IsChanged o.layout o.len beneath r b) (sym same) (fresh_is_changed o.layout size o.len beneath k b laid.longer fresh)))
+      let this : b ≡ c = cc (replaces.here, is, same) in
+      subst (λ (d : ChangedBlock). IsChanged o.layout o.len beneath q d) this
+      (subst (λ (r : ℕ). IsChanged o.layout o.len beneath r b) (sym same) (fresh_is_changed o.layout size o.len beneath k b laid.longer fresh)))
       (λ (other : q ≢ k). laid.each q c (sym (replaces.others q other) ∙ is))
       (cases_eq q k));
   grown = λ grows. rw replaces.layout (is_kept o n k b (block_number o.layout size) replaces (laid.grown (omega (arith, replaces.len))));
@@ -120,7 +120,7 @@ pub loads_same : (o n : Overlay) (size : ℕ) (beneath : Option (List ℕ)) (k :
     → IsFresh o.layout size beneath k b → SameBytes beneath o n
 loads_same o n size beneath k b some absent replaces fresh = record {
   bytes = λ bytes is at.
-    ⊎_elim
+      ⊎_elim
       (λ (same : block_number o.layout at ≡ k). loaded_byte o n size bytes k b at some absent replaces (fresh.bytes bytes is) fresh.new same)
       (λ (other : block_number o.layout at ≢ k). byte_stays o n at (slice_index bytes at) replaces.layout (replaces.others _ other))
       (cases_eq (block_number o.layout at) k);

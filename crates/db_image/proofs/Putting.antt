@@ -1,5 +1,5 @@
 -- A put: the draft afterwards, and its bytes.
-use Rattle.std.proofs.Common.{◌≡◌, ◌≢◌, ℕ, ◌+◌, ◌-◌, ◌<◌, ◌≤◌, max, Option, Some, None, Result, Ok, Err, OnErr, IsSome, IfSome, List, ◌++◌, length, slice_index, take, drop, replicate, refl, sym, ap, subst, ◌∙◌, ⊎_elim, arith}
+use Rattle.std.proofs.Common.{◌≡◌, ℕ, ◌+◌, ◌-◌, ◌<◌, ◌≤◌, max, Option, Some, None, Result, Ok, Err, OnErr, IsSome, IfSome, List, length, slice_index, refl, sym, ap, ◌∙◌, ⊎_elim, arith}
 use Rattle.std.proofs.lemmas.Bool.{cases_lt}
 use Rattle.std.proofs.lemmas.List.{places, ext_get_or, get_or_past}
 use Rattle.ubik_types.specs.Image.{changed}
@@ -25,14 +25,14 @@ raised_laid o n end size beneath laid raises grown = record {
   told = laid.told;
   longer = omega (arith, laid.longer, raises.len);
   each = λ k b is.
-    let before : IsChanged o.layout o.len beneath k b = laid.each k b (sym (raises.blocks k) ∙ is) in
-    rw raises.layout record {
-      full = before.full;
-      zero = λ i past. before.zero i (omega (arith, past, raises.len));
-      old = before.old;
-    };
+      let before : IsChanged o.layout o.len beneath k b = laid.each k b (sym (raises.blocks k) ∙ is) in
+      rw raises.layout record {
+        full = before.full;
+        zero = λ i past. before.zero i (omega (arith, past, raises.len));
+        old = before.old;
+      };
   grown = λ grows. rw (raises.layout, raises.blocks (block_number o.layout size))
-    (⊎_elim
+      (⊎_elim
       (λ (was : size < o.len). laid.grown was)
       (λ (is : o.len ≤ size). grown (omega (arith, grows, raises.len, is, laid.longer)))
       (cases_lt size o.len));
@@ -43,15 +43,15 @@ zero_behind : (o n : Overlay) (at size : ℕ) (bytes : List ℕ) (beneath : Opti
     → changed_at o k ≡ Some b → changed_at n k ≡ Some c → length c.new.items ≡ block_size o.layout k → (i : ℕ) → o.len ≤ block_start o.layout k + i → slice_index c.new.items i ≡ 0
 zero_behind o n at size bytes beneath k b c laid within lays was is full i past =
     ⊎_elim
-      (λ (inside : i < block_size o.layout k).
-        let p : ℕ = block_start o.layout k + i in
-        sym (byte_in n k i p 0 (rw lays.layout refl) (rw lays.layout inside) ∙ ap (λ (d : Option ChangedBlock). byte_of d i 0) is)
-        ∙ lays.behind p 0 (omega (arith, within, past))
-        ∙ byte_in o k i p 0 refl inside
-        ∙ ap (λ (d : Option ChangedBlock). byte_of d i 0) was
-        ∙ (laid.each k b was).zero i past)
-      (λ (outside : block_size o.layout k ≤ i). get_or_past c.new.items i 0 (omega (arith, outside, full)))
-      (cases_lt i (block_size o.layout k))
+    (λ (inside : i < block_size o.layout k).
+    let p : ℕ = block_start o.layout k + i in
+    sym (byte_in n k i p 0 (rw lays.layout refl) (rw lays.layout inside) ∙ ap (λ (d : Option ChangedBlock). byte_of d i 0) is)
+    ∙ lays.behind p 0 (omega (arith, within, past))
+    ∙ byte_in o k i p 0 refl inside
+    ∙ ap (λ (d : Option ChangedBlock). byte_of d i 0) was
+    ∙ (laid.each k b was).zero i past)
+    (λ (outside : block_size o.layout k ≤ i). get_or_past c.new.items i 0 (omega (arith, outside, full)))
+    (cases_lt i (block_size o.layout k))
 
 pub lays_laid : (o n : Overlay) (at size : ℕ) (bytes : List ℕ) (beneath : Option (List ℕ)) → IsLaid o size beneath → at + length bytes ≤ o.len → Lays at bytes o n → IsFull n
     → IsLaid n size beneath
@@ -60,13 +60,13 @@ lays_laid o n at size bytes beneath laid within lays full = record {
   told = laid.told;
   longer = rw lays.len laid.longer;
   each = λ k c is.
-    let before = lays.each k c is in
-    let whole : length c.new.items ≡ block_size o.layout k = full k c is ∙ ap (λ l. block_size l k) lays.layout in
-    rw (lays.layout, lays.len) record {
-      full = whole;
-      zero = zero_behind o n at size bytes beneath k before.0 c laid within lays before.1 is whole;
-      old = λ xs has. before.2 ∙ (laid.each k before.0 before.1).old xs has;
-    };
+      let before = lays.each k c is in
+      let whole : length c.new.items ≡ block_size o.layout k = full k c is ∙ ap (λ l. block_size l k) lays.layout in
+      rw (lays.layout, lays.len) record {
+        full = whole;
+        zero = zero_behind o n at size bytes beneath k before.0 c laid within lays before.1 is whole;
+        old = λ xs has. before.2 ∙ (laid.each k before.0 before.1).old xs has;
+      };
   grown = λ grows. rw lays.layout (lays.kept _ (laid.grown (omega (arith, grows, lays.len))));
 }
 
@@ -81,11 +81,11 @@ past_zero o size bytes at (Some c) laid past is =
 shown : (o : Overlay) (size : ℕ) (bytes : List ℕ) (at : ℕ) → IsLaid o size (Some bytes) → slice_index (bytes_over o bytes) at ≡ byte_over o at (slice_index bytes at)
 shown o size bytes at laid =
     ⊎_elim
-      (λ (below : at < o.len). bytes_at o bytes at below)
-      (λ (past : o.len ≤ at).
-        get_or_past (bytes_over o bytes) at 0 (omega (arith, past, bytes_len o bytes))
-        ∙ sym (byte_is o at (slice_index bytes at) ∙ past_zero o size bytes at (changed_at o (block_number o.layout at)) laid past refl))
-      (cases_lt at o.len)
+    (λ (below : at < o.len). bytes_at o bytes at below)
+    (λ (past : o.len ≤ at).
+    get_or_past (bytes_over o bytes) at 0 (omega (arith, past, bytes_len o bytes))
+    ∙ sym (byte_is o at (slice_index bytes at) ∙ past_zero o size bytes at (changed_at o (block_number o.layout at)) laid past refl))
+    (cases_lt at o.len)
 
 -- the bytes of an image after a put
 changed_len : (image bytes : List ℕ) (at : ℕ) → length (changed image (Put at bytes)) ≡ max (length image) (at + length bytes)
@@ -108,23 +108,23 @@ put_bytes None o m r n size at bytes laid same raises after lays = tt
 put_bytes (Some xs) o m r n size at bytes laid same raises after lays =
     let image : List ℕ = bytes_over o xs in
     let long : length (bytes_over n xs) ≡ length (changed image (Put at bytes)) =
-        bytes_len n xs ∙ omega (arith, lays.len, raises.len, same.len, changed_len image bytes at, bytes_len o xs) in
+    bytes_len n xs ∙ omega (arith, lays.len, raises.len, same.len, changed_len image bytes at, bytes_len o xs) in
     let was : (p : ℕ) → byte_over r p (slice_index xs p) ≡ slice_index image p =
-        λ p. byte_stays m r p (slice_index xs p) raises.layout (raises.blocks (block_number m.layout p)) ∙ same.bytes xs refl p ∙ sym (shown o size xs p laid) in
+    λ p. byte_stays m r p (slice_index xs p) raises.layout (raises.blocks (block_number m.layout p)) ∙ same.bytes xs refl p ∙ sym (shown o size xs p laid) in
     ext_get_or 0 (bytes_over n xs) (changed image (Put at bytes)) long (λ p below.
-      shown n size xs p after
-      ∙ ⊎_elim
-        (λ (before : p < at). lays.before p (slice_index xs p) before ∙ was p ∙ sym (changed_before image bytes at p before))
-        (λ (from : at ≤ p).
-          ⊎_elim
-            (λ (inside : p - at < length bytes).
-              let e : at + (p - at) ≡ p = omega arith in
-              ap (λ (q : ℕ). byte_over n q (slice_index xs p)) (sym e) ∙ lays.inside (p - at) (slice_index xs p) inside
-              ∙ sym (changed_in image bytes at (p - at) inside) ∙ ap (slice_index (changed image (Put at bytes))) e)
-            (λ (behind : length bytes ≤ p - at).
-              lays.behind p (slice_index xs p) (omega arith) ∙ was p ∙ sym (changed_behind image bytes at p (omega arith)))
-            (cases_lt (p - at) (length bytes)))
-        (cases_lt p at))
+    shown n size xs p after
+    ∙ ⊎_elim
+    (λ (before : p < at). lays.before p (slice_index xs p) before ∙ was p ∙ sym (changed_before image bytes at p before))
+    (λ (from : at ≤ p).
+    ⊎_elim
+    (λ (inside : p - at < length bytes).
+    let e : at + (p - at) ≡ p = omega arith in
+    ap (λ (q : ℕ). byte_over n q (slice_index xs p)) (sym e) ∙ lays.inside (p - at) (slice_index xs p) inside
+    ∙ sym (changed_in image bytes at (p - at) inside) ∙ ap (slice_index (changed image (Put at bytes))) e)
+    (λ (behind : length bytes ≤ p - at).
+    lays.behind p (slice_index xs p) (omega arith) ∙ was p ∙ sym (changed_behind image bytes at p (omega arith)))
+    (cases_lt (p - at) (length bytes)))
+    (cases_lt p at))
 
 -- two drafts of the same bytes have the same bytes
 pub same_bytes : (beneath : Option (List ℕ)) (o m : Overlay) (size : ℕ) → IsLaid o size beneath → IsLaid m size beneath → SameBytes beneath o m
@@ -132,7 +132,7 @@ pub same_bytes : (beneath : Option (List ℕ)) (o m : Overlay) (size : ℕ) → 
 same_bytes None o m size laid after same = tt
 same_bytes (Some xs) o m size laid after same =
     ext_get_or 0 (bytes_over m xs) (bytes_over o xs) (bytes_len m xs ∙ same.len ∙ sym (bytes_len o xs)) (λ p below.
-      shown m size xs p after ∙ same.bytes xs refl p ∙ sym (shown o size xs p laid))
+    shown m size xs p after ∙ same.bytes xs refl p ∙ sym (shown o size xs p laid))
 
 -- after a put the draft is as it has to be
 pub put_laid : (m r n : Overlay) (at size : ℕ) (bytes : List ℕ) (beneath : Option (List ℕ)) → Lays at bytes r n → IsFull n → IsLaid m size beneath
@@ -140,7 +140,7 @@ pub put_laid : (m r n : Overlay) (at size : ℕ) (bytes : List ℕ) (beneath : O
     → r.len ≡ max m.len (at + length bytes) → IsLaid n size beneath
 put_laid m r n at size bytes beneath lays full laid grown blocks layout len =
     lays_laid r n at size bytes beneath
-      (raised_laid m r (at + length bytes) size beneath laid (record { blocks = blocks; layout = layout; len = len }) grown) (omega (arith, len)) lays full
+    (raised_laid m r (at + length bytes) size beneath laid (record { blocks = blocks; layout = layout; len = len }) grown) (omega (arith, len)) lays full
 
 -- and its bytes are those of the put
 pub put_shows : (o m r n : Overlay) (at size : ℕ) (bytes : List ℕ) (beneath : Option (List ℕ)) → Lays at bytes r n → IsLaid n size beneath → IsLaid o size beneath → SameBytes beneath o m

@@ -1,5 +1,5 @@
 -- The blocks of a range, loaded one after the other.
-use Rattle.std.proofs.Common.{◌≡◌, ℕ, ◌+◌, ◌-◌, ◌*◌, ◌<◌, ◌≤◌, Option, IsSome, List, sym, ap, subst, ◌∙◌, ⊎_elim, refl, arith}
+use Rattle.std.proofs.Common.{◌≡◌, ℕ, ◌+◌, ◌-◌, ◌<◌, ◌≤◌, Option, IsSome, List, sym, ap, subst, ◌∙◌, ⊎_elim, refl, arith}
 use Rattle.std.proofs.lemmas.Bool.{cases_lt}
 use Rattle.db_image.specs.declared.images.ImageRead.{Ghosts}
 use Rattle.db_image.specs.declared.overlays.Overlay.{Overlay}
@@ -9,7 +9,7 @@ use Rattle.db_image.specs.Images.{ReadsAtMost}
 use Rattle.db_image.specs.Places.{block_number, block_start, block_size, IsPlace}
 use Rattle.db_image.specs.Draft.{changed_at, IsLoaded, SameBytes, range_cost}
 use Rattle.db_image.proofs.BlockNumbers.{lies_in, next_start, number_same, size_most}
-use Rattle.db_image.proofs.ReadSteps.{reads_then, reads_within}
+use Rattle.db_image.proofs.ReadSteps.{reads_then}
 
 -- where the block of a position begins
 abbrev pub begin_of : Layout → ℕ → ℕ
@@ -35,7 +35,7 @@ pub reached_more : (l : Layout) (at end from : ℕ) (p : Place) → 0 < l.block 
 reached_more l at end from p some place below r =
     let e = end_is l from p place in
     let begins : begin_of l (from + (p.size - p.offset)) ≡ begin_of l from + block_size l (block_number l from) =
-        ap (begin_of l) e ∙ next_start l (block_number l from) some in
+    ap (begin_of l) e ∙ next_start l (block_number l from) some in
     record {
       not_before = omega (arith, begins, r.not_before);
       forward = omega (arith, r.forward);
@@ -48,7 +48,7 @@ pub reads_block : {I : Type 0} (g : Ghosts I) (l : Layout) (at end from : ℕ) (
     → ReadsAtMost g (begin_of l (from + (p.size - p.offset)) - begin_of l at) a c failed
 reads_block g l at end from p a b c first failed some place r before now =
     let begins : begin_of l (from + (p.size - p.offset)) ≡ begin_of l from + block_size l (block_number l from) =
-        ap (begin_of l) (end_is l from p place) ∙ next_start l (block_number l from) some in
+    ap (begin_of l) (end_is l from p place) ∙ next_start l (block_number l from) some in
     reads_then g (begin_of l from - begin_of l at) (block_size l (block_number l from)) _ a b c first failed before now (omega (arith, begins, r.not_before))
 
 -- the whole range costs no more than a put of its length
@@ -66,14 +66,14 @@ pub loaded_more : (o n : Overlay) (beneath : Option (List ℕ)) (at from : ℕ) 
 loaded_more o n beneath at from p some place loaded same here q after below =
     subst (λ (l : Layout). IsSome (changed_at n (block_number l q))) (sym same.layout)
     (⊎_elim
-      (λ (before : q < from). same.kept _ (loaded q after before))
-      (λ (behind : from ≤ q).
-        let e = end_is o.layout from p place in
-        let one : block_number o.layout q ≡ block_number o.layout from =
-            number_same o.layout (block_number o.layout from) q (omega (arith, (lies_in o.layout from some).0)) (omega (arith, e, below)) in
-        subst (λ (k : ℕ). IsSome (changed_at n k)) (sym one)
-        (subst (λ (l : Layout). IsSome (changed_at n (block_number l from))) same.layout here))
-      (cases_lt q from))
+    (λ (before : q < from). same.kept _ (loaded q after before))
+    (λ (behind : from ≤ q).
+    let e = end_is o.layout from p place in
+    let one : block_number o.layout q ≡ block_number o.layout from =
+    number_same o.layout (block_number o.layout from) q (omega (arith, (lies_in o.layout from some).0)) (omega (arith, e, below)) in
+    subst (λ (k : ℕ). IsSome (changed_at n k)) (sym one)
+    (subst (λ (l : Layout). IsSome (changed_at n (block_number l from))) same.layout here))
+    (cases_lt q from))
 
 pub same_then : (beneath : Option (List ℕ)) (o m n : Overlay) → SameBytes beneath o m → SameBytes beneath m n → SameBytes beneath o n
 same_then beneath o m n first then = record {

@@ -1,8 +1,8 @@
 -- One call that only reads an image after another.
-use Rattle.std.proofs.Common.{◌≡◌, ℕ, ◌+◌, ◌<◌, ◌≤◌, Option, Some, None, refl, ◌∙◌, arith}
+use Rattle.std.proofs.Common.{ℕ, ◌+◌, ◌≤◌, Option, Some, None, refl, ◌∙◌, arith}
 use Rattle.db_image.specs.declared.images.ImageRead.{Ghosts}
-use Rattle.db_image.specs.Asked.{RoseAtMost, AsksAtMost}
-use Rattle.db_image.specs.Images.{OnlyReads, ReadsAtMost}
+use Rattle.db_image.specs.Asked.{AsksAtMost}
+use Rattle.db_image.specs.Images.{ReadsAtMost}
 
 pub asks_none : (most : ℕ) (asked : Option ℕ) → AsksAtMost most asked asked
 asks_none most None = tt

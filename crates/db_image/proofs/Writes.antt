@@ -31,11 +31,11 @@ written_at : (f : ℕ → ℕ → ℕ) (a k : ℕ) (first now part : List ℕ) �
     → (i : ℕ) → i < a + k → slice_index (put_mid a k now part) i ≡ f i (slice_index first i)
 written_at f a k first now part w within len is i below =
     ⊎_elim
-      (λ (before : i < a). written_before a k now part i before within len ∙ w.before i before)
-      (λ (from : a ≤ i).
-        let e : a + (i - a) ≡ i = omega arith in
-        written_in a k now part i from below within len ∙ is (i - a) (omega arith) ∙ ap (λ (n : ℕ). f n (slice_index first n)) e)
-      (cases_lt i a)
+    (λ (before : i < a). written_before a k now part i before within len ∙ w.before i before)
+    (λ (from : a ≤ i).
+    let e : a + (i - a) ≡ i = omega arith in
+    written_in a k now part i from below within len ∙ is (i - a) (omega arith) ∙ ap (λ (n : ℕ). f n (slice_index first n)) e)
+    (cases_lt i a)
 
 pub written_more : (f : ℕ → ℕ → ℕ) (a k n : ℕ) (first now part : List ℕ) → Written f first now a → a + k ≤ length now → length part ≡ k → n ≡ k
     → ((i : ℕ) → i < k → slice_index part i ≡ f (a + i) (slice_index first (a + i)))
@@ -44,5 +44,5 @@ written_more f a k n first now part w within len same is =
     subst (λ (m : ℕ). Written f first (put_mid a m now part) (a + k)) (sym same) record {
       before = written_at f a k first now part w within len is;
       behind = λ i from below.
-        written_after a k now part i from within len ∙ w.behind i (omega arith) (omega (arith, below, written_len a k now part within len));
+          written_after a k now part i from within len ∙ w.behind i (omega arith) (omega (arith, below, written_len a k now part within len));
     }

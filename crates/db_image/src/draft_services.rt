@@ -1,8 +1,8 @@
 //! A database as a server sees it, which reads of an image what it needs.
 ghost use Rattle.std.specs.Prelude.{◌≡◌, ◌≤◌, ℕ, List, [], Option, IfSome};
-ghost use Rattle.db_image.specs.Ends.{IsAnswered, IsShort};
+ghost use Rattle.db_image.specs.Ends.{EndsBy, IsShort};
 ghost use Rattle.db_image.specs.Images.{OnlyReads};
-ghost use Rattle.db_image.specs.Meaning.{Meaning, IsStep, Call, state_after, image_after};
+ghost use Rattle.db_image.specs.Standing.{Standing, IsMeantOver};
 
 use crate::{Draft, ImageRead, RecordFault};
 use std::alloc::Global;
@@ -37,24 +37,19 @@ impl From<RecordFault> for CallEnd {
 
 /// A database that a server can run over drafts.
 pub trait DraftService {
-    /// What its calls mean.
-    ghost meaning: { Meaning };
+    /// What its calls mean, and make of images.
+    ghost standing: { Standing };
 
     /// Whether a call's bytes are a call that writes; none where they are no call.
     fn writes(call: &[u8]) -> Option<bool>
-        ensures { result ≡ meaning.database.writes call.now };
+        ensures { result ≡ standing.database.writes call.now };
 
     /// Makes a call at a moment on a draft of at most 16,777,216 bytes. After `DiskFault` and `NoMemory` the draft may hold a part
     /// of the call, and is to be dropped.
-    fn call<I: ImageRead>(
-        alloc: Global,
-        image: &mut Draft<I>,
-        now: u32,
-        call: &[u8],
-    ) -> CallEnd
+    fn call<I: ImageRead>(alloc: Global, image: &mut Draft<I>, now: u32, call: &[u8]) -> CallEnd
         requires { image.old.len ≤ 16777216 }
-        ensures meant { IfSome image.old.bytes (λ bytes. (s : meaning.State) → meaning.StandsFor bytes s
-            → IsAnswered meaning s bytes now call.now result image.new.bytes) }
+        ensures meant { IfSome image.old.bytes (λ bytes. (s : standing.State) → standing.StandsFor bytes s
+            → EndsBy (standing.database.call bytes now call.now) result image.new.bytes) }
         ensures short { IsShort result }
         ensures layout { image.new.layout ≡ image.old.layout }
         ensures reads { OnlyReads I.ImageRead image.old.image image.new.image (result ≡ CallEnd.DiskFault) };
@@ -64,18 +59,13 @@ pub trait DraftService {
         ensures image { result.image ≡ image }
         ensures bytes { result.bytes ≡ I.held image }
         ensures len { result.len ≡ I.size image }
-        ensures head { result.layout.head ≡ meaning.database.head }
-        ensures block { result.layout.block ≡ meaning.database.block };
+        ensures head { result.layout.head ≡ standing.database.head }
+        ensures block { result.layout.block ≡ standing.database.block };
 
     /// The empty image stands for the first state.
-    ghost empty_is_initial: { meaning.StandsFor [] meaning.initial };
+    ghost empty_is_first: { standing.StandsFor [] standing.meaning.first };
 
-    /// Over an image that stands for a state, the database makes the state's step.
-    ghost makes_steps: { (image : List ℕ) (s : meaning.State) (now : ℕ) (call : List ℕ) → meaning.StandsFor image s
-        → IsStep meaning image s (meaning.database.call image now call) (meaning.step s now call) };
+    /// Over an image that stands for a state, the database does what the call means in it.
+    ghost is_meant: { (image : List ℕ) (s : standing.State) (now : ℕ) (call : List ℕ) → standing.StandsFor image s
+        → IsMeantOver standing image s (standing.database.call image now call) (standing.meaning.call s now call) };
 }
-
-/// The image of a list of calls stands for the state of the list: the single copy's image for the single copy's state.
-pub fn law_images_stand<S: DraftService>()
-    ensures { (calls : List Call) → S.meaning.StandsFor (image_after S.meaning.database [] calls) (state_after S.meaning S.meaning.initial calls) }
-{}

@@ -28,10 +28,10 @@ impl<I: ImageRead> Model for Draft<I> {
     ghost Value = { Drafted I };
 
     ghost view = { λ d. record {
-        image = d.image;
-        bytes = option_map (bytes_over d.over) (I.held d.image);
-        len = d.over.len;
-        layout = d.over.layout;
+      image = d.image;
+      bytes = option_map (bytes_over d.over) (I.held d.image);
+      len = d.over.len;
+      layout = d.over.layout;
     } };
 
     ghost invariant = { λ d. IsLaid d.over (I.size d.image) (I.held d.image) };

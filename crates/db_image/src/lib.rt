@@ -5,22 +5,22 @@
 mod blocks;
 mod draft_services;
 mod drafts;
-
 mod faults;
 mod images;
 mod overlays;
 mod places;
 mod services;
+mod words;
 
 pub use blocks::{changes_between, law_changes_lead, too_large};
-pub use draft_services::{CallEnd, DraftService, law_images_stand};
+pub use draft_services::{CallEnd, DraftService};
 pub use drafts::Draft;
 pub use faults::RecordFault;
 pub use images::{ImageRead, ReadEnd, VecImage};
 pub use services::{CallReply, Layout, Service};
-
-#[cfg(test)]
-mod tests;
+pub use words::WordForms;
 
 #[cfg(test)]
 mod draft_tests;
+#[cfg(test)]
+mod tests;

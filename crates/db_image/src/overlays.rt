@@ -170,7 +170,12 @@ impl Overlay {
     }
 
     /// Brings the blocks of a range among the changed ones, as they are.
-    fn load_range<I: ImageRead>(&mut self, image: &mut I, at: u64, end: u64) -> Result<(), RecordFault>
+    fn load_range<I: ImageRead>(
+        &mut self,
+        image: &mut I,
+        at: u64,
+        end: u64,
+    ) -> Result<(), RecordFault>
         requires laid { IsLaid self.old (I.size image.old) (I.held image.old) }
         requires end { end < 2 ^ 33 }
         ensures laid { IsLaid self.new (I.size image.old) (I.held image.old) }

@@ -3,7 +3,7 @@ ghost use Rattle.std.specs.Prelude.{◌≡◌, ◌<◌, ◌≤◌, length, unwra
 ghost use Rattle.db_image.specs.Database.{Database};
 
 use std::alloc::Global;
-use ubik_types::{Bytes, NoMemory};
+use ubik_types::{Bytes, MAX_IMAGE, NoMemory};
 
 /// What a database answers to a call.
 #[derive(Drop)]
@@ -50,7 +50,7 @@ pub trait Service {
         now: u32,
         call: &[u8],
     ) -> Result<(CallReply, Option<Bytes>), NoMemory>
-        requires { length image.now ≤ 16777216 }
+        requires { length image.now ≤ MAX_IMAGE }
         ensures { IfOk result (λ made. let o = database.call image.now now call.now in
             (made.0 ≡ o.reply) × (unwrap_or made.1 image.now ≡ o.image)) };
 }

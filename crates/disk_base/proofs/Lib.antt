@@ -7,4 +7,3 @@ pub mod Stopping
 pub mod Times
 pub mod Touched
 pub mod Undoing
-pub mod Walks

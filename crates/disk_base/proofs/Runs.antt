@@ -7,7 +7,7 @@ use Rattle.disk_base.specs.declared.disks.FileNo.TheVariants.{Database, Log, Inc
 use Rattle.disk_base.specs.Files.{Files, file_of, with_file, laid}
 use Rattle.disk_base.specs.Count.{HasCause}
 use Rattle.disk_base.specs.Crash.{Torn, InFile, Elapses, LeavesOnly, LeavesSame, LeavesOthers, After}
-use Rattle.disk_base.specs.Stops.{Stop, IsStopped}
+use Rattle.disk_base.specs.Stops.{DiskStop, IsStopped}
 use Rattle.disk_base.specs.Runs.{OnlyReads, OnlyReserves, OneChange, Writes, Cuts, Syncs, ChangesAtMost, AnyIn, SameOthers}
 use Rattle.disk_base.proofs.Idle.{same_file, Torn-idle}
 use Rattle.disk_base.proofs.Stopping.{advances_none, advances_one, advances_joined}
@@ -158,7 +158,7 @@ module _ {D : Type 0} {g : Ghosts D} where
   reads_change_none {f} {old} {new} reads = record {
     at_most = (omega (arith, reads.steps), omega (arith, reads.steps));
     advances = advances_none reads.steps reads.stop;
-    stopped = λ is. inl (subst (λ (s : Stop). IsStopped s) reads.stop is);
+    stopped = λ is. inl (subst (λ (s : DiskStop). IsStopped s) reads.stop is);
     room = reads.room;
     files = λ not. reads_same f (g.files old) (g.files new) (reads.files not);
     others = others_same f (g.may_leave old) (g.may_leave new) reads.crash.no_more reads.crash.no_less;

@@ -3,18 +3,18 @@ use Rattle.std.proofs.Common.{◌≡◌, ◌<◌, ◌≤◌, ◌∙◌, inl, inr
 use Rattle.std.proofs.lemmas.Bool.{cases_lt}
 use Rattle.std.proofs.lemmas.Bool.Decides.{nat_tests}
 use Rattle.disk_base.specs.declared.disks.Fill.{Fill}
-use Rattle.disk_base.specs.Stops.{Stop, IsStopped}
-use Rattle.disk_base.specs.Stops.Stop.{Unarmed, Armed, Stopped}
+use Rattle.disk_base.specs.Stops.{DiskStop, IsStopped}
+use Rattle.disk_base.specs.Stops.DiskStop.{Unarmed, Armed, Stopped}
 use Rattle.disk_base.specs.Stops.{after_change, after_changes, Advances}
 
-pub after_changes-add : (m n : ℕ) (stop : Stop) → after_changes m (after_changes n stop) ≡ after_changes (n + m) stop
+pub after_changes-add : (m n : ℕ) (stop : DiskStop) → after_changes m (after_changes n stop) ≡ after_changes (n + m) stop
 after_changes-add zero n stop = let none : n ≡ n + zero = omega arith in ap (λ (k : ℕ). after_changes k stop) none
 after_changes-add (suc m) n stop =
     let more : suc (n + m) ≡ n + suc m = omega arith in
     ap after_change (after_changes-add m n stop) ∙ ap (λ (k : ℕ). after_changes k stop) more
 
 -- a disk that has stopped stays so
-pub stays_stopped : (n : ℕ) (stop : Stop) → IsStopped stop → after_changes n stop ≡ stop
+pub stays_stopped : (n : ℕ) (stop : DiskStop) → IsStopped stop → after_changes n stop ≡ stop
 stays_stopped zero stop is = refl
 stays_stopped (suc n) (Stopped fill) is = ap after_change (stays_stopped n (Stopped fill) is)
 stays_stopped (suc n) Unarmed is = absurd is
@@ -42,7 +42,7 @@ armed_stops (suc n) calls fill past = elim (cases_lt calls n) [
       ap after_change passed
 ]
 
-module _ {steps steps' : ℕ} {stop stop' : Stop} where
+module _ {steps steps' : ℕ} {stop stop' : DiskStop} where
   -- calls that change nothing
   pub advances_none : steps' ≡ steps → stop' ≡ stop → Advances steps steps' stop stop'
   advances_none same same_stop = record { calls = 0; steps = omega (arith, same); stop = same_stop }
@@ -52,7 +52,7 @@ module _ {steps steps' : ℕ} {stop stop' : Stop} where
   advances_one more change = record { calls = 1; steps = more; stop = change }
 
   -- one run after another
-  pub advances_joined : {steps'' : ℕ} {stop'' : Stop} → Advances steps steps' stop stop' → Advances steps' steps'' stop' stop'' → Advances steps steps'' stop stop''
+  pub advances_joined : {steps'' : ℕ} {stop'' : DiskStop} → Advances steps steps' stop stop' → Advances steps' steps'' stop' stop'' → Advances steps steps'' stop stop''
   advances_joined {stop'' = stop''} first second = record {
     calls = first.calls + second.calls;
     steps = omega (arith, first.steps, second.steps);

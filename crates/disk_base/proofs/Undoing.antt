@@ -10,7 +10,7 @@ use Rattle.disk_base.specs.declared.touches.Touch.TheVariants.{Wrote, Cut}
 use Rattle.disk_base.specs.Files.{laid}
 use Rattle.disk_base.specs.Touches.{MayBe}
 use Rattle.disk_base.proofs.Touched.{length-laid, laid-before, laid-inside, laid-after}
-use Rattle.disk_base.specs.Undos.{undone, all_undone, touches_in, end_of}
+use Rattle.disk_base.specs.Undos.{undone, all_undone, touches_in, lost_to}
 
 -- the newest is undone first
 pub all_undone-push : (undos : List Undo) (undo : Undo) (bytes : List ℕ) → all_undone (undos ++ undo ∷ []) bytes ≡ all_undone undos (undone undo bytes)
@@ -92,13 +92,13 @@ module _ (undo : Undo) (file : List ℕ) where
   undone-cut len within touch was lost = rw (touch, was, lost) (uncut_back file len within)
 
 -- what undoes each call lies within the room
-pub fits-pushed : (undos : List Undo) (undo : Undo) (room : ℕ) → All (λ u. end_of u ≤ room) undos → end_of undo ≤ room
-    → All (λ u. end_of u ≤ room) (undos ++ undo ∷ [])
-fits-pushed undos undo room all one = All-append (λ u. end_of u ≤ room) undos (undo ∷ []) all (λ k d h. let first : 0 ≡ k = omega arith in subst (λ (n : ℕ). end_of (get_or (undo ∷ []) n d) ≤ room) first one)
+pub fits-pushed : (undos : List Undo) (undo : Undo) (room : ℕ) → All (λ u. lost_to u ≤ room) undos → lost_to undo ≤ room
+    → All (λ u. lost_to u ≤ room) (undos ++ undo ∷ [])
+fits-pushed undos undo room all one = All-append (λ u. lost_to u ≤ room) undos (undo ∷ []) all (λ k d h. let first : 0 ≡ k = omega arith in subst (λ (n : ℕ). lost_to (get_or (undo ∷ []) n d) ≤ room) first one)
 
 module _ (undo : Undo) (file : List ℕ) (room : ℕ) where
-  pub fits-write : (len at : ℕ) → at + len ≤ room → undo.touch ≡ Wrote at len → undo.lost.items ≡ take len (drop at file) → end_of undo ≤ room
+  pub fits-write : (len at : ℕ) → at + len ≤ room → undo.touch ≡ Wrote at len → undo.lost.items ≡ take len (drop at file) → lost_to undo ≤ room
   fits-write len at fits touch lost = rw (touch, lost) (omega (arith, length-take len (drop at file)))
 
-  pub fits-cut : (len : ℕ) → len ≤ length file → length file ≤ room → undo.touch ≡ Cut len → undo.lost.items ≡ drop len file → end_of undo ≤ room
+  pub fits-cut : (len : ℕ) → len ≤ length file → length file ≤ room → undo.touch ≡ Cut len → undo.lost.items ≡ drop len file → lost_to undo ≤ room
   fits-cut len within fits touch lost = rw (touch, lost) (omega (arith, length-drop len file))

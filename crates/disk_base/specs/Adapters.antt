@@ -10,7 +10,7 @@ use Rattle.disk_base.specs.declared.adapters.WriterSink.{WriterSink}
 
 -- how often a read has failed
 abbrev pub reader_faults : {R : Type 0} → ReaderSource R → ℕ
-reader_faults source = source.faults.count
+reader_faults source = source.faults
 
 -- what the source reads from
 abbrev pub reader_of : {R : Type 0} → ReaderSource R → R
@@ -24,7 +24,7 @@ TakesKnown reads.Failed before after buf = Keeps before after
 
 -- how often a write has failed
 abbrev pub writer_faults : {W : Type 0} → WriterSink W → ℕ
-writer_faults sink = sink.faults.count
+writer_faults sink = sink.faults
 
 -- what the sink writes to
 abbrev pub writer_of : {W : Type 0} → WriterSink W → W

@@ -8,11 +8,11 @@ use Rattle.disk_base.specs.declared.file_disks.OpenFault.TheVariants.{Failed, No
 
 -- how many changing calls were made
 abbrev pub file_steps : FileDisk → ℕ
-file_steps disk = disk.steps.count
+file_steps disk = disk.steps
 
 -- how often a call has failed
 abbrev pub file_faults : FileDisk → ℕ
-file_faults disk = disk.faults.count
+file_faults disk = disk.faults
 
 -- what an error of the system means where a folder is opened
 abbrev pub fault_of : ErrorKind → OpenFault

@@ -10,7 +10,7 @@ pub mod MemFile
 pub mod MemLaws
 pub mod MemSink
 pub mod MemSource
-pub mod Moments
+pub mod Pending
 pub mod Plan
 pub mod Runs
 pub mod Sink

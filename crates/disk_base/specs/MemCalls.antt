@@ -6,20 +6,20 @@ use Rattle.disk_base.specs.declared.memory_calls.StopState.TheVariants as states
 use Rattle.disk_base.specs.declared.memory_calls.Passage.{Passage}
 use Rattle.disk_base.specs.declared.memory_calls.Passage.TheVariants.{Passes, Stops, Fails}
 use Rattle.disk_base.specs.Plan.{fails_next}
-use Rattle.disk_base.specs.Stops.{Stop}
-use Rattle.disk_base.specs.Stops.Stop.{Unarmed, Armed, Stopped}
+use Rattle.disk_base.specs.Stops.{DiskStop}
+use Rattle.disk_base.specs.Stops.DiskStop.{Unarmed, Armed, Stopped}
 
 -- a state as the disk's meaning sees it
-abbrev pub stop_in : StopState → Stop
+abbrev pub stop_in : StopState → DiskStop
 stop_in states.Unarmed = Unarmed
 stop_in (states.Armed calls fill) = Armed calls fill
 stop_in (states.Stopped fill) = Stopped fill
 
-abbrev pub stop_of : MemCalls → Stop
+abbrev pub stop_of : MemCalls → DiskStop
 stop_of calls = stop_in calls.stop
 
 -- whether the disk has stopped
-abbrev pub is_stopped : Stop → Bool
+abbrev pub is_stopped : DiskStop → Bool
 is_stopped Unarmed = false
 is_stopped (Armed _ _) = false
 is_stopped (Stopped _) = true
@@ -33,7 +33,7 @@ abbrev pub unless : Bool → Passage
 unless planned = if planned then Fails else Passes
 
 -- what becomes of a changing call of which it is known whether its number is to fail
-abbrev pub passage : Stop → Bool → Passage
+abbrev pub passage : DiskStop → Bool → Passage
 passage Unarmed planned = unless planned
 passage (Armed calls _) planned = if calls == 0 then Stops else unless planned
 passage (Stopped _) planned = Fails
@@ -44,5 +44,5 @@ passage_of calls = passage (stop_of calls) (fails_next calls.plan)
 
 -- the counts of changing calls and of faults stay
 pub record KeepsTallies (before after : MemCalls) : Type 0 where
-  pub steps : after.steps.count ≡ before.steps.count
-  pub faults : after.faults.count ≡ before.faults.count
+  pub steps : after.steps ≡ before.steps
+  pub faults : after.faults ≡ before.faults

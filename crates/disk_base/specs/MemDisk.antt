@@ -13,10 +13,10 @@ use Rattle.disk_base.specs.declared.memory_disks.MemFiles.{MemFiles}
 use Rattle.disk_base.specs.declared.memory_disks.MemDisk.{MemDisk}
 use Rattle.disk_base.specs.declared.plans.Plan.{Plan}
 use Rattle.disk_base.specs.Files.{Files}
-use Rattle.disk_base.specs.MemFile.{bytes_of, room_of, state_in}
+use Rattle.disk_base.specs.MemFile.{content_of, room_of, state_in}
 use Rattle.disk_base.specs.MemCalls.{stop_of, passage_of, fails_now}
-use Rattle.disk_base.specs.Moments.{Moment, MayLeave, LeftSince}
-use Rattle.disk_base.specs.Stops.{Stop}
+use Rattle.disk_base.specs.Pending.{Pending, MayLeave, LeftSince}
+use Rattle.disk_base.specs.Stops.{DiskStop}
 
 abbrev pub file_at : MemFiles → FileNo → MemFile
 file_at files Database = files.database
@@ -26,14 +26,14 @@ file_at files Incoming = files.incoming
 -- what reads give
 abbrev pub now_in : MemFiles → Files
 now_in files = record {
-  database = bytes_of files.database;
-  log = bytes_of files.log;
-  incoming = bytes_of files.incoming;
+  database = content_of files.database;
+  log = content_of files.log;
+  incoming = content_of files.incoming;
 }
 
--- what decides on what a crash now may leave
-abbrev pub moment_in : MemFiles → Moment
-moment_in files = record {
+-- what is pending
+abbrev pub pending_in : MemFiles → Pending
+pending_in files = record {
   database = state_in files.database;
   log = state_in files.log;
   incoming = state_in files.incoming;
@@ -49,29 +49,29 @@ now_of disk = now_in disk.files
 abbrev pub disk_room : MemDisk → FileNo → ℕ
 disk_room disk f = room_in disk.files f
 
-abbrev pub disk_stop : MemDisk → Stop
+abbrev pub disk_stop : MemDisk → DiskStop
 disk_stop disk = stop_of disk.calls
 
 abbrev pub disk_steps : MemDisk → ℕ
-disk_steps disk = disk.calls.steps.count
+disk_steps disk = disk.calls.steps
 
 abbrev pub disk_faults : MemDisk → ℕ
-disk_faults disk = disk.calls.faults.count
+disk_faults disk = disk.calls.faults
 
 -- it tells its files
 abbrev pub disk_tells : MemDisk → Bool
 disk_tells disk = true
 
--- the present moment
-abbrev pub moment_of : MemDisk → Moment
-moment_of disk = moment_in disk.files
+-- what is pending now
+abbrev pub pending_of : MemDisk → Pending
+pending_of disk = pending_in disk.files
 
 abbrev pub disk_may_leave : MemDisk → Files → Type 0
-disk_may_leave disk c = MayLeave (moment_of disk) c
+disk_may_leave disk c = MayLeave (pending_of disk) c
 
--- a moment is kept since the disk was made, or was last revived
+-- what was pending at each moment is kept since the disk was made, or was last revived
 abbrev pub disk_left_since : MemDisk → ℕ → Files → Type 0
-disk_left_since disk since c = LeftSince (moment_of disk ∷ disk.moments.earlier) (disk_steps disk) since c
+disk_left_since disk since c = LeftSince (pending_of disk ∷ disk.moments) (disk_steps disk) since c
 
 -- which calls are to fail, and how many were made
 abbrev pub disk_plan : MemDisk → Plan

@@ -3,11 +3,11 @@ use Rattle.std.specs.Prelude.{ℕ, List}
 use Rattle.disk_base.specs.declared.memory_files.MemFile.{MemFile}
 use Rattle.disk_base.specs.declared.touches.Touch.{Touch}
 use Rattle.disk_base.specs.Undos.{all_undone, touches_in}
-use Rattle.disk_base.specs.Moments.{FileState}
+use Rattle.disk_base.specs.Pending.{FileState}
 
 -- what a read gives
-abbrev pub bytes_of : MemFile → List ℕ
-bytes_of file = file.bytes.items
+abbrev pub content_of : MemFile → List ℕ
+content_of file = file.bytes.items
 
 -- what was last synced
 abbrev pub synced_of : MemFile → List ℕ

@@ -13,4 +13,4 @@ plan_of sink = sink.plan
 
 -- how often a write has failed
 abbrev pub faults_of : MemSink → ℕ
-faults_of sink = sink.faults.count
+faults_of sink = sink.faults

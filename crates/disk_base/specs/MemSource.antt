@@ -16,7 +16,7 @@ plan_of source = source.plan
 
 -- how often a read has failed
 abbrev pub faults_of : MemSource → ℕ
-faults_of source = source.faults.count
+faults_of source = source.faults
 
 -- how the next read ends, into a buffer of so many bytes
 abbrev pub read_end : MemSource → ℕ → Got

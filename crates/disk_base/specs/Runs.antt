@@ -7,7 +7,7 @@ use Rattle.disk_base.specs.declared.disks.FileNo.{FileNo}
 use Rattle.disk_base.specs.Files.{Files, file_of, with_file, laid, KeepsRoom}
 use Rattle.disk_base.specs.Count.{HasCause}
 use Rattle.disk_base.specs.Crash.{Torn, CutShort, InFile, Follows, Narrows, OnlyIn, Elapses, LeavesSame, LeavesOthers, LeavesOnly, After, RisesAtMost}
-use Rattle.disk_base.specs.Moments.{after_write, after_cut, after_sync}
+use Rattle.disk_base.specs.Pending.{after_write, after_cut, after_sync}
 use Rattle.disk_base.specs.Stops.{IsStopped, after_change, Advances, StopsNext, Keeps, IsWritten}
 
 -- the call only read the disk: of one that tells what is pending also reads give what they gave, failed or not

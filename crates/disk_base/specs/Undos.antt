@@ -6,17 +6,17 @@ use Rattle.disk_base.specs.declared.undos.Undo.{Undo}
 use Rattle.disk_base.specs.Files.{laid}
 
 -- where the bytes stood that a call took
-abbrev pub start_of : Touch → ℕ
-start_of (Wrote at len) = at
-start_of (Cut len) = len
+abbrev pub lost_from : Touch → ℕ
+lost_from (Wrote at len) = at
+lost_from (Cut len) = len
 
 -- where they ended
-abbrev pub end_of : Undo → ℕ
-end_of undo = start_of undo.touch + length undo.lost.items
+abbrev pub lost_to : Undo → ℕ
+lost_to undo = lost_from undo.touch + length undo.lost.items
 
 -- what a file was before a call that left these bytes
 abbrev pub undone : Undo → List ℕ → List ℕ
-undone undo bytes = take undo.was (laid bytes (start_of undo.touch) undo.lost.items)
+undone undo bytes = take undo.was (laid bytes (lost_from undo.touch) undo.lost.items)
 
 -- what it was before all of them, the newest of which is the last
 abbrev pub all_undone : List Undo → List ℕ → List ℕ

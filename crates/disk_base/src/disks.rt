@@ -2,11 +2,11 @@
 ghost use Rattle.std.specs.Prelude.{◌≡◌, ◌+◌, ◌<◌, ◌≤◌, ◌⊎◌, ℕ, List, Option, Bool, IsTrue, true, Some, IsSome, IfSome, length, take, drop, ◌↔◌};
 ghost use Rattle.std.specs.Option.{option_map};
 ghost use Rattle.disk_base.specs.Files.{Files, file_of, with_file, laid, OnDone, OnKnown, KeepsRoom};
-ghost use Rattle.disk_base.specs.Stops.Stop.{Unarmed};
-ghost use Rattle.disk_base.specs.Stops.{Stop, IsStopped, after_change, armed, fill_left, StopsNext, IsLeftBy, Keeps, IsWritten};
+ghost use Rattle.disk_base.specs.Stops.DiskStop.{Unarmed};
+ghost use Rattle.disk_base.specs.Stops.{DiskStop, IsStopped, after_change, armed, fill_left, StopsNext, IsLeftBy, Keeps, IsWritten};
 ghost use Rattle.disk_base.specs.Count.{HasCause};
 ghost use Rattle.disk_base.specs.Crash.{Torn, CutShort, InFile, Follows, LeavesOthers, Narrows, Only, OnlyIn, Elapses, LeavesSame, BeginsAnew};
-ghost use Rattle.disk_base.specs.Moments.{Moment, MayLeave, after_write, after_cut, after_sync, all_at_rest};
+ghost use Rattle.disk_base.specs.Pending.{Pending, MayLeave, after_write, after_cut, after_sync, all_at_rest};
 ghost use Rattle.disk_base.specs.declared.disks.FileNo.{FileNo};
 
 /// One of the three files of a server.
@@ -74,10 +74,10 @@ pub trait Disk {
     ghost faults: { Self → ℕ };
 
     /// Whether it is to stop in one of its next calls of `write_at`, `cut` and `sync`, or has stopped.
-    ghost stop: { Self → Stop };
+    ghost stop: { Self → DiskStop };
 
     /// What was last synced of each file, and the changing calls since, where the disk tells it.
-    ghost pending: { Self → Option Moment };
+    ghost pending: { Self → Option Pending };
 
     /// Whether the disk tells its files, once they are opened anew after a failure. It never changes.
     ghost tells: { Self → Bool };
@@ -107,7 +107,7 @@ pub trait Disk {
     ghost tells_now: { (disk : Self) → IsSome (files disk) → tells disk ≡ true };
 
     /// A crash may leave what the pending calls make of what was last synced, and nothing else.
-    ghost leaves_pending: { (disk : Self) → IfSome (pending disk) (λ moment. (c : Files) → may_leave disk c ↔ MayLeave moment c) };
+    ghost leaves_pending: { (disk : Self) → IfSome (pending disk) (λ p. (c : Files) → may_leave disk c ↔ MayLeave p c) };
 
     /// The length of a file, in bytes.
     fn len(&mut self, f: FileNo) -> LenEnd
@@ -227,10 +227,10 @@ pub trait StopDisk: Disk {
     fn revive(&mut self)
         ensures unarmed { Self.stop self.new ≡ Unarmed }
         ensures left { IfSome (Self.files self.new) (λ fs. Self.may_leave self.old fs × Only fs (Self.may_leave self.new)) }
-        ensures by_fill { IfSome (Self.pending self.old) (λ moment. IfSome (Self.files self.old) (λ now. IfSome (Self.files self.new)
-            (λ fs. IsLeftBy (fill_left (Self.stop self.old)) moment now fs))) }
+        ensures by_fill { IfSome (Self.pending self.old) (λ p. IfSome (Self.files self.old) (λ now. IfSome (Self.files self.new)
+            (λ fs. IsLeftBy (fill_left (Self.stop self.old)) p now fs))) }
         ensures at_rest { IsSome (Self.pending self.old) → Self.pending self.new ≡ option_map all_at_rest (Self.files self.new) }
-        ensures told { Self.tells self.old ≡ true → IsSome (Self.files self.new) }
+        ensures tells_files { Self.tells self.old ≡ true → IsSome (Self.files self.new) }
         ensures begins_anew { BeginsAnew (Self.left_since self.new) (Self.may_leave self.new) }
         ensures tells { Self.tells self.new ≡ Self.tells self.old }
         ensures steps { Self.steps self.new ≡ Self.steps self.old }

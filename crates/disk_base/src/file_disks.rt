@@ -122,7 +122,7 @@ fn open_file<R: Files<File = File>>(
 }
 
 impl Disk for FileDisk {
-    ghost use Rattle.disk_base.specs.Stops.Stop.{Unarmed};
+    ghost use Rattle.disk_base.specs.Stops.DiskStop.{Unarmed};
     ghost use Rattle.disk_base.specs.FileDisk.{file_steps, file_faults};
 
     ghost files = { λ disk. None };

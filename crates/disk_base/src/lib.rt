@@ -5,6 +5,7 @@
 mod adapters;
 mod disks;
 mod file_disks;
+mod ghosts;
 mod memory_calls;
 mod memory_disks;
 mod memory_files;

@@ -3,7 +3,7 @@ ghost use Rattle.std.specs.Prelude.{◌≡◌, ◌≢◌, ◌+◌, ◌<◌, ◌�
 ghost use Rattle.disk_base.specs.Plan.{IsFresh, after_call};
 ghost use Rattle.disk_base.specs.Count.{HasCause};
 ghost use Rattle.disk_base.specs.Stops.{IsStopped, after_change, armed, fill_left};
-ghost use Rattle.disk_base.specs.Stops.Stop.{Unarmed};
+ghost use Rattle.disk_base.specs.Stops.DiskStop.{Unarmed};
 ghost use Rattle.disk_base.specs.MemCalls.{stop_of, fails_now, passage_of, unless, KeepsTallies};
 
 use crate::Fill;
@@ -44,8 +44,8 @@ impl MemCalls {
     pub(crate) fn new(alloc: Global, fails: &[u64]) -> Result<MemCalls, NoMemory>
         ensures plan { IfOk result (λ calls. IsFresh fails.now calls.plan) }
         ensures stop { IfOk result (λ calls. stop_of calls ≡ Unarmed) }
-        ensures steps { IfOk result (λ calls. calls.steps.count ≡ 0) }
-        ensures faults { IfOk result (λ calls. calls.faults.count ≡ 0) }
+        ensures steps { IfOk result (λ calls. calls.steps ≡ 0) }
+        ensures faults { IfOk result (λ calls. calls.faults ≡ 0) }
     {
         Ok(MemCalls {
             plan: Plan::new(alloc, fails)?,
@@ -92,8 +92,8 @@ impl MemCalls {
 
     /// One more fault.
     pub(crate) fn fail(&mut self)
-        ensures faults { self.new.faults.count ≡ self.old.faults.count + 1 }
-        ensures steps { self.new.steps.count ≡ self.old.steps.count }
+        ensures faults { self.new.faults ≡ self.old.faults + 1 }
+        ensures steps { self.new.steps ≡ self.old.steps }
         ensures stop { stop_of self.new ≡ stop_of self.old }
         ensures plan { self.new.plan ≡ self.old.plan }
     {
@@ -104,8 +104,8 @@ impl MemCalls {
     pub(crate) fn begin(&mut self) -> bool
         ensures fails { result ≡ fails_now self.old }
         ensures stopped { IsStopped (stop_of self.old) → IsTrue result }
-        ensures cause { HasCause self.old.faults.count self.new.faults.count (IsTrue result) }
-        ensures steps { self.new.steps.count ≡ self.old.steps.count }
+        ensures cause { HasCause self.old.faults self.new.faults (IsTrue result) }
+        ensures steps { self.new.steps ≡ self.old.steps }
         ensures stop { stop_of self.new ≡ stop_of self.old }
         ensures plan { self.new.plan ≡ after_call self.old.plan }
     {
@@ -121,8 +121,8 @@ impl MemCalls {
     pub(crate) fn begin_change(&mut self) -> Passage
         ensures passage { result ≡ passage_of self.old }
         ensures stopped { IsStopped (stop_of self.new) → result ≢ Passage.Passes }
-        ensures cause { HasCause self.old.faults.count self.new.faults.count (result ≢ Passage.Passes) }
-        ensures steps { self.new.steps.count ≡ self.old.steps.count + 1 }
+        ensures cause { HasCause self.old.faults self.new.faults (result ≢ Passage.Passes) }
+        ensures steps { self.new.steps ≡ self.old.steps + 1 }
         ensures stop { stop_of self.new ≡ after_change (stop_of self.old) }
         ensures plan { self.new.plan ≡ after_call self.old.plan }
     {

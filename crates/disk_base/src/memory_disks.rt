@@ -2,7 +2,7 @@
 ghost use Rattle.std.specs.Prelude.{◌≡◌, ◌≢◌, ◌+◌, ◌<◌, ◌≤◌, ◌⊎◌, ℕ, List, ◌∷◌, Some, Option, Bool, true, IfOk, IfSome, IsSome, IsTrue, OnOk, OnErr, length, take, drop, ◌↔◌};
 ghost use Rattle.disk_base.specs.Files.{no_files, file_of, with_file, laid, OnDone, OnKnown, KeepsRoom};
 ghost use Rattle.disk_base.specs.Stops.{IsStopped};
-ghost use Rattle.disk_base.specs.Stops.Stop.{Unarmed};
+ghost use Rattle.disk_base.specs.Stops.DiskStop.{Unarmed};
 ghost use Rattle.std.specs.Borrow.{sem};
 ghost use Rattle.disk_base.specs.Count.{HasCause};
 ghost use Rattle.disk_base.specs.declared.disks.FileNo.{FileNo};
@@ -25,14 +25,14 @@ pub(crate) struct MemFiles {
 
 impl MemFiles {
     ghost use Rattle.disk_base.specs.LendsFile.{LendsFile};
-    ghost use Rattle.disk_base.specs.MemDisk.{file_at, now_in, moment_in, room_in};
+    ghost use Rattle.disk_base.specs.MemDisk.{file_at, now_in, pending_in, room_in};
     ghost use Rattle.disk_base.specs.Stops.{IsLeftBy};
-    ghost use Rattle.disk_base.specs.Moments.{after_write, after_cut, after_sync, all_at_rest};
+    ghost use Rattle.disk_base.specs.Pending.{after_write, after_cut, after_sync, all_at_rest};
 
     /// Three empty files.
     fn new(alloc: Global) -> MemFiles
         ensures now { now_in result ≡ no_files }
-        ensures moment { moment_in result ≡ all_at_rest no_files }
+        ensures pending { pending_in result ≡ all_at_rest no_files }
     {
         MemFiles {
             database: MemFile::new(alloc),
@@ -67,7 +67,7 @@ impl MemFiles {
         ensures reserved { OnOk result (len ≤ room_in self.new f) }
         ensures no_memory { OnErr result (room_in self.old f < len) }
         ensures now { now_in self.new ≡ now_in self.old }
-        ensures moment { moment_in self.new ≡ moment_in self.old }
+        ensures pending { pending_in self.new ≡ pending_in self.old }
         ensures room { KeepsRoom (room_in self.old) (room_in self.new) }
     {
         self.file_mut(f).reserve(len)
@@ -79,8 +79,8 @@ impl MemFiles {
         ensures ok { OnOk result (now_in self.new
             ≡ with_file (now_in self.old) f (laid (file_of (now_in self.old) f) at bytes.now)) }
         ensures err { OnErr result (now_in self.new ≡ now_in self.old) }
-        ensures marked { OnOk result (moment_in self.new ≡ after_write f at (length bytes.now) (moment_in self.old)) }
-        ensures unmarked { OnErr result (moment_in self.new ≡ moment_in self.old) }
+        ensures marked { OnOk result (pending_in self.new ≡ after_write f at (length bytes.now) (pending_in self.old)) }
+        ensures unmarked { OnErr result (pending_in self.new ≡ pending_in self.old) }
         ensures room { KeepsRoom (room_in self.old) (room_in self.new) }
     {
         self.file_mut(f).write_at(at, bytes)
@@ -91,8 +91,8 @@ impl MemFiles {
         ensures ok { OnOk result (now_in self.new
             ≡ with_file (now_in self.old) f (take len (file_of (now_in self.old) f))) }
         ensures err { OnErr result (now_in self.new ≡ now_in self.old) }
-        ensures marked { OnOk result (moment_in self.new ≡ after_cut f len (moment_in self.old)) }
-        ensures unmarked { OnErr result (moment_in self.new ≡ moment_in self.old) }
+        ensures marked { OnOk result (pending_in self.new ≡ after_cut f len (pending_in self.old)) }
+        ensures unmarked { OnErr result (pending_in self.new ≡ pending_in self.old) }
         ensures room { KeepsRoom (room_in self.old) (room_in self.new) }
     {
         self.file_mut(f).cut(len)
@@ -100,15 +100,15 @@ impl MemFiles {
 
     fn sync(&mut self, f: FileNo)
         ensures now { now_in self.new ≡ now_in self.old }
-        ensures moment { moment_in self.new ≡ after_sync f (file_of (now_in self.old) f) (moment_in self.old) }
+        ensures pending { pending_in self.new ≡ after_sync f (file_of (now_in self.old) f) (pending_in self.old) }
         ensures room { KeepsRoom (room_in self.old) (room_in self.new) }
     {
         self.file_mut(f).sync()
     }
 
     fn revive(&mut self, fill: Fill)
-        ensures left { IsLeftBy fill (moment_in self.old) (now_in self.old) (now_in self.new) }
-        ensures moment { moment_in self.new ≡ all_at_rest (now_in self.new) }
+        ensures left { IsLeftBy fill (pending_in self.old) (now_in self.old) (now_in self.new) }
+        ensures pending { pending_in self.new ≡ all_at_rest (now_in self.new) }
         ensures room { (f : FileNo) → room_in self.new f ≡ length (file_of (now_in self.new) f) }
     {
         self.database.revive(fill);
@@ -126,16 +126,16 @@ pub struct MemDisk {
 }
 
 impl MemDisk {
-    ghost use Rattle.disk_base.specs.Moments.{all_at_rest};
+    ghost use Rattle.disk_base.specs.Pending.{all_at_rest};
     ghost use Rattle.disk_base.specs.Plan.{IsFresh, after_call};
     ghost use Rattle.disk_base.specs.Stops.{after_change};
-    ghost use Rattle.disk_base.specs.MemDisk.{now_of, moment_of, disk_may_leave, disk_passage, disk_stop, disk_plan, disk_steps, disk_faults, disk_tells};
+    ghost use Rattle.disk_base.specs.MemDisk.{now_of, pending_of, disk_may_leave, disk_passage, disk_stop, disk_plan, disk_steps, disk_faults, disk_tells};
 
     /// A disk of three empty files, unarmed. Its call number k fails where k is in `fails`; calls of `len`, `read`,
     /// `write_at`, `cut` and `sync` are counted, from 1. A call that fails by its number changes no file.
     pub fn new(alloc: Global, fails: &[u64]) -> Result<MemDisk, NoMemory>
         ensures files { IfOk result (λ disk. now_of disk ≡ no_files) }
-        ensures pending { IfOk result (λ disk. moment_of disk ≡ all_at_rest no_files) }
+        ensures pending { IfOk result (λ disk. pending_of disk ≡ all_at_rest no_files) }
         ensures settled { IfOk result (λ disk. Only no_files (disk_may_leave disk)) }
         ensures tells { IfOk result (λ disk. disk_tells disk ≡ true) }
         ensures fails { IfOk result (λ disk. IsFresh fails.now (disk_plan disk)) }
@@ -150,13 +150,13 @@ impl MemDisk {
         })
     }
 
-    /// Begins a call that changes a file, and says whether it passes. The moment before it is then an earlier one.
+    /// Begins a call that changes a file, and says whether it passes. What was pending before it is then that of an earlier moment.
     fn begin_change(&mut self) -> Passage
         ensures passage { result ≡ disk_passage self.old }
         ensures stopped { IsStopped (disk_stop self.new) → result ≢ Passage.Passes }
         ensures cause { HasCause (disk_faults self.old) (disk_faults self.new) (result ≢ Passage.Passes) }
         ensures files { self.new.files ≡ self.old.files }
-        ensures moments { self.new.moments.earlier ≡ moment_of self.old ∷ self.old.moments.earlier }
+        ensures moments { self.new.moments ≡ pending_of self.old ∷ self.old.moments }
         ensures steps { disk_steps self.new ≡ disk_steps self.old + 1 }
         ensures stop { disk_stop self.new ≡ after_change (disk_stop self.old) }
         ensures plan { disk_plan self.new ≡ after_call (disk_plan self.old) }
@@ -189,8 +189,8 @@ impl MemDisk {
 impl Disk for MemDisk {
     ghost use Rattle.disk_base.specs.Plan.{after_call};
     ghost use Rattle.disk_base.specs.Stops.{after_change, StopsNext, Keeps, IsWritten};
-    ghost use Rattle.disk_base.specs.Moments.{after_write, after_cut, after_sync};
-    ghost use Rattle.disk_base.specs.MemDisk.{now_of, moment_of, disk_room, disk_stop, disk_plan, disk_steps, disk_faults};
+    ghost use Rattle.disk_base.specs.Pending.{after_write, after_cut, after_sync};
+    ghost use Rattle.disk_base.specs.MemDisk.{now_of, pending_of, disk_room, disk_stop, disk_plan, disk_steps, disk_faults};
     ghost use Rattle.disk_base.specs.MemDisk.{disk_may_leave, disk_left_since, disk_tells};
     ghost use Rattle.disk_base.specs.MemDisk.{disk_fails, disk_passage, done_unless, known_unless, end_of, FailsUnlessPassed};
     ghost use Rattle.disk_base.specs.MemLaws.{counts_now, only_now, may_be_read, has_room, tells_both, tells_now, leaves_pending};
@@ -205,7 +205,7 @@ impl Disk for MemDisk {
 
     ghost stop = { disk_stop };
 
-    ghost pending = { λ disk. Some (moment_of disk) };
+    ghost pending = { λ disk. Some (pending_of disk) };
 
     ghost tells = { disk_tells };
 
@@ -233,7 +233,7 @@ impl Disk for MemDisk {
         ensures room { KeepsRoom (disk_room self.old) (disk_room self.new) }
         ensures steps { disk_steps self.new ≡ disk_steps self.old }
         ensures crash { LeavesSame (disk_may_leave self.old) (disk_may_leave self.new) (disk_left_since self.old) (disk_left_since self.new) }
-        ensures pending { Some (moment_of self.new) ≡ Some (moment_of self.old) }
+        ensures pending { Some (pending_of self.new) ≡ Some (pending_of self.old) }
         ensures failed { Some (now_of self.new) ≡ Some (now_of self.old) }
         ensures tells { disk_tells self.new ≡ disk_tells self.old }
         ensures cause { HasCause (disk_faults self.old) (disk_faults self.new) (result ≡ LenEnd.Failed) }
@@ -255,7 +255,7 @@ impl Disk for MemDisk {
         ensures room { KeepsRoom (disk_room self.old) (disk_room self.new) }
         ensures steps { disk_steps self.new ≡ disk_steps self.old }
         ensures crash { LeavesSame (disk_may_leave self.old) (disk_may_leave self.new) (disk_left_since self.old) (disk_left_since self.new) }
-        ensures pending { Some (moment_of self.new) ≡ Some (moment_of self.old) }
+        ensures pending { Some (pending_of self.new) ≡ Some (pending_of self.old) }
         ensures tells { disk_tells self.new ≡ disk_tells self.old }
         ensures faults { disk_faults self.new ≡ disk_faults self.old }
         ensures stop { disk_stop self.new ≡ disk_stop self.old }
@@ -275,7 +275,7 @@ impl Disk for MemDisk {
         ensures room { KeepsRoom (disk_room self.old) (disk_room self.new) }
         ensures steps { disk_steps self.new ≡ disk_steps self.old }
         ensures crash { LeavesSame (disk_may_leave self.old) (disk_may_leave self.new) (disk_left_since self.old) (disk_left_since self.new) }
-        ensures pending { Some (moment_of self.new) ≡ Some (moment_of self.old) }
+        ensures pending { Some (pending_of self.new) ≡ Some (pending_of self.old) }
         ensures failed { Some (now_of self.new) ≡ Some (now_of self.old) }
         ensures tells { disk_tells self.new ≡ disk_tells self.old }
         ensures cause { HasCause (disk_faults self.old) (disk_faults self.new) (result ≡ DiskEnd.Failed) }
@@ -301,9 +301,9 @@ impl Disk for MemDisk {
         ensures crash { Follows (InFile f (Torn at (length bytes.now))) (disk_may_leave self.old) (disk_may_leave self.new) }
         ensures others { LeavesOthers f (disk_may_leave self.old) (disk_may_leave self.new) }
         ensures time { Elapses (disk_steps self.old) (disk_left_since self.old) (disk_left_since self.new) (disk_may_leave self.new) }
-        ensures pending { OnDone result (Some (moment_of self.new) ≡ Some (after_write f at (length bytes.now) (moment_of self.old))) }
-        ensures failed { result ≡ DiskEnd.Failed → Keeps (Some (now_of self.old)) (Some (now_of self.new)) (Some (moment_of self.old)) (Some (moment_of self.new))
-            ⊎ (StopsNext (disk_stop self.old) × IsWritten f at bytes.now (Some (now_of self.old)) (Some (now_of self.new)) (Some (moment_of self.old)) (Some (moment_of self.new))) }
+        ensures pending { OnDone result (Some (pending_of self.new) ≡ Some (after_write f at (length bytes.now) (pending_of self.old))) }
+        ensures failed { result ≡ DiskEnd.Failed → Keeps (Some (now_of self.old)) (Some (now_of self.new)) (Some (pending_of self.old)) (Some (pending_of self.new))
+            ⊎ (StopsNext (disk_stop self.old) × IsWritten f at bytes.now (Some (now_of self.old)) (Some (now_of self.new)) (Some (pending_of self.old)) (Some (pending_of self.new))) }
         ensures tells { disk_tells self.new ≡ disk_tells self.old }
         ensures cause { HasCause (disk_faults self.old) (disk_faults self.new) (result ≡ DiskEnd.Failed) }
         ensures fails { FailsUnlessPassed (disk_passage self.old) result }
@@ -331,8 +331,8 @@ impl Disk for MemDisk {
         ensures crash { Follows (InFile f (CutShort len)) (disk_may_leave self.old) (disk_may_leave self.new) }
         ensures others { LeavesOthers f (disk_may_leave self.old) (disk_may_leave self.new) }
         ensures time { Elapses (disk_steps self.old) (disk_left_since self.old) (disk_left_since self.new) (disk_may_leave self.new) }
-        ensures pending { OnDone result (Some (moment_of self.new) ≡ Some (after_cut f len (moment_of self.old))) }
-        ensures failed { result ≡ DiskEnd.Failed → Keeps (Some (now_of self.old)) (Some (now_of self.new)) (Some (moment_of self.old)) (Some (moment_of self.new)) }
+        ensures pending { OnDone result (Some (pending_of self.new) ≡ Some (after_cut f len (pending_of self.old))) }
+        ensures failed { result ≡ DiskEnd.Failed → Keeps (Some (now_of self.old)) (Some (now_of self.new)) (Some (pending_of self.old)) (Some (pending_of self.new)) }
         ensures tells { disk_tells self.new ≡ disk_tells self.old }
         ensures cause { HasCause (disk_faults self.old) (disk_faults self.new) (result ≡ DiskEnd.Failed) }
         ensures fails { FailsUnlessPassed (disk_passage self.old) result }
@@ -355,8 +355,8 @@ impl Disk for MemDisk {
         ensures crash { Narrows (disk_may_leave self.old) (disk_may_leave self.new) }
         ensures others { LeavesOthers f (disk_may_leave self.old) (disk_may_leave self.new) }
         ensures time { Elapses (disk_steps self.old) (disk_left_since self.old) (disk_left_since self.new) (disk_may_leave self.new) }
-        ensures pending { OnDone result (Some (moment_of self.new) ≡ Some (after_sync f (file_of (now_of self.old) f) (moment_of self.old))) }
-        ensures failed { result ≡ DiskEnd.Failed → Keeps (Some (now_of self.old)) (Some (now_of self.new)) (Some (moment_of self.old)) (Some (moment_of self.new)) }
+        ensures pending { OnDone result (Some (pending_of self.new) ≡ Some (after_sync f (file_of (now_of self.old) f) (pending_of self.old))) }
+        ensures failed { result ≡ DiskEnd.Failed → Keeps (Some (now_of self.old)) (Some (now_of self.new)) (Some (pending_of self.old)) (Some (pending_of self.new)) }
         ensures tells { disk_tells self.new ≡ disk_tells self.old }
         ensures cause { HasCause (disk_faults self.old) (disk_faults self.new) (result ≡ DiskEnd.Failed) }
         ensures exact { result ≡ end_of (disk_passage self.old) }
@@ -375,8 +375,8 @@ impl Disk for MemDisk {
 
 impl StopDisk for MemDisk {
     ghost use Rattle.disk_base.specs.Stops.{armed, fill_left, IsLeftBy};
-    ghost use Rattle.disk_base.specs.Moments.{all_at_rest};
-    ghost use Rattle.disk_base.specs.MemDisk.{now_of, moment_of, disk_room, disk_stop, disk_plan, disk_steps, disk_faults};
+    ghost use Rattle.disk_base.specs.Pending.{all_at_rest};
+    ghost use Rattle.disk_base.specs.MemDisk.{now_of, pending_of, disk_room, disk_stop, disk_plan, disk_steps, disk_faults};
     ghost use Rattle.disk_base.specs.MemDisk.{disk_may_leave, disk_left_since, disk_tells};
 
     fn arm(&mut self, calls: u32, fill: Fill)
@@ -384,7 +384,7 @@ impl StopDisk for MemDisk {
         ensures files { Some (now_of self.new) ≡ Some (now_of self.old) }
         ensures room { KeepsRoom (disk_room self.old) (disk_room self.new) }
         ensures steps { disk_steps self.new ≡ disk_steps self.old }
-        ensures pending { Some (moment_of self.new) ≡ Some (moment_of self.old) }
+        ensures pending { Some (pending_of self.new) ≡ Some (pending_of self.old) }
         ensures crash { LeavesSame (disk_may_leave self.old) (disk_may_leave self.new) (disk_left_since self.old) (disk_left_since self.new) }
         ensures tells { disk_tells self.new ≡ disk_tells self.old }
         ensures faults { disk_faults self.new ≡ disk_faults self.old }
@@ -402,9 +402,9 @@ impl StopDisk for MemDisk {
         ensures steps { disk_steps self.new ≡ disk_steps self.old }
         ensures faults { disk_faults self.new ≡ disk_faults self.old }
         ensures left { disk_may_leave self.old (now_of self.new) × Only (now_of self.new) (disk_may_leave self.new) }
-        ensures by_fill { IsLeftBy (fill_left (disk_stop self.old)) (moment_of self.old) (now_of self.old) (now_of self.new) }
-        ensures at_rest { Some (moment_of self.new) ≡ Some (all_at_rest (now_of self.new)) }
-        ensures told { disk_tells self.old ≡ true → IsSome (Some (now_of self.new)) }
+        ensures by_fill { IsLeftBy (fill_left (disk_stop self.old)) (pending_of self.old) (now_of self.old) (now_of self.new) }
+        ensures at_rest { Some (pending_of self.new) ≡ Some (all_at_rest (now_of self.new)) }
+        ensures tells_files { disk_tells self.old ≡ true → IsSome (Some (now_of self.new)) }
         ensures begins_anew { BeginsAnew (disk_left_since self.new) (disk_may_leave self.new) }
         ensures room { (f : FileNo) → disk_room self.new f ≡ length (file_of (now_of self.new) f) }
         ensures tells { disk_tells self.new ≡ disk_tells self.old }

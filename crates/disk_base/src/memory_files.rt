@@ -2,7 +2,7 @@
 ghost use Rattle.std.specs.Prelude.{◌≡◌, ◌+◌, ◌<◌, ◌≤◌, [], ◌∷◌, ◌++◌, length, take, drop, All, OnOk, OnErr, vec_capacity};
 ghost use Rattle.disk_base.specs.Files.{laid};
 ghost use Rattle.disk_base.specs.Touches.{MayBe, IsFilled};
-ghost use Rattle.disk_base.specs.Undos.{end_of, all_undone, touches_in};
+ghost use Rattle.disk_base.specs.Undos.{lost_to, all_undone, touches_in};
 
 use crate::Fill;
 use crate::touches::Touch;
@@ -24,16 +24,16 @@ pub(crate) struct MemFile {
     ghost has_room: { length bytes.items ≤ room },
     // The room is memory that the file has.
     ghost has_memory: { room ≤ vec_capacity bytes },
-    ghost undo_has_room: { All (λ undo. end_of undo ≤ room) undos.items },
+    ghost undo_has_room: { All (λ undo. lost_to undo ≤ room) undos.items },
 }
 
 impl MemFile {
-    ghost use Rattle.disk_base.specs.MemFile.{bytes_of, synced_of, touches_of, room_of, state_in};
+    ghost use Rattle.disk_base.specs.MemFile.{content_of, synced_of, touches_of, room_of, state_in};
     ghost use Rattle.disk_base.specs.Stops.{IsLeft};
 
     /// An empty file without room.
     pub(crate) fn new(alloc: Global) -> MemFile
-        ensures bytes { bytes_of result ≡ [] }
+        ensures bytes { content_of result ≡ [] }
         ensures synced { synced_of result ≡ [] }
         ensures touches { touches_of result ≡ [] }
         ensures room { room_of result ≡ 0 }
@@ -47,7 +47,7 @@ impl MemFile {
     }
 
     pub(crate) fn len(&self) -> u64
-        ensures { result ≡ length (bytes_of self.now) }
+        ensures { result ≡ length (content_of self.now) }
     {
         self.bytes.len() as u64
     }
@@ -57,7 +57,7 @@ impl MemFile {
         ensures reserved { OnOk result (len ≤ room_of self.new) }
         ensures no_memory { OnErr result (room_of self.old < len) }
         ensures room { room_of self.old ≤ room_of self.new }
-        ensures bytes { bytes_of self.new ≡ bytes_of self.old }
+        ensures bytes { content_of self.new ≡ content_of self.old }
         ensures synced { synced_of self.new ≡ synced_of self.old }
         ensures touches { touches_of self.new ≡ touches_of self.old }
     {
@@ -70,8 +70,8 @@ impl MemFile {
     }
 
     pub(crate) fn read(&self, at: u64, buf: &mut [u8])
-        requires { at + length buf.old ≤ length (bytes_of self.now) }
-        ensures { buf.new ≡ take (length buf.old) (drop at (bytes_of self.now)) }
+        requires { at + length buf.old ≤ length (content_of self.now) }
+        ensures { buf.new ≡ take (length buf.old) (drop at (content_of self.now)) }
     {
         let from = at as usize;
         buf.copy_from_slice(&self.bytes[from..from + buf.len()]);
@@ -79,10 +79,10 @@ impl MemFile {
 
     /// Lays bytes over the file from a position on. For want of memory it stays.
     pub(crate) fn write_at(&mut self, at: u64, bytes: &[u8]) -> Result<(), NoMemory>
-        requires begins { at ≤ length (bytes_of self.old) }
+        requires begins { at ≤ length (content_of self.old) }
         requires fits { at + length bytes.now ≤ room_of self.old }
-        ensures ok { OnOk result (bytes_of self.new ≡ laid (bytes_of self.old) at bytes.now) }
-        ensures err { OnErr result (bytes_of self.new ≡ bytes_of self.old) }
+        ensures ok { OnOk result (content_of self.new ≡ laid (content_of self.old) at bytes.now) }
+        ensures err { OnErr result (content_of self.new ≡ content_of self.old) }
         ensures marked { OnOk result (touches_of self.new
             ≡ touches_of self.old ++ Touch.Wrote at (length bytes.now) ∷ []) }
         ensures unmarked { OnErr result (touches_of self.new ≡ touches_of self.old) }
@@ -98,9 +98,9 @@ impl MemFile {
 
     /// Keeps the first `len` bytes, at most its length. For want of memory the file stays.
     pub(crate) fn cut(&mut self, len: u64) -> Result<(), NoMemory>
-        requires { len ≤ length (bytes_of self.old) }
-        ensures ok { OnOk result (bytes_of self.new ≡ take len (bytes_of self.old)) }
-        ensures err { OnErr result (bytes_of self.new ≡ bytes_of self.old) }
+        requires { len ≤ length (content_of self.old) }
+        ensures ok { OnOk result (content_of self.new ≡ take len (content_of self.old)) }
+        ensures err { OnErr result (content_of self.new ≡ content_of self.old) }
         ensures marked { OnOk result (touches_of self.new ≡ touches_of self.old ++ Touch.Cut len ∷ []) }
         ensures unmarked { OnErr result (touches_of self.new ≡ touches_of self.old) }
         ensures synced { synced_of self.new ≡ synced_of self.old }
@@ -115,8 +115,8 @@ impl MemFile {
 
     /// From now on the bytes are those as last synced.
     pub(crate) fn sync(&mut self)
-        ensures bytes { bytes_of self.new ≡ bytes_of self.old }
-        ensures synced { synced_of self.new ≡ bytes_of self.old }
+        ensures bytes { content_of self.new ≡ content_of self.old }
+        ensures synced { synced_of self.new ≡ content_of self.old }
         ensures touches { touches_of self.new ≡ [] }
         ensures room { room_of self.new ≡ room_of self.old }
     {
@@ -126,10 +126,10 @@ impl MemFile {
     /// What a stop leaves becomes what a read gives and what was last synced. What was reserved past it is not
     /// kept.
     pub(crate) fn revive(&mut self, fill: Fill)
-        ensures left { IsLeft fill (state_in self.old) (bytes_of self.old) (bytes_of self.new) }
-        ensures synced { synced_of self.new ≡ bytes_of self.new }
+        ensures left { IsLeft fill (state_in self.old) (content_of self.old) (content_of self.new) }
+        ensures synced { synced_of self.new ≡ content_of self.new }
         ensures touches { touches_of self.new ≡ [] }
-        ensures room { room_of self.new ≡ length (bytes_of self.new) }
+        ensures room { room_of self.new ≡ length (content_of self.new) }
     {
         let undos = mem::replace(&mut self.undos, Vec::new(self.alloc));
         match fill {

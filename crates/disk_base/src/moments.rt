@@ -1,41 +1,65 @@
-//! The moments that a disk in memory has had, for contracts alone.
-ghost use Rattle.std.specs.Prelude.{List};
-ghost use Rattle.std.specs.Borrow.{ftrue};
-ghost use Rattle.disk_base.specs.Moments.{Moment};
+//! What was pending at the earlier moments of a disk in memory, for contracts alone.
+ghost use Rattle.std.specs.Prelude.{List, ◌≡◌, [], ◌∷◌};
+ghost use Rattle.disk_base.specs.Pending.{Pending};
 
+use crate::ghosts::{Ghost, Says};
 use crate::memory_disks::MemFiles;
 use std::marker::Model;
 
-/// The moments before the present one, the newest first. It takes no memory, and nothing can ask for them.
+/// What contracts see: what was pending, the newest first.
+struct History;
+
+impl Model for History {
+    ghost Value = { List Pending };
+
+    ghost view = { λ _. [] };
+}
+
+/// The moments of a disk before the present one, as what was pending at them, the newest first. It takes no memory, and
+/// nothing can ask for them.
 #[derive(Drop)]
 pub(crate) struct Moments {
-    ghost earlier: { List Moment },
+    earlier: Ghost<History>,
 }
 
 impl Model for Moments {
-    ghost also_owns = { λ _. ftrue };
+    ghost Value = { List Pending };
+
+    ghost view = { λ moments. moments.earlier.value };
 }
 
-// It owns nothing.
-unsafe impl Send for Moments {}
+struct NoMoment;
 
-unsafe impl Sync for Moments {}
+impl Says<(), History> for NoMoment {
+    ghost says = { λ _. [] };
+}
+
+struct OneMore;
+
+impl<'a> Says<(&'a Moments, &'a MemFiles), History> for OneMore {
+    ghost use Rattle.disk_base.specs.MemDisk.{pending_in};
+
+    ghost says = { λ now. pending_in now.1.now ∷ now.0.now };
+}
 
 impl Moments {
-    ghost use Rattle.std.specs.Prelude.{◌≡◌, [], ◌∷◌};
-    ghost use Rattle.disk_base.specs.MemDisk.{moment_in};
+    ghost use Rattle.disk_base.specs.MemDisk.{pending_in};
 
     /// There was none.
     pub(crate) fn new() -> Moments
-        ensures { result.earlier ≡ [] }
+        ensures { result ≡ [] }
     {
-        Moments {}
+        Moments {
+            earlier: Ghost::of::<(), NoMoment>(&()),
+        }
     }
 
-    /// The present moment of the files is one more.
+    /// The present moment of the files is one more earlier one.
     pub(crate) fn next(&self, files: &MemFiles) -> Moments
-        ensures { result.earlier ≡ moment_in files.now ∷ self.now.earlier }
+        ensures { result ≡ pending_in files.now ∷ self.now }
     {
-        Moments {}
+        Moments {
+            earlier: Ghost::of::<(&Moments, &MemFiles), OneMore>(&(self, files)),
+        }
     }
 }

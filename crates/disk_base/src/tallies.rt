@@ -1,36 +1,49 @@
 //! A count that only contracts see, so that no width of a number bounds it.
 ghost use Rattle.std.specs.Prelude.{◌≡◌, ◌+◌, ℕ};
-ghost use Rattle.std.specs.Borrow.{ftrue};
 
+use crate::ghosts::{Ghost, Says};
 use std::marker::Model;
 
 /// How often something has happened. It takes no memory, and nothing can ask for the number.
 #[derive(Drop)]
 pub(crate) struct Tally {
-    ghost count: { ℕ },
+    count: Ghost<u64>,
 }
 
 impl Model for Tally {
-    ghost also_owns = { λ _. ftrue };
+    ghost Value = { ℕ };
+
+    ghost view = { λ tally. tally.count.value };
 }
 
-// It owns nothing.
-unsafe impl Send for Tally {}
+struct Zero;
 
-unsafe impl Sync for Tally {}
+impl Says<(), u64> for Zero {
+    ghost says = { λ _. 0 };
+}
+
+struct OneMore;
+
+impl Says<Tally, u64> for OneMore {
+    ghost says = { λ count. count + 1 };
+}
 
 impl Tally {
     /// Nothing has happened yet.
     pub(crate) fn new() -> Tally
-        ensures { result.count ≡ 0 }
+        ensures { result ≡ 0 }
     {
-        Tally {}
+        Tally {
+            count: Ghost::of::<(), Zero>(&()),
+        }
     }
 
     /// It has happened once more.
     pub(crate) fn next(&self) -> Tally
-        ensures { result.count ≡ self.now.count + 1 }
+        ensures { result ≡ self.now + 1 }
     {
-        Tally {}
+        Tally {
+            count: Ghost::of::<Tally, OneMore>(self),
+        }
     }
 }

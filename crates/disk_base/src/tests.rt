@@ -1,8 +1,8 @@
 //! The forms in memory, and the adapters, each through its trait.
 ghost use Rattle.std.specs.Prelude.{◌≡◌, ◌+◌, ◌<◌, ◌^◌, IfOk, IsSome, true, length};
 ghost use Rattle.std.specs.Option.{option_map};
-ghost use Rattle.disk_base.specs.Stops.Stop.{Unarmed, Stopped};
-ghost use Rattle.disk_base.specs.Moments.{all_at_rest};
+ghost use Rattle.disk_base.specs.Stops.DiskStop.{Unarmed, Stopped};
+ghost use Rattle.disk_base.specs.Pending.{all_at_rest};
 
 use crate::{
     Disk, DiskEnd, FileDisk, FileNo, Fill, Got, LenEnd, MemDisk, MemSink, MemSource, ReaderSource,

@@ -1,7 +1,7 @@
 //! What undoes the changing calls of a file since its last sync.
 ghost use Rattle.std.specs.Prelude.{◌≡◌, ◌+◌, ◌≤◌, length, take, drop, All, IfOk, vec_capacity};
 ghost use Rattle.disk_base.specs.Files.{laid};
-ghost use Rattle.disk_base.specs.Undos.{end_of, undone, all_undone};
+ghost use Rattle.disk_base.specs.Undos.{lost_to, undone, all_undone};
 
 use crate::touches::Touch;
 use std::alloc::Global;
@@ -61,7 +61,7 @@ impl Undo {
 
     /// Makes a file what it was before the call. Its memory is there, so it takes none.
     fn undo(&self, file: &mut Vec<u8>)
-        requires { end_of self.now ≤ vec_capacity file.old }
+        requires { lost_to self.now ≤ vec_capacity file.old }
         ensures bytes { file.new.items ≡ undone self.now file.old.items }
         ensures capacity { vec_capacity file.old ≤ vec_capacity file.new }
     {
@@ -77,7 +77,7 @@ impl Undo {
 
 /// Makes a file what it was before these calls, of which the newest is the last. It takes no memory.
 pub(crate) fn undo_all(undos: &[Undo], file: &mut Vec<u8>)
-    requires { All (λ undo. end_of undo ≤ vec_capacity file.old) undos.now }
+    requires { All (λ undo. lost_to undo ≤ vec_capacity file.old) undos.now }
     ensures bytes { file.new.items ≡ all_undone undos.now file.old.items }
     ensures capacity { vec_capacity file.old ≤ vec_capacity file.new }
 {

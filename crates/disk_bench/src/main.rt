@@ -24,7 +24,7 @@ const WORDS: u8 = 6;
 const LEN: usize = 192;
 
 /// The bytes of each write.
-const LAID: [u8; 192] = [120; 192];
+const LAID: [u8; LEN] = [120; LEN];
 
 /// How many writes are a round.
 const ROUND: u32 = 2000;
@@ -38,9 +38,9 @@ const LEAST: u16 = 64;
 /// Writes the bytes at a position of the database file, and syncs it.
 fn commit<D: Disk>(disk: &mut D, at: u64) -> DiskEnd
     requires begins { IfSome (D.files disk.old) (λ fs. at ≤ length fs.database) }
-    requires fits { at + 192 ≤ D.room disk.old FileNo.Database }
+    requires fits { at + LEN ≤ D.room disk.old FileNo.Database }
     ensures written { OnDone result (D.files disk.new
-        ≡ option_map (λ fs. with_file fs FileNo.Database (laid fs.database at (replicate 192 120))) (D.files disk.old)) }
+        ≡ option_map (λ fs. with_file fs FileNo.Database (laid fs.database at (replicate LEN 120))) (D.files disk.old)) }
     ensures steps { OnDone result (D.steps disk.new ≡ D.steps disk.old + 2) }
     ensures room { D.room disk.old FileNo.Database ≤ D.room disk.new FileNo.Database }
 {

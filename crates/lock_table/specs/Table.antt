@@ -2,6 +2,7 @@
 -- to be served first (own).
 use Rattle.std.specs.Prelude.{ℕ, ◌==◌, ◌<◌, ◌≤◌, ◌^◌, not, Option, List, [], ◌∷◌, ◌++◌, length, filter, find, drop, All, AllPairs}
 use Rattle.lock_table.specs.declared.ranges.HeldRange.{HeldRange}
+use Rattle.lock_table.specs.declared.tables.TheConstants.{MAX_WAITING}
 use Rattle.lock_table.specs.Ranges.{range_end, conflicts, Conflicts}
 
 pub record Table : Type 0 where
@@ -9,11 +10,11 @@ pub record Table : Type 0 where
   pub line : List ℕ
 
 -- what is true of every table that its calls make: no place that one id writes is held by another, each
--- range ends within 32 bits, and at most 64 ids wait
+-- range ends within 32 bits, and not too many ids wait
 pub record IsLockTable (table : Table) : Type 0 where
   pub apart : AllPairs (λ a b. ¬ Conflicts a b) table.held
   pub ends : All (λ range. range_end range < 2 ^ 32) table.held
-  pub not_more : length table.line ≤ 64
+  pub not_more : length table.line ≤ MAX_WAITING
 
 abbrev pub empty_table : Table
 empty_table = record { held = []; line = [] }

@@ -34,11 +34,11 @@ impl Model for LockTable {
 
     ghost Value = { Table };
 
-    ghost use Rattle.lock_table.specs.View.{table_of, IsWhole};
+    ghost use Rattle.lock_table.specs.View.{table_of, IsInOrder};
 
     ghost view = { table_of };
 
-    ghost invariant = { IsWhole };
+    ghost invariant = { IsInOrder };
 }
 
 impl LockTable {
@@ -73,7 +73,7 @@ impl LockTable {
     /// Takes a range that nothing keeps `who` from taking. Where memory runs out the table is as before.
     pub fn take(&mut self, start: u32, len: u32, write: bool, who: u32) -> Result<(), NoMemory>
         requires free { first_conflict self.old (held_range start len write who) ≡ None }
-        requires within { start + len < 2 ^ 32 }
+        requires fits { start + len < 2 ^ 32 }
         ensures ok { OnOk result (self.new ≡ with_range self.old (held_range start len write who)) }
         ensures err { OnErr result (self.new ≡ self.old) }
     {
@@ -117,7 +117,7 @@ impl LockTable {
     /// How many ids wait.
     pub fn waiting(&self) -> usize
         ensures len { result ≡ length self.now.line }
-        ensures within { result ≤ MAX_WAITING }
+        ensures not_more { result ≤ MAX_WAITING }
     {
         self.line.len()
     }

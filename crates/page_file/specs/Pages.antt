@@ -2,6 +2,7 @@
 use Rattle.std.specs.Prelude.{◌≡◌, ℕ, List, Option, IfSome, length, take, drop}
 use Rattle.ubik_types.specs.declared.versions.Version.{Version}
 use Rattle.disk_base.specs.Files.{Files}
+use Rattle.page_file.specs.declared.label.TheConstants.{LABEL_LEN}
 use Rattle.page_file.specs.Label.{version_of_label}
 
 pub record Known : Type 0 where
@@ -10,13 +11,13 @@ pub record Known : Type 0 where
   -- the length of the image, in bytes
   pub len : ℕ
 
--- the bytes behind the label; a position in it is 64 less than in the file
+-- the bytes behind the label; a position in it is less by its length than in the file
 abbrev pub image_of : List ℕ → List ℕ
-image_of file = drop 64 file
+image_of file = drop LABEL_LEN file
 
 -- a version is that of a file's label, where it has one
 abbrev pub LabelledAs : List ℕ → Version → Type 0
-LabelledAs file version = IfSome (version_of_label (take 64 file)) (λ read. read ≡ version)
+LabelledAs file version = IfSome (version_of_label (take LABEL_LEN file)) (λ read. read ≡ version)
 
 -- The length is that of the image, and the version that of the label.
 pub record Agrees (pages : Known) (file : List ℕ) : Type 0 where

@@ -17,7 +17,7 @@ const EPOCH_AT: usize = 8;
 const COUNTER_AT: usize = 12;
 
 /// The label of a version.
-pub fn label_bytes(version: Version) -> [u8; 64]
+pub fn label_bytes(version: Version) -> [u8; LABEL_LEN]
     ensures { result ≡ label version }
 {
     let [a, b, c, d] = version.epoch.to_be_bytes();
@@ -42,7 +42,7 @@ fn word_at(bytes: &[u8], at: usize) -> u32
 }
 
 /// The version whose label this is.
-pub fn read_label(bytes: &[u8; 64]) -> Option<Version>
+pub fn read_label(bytes: &[u8; LABEL_LEN]) -> Option<Version>
     ensures label { result ≡ version_of_label bytes.now }
     ensures fits { IfSome result (λ v. (v.epoch ≤ MAX_COUNTER) × (v.counter ≤ MAX_COUNTER)) }
 {
@@ -61,7 +61,7 @@ pub fn read_label(bytes: &[u8; 64]) -> Option<Version>
 
 /// The version in the head of a file of some length; none where the file is too short or too long, or its
 /// head is no label.
-pub fn version_of_file(len: u64, head: &[u8; 64]) -> Option<Version>
+pub fn version_of_file(len: u64, head: &[u8; LABEL_LEN]) -> Option<Version>
     ensures version { result ≡ version_by len head.now }
     ensures labelled { IsSome result → LABEL_LEN ≤ len }
     ensures fits { IsSome result → len ≤ MAX_DATABASE_LEN }

@@ -21,7 +21,7 @@ const FIRST_VERSION: Version = Version {
 };
 
 /// The database file of a disk: its version, and the length of its image. The position p of the image stands at
-/// 64 + p in the file. The disk is lent to each call.
+/// `LABEL_LEN` + p in the file. The disk is lent to each call.
 #[derive(Drop)]
 pub struct Pages {
     version: Option<Version>,
@@ -129,8 +129,8 @@ impl Pages {
     /// of memory nothing changes.
     pub fn reserve<D: Disk>(&mut self, disk: &mut D, len: u32) -> Result<(), NoMemory>
         requires agrees { AgreesIn self.old (D.files disk.old) }
-        ensures reserved { OnOk result (64 + len ≤ D.room disk.new FileNo.Database) }
-        ensures no_memory { OnErr result (D.room disk.old FileNo.Database < 64 + len) }
+        ensures reserved { OnOk result (LABEL_LEN + len ≤ D.room disk.new FileNo.Database) }
+        ensures no_memory { OnErr result (D.room disk.old FileNo.Database < LABEL_LEN + len) }
         ensures pages { self.new ≡ self.old }
         ensures agrees { AgreesIn self.new (D.files disk.new) }
         ensures reserves { OnlyReserves D.Disk disk.old disk.new }
@@ -150,15 +150,15 @@ impl Pages {
     ) -> Result<(), PageFault>
         requires agrees { AgreesIn self.old (D.files disk.old) }
         requires begins { at ≤ self.old.len }
-        requires fits { 64 + at + length bytes.now ≤ D.room disk.old FileNo.Database }
-        requires headed { IfSome (D.files disk.old) (λ fs. 64 ≤ length fs.database) }
+        requires fits { LABEL_LEN + at + length bytes.now ≤ D.room disk.old FileNo.Database }
+        requires headed { IfSome (D.files disk.old) (λ fs. LABEL_LEN ≤ length fs.database) }
         ensures version { self.new.version ≡ self.old.version }
         ensures len { OnOk result (self.new.len ≡ max self.old.len (at + length bytes.now)) }
         ensures same { OnErr result (self.new ≡ self.old) }
         ensures agrees { OnOk result (AgreesIn self.new (D.files disk.new)) }
-        ensures headed { OnOk result (IfSome (D.files disk.new) (λ fs. 64 ≤ length fs.database)) }
+        ensures headed { OnOk result (IfSome (D.files disk.new) (λ fs. LABEL_LEN ≤ length fs.database)) }
         ensures fault { IfErr result (λ fault. fault ≡ PageFault.DiskFault) }
-        ensures writes { Writes D.Disk FileNo.Database (64 + at) bytes.now disk.old disk.new (IsErr result) }
+        ensures writes { Writes D.Disk FileNo.Database (LABEL_LEN + at) bytes.now disk.old disk.new (IsErr result) }
     {
         let from = at as u64;
         match disk.write_at(FileNo::Database, LABEL_LEN as u64 + from, bytes) {
@@ -174,14 +174,14 @@ impl Pages {
     pub fn cut<D: Disk>(&mut self, disk: &mut D, len: u32) -> Result<(), PageFault>
         requires agrees { AgreesIn self.old (D.files disk.old) }
         requires within { len ≤ self.old.len }
-        requires headed { IfSome (D.files disk.old) (λ fs. 64 ≤ length fs.database) }
+        requires headed { IfSome (D.files disk.old) (λ fs. LABEL_LEN ≤ length fs.database) }
         ensures version { self.new.version ≡ self.old.version }
         ensures len { OnOk result (self.new.len ≡ len) }
         ensures same { OnErr result (self.new ≡ self.old) }
         ensures agrees { OnOk result (AgreesIn self.new (D.files disk.new)) }
-        ensures headed { OnOk result (IfSome (D.files disk.new) (λ fs. 64 ≤ length fs.database)) }
+        ensures headed { OnOk result (IfSome (D.files disk.new) (λ fs. LABEL_LEN ≤ length fs.database)) }
         ensures fault { IfErr result (λ fault. fault ≡ PageFault.DiskFault) }
-        ensures cuts { Cuts D.Disk FileNo.Database (64 + len) disk.old disk.new (IsErr result) }
+        ensures cuts { Cuts D.Disk FileNo.Database (LABEL_LEN + len) disk.old disk.new (IsErr result) }
     {
         let len = len as u64;
         match disk.cut(FileNo::Database, LABEL_LEN as u64 + len) {
@@ -193,17 +193,17 @@ impl Pages {
         }
     }
 
-    /// Writes the label of a version over the first 64 bytes of the file.
+    /// Writes the label of a version over the head of the file.
     pub fn set_label<D: Disk>(&mut self, disk: &mut D, v: Version) -> Result<(), PageFault>
         requires agrees { AgreesIn self.old (D.files disk.old) }
         requires version { IsVersion v }
-        requires fits { D.files disk.old ≡ None → 64 ≤ D.room disk.old FileNo.Database }
-        requires headed { IfSome (D.files disk.old) (λ fs. 64 ≤ length fs.database) }
+        requires fits { D.files disk.old ≡ None → LABEL_LEN ≤ D.room disk.old FileNo.Database }
+        requires headed { IfSome (D.files disk.old) (λ fs. LABEL_LEN ≤ length fs.database) }
         ensures version { OnOk result (self.new.version ≡ Some v) }
         ensures len { self.new.len ≡ self.old.len }
         ensures same { OnErr result (self.new ≡ self.old) }
         ensures agrees { OnOk result (AgreesIn self.new (D.files disk.new)) }
-        ensures headed { OnOk result (IfSome (D.files disk.new) (λ fs. 64 ≤ length fs.database)) }
+        ensures headed { OnOk result (IfSome (D.files disk.new) (λ fs. LABEL_LEN ≤ length fs.database)) }
         ensures fault { IfErr result (λ fault. fault ≡ PageFault.DiskFault) }
         ensures writes { Writes D.Disk FileNo.Database 0 (label v) disk.old disk.new (IsErr result) }
     {

@@ -14,7 +14,7 @@ pub const PAGE_LEN: usize = 1024;
 
 /// The length of the database file, in bytes.
 pub(crate) fn file_len<D: Disk>(disk: &mut D) -> Result<u64, PageFault>
-    ensures told { IfOk result (λ len. IfSome (D.files disk.old) (λ fs. len ≡ length fs.database)) }
+    ensures len { IfOk result (λ len. IfSome (D.files disk.old) (λ fs. len ≡ length fs.database)) }
     ensures stopped { IsStopped (D.stop disk.old) → IsErr result }
     ensures fault { IfErr result (λ fault. fault ≡ PageFault.DiskFault) }
     ensures reads { OnlyReads D.Disk disk.old disk.new (IsErr result) }
@@ -25,8 +25,8 @@ pub(crate) fn file_len<D: Disk>(disk: &mut D) -> Result<u64, PageFault>
     }
 }
 
-/// The first 64 bytes of the database file of this length, and zero bytes where it is shorter.
-pub(crate) fn read_head<D: Disk>(disk: &mut D, len: u64) -> Result<[u8; 64], PageFault>
+/// The head of the database file of this length: as many bytes as a label has, and zero bytes where it is shorter.
+pub(crate) fn read_head<D: Disk>(disk: &mut D, len: u64) -> Result<[u8; LABEL_LEN], PageFault>
     requires { IfSome (D.files disk.old) (λ fs. len ≡ length fs.database) }
     ensures head { IfOk result (λ head. IfSome (D.files disk.old) (λ fs. IsHeadOf head fs.database)) }
     ensures stopped { IsStopped (D.stop disk.old) → IsErr result }
@@ -45,7 +45,7 @@ pub(crate) fn read_head<D: Disk>(disk: &mut D, len: u64) -> Result<[u8; 64], Pag
 fn read_image<D: Disk>(disk: &mut D, at: u64, buf: &mut [u8]) -> Result<(), PageFault>
     requires within { IfSome (D.files disk.old) (λ fs. at + length buf.old ≤ length (image_of fs.database)) }
     requires some { 0 < length buf.old }
-    requires fits { at + 64 < 2 ^ 64 }
+    requires fits { at + LABEL_LEN < 2 ^ 64 }
     ensures bytes { OnOk result (IfSome (D.files disk.old) (λ fs. buf.new ≡ take (length buf.old) (drop at (image_of fs.database)))) }
     ensures stopped { IsStopped (D.stop disk.old) → IsErr result }
     ensures fault { IfErr result (λ fault. fault ≡ PageFault.DiskFault) }

@@ -1,3 +1,4 @@
+pub mod AnswerFields
 pub mod AnswerWords
 pub mod CallLaw
 pub mod Fields

@@ -2,12 +2,13 @@
 use Rattle.std.specs.Prelude.{ℕ, ℤ, ◌-◌, ◌%◌, ◌<◌, List, ◌++◌, length, take, drop, replicate, slice_index}
 use Rattle.std.specs.List.{flat_map}
 use Rattle.std.specs.Int.{w32, to_be_bytes, from_be_bytes, cast_unsigned}
+use Rattle.ubik_types.specs.declared.words.TheConstants.{WORD_LEN}
 
 -- a list of bytes
 abbrev pub IsBytes : List ℕ → Type 0
 IsBytes bytes = (i : ℕ) → slice_index bytes i < 256
 
--- a number in four bytes
+-- a number as a word
 abbrev pub word : ℕ → List ℕ
 word n = to_be_bytes w32 n
 
@@ -21,7 +22,7 @@ bits z = cast_unsigned w32 z
 
 -- the word that stands at a place
 abbrev pub word_at : List ℕ → ℕ → ℕ
-word_at bytes at = from_be_bytes w32 (take 4 (drop at bytes))
+word_at bytes at = from_be_bytes w32 (take WORD_LEN (drop at bytes))
 
 -- so many zero bytes
 unfoldable pub zeros : ℕ → List ℕ
@@ -29,7 +30,7 @@ zeros len = replicate len 0
 
 -- how many zero bytes fill a string of this length up to whole words
 abbrev pub padding : ℕ → ℕ
-padding len = (4 - len % 4) % 4
+padding len = (WORD_LEN - len % WORD_LEN) % WORD_LEN
 
 -- a string: its length, its bytes, and zero bytes up to whole words
 abbrev pub string : List ℕ → List ℕ

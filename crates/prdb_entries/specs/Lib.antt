@@ -9,3 +9,5 @@ pub mod Blocks
 pub mod Protection
 pub mod Words
 pub mod Agreement
+pub mod CallWords
+pub mod ByteMeaning

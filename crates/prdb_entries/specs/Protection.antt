@@ -1,7 +1,8 @@
 -- The protection database over whole images, whatever their bytes are.
-use Rattle.std.specs.Prelude.{ℕ, ◌+◌, not, Option, Some, None, unwrap_or, List, ◌++◌, map, length, take, drop, ◌==◌, if◌then◌else◌}
+use Rattle.std.specs.Prelude.{ℕ, ◌+◌, ◌-◌, not, Option, Some, None, unwrap_or, List, ◌++◌, map, length, take, drop, ◌==◌, if◌then◌else◌}
 use Rattle.std.specs.List.{find}
 use Rattle.std.specs.Option.{option_map}
+use Rattle.ubik_types.specs.declared.words.TheConstants.{WORD_LEN}
 use Rattle.db_image.specs.Database.{Database, Outcome}
 use Rattle.db_image.specs.declared.services.CallReply.{CallReply}
 use Rattle.db_image.specs.declared.services.CallReply.TheVariants.{Done, Rule, Malformed, BadRecord}
@@ -11,16 +12,20 @@ use Rattle.prdb_entries.specs.Reading.{call_of}
 use Rattle.prdb_entries.specs.Names.{lowered, is_user_name}
 use Rattle.prdb_entries.specs.State.{initial_state}
 use Rattle.prdb_entries.specs.Meaning.{ids_above, new_user, bad_name, name_exists, no_ids}
-use Rattle.prdb_entries.specs.Layout.{head_len, block_len, layout, block_of}
+use Rattle.prdb_entries.specs.Layout.{layout, block_of}
+use Rattle.prdb_entries.specs.declared.blocks.TheConstants.{HEAD_LEN, BLOCK_LEN, MAX_USER_AT, BLOCK_COUNT_AT}
 use Rattle.prdb_entries.specs.Blocks.{has_whole_blocks, block_count, blocks_of, id_among, name_among, id_is_among}
 
 -- the least unused user id above the maximum that the head has
 unfoldable pub next_id : List ℕ → Option ℕ
-next_id image = find (λ id. not (id_is_among (blocks_of image) id)) (ids_above (word_at image 8))
+next_id image = find (λ id. not (id_is_among (blocks_of image) id)) (ids_above (word_at image MAX_USER_AT))
 
 -- the image with another maximum user id and another number of blocks in its head
 unfoldable pub with_numbers : List ℕ → ℕ → ℕ → List ℕ
-with_numbers image max count = take 8 image ++ word max ++ take 4 (drop 12 image) ++ word count ++ drop 20 image
+with_numbers image max count =
+    let max_end = MAX_USER_AT + WORD_LEN in
+    let count_end = BLOCK_COUNT_AT + WORD_LEN in
+    take MAX_USER_AT image ++ word max ++ take (BLOCK_COUNT_AT - max_end) (drop max_end image) ++ word count ++ drop count_end image
 
 -- the image with this user's block at the end, and its id as the maximum
 unfoldable pub with_block : List ℕ → List ℕ → ℕ → List ℕ
@@ -68,6 +73,6 @@ abbrev pub protection : Database
 protection = record {
   writes = λ call. option_map is_write (call_of call);
   call = λ image now call. outcome image (answer_over image (call_of call));
-  head = head_len;
-  block = block_len;
+  head = HEAD_LEN;
+  block = BLOCK_LEN;
 }

@@ -3,6 +3,7 @@ use Rattle.std.specs.Prelude.{ℕ, zero, suc, ◌≡◌, ◌&&◌, List, [], ◌
 use Rattle.std.specs.Int.{w32, from_be_bytes}
 use Rattle.std.specs.List.{list_all}
 use Rattle.std.specs.Option.{option_map}
+use Rattle.ubik_types.specs.declared.words.TheConstants.{WORD_LEN}
 use Rattle.prdb_entries.specs.Bytes.{padding}
 use Rattle.prdb_entries.specs.Call.{PrCall, NewUser, NameToId, user_kind, no_owner}
 use Rattle.prdb_entries.specs.declared.calls.TheConstants.{MAX_NAME, MAX_LIST}
@@ -25,7 +26,7 @@ front_at len bytes = if nat_lt (length bytes) len then None else Some (take len 
 -- a field is a value and the bytes after it
 abbrev pub number_at : List ℕ → Option (ℕ × List ℕ)
 number_at bytes = do
-  front ← front_at 4 bytes
+  front ← front_at WORD_LEN bytes
   Some (from_be_bytes w32 front.0, front.1)
 
 -- a string of at most MAX_NAME bytes, whose padding is zero

@@ -137,3 +137,7 @@ number_words rest = []
 abbrev pub joined : List (List ℕ) → List ℕ
 joined [] = []
 joined (word ∷ words) = word ++ flat_map (λ w. 32 ∷ w) words
+
+-- the fields of an answer that is all numbers: the word of each behind a blank
+unfoldable pub fields_text : List ℕ → List ℕ
+fields_text fields = flat_map (λ word. 32 ∷ word) (number_words fields)

@@ -4,11 +4,28 @@ ghost use Rattle.std.specs.List.{position, position_or_len};
 ghost use Rattle.prdb_entries.specs.Bytes.{word_at};
 ghost use Rattle.prdb_entries.specs.Blocks.{has_whole_blocks, blocks_of, block_name, block_id, id_among, name_among, id_is_among};
 
+use ubik_types::{WORD_LEN, first_word};
+
 /// The length of an image's head, in bytes.
 pub const HEAD_LEN: usize = 2112;
 
+/// Where the greatest user id that was given stands in the head.
+pub const MAX_USER_AT: usize = 8;
+
+/// Where the number of blocks stands in the head, which has zero bytes behind it.
+pub const BLOCK_COUNT_AT: usize = 16;
+
 /// The length of a block, in bytes.
 pub const BLOCK_LEN: usize = 192;
+
+/// Where the id stands in an entry's block.
+pub const ID_AT: usize = 8;
+
+/// Where the name's field begins in an entry's block, which has zero bytes behind it.
+pub const NAME_AT: usize = 32;
+
+/// The length of a name's field in a block, in bytes.
+pub const NAME_FIELD: usize = 64;
 
 /// The id of the entry `anonymous`, which a name has that is no entry's, and for which a call is made
 /// that is not signed in.
@@ -26,7 +43,7 @@ pub fn has_whole_blocks(image: &[u8]) -> bool
 /// The blocks of an image, in their order.
 #[tactic(auto, unfolding(crate::specs::Blocks::blocks_of))]
 pub fn blocks(image: &[u8]) -> &[Block]
-    requires { 2112 ≤ length image.now }
+    requires { HEAD_LEN ≤ length image.now }
     ensures { result.now ≡ blocks_of image.now }
 {
     let (_, blocks) = image.split_at(HEAD_LEN);
@@ -35,11 +52,10 @@ pub fn blocks(image: &[u8]) -> &[Block]
 
 /// The word at a place.
 pub fn word_at(bytes: &[u8], at: usize) -> u32
-    requires { at + 4 ≤ length bytes.now }
+    requires { at + WORD_LEN ≤ length bytes.now }
     ensures { result ≡ word_at bytes.now at }
 {
-    let word = &bytes[at..at + 4];
-    u32::from_be_bytes([word[0], word[1], word[2], word[3]])
+    first_word(&bytes[at..]).map_or(0, |(word, _)| word)
 }
 
 fn first_zero(field: &[u8]) -> Option<usize>
@@ -59,14 +75,14 @@ fn text_len(field: &[u8]) -> usize
 fn block_name(block: &Block) -> &[u8]
     ensures { result.now ≡ block_name block.now }
 {
-    let field = &block[32..96];
+    let field = &block[NAME_AT..NAME_AT + NAME_FIELD];
     &field[..text_len(field)]
 }
 
 fn block_id(block: &Block) -> u32
     ensures { result ≡ block_id block.now }
 {
-    word_at(block, 8)
+    word_at(block, ID_AT)
 }
 
 /// The id of the first entry with this name, in two's complement, or that of `anonymous`.

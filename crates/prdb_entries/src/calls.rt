@@ -6,6 +6,8 @@ ghost use Rattle.prdb_entries.specs.Call.{PrCall};
 ghost use Rattle.prdb_entries.specs.Protection.{protection};
 ghost use Rattle.prdb_entries.specs.Reading.{Gives, front_at, number_at, string_at, strings_at, new_user_of, names_of, name_to_id_of, call_of, StandsForCall};
 
+use ubik_types::{WORD_LEN, first_word};
+
 /// The most bytes of a name in a call.
 pub const MAX_NAME: usize = 255;
 
@@ -39,18 +41,13 @@ fn front(length: usize, bytes: &[u8]) -> Option<(&[u8], &[u8])>
 pub fn number(bytes: &[u8]) -> Option<(u32, &[u8])>
     ensures { Gives (λ x. (x.0, x.1.now)) result (number_at bytes.now) }
 {
-    if bytes.len() < 4 {
-        return None;
-    }
-    let (word, rest) = bytes.split_at(4);
-    let number = u32::from_be_bytes([word[0], word[1], word[2], word[3]]);
-    Some((number, rest))
+    first_word(bytes)
 }
 
 pub fn zeros_after(length: u32) -> usize
     ensures { result ≡ padding length }
 {
-    (4 - length as usize % 4) % 4
+    (WORD_LEN - length as usize % WORD_LEN) % WORD_LEN
 }
 
 fn are_zero(bytes: &[u8]) -> bool

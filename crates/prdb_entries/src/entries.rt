@@ -6,8 +6,9 @@ ghost use Rattle.prdb_entries.specs.State.{fixed, fixed_entries, administrators,
 ghost use Rattle.prdb_entries.specs.Meaning.{new_user};
 ghost use Rattle.prdb_entries.specs.Layout.{head_of, numbers_of, block_of, layout, entry_of};
 
-use crate::blocks::ANONYMOUS;
+use crate::blocks::{ANONYMOUS, BLOCK_COUNT_AT, BLOCK_LEN, HEAD_LEN, NAME_AT, NAME_FIELD};
 use std::alloc::{AllocError, Global};
+use ubik_types::WORD_LEN;
 
 /// A block of an entry begins with this word.
 const ENTRY: u32 = 1;
@@ -30,9 +31,6 @@ const ADMINISTRATORS: i32 = -204;
 
 /// How many groups a user may still make at first.
 const USER_QUOTA: i32 = 20;
-
-/// The length of a name's field in a block, in bytes.
-const NAME_FIELD: usize = 64;
 
 /// An entry.
 #[derive(Clone, Copy)]
@@ -97,7 +95,7 @@ pub fn push_words(out: &mut Vec<u8>, numbers: &[u32]) -> Result<(), AllocError>
 }
 
 fn push_name(out: &mut Vec<u8>, name: &[u8]) -> Result<(), AllocError>
-    ensures { OnOk result (out.new.items ≡ out.old.items ++ filled 64 name.now) }
+    ensures { OnOk result (out.new.items ≡ out.old.items ++ filled NAME_FIELD name.now) }
 {
     out.extend_from_slice(name)?;
     push_zeros(out, NAME_FIELD.saturating_sub(name.len()))?;
@@ -127,7 +125,7 @@ pub fn push_block(out: &mut Vec<u8>, entry: &Entry<'_>) -> Result<(), AllocError
 {
     push_words(out, &numbers(entry))?;
     push_name(out, entry.name)?;
-    push_zeros(out, 96)?;
+    push_zeros(out, BLOCK_LEN - NAME_AT - NAME_FIELD)?;
     Ok(())
 }
 
@@ -136,7 +134,7 @@ fn push_head(out: &mut Vec<u8>) -> Result<(), AllocError>
     ensures { OnOk result (out.new.items ≡ out.old.items ++ head_of initial_state) }
 {
     push_words(out, &[DATABASE, FORMAT, 0, MAX_GROUP.cast_unsigned(), 6])?;
-    push_zeros(out, 2092)?;
+    push_zeros(out, HEAD_LEN - BLOCK_COUNT_AT - WORD_LEN)?;
     Ok(())
 }
 

@@ -14,14 +14,15 @@ ghost use Rattle.prdb_entries.specs.Agreement.{IsMeant};
 ghost use Rattle.prdb_entries.specs.Protection.{outcome, protection, refusal, answer, answer_over, answer_new_user, next_id, with_numbers, with_block, ids_of};
 
 use crate::blocks::{
-    BLOCK_LEN, Block, HEAD_LEN, blocks, has_id, has_name, has_whole_blocks, id_of, word_at,
+    BLOCK_COUNT_AT, BLOCK_LEN, Block, HEAD_LEN, MAX_USER_AT, blocks, has_id, has_name,
+    has_whole_blocks, id_of, word_at,
 };
 use crate::calls::{Call, read_call, string};
 use crate::entries::{Entry, initial_image, push_block};
 use crate::names::{is_user_name, lowered};
 use db_image::CallReply;
 use std::alloc::Global;
-use ubik_types::{Bytes, NoMemory, bytes_of};
+use ubik_types::{Bytes, MAX_IMAGE, NoMemory, WORD_LEN, bytes_of};
 
 /// The greatest id.
 const MAX_ID: u32 = 2_147_483_647;
@@ -51,26 +52,26 @@ fn least_unused(blocks: &[Block], max: u32) -> Option<u32>
 /// The least unused user id above the maximum in the head.
 #[tactic(auto, unfolding(crate::specs::Protection::next_id))]
 fn next_id(image: &[u8]) -> Option<u32>
-    requires { 2112 ≤ length image.now }
+    requires { HEAD_LEN ≤ length image.now }
     ensures value { result ≡ next_id image.now }
-    ensures in_range { IfSome result (λ id. id ≤ 2147483647) }
+    ensures in_range { IfSome result (λ id. id ≤ MAX_ID) }
 {
-    least_unused(blocks(image), word_at(image, 8))
+    least_unused(blocks(image), word_at(image, MAX_USER_AT))
 }
 
 /// A copy of the image with these numbers in its head, and room for one block more.
 #[tactic(auto, unfolding(crate::specs::Protection::with_numbers))]
 fn with_numbers(alloc: Global, image: &[u8], max: u32, count: u32) -> Result<Vec<u8>, NoMemory>
-    requires head { 2112 ≤ length image.now }
-    requires length { length image.now ≤ 16777216 }
+    requires head { HEAD_LEN ≤ length image.now }
+    requires length { length image.now ≤ MAX_IMAGE }
     ensures { IfOk result (λ after. after.items ≡ with_numbers image.now max count) }
 {
     let mut after = Vec::with_capacity(alloc, image.len() + BLOCK_LEN)?;
-    after.extend_from_slice(&image[..8])?;
+    after.extend_from_slice(&image[..MAX_USER_AT])?;
     after.extend_from_slice(&max.to_be_bytes())?;
-    after.extend_from_slice(&image[12..16])?;
+    after.extend_from_slice(&image[MAX_USER_AT + WORD_LEN..BLOCK_COUNT_AT])?;
     after.extend_from_slice(&count.to_be_bytes())?;
-    let (_, behind) = image.split_at(20);
+    let (_, behind) = image.split_at(BLOCK_COUNT_AT + WORD_LEN);
     after.extend_from_slice(behind)?;
     Ok(after)
 }
@@ -78,9 +79,9 @@ fn with_numbers(alloc: Global, image: &[u8], max: u32, count: u32) -> Result<Vec
 /// The image with one user more.
 #[tactic(auto, unfolding(crate::specs::Protection::with_block))]
 fn with_user(alloc: Global, image: &[u8], name: &[u8], id: u32) -> Result<Bytes, NoMemory>
-    requires head { 2112 ≤ length image.now }
-    requires length { length image.now ≤ 16777216 }
-    requires id { id ≤ 2147483647 }
+    requires head { HEAD_LEN ≤ length image.now }
+    requires length { length image.now ≤ MAX_IMAGE }
+    requires id { id ≤ MAX_ID }
     ensures { IfOk result (λ after. after ≡ with_block image.now name.now id) }
 {
     let count = (image.len() - HEAD_LEN) / BLOCK_LEN + 1;
@@ -92,8 +93,8 @@ fn with_user(alloc: Global, image: &[u8], name: &[u8], id: u32) -> Result<Bytes,
 /// Makes the user of a name in lower case.
 #[tactic(auto, unfolding(crate::specs::Protection::answer_new_user))]
 fn answer_new_user(alloc: Global, image: &[u8], name: &[u8]) -> Result<Answer, NoMemory>
-    requires head { 2112 ≤ length image.now }
-    requires length { length image.now ≤ 16777216 }
+    requires head { HEAD_LEN ≤ length image.now }
+    requires length { length image.now ≤ MAX_IMAGE }
     ensures { IfOk result (λ r. r ≡ answer_new_user image.now name.now) }
 {
     if !is_user_name(name) {
@@ -138,7 +139,7 @@ fn ids_of(alloc: Global, blocks: &[Block], count: u32, names: &[u8]) -> Result<B
 }
 
 fn answer_ids(alloc: Global, image: &[u8], count: u32, names: &[u8]) -> Result<Answer, NoMemory>
-    requires head { 2112 ≤ length image.now }
+    requires head { HEAD_LEN ≤ length image.now }
     requires names { IsSome (names_of count names.now) }
     ensures { IfOk result (λ r. r ≡ answer image.now (NameToId (unwrap_or (names_of count names.now) []))) }
 {
@@ -148,8 +149,8 @@ fn answer_ids(alloc: Global, image: &[u8], count: u32, names: &[u8]) -> Result<A
 
 /// What a call answers over an image of whole blocks.
 fn answer(alloc: Global, image: &[u8], call: Call<'_>) -> Result<Answer, NoMemory>
-    requires head { 2112 ≤ length image.now }
-    requires length { length image.now ≤ 16777216 }
+    requires head { HEAD_LEN ≤ length image.now }
+    requires length { length image.now ≤ MAX_IMAGE }
     requires call { (c : PrCall) × StandsForCall call c }
     ensures { IfOk result (λ r. (c : PrCall) → StandsForCall call.entry c → r ≡ answer image.now c) }
 {
@@ -170,7 +171,7 @@ pub fn call_image(
     _now: u32,
     call: &[u8],
 ) -> Result<(CallReply, Option<Bytes>), NoMemory>
-    requires { length image.now ≤ 16777216 }
+    requires { length image.now ≤ MAX_IMAGE }
     ensures exact { IfOk result (λ r. let o = protection.call image.now _now call.now in
         (r.0 ≡ o.reply) × (unwrap_or r.1 image.now ≡ o.image)) }
     // Over an image that stands for a state, they are what the call means for that state.

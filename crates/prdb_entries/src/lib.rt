@@ -2,6 +2,7 @@
 //! they answer and leave, and calls and answers as words.
 #![tactic(auto)]
 
+mod answers;
 mod blocks;
 mod calls;
 mod entries;

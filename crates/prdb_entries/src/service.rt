@@ -1,9 +1,12 @@
 //! The protection database as a service.
+ghost use Rattle.prdb_entries.specs.CallWords.{protection_words};
 ghost use Rattle.prdb_entries.specs.Protection.{protection};
 
 use crate::blocks::{BLOCK_LEN, HEAD_LEN};
+use crate::answers::tell_fields;
+use crate::words::{call_words, is_unbuilt};
 use crate::{call_image, writes};
-use db_image::{CallReply, Layout, Service};
+use db_image::{CallReply, Layout, Service, WordForms};
 use std::alloc::Global;
 use ubik_types::{Bytes, NoMemory};
 
@@ -32,5 +35,22 @@ impl Service for PrService {
         call: &[u8],
     ) -> Result<(CallReply, Option<Bytes>), NoMemory> {
         call_image(alloc, image, now, call)
+    }
+}
+
+impl WordForms for PrService {
+    ghost words = { protection_words };
+
+    fn call_words(alloc: Global, call: &[Bytes]) -> Result<Option<Bytes>, NoMemory> {
+        call_words(alloc, call)
+    }
+
+    fn is_unbuilt(call: &[Bytes]) -> bool {
+        is_unbuilt(call)
+    }
+
+    #[tactic(auto, unfolding(crate::specs::Words::fields_text))]
+    fn tell_answer(text: &mut String, _call: &[u8], answer: &[u8]) -> Result<(), NoMemory> {
+        tell_fields(text, answer)
     }
 }

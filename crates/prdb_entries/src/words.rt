@@ -79,7 +79,7 @@ fn unquoted(word: &[u8]) -> Option<&[u8]>
 #[tactic(auto, unfolding(crate::specs::Words::string_of_word))]
 fn string_of_word(word: &[u8]) -> Option<&[u8]>
     ensures value { Gives (λ text. text.now) result (string_of_word word.now) }
-    ensures short { IfSome result (λ text. length text.now ≤ MAX_NAME) }
+    ensures bound { IfSome result (λ text. length text.now ≤ MAX_NAME) }
 {
     let text = unquoted(word)?;
     if text.len() <= MAX_NAME {

@@ -1,8 +1,5 @@
 pub mod Disks
+pub mod Headline
 pub mod Lines
-pub mod OneCopy
-pub mod Run
-pub mod Script
-pub mod SingleState
-pub mod Sites
-pub mod Trace
+pub mod Runs
+pub mod Turns

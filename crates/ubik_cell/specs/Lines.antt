@@ -1,127 +1,152 @@
 -- What a run of a script's lines stands for.
-use Rattle.std.specs.Prelude.{◌≡◌, ◌+◌, ◌-◌, ◌<◌, ◌≤◌, ℕ, true, false, Option, Some, None, IsSomeAnd, Result, Ok, Err, List, [], length, ◌++◌}
-use Rattle.db_image.specs.Database.{Database}
-use Rattle.cell_model.specs.declared.events.NodeEvent.{NodeEvent}
-use Rattle.cell_model.specs.declared.events.NodeEvent.TheVariants as event
-use Rattle.cell_model.specs.Node as model
-use Rattle.cell_model.specs.Book.{Run, run_after}
-use Rattle.cell_model.specs.World.{happens}
-use Rattle.ubik_types.specs.Moment.{IsMoment}
+use Rattle.std.specs.Prelude.{◌≡◌, ◌≢◌, ◌⊎◌, ◌+◌, ◌*◌, ◌≤◌, ℕ, Unit, Option, Some, None, Result, Ok, Err, All, List, [], ◌∷◌, ◌++◌, length, map, take}
 use Rattle.disk_base.specs.Files.{Files, no_files}
-use Rattle.ubik_node.specs.declared.nodes.Node.{Node}
-use Rattle.ubik_node.specs.Node.{node_of, own_member, IsStored}
-use Rattle.ubik_node.specs.Progress.{alone}
-use Rattle.ubik_cell.specs.declared.scripts.CellRun.{CellRun}
-use Rattle.ubik_cell.specs.declared.sites.TheConstants.{FIRST_HOST}
-use Rattle.ubik_cell.specs.declared.sites.Site.{Site}
-use Rattle.ubik_cell.specs.declared.sites.Site.TheVariants as site
+use Rattle.ubik_types.specs.declared.limits.TheConstants.{MAXSERVERS}
+use Rattle.cell_model.specs.World.{Site}
+use Rattle.cell_script.specs.declared.lines.TheConstants.{MAX_CLOCK, MAX_TICK}
+use Rattle.cell_runs.specs.declared.endings.Ending.{Ending}
+use Rattle.cell_runs.specs.Script.{Cell, Choice, LineRead, Line_run, ScriptEnd, Stage, Told, line_result, text_in, told_with}
+use Rattle.cell_runs.specs.ScriptDatabase.{ScriptDatabase, Databases}
+use Rattle.cell_runs.specs.Trace.{TraceItem}
 use Rattle.cell_script.specs.declared.lines.Why.{Why}
-use Rattle.cell_script.specs.declared.lines.Why.TheVariants as why
-use Rattle.ubik_cell.specs.declared.cells.Ending.{Ending}
-use Rattle.ubik_cell.specs.declared.cells.Ending.TheVariants.{Refused, Limit}
-use Rattle.ubik_cell.specs.Script.{Luck, Stage, Line_run, event_at, is_there, is_up_at, fault_count}
-use Rattle.ubik_cell.specs.Sites.{IsOneWorld, site_faults}
-use Rattle.ubik_cell.specs.Trace.{trace}
+use Rattle.cell_sites.specs.declared.cells.OpenCell.{OpenCell}
+use Rattle.cell_sites.specs.Disks.{Held, all_held, IsReadBy, AreCauses}
+use Rattle.cell_sites.specs.Sites.{StandsFor, helds}
+use Rattle.cell_sites.specs.Sound.{IsSound}
+use Rattle.ubik_cell.specs.declared.scripts.CellRun.{CellRun}
+use Rattle.ubik_cell.specs.declared.scripts.RunEnd.{RunEnd}
+use Rattle.ubik_cell.specs.declared.scripts.RunEnd.TheVariants.{Ended, NoMemory}
 
--- the one server of a run's world
-pub record HasWorld (clock : ℕ) (node : model.Node) (run : Option Run) : Type 0 where
-  pub r : Run
-  pub there : run ≡ Some r
-  pub one : IsOneWorld clock node r.world
+-- one database, of whatever kind a cell is
+abbrev pub only : ScriptDatabase → Databases
+only db kind = db
 
--- a cell stands
-abbrev pub IsOpened : {D : Type 0} → Site D → Type 0
-IsOpened (site.Unopened disk) = ⊥
-IsOpened (site.Down disk) = Unit {0}
-IsOpened (site.Up node) = Unit {0}
+-- the latest clock of a cell after so many lines
+abbrev pub clock_bound : ℕ → ℕ
+clock_bound lines = MAX_CLOCK + MAX_TICK * lines
 
--- the disk of a server that is not halted tells its files, and the log and the incoming file are empty
-abbrev pub HasOnlyDatabase : {D V : Type 0} → (D → Option Files) → Node D V → Type 0
-HasOnlyDatabase files n =
-    n.halted ≡ false → IsSomeAnd (files n.disk) (λ fs. (fs.log ≡ []) × (fs.incoming ≡ []))
+-- a cell stands, and is sound
+abbrev pub CellIsSound : {D V : Type 0} → (D → Option Files) → (D → ℕ) → (bound : ℕ) → Option (OpenCell D V) → Type 0
+CellIsSound files faults bound None = Unit {0}
+CellIsSound files faults bound (Some open) = IsSound files faults bound open
 
--- The disk of a server that is up has its database and nothing else, or the server is halted, since the disk failed.
-pub record HasDisk {D V : Type 0} (files : D → Option Files) (faults : D → ℕ) (n : Node D V) : Type 0 where
-  pub stored : IsStored files n
-  pub alone : HasOnlyDatabase files n
-  pub cause : n.halted ≡ true → 0 < faults n.disk
+abbrev pub sites_in : {D V : Type 0} → Option (OpenCell D V) → ℕ
+sites_in None = 0
+sites_in (Some open) = length open.sites.items
 
--- a turn, or a call that is asked
-abbrev pub IsTurn : NodeEvent → Type 0
-IsTurn (event.Packet p) = ⊥
-IsTurn _ = Unit {0}
+-- A run between two lines: its cell is sound, the disks that no cell has are empty, and there are 20 in all.
+pub record IsSoundRun {D V : Type 0} (files : D → Option Files) (faults : D → ℕ) (run : CellRun D V) : Type 0 where
+  pub cell : CellIsSound files faults (clock_bound run.lines) run.cell
+  pub spare : All (λ disk. files disk ≡ Some no_files) run.spare.items
+  pub disks : sites_in run.cell + length run.spare.items ≡ MAXSERVERS
 
--- no beacon of another server is kept
-abbrev pub HearsNone : model.Node → Type 0
-HearsNone model.Down = Unit {0}
-HearsNone (model.Halted h) = Unit {0}
-HearsNone (model.Up s) = s.beacon ≡ None
+-- the cell that stands is that of the stage
+abbrev pub CellStandsFor : {D V : Type 0} → Option (OpenCell D V) → Option Cell → Type 0
+CellStandsFor None None = Unit {0}
+CellStandsFor (Some open) (Some c) = StandsFor open c
+CellStandsFor _ _ = ⊥
 
--- the only server of the cell of a script
-pub record IsOnly {D V : Type 0} (n : Node D V) : Type 0 where
-  pub member : own_member n ≡ alone FIRST_HOST
-  pub unheard : HearsNone (node_of n)
+-- what the disks of a run read as: those of the cell in their order, and then the others
+abbrev pub cell_helds : {D V : Type 0} → (D → Option Files) → (D → ℕ) → Option (OpenCell D V) → List Held
+cell_helds files faults None = []
+cell_helds files faults (Some open) = helds files faults open
 
--- Before there is a cell its disk is empty. Then its clock is a moment, and not before the last step, and a server
--- that is down is so since its disk failed.
-abbrev pub IsSound : {D : Type 0} → (D → Option Files) → (D → ℕ) → ℕ → Site D → Type 0
-IsSound files faults clock (site.Unopened disk) = files disk ≡ Some no_files
-IsSound files faults clock (site.Down disk) = IsMoment clock × (0 < faults disk)
-IsSound files faults clock (site.Up node) = IsMoment clock × (node.last ≤ clock) × IsOnly node × HasDisk files faults node
+abbrev pub run_helds : {D V : Type 0} → (D → Option Files) → (D → ℕ) → CellRun D V → List Held
+run_helds files faults run = cell_helds files faults run.cell ++ all_held files faults run.spare.items
 
--- the server stands in the world of this run at this clock
-abbrev pub Stands : {D : Type 0} → ℕ → Site D → Option Run → Type 0
-Stands clock (site.Unopened disk) run = run ≡ None
-Stands clock (site.Down disk) run = HasWorld clock model.Down run
-Stands clock (site.Up node) run = HasWorld clock (node_of node) run
+-- each disk of the cell failed at least as often as is told of its server; before a cell stands nothing is told
+abbrev pub HasCauses : {D V : Type 0} → (D → Option Files) → (D → ℕ) → Option (OpenCell D V) → List TraceItem → Type 0
+HasCauses files faults None items = items ≡ []
+HasCauses files faults (Some open) items = AreCauses 0 items (helds files faults open)
 
--- a step at this site after this run: the server is there and up, and what is seen is told
-pub record SiteTold {D : Type 0} (db : Database) (faults : D → ℕ) (clock number : ℕ) (event : NodeEvent) (before after : Site D) (r : Run) (text_before text_after : List ℕ) : Type 0 where
-  pub luck : Luck
-  pub there : is_there r.world.sites number ≡ true
-  pub up : is_up_at r.world.sites (number - 1) ≡ true
-  pub stands : Stands clock after (Some (run_after db r (event_at luck r number event)))
-  pub told : text_after ≡ text_before ++ trace (happens db r.world (event_at luck r number event)).seen
-  pub causes : site_faults faults before + fault_count (happens db r.world (event_at luck r number event)).seen ≤ site_faults faults after
+-- a run stands at a stage, some lines before it
+pub record IsNear {D V : Type 0} (ahead : ℕ) (run : CellRun D V) (st : Stage) : Type 0 where
+  pub lines : st.lines ≡ run.lines + ahead
+  pub asks : st.asks ≡ run.asks
+  pub cell : CellStandsFor run.cell st.cell
 
--- the server of this number is not there after a run, or is down
-abbrev pub NoServer : ℕ → Run → Why → Type 0
-NoServer number r why.Server = is_there r.world.sites number ≡ false
-NoServer number r why.State = (is_there r.world.sites number ≡ true) × (is_up_at r.world.sites (number - 1) ≡ false)
-NoServer number r w = ⊥
+-- a run stands where the lines that were told left it
+pub record IsAt {D V : Type 0} (files : D → Option Files) (faults : D → ℕ) (run : CellRun D V) (t : Told) : Type 0 where
+  pub stage : IsNear 0 run t.stage
+  pub causes : HasCauses files faults run.cell t.items
 
--- why no step is made at this site: no cell stands, or the server is not there, or it is down
-abbrev pub SiteRefuses : {D : Type 0} → ℕ → ℕ → Site D → Ending → Type 0
-SiteRefuses clock number (site.Unopened disk) ending = ending ≡ Refused why.Cell
-SiteRefuses clock number s (Refused w) = (r : Run) → Stands clock s (Some r) → NoServer number r w
-SiteRefuses clock number s (Limit which) = ⊥
+-- a disk that never failed is empty
+abbrev pub IsUnwritten : Held → Type 0
+IsUnwritten disk = disk.faults ≡ 0 → disk.files ≡ Some no_files
 
--- a run of a script stands at a stage
-pub record IsAt {D : Type 0} (run : CellRun D) (st : Stage) : Type 0 where
-  pub lines : st.lines ≡ run.counts.lines
-  pub asks : length st.calls ≡ run.counts.asks
-  pub stands : Stands run.counts.clock run.site st.run
+-- each disk that never failed reads as its server; those behind the servers are empty
+abbrev pub AreReadFirst : List Site → List Held → Type 0
+AreReadFirst [] disks = All IsUnwritten disks
+AreReadFirst (site ∷ sites) [] = ⊥
+AreReadFirst (site ∷ sites) (disk ∷ disks) = IsReadBy site.node disk × AreReadFirst sites disks
 
--- a line was run, and told what was seen of it; each fault has its own rise of the disk's count
-pub record LineTold {D E : Type 0} (faults : D → ℕ) (result : Luck → Result Line_run E) (before after : CellRun D) (text_before text_after : List ℕ) : Type 0 where
-  pub luck : Luck
+abbrev pub sites_of : Option Cell → List Site
+sites_of None = []
+sites_of (Some c) = c.run.world.sites
+
+-- the same of the disks at an end
+abbrev pub HeldCauses : Option Cell → List TraceItem → List Held → Type 0
+HeldCauses None items disks = items ≡ []
+HeldCauses (Some c) items disks = AreCauses 0 items (take (length c.run.world.sites) disks)
+
+-- disks that hold what lines have left, of whose faults each has its cause
+pub record AreHeld (t : Told) (disks : List Held) : Type 0 where
+  pub read : AreReadFirst (sites_of t.stage.cell) disks
+  pub causes : HeldCauses t.stage.cell t.items disks
+
+-- where the script ended in a line, if it did
+abbrev pub ended_of : Told → Result (Unit {0}) RunEnd → Option ScriptEnd
+ended_of t (Err (Ended ending)) = Some (record { line = t.stage.lines + 1; ending = ending })
+ended_of t _ = None
+
+-- what a line leaves: the run goes on from there, or its disks hold it
+abbrev pub Leaves : {D V : Type 0} → (D → Option Files) → (D → ℕ) → Result (Unit {0}) RunEnd → CellRun D V → Told → Type 0
+Leaves files faults (Ok done) run t = IsAt files faults run t
+Leaves files faults (Err e) run t = AreHeld t (run_helds files faults run)
+
+-- A line was run with some choices, or ended the script: what is told of it was added to a text.
+pub record LineTold {D V : Type 0} (files : D → Option Files) (faults : D → ℕ) (dbs : Databases) (line : List ℕ) (t : Told) (result : Result (Unit {0}) RunEnd) (after : CellRun D V) (text_before text_after : List ℕ) : Type 0 where
+  pub choices : List Choice
+  pub later : Told
+  pub is : later ≡ told_with dbs t (line_result dbs t.stage (record { line = line; choices = choices }))
+  pub ended : later.ended ≡ ended_of t result
+  pub added : List ℕ
+  pub told : text_after ≡ text_before ++ added
+  pub text : later.text ≡ t.text ++ added
+  pub leaves : Leaves files faults result after later
+
+-- memory ran out in a line: the disks hold what the lines before it left, or what it left with some choices
+abbrev pub LineShort : {D V : Type 0} → (D → Option Files) → (D → ℕ) → Databases → (line : List ℕ) → Told → CellRun D V → Type 0
+LineShort files faults dbs line t after =
+    AreHeld t (run_helds files faults after)
+    ⊎ ((choices : List Choice)
+    × AreHeld (told_with dbs t (line_result dbs t.stage (record { line = line; choices = choices }))) (run_helds files faults after))
+
+-- A line was run in a stage with some choices: it ended so, and what it told was added to a text.
+pub record StageTold {D V : Type 0} (files : D → Option Files) (faults : D → ℕ) (dbs : Databases) (run : List Choice → Result Line_run Why) (ended : Option Ending) (before after : CellRun D V) (text_before text_after : List ℕ) : Type 0 where
+  pub choices : List Choice
   pub ran : Line_run
-  pub is : result luck ≡ Ok ran
-  pub at : IsAt after ran.stage
-  pub told : text_after ≡ text_before ++ trace ran.seen
-  pub causes : site_faults faults before.site + fault_count ran.seen ≤ site_faults faults after.site
+  pub is : run choices ≡ Ok ran
+  pub ends : ran.ending ≡ ended
+  pub near : ended ≡ None → IsNear 1 after ran.stage
+  pub read : AreReadFirst (sites_of ran.stage.cell) (run_helds files faults after)
+  pub told : text_after ≡ text_before ++ text_in dbs ran.stage.cell ran.items
+  pub causes : (items : List TraceItem) → HasCauses files faults before.cell items → HasCauses files faults after.cell (items ++ ran.items)
 
--- a line is refused for this reason, whatever its luck
-abbrev pub IsRefused : Ending → (Luck → Result Line_run Why) → Type 0
-IsRefused (Refused w) result = (luck : Luck) → result luck ≡ Err w
-IsRefused (Limit which) result = ⊥
+-- a line is refused for this reason, whatever its choices
+abbrev pub IsRefusedLine : Why → (List Choice → Result Line_run Why) → Type 0
+IsRefusedLine why run = (choices : List Choice) → run choices ≡ Err why
 
--- a script ends so at a line, whatever its luck
-abbrev pub Ends : Ending → (Luck → Result Line_run Ending) → Type 0
-Ends ending result = (luck : Luck) → result luck ≡ Err ending
+-- what memory that ran out in a line left on the disks: what stood there before it, or what it left with some choices
+pub record ShortAfter {D V : Type 0} (files : D → Option Files) (faults : D → ℕ) (run : List Choice → Result Line_run Why) (before after : CellRun D V) : Type 0 where
+  pub choices : List Choice
+  pub ran : Line_run
+  pub is : run choices ≡ Ok ran
+  pub read : AreReadFirst (sites_of ran.stage.cell) (run_helds files faults after)
+  pub causes : (items : List TraceItem) → HasCauses files faults before.cell items → HeldCauses ran.stage.cell (items ++ ran.items) (run_helds files faults after)
 
--- the same before a step after which so many calls were asked
-pub record StepsFrom {D : Type 0} (run : CellRun D) (asks : ℕ) (st : Stage) : Type 0 where
-  pub lines : st.lines ≡ run.counts.lines
-  pub calls : length st.calls ≡ asks
-  pub stands : Stands run.counts.clock run.site st.run
+abbrev pub StageShort : {D V : Type 0} → (D → Option Files) → (D → ℕ) → (List Choice → Result Line_run Why) → Stage → (before after : CellRun D V) → Type 0
+StageShort files faults run st before after =
+    (AreReadFirst (sites_of st.cell) (run_helds files faults after)
+    × ((items : List TraceItem) → HasCauses files faults before.cell items → HeldCauses st.cell items (run_helds files faults after)))
+    ⊎ ShortAfter files faults run before after

@@ -1,28 +1,9 @@
 //! How a run of a script ended.
 ghost use Rattle.std.specs.Prelude.{◌≡◌};
-ghost use Rattle.ubik_cell.specs.Run.{status_of};
+ghost use Rattle.ubik_cell.specs.Runs.{status_of};
 
+use cell_runs::Which;
 use cell_script::Why;
-
-/// Which limit of a script a line would pass.
-#[derive(Clone, Copy, Debug, PartialEq, Eq)]
-pub enum Which {
-    /// The lines of a script, of which there are 20,000 at most.
-    Lines,
-    /// The packets that are sent.
-    Packets,
-    /// The bytes of the packets that are kept.
-    PacketBytes,
-}
-
-/// Why a script ends before its end.
-#[derive(Clone, Copy, Debug, PartialEq, Eq)]
-pub enum Ending {
-    /// A line is refused.
-    Refused(Why),
-    /// A line would pass a limit.
-    Limit(Which),
-}
 
 /// How a run of a script ended.
 #[derive(Clone, Copy, Debug, PartialEq, Eq)]
@@ -35,7 +16,7 @@ pub enum CellKind {
     ReadFault,
     /// The sink failed; what was written is a front of the trace.
     WriteFault,
-    /// This line, counted from 1, would pass a limit; the lines before it were run.
+    /// This line, counted from 1, passed a limit: it is one too many, or a packet was. What came before that was run and told.
     Limit { line: u32, which: Which },
     /// Memory ran out; what was written is the trace of the lines before.
     NoMemory,

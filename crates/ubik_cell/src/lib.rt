@@ -3,12 +3,11 @@
 
 mod cells;
 mod scripts;
-mod sites;
 mod tops;
-mod traces;
 
+pub use cell_runs::{Ending, Which};
 pub use cell_script::Why;
-pub use cells::{CellEnd, CellKind, Ending, Which};
+pub use cells::{CellEnd, CellKind};
 pub use tops::cell_top;
 
 #[cfg(test)]

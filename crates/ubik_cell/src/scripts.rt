@@ -1,381 +1,275 @@
 //! The lines of a script, run one after the other.
-ghost use Rattle.std.specs.Prelude.{◌≡◌, ◌≢◌, ◌+◌, ◌*◌, ◌<◌, ◌≤◌, ℕ, List, length, Some, Err, if◌then◌else◌};
+ghost use Rattle.std.specs.Prelude.{◌≡◌, ◌≢◌, ◌+◌, ◌<◌, ◌≤◌, ◌++◌, ℕ, List, [], length, Some, None, Ok, Err, All, IfOk, OnErr, vec_len, vec_capacity};
 ghost use Rattle.std.specs.String.{string_bytes};
 ghost use Rattle.disk_base.specs.Files.{no_files};
-ghost use Rattle.cell_script.specs.declared.lines.TheConstants.{MAX_CLOCK, MAX_TICK};
-ghost use Rattle.prdb_entries.specs.Protection.{protection};
-ghost use Rattle.prdb_entries.specs.Words.{is_unbuilt};
-ghost use Rattle.ubik_cell.specs.Script.{no_cell};
-ghost use Rattle.ubik_cell.specs.declared.scripts.TheConstants.{MAX_LINES};
+ghost use Rattle.ubik_types.specs.declared.limits.TheConstants.{MAXSERVERS};
+ghost use Rattle.cell_script.specs.declared.readers.TheConstants.{MAX_LINE};
+ghost use Rattle.cell_runs.specs.declared.limits.TheConstants.{MAX_LINES};
+ghost use Rattle.cell_runs.specs.Script.{Told, first_told};
+ghost use Rattle.cell_runs.specs.ScriptDatabase.{script_database};
+ghost use Rattle.cell_sites.specs.Disks.{all_held};
+ghost use Rattle.ubik_cell.specs.Lines.{IsAt, IsSoundRun, LineTold, LineShort, only, run_helds};
 
-use crate::cells::{Ending, Which};
-use crate::sites::{LineDone, Site, open_node, step_site};
-use cell_script::{Line, MAX_CLOCK, MAX_LINE, MAX_TICK, Why, Words, line_meaning};
+use cell_runs::{Ending, MAX_LINES, Which, tell_ending};
+use cell_script::{Line, Why, Words, line_meaning};
+use cell_sites::{LineFault, OpenCell};
+use db_image::WordForms;
 use disk_base::StopDisk;
-use prdb_entries::{call_words, is_unbuilt};
 use std::alloc::Global;
-use ubik_node::NodeEvent;
 use ubik_types::NoMemory;
 
-/// The most lines of a script.
-const MAX_LINES: u32 = 20_000;
+/// Why a script goes no further.
+#[derive(Clone, Copy, Debug, PartialEq, Eq)]
+pub enum RunEnd {
+    /// It ends in this line, which told so.
+    Ended(Ending),
+    /// Memory ran out.
+    NoMemory,
+}
 
-/// How far a script has come.
-#[derive(Clone, Copy)]
-struct Counts {
-    /// How many lines were run.
+/// What the lines of a script so far left: a cell, once one is opened.
+#[derive(Drop)]
+pub struct CellRun<D: StopDisk, V: WordForms> {
+    alloc: Global,
     lines: u32,
-    /// How many calls were asked.
     asks: u32,
-    /// The clock of the server, in seconds; 0 where no cell stands.
-    clock: u32,
+    cell: Option<OpenCell<D, V>>,
+    spare: Vec<D>,
     ghost few_lines: { lines ≤ MAX_LINES },
     ghost few_asks: { asks ≤ lines },
-    ghost clock_fits: { clock ≤ MAX_CLOCK + MAX_TICK * lines },
 }
 
-impl Counts {
-    /// The counts after one more line.
-    fn after_line(self, asks: u32, clock: u32) -> Counts
-        requires room { self.lines < MAX_LINES }
-        requires asks { asks ≤ self.lines + 1 }
-        requires clock { clock ≤ MAX_CLOCK + MAX_TICK * (self.lines + 1) }
-        ensures lines { result.lines ≡ self.lines + 1 }
-        ensures asks { result.asks ≡ asks }
-        ensures clock { result.clock ≡ clock }
+impl<D: StopDisk, V: WordForms> CellRun<D, V> {
+    /// A run before its first line. It takes the disks out of their list, disk i for server i + 1.
+    pub fn new(alloc: Global, disks: &mut Vec<D>) -> Result<CellRun<D, V>, NoMemory>
+        requires twenty { vec_len disks.old ≡ MAXSERVERS }
+        requires empty { All (λ disk. D.files disk ≡ Some no_files) disks.old.items }
+        ensures at { IfOk result (λ run. IsAt D.files D.faults run first_told) }
+        ensures sound { IfOk result (λ run. IsSoundRun D.files D.faults run) }
+        ensures taken { IfOk result (λ run. (disks.new.items ≡ []) × (vec_capacity disks.new ≡ vec_capacity disks.old)) }
+        ensures kept { OnErr result (disks.new ≡ disks.old) }
     {
-        Counts {
-            lines: self.lines + 1,
-            asks,
-            clock,
-        }
-    }
-}
-
-/// What the lines of a script so far left.
-#[derive(Drop)]
-pub struct CellRun<D: StopDisk> {
-    alloc: Global,
-    counts: Counts,
-    site: Site<D>,
-}
-
-impl<D: StopDisk> CellRun<D> {
-    ghost use Rattle.ubik_types.specs.Moment.{IsMoment};
-    ghost use Rattle.cell_script.specs.Meaning.{line_of, HasBounds};
-    ghost use Rattle.ubik_cell.specs.Script.{Stage, Reading, first_stage, in_run, stepped, line_run, line_result};
-    ghost use Rattle.ubik_cell.specs.Sites.{LineShort, site_disk, site_faults, site_held};
-    ghost use Rattle.ubik_cell.specs.Lines.{IsSound, IsTurn, IsAt, StepsFrom, LineTold, IsRefused, Ends};
-
-    /// A run before its first line, over the disk of the one server.
-    pub fn new(alloc: Global, disk: D) -> CellRun<D>
-        requires { D.files disk ≡ Some no_files }
-        ensures at { IsAt result first_stage }
-        ensures sound { IsSound D.files D.faults result.counts.clock result.site }
-        ensures faults { site_faults D.faults result.site ≡ D.faults disk }
-    {
-        let counts = Counts {
+        let mut spare = Vec::with_capacity(alloc, disks.len())?;
+        spare.append(disks).unwrap();
+        Ok(CellRun {
+            alloc,
             lines: 0,
             asks: 0,
-            clock: 0,
-        };
-        CellRun {
-            alloc,
-            counts,
-            site: Site::Unopened(disk),
-        }
+            cell: None,
+            spare,
+        })
     }
 
     /// How many lines were run.
     pub fn lines(&self) -> u32
-        ensures { result ≡ self.now.counts.lines }
+        ensures { result ≡ self.now.lines }
     {
-        self.counts.lines
+        self.lines
     }
 
-    /// The disk of the server, which is taken down.
-    pub fn close(self) -> D
-        ensures { result ≡ site_disk self.site }
-    {
-        let CellRun { site, .. } = self;
-        site.close()
-    }
-
-    /// The cell is opened at a clock.
-    fn open(self, clock: u32, text: &mut String) -> (CellRun<D>, LineDone)
-        requires room { self.counts.lines < MAX_LINES }
-        requires moment { IsMoment clock }
-        requires bound { clock ≤ MAX_CLOCK }
-        requires sound { IsSound D.files D.faults self.counts.clock self.site }
-        ensures sound { result.1 ≢ LineDone.NoMemory → IsSound D.files D.faults result.0.counts.clock result.0.site }
-        ensures told { result.1 ≡ LineDone.Told → (st : Stage) → IsAt self st →
-            LineTold D.faults (λ luck. line_run protection st luck (Line.Cell clock)) self result.0 (string_bytes text.old) (string_bytes text.new) }
-        ensures refused { (e : Ending) → result.1 ≡ LineDone.Ended e → (st : Stage) → IsAt self st →
-            IsRefused e (λ luck. line_run protection st luck (Line.Cell clock)) }
-        ensures short { result.1 ≡ LineDone.NoMemory → (st : Stage) → IsAt self st →
-            LineShort (site_held D.files D.faults result.0.site) st.run (λ luck. line_run protection st luck (Line.Cell clock)) }
-        ensures longer { result.1 ≡ LineDone.Told → result.0.counts.lines ≡ self.counts.lines + 1 }
-        ensures kept { (e : Ending) → result.1 ≡ LineDone.Ended e → result.0 ≡ self }
-        ensures never_falls { site_faults D.faults self.site ≤ site_faults D.faults result.0.site }
+    /// Takes all servers down, and puts the disks into an empty list, each in its place.
+    pub fn close(self, disks: &mut Vec<D>)
+        requires sound { IsSoundRun D.files D.faults self }
+        requires empty { disks.old.items ≡ [] }
+        requires room { MAXSERVERS ≤ vec_capacity disks.old }
+        ensures held { all_held D.files D.faults disks.new.items ≡ run_helds D.files D.faults self }
+        ensures twenty { vec_len disks.new ≡ MAXSERVERS }
     {
         let CellRun {
-            alloc,
-            counts,
-            site,
+            cell, mut spare, ..
         } = self;
-        match site {
-            Site::Unopened(disk) => {
-                let (site, done) = open_node(alloc, disk, clock, text);
-                let counts = counts.after_line(counts.asks, clock);
-                (
-                    CellRun {
-                        alloc,
-                        counts,
-                        site,
-                    },
-                    done,
-                )
-            }
-            site => (
-                CellRun {
-                    alloc,
-                    counts,
-                    site,
-                },
-                LineDone::refused(Why::Cell),
-            ),
+        if let Some(cell) = cell {
+            cell.close(disks);
         }
+        disks.append(&mut spare).unwrap();
+        spare.destroy_empty();
     }
 
-    /// All clocks go forward.
-    fn tick_all(self, seconds: u32) -> (CellRun<D>, LineDone)
-        requires room { self.counts.lines < MAX_LINES }
-        requires bound { seconds ≤ MAX_TICK }
-        requires sound { IsSound D.files D.faults self.counts.clock self.site }
-        ensures sound { result.1 ≢ LineDone.NoMemory → IsSound D.files D.faults result.0.counts.clock result.0.site }
-        ensures told { result.1 ≡ LineDone.Told → (st : Stage) → IsAt self st → (text : List ℕ) →
-            LineTold D.faults (λ luck. line_run protection st luck (Line.TickAll seconds)) self result.0 text text }
-        ensures refused { (e : Ending) → result.1 ≡ LineDone.Ended e → (st : Stage) → IsAt self st →
-            IsRefused e (λ luck. line_run protection st luck (Line.TickAll seconds)) }
-        ensures taken { result.1 ≢ LineDone.NoMemory }
-        ensures longer { result.1 ≡ LineDone.Told → result.0.counts.lines ≡ self.counts.lines + 1 }
-        ensures kept { (e : Ending) → result.1 ≡ LineDone.Ended e → result.0 ≡ self }
-        ensures never_falls { site_faults D.faults self.site ≤ site_faults D.faults result.0.site }
+    /// How many servers the cell has that stands; 0 where none does.
+    fn servers(&self) -> usize {
+        self.cell.as_ref().map_or(0, |cell| cell.servers())
+    }
+
+    /// Opens a cell of so many servers at a clock: at first and once.
+    fn open(&mut self, servers: u32, clock: u32, text: &mut String) -> Result<(), LineFault>
+        requires bounds { HasBounds (Line.Cell servers clock Kind.Protection) }
+        requires room { self.old.lines < MAX_LINES }
+        requires sound { IsSoundRun D.files D.faults self.old }
+        ensures told { result ≡ Ok () → (st : Stage) → IsNear 0 self.old st →
+            StageTold D.files D.faults (only (script_database V.database V.words)) (λ choices. line_run (only (script_database V.database V.words)) (next_line st) choices (Line.Cell servers clock Kind.Protection) st.cell) None self.old self.new (string_bytes text.old) (string_bytes text.new) }
+        ensures limit { (w : Which) → result ≡ Err (LineFault.Limit w) → (st : Stage) → IsNear 0 self.old st →
+            StageTold D.files D.faults (only (script_database V.database V.words)) (λ choices. line_run (only (script_database V.database V.words)) (next_line st) choices (Line.Cell servers clock Kind.Protection) st.cell) (Some (Ending.Limit w)) self.old self.new (string_bytes text.old) (string_bytes text.new) }
+        ensures refused { (why : Why) → result ≡ Err (LineFault.Refused why) → (st : Stage) → IsNear 0 self.old st → IsRefusedLine why (λ choices. line_run (only (script_database V.database V.words)) (next_line st) choices (Line.Cell servers clock Kind.Protection) st.cell) }
+        ensures quiet { (why : Why) → result ≡ Err (LineFault.Refused why) → (self.new ≡ self.old) × (string_bytes text.new ≡ string_bytes text.old) }
+        ensures short { result ≡ Err LineFault.NoMemory → (st : Stage) → IsNear 0 self.old st →
+            StageShort D.files D.faults (λ choices. line_run (only (script_database V.database V.words)) (next_line st) choices (Line.Cell servers clock Kind.Protection) st.cell) st self.old self.new }
+        ensures sound { result ≡ Ok () → IsSoundRun D.files D.faults self.new }
+        ensures disks { sites_in self.new.cell + vec_len self.new.spare ≡ MAXSERVERS }
+        ensures spare { self.new.spare.items ≡ drop (sites_in self.new.cell - sites_in self.old.cell) self.old.spare.items }
+        ensures lines { self.new.lines ≡ self.old.lines }
     {
-        if let Site::Unopened(_) = &self.site {
-            return (self, LineDone::refused(Why::Cell));
+        if self.cell.is_some() {
+            return Err(Why::Cell.into());
         }
-        let CellRun {
-            alloc,
-            counts,
-            site,
-        } = self;
-        let counts = counts.after_line(counts.asks, counts.clock + seconds);
-        (
-            CellRun {
-                alloc,
-                counts,
-                site,
-            },
-            LineDone::Told,
-        )
+        let mut cell = OpenCell::new(self.alloc, servers as usize)?;
+        let opened = open_servers(&mut cell, &mut self.spare, servers, clock, text);
+        if let Some(cell) = self.cell.replace(cell) {
+            cell.close(&mut self.spare);
+        }
+        Ok(opened?)
     }
 
-    /// A step of a server, counted from 1, after which so many calls were asked.
-    fn step(
-        self,
-        asks: u32,
-        number: u64,
-        event: NodeEvent,
+    /// Asks a server a call in words. Once a cell stands the words come first: the number of the server is judged after them.
+    fn ask(
+        &mut self,
+        server: Option<u64>,
+        words: &Words,
         text: &mut String,
-    ) -> (CellRun<D>, LineDone)
-        requires room { self.counts.lines < MAX_LINES }
-        requires asks { asks ≤ self.counts.lines + 1 }
-        requires turn { IsTurn event }
-        requires sound { IsSound D.files D.faults self.counts.clock self.site }
-        ensures sound { result.1 ≢ LineDone.NoMemory → IsSound D.files D.faults result.0.counts.clock result.0.site }
-        ensures told { result.1 ≡ LineDone.Told → (st : Stage) → StepsFrom self asks st →
-            LineTold D.faults (λ luck. in_run (stepped protection st luck number event) st.run) self result.0 (string_bytes text.old) (string_bytes text.new) }
-        ensures refused { (e : Ending) → result.1 ≡ LineDone.Ended e → (st : Stage) → StepsFrom self asks st →
-            IsRefused e (λ luck. in_run (stepped protection st luck number event) st.run) }
-        ensures kept { (e : Ending) → result.1 ≡ LineDone.Ended e → result.0 ≡ self }
-        ensures short { result.1 ≡ LineDone.NoMemory → (st : Stage) → StepsFrom self asks st →
-            LineShort (site_held D.files D.faults result.0.site) st.run (λ luck. in_run (stepped protection st luck number event) st.run) }
-        ensures longer { result.1 ≡ LineDone.Told → result.0.counts.lines ≡ self.counts.lines + 1 }
-        ensures never_falls { site_faults D.faults self.site ≤ site_faults D.faults result.0.site }
+    ) -> Result<(), LineFault>
+        requires room { self.old.lines < MAX_LINES }
+        requires sound { IsSoundRun D.files D.faults self.old }
+        ensures told { result ≡ Ok () → (st : Stage) → IsNear 0 self.old st →
+            StageTold D.files D.faults (only (script_database V.database V.words)) (λ choices. line_run (only (script_database V.database V.words)) (next_line st) choices (Line.Ask server words.now) st.cell) None self.old self.new (string_bytes text.old) (string_bytes text.new) }
+        ensures limit { (w : Which) → result ≡ Err (LineFault.Limit w) → (st : Stage) → IsNear 0 self.old st →
+            StageTold D.files D.faults (only (script_database V.database V.words)) (λ choices. line_run (only (script_database V.database V.words)) (next_line st) choices (Line.Ask server words.now) st.cell) (Some (Ending.Limit w)) self.old self.new (string_bytes text.old) (string_bytes text.new) }
+        ensures refused { (why : Why) → result ≡ Err (LineFault.Refused why) → (st : Stage) → IsNear 0 self.old st → IsRefusedLine why (λ choices. line_run (only (script_database V.database V.words)) (next_line st) choices (Line.Ask server words.now) st.cell) }
+        ensures quiet { (why : Why) → result ≡ Err (LineFault.Refused why) → (self.new ≡ self.old) × (string_bytes text.new ≡ string_bytes text.old) }
+        ensures short { result ≡ Err LineFault.NoMemory → (st : Stage) → IsNear 0 self.old st →
+            StageShort D.files D.faults (λ choices. line_run (only (script_database V.database V.words)) (next_line st) choices (Line.Ask server words.now) st.cell) st self.old self.new }
+        ensures sound { result ≡ Ok () → IsSoundRun D.files D.faults self.new }
+        ensures disks { sites_in self.new.cell + vec_len self.new.spare ≡ MAXSERVERS }
+        ensures spare { self.new.spare.items ≡ drop (sites_in self.new.cell - sites_in self.old.cell) self.old.spare.items }
+        ensures lines { self.new.lines ≡ self.old.lines }
     {
-        let CellRun {
-            alloc,
-            counts,
-            site,
-        } = self;
-        let (site, done) = step_site(alloc, site, counts.clock, number, event, text);
-        match done {
-            LineDone::Told => {
-                let counts = counts.after_line(asks, counts.clock);
-                (
-                    CellRun {
-                        alloc,
-                        counts,
-                        site,
-                    },
-                    done,
-                )
-            }
-            LineDone::Ended(_) | LineDone::NoMemory => (
-                CellRun {
-                    alloc,
-                    counts,
-                    site,
-                },
-                done,
-            ),
-        }
-    }
-
-    /// A call of a server, counted from 1, in words. Once a cell stands the words come first: the server is judged
-    /// after them.
-    fn ask(self, server: Option<u64>, words: &Words, text: &mut String) -> (CellRun<D>, LineDone)
-        requires room { self.counts.lines < MAX_LINES }
-        requires sound { IsSound D.files D.faults self.counts.clock self.site }
-        ensures sound { result.1 ≢ LineDone.NoMemory → IsSound D.files D.faults result.0.counts.clock result.0.site }
-        ensures told { result.1 ≡ LineDone.Told → (st : Stage) → IsAt self st →
-            LineTold D.faults (λ luck. line_run protection st luck (Line.Ask server words.now)) self result.0 (string_bytes text.old) (string_bytes text.new) }
-        ensures refused { (e : Ending) → result.1 ≡ LineDone.Ended e → (st : Stage) → IsAt self st →
-            IsRefused e (λ luck. line_run protection st luck (Line.Ask server words.now)) }
-        ensures short { result.1 ≡ LineDone.NoMemory → (st : Stage) → IsAt self st →
-            LineShort (site_held D.files D.faults result.0.site) st.run (λ luck. line_run protection st luck (Line.Ask server words.now)) }
-        ensures longer { result.1 ≡ LineDone.Told → result.0.counts.lines ≡ self.counts.lines + 1 }
-        ensures kept { (e : Ending) → result.1 ≡ LineDone.Ended e → result.0 ≡ self }
-        ensures never_falls { site_faults D.faults self.site ≤ site_faults D.faults result.0.site }
-    {
-        if let Site::Unopened(_) = &self.site {
-            return (self, LineDone::refused(why_no_cell(server)));
-        }
-        let Ok(call) = call_words(self.alloc, words.as_slice()) else {
-            return (self, LineDone::NoMemory);
+        let Some(cell) = &mut self.cell else {
+            return Err(server.map_or(Why::Number, |_| Why::Cell).into());
         };
-        let Some(call) = call else {
-            return (self, LineDone::refused(why_no_call(words)));
+        let Some(call) = V::call_words(self.alloc, words.as_slice())? else {
+            return Err(why_no_call::<V>(words).into());
         };
-        let Some(number) = server else {
-            return (self, LineDone::refused(Why::Number));
-        };
-        let id = self.counts.asks + 1;
-        self.step(id, number, NodeEvent::Ask { id, call }, text)
-    }
-
-    /// An empty line, or a comment.
-    fn pass(self) -> (CellRun<D>, LineDone)
-        requires room { self.counts.lines < MAX_LINES }
-        requires sound { IsSound D.files D.faults self.counts.clock self.site }
-        ensures sound { IsSound D.files D.faults result.0.counts.clock result.0.site }
-        ensures done { result.1 ≡ LineDone.Told }
-        ensures told { (st : Stage) → IsAt self st → (text : List ℕ) →
-            LineTold D.faults (λ luck. line_run protection st luck Line.Nothing) self result.0 text text }
-        ensures longer { result.1 ≡ LineDone.Told → result.0.counts.lines ≡ self.counts.lines + 1 }
-        ensures kept { (e : Ending) → result.1 ≡ LineDone.Ended e → result.0 ≡ self }
-        ensures never_falls { site_faults D.faults self.site ≤ site_faults D.faults result.0.site }
-    {
-        let CellRun {
-            alloc,
-            counts,
-            site,
-        } = self;
-        let counts = counts.after_line(counts.asks, counts.clock);
-        (
-            CellRun {
-                alloc,
-                counts,
-                site,
-            },
-            LineDone::Told,
-        )
+        let server = server.ok_or(Why::Number)?;
+        let id = self.asks + 1;
+        cell.ask(server, id, call, text)?;
+        self.asks = id;
+        Ok(())
     }
 
     /// A line that was understood.
-    fn run_line(self, line: &Line, text: &mut String) -> (CellRun<D>, LineDone)
-        requires room { self.counts.lines < MAX_LINES }
+    fn run_line(&mut self, line: &Line, text: &mut String) -> Result<(), LineFault>
         requires bounds { HasBounds line.now }
-        requires sound { IsSound D.files D.faults self.counts.clock self.site }
-        ensures sound { result.1 ≢ LineDone.NoMemory → IsSound D.files D.faults result.0.counts.clock result.0.site }
-        ensures told { result.1 ≡ LineDone.Told → (st : Stage) → IsAt self st →
-            LineTold D.faults (λ luck. line_run protection st luck line.now) self result.0 (string_bytes text.old) (string_bytes text.new) }
-        ensures refused { (e : Ending) → result.1 ≡ LineDone.Ended e → (st : Stage) → IsAt self st →
-            IsRefused e (λ luck. line_run protection st luck line.now) }
-        ensures short { result.1 ≡ LineDone.NoMemory → (st : Stage) → IsAt self st →
-            LineShort (site_held D.files D.faults result.0.site) st.run (λ luck. line_run protection st luck line.now) }
-        ensures longer { result.1 ≡ LineDone.Told → result.0.counts.lines ≡ self.counts.lines + 1 }
-        ensures kept { (e : Ending) → result.1 ≡ LineDone.Ended e → result.0 ≡ self }
-        ensures never_falls { site_faults D.faults self.site ≤ site_faults D.faults result.0.site }
+        requires room { self.old.lines < MAX_LINES }
+        requires sound { IsSoundRun D.files D.faults self.old }
+        ensures told { result ≡ Ok () → (st : Stage) → IsNear 0 self.old st →
+            StageTold D.files D.faults (only (script_database V.database V.words)) (λ choices. line_run (only (script_database V.database V.words)) (next_line st) choices line.now st.cell) None self.old self.new (string_bytes text.old) (string_bytes text.new) }
+        ensures limit { (w : Which) → result ≡ Err (LineFault.Limit w) → (st : Stage) → IsNear 0 self.old st →
+            StageTold D.files D.faults (only (script_database V.database V.words)) (λ choices. line_run (only (script_database V.database V.words)) (next_line st) choices line.now st.cell) (Some (Ending.Limit w)) self.old self.new (string_bytes text.old) (string_bytes text.new) }
+        ensures refused { (why : Why) → result ≡ Err (LineFault.Refused why) → (st : Stage) → IsNear 0 self.old st → IsRefusedLine why (λ choices. line_run (only (script_database V.database V.words)) (next_line st) choices line.now st.cell) }
+        ensures quiet { (why : Why) → result ≡ Err (LineFault.Refused why) → (self.new ≡ self.old) × (string_bytes text.new ≡ string_bytes text.old) }
+        ensures short { result ≡ Err LineFault.NoMemory → (st : Stage) → IsNear 0 self.old st →
+            StageShort D.files D.faults (λ choices. line_run (only (script_database V.database V.words)) (next_line st) choices line.now st.cell) st self.old self.new }
+        ensures sound { result ≡ Ok () → IsSoundRun D.files D.faults self.new }
+        ensures disks { sites_in self.new.cell + vec_len self.new.spare ≡ MAXSERVERS }
+        ensures spare { self.new.spare.items ≡ drop (sites_in self.new.cell - sites_in self.old.cell) self.old.spare.items }
+        ensures lines { self.new.lines ≡ self.old.lines }
     {
-        let asks = self.counts.asks;
         match line {
-            Line::Nothing => self.pass(),
-            Line::Cell { clock } => self.open(*clock, text),
-            Line::TickAll { seconds } => self.tick_all(*seconds),
-            Line::Beacon { server } => self.step(asks, *server, NodeEvent::BeaconTurn, text),
-            Line::Recover { server } => self.step(asks, *server, NodeEvent::RecoverTurn, text),
+            Line::Nothing => Ok(()),
+            Line::Cell { servers, clock, .. } => self.open(*servers, *clock, text),
             Line::Ask { server, call } => self.ask(*server, call, text),
+            line => match &mut self.cell {
+                None => Err(Why::Cell.into()),
+                Some(cell) => run_in_cell(cell, line, text),
+            },
         }
     }
 
-    /// The next line of the script, without its LF; what is seen of it is added to the text. The script ends at the
-    /// 20,001st.
-    pub fn line(self, line: &[u8], text: &mut String) -> (CellRun<D>, LineDone)
-        requires sound { IsSound D.files D.faults self.counts.clock self.site }
-        ensures sound { result.1 ≢ LineDone.NoMemory → IsSound D.files D.faults result.0.counts.clock result.0.site }
-        ensures told { result.1 ≡ LineDone.Told → (st : Stage) → IsAt self st →
-            LineTold D.faults (λ luck. line_result protection st (record { line = line.now; luck = luck })) self result.0 (string_bytes text.old) (string_bytes text.new) }
-        ensures ended { (e : Ending) → result.1 ≡ LineDone.Ended e → (st : Stage) → IsAt self st →
-            Ends e (λ luck. line_result protection st (record { line = line.now; luck = luck })) }
-        ensures few { result.1 ≡ LineDone.Told → self.counts.lines < MAX_LINES }
-        ensures short { result.1 ≡ LineDone.NoMemory → (st : Stage) → IsAt self st →
-            LineShort (site_held D.files D.faults result.0.site) st.run (λ luck. line_result protection st (record { line = line.now; luck = luck })) }
-        ensures longer { result.1 ≡ LineDone.Told → result.0.counts.lines ≡ self.counts.lines + 1 }
-        ensures kept { (e : Ending) → result.1 ≡ LineDone.Ended e → result.0 ≡ self }
-        ensures never_falls { site_faults D.faults self.site ≤ site_faults D.faults result.0.site }
-    {
-        if self.counts.lines >= MAX_LINES {
-            return (self, LineDone::Ended(Ending::Limit(Which::Lines)));
+    /// A line as it was read. A script has 20,000 of them at most.
+    fn read_line(&mut self, line: &[u8], text: &mut String) -> Result<(), LineFault> {
+        if self.lines >= MAX_LINES {
+            return Err(LineFault::Limit(Which::Lines));
         }
-        let Ok(meaning) = line_meaning(self.alloc, line) else {
-            return (self, LineDone::NoMemory);
-        };
-        match meaning {
-            Ok(meaning) => self.run_line(&meaning, text),
-            Err(why) => (self, LineDone::refused(why)),
+        let meaning = line_meaning(self.alloc, line, self.servers())?;
+        self.run_line(&meaning?, text)?;
+        self.lines += 1;
+        Ok(())
+    }
+
+    /// The next line of the script, without its LF: what is told of it is added to the text, and, where the script ends in it, why.
+    pub fn line(&mut self, line: &[u8], text: &mut String) -> Result<(), RunEnd>
+        requires sound { IsSoundRun D.files D.faults self.old }
+        ensures told { result ≢ Err RunEnd.NoMemory → (t : Told) → IsAt D.files D.faults self.old t → t.ended ≡ None →
+            LineTold D.files D.faults (only (script_database V.database V.words)) line.now t result self.new (string_bytes text.old) (string_bytes text.new) }
+        ensures short { result ≡ Err RunEnd.NoMemory → (t : Told) → IsAt D.files D.faults self.old t → t.ended ≡ None →
+            LineShort D.files D.faults (only (script_database V.database V.words)) line.now t self.new }
+        ensures sound { IsSoundRun D.files D.faults self.new }
+        ensures longer { result ≡ Ok () → self.new.lines ≡ self.old.lines + 1 }
+    {
+        match self.read_line(line, text) {
+            Ok(()) => Ok(()),
+            Err(LineFault::NoMemory) => Err(RunEnd::NoMemory),
+            Err(LineFault::Refused(why)) => self.end(Ending::Refused(why), text),
+            Err(LineFault::Limit(which)) => self.end(Ending::Limit(which), text),
         }
     }
 
-    /// Why the script ends at the next line, which has more bytes than a line may have.
-    pub fn ending_at_long_line(&self) -> Ending
-        ensures { (st : Stage) → IsAt self.now st → (line : List ℕ) → MAX_LINE < length line →
-            Ends result (λ luck. line_result protection st (record { line = line; luck = luck })) }
-    {
-        if self.counts.lines >= MAX_LINES {
+    /// The next line of the script where it has more bytes than a line may have.
+    pub fn long_line(&self, text: &mut String) -> Result<(), RunEnd> {
+        let ending = if self.lines >= MAX_LINES {
             Ending::Limit(Which::Lines)
         } else {
             Ending::Refused(Why::Syntax)
+        };
+        self.end(ending, text)
+    }
+
+    /// Tells that the script ends in the next line, and why.
+    fn end(&self, ending: Ending, text: &mut String) -> Result<(), RunEnd> {
+        match tell_ending(text, self.lines + 1, ending) {
+            Ok(()) => Err(RunEnd::Ended(ending)),
+            Err(NoMemory) => Err(RunEnd::NoMemory),
         }
     }
 }
 
-/// Why a call is refused where no cell stands.
-fn why_no_cell(server: Option<u64>) -> Why
-    ensures { no_cell server ≡ Err result }
-{
-    match server {
-        None => Why::Number,
-        Some(_) => Why::Cell,
+/// Opens the servers of a cell, each over the next of these disks, at a clock.
+fn open_servers<D: StopDisk, V: WordForms>(
+    cell: &mut OpenCell<D, V>,
+    spare: &mut Vec<D>,
+    servers: u32,
+    clock: u32,
+    text: &mut String,
+) -> Result<(), NoMemory> {
+    for _ in 0..servers {
+        let disk = spare.remove(0);
+        cell.open_next(disk, clock, text)?;
+    }
+    Ok(())
+}
+
+/// A line in a cell that stands, but for an ask.
+fn run_in_cell<D: StopDisk, V: WordForms>(
+    cell: &mut OpenCell<D, V>,
+    line: &Line,
+    text: &mut String,
+) -> Result<(), LineFault> {
+    match line {
+        Line::Tick { server, seconds } => Ok(cell.tick(*server, *seconds)?),
+        Line::TickAll { seconds } => Ok(cell.tick_all(*seconds)),
+        Line::Beacon { server } => cell.beacon(*server, text),
+        Line::Recover { server } => cell.recover(*server, text),
+        Line::Deliver { packet } => cell.deliver(*packet, text),
+        Line::Drop { packet } => Ok(cell.drop_packet(*packet)?),
+        Line::DropAll { server } => Ok(cell.drop_all(*server)?),
+        Line::DeliverAll => cell.deliver_all(text),
+        Line::Show { server } => cell.show(*server, text),
+        Line::Cell { .. } => Err(Why::Cell.into()),
+        _ => Ok(()),
     }
 }
 
 /// Why words that name no call are refused.
-fn why_no_call(words: &Words) -> Why
-    ensures { (if is_unbuilt words.now then Why.Unbuilt else Why.Syntax) ≡ result }
-{
-    if is_unbuilt(words.as_slice()) {
+fn why_no_call<V: WordForms>(words: &Words) -> Why {
+    if V::is_unbuilt(words.as_slice()) {
         Why::Unbuilt
     } else {
         Why::Syntax

@@ -90,7 +90,7 @@ pub fn read_log<D: Disk>(alloc: Global, disk: &mut D) -> Result<LogState, LogFau
 pub fn keep_log<D: Disk>(_alloc: Global, disk: &mut D, log: &[u8]) -> Result<(), LogFault>
     requires header { 4 ≤ length log.now }
     requires empty { IfSome (D.files disk.old) (λ fs. fs.log ≡ []) }
-    ensures kept { OnOk result (KeepsLog D.Disk log.now disk.old disk.new) }
+    ensures stands { OnOk result (KeepsLog D.Disk log.now disk.old disk.new) }
     // A crash at any moment of the call leaves a discarded log.
     ensures moments { IfSome (D.files disk.old) (λ _. OnlyIn FileNo.Log [] (D.may_leave disk.old)
         → LeavesOnly D.steps D.left_since disk.old disk.new (After HasDiscarded (D.may_leave disk.old))) }
@@ -113,7 +113,7 @@ pub fn keep_log<D: Disk>(_alloc: Global, disk: &mut D, log: &[u8]) -> Result<(),
 
 /// Opens the gate of the log: a kept log is committed once this is `Ok`.
 pub fn open_gate<D: Disk>(disk: &mut D) -> Result<(), LogFault>
-    requires there { IfSome (D.files disk.old) (λ fs. 4 ≤ length fs.log) }
+    requires header { IfSome (D.files disk.old) (λ fs. 4 ≤ length fs.log) }
     requires fits { D.files disk.old ≡ None → 4 ≤ D.room disk.old FileNo.Log }
     ensures set { OnOk result (SetsGate D.Disk 100 disk.old disk.new) }
     // A crash at any moment of the call leaves the gate as it was, or with any byte.
@@ -131,7 +131,7 @@ pub fn open_gate<D: Disk>(disk: &mut D) -> Result<(), LogFault>
 
 /// Closes the gate of the log: a log that is read after this is discarded.
 pub fn close_gate<D: Disk>(disk: &mut D) -> Result<(), LogFault>
-    requires there { IfSome (D.files disk.old) (λ fs. 4 ≤ length fs.log) }
+    requires header { IfSome (D.files disk.old) (λ fs. 4 ≤ length fs.log) }
     requires fits { D.files disk.old ≡ None → 4 ≤ D.room disk.old FileNo.Log }
     ensures set { OnOk result (SetsGate D.Disk 0 disk.old disk.new) }
     // A crash at any moment of the call leaves the gate as it was, or with any byte.
@@ -173,7 +173,7 @@ fn put_closed<D: Disk>(disk: &mut D, log: &[u8]) -> DiskEnd
     requires header { 4 ≤ length log.now }
     requires empty { IfSome (D.files disk.old) (λ fs. fs.log ≡ []) }
     requires fits { length log.now ≤ D.room disk.old FileNo.Log }
-    ensures kept { OnDone result (D.files disk.new ≡ option_map (with_log (closed log.now)) (D.files disk.old)) }
+    ensures stands { OnDone result (D.files disk.new ≡ option_map (with_log (closed log.now)) (D.files disk.old)) }
     ensures durable { OnDone result (IfSome (D.files disk.old) (λ _.
         Follows (λ d c. c ≡ with_log (closed log.now) d) (D.may_leave disk.old) (D.may_leave disk.new))) }
     ensures moments { IfSome (D.files disk.old) (λ _. OnlyIn FileNo.Log [] (D.may_leave disk.old)
@@ -193,7 +193,7 @@ fn put_closed<D: Disk>(disk: &mut D, log: &[u8]) -> DiskEnd
 
 /// Writes this byte at the gate, and syncs the log file.
 fn set_gate<D: Disk>(disk: &mut D, byte: u8) -> Result<(), LogFault>
-    requires there { IfSome (D.files disk.old) (λ fs. 4 ≤ length fs.log) }
+    requires header { IfSome (D.files disk.old) (λ fs. 4 ≤ length fs.log) }
     requires fits { D.files disk.old ≡ None → 4 ≤ D.room disk.old FileNo.Log }
     ensures set { OnOk result (SetsGate D.Disk byte disk.old disk.new) }
     ensures moments { LeavesOnly D.steps D.left_since disk.old disk.new (After HasAnyGate (D.may_leave disk.old)) }

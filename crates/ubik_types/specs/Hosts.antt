@@ -1,6 +1,7 @@
 -- The hosts of a cell.
 use Rattle.std.specs.Prelude.{ℕ, ◌<◌, ◌≤◌, ◌==◌, List, [], ◌∷◌, length, count_by}
 use Rattle.ubik_types.specs.declared.hosts.Host.{Host}
+use Rattle.ubik_types.specs.declared.limits.TheConstants.{MAXSERVERS}
 
 -- each host is below the next
 abbrev pub IsAscending : List Host → Type 0
@@ -14,10 +15,10 @@ IsRising [] = Unit {0}
 IsRising (a ∷ []) = Unit {0}
 IsRising (a ∷ b ∷ hosts) = (a.0 ≤ b.0) × IsRising (b ∷ hosts)
 
--- 1 to 20 hosts, ascending
+-- at least one host and at most 20, ascending
 pub record IsCell (hosts : List Host) : Type 0 where
   pub some : 0 < length hosts
-  pub not_more : length hosts ≤ 20
+  pub not_more : length hosts ≤ MAXSERVERS
   pub ascending : IsAscending hosts
 
 -- how often a host stands in a list

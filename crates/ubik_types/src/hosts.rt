@@ -93,7 +93,7 @@ impl Cell {
     pub fn len(&self) -> usize
         ensures len { result ≡ length self.now }
         ensures some { 0 < result }
-        ensures not_more { result ≤ 20 }
+        ensures not_more { result ≤ MAXSERVERS }
     {
         self.hosts.len()
     }

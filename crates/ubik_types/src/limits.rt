@@ -6,10 +6,12 @@ pub const SMALLTIME: u32 = 60;
 /// How long a yes, a lowest host and a sync host are kept, in seconds (Ubik's BIGTIME).
 pub const BIGTIME: u32 = 75;
 
-/// The pause between two turns of a server, in seconds (Ubik's POLLTIME).
+/// The pause between two turns of a server, in seconds (Ubik's POLLTIME). No definition rests on it: a server of the
+/// model has its turn when an event says so. A program that runs servers by the clock is to keep it.
 pub const POLLTIME: u32 = 15;
 
-/// How long a peer may take to answer a call, in seconds (Ubik's RPCTIMEOUT).
+/// How long a peer may take to answer a call, in seconds (Ubik's RPCTIMEOUT). No definition rests on it: in the model
+/// an answer comes or is lost by an event. A program over a real net is to keep it.
 pub const RPCTIMEOUT: u32 = 20;
 
 /// By how much two clocks of a cell may differ, in seconds (own).

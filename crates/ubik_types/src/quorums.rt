@@ -8,7 +8,7 @@ use crate::limits::MAXSERVERS;
 /// A set of servers of a cell, by their places. Marks at or past the cell's length do not count.
 #[derive(Clone, Copy, Debug, PartialEq, Eq)]
 pub struct Marks {
-    pub set: [bool; 20],
+    pub set: [bool; MAXSERVERS],
 }
 
 /// Whether the set is a vote quorum of the cell: its votes outweigh all others, the lowest server having
@@ -63,8 +63,8 @@ mod tests {
 
     /// The set whose server `i` is marked where bit `i` is 1.
     fn marks_of(bits: u32) -> Marks {
-        let mut set = [false; 20];
-        for i in 0..20 {
+        let mut set = [false; MAXSERVERS];
+        for i in 0..MAXSERVERS {
             set[i] = (bits >> i) & 1 == 1;
         }
         Marks { set }

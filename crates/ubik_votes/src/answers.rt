@@ -7,26 +7,26 @@ use ubik_types::BIGTIME;
 
 /// A server that was heard, by its place, and the moment.
 #[derive(Clone, Copy, Debug)]
-pub struct Kept {
+pub struct HeardAt {
     pub server: usize,
     pub at: u32,
 }
 
 /// Whom a server voted for last, and the servers that it may vote for next.
 #[derive(Clone, Copy, Debug)]
-pub struct Given {
+pub struct GivenVotes {
     pub yes_to: Option<usize>,
     pub yes_at: u32,
-    pub lowest: Option<Kept>,
-    pub sync: Option<Kept>,
+    pub lowest: Option<HeardAt>,
+    pub sync: Option<HeardAt>,
 }
 
-impl Given {
+impl GivenVotes {
     /// A server that starts may have voted just now, before it stopped.
     pub fn fresh(now: u32) -> Self
         ensures { vote_state result ≡ fresh_votes now }
     {
-        Given {
+        GivenVotes {
             yes_to: None,
             yes_at: now,
             lowest: None,
@@ -90,7 +90,7 @@ fn is_past(at: u32, now: u32) -> bool
 }
 
 /// Whom a server still knows to have heard.
-pub fn still_heard(kept: Option<Kept>, now: u32) -> Option<Kept>
+pub fn still_heard(kept: Option<HeardAt>, now: u32) -> Option<HeardAt>
     ensures { heard_of result ≡ still_heard now (heard_of kept) }
 {
     match kept {
@@ -100,12 +100,12 @@ pub fn still_heard(kept: Option<Kept>, now: u32) -> Option<Kept>
 }
 
 /// The lowest server heard, after a beacon of `from`.
-fn next_lowest(kept: Option<Kept>, now: u32, from: usize) -> Option<Kept>
+fn next_lowest(kept: Option<HeardAt>, now: u32, from: usize) -> Option<HeardAt>
     ensures { heard_of result ≡ lowest_with now from (heard_of kept) }
 {
     match kept {
         Some(lowest) if lowest.server < from => Some(lowest),
-        _ => Some(Kept {
+        _ => Some(HeardAt {
             server: from,
             at: now,
         }),
@@ -113,11 +113,11 @@ fn next_lowest(kept: Option<Kept>, now: u32, from: usize) -> Option<Kept>
 }
 
 /// The sync host, after a beacon of `from`, which claims to be it or not.
-fn next_sync(kept: Option<Kept>, now: u32, from: usize, claim: bool) -> Option<Kept>
+fn next_sync(kept: Option<HeardAt>, now: u32, from: usize, claim: bool) -> Option<HeardAt>
     ensures { heard_of result ≡ sync_with now from claim (heard_of kept) }
 {
     match kept {
-        _ if claim => Some(Kept {
+        _ if claim => Some(HeardAt {
             server: from,
             at: now,
         }),

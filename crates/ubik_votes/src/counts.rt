@@ -24,8 +24,8 @@ fn greater(before: Option<u32>, start: u32) -> u32
 
 /// The last moment of the lease, 0 where there is none.
 pub fn lease_end(starts: &[Option<u32>]) -> u32
-    requires few { length starts.now ≤ 20 }
-    requires moments { AreMoments starts.now }
+    requires few { length starts.now ≤ MAXSERVERS }
+    requires starts { AreMoments starts.now }
     ensures { result ≡ lease_end (length starts.now) starts.now }
 {
     match quorum_start(starts) {
@@ -36,8 +36,8 @@ pub fn lease_end(starts: &[Option<u32>]) -> u32
 
 /// The greatest start that a vote quorum supports, 0 where there is none.
 fn quorum_start(starts: &[Option<u32>]) -> u32
-    requires few { length starts.now ≤ 20 }
-    requires moments { AreMoments starts.now }
+    requires few { length starts.now ≤ MAXSERVERS }
+    requires starts { AreMoments starts.now }
     ensures greatest { result ≡ quorum_start (length starts.now) starts.now starts.now }
     ensures moment { result < 2 ^ 31 }
 {
@@ -50,7 +50,7 @@ fn quorum_start(starts: &[Option<u32>]) -> u32
 
 /// The greater of two starts, of which the second counts only where a vote quorum supports it.
 fn better(starts: &[Option<u32>], best: u32, start: Option<u32>) -> u32
-    requires { length starts.now ≤ 20 }
+    requires { length starts.now ≤ MAXSERVERS }
     ensures { result ≡ better_start (length starts.now) starts.now best start }
 {
     match start {
@@ -61,10 +61,10 @@ fn better(starts: &[Option<u32>], best: u32, start: Option<u32>) -> u32
 
 /// Whether the servers whose start is at least this one are a vote quorum.
 fn is_supported(starts: &[Option<u32>], least: u32) -> bool
-    requires { length starts.now ≤ 20 }
+    requires { length starts.now ≤ MAXSERVERS }
     ensures { result ≡ is_vote_quorum (length starts.now) (supporters starts.now least) }
 {
-    let mut set = [false; 20];
+    let mut set = [false; MAXSERVERS];
     for (i, start) in starts.iter().enumerate() {
         set[i] = is_from(least, *start);
     }

@@ -5,9 +5,10 @@ ghost use Rattle.ubik_types.specs.Moment.{IsMoment};
 ghost use Rattle.ubik_types.specs.Votes.{answers_yes, sync_heard};
 ghost use Rattle.ubik_votes.specs.Voter.{fresh_voter, after_beacon, after_own_beacon, after_vote, leased_until, is_leased, is_due};
 
-use crate::answers::{Given, still_heard};
+use crate::answers::{GivenVotes, still_heard};
 use crate::counts::{count, is_from, lease_end};
 use std::marker::Model;
+use ubik_types::MAXSERVERS;
 
 /// The votes that a server gives and gets. Servers are their places in the cell, moments are whole seconds
 /// from 1 to 2147483647.
@@ -16,8 +17,8 @@ pub struct Votes {
     servers: usize,
     me: usize,
     opened: u32,
-    given: Given,
-    starts: [Option<u32>; 20],
+    given: GivenVotes,
+    starts: [Option<u32>; MAXSERVERS],
 }
 
 impl Model for Votes {
@@ -35,7 +36,7 @@ impl Model for Votes {
 impl Votes {
     /// The votes of server `me` of `n` servers, which starts now.
     pub fn start(n: usize, me: usize, now: u32) -> Votes
-        requires servers { n ≤ 20 }
+        requires servers { n ≤ MAXSERVERS }
         requires me { me < n }
         ensures { result ≡ fresh_voter n me now }
     {
@@ -43,8 +44,8 @@ impl Votes {
             servers: n,
             me,
             opened: now,
-            given: Given::fresh(now),
-            starts: [None; 20],
+            given: GivenVotes::fresh(now),
+            starts: [None; MAXSERVERS],
         }
     }
 

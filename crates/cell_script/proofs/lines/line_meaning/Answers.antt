@@ -7,4 +7,5 @@ use Rattle.cell_script.proofs.lines.line_meaning.Goals as goal
 
 pub returns-in-Some-clause-bounds : goal.returns-in-Some-clause-bounds
 returns-in-Some-clause-bounds c =
-    let P : Result Line Why → Type 0 = λ o. IfOk o HasBounds in subst P (sym c.words_meaning.ensures) (words_bounds c.in-Some.words)
+    let P : Result Line Why → Type 0 = λ o. IfOk o HasBounds in
+    subst P (sym c.words_meaning.ensures) (words_bounds c.args.servers c.in-Some.words)

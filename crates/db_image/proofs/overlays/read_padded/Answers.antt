@@ -9,4 +9,4 @@ returns-then-held-eq0-clause-bytes g c = λ done.
 pub returns-clause-bytes : goal.returns-clause-bytes
 returns-clause-bytes g c = λ done.
     padded_front (g.I.ImageRead.held c.args.image.now) (g.I.ImageRead.size c.args.image.now) c.args.at c.min-held.result c.clear.new.buf c.read_front.new.buf
-      c.len.ensures.told (omega arith) c.clear.ensures c.read_front.ensures.behind (c.read_front.ensures.front done)
+    c.len.ensures.told (omega arith) c.clear.ensures c.read_front.ensures.behind (c.read_front.ensures.front done)

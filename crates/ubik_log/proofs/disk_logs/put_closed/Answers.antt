@@ -3,8 +3,8 @@ use Rattle.disk_base.proofs.Runs.{widened, joined, changes_joined, changes_as}
 use Rattle.ubik_log.proofs.KeptLogs.{on_done, told_or_not, under, kept, durable, first_run, zero_only, second_run}
 use Rattle.ubik_log.proofs.disk_logs.put_closed.Goals as goal
 
-pub returns-in-Done-clause-kept : goal.returns-in-Done-clause-kept
-returns-in-Done-clause-kept g c =
+pub returns-in-Done-clause-stands : goal.returns-in-Done-clause-stands
+returns-in-Done-clause-stands g c =
     on_done c.put_synced-in-Done.result _ _ (λ second. second ∙ kept c.args.log.now c.split_at.result.1.now c.split_at.ensures.back _ _ c.requires.empty c.in-Done.ensures.written)
     c.put_synced-in-Done.ensures.written
 

@@ -13,7 +13,7 @@ has_room (Some fs) n room untold there has = omega (arith, there, has)
 pub put_synced-requires-clause-fits : goal.put_synced-requires-clause-fits
 put_synced-requires-clause-fits g c =
     let disk = c.args.disk.now in
-    let room : 4 ≤ g.D.Disk.room disk Log = has_room (g.D.Disk.files disk) 4 _ c.requires.fits c.requires.there (g.D.Disk.has_room disk Log) in
+    let room : 4 ≤ g.D.Disk.room disk Log = has_room (g.D.Disk.files disk) 4 _ c.requires.fits c.requires.header (g.D.Disk.has_room disk Log) in
     omega arith
 
 pub returns-in-Done-clause-moments : goal.returns-in-Done-clause-moments

@@ -14,4 +14,4 @@ returns-clause-greatest c =
 pub returns-clause-moment : goal.returns-clause-moment
 returns-clause-moment c =
     let is : c.loop-start.best ≡ quorum_start (length c.args.starts.now) c.args.starts.now c.args.starts.now = search-end (length c.args.starts.now) c.args.starts.now c.loop-start.best c.loop-start.start-index (omega arith) c.loop-start.invariant in
-    omega (arith, is, quorum_start-moment (length c.args.starts.now) c.args.starts.now c.args.starts.now c.requires.moments)
+    omega (arith, is, quorum_start-moment (length c.args.starts.now) c.args.starts.now c.args.starts.now c.requires.starts)

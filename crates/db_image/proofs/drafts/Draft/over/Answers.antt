@@ -1,4 +1,4 @@
-use Rattle.std.proofs.Common.{◌≡◌, refl}
+use Rattle.std.proofs.Common.{refl}
 use Rattle.db_image.proofs.Covering.{over_none}
 use Rattle.db_image.proofs.drafts.Draft.over.Goals as goal
 

@@ -1,4 +1,4 @@
-use Rattle.std.proofs.Common.{◌≡◌, ◌+◌, ◌-◌, ◌≤◌, length}
+use Rattle.std.proofs.Common.{◌+◌, ◌-◌, ◌≤◌, length}
 use Rattle.db_image.specs.Draft.{byte_over}
 use Rattle.db_image.proofs.Writes.{Written}
 use Rattle.db_image.proofs.overlays.Overlay.cover.Given as goal

@@ -1,5 +1,5 @@
-use Rattle.std.proofs.Common.{◌≡◌, ◌+◌, ◌-◌, ◌≤◌, length, take}
-use Rattle.db_image.specs.Draft.{IsFull, IsLoaded, Lays}
+use Rattle.std.proofs.Common.{◌-◌, ◌≤◌, length, take}
+use Rattle.db_image.specs.Draft.{IsFull, Lays}
 use Rattle.db_image.proofs.overlays.Overlay.lay.Given as goal
 
 abbrev pub invariant-loop-done : goal.invariant-loop-done

@@ -1,4 +1,4 @@
-use Rattle.std.proofs.Common.{◌≡◌, ◌-◌}
+use Rattle.std.proofs.Common.{◌-◌}
 use Rattle.db_image.specs.Images.{ReadsAtMost}
 use Rattle.db_image.specs.Draft.{IsLaid, IsLoaded, SameBytes}
 use Rattle.db_image.proofs.Ranges.{Reached, begin_of}

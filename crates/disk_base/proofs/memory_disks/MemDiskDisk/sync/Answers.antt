@@ -12,10 +12,10 @@ returns-clause-time c =
     c.begin_change-passage.ensures.moments c.begin_change-passage.ensures.steps
 
 pub returns-clause-durable : goal.returns-clause-durable
-returns-clause-durable c = OnlyIn-synced _ _ c.sync.new.self c.args.f c.begin_change-passage.ensures.files c.sync.ensures.moment
+returns-clause-durable c = OnlyIn-synced _ _ c.sync.new.self c.args.f c.begin_change-passage.ensures.files c.sync.ensures.pending
 
 pub returns-clause-others : goal.returns-clause-others
-returns-clause-others c = others-done _ _ c.sync.new.self c.args.f _ c.begin_change-passage.ensures.files c.sync.ensures.moment
+returns-clause-others c = others-done _ _ c.sync.new.self c.args.f _ c.begin_change-passage.ensures.files c.sync.ensures.pending
 
 pub returns-then-ne-clause-others : goal.returns-then-ne-clause-others
 returns-then-ne-clause-others c =

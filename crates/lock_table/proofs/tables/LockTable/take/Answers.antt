@@ -14,7 +14,7 @@ invariant_of-self-2 c =
       room = c.self.invariant.room;
       table = record {
         apart = rw now (apart-push c.self.inside.held.items wanted was.apart (rw (← c.self.view_is) at c.requires.free));
-        ends = rw now (All-push (λ (range : HeldRange). range_end range < 2 ^ 32) c.self.inside.held.items wanted was.ends c.requires.within);
+        ends = rw now (All-push (λ (range : HeldRange). range_end range < 2 ^ 32) c.self.inside.held.items wanted was.ends c.requires.fits);
         not_more = was.not_more;
       };
     }

@@ -5,22 +5,22 @@ use Rattle.page_file.proofs.Opening.{moved, empty_version, found_version, refuse
 use Rattle.page_file.proofs.pages.Pages.open.Goals as goal
 
 pub returns-then-len-eq0-clause-version : goal.returns-then-len-eq0-clause-version
-returns-then-len-eq0-clause-version g c = empty_version _ _ c.if-len-eq0.true c.in_ok-len.ensures.told
+returns-then-len-eq0-clause-version g c = empty_version _ _ c.if-len-eq0.true c.in_ok-len.ensures.len
 
 pub returns-in-Some-clause-version : goal.returns-in-Some-clause-version
 returns-in-Some-clause-version g c =
-    found_version _ _ _ _ (omega arith) c.in_ok-len.ensures.told
+    found_version _ _ _ _ (omega arith) c.in_ok-len.ensures.len
     (moved (λ fs. IsHeadOf c.in_ok-head.head fs.database) _ _ (c.in_ok-len.ensures.reads.files false≢true) c.in_ok-head.ensures.head)
     (sym c.in-Some.ensures.version)
 
 pub returns-in-Some-clause-agrees : goal.returns-in-Some-clause-agrees
 returns-in-Some-clause-agrees g c =
-    found_agrees _ _ _ _ _ (c.in_ok-head.ensures.reads.files false≢true ∙ c.in_ok-len.ensures.reads.files false≢true) (c.in-Some.ensures.labelled refl) (c.in-Some.ensures.fits refl) c.in_ok-len.ensures.told
+    found_agrees _ _ _ _ _ (c.in_ok-head.ensures.reads.files false≢true ∙ c.in_ok-len.ensures.reads.files false≢true) (c.in-Some.ensures.labelled refl) (c.in-Some.ensures.fits refl) c.in_ok-len.ensures.len
     (moved (λ fs. IsHeadOf c.in_ok-head.head fs.database) _ _ (c.in_ok-len.ensures.reads.files false≢true) c.in_ok-head.ensures.head)
     (sym c.in-Some.ensures.version)
 
 pub returns-in-None-clause-refused : goal.returns-in-None-clause-refused
 returns-in-None-clause-refused g c =
-    refused_head _ _ _ (omega arith) c.in_ok-len.ensures.told
+    refused_head _ _ _ (omega arith) c.in_ok-len.ensures.len
     (moved (λ fs. IsHeadOf c.in_ok-head.head fs.database) _ _ (c.in_ok-len.ensures.reads.files false≢true) c.in_ok-head.ensures.head)
     (sym c.version_of_file.ensures.version ∙ c.in-None.is)

@@ -1,0 +1,7 @@
+//! What holds of the meaning of every script: laws over the definitions alone. No code of a server and none of a simulator is
+//! named here.
+#![tactic(auto)]
+
+mod laws;
+
+pub use laws::{law_lines_are_built, law_scripts_are_runs};

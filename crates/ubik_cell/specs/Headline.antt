@@ -1,0 +1,58 @@
+-- The headline: what was read and written is the trace of one run of the world, and that run keeps what it promises.
+use Rattle.std.specs.Prelude.{◌≡◌, ◌≢◌, ◌⊎◌, ◌≤◌, ℕ, Unit, Option, Some, None, IfSome, List, [], ◌∷◌, ◌++◌, drop}
+use Rattle.disk_base.specs.Files.{Files}
+use Rattle.cell_runs.specs.Script.{Cell, LineRead, Told, cell_size_of, servers_of, told}
+use Rattle.script_laws.specs.Runs.{IsRunOfTold}
+use Rattle.script_promises.specs.Databases.{databases}
+use Rattle.script_promises.specs.Order.{HasOneOrder}
+use Rattle.script_promises.specs.Kept.{IsKept}
+use Rattle.script_promises.specs.Replies.{HasSingleReplies}
+use Rattle.cell_sites.specs.Disks.{Held, all_held}
+use Rattle.ubik_cell.specs.Disks.{ReadAsCell}
+use Rattle.ubik_cell.specs.Lines.{HeldCauses}
+use Rattle.ubik_cell.specs.Runs.{Runs, read_lines}
+use Rattle.ubik_cell.specs.declared.cells.CellKind.{CellKind}
+use Rattle.ubik_cell.specs.declared.cells.CellKind.TheVariants as kind
+
+-- so of the cell of a script, where it has one server
+abbrev pub OfOne : (Cell → Type 0) → Option Cell → Type 0
+OfOne P None = Unit {0}
+OfOne P (Some c) = cell_size_of c ≡ 1 → P c
+
+abbrev pub OfOneAfter : (Cell → Type 0) → List LineRead → Type 0
+OfOneAfter P readings = OfOne P (told databases readings).stage.cell
+
+-- The disks read as the durable states of the run; where memory ran out in a line, perhaps as those after this line, whose faults are
+-- those of the disks and whose run keeps what was acknowledged too.
+pub record DisksHold (readings : List LineRead) (untold : List (List ℕ)) (disks : List Held) : Type 0 where
+  pub more : List LineRead
+  pub run_or_not : (more ≡ []) ⊎ (read_lines more ≡ untold)
+  pub causes : HeldCauses (told databases (readings ++ more)).stage.cell (told databases (readings ++ more)).items disks
+  pub read : ReadAsCell (told databases (readings ++ more)).stage.cell disks
+  pub kept : OfOneAfter IsKept (readings ++ more)
+
+-- the line in which memory ran out, if it did in one
+abbrev pub untold_of : (k : CellKind) (readings : List LineRead) (script : List ℕ) (left : Option (List ℕ)) (before : List ℕ)
+    (after : Option (List ℕ)) → Runs k databases readings script left before after → List (List ℕ)
+untold_of kind.NoMemory readings script left before after run = run.more
+untold_of _ readings script left before after run = []
+
+-- The disks behind those of the cell's servers stay as they were. Where memory ran out, more servers may have been reached.
+pub record OthersStay {D : Type 0} (k : CellKind) (servers : ℕ) (before after : List D) : Type 0 where
+  pub reached : ℕ
+  pub stay : drop reached after ≡ drop reached before
+  pub exact : k ≢ kind.NoMemory → reached ≡ servers
+
+-- One run: its bytes are those that were written, it is a run of the world, and in a cell of one server its committed transactions
+-- have one order, what was acknowledged is kept, its replies are those of the single copy; each stop, halt and failed opening that it
+-- tells is a fault of that server's disk; and the disks hold the durable states.
+pub record Headline {D : Type 0} (files : D → Option Files) (faults : D → ℕ) (k : CellKind) (script : List ℕ) (left : Option (List ℕ)) (before : List ℕ) (after : Option (List ℕ)) (disks_before disks_after : List D) : Type 0 where
+  pub readings : List LineRead
+  pub run : Runs k databases readings script left before after
+  pub world : IsRunOfTold databases (told databases readings)
+  pub one_order : OfOneAfter HasOneOrder readings
+  pub kept : OfOneAfter IsKept readings
+  pub single_copy : OfOneAfter HasSingleReplies readings
+  pub causes : HeldCauses (told databases readings).stage.cell (told databases readings).items (all_held files faults disks_after)
+  pub disks : DisksHold readings (untold_of k readings script left before after run) (all_held files faults disks_after)
+  pub others : OthersStay k (servers_of (told databases readings).stage.cell) disks_before disks_after
