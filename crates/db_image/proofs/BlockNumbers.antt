@@ -62,7 +62,8 @@ start_next l zero = omega arith
 start_next l (suc k) = omega (arith, mul-suc l.block k)
 
 -- where a block ends, the next one begins
-pub next_start : (l : Layout) (k : ℕ) → 0 < l.block → block_start l (block_number l (block_start l k + block_size l k)) ≡ block_start l k + block_size l k
+pub next_start : (l : Layout) (k : ℕ) → 0 < l.block
+    → block_start l (block_number l (block_start l k + block_size l k)) ≡ block_start l k + block_size l k
 next_start l k some =
     let e : block_start l (suc k) ≡ block_start l k + block_size l k = start_next l k in
     ap (block_start l) (number_same l (suc k) (block_start l k + block_size l k) (omega (arith, e)) (omega (arith, e, some))) ∙ e

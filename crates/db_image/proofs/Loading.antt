@@ -20,7 +20,8 @@ pub record IsFresh (l : Layout) (size : ℕ) (beneath : Option (List ℕ)) (k : 
 
 padded_past : (xs : List ℕ) (n i : ℕ) → length xs ≤ i → slice_index (xs ++ replicate n 0) i ≡ 0
 padded_past xs n i past =
-    ⊎_elim (λ (in_zeros : i - length xs < n). grind (arith, places)) (λ (behind : n ≤ i - length xs). grind (arith, places)) (cases_lt (i - length xs) n)
+    ⊎_elim (λ (in_zeros : i - length xs < n). grind (arith, places)) (λ (behind : n ≤ i - length xs). grind (arith, places))
+        (cases_lt (i - length xs) n)
 
 padded_at : (bytes : List ℕ) (start size i : ℕ) → i < size
     → slice_index (block_at bytes start size ++ replicate (size - length (block_at bytes start size)) 0) i ≡ slice_index bytes (start + i)
@@ -31,12 +32,15 @@ padded_at bytes start size i within =
     (cases_lt i (length (block_at bytes start size)))
 
 -- what the byte at a position is, by its block
-pub byte_is : (o : Overlay) (at beneath : ℕ) → byte_over o at beneath ≡ byte_of (changed_at o (block_number o.layout at)) (at - block_start o.layout (block_number o.layout at)) beneath
+pub byte_is : (o : Overlay) (at beneath : ℕ)
+    → byte_over o at beneath ≡ byte_of (changed_at o (block_number o.layout at))
+    (at - block_start o.layout (block_number o.layout at)) beneath
 unfolding byte_over
 byte_is o at beneath = refl
 
 -- where a block is as it was, so are its bytes
-pub byte_stays : (o n : Overlay) (at beneath : ℕ) → n.layout ≡ o.layout → changed_at n (block_number o.layout at) ≡ changed_at o (block_number o.layout at)
+pub byte_stays : (o n : Overlay) (at beneath : ℕ) → n.layout ≡ o.layout
+    → changed_at n (block_number o.layout at) ≡ changed_at o (block_number o.layout at)
     → byte_over n at beneath ≡ byte_over o at beneath
 byte_stays o n at beneath layout same =
     byte_is n at beneath
@@ -70,12 +74,15 @@ is_kept o n k b q replaces is =
     (cases_eq q k)
 
 -- a byte of a block that was loaded is that beneath
-loaded_byte : (o n : Overlay) (size : ℕ) (bytes : List ℕ) (k : ℕ) (b : ChangedBlock) (at : ℕ) → 0 < o.layout.block → changed_at o k ≡ None → Replaces k b o n
-    → b.old.items ≡ block_at bytes (block_start o.layout k) (block_size o.layout k) → b.new.items ≡ b.old.items ++ replicate (block_size o.layout k - length b.old.items) 0
+loaded_byte : (o n : Overlay) (size : ℕ) (bytes : List ℕ) (k : ℕ) (b : ChangedBlock) (at : ℕ) → 0 < o.layout.block
+    → changed_at o k ≡ None → Replaces k b o n
+    → b.old.items ≡ block_at bytes (block_start o.layout k) (block_size o.layout k)
+        → b.new.items ≡ b.old.items ++ replicate (block_size o.layout k - length b.old.items) 0
     → block_number o.layout at ≡ k → byte_over n at (slice_index bytes at) ≡ byte_over o at (slice_index bytes at)
 loaded_byte o n size bytes k b at some absent replaces old new here =
     let lies : (block_start o.layout k ≤ at) × (at < block_start o.layout k + block_size o.layout k) =
-    subst (λ (q : ℕ). (block_start o.layout q ≤ at) × (at < block_start o.layout q + block_size o.layout q)) here (lies_in o.layout at some) in
+    subst (λ (q : ℕ). (block_start o.layout q ≤ at) × (at < block_start o.layout q + block_size o.layout q))
+        here (lies_in o.layout at some) in
     let i : ℕ = at - block_start o.layout k in
     let e : block_start o.layout k + i ≡ at = omega (arith, lies.0) in
     let x : ℕ = slice_index bytes at in
@@ -91,14 +98,16 @@ loaded_byte o n size bytes k b at some absent replaces old new here =
     ∙ sym before
 
 -- a loaded block is as a changed block has to be
-fresh_is_changed : (l : Layout) (size len : ℕ) (beneath : Option (List ℕ)) (k : ℕ) (b : ChangedBlock) → size ≤ len → IsFresh l size beneath k b → IsChanged l len beneath k b
+fresh_is_changed : (l : Layout) (size len : ℕ) (beneath : Option (List ℕ)) (k : ℕ) (b : ChangedBlock) → size ≤ len
+    → IsFresh l size beneath k b → IsChanged l len beneath k b
 fresh_is_changed l size len beneath k b longer fresh = record {
   full = ap length fresh.new ∙ simp (length-append, length-replicate) (omega (arith, fresh.len));
   zero = λ i past. ap (λ (bytes : List ℕ). slice_index bytes i) fresh.new ∙ padded_past b.old.items _ i (omega (arith, fresh.len));
   old = fresh.bytes;
 }
 
-pub loads_laid : (o n : Overlay) (size : ℕ) (beneath : Option (List ℕ)) (k : ℕ) (b : ChangedBlock) → IsLaid o size beneath → Replaces k b o n
+pub loads_laid : (o n : Overlay) (size : ℕ) (beneath : Option (List ℕ)) (k : ℕ) (b : ChangedBlock) → IsLaid o size beneath
+    → Replaces k b o n
     → IsFresh o.layout size beneath k b → IsLaid n size beneath
 loads_laid o n size beneath k b laid replaces fresh = record {
   block = rw replaces.layout laid.block;
@@ -110,18 +119,21 @@ loads_laid o n size beneath k b laid replaces fresh = record {
       (λ (same : q ≡ k).
       let this : b ≡ c = cc (replaces.here, is, same) in
       subst (λ (d : ChangedBlock). IsChanged o.layout o.len beneath q d) this
-      (subst (λ (r : ℕ). IsChanged o.layout o.len beneath r b) (sym same) (fresh_is_changed o.layout size o.len beneath k b laid.longer fresh)))
+      (subst (λ (r : ℕ). IsChanged o.layout o.len beneath r b) (sym same)
+          (fresh_is_changed o.layout size o.len beneath k b laid.longer fresh)))
       (λ (other : q ≢ k). laid.each q c (sym (replaces.others q other) ∙ is))
       (cases_eq q k));
   grown = λ grows. rw replaces.layout (is_kept o n k b (block_number o.layout size) replaces (laid.grown (omega (arith, replaces.len))));
 }
 
-pub loads_same : (o n : Overlay) (size : ℕ) (beneath : Option (List ℕ)) (k : ℕ) (b : ChangedBlock) → 0 < o.layout.block → changed_at o k ≡ None → Replaces k b o n
+pub loads_same : (o n : Overlay) (size : ℕ) (beneath : Option (List ℕ)) (k : ℕ) (b : ChangedBlock) → 0 < o.layout.block
+    → changed_at o k ≡ None → Replaces k b o n
     → IsFresh o.layout size beneath k b → SameBytes beneath o n
 loads_same o n size beneath k b some absent replaces fresh = record {
   bytes = λ bytes is at.
       ⊎_elim
-      (λ (same : block_number o.layout at ≡ k). loaded_byte o n size bytes k b at some absent replaces (fresh.bytes bytes is) fresh.new same)
+      (λ (same : block_number o.layout at ≡ k). loaded_byte o n size bytes k b at some absent replaces (fresh.bytes bytes is)
+          fresh.new same)
       (λ (other : block_number o.layout at ≢ k). byte_stays o n at (slice_index bytes at) replaces.layout (replaces.others _ other))
       (cases_eq (block_number o.layout at) k);
   len = replaces.len;

@@ -18,7 +18,8 @@ pub record Raises (end : ℕ) (old new : Overlay) : Type 0 where
   pub layout : new.layout ≡ old.layout
   pub len : new.len ≡ max old.len end
 
-pub raised_laid : (o n : Overlay) (end size : ℕ) (beneath : Option (List ℕ)) → IsLaid o size beneath → Raises end o n → (o.len < end → IsSome (changed_at o (block_number o.layout size)))
+pub raised_laid : (o n : Overlay) (end size : ℕ) (beneath : Option (List ℕ)) → IsLaid o size beneath → Raises end o n → (o.len < end
+    → IsSome (changed_at o (block_number o.layout size)))
     → IsLaid n size beneath
 raised_laid o n end size beneath laid raises grown = record {
   block = rw raises.layout laid.block;
@@ -39,8 +40,10 @@ raised_laid o n end size beneath laid raises grown = record {
 }
 
 -- the bytes of a block behind the end of a draft stay zero
-zero_behind : (o n : Overlay) (at size : ℕ) (bytes : List ℕ) (beneath : Option (List ℕ)) (k : ℕ) (b c : ChangedBlock) → IsLaid o size beneath → at + length bytes ≤ o.len → Lays at bytes o n
-    → changed_at o k ≡ Some b → changed_at n k ≡ Some c → length c.new.items ≡ block_size o.layout k → (i : ℕ) → o.len ≤ block_start o.layout k + i → slice_index c.new.items i ≡ 0
+zero_behind : (o n : Overlay) (at size : ℕ) (bytes : List ℕ) (beneath : Option (List ℕ)) (k : ℕ) (b c : ChangedBlock)
+    → IsLaid o size beneath → at + length bytes ≤ o.len → Lays at bytes o n
+    → changed_at o k ≡ Some b → changed_at n k ≡ Some c → length c.new.items ≡ block_size o.layout k → (i : ℕ)
+        → o.len ≤ block_start o.layout k + i → slice_index c.new.items i ≡ 0
 zero_behind o n at size bytes beneath k b c laid within lays was is full i past =
     ⊎_elim
     (λ (inside : i < block_size o.layout k).
@@ -53,7 +56,8 @@ zero_behind o n at size bytes beneath k b c laid within lays was is full i past 
     (λ (outside : block_size o.layout k ≤ i). get_or_past c.new.items i 0 (omega (arith, outside, full)))
     (cases_lt i (block_size o.layout k))
 
-pub lays_laid : (o n : Overlay) (at size : ℕ) (bytes : List ℕ) (beneath : Option (List ℕ)) → IsLaid o size beneath → at + length bytes ≤ o.len → Lays at bytes o n → IsFull n
+pub lays_laid : (o n : Overlay) (at size : ℕ) (bytes : List ℕ) (beneath : Option (List ℕ)) → IsLaid o size beneath
+    → at + length bytes ≤ o.len → Lays at bytes o n → IsFull n
     → IsLaid n size beneath
 lays_laid o n at size bytes beneath laid within lays full = record {
   block = rw lays.layout laid.block;
@@ -71,14 +75,16 @@ lays_laid o n at size bytes beneath laid within lays full = record {
 }
 
 -- behind the end of a draft each byte is zero
-past_zero : (o : Overlay) (size : ℕ) (bytes : List ℕ) (at : ℕ) (b : Option ChangedBlock) → IsLaid o size (Some bytes) → o.len ≤ at → changed_at o (block_number o.layout at) ≡ b
+past_zero : (o : Overlay) (size : ℕ) (bytes : List ℕ) (at : ℕ) (b : Option ChangedBlock) → IsLaid o size (Some bytes) → o.len ≤ at
+    → changed_at o (block_number o.layout at) ≡ b
     → byte_of b (at - block_start o.layout (block_number o.layout at)) (slice_index bytes at) ≡ 0
 past_zero o size bytes at None laid past is = get_or_past bytes at 0 (omega (arith, laid.told bytes refl, laid.longer, past))
 past_zero o size bytes at (Some c) laid past is =
     (laid.each _ c is).zero (at - block_start o.layout (block_number o.layout at)) (omega arith)
 
 -- each byte of a draft, also behind its end
-shown : (o : Overlay) (size : ℕ) (bytes : List ℕ) (at : ℕ) → IsLaid o size (Some bytes) → slice_index (bytes_over o bytes) at ≡ byte_over o at (slice_index bytes at)
+shown : (o : Overlay) (size : ℕ) (bytes : List ℕ) (at : ℕ) → IsLaid o size (Some bytes)
+    → slice_index (bytes_over o bytes) at ≡ byte_over o at (slice_index bytes at)
 shown o size bytes at laid =
     ⊎_elim
     (λ (below : at < o.len). bytes_at o bytes at below)
@@ -93,16 +99,20 @@ changed_len image bytes at = grind (arith, places)
 
 changed_before : (image bytes : List ℕ) (at p : ℕ) → p < at → slice_index (changed image (Put at bytes)) p ≡ slice_index image p
 changed_before image bytes at p before =
-    ⊎_elim (λ (there : p < length image). grind (arith, places)) (λ (past : length image ≤ p). grind (arith, places)) (cases_lt p (length image))
+    ⊎_elim (λ (there : p < length image). grind (arith, places)) (λ (past : length image ≤ p). grind (arith, places))
+        (cases_lt p (length image))
 
-changed_in : (image bytes : List ℕ) (at i : ℕ) → i < length bytes → slice_index (changed image (Put at bytes)) (at + i) ≡ slice_index bytes i
+changed_in : (image bytes : List ℕ) (at i : ℕ) → i < length bytes
+    → slice_index (changed image (Put at bytes)) (at + i) ≡ slice_index bytes i
 changed_in image bytes at i below = grind (arith, places)
 
-changed_behind : (image bytes : List ℕ) (at p : ℕ) → at + length bytes ≤ p → slice_index (changed image (Put at bytes)) p ≡ slice_index image p
+changed_behind : (image bytes : List ℕ) (at p : ℕ) → at + length bytes ≤ p
+    → slice_index (changed image (Put at bytes)) p ≡ slice_index image p
 changed_behind image bytes at p behind = grind (arith, places)
 
 -- what a put leaves: the draft with the blocks loaded, then raised, then laid over
-pub put_bytes : (beneath : Option (List ℕ)) (o m r n : Overlay) (size at : ℕ) (bytes : List ℕ) → IsLaid o size beneath → SameBytes beneath o m → Raises (at + length bytes) m r
+pub put_bytes : (beneath : Option (List ℕ)) (o m r n : Overlay) (size at : ℕ) (bytes : List ℕ) → IsLaid o size beneath
+    → SameBytes beneath o m → Raises (at + length bytes) m r
     → IsLaid n size beneath → Lays at bytes r n → IfSome beneath (λ xs. bytes_over n xs ≡ changed (bytes_over o xs) (Put at bytes))
 put_bytes None o m r n size at bytes laid same raises after lays = tt
 put_bytes (Some xs) o m r n size at bytes laid same raises after lays =
@@ -110,7 +120,8 @@ put_bytes (Some xs) o m r n size at bytes laid same raises after lays =
     let long : length (bytes_over n xs) ≡ length (changed image (Put at bytes)) =
     bytes_len n xs ∙ omega (arith, lays.len, raises.len, same.len, changed_len image bytes at, bytes_len o xs) in
     let was : (p : ℕ) → byte_over r p (slice_index xs p) ≡ slice_index image p =
-    λ p. byte_stays m r p (slice_index xs p) raises.layout (raises.blocks (block_number m.layout p)) ∙ same.bytes xs refl p ∙ sym (shown o size xs p laid) in
+    λ p. byte_stays m r p (slice_index xs p) raises.layout (raises.blocks (block_number m.layout p)) ∙ same.bytes xs refl p
+        ∙ sym (shown o size xs p laid) in
     ext_get_or 0 (bytes_over n xs) (changed image (Put at bytes)) long (λ p below.
     shown n size xs p after
     ∙ ⊎_elim
@@ -127,7 +138,8 @@ put_bytes (Some xs) o m r n size at bytes laid same raises after lays =
     (cases_lt p at))
 
 -- two drafts of the same bytes have the same bytes
-pub same_bytes : (beneath : Option (List ℕ)) (o m : Overlay) (size : ℕ) → IsLaid o size beneath → IsLaid m size beneath → SameBytes beneath o m
+pub same_bytes : (beneath : Option (List ℕ)) (o m : Overlay) (size : ℕ) → IsLaid o size beneath → IsLaid m size beneath
+    → SameBytes beneath o m
     → IfSome beneath (λ xs. bytes_over m xs ≡ bytes_over o xs)
 same_bytes None o m size laid after same = tt
 same_bytes (Some xs) o m size laid after same =
@@ -135,15 +147,19 @@ same_bytes (Some xs) o m size laid after same =
     shown m size xs p after ∙ same.bytes xs refl p ∙ sym (shown o size xs p laid))
 
 -- after a put the draft is as it has to be
-pub put_laid : (m r n : Overlay) (at size : ℕ) (bytes : List ℕ) (beneath : Option (List ℕ)) → Lays at bytes r n → IsFull n → IsLaid m size beneath
-    → (m.len < at + length bytes → IsSome (changed_at m (block_number m.layout size))) → ((k : ℕ) → changed_at r k ≡ changed_at m k) → r.layout ≡ m.layout
+pub put_laid : (m r n : Overlay) (at size : ℕ) (bytes : List ℕ) (beneath : Option (List ℕ)) → Lays at bytes r n → IsFull n
+    → IsLaid m size beneath
+    → (m.len < at + length bytes → IsSome (changed_at m (block_number m.layout size))) → ((k : ℕ) → changed_at r k ≡ changed_at m k)
+        → r.layout ≡ m.layout
     → r.len ≡ max m.len (at + length bytes) → IsLaid n size beneath
 put_laid m r n at size bytes beneath lays full laid grown blocks layout len =
     lays_laid r n at size bytes beneath
-    (raised_laid m r (at + length bytes) size beneath laid (record { blocks = blocks; layout = layout; len = len }) grown) (omega (arith, len)) lays full
+    (raised_laid m r (at + length bytes) size beneath laid (record { blocks = blocks; layout = layout; len = len }) grown)
+        (omega (arith, len)) lays full
 
 -- and its bytes are those of the put
-pub put_shows : (o m r n : Overlay) (at size : ℕ) (bytes : List ℕ) (beneath : Option (List ℕ)) → Lays at bytes r n → IsLaid n size beneath → IsLaid o size beneath → SameBytes beneath o m
+pub put_shows : (o m r n : Overlay) (at size : ℕ) (bytes : List ℕ) (beneath : Option (List ℕ)) → Lays at bytes r n
+    → IsLaid n size beneath → IsLaid o size beneath → SameBytes beneath o m
     → ((k : ℕ) → changed_at r k ≡ changed_at m k) → r.layout ≡ m.layout → r.len ≡ max m.len (at + length bytes)
     → IfSome beneath (λ xs. bytes_over n xs ≡ changed (bytes_over o xs) (Put at bytes))
 put_shows o m r n at size bytes beneath lays after laid same blocks layout len =

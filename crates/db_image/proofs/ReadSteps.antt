@@ -23,14 +23,16 @@ reads_none g most image failed not = record {
 }
 
 -- the same reads under a greater number
-pub reads_within : {I : Type 0} (g : Ghosts I) (m most : ℕ) (old new : I) (failed now : Type 0) → ReadsAtMost g m old new failed → m ≤ most → (now → failed)
+pub reads_within : {I : Type 0} (g : Ghosts I) (m most : ℕ) (old new : I) (failed now : Type 0) → ReadsAtMost g m old new failed
+    → m ≤ most → (now → failed)
     → ReadsAtMost g most old new now
 reads_within g m most old new failed now r fits so = record {
   reads = record { held = r.reads.held; size = r.reads.size; never_falls = r.reads.never_falls; cause = λ h. r.reads.cause (so h) };
   asked = asks_then m 0 most (g.asked old) (g.asked new) (g.asked new) r.asked (asks_none 0 (g.asked new)) (omega arith);
 }
 
-pub reads_then : {I : Type 0} (g : Ghosts I) (m n most : ℕ) (a b c : I) (first failed : Type 0) → ReadsAtMost g m a b first → ReadsAtMost g n b c failed → m + n ≤ most
+pub reads_then : {I : Type 0} (g : Ghosts I) (m n most : ℕ) (a b c : I) (first failed : Type 0) → ReadsAtMost g m a b first
+    → ReadsAtMost g n b c failed → m + n ≤ most
     → ReadsAtMost g most a c failed
 reads_then g m n most a b c first failed r s fits = record {
   reads = record {

@@ -4,13 +4,16 @@ use Rattle.std.proofs.lemmas.Bool.{cases_lt}
 use Rattle.std.proofs.lemmas.List.{places}
 use borrow.Rule.Slice.PartMut.{put_mid}
 
-pub written_before : (a k : ℕ) (xs ys : List ℕ) (i : ℕ) → i < a → a + k ≤ length xs → length ys ≡ k → slice_index (put_mid a k xs ys) i ≡ slice_index xs i
+pub written_before : (a k : ℕ) (xs ys : List ℕ) (i : ℕ) → i < a → a + k ≤ length xs → length ys ≡ k
+    → slice_index (put_mid a k xs ys) i ≡ slice_index xs i
 written_before a k xs ys i before within len = grind (arith, places)
 
-pub written_in : (a k : ℕ) (xs ys : List ℕ) (i : ℕ) → a ≤ i → i < a + k → a + k ≤ length xs → length ys ≡ k → slice_index (put_mid a k xs ys) i ≡ slice_index ys (i - a)
+pub written_in : (a k : ℕ) (xs ys : List ℕ) (i : ℕ) → a ≤ i → i < a + k → a + k ≤ length xs → length ys ≡ k
+    → slice_index (put_mid a k xs ys) i ≡ slice_index ys (i - a)
 written_in a k xs ys i from below within len = grind (arith, places)
 
-pub written_after : (a k : ℕ) (xs ys : List ℕ) (i : ℕ) → a + k ≤ i → a + k ≤ length xs → length ys ≡ k → slice_index (put_mid a k xs ys) i ≡ slice_index xs i
+pub written_after : (a k : ℕ) (xs ys : List ℕ) (i : ℕ) → a + k ≤ i → a + k ≤ length xs → length ys ≡ k
+    → slice_index (put_mid a k xs ys) i ≡ slice_index xs i
 written_after a k xs ys i after within len = grind (arith, places)
 
 pub written_len : (a k : ℕ) (xs ys : List ℕ) → a + k ≤ length xs → length ys ≡ k → length (put_mid a k xs ys) ≡ length xs
@@ -37,12 +40,14 @@ written_at f a k first now part w within len is i below =
     written_in a k now part i from below within len ∙ is (i - a) (omega arith) ∙ ap (λ (n : ℕ). f n (slice_index first n)) e)
     (cases_lt i a)
 
-pub written_more : (f : ℕ → ℕ → ℕ) (a k n : ℕ) (first now part : List ℕ) → Written f first now a → a + k ≤ length now → length part ≡ k → n ≡ k
+pub written_more : (f : ℕ → ℕ → ℕ) (a k n : ℕ) (first now part : List ℕ) → Written f first now a → a + k ≤ length now → length part ≡ k
+    → n ≡ k
     → ((i : ℕ) → i < k → slice_index part i ≡ f (a + i) (slice_index first (a + i)))
     → Written f first (put_mid a n now part) (a + k)
 written_more f a k n first now part w within len same is =
     subst (λ (m : ℕ). Written f first (put_mid a m now part) (a + k)) (sym same) record {
       before = written_at f a k first now part w within len is;
       behind = λ i from below.
-          written_after a k now part i from within len ∙ w.behind i (omega arith) (omega (arith, below, written_len a k now part within len));
+          written_after a k now part i from within len
+              ∙ w.behind i (omega arith) (omega (arith, below, written_len a k now part within len));
     }

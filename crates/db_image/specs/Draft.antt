@@ -101,7 +101,8 @@ pub record Lays (at : ℕ) (bytes : List ℕ) (old new : Overlay) : Type 0 where
   pub layout : new.layout ≡ old.layout
   pub kept : (k : ℕ) → IsSome (changed_at old k) → IsSome (changed_at new k)
   -- what stands beneath a changed block stays
-  pub each : (k : ℕ) (c : ChangedBlock) → changed_at new k ≡ Some c → (b : ChangedBlock) × (changed_at old k ≡ Some b) × (c.old.items ≡ b.old.items)
+  pub each : (k : ℕ) (c : ChangedBlock) → changed_at new k ≡ Some c
+      → (b : ChangedBlock) × (changed_at old k ≡ Some b) × (c.old.items ≡ b.old.items)
 
 -- the blocks of a range are changed ones
 abbrev pub IsLoaded : Overlay → (at end : ℕ) → Type 0

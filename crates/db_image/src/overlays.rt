@@ -33,7 +33,8 @@ pub struct Overlay {
 /// Lays a changed block from an offset on over bytes that were read beneath.
 fn cover_part(block: Option<&ChangedBlock>, offset: usize, part: &mut [u8])
     requires { IfSome (option_copied block) (λ b. offset + length part.old ≤ length b.new.items) }
-    ensures { (i : ℕ) → i < length part.new → slice_index part.new i ≡ byte_of (option_copied block.entry) (offset + i) (slice_index part.old i) }
+    ensures { (i : ℕ) → i < length part.new
+        → slice_index part.new i ≡ byte_of (option_copied block.entry) (offset + i) (slice_index part.old i) }
 {
     if let Some(block) = block {
         part.copy_from_slice(&block.new[offset..offset + part.len()]);
@@ -139,7 +140,8 @@ impl Overlay {
     fn lay_in_block(&mut self, number: u64, offset: usize, bytes: &[u8])
         requires { IsSomeAnd (changed_at self.old number) (λ b. offset + length bytes.now ≤ length b.new.items) }
         ensures others { (q : ℕ) → q ≢ number → changed_at self.new q ≡ changed_at self.old q }
-        ensures here { IfSome (changed_at self.old number) (λ b. IsSomeAnd (changed_at self.new number) (λ c. IsLaidOver offset bytes.now b c)) }
+        ensures here { IfSome (changed_at self.old number) (λ b. IsSomeAnd (changed_at self.new number)
+            (λ c. IsLaidOver offset bytes.now b c)) }
         ensures len { self.new.len ≡ self.old.len }
         ensures layout { self.new.layout ≡ self.old.layout }
     {
@@ -182,7 +184,8 @@ impl Overlay {
         ensures same { SameBytes (I.held image.old) self.old self.new }
         ensures loaded { OnOk result (IsLoaded self.new at end) }
         ensures fault { IfErr result IsOfImage }
-        ensures reads { ReadsAtMost I.ImageRead (range_cost self.old.layout (end - at)) image.old image.new (IsErrOf result RecordFault.DiskFault) }
+        ensures reads { ReadsAtMost I.ImageRead (range_cost self.old.layout (end - at)) image.old image.new
+            (IsErrOf result RecordFault.DiskFault) }
     {
         let mut from = at;
         while from < end {
@@ -230,7 +233,8 @@ impl Overlay {
     pub fn read<I: ImageRead>(&self, image: &mut I, at: u32, buf: &mut [u8]) -> ReadEnd
         requires laid { IsLaid self.now (I.size image.old) (I.held image.old) }
         requires within { at + length buf.old ≤ self.now.len }
-        ensures bytes { result ≡ ReadEnd.Done → IfSome (I.held image.old) (λ beneath. buf.new ≡ take (length buf.old) (drop at (bytes_over self.now beneath))) }
+        ensures bytes { result ≡ ReadEnd.Done
+            → IfSome (I.held image.old) (λ beneath. buf.new ≡ take (length buf.old) (drop at (bytes_over self.now beneath))) }
         ensures reads { ReadsAtMost I.ImageRead (length buf.old) image.old image.new (result ≡ ReadEnd.DiskFault) }
     {
         prove!(buf.len() <= self.len as usize);
@@ -250,7 +254,8 @@ impl Overlay {
         ensures same { SameBytes (I.held image.old) self.old self.new }
         ensures grown { OnOk result (self.old.len < end → IsSome (changed_at self.new (block_number self.new.layout (I.size image.old)))) }
         ensures fault { IfErr result IsOfImage }
-        ensures reads { ReadsAtMost I.ImageRead (self.old.layout.head + self.old.layout.block) image.old image.new (IsErrOf result RecordFault.DiskFault) }
+        ensures reads { ReadsAtMost I.ImageRead (self.old.layout.head + self.old.layout.block) image.old image.new
+            (IsErrOf result RecordFault.DiskFault) }
     {
         if end <= self.len {
             return Ok(());
@@ -268,7 +273,8 @@ impl Overlay {
         ensures loaded { OnOk result (IsLoaded self.new at end) }
         ensures grown { OnOk result (self.old.len < end → IsSome (changed_at self.new (block_number self.new.layout (I.size image.old)))) }
         ensures fault { IfErr result IsOfImage }
-        ensures reads { ReadsAtMost I.ImageRead (put_cost self.old.layout (end - at)) image.old image.new (IsErrOf result RecordFault.DiskFault) }
+        ensures reads { ReadsAtMost I.ImageRead (put_cost self.old.layout (end - at)) image.old image.new
+            (IsErrOf result RecordFault.DiskFault) }
     {
         self.load_last(image, end)?;
         self.load_range(image, u64::from(at), u64::from(end))?;
@@ -285,13 +291,15 @@ impl Overlay {
         requires laid { IsLaid self.old (I.size image.old) (I.held image.old) }
         requires fits { at + length bytes.now < 2 ^ 32 }
         ensures laid { IsLaid self.new (I.size image.old) (I.held image.old) }
-        ensures bytes { OnOk result (IfSome (I.held image.old) (λ beneath. bytes_over self.new beneath ≡ changed (bytes_over self.old beneath) (Put at bytes.now))) }
+        ensures bytes { OnOk result (IfSome (I.held image.old) (λ beneath. bytes_over self.new beneath
+            ≡ changed (bytes_over self.old beneath) (Put at bytes.now))) }
         ensures len { OnOk result (self.new.len ≡ max self.old.len (at + length bytes.now)) }
         ensures layout { self.new.layout ≡ self.old.layout }
         ensures same { OnErr result (IfSome (I.held image.old) (λ beneath. bytes_over self.new beneath ≡ bytes_over self.old beneath)) }
         ensures same_len { OnErr result (self.new.len ≡ self.old.len) }
         ensures fault { IfErr result IsOfImage }
-        ensures reads { ReadsAtMost I.ImageRead (put_cost self.old.layout (length bytes.now)) image.old image.new (IsErrOf result RecordFault.DiskFault) }
+        ensures reads { ReadsAtMost I.ImageRead (put_cost self.old.layout (length bytes.now)) image.old image.new
+            (IsErrOf result RecordFault.DiskFault) }
     {
         let end = at + bytes.len() as u32;
         self.prepare(image, at, end)?;

@@ -12,7 +12,8 @@ loop-done-preserved c =
     let place = c.place_of-place.ensures in
     record {
       within = omega (arith, written_len a (a + k - a) c.loop-done.buf c.cover_part.new.part (omega arith) (omega arith));
-      laid = written_more _ a k _ c.args.buf.now c.loop-done.buf c.cover_part.new.part c.loop-done.invariant.laid (omega arith) (omega arith) (omega arith) (λ i below.
+      laid = written_more _ a k _ c.args.buf.now c.loop-done.buf c.cover_part.new.part c.loop-done.invariant.laid (omega arith)
+          (omega arith) (omega arith) (λ i below.
           let was : slice_index (take (a + k - a) (drop a c.loop-done.buf)) i ≡ slice_index c.args.buf.now (a + i) =
           read_in a (a + k - a) c.loop-done.buf i (omega arith) ∙ c.loop-done.invariant.laid.behind (a + i) (omega arith) (omega arith) in
           c.cover_part.ensures i (omega arith)
