@@ -1,2 +1,11 @@
+pub mod BlockNumbers
+pub mod Bytes
+pub mod Covering
 pub mod Laid
+pub mod Laying
+pub mod Loading
+pub mod Putting
+pub mod Ranges
+pub mod ReadSteps
 pub mod Steps
+pub mod Writes

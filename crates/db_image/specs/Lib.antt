@@ -1,4 +1,11 @@
+pub mod Asked
 pub mod Blocks
 pub mod CallWords
 pub mod Database
+pub mod Draft
+pub mod Ends
+pub mod Images
 pub mod Meaning
+pub mod Places
+pub mod Standing
+pub mod VecImage

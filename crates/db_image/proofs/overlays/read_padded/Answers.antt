@@ -1,0 +1,14 @@
+use Rattle.std.proofs.Common.{arith}
+use Rattle.db_image.proofs.Covering.{padded_none, padded_front}
+use Rattle.db_image.proofs.overlays.read_padded.Goals as goal
+
+pub returns-then-held-eq0-clause-bytes : goal.returns-then-held-eq0-clause-bytes
+returns-then-held-eq0-clause-bytes g c = λ done.
+    padded_none (g.I.ImageRead.held c.args.image.now)
+        (g.I.ImageRead.size c.args.image.now) c.args.at c.clear.new.buf c.len.ensures.told (omega arith) c.clear.ensures
+
+pub returns-clause-bytes : goal.returns-clause-bytes
+returns-clause-bytes g c = λ done.
+    padded_front (g.I.ImageRead.held c.args.image.now)
+        (g.I.ImageRead.size c.args.image.now) c.args.at c.min-held.result c.clear.new.buf c.read_front.new.buf
+    c.len.ensures.told (omega arith) c.clear.ensures c.read_front.ensures.behind (c.read_front.ensures.front done)
