@@ -1,5 +1,5 @@
 -- A script that no line ends where every disk is sound is run to its end, where no disk failed.
-use Rattle.std.proofs.Common.{◌≡◌, ◌≢◌, ◌+◌, ◌<◌, ◌≤◌, ◌⊎◌, inl, inr, ℕ, zero, suc, List, [], ◌∷◌, ◌++◌, length, map, take, Option, Some, None, refl, sym, ap, subst, ◌∙◌, append_assoc, arith}
+use Rattle.std.proofs.Common.{◌≡◌, ◌≢◌, ◌+◌, ◌<◌, ◌≤◌, ◌⊎◌, inl, inr, ℕ, zero, suc, List, [], ◌∷◌, ◌++◌, length, take, Option, Some, None, refl, sym, ap, subst, ◌∙◌, append_assoc, arith}
 use Rattle.std.proofs.lemmas.List.{append-nil}
 use Rattle.std.proofs.lemmas.List.Elements.{All-head, All-tail}
 use Rattle.std.proofs.lemmas.Bool.Decides.{nat_tests}
@@ -7,7 +7,7 @@ use Rattle.std.specs.Prelude.{All, Bool, true, false, nat_lt}
 use Rattle.disk_base.specs.Files.{Files}
 use Rattle.cell_model.specs.World.{Site}
 use Rattle.cell_script.specs.Lines.{lines_of}
-use Rattle.cell_runs.specs.Script.{Cell, LineRead, ScriptEnd, Told, told}
+use Rattle.cell_runs.specs.Script.{Cell, LineRead, told}
 use Rattle.cell_runs.specs.Trace.{TraceItem, fault_count}
 use Rattle.cell_runs.specs.declared.endings.Ending.{Ending}
 use Rattle.cell_runs.specs.declared.endings.Ending.TheVariants.{Refused, Limit}
@@ -62,7 +62,8 @@ no_fault_at (suc k) place (suc n) items (disk ∷ disks) causes none inside few 
 -- so no fault is told
 module _ (law : FaultsHaveServers) (names : NamesCalls databases) (disks : List Held) (none : NoneFailed disks) where
   no_fault : (readings : List LineRead) (cell : Option Cell) → (told databases readings).stage.cell ≡ cell
-      → HeldCauses cell (told databases readings).items disks → AreReadFirst (sites_of cell) disks → HasNoFault (told databases readings).items
+      → HeldCauses cell (told databases readings).items disks → AreReadFirst (sites_of cell) disks → HasNoFault
+      (told databases readings).items
   no_fault readings None is causes read = λ k.
       law databases names readings k (subst (λ (o : Option Cell). sites_told o ≤ k) (sym is) (omega arith))
   no_fault readings (Some c) is causes read = λ k. by k (lt_or_le k (length c.run.world.sites))
@@ -101,7 +102,8 @@ module _ (fronts : SoundFronts) (law : FaultsHaveServers) (names : NamesCalls da
 
   module _ (text : List ℕ) (left : Option (List ℕ)) (before : List ℕ) (after : Option (List ℕ)) (reached : ℕ) (disks : List Held)
       (none : NoneFailed disks) where
-    quiet : (readings more : List LineRead) → (more ≡ []) ⊎ (read_lines more ≡ []) → HeldCauses (told databases readings).stage.cell (told databases readings).items disks
+    quiet : (readings more : List LineRead) → (more ≡ []) ⊎ (read_lines more ≡ [])
+        → HeldCauses (told databases readings).stage.cell (told databases readings).items disks
         → AreHeld (told databases (readings ++ more)) disks → HasNoFault (told databases readings).items
     quiet readings more only causes held =
         let same : readings ++ more ≡ readings = ap (λ (l : List LineRead). readings ++ l) (none_more more only) ∙ append-nil readings in
@@ -112,15 +114,18 @@ module _ (fronts : SoundFronts) (law : FaultsHaveServers) (names : NamesCalls da
         → k ≢ kind.WriteFault → ((place : ℕ) → k ≢ kind.Words place) → IsDoneOrShort k
     is_complete kind.Done ran inside read wrote words = tt
     is_complete (kind.ScriptRefused line why) ran inside read wrote words =
-        not_until line (Refused why) ran.readings text left before after ran.run (quiet ran.readings ran.more ran.run_or_not ran.causes ran.held) inside
+        not_until line (Refused why) ran.readings text left before after ran.run
+        (quiet ran.readings ran.more ran.run_or_not ran.causes ran.held) inside
     is_complete kind.ReadFault ran inside read wrote words = read refl
     is_complete kind.WriteFault ran inside read wrote words = wrote refl
     is_complete (kind.Limit line which) ran inside read wrote words =
-        not_until line (Limit which) ran.readings text left before after ran.run (quiet ran.readings ran.more ran.run_or_not ran.causes ran.held) inside
+        not_until line (Limit which) ran.readings text left before after ran.run
+        (quiet ran.readings ran.more ran.run_or_not ran.causes ran.held) inside
     is_complete kind.NoMemory ran inside read wrote words = tt
     is_complete (kind.Words place) ran inside read wrote words = words place refl
 
-pub complete : SoundFronts → FaultsHaveServers → NamesCalls databases → {D : Type 0} (files : D → Option Files) (faults : D → ℕ) (k : CellKind)
+pub complete : SoundFronts → FaultsHaveServers → NamesCalls databases
+    → {D : Type 0} (files : D → Option Files) (faults : D → ℕ) (k : CellKind)
     (script : List ℕ) (left : Option (List ℕ)) (before : List ℕ) (after : Option (List ℕ)) (disks_before disks_after : List D)
     → RanOver files faults k databases script left before after disks_before disks_after → All (λ disk. faults disk ≡ 0) disks_after
     → IsInside databases script → k ≢ kind.ReadFault → k ≢ kind.WriteFault → ((place : ℕ) → k ≢ kind.Words place) → IsDoneOrShort k

@@ -29,10 +29,12 @@ pub record IsRead (text left : List ℕ) (lines : List (List ℕ)) : Type 0 wher
 
 pub read_so_far : (ended : Bool) (text left : List ℕ) (lines : List (List ℕ)) → IsConsumed ended text left lines → IsRead text left lines
 read_so_far false text left lines whole = record { read = text_of lines; split = whole.0; all = lines_of-whole lines whole.1 }
-read_so_far true text left lines end = record { read = text; split = sym (append-nil text) ∙ ap (λ (l : List ℕ). text ++ l) (sym end.0); all = end.1 }
+read_so_far true text left lines end =
+    record { read = text; split = sym (append-nil text) ∙ ap (λ (l : List ℕ). text ++ l) (sym end.0); all = end.1 }
 
 -- the lines of a text are those that were read, and later ones
-pub later_lines : (ended : Bool) (text left : List ℕ) (lines : List (List ℕ)) → IsConsumed ended text left lines → (later : List (List ℕ)) × (lines_of text ≡ lines ++ later)
+pub later_lines : (ended : Bool) (text left : List ℕ) (lines : List (List ℕ)) → IsConsumed ended text left lines
+    → (later : List (List ℕ)) × (lines_of text ≡ lines ++ later)
 later_lines false text left lines whole = (lines_of left, ap lines_of whole.0 ∙ lines_of-before lines left whole.1)
 later_lines true text left lines end = ([], end.1 ∙ sym (append-nil lines))
 
@@ -42,7 +44,8 @@ pub record InLine (text part : List ℕ) (lines : List (List ℕ)) : Type 0 wher
   pub later : List (List ℕ)
   pub all : lines_of text ≡ lines ++ (part ++ more) ∷ later
 
-pub in_line : (text left part rest : List ℕ) (lines : List (List ℕ)) → HasNoLf part → left ≡ part ++ rest → 0 < length part → IsConsumed false text left lines → InLine text part lines
+pub in_line : (text left part rest : List ℕ) (lines : List (List ℕ)) → HasNoLf part → left ≡ part ++ rest → 0 < length part
+    → IsConsumed false text left lines → InLine text part lines
 in_line text left [] rest lines none first some consumed = absurd (omega (arith, some))
 in_line text left (b ∷ part) rest lines none first some whole =
     let line = lines_of-front b part rest none in
@@ -56,7 +59,8 @@ in_line text left (b ∷ part) rest lines none first some whole =
     }
 
 -- the lines of a text that was read to its end
-pub all_lines : (ended : Bool) (text left : List ℕ) (lines : List (List ℕ)) → IsConsumed ended text left lines → left ≡ [] → lines_of text ≡ lines
+pub all_lines : (ended : Bool) (text left : List ℕ) (lines : List (List ℕ)) → IsConsumed ended text left lines → left ≡ []
+    → lines_of text ≡ lines
 all_lines false text left lines whole none =
     ap lines_of (whole.0 ∙ ap (λ (l : List ℕ). text_of lines ++ l) none ∙ append-nil (text_of lines)) ∙ lines_of-whole lines whole.1
 all_lines true text left lines end none = end.1
@@ -72,7 +76,8 @@ last_line-some [] some = elim some [ ]
 last_line-some (b ∷ line) some = refl
 
 -- lines and a part behind them
-pub lines_and_part : (text left part rest : List ℕ) (lines : List (List ℕ)) → HasNoLf part → left ≡ part ++ rest → 0 < length part → IsConsumed false text left lines → IsRead text rest (lines ++ part ∷ [])
+pub lines_and_part : (text left part rest : List ℕ) (lines : List (List ℕ)) → HasNoLf part → left ≡ part ++ rest → 0 < length part
+    → IsConsumed false text left lines → IsRead text rest (lines ++ part ∷ [])
 lines_and_part text left part rest lines none first some whole =
     record {
       read = text_of lines ++ part;
@@ -81,7 +86,8 @@ lines_and_part text left part rest lines none first some whole =
     }
 
 -- one more line
-pub consumed-push : (ended : Bool) (text left line rest : List ℕ) (lines : List (List ℕ)) → HasNoLf line → IsFirstLine ended left line rest → IsConsumed false text left lines → IsConsumed ended text rest (lines ++ line ∷ [])
+pub consumed-push : (ended : Bool) (text left line rest : List ℕ) (lines : List (List ℕ)) → HasNoLf line → IsFirstLine ended left line rest
+    → IsConsumed false text left lines → IsConsumed ended text rest (lines ++ line ∷ [])
 consumed-push false text left line rest lines none first whole = (
   whole.0
       ∙ ap (λ (l : List ℕ). text_of lines ++ l) first
@@ -98,7 +104,8 @@ consumed-push true text left line rest lines none last whole = (
 )
 
 -- the whole lines before a part in which the source failed
-pub whole_before : (text left part rest : List ℕ) (lines : List (List ℕ)) → HasNoLf part → left ≡ part ++ rest → IsConsumed false text left lines → (read : List ℕ) × (text ≡ read ++ rest) × (lines ≡ whole_lines read)
+pub whole_before : (text left part rest : List ℕ) (lines : List (List ℕ)) → HasNoLf part → left ≡ part ++ rest
+    → IsConsumed false text left lines → (read : List ℕ) × (text ≡ read ++ rest) × (lines ≡ whole_lines read)
 whole_before text left part rest lines none first whole = (
   text_of lines ++ part,
   whole.0 ∙ ap (λ (l : List ℕ). text_of lines ++ l) first ∙ sym (append_assoc (text_of lines) part rest),

@@ -25,7 +25,8 @@ is_fault (Some kind.NoMemory) = inr (λ is. cc)
 is_fault (Some (kind.Words place)) = inr (λ is. cc)
 
 -- what was written of a line that was told, and how that ended
-pub record IsWritten (result : Result (Unit {0}) RunEnd) (number : ℕ) (bytes : List ℕ) (o : Option CellKind) (w after : Option (List ℕ)) : Type 0 where
+pub record IsWritten (result : Result (Unit {0}) RunEnd) (number : ℕ) (bytes : List ℕ) (o : Option CellKind) (w after : Option
+    (List ℕ)) : Type 0 where
   pub unwritten : result ≡ Err NoMemory → (o ≡ Some kind.NoMemory) × (after ≡ w)
   pub whole : result ≢ Err NoMemory → o ≢ Some kind.WriteFault →
       (o ≡ end_after number result) × IfSome w (λ before. after ≡ Some (before ++ bytes))
@@ -99,13 +100,15 @@ module _ {D V : Type 0} (files : D → Option Files) (faults : D → ℕ) (dbs :
         let wrote = is.whole other whole in
         subst (λ (x : Option CellKind). IfSome x (AllRan written)) (sym wrote.0) (λ script before p.
         let r = ready script before p in
-        ended_told files faults dbs script left before written after run next r.line r.at ending bytes (r.line_told other) number next_number wrote.1)
+        ended_told files faults dbs script left before written after run next r.line r.at ending bytes (r.line_told other) number
+        next_number wrote.1)
 
     none_written : (o : Option CellKind) → IfSome o (λ k. Unit {0})
     none_written None = tt
     none_written (Some k) = tt
 
-    pub ends_line : (result : Result (Unit {0}) RunEnd) (o : Option CellKind) (w : Option (List ℕ)) → IsWritten result number bytes o w after
+    pub ends_line : (result : Result (Unit {0}) RunEnd) (o : Option CellKind) (w : Option (List ℕ))
+        → IsWritten result number bytes o w after
         → (result ≡ Ok tt → IsSoundRun files faults next) → ((written : List ℕ) → AreReady result written)
         → IfSome o (λ k. IfSome w (λ written. AllRan written k))
     ends_line result o None is sound ready = none_written o
@@ -120,7 +123,8 @@ module _ {D V : Type 0} (files : D → Option Files) (faults : D → ℕ) (dbs :
         pub at : AtWhole files faults dbs script ended left before (Some written) run line
         pub line_told : LineTold files faults dbs line (told dbs at.at.readings) result next [] bytes
 
-      goes_by : (result : Result (Unit {0}) RunEnd) (o : Option CellKind) (w : Option (List ℕ)) → o ≡ None → IsWritten result number bytes o w after
+      goes_by : (result : Result (Unit {0}) RunEnd) (o : Option CellKind) (w : Option (List ℕ)) → o ≡ None
+          → IsWritten result number bytes o w after
           → (result ≡ Ok tt) × IfSome w (λ before. after ≡ Some (before ++ bytes))
       goes_by (Err NoMemory) o w none is = let never : None ≡ Some kind.NoMemory = sym none ∙ (is.unwritten refl).0 in absurd (cc)
       goes_by (Ok done) o w none is =
@@ -133,10 +137,12 @@ module _ {D V : Type 0} (files : D → Option Files) (faults : D → ℕ) (dbs :
       pub goes_line : (result : Result (Unit {0}) RunEnd) (o : Option CellKind) (w : Option (List ℕ)) → o ≡ None
           → IsWritten result number bytes o w after
           → (result ≡ Ok tt → (script before written : List ℕ) → P script before written → GoesAt result script before written)
-          → IfSome w (λ written. (script before : List ℕ) → P script before written → SoFar files faults dbs script ended left before after next)
+          → IfSome w (λ written. (script before : List ℕ) → P script before written → SoFar files faults dbs script ended left before
+          after next)
       goes_line result o None none is ready = tt
       goes_line result o (Some written) none is ready = λ script before p.
           let by = goes_by result o (Some written) none is in
           let r = ready by.0 script before written p in
           going_on files faults dbs script ended left before written after run next r.line bytes r.at
-          (subst (λ (x : Result (Unit {0}) RunEnd). LineTold files faults dbs r.line (told dbs r.at.at.readings) x next [] bytes) by.0 r.line_told) by.1
+          (subst (λ (x : Result (Unit {0}) RunEnd). LineTold files faults dbs r.line (told dbs r.at.at.readings) x next [] bytes) by.0
+          r.line_told) by.1

@@ -2,7 +2,6 @@
 use Rattle.std.proofs.Common.{◌≡◌, ℕ, List, [], ◌∷◌, ◌++◌, Option, Some, None, IfSome, IsSomeAnd, refl, sym, ap, subst, ◌∙◌, ◌⊎◌}
 use Rattle.disk_base.specs.Files.{Files}
 use Rattle.cell_model.specs.Book.{Run, first_run}
-use Rattle.cell_model.specs.Durable.{durable}
 use Rattle.cell_model.specs.Laws.{AllDurable, DatabaseIsDurable, IsOf}
 use Rattle.cell_model.specs.Node.{Node, Down, Halted, Up}
 use Rattle.cell_model.specs.World.{Site, World, world_after}
@@ -64,7 +63,8 @@ read_as law t (Some c) disks run read = sites_durable c.run.world.sites disks (c
 
 -- ---- the line in which memory ran out
 
-untold_more : (k : CellKind) (readings : List LineRead) (script : List ℕ) (left : Option (List ℕ)) (before : List ℕ) (after : Option (List ℕ))
+untold_more : (k : CellKind) (readings : List LineRead) (script : List ℕ) (left : Option (List ℕ)) (before : List ℕ)
+    (after : Option (List ℕ))
     (run : Runs k databases readings script left before after)
     → more_of k databases readings script left before after run ≡ untold_of k readings script left before after run
 untold_more kind.Done readings script left before after run = refl

@@ -4,12 +4,12 @@ use Rattle.std.proofs.lemmas.List.Elements.{All-nil, All-cons, All-head, All-tai
 use Rattle.std.specs.Prelude.{All}
 use Rattle.disk_base.specs.Files.{Files, no_files}
 use Rattle.cell_model.specs.World.{Site as ModelSite}
-use Rattle.cell_runs.specs.Script.{Cell, Told, cell_size_of, hosts_from, servers_of}
+use Rattle.cell_runs.specs.Script.{Cell, Told, hosts_from, servers_of}
 use Rattle.cell_runs.specs.Trace.{TraceItem}
 use Rattle.cell_sites.specs.declared.cells.OpenCell.{OpenCell}
 use Rattle.cell_sites.specs.declared.sites.Site.{Site}
 use Rattle.cell_sites.specs.Disks.{Held, AreCauses, AreReadBy, all_held, held}
-use Rattle.cell_sites.specs.Sites.{AreSitesOf, StandsFor, helds, site_disk}
+use Rattle.cell_sites.specs.Sites.{AreSitesOf, helds, site_disk}
 use Rattle.cell_sites.proofs.Reading.{cell_reads}
 use Rattle.ubik_cell.specs.declared.scripts.CellRun.{CellRun}
 use Rattle.ubik_cell.specs.Lines.{AreHeld, AreReadFirst, CellIsSound, CellStandsFor, HasCauses, HeldCauses, IsAt, IsSoundRun, IsUnwritten, cell_helds, clock_bound, run_helds, sites_in, sites_of}
@@ -21,7 +21,8 @@ pub unwritten : {D : Type 0} (files : D → Option Files) (faults : D → ℕ) (
     → All IsUnwritten (all_held files faults disks)
 unwritten files faults [] empty = All-nil IsUnwritten
 unwritten files faults (disk ∷ disks) empty =
-    All-cons IsUnwritten (held files faults disk) (all_held files faults disks) (λ none. All-head (λ d. files d ≡ Some no_files) disk disks empty)
+    All-cons IsUnwritten (held files faults disk) (all_held files faults disks)
+    (λ none. All-head (λ d. files d ≡ Some no_files) disk disks empty)
     (unwritten files faults disks (All-tail (λ d. files d ≡ Some no_files) disk disks empty))
 
 read_first : (sites : List ModelSite) (disks more : List Held) → AreReadBy sites disks → All IsUnwritten more

@@ -1,8 +1,10 @@
+pub mod Closing
 pub mod Completeness
 pub mod Consuming
 pub mod Ends
 pub mod Headlines
 pub mod Holding
+pub mod Refusing
 pub mod Starting
 pub mod Telling
 pub mod Turning

@@ -1,5 +1,5 @@
 -- How a run of a script starts, goes on and ends.
-use Rattle.std.proofs.Common.{drop, ◌≡◌, ◌≢◌, ◌+◌, ◌-◌, ◌≤◌, ℕ, Bool, false, List, [], length, Option, Some, None, IfSome, inl, refl, sym, ap, subst, ◌∙◌, arith}
+use Rattle.std.proofs.Common.{drop, ◌≡◌, ◌+◌, ◌-◌, ℕ, Bool, false, List, [], length, Option, Some, None, IfSome, inl, refl, sym, ap, subst, ◌∙◌, arith}
 use Rattle.std.proofs.lemmas.List.{append-nil, drop-drop, length-drop}
 use Rattle.std.proofs.lemmas.List.Elements.{All-nil}
 use Rattle.std.specs.Prelude.{All}
@@ -12,7 +12,7 @@ use Rattle.ubik_cell.specs.declared.cells.CellKind.{CellKind}
 use Rattle.ubik_cell.specs.declared.cells.CellKind.TheVariants as kind
 use Rattle.ubik_cell.specs.declared.scripts.CellRun.{CellRun}
 use Rattle.ubik_cell.specs.Lines.{IsAt, run_helds, sites_in}
-use Rattle.ubik_cell.specs.Runs.{IsConsumed, RanShort, Runs}
+use Rattle.ubik_cell.specs.Runs.{IsConsumed, Runs}
 use Rattle.ubik_cell.specs.Turns.{Ran, RanOver, SoFar}
 use Rattle.ubik_cell.proofs.Holding.{unwritten}
 
@@ -83,7 +83,8 @@ module _ {D V : Type 0} (files : D → Option Files) (faults : D → ℕ) (dbs :
   -- what is told of what a sink holds, where it holds something
   from_sink : (script : List ℕ) (ended : Bool) (left : Option (List ℕ)) (before : List ℕ) (w : Option (List ℕ)) (run : CellRun D V)
       (Q : List ℕ → List ℕ → Type 0)
-      → IfSome w (λ written. (script before : List ℕ) → SoFar files faults dbs script ended left before (Some written) run → Q script before)
+      → IfSome w (λ written. (script before : List ℕ) → SoFar files faults dbs script ended left before (Some written) run → Q script
+      before)
       → SoFar files faults dbs script ended left before w run → Q script before
   from_sink script ended left before None run Q goes so = let never = so.wrote in absurd (cc)
   from_sink script ended left before (Some written) run Q goes so = goes script before so
@@ -92,7 +93,8 @@ module _ {D V : Type 0} (files : D → Option Files) (faults : D → ℕ) (dbs :
   pub so_far_on : (ended : Bool) (left : Option (List ℕ)) (w : Option (List ℕ)) (run : CellRun D V) (Q : List ℕ → List ℕ → Type 0)
       (input out : Option (List ℕ))
       → IfSome input (λ script. IfSome out (λ before. SoFar files faults dbs script ended left before w run))
-      → IfSome w (λ written. (script before : List ℕ) → SoFar files faults dbs script ended left before (Some written) run → Q script before)
+      → IfSome w (λ written. (script before : List ℕ) → SoFar files faults dbs script ended left before (Some written) run → Q script
+      before)
       → IfSome input (λ script. IfSome out (λ before. Q script before))
   so_far_on ended left w run Q input out so goes =
       over_both (λ script before. SoFar files faults dbs script ended left before w run) Q input out so

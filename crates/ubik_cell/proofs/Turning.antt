@@ -10,23 +10,24 @@ use Rattle.cell_script.specs.declared.readers.LineEnd.TheVariants as line_end
 use Rattle.cell_script.specs.declared.readers.TheConstants.{MAX_LINE}
 use Rattle.cell_runs.specs.declared.endings.Ending.{Ending}
 use Rattle.cell_runs.specs.declared.endings.Ending.TheVariants.{Refused, Limit}
-use Rattle.cell_runs.specs.Script.{LineRead, ScriptEnd, Told, line_result, servers_of, told, told_with}
+use Rattle.cell_runs.specs.Script.{LineRead, Told, servers_of, told}
 use Rattle.cell_runs.specs.ScriptDatabase.{Databases}
 use Rattle.cell_sites.specs.Disks.{Held}
 use Rattle.ubik_cell.specs.declared.cells.CellKind.{CellKind}
 use Rattle.ubik_cell.specs.declared.cells.CellKind.TheVariants as kind
 use Rattle.ubik_cell.specs.declared.scripts.CellRun.{CellRun}
 use Rattle.ubik_cell.specs.declared.scripts.RunEnd.{RunEnd}
-use Rattle.ubik_cell.specs.declared.scripts.RunEnd.TheVariants.{Ended, NoMemory}
+use Rattle.ubik_cell.specs.declared.scripts.RunEnd.TheVariants.{Ended}
 use Rattle.ubik_cell.specs.Lines.{AreHeld, AreReadFirst, HeldAfter, HeldCauses, IsAt, IsSoundRun, Leaves, LineShort, LineTold, run_helds, sites_in, sites_of}
-use Rattle.ubik_cell.specs.Runs.{IsConsumed, RanInPart, RanShort, RanToFault, RanToTheEnd, RanUntil, ReadSome, Runs, Wrote, ends_at, kind_at, read_lines}
-use Rattle.ubik_cell.specs.Turns.{Ran, SoFar, end_after, more_of}
+use Rattle.ubik_cell.specs.Runs.{IsConsumed, RanShort, RanUntil, ReadSome, Runs, Wrote, ends_at, kind_at, read_lines}
+use Rattle.ubik_cell.specs.Turns.{Ran, SoFar}
 use Rattle.ubik_cell.proofs.Consuming.{all_lines, consumed-push, in_line, later_lines, lines_and_part, read_so_far, whole_before}
 use Rattle.ubik_cell.proofs.Holding.{count_at, held_at}
 use Rattle.ubik_cell.proofs.Telling.{read_lines-push, same_some, told-push}
 
 -- a run before a line of which at most 1025 bytes were read
-pub record AtLine {D V : Type 0} (files : D → Option Files) (faults : D → ℕ) (dbs : Databases) (text : List ℕ) (left : Option (List ℕ)) (before : List ℕ) (after : Option (List ℕ)) (run : CellRun D V) (line : List ℕ) : Type 0 where
+pub record AtLine {D V : Type 0} (files : D → Option Files) (faults : D → ℕ) (dbs : Databases) (text : List ℕ) (left : Option (List ℕ))
+    (before : List ℕ) (after : Option (List ℕ)) (run : CellRun D V) (line : List ℕ) : Type 0 where
   pub readings : List LineRead
   pub part : ReadSome text left
   pub so_far : lines_of part.read ≡ read_lines readings ++ take 1025 line ∷ []
@@ -128,7 +129,8 @@ module _ {D V : Type 0} (files : D → Option Files) (faults : D → ℕ) (dbs :
           }) (held_later sound) servers_later
 
     -- the script ends in the line, which was told
-    pub ended_told : (ending : Ending) (bytes : List ℕ) (of : LineTold files faults dbs line t (Err (Ended ending)) next [] bytes) (number : ℕ)
+    pub ended_told : (ending : Ending) (bytes : List ℕ) (of : LineTold files faults dbs line t (Err (Ended ending)) next [] bytes)
+        (number : ℕ)
         → number ≡ run.lines + 1 → after ≡ Some (written ++ bytes)
         → Ran (kind_at number ending) dbs text left before after (sites_in next.cell) (run_helds files faults next)
     ended_told ending bytes of number is wrote =
@@ -172,7 +174,8 @@ module _ {D V : Type 0} (files : D → Option Files) (faults : D → ℕ) (dbs :
       more = [];
       run_or_not = inl refl;
       causes = causes;
-      held = subst (λ (l : List LineRead). AreHeld (told dbs l) disks) (sym (append-nil at.readings)) (record { read = read; causes = causes });
+      held = subst (λ (l : List LineRead). AreHeld (told dbs l) disks) (sym (append-nil at.readings))
+          (record { read = read; causes = causes });
       servers = λ other. absurd (other refl);
     }
     short_by same causes (inr held) =
@@ -194,7 +197,8 @@ module _ {D V : Type 0} (files : D → Option Files) (faults : D → ℕ) (dbs :
   -- ---- before a line
 
   -- a run before a line that was read whole, with which the source has ended or not
-  pub record AtWhole (text : List ℕ) (ended : Bool) (left : Option (List ℕ)) (before : List ℕ) (after : Option (List ℕ)) (run : CellRun D V) (line : List ℕ) : Type 0 where
+  pub record AtWhole (text : List ℕ) (ended : Bool) (left : Option (List ℕ)) (before : List ℕ) (after : Option (List ℕ))
+      (run : CellRun D V) (line : List ℕ) : Type 0 where
     pub at : AtLine files faults dbs text left before after run line
     pub short : take 1025 line ≡ line
     pub rest : List ℕ
@@ -202,7 +206,8 @@ module _ {D V : Type 0} (files : D → Option Files) (faults : D → ℕ) (dbs :
     pub consumed : IsConsumed ended text rest (read_lines at.readings ++ line ∷ [])
 
   -- the line was told whole
-  pub going_on : (text : List ℕ) (ended : Bool) (left : Option (List ℕ)) (before written : List ℕ) (after : Option (List ℕ)) (run next : CellRun D V)
+  pub going_on : (text : List ℕ) (ended : Bool) (left : Option (List ℕ)) (before written : List ℕ) (after : Option (List ℕ))
+      (run next : CellRun D V)
       (line bytes : List ℕ) (at : AtWhole text ended left before (Some written) run line)
       → LineTold files faults dbs line (told dbs at.at.readings) (Ok tt) next [] bytes → after ≡ Some (written ++ bytes)
       → SoFar files faults dbs text ended left before after next

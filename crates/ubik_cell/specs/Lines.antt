@@ -1,12 +1,12 @@
 -- What a run of a script's lines stands for.
-use Rattle.std.specs.Prelude.{◌≡◌, ◌≢◌, ◌⊎◌, ◌+◌, ◌*◌, ◌≤◌, ℕ, Option, Some, None, Result, Ok, Err, All, List, [], ◌∷◌, ◌++◌, length, map, take}
+use Rattle.std.specs.Prelude.{◌≡◌, ◌⊎◌, ◌+◌, ◌*◌, ◌≤◌, ℕ, Option, Some, None, Result, Ok, Err, All, List, [], ◌∷◌, ◌++◌, length, take}
 use Rattle.disk_base.specs.Files.{Files, no_files}
 use Rattle.ubik_types.specs.declared.limits.TheConstants.{MAXSERVERS}
 use Rattle.cell_model.specs.World.{Site}
 use Rattle.cell_script.specs.declared.lines.TheConstants.{MAX_CLOCK, MAX_TICK}
 use Rattle.cell_runs.specs.declared.endings.Ending.{Ending}
 use Rattle.cell_runs.specs.declared.limits.TheConstants.{MAX_LINES}
-use Rattle.cell_runs.specs.Script.{Cell, Choice, LineRead, Line_run, ScriptEnd, Stage, Told, line_result, servers_of, text_in, told_with}
+use Rattle.cell_runs.specs.Script.{Cell, Choice, Line_run, ScriptEnd, Stage, Told, line_result, servers_of, text_in, told_with}
 use Rattle.cell_runs.specs.ScriptDatabase.{ScriptDatabase, Databases}
 use Rattle.cell_runs.specs.Trace.{TraceItem}
 use Rattle.cell_script.specs.declared.lines.Why.{Why}
@@ -16,7 +16,7 @@ use Rattle.cell_sites.specs.Sites.{StandsFor, helds}
 use Rattle.cell_sites.specs.Sound.{IsSound}
 use Rattle.ubik_cell.specs.declared.scripts.CellRun.{CellRun}
 use Rattle.ubik_cell.specs.declared.scripts.RunEnd.{RunEnd}
-use Rattle.ubik_cell.specs.declared.scripts.RunEnd.TheVariants.{Ended, NoMemory}
+use Rattle.ubik_cell.specs.declared.scripts.RunEnd.TheVariants.{Ended}
 
 -- one database, of whatever kind a cell is
 abbrev pub only : ScriptDatabase → Databases
@@ -113,7 +113,8 @@ Leaves files faults (Ok done) run t = IsAt files faults run t
 Leaves files faults (Err e) run t = AreHeld t (run_helds files faults run)
 
 -- A line was run with some choices, or ended the script: what is told of it was added to a text.
-pub record LineTold {D V : Type 0} (files : D → Option Files) (faults : D → ℕ) (dbs : Databases) (line : List ℕ) (t : Told) (result : Result (Unit {0}) RunEnd) (after : CellRun D V) (text_before text_after : List ℕ) : Type 0 where
+pub record LineTold {D V : Type 0} (files : D → Option Files) (faults : D → ℕ) (dbs : Databases) (line : List ℕ) (t : Told)
+    (result : Result (Unit {0}) RunEnd) (after : CellRun D V) (text_before text_after : List ℕ) : Type 0 where
   pub choices : List Choice
   pub later : Told
   pub is : later ≡ told_with dbs t (line_result dbs t.stage (record { line = line; choices = choices }))
@@ -131,12 +132,15 @@ pub record HeldAfter (dbs : Databases) (line : List ℕ) (t : Told) (disks : Lis
 
 -- Memory ran out in a line: each fault that was told before it has its cause, and the disks hold what the lines before it left, or
 -- what it left with some choices.
-pub record LineShort {D V : Type 0} (files : D → Option Files) (faults : D → ℕ) (dbs : Databases) (line : List ℕ) (t : Told) (after : CellRun D V) : Type 0 where
+pub record LineShort {D V : Type 0} (files : D → Option Files) (faults : D → ℕ) (dbs : Databases) (line : List ℕ) (t : Told)
+    (after : CellRun D V) : Type 0 where
   pub causes : HeldCauses t.stage.cell t.items (run_helds files faults after)
   pub held : AreReadFirst (sites_of t.stage.cell) (run_helds files faults after) ⊎ HeldAfter dbs line t (run_helds files faults after)
 
 -- A line was run in a stage with some choices: it ended so, and what it told was added to a text.
-pub record StageTold {D V : Type 0} (files : D → Option Files) (faults : D → ℕ) (dbs : Databases) (run : List Choice → Result Line_run Why) (ended : Option Ending) (before after : CellRun D V) (text_before text_after : List ℕ) : Type 0 where
+pub record StageTold {D V : Type 0} (files : D → Option Files) (faults : D → ℕ) (dbs : Databases)
+    (run : List Choice → Result Line_run Why) (ended : Option Ending) (before after : CellRun D V)
+    (text_before text_after : List ℕ) : Type 0 where
   pub choices : List Choice
   pub ran : Line_run
   pub is : run choices ≡ Ok ran
@@ -151,14 +155,17 @@ abbrev pub IsRefusedLine : Why → (List Choice → Result Line_run Why) → Typ
 IsRefusedLine why run = (choices : List Choice) → run choices ≡ Err why
 
 -- what memory that ran out in a line left on the disks: what stood there before it, or what it left with some choices
-pub record ShortAfter {D V : Type 0} (files : D → Option Files) (faults : D → ℕ) (run : List Choice → Result Line_run Why) (before after : CellRun D V) : Type 0 where
+pub record ShortAfter {D V : Type 0} (files : D → Option Files) (faults : D → ℕ) (run : List Choice → Result Line_run Why)
+    (before after : CellRun D V) : Type 0 where
   pub choices : List Choice
   pub ran : Line_run
   pub is : run choices ≡ Ok ran
   pub read : AreReadFirst (sites_of ran.stage.cell) (run_helds files faults after)
-  pub causes : (items : List TraceItem) → HasCauses files faults before.cell items → HeldCauses ran.stage.cell (items ++ ran.items) (run_helds files faults after)
+  pub causes : (items : List TraceItem) → HasCauses files faults before.cell items
+      → HeldCauses ran.stage.cell (items ++ ran.items) (run_helds files faults after)
 
-abbrev pub StageShort : {D V : Type 0} → (D → Option Files) → (D → ℕ) → (List Choice → Result Line_run Why) → Stage → (before after : CellRun D V) → Type 0
+abbrev pub StageShort : {D V : Type 0} → (D → Option Files) → (D → ℕ) → (List Choice → Result Line_run Why) → Stage
+    → (before after : CellRun D V) → Type 0
 StageShort files faults run st before after =
     (AreReadFirst (sites_of st.cell) (run_helds files faults after)
     × ((items : List TraceItem) → HasCauses files faults before.cell items → HeldCauses st.cell items (run_helds files faults after)))

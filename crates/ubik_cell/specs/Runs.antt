@@ -25,7 +25,8 @@ pub record ReadSome (text : List ℕ) (left : Option (List ℕ)) : Type 0 where
   pub remains : left ≡ Some rest
 
 -- the lines of the whole text, none of which ends the script, and their trace
-pub record RanToTheEnd (dbs : Databases) (readings : List LineRead) (text : List ℕ) (left : Option (List ℕ)) (before : List ℕ) (after : Option (List ℕ)) : Type 0 where
+pub record RanToTheEnd (dbs : Databases) (readings : List LineRead) (text : List ℕ) (left : Option (List ℕ)) (before : List ℕ)
+    (after : Option (List ℕ)) : Type 0 where
   pub all : read_lines readings ≡ lines_of text
   pub end : left ≡ Some []
   pub good : (told dbs readings).ended ≡ None
@@ -36,7 +37,8 @@ ends_at line ending = record { line = line; ending = ending }
 
 -- The lines up to the one at which the script ends, and their trace, whose last line tells the end. The source was read up to the
 -- end of that line, or 1025 bytes of it.
-pub record RanUntil (line : ℕ) (ending : Ending) (dbs : Databases) (readings : List LineRead) (text : List ℕ) (left : Option (List ℕ)) (before : List ℕ) (after : Option (List ℕ)) : Type 0 where
+pub record RanUntil (line : ℕ) (ending : Ending) (dbs : Databases) (readings : List LineRead) (text : List ℕ) (left : Option (List ℕ))
+    (before : List ℕ) (after : Option (List ℕ)) : Type 0 where
   pub earlier : List LineRead
   pub last : LineRead
   pub later : List (List ℕ)
@@ -50,14 +52,16 @@ pub record RanUntil (line : ℕ) (ending : Ending) (dbs : Databases) (readings :
 
 -- the lines before a fault of the source, which are those that an LF ends in what was read; none of them ends the script. And their
 -- trace.
-pub record RanToFault (dbs : Databases) (readings : List LineRead) (text : List ℕ) (left : Option (List ℕ)) (before : List ℕ) (after : Option (List ℕ)) : Type 0 where
+pub record RanToFault (dbs : Databases) (readings : List LineRead) (text : List ℕ) (left : Option (List ℕ)) (before : List ℕ)
+    (after : Option (List ℕ)) : Type 0 where
   pub part : ReadSome text left
   pub all : read_lines readings ≡ whole_lines part.read
   pub good : (told dbs readings).ended ≡ None
   pub wrote : Wrote before after (told dbs readings).text
 
 -- all lines that were read, the trace of those before the last, and a part of what that one tells; the sink failed there
-pub record RanInPart (dbs : Databases) (readings : List LineRead) (text : List ℕ) (left : Option (List ℕ)) (before : List ℕ) (after : Option (List ℕ)) : Type 0 where
+pub record RanInPart (dbs : Databases) (readings : List LineRead) (text : List ℕ) (left : Option (List ℕ)) (before : List ℕ)
+    (after : Option (List ℕ)) : Type 0 where
   pub earlier : List LineRead
   pub last : LineRead
   pub is : readings ≡ earlier ++ last ∷ []
@@ -71,7 +75,8 @@ pub record RanInPart (dbs : Databases) (readings : List LineRead) (text : List �
 
 -- the trace of the lines before the one in which memory ran out, if in any; nothing was written of that line, which may have been
 -- run, or in part
-pub record RanShort (dbs : Databases) (readings : List LineRead) (text : List ℕ) (left : Option (List ℕ)) (before : List ℕ) (after : Option (List ℕ)) : Type 0 where
+pub record RanShort (dbs : Databases) (readings : List LineRead) (text : List ℕ) (left : Option (List ℕ)) (before : List ℕ)
+    (after : Option (List ℕ)) : Type 0 where
   pub part : ReadSome text left
   pub more : List (List ℕ)
   pub all : lines_of part.read ≡ read_lines readings ++ more
@@ -80,7 +85,8 @@ pub record RanShort (dbs : Databases) (readings : List LineRead) (text : List �
   pub wrote : Wrote before after (told dbs readings).text
 
 -- nothing was read or written
-pub record RanNothing (readings : List LineRead) (text : List ℕ) (left : Option (List ℕ)) (before : List ℕ) (after : Option (List ℕ)) : Type 0 where
+pub record RanNothing (readings : List LineRead) (text : List ℕ) (left : Option (List ℕ)) (before : List ℕ) (after : Option
+    (List ℕ)) : Type 0 where
   pub none : readings ≡ []
   pub unread : left ≡ Some text
   pub unwritten : after ≡ Some before

@@ -1,7 +1,7 @@
 -- A script that is read line by line: between two lines, and at its end.
-use Rattle.std.specs.Prelude.{◌≡◌, ◌≢◌, ◌⊎◌, ◌≤◌, ℕ, Bool, Option, Some, None, Result, Ok, Err, List, [], ◌∷◌, ◌++◌, drop, length}
+use Rattle.std.specs.Prelude.{◌≡◌, ◌≢◌, ◌⊎◌, ℕ, Bool, Option, Some, None, Result, Ok, Err, List, [], ◌++◌, drop}
 use Rattle.disk_base.specs.Files.{Files}
-use Rattle.cell_runs.specs.Script.{LineRead, Told, servers_of, told}
+use Rattle.cell_runs.specs.Script.{LineRead, servers_of, told}
 use Rattle.cell_runs.specs.ScriptDatabase.{Databases}
 use Rattle.cell_sites.specs.Disks.{Held, all_held}
 use Rattle.ubik_cell.specs.declared.cells.CellKind.{CellKind}
@@ -13,7 +13,8 @@ use Rattle.ubik_cell.specs.Lines.{AreHeld, HeldCauses, IsAt}
 use Rattle.ubik_cell.specs.Runs.{IsConsumed, Runs, Wrote, kind_at, read_lines}
 
 -- a run between two lines, where the source has ended or not
-pub record SoFar {D V : Type 0} (files : D → Option Files) (faults : D → ℕ) (dbs : Databases) (text : List ℕ) (ended : Bool) (left : Option (List ℕ)) (before : List ℕ) (after : Option (List ℕ)) (run : CellRun D V) : Type 0 where
+pub record SoFar {D V : Type 0} (files : D → Option Files) (faults : D → ℕ) (dbs : Databases) (text : List ℕ) (ended : Bool)
+    (left : Option (List ℕ)) (before : List ℕ) (after : Option (List ℕ)) (run : CellRun D V) : Type 0 where
   pub readings : List LineRead
   pub rest : List ℕ
   pub remains : left ≡ Some rest
@@ -35,7 +36,8 @@ more_of kind.NoMemory dbs readings text left before after run = run.more
 more_of _ dbs readings text left before after run = []
 
 -- A run at its end: what it has read and written, how many disks were reached, and what the disks hold.
-pub record Ran (k : CellKind) (dbs : Databases) (text : List ℕ) (left : Option (List ℕ)) (before : List ℕ) (after : Option (List ℕ)) (reached : ℕ) (disks : List Held) : Type 0 where
+pub record Ran (k : CellKind) (dbs : Databases) (text : List ℕ) (left : Option (List ℕ)) (before : List ℕ) (after : Option (List ℕ))
+    (reached : ℕ) (disks : List Held) : Type 0 where
   pub readings : List LineRead
   pub run : Runs k dbs readings text left before after
   pub more : List LineRead
@@ -45,7 +47,8 @@ pub record Ran (k : CellKind) (dbs : Databases) (text : List ℕ) (left : Option
   pub servers : k ≢ kind.NoMemory → reached ≡ servers_of (told dbs readings).stage.cell
 
 -- the same over these disks: those that were not reached stay as they were
-pub record RanOver {D : Type 0} (files : D → Option Files) (faults : D → ℕ) (k : CellKind) (dbs : Databases) (text : List ℕ) (left : Option (List ℕ)) (before : List ℕ) (after : Option (List ℕ)) (disks_before disks_after : List D) : Type 0 where
+pub record RanOver {D : Type 0} (files : D → Option Files) (faults : D → ℕ) (k : CellKind) (dbs : Databases) (text : List ℕ)
+    (left : Option (List ℕ)) (before : List ℕ) (after : Option (List ℕ)) (disks_before disks_after : List D) : Type 0 where
   pub reached : ℕ
   pub ran : Ran k dbs text left before after reached (all_held files faults disks_after)
   pub stay : drop reached disks_after ≡ drop reached disks_before

@@ -1,0 +1,45 @@
+-- The disks of a run, put back into their list.
+use Rattle.std.proofs.Common.{◌≡◌, ◌+◌, ℕ, suc, List, [], ◌∷◌, ◌++◌, length, map, drop, Option, Some, None, refl, sym, ap, ◌∙◌, arith, length-append}
+use Rattle.std.proofs.lemmas.List.{append-nil, map-append, drop_at}
+use Rattle.disk_base.specs.Files.{Files}
+use Rattle.ubik_types.specs.declared.limits.TheConstants.{MAXSERVERS}
+use Rattle.cell_sites.specs.Disks.{Held, all_held, held}
+use Rattle.cell_sites.specs.Sites.{disks_of, site_disk}
+use Rattle.cell_sites.specs.declared.cells.OpenCell.{OpenCell}
+use Rattle.cell_sites.specs.declared.sites.Site.{Site}
+use Rattle.ubik_cell.specs.Lines.{cell_helds, sites_in}
+
+-- the disks of a cell, if one stands
+abbrev pub cell_disks : {D V : Type 0} → Option (OpenCell D V) → List D
+cell_disks None = []
+cell_disks (Some running) = disks_of running
+
+module _ {D V : Type 0} (files : D → Option Files) (faults : D → ℕ) where
+  helds_of : (sites : List (Site D V)) → map (held files faults) (map site_disk sites) ≡ map (λ (site : Site D V). held files faults (site_disk site)) sites
+  helds_of [] = refl
+  helds_of (site ∷ sites) = ap (λ (l : List Held). held files faults (site_disk site) ∷ l) (helds_of sites)
+
+  count_of : (sites : List (Site D V)) → length (map site_disk sites) ≡ length sites
+  count_of [] = refl
+  count_of (site ∷ sites) = ap suc (count_of sites)
+
+  cell_count : (cell : Option (OpenCell D V)) → length (cell_disks cell) ≡ sites_in cell
+  cell_count None = refl
+  cell_count (Some running) = count_of running.sites.items
+
+  cell_held : (cell : Option (OpenCell D V)) → all_held files faults (cell_disks cell) ≡ cell_helds files faults cell
+  cell_held None = refl
+  cell_held (Some running) = helds_of running.sites.items
+
+  module _ (cell : Option (OpenCell D V)) (spare disks : List D) (is : disks ≡ cell_disks cell ++ spare) where
+    pub closed_helds : all_held files faults disks ≡ cell_helds files faults cell ++ all_held files faults spare
+    closed_helds =
+        ap (all_held files faults) is ∙ map-append (held files faults) (cell_disks cell) spare
+        ∙ ap (λ (l : List Held). l ++ all_held files faults spare) (cell_held cell)
+
+    pub closed_others : drop (sites_in cell) disks ≡ spare
+    closed_others = ap (drop (sites_in cell)) is ∙ drop_at (cell_disks cell) spare (sites_in cell) (cell_count cell)
+
+    pub closed_count : sites_in cell + length spare ≡ MAXSERVERS → length disks ≡ MAXSERVERS
+    closed_count all =
+        omega (arith, all, cell_count cell, length-append (cell_disks cell) spare, ap (λ (l : List D). length l) is)
