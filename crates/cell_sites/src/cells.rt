@@ -2,6 +2,7 @@
 ghost use Rattle.std.specs.Prelude.{◌≡◌, ◌≢◌, ◌++◌, ◌≤◌, ◌<◌, ◌+◌, ◌∷◌, ℕ, List};
 ghost use Rattle.std.specs.Prelude.{[], length, map, IfOk, OnOk, Option, Some, vec_capacity, vec_len};
 ghost use Rattle.std.specs.String.{string_bytes};
+ghost use Rattle.disk_base.specs.Stops.DiskStop.{Unarmed};
 ghost use Rattle.disk_base.specs.Files.{Files, no_files};
 ghost use Rattle.ubik_types.specs.declared.hosts.Host.{Host};
 ghost use Rattle.ubik_types.specs.declared.limits.TheConstants.{MAXSERVERS};
@@ -80,7 +81,8 @@ impl<D: StopDisk, V: WordForms> OpenCell<D, V> {
         requires empty { D.files disk ≡ Some no_files }
         ensures opened { OnOk result ((given : List D) (text_before : List ℕ) →
             ArePartOpened D.files D.faults (script_database V.database V.words) clock given self.old text_before (string_bytes text.old) →
-            ArePartOpened D.files D.faults (script_database V.database V.words) clock (given ++ disk ∷ []) self.new text_before (string_bytes text.new)) }
+            ArePartOpened D.files D.faults (script_database V.database V.words) clock (given ++ disk ∷ []) self.new
+            text_before (string_bytes text.new)) }
         ensures added { IsAdded D.files D.faults disk self.old self.new }
         ensures room { HasRoom self.new }
         ensures hosts { self.new.hosts.items ≡ self.old.hosts.items }
@@ -163,6 +165,7 @@ fn keep_down<D: StopDisk, V: WordForms>(
     requires { me < 20 }
     ensures down { (kept : D) × (result.0 ≡ Server.Down kept) × (D.faults kept ≡ D.faults refused.disk)
         × (refused.why ≡ StoreFault.NoMemory → D.files kept ≡ D.files refused.disk) }
+    ensures revived { refused.why ≢ StoreFault.NoMemory → D.stop (server_disk result.0) ≡ Unarmed }
     ensures told { OnOk result.1 ((refused.why ≢ StoreFault.NoMemory)
         × (string_bytes text.new ≡ string_bytes text.old ++ mark_text (Mark.StaysDown me))) }
 {
