@@ -1,5 +1,6 @@
 pub mod Agreeing
 pub mod AtPlace
+pub mod Delivering
 pub mod Happening
 pub mod Hosts
 pub mod Joined

@@ -2,6 +2,7 @@
 #![tactic(auto)]
 
 mod cells;
+mod deliveries;
 mod faults;
 mod packets;
 mod places;
