@@ -120,3 +120,7 @@ lost {D} {V} files faults script_db running c number k p tb ta stands down o tol
     (ap (λ (l : List Packet). record { sent = l; handed = running.packets.handed }) (sym (append-nil running.packets.sent))
     ∙ ap (λ (l : List Bool). record { sent = running.packets.sent ++ []; handed = l }) (sym (append-nil running.packets.handed)))
     m.is
+
+-- the host of a place, as an index reads it
+pub own_host : (hosts : List Host) (k : ℕ) (host : Host) → k < length hosts → host ≡ get_or hosts k host → host_at hosts k ≡ host
+own_host hosts k host lt value = ap (λ (o : Option Host). unwrap_or o (record { 0 = 0 })) (slice_get_read hosts (length hosts) k host refl lt value)
