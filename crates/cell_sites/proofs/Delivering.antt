@@ -124,3 +124,23 @@ lost {D} {V} files faults script_db running c number k p tb ta stands down o tol
 -- the host of a place, as an index reads it
 pub own_host : (hosts : List Host) (k : ℕ) (host : Host) → k < length hosts → host ≡ get_or hosts k host → host_at hosts k ≡ host
 own_host hosts k host lt value = ap (λ (o : Option Host). unwrap_or o (record { 0 = 0 })) (slice_get_read hosts (length hosts) k host refl lt value)
+
+-- ---- a packet that was sent
+
+-- the cell from which a packet is handed over, and where it goes
+pub record HandedOver {D V : Type 0} (running : OpenCell D V) (c : Cell) (p : Traffic) (number k : ℕ) (packet : Packet) : Type 0 where
+  pub stands : StandsFor (with_packets running p) (with_handed c (set c.handed (number - 1) true))
+  pub goes : occasion c.run.world (Delivery number) ≡ Some (k, event.Packet packet)
+
+pub handed_cell : {D V : Type 0} (running : OpenCell D V) (c : Cell) (p : Traffic) (number k : ℕ) (packet sent : Packet) → StandsFor running c → p ≡ handed_over running.packets number → 0 < number → slice_get p.sent (number - 1) ≡ Some sent → packet ≡ sent → place_of running.hosts.items packet.to ≡ Some k
+    → HandedOver running c p number k packet
+handed_cell running c p number k packet sent stands is some there same place =
+    record {
+      stands = stands_with running c p (set c.handed (number - 1) true) stands (ap (λ (t : Traffic). t.sent) is)
+          (ap (λ (h : List Bool). set h (number - 1) true) stands.handed ∙ sym (ap (λ (t : Traffic). t.handed) is));
+      goes =
+          occasion_of c.run.world number k packet
+          (numbered c.run.world number packet some
+          (ap (λ (l : List Packet). slice_get l (number - 1)) (stands.sent ∙ sym (ap (λ (t : Traffic). t.sent) is)) ∙ there ∙ ap Some (sym same)))
+          (ap (λ (h : List Host). place_of h packet.to) stands.hosts ∙ place);
+    }
