@@ -1,6 +1,7 @@
 pub mod Agreeing
 pub mod AtPlace
-pub mod Dropping
+pub mod Delivering
+pub mod Following
 pub mod Happening
 pub mod Hosts
 pub mod Joined

@@ -2,7 +2,7 @@
 #![tactic(auto)]
 
 mod cells;
-mod drops;
+mod deliveries;
 mod faults;
 mod packets;
 mod places;
