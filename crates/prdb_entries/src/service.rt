@@ -2,8 +2,8 @@
 ghost use Rattle.prdb_entries.specs.CallWords.{protection_words};
 ghost use Rattle.prdb_entries.specs.Protection.{protection};
 
-use crate::blocks::{BLOCK_LEN, HEAD_LEN};
 use crate::answers::tell_fields;
+use crate::blocks::{BLOCK_LEN, HEAD_LEN};
 use crate::words::{call_words, is_unbuilt};
 use crate::{call_image, writes};
 use db_image::{CallReply, Layout, Service, WordForms};

@@ -1,6 +1,5 @@
 -- The disks of a cell, before its script and at its end.
 use Rattle.std.specs.Prelude.{◌≡◌, ℕ, Option, Some, None, IsSomeAnd, List, [], ◌∷◌, All}
-
 use Rattle.disk_base.specs.Files.{Files, no_files}
 use Rattle.disk_base.specs.Stops.{DiskStop}
 use Rattle.disk_base.specs.Stops.DiskStop.{Unarmed}

@@ -73,11 +73,13 @@ fn packets_are_delivered_dropped_and_repeated(rt: HostRuntime) -> Result<(), Fai
         ),
         ("dropall 1\ndeliverall\n", ""),
         ("dropall 2\ndeliverall\n", "packet 3 3>1 yes 1076\n"),
-        ("deliver 1\ndropall 2\ndeliverall\n", "packet 3 2>1 yes 1076\npacket 4 3>1 yes 1076\n"),
+        (
+            "deliver 1\ndropall 2\ndeliverall\n",
+            "packet 3 2>1 yes 1076\npacket 4 3>1 yes 1076\n",
+        ),
         ("drop 2\ndrop 1\ndeliverall\n", ""),
     ] {
-        let script =
-            format!(in rt.alloc(); "cell 3 1000 pt\ntickall 76\nbeacon 1\n{lines}")?;
+        let script = format!(in rt.alloc(); "cell 3 1000 pt\ntickall 76\nbeacon 1\n{lines}")?;
         let text = format!(in rt.alloc(); "{BEACONS}{told}")?;
         expect_told(&rt, rt.alloc(), &script, &text)?;
     }
@@ -88,8 +90,7 @@ fn packets_are_delivered_dropped_and_repeated(rt: HostRuntime) -> Result<(), Fai
 #[test]
 fn packets_have_numbers_from_1_on(rt: HostRuntime) -> Result<(), Fail> {
     for line in ["deliver 0", "deliver 3", "drop 0", "drop 3"] {
-        let script =
-            format!(in rt.alloc(); "cell 3 1000 pt\ntickall 76\nbeacon 1\n{line}\n")?;
+        let script = format!(in rt.alloc(); "cell 3 1000 pt\ntickall 76\nbeacon 1\n{line}\n")?;
         let script = script.as_bytes();
         expect_refused(&rt, rt.alloc(), script, &[], 4, Why::Packet, BEACONS)?;
     }
@@ -100,13 +101,22 @@ fn packets_have_numbers_from_1_on(rt: HostRuntime) -> Result<(), Fail> {
 #[test]
 fn a_server_that_is_down_loses_packets(rt: HostRuntime) -> Result<(), Fail> {
     let script = "cell 2 1000 pt\ntickall 76\nbeacon 2\ndeliverall\ndeliver 1\nshow 1\n";
-    let text = "restarted 1 diskfault\npacket 1 2>1 beacon 0.0\nlost 1\nlost 1\nshow 1 clock 1076 down\n";
+    let text =
+        "restarted 1 diskfault\npacket 1 2>1 beacon 0.0\nlost 1\nlost 1\nshow 1 clock 1076 down\n";
     let seen = run_on(rt.alloc(), script.as_bytes(), &[], &[], &[1])?;
     expect(&rt, &seen, 0, CellKind::Done, text);
     for line in ["beacon 1", "dropall 1"] {
         let script = format!(in rt.alloc(); "cell 2 1000 pt\n{line}\n")?;
         let before = "restarted 1 diskfault\n";
-        expect_refused(&rt, rt.alloc(), script.as_bytes(), &[1], 2, Why::State, before)?;
+        expect_refused(
+            &rt,
+            rt.alloc(),
+            script.as_bytes(),
+            &[1],
+            2,
+            Why::State,
+            before,
+        )?;
     }
     Ok(())
 }

@@ -76,10 +76,7 @@ fn a_line_is_taken_or_refused_by_its_place(rt: HostRuntime) -> Result<(), Fail> 
             "cell 1 1000000000 pt",
             [Ok(""), Err(Why::Cell), Err(Why::Cell)],
         ),
-        (
-            "cell 20 1000 pt",
-            [Ok(""), Err(Why::Cell), Err(Why::Cell)],
-        ),
+        ("cell 20 1000 pt", [Ok(""), Err(Why::Cell), Err(Why::Cell)]),
         ("tick 1 1", [Err(Why::Cell), Ok(""), Ok("")]),
         ("tick 1 50000", [Err(Why::Cell), Ok(""), Ok("")]),
         ("tickall 1", [Err(Why::Cell), Ok(""), Ok("")]),

@@ -96,8 +96,11 @@ returns-in-Line-clause-goes g c = λ none.
     (Some written) run)
     now c.line-told.result c.write_line-in-Line.result (g.K.Sink.written c.args.out.now) none
     (record {
-      unwritten = λ short. ((c.write_line-in-Line.ensures.unwritten short).0, ap g.K.Sink.written
-          (c.write_line-in-Line.ensures.unwritten short).1);
+      unwritten = λ short. (
+        (c.write_line-in-Line.ensures.unwritten short).0,
+        ap g.K.Sink.written
+            (c.write_line-in-Line.ensures.unwritten short).1,
+      );
       whole = c.write_line-in-Line.ensures.whole;
       part = c.write_line-in-Line.ensures.part;
     })
@@ -130,8 +133,11 @@ returns-in-Line-clause-ends g c =
     (Some written) run)
     c.line-told.result c.write_line-in-Line.result (g.K.Sink.written c.args.out.now)
     (record {
-      unwritten = λ none. ((c.write_line-in-Line.ensures.unwritten none).0, ap g.K.Sink.written
-          (c.write_line-in-Line.ensures.unwritten none).1);
+      unwritten = λ none. (
+        (c.write_line-in-Line.ensures.unwritten none).0,
+        ap g.K.Sink.written
+            (c.write_line-in-Line.ensures.unwritten none).1,
+      );
       whole = c.write_line-in-Line.ensures.whole;
       part = c.write_line-in-Line.ensures.part;
     })
