@@ -1,5 +1,5 @@
 -- Waiting packets that are delivered one after the other.
-use Rattle.std.proofs.Common.{◌≡◌, ◌≢◌, ◌⊎◌, inl, inr, ◌<◌, ◌≤◌, ◌+◌, ◌-◌, ℕ, zero, suc, Bool, Option, Some, None, Result, Ok, Err, List, [], ◌∷◌, ◌++◌, drop, length, refl, sym, ap, subst, ◌∙◌, arith, append_assoc}
+use Rattle.std.proofs.Common.{◌≡◌, ◌≢◌, ◌⊎◌, inl, inr, ◌<◌, ◌≤◌, ◌+◌, ◌-◌, ℕ, zero, suc, Bool, true, false, Option, Some, None, Result, Ok, Err, List, [], ◌∷◌, ◌++◌, drop, length, refl, sym, ap, subst, ◌∙◌, arith, append_assoc}
 use Rattle.std.specs.List.{flat_map}
 use Rattle.std.proofs.lemmas.List.{append-nil}
 use Rattle.disk_base.specs.Files.{Files}
@@ -7,14 +7,15 @@ use Rattle.ubik_types.specs.declared.hosts.Host.{Host}
 use Rattle.cell_model.specs.World.{Site as ModelSite}
 use Rattle.cell_runs.specs.declared.endings.Ending.{Ending}
 use Rattle.cell_runs.specs.ScriptDatabase.{ScriptDatabase}
-use Rattle.cell_runs.specs.Script.{Cell, Cell_run, Choice, Run_or_why, all_delivered, delivered, first_choice, first_waiting, joined_run, resting, unless_ended}
+use Rattle.cell_runs.specs.Script.{Cell, Cell_run, Choice, Run_or_why, all_delivered, delivered, first_choice, first_waiting, hosts_of, joined_run, resting, unless_ended}
 use Rattle.cell_runs.specs.Trace.{TraceItem, trace, item_text, fault_count}
 use Rattle.cell_sites.specs.declared.cells.OpenCell.{OpenCell}
 use Rattle.cell_sites.specs.Disks.{Held, AreReadBy, AreRises}
 use Rattle.cell_sites.specs.Sites.{StandsFor, helds}
 use Rattle.cell_sites.specs.Sound.{IsSound}
-use Rattle.cell_sites.specs.Told.{CellTold}
+use Rattle.cell_sites.specs.Told.{CellTold, IsShort}
 use Rattle.cell_sites.proofs.Opening.{count_append}
+use Rattle.cell_sites.proofs.Reading.{cell_reads}
 
 -- ---- joining what is told
 
@@ -150,3 +151,72 @@ none_left script_db fuel c none = ap (all_delivered script_db fuel c []) none
 pub no_fuel : (script_db : ScriptDatabase) (c : Cell) (o : Option ℕ) → all_delivered script_db zero c [] o ≡ resting c
 no_fuel script_db c None = refl
 no_fuel script_db c (Some number) = refl
+
+IsNone : Option ℕ → Type 0
+IsNone None = Unit {0}
+IsNone (Some n) = ⊥
+
+-- the number of the packet that waits first is that of a packet
+pub is_waiting : (k : ℕ) (handed : List Bool) (number : ℕ) → first_waiting k handed ≡ Some number → (k ≤ number) × (number < k + length handed)
+unfolding IsNone
+is_waiting k [] number waits = let w : None ≡ Some number = waits in absurd (subst IsNone w tt)
+is_waiting k (false ∷ handed) number waits = let e : k ≡ number = let w : Some k ≡ Some number = waits in cc in (omega (arith, e), omega (arith, e))
+is_waiting k (true ∷ handed) number waits =
+    let later = is_waiting (k + 1) handed number waits in (omega (arith, later.0), omega (arith, later.1))
+
+-- sound cells of as many servers have the same hosts
+pub same_hosts : {D V : Type 0} (files : D → Option Files) (faults : D → ℕ) (bound other : ℕ) (now later : OpenCell D V) → IsSound files faults bound now → IsSound files faults other later → length later.sites.items ≡ length now.sites.items → later.hosts.items ≡ now.hosts.items
+same_hosts files faults bound other now later sound sounds same = sounds.hosts ∙ ap hosts_of same ∙ sym sound.hosts
+
+module _ {D V : Type 0} (files : D → Option Files) (faults : D → ℕ) (script_db : ScriptDatabase) (most n fuel bound : ℕ) (start now later : OpenCell D V) (tb text after : List ℕ) (follows : Follows files faults script_db most n start now tb text) (less : n ≡ suc fuel) (sound : IsSound files faults bound start) (number : ℕ) (waits : first_waiting 1 now.packets.handed ≡ Some number) where
+  before : (c : Cell) → StandsFor start c → SoFar files faults script_db most (suc fuel) c start now tb text
+  before c stands = subst (λ (m : ℕ). SoFar files faults script_db most m c start now tb text) less (follows.runs c stands)
+
+  -- one more packet was handed over
+  pub follows_more : ((c : Cell) → StandsFor now c → CellTold files faults script_db (λ choices. Ok (delivered script_db c (first_choice choices) number)) None now later text after)
+      → ((b : ℕ) → IsSound files faults b now → IsSound files faults b later) → AreRises 0 [] (helds files faults now) (helds files faults later) → length later.sites.items ≡ length now.sites.items
+      → ((sites : List ModelSite) → AreReadBy sites (helds files faults now) → AreReadBy sites (helds files faults later))
+      → Follows files faults script_db most fuel start later tb after
+  follows_more told sounds rises same keeps =
+      record {
+        runs = λ c stands.
+            let so = before c stands in
+            let t = told so.cell so.stands in
+            goes_on files faults script_db most fuel c start now later tb text after so number (ap (first_waiting 1) so.stands.handed ∙ waits) None t refl t.cell
+            (same_hosts files faults bound bound now later (follows.sound bound sound) (sounds bound (follows.sound bound sound)) same);
+        sound = λ b s. sounds b (follows.sound b s);
+        rises = rises_both 0 [] [] (helds files faults start) (helds files faults now) (helds files faults later) follows.rises rises;
+        same = same ∙ follows.same;
+        keeps = λ sites read. keeps sites (follows.keeps sites read);
+      }
+
+  -- the next one passes a limit
+  pub limit_there : (c : Cell) → StandsFor start c → (ending : Ending) → ((d : Cell) → StandsFor now d → CellTold files faults script_db (λ choices. Ok (delivered script_db d (first_choice choices) number)) (Some ending) now later text after)
+      → CellTold files faults script_db (λ choices. Ok (all_delivered script_db most c choices (first_waiting 1 c.handed))) (Some ending) start later tb after
+  limit_there c stands ending told =
+      let so = before c stands in
+      let t = told so.cell so.stands in
+      ends_there files faults script_db most fuel c start now later tb text after so number (ap (first_waiting 1) so.stands.handed ∙ waits) (Some ending) t ending refl t.cell
+
+-- none waits any more
+pub all_followed : {D V : Type 0} (files : D → Option Files) (faults : D → ℕ) (script_db : ScriptDatabase) (most fuel : ℕ) (start now : OpenCell D V) (tb text : List ℕ) → Follows files faults script_db most fuel start now tb text
+    → first_waiting 1 now.packets.handed ≡ None → (c : Cell) → StandsFor start c
+    → CellTold files faults script_db (λ choices. Ok (all_delivered script_db most c choices (first_waiting 1 c.handed))) None start now tb text
+all_followed files faults script_db most fuel start now tb text follows none c stands =
+    let so = follows.runs c stands in
+    followed files faults script_db most fuel c start now tb text so (none_left script_db fuel so.cell (ap (first_waiting 1) so.stands.handed ∙ none))
+
+-- as many were handed over as a script may send
+pub fuel_followed : {D V : Type 0} (files : D → Option Files) (faults : D → ℕ) (script_db : ScriptDatabase) (most fuel : ℕ) (start now : OpenCell D V) (tb text : List ℕ) → Follows files faults script_db most fuel start now tb text
+    → fuel ≡ zero → (c : Cell) → StandsFor start c
+    → CellTold files faults script_db (λ choices. Ok (all_delivered script_db most c choices (first_waiting 1 c.handed))) None start now tb text
+fuel_followed files faults script_db most fuel start now tb text follows none c stands =
+    let so = follows.runs c stands in
+    followed files faults script_db most fuel c start now tb text so (ap (λ (m : ℕ). all_delivered script_db m so.cell [] (first_waiting 1 so.cell.handed)) none ∙ no_fuel script_db so.cell (first_waiting 1 so.cell.handed))
+
+-- memory ran out in the next one
+pub short_there : {D V : Type 0} (files : D → Option Files) (faults : D → ℕ) (script_db : ScriptDatabase) (most fuel bound : ℕ) (start now later : OpenCell D V) (tb text : List ℕ) → Follows files faults script_db most fuel start now tb text
+    → IsSound files faults bound start → ((sites : List ModelSite) → AreReadBy sites (helds files faults now) → AreReadBy sites (helds files faults later))
+    → (run : List Choice → Run_or_why) (c : Cell) → StandsFor start c → IsShort files faults run c start later
+short_there files faults script_db most fuel bound start now later tb text follows sound keeps run c stands =
+    inl (keeps c.run.world.sites (follows.keeps c.run.world.sites (cell_reads files faults bound start c sound stands)))

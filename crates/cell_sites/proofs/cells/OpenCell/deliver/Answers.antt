@@ -4,7 +4,6 @@ use Rattle.cell_runs.specs.Script.{delivered, first_choice, run_in}
 use Rattle.cell_script.specs.declared.lines.Line.TheVariants as line
 use Rattle.cell_sites.proofs.AtPlace.{rises_same}
 use Rattle.cell_sites.proofs.Lining.{told_as}
-use Rattle.cell_sites.proofs.Following.{followed}
 use Rattle.cell_sites.proofs.cells.OpenCell.deliver.Goals as goal
 
 pub returns-in_err-number-clause-never_falls : goal.returns-in_err-number-clause-never_falls
