@@ -7,5 +7,5 @@ mod limits;
 mod traces;
 
 pub use endings::{Ending, Which};
-pub use limits::{MAX_LINES, MAX_PACKET_BYTES, MAX_PACKETS};
+pub use limits::{MAX_LINES, MAX_PACKET_BYTES, MAX_PACKETS, law_limits_are_these};
 pub use traces::{Mark, Showing, tell_ending, tell_mark, tell_output, tell_show};

@@ -253,7 +253,11 @@ fn tell_showing(text: &mut String, showing: Option<Showing>) -> Result<(), NoMem
     text.push_str(" version ")?;
     tell_version(text, showing.version)?;
     let phase = phase_word(showing.phase);
-    write!(text, " phase {phase} until {} length {}", showing.until, showing.len)?;
+    write!(
+        text,
+        " phase {phase} until {} length {}",
+        showing.until, showing.len
+    )?;
     Ok(())
 }
 

@@ -185,7 +185,8 @@ module _ (law : VotersVote) (script_db : ScriptDatabase) (asks : ℕ) (c : Cell)
   -- ---- an ask
 
   module _
-      (names : (words : List (List ℕ)) (call : List ℕ) → script_db.words.call_of words ≡ Some call → IsSome (script_db.database.writes call))
+      (names : (words : List (List ℕ)) (call : List ℕ) → script_db.words.call_of words ≡ Some call
+      → IsSome (script_db.database.writes call))
       (choice : Choice) (words : List (List ℕ)) where
     call_part : (server : Option ℕ) (call : Option (List ℕ)) → script_db.words.call_of words ≡ call
         → MayPart (asks + 1) (asked_in script_db c choice (asks + 1) words server call)

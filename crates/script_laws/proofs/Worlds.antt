@@ -104,7 +104,7 @@ fits_at asks later w k h more fits site packets = record {
 
 -- ---- ticks
 
-length-tick : (sites : List Site) (k seconds : ℕ) → length (tick_at sites k seconds) ≡ length sites
+pub length-tick : (sites : List Site) (k seconds : ℕ) → length (tick_at sites k seconds) ≡ length sites
 length-tick [] k seconds = refl
 length-tick (site ∷ sites) zero seconds = refl
 length-tick (site ∷ sites) (suc k) seconds = ap suc (length-tick sites k seconds)

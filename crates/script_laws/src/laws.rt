@@ -1,7 +1,15 @@
 //! Laws of scripts: each is the clause of a call that does nothing.
+ghost use Rattle.script_laws.specs.Built.{LinesAreBuilt};
 ghost use Rattle.script_laws.specs.Runs.{ScriptsAreRuns};
+ghost use Rattle.script_laws.specs.Sound.{FaultsHaveServers, SoundFronts, SoundScripts};
 
 use cell_model::law_voters_vote;
+
+/// A line that means something is built: it opens no cell of a location database, stops, crashes and opens no server, and lets a
+/// server recover only where the cell has no other.
+pub fn law_lines_are_built()
+    ensures { LinesAreBuilt }
+{}
 
 /// What each list of lines tells, whatever the disks do, is what is seen of a run of the world: its cell is opened as a first world,
 /// each event is one that the world allows and a script may bring, the cell's run is the fold over them, and the text tells
@@ -10,4 +18,22 @@ pub fn law_scripts_are_runs()
     ensures { ScriptsAreRuns }
 {
     law_voters_vote();
+}
+
+/// Where no fault of a disk is told, no choice of what disks do matters: the same lines where every disk is sound leave and tell
+/// the same, and end where these end.
+pub fn law_sound_scripts()
+    ensures { SoundScripts }
+{}
+
+/// Where no line ends a script whose disks are all sound, none ends a front of it of which no fault of a disk is told.
+pub fn law_sound_fronts()
+    ensures { SoundFronts }
+{}
+
+/// Each fault of a disk that is told, each stop and each opening that fails is one of a server of the cell.
+pub fn law_faults_have_servers()
+    ensures { FaultsHaveServers }
+{
+    law_scripts_are_runs();
 }

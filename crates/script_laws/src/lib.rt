@@ -1,7 +1,10 @@
-//! What holds of the meaning of every script: a law over the definitions alone. No code of a server and none of a simulator is
+//! What holds of the meaning of every script: laws over the definitions alone. No code of a server and none of a simulator is
 //! named here.
 #![tactic(auto)]
 
 mod laws;
 
-pub use laws::law_scripts_are_runs;
+pub use laws::{
+    law_faults_have_servers, law_lines_are_built, law_scripts_are_runs, law_sound_fronts,
+    law_sound_scripts,
+};

@@ -1,6 +1,6 @@
 -- The disks of a cell, before its script and at its end.
-use Rattle.std.specs.Prelude.{◌≡◌, ◌≤◌, ℕ, ◌+◌, ◌==◌, if◌then◌else◌, Unit, Option, Some, None, IsSomeAnd, List, [], ◌∷◌, map}
-use Rattle.std.specs.List.{All}
+use Rattle.std.specs.Prelude.{◌≡◌, ◌≤◌, ℕ, ◌+◌, ◌==◌, if◌then◌else◌, Option, Some, None, IsSomeAnd, List, [], ◌∷◌, map, All}
+
 use Rattle.disk_base.specs.Files.{Files, no_files}
 use Rattle.disk_base.specs.Stops.{DiskStop}
 use Rattle.disk_base.specs.Stops.DiskStop.{Unarmed}

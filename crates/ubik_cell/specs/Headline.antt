@@ -1,5 +1,5 @@
 -- The headline: what was read and written is the trace of one run of the world, and that run keeps what it promises.
-use Rattle.std.specs.Prelude.{◌≡◌, ◌≢◌, ◌⊎◌, ◌≤◌, ℕ, Unit, Option, Some, None, IfSome, List, [], ◌∷◌, ◌++◌, drop}
+use Rattle.std.specs.Prelude.{◌≡◌, ◌≢◌, ◌⊎◌, ◌≤◌, ℕ, Option, Some, None, IfSome, List, [], ◌∷◌, ◌++◌, drop}
 use Rattle.disk_base.specs.Files.{Files}
 use Rattle.cell_runs.specs.Script.{Cell, LineRead, Told, cell_size_of, servers_of, told}
 use Rattle.script_laws.specs.Runs.{IsRunOfTold}

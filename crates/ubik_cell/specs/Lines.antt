@@ -1,11 +1,12 @@
 -- What a run of a script's lines stands for.
-use Rattle.std.specs.Prelude.{◌≡◌, ◌≢◌, ◌⊎◌, ◌+◌, ◌*◌, ◌≤◌, ℕ, Unit, Option, Some, None, Result, Ok, Err, All, List, [], ◌∷◌, ◌++◌, length, map, take}
+use Rattle.std.specs.Prelude.{◌≡◌, ◌≢◌, ◌⊎◌, ◌+◌, ◌*◌, ◌≤◌, ℕ, Option, Some, None, Result, Ok, Err, All, List, [], ◌∷◌, ◌++◌, length, map, take}
 use Rattle.disk_base.specs.Files.{Files, no_files}
 use Rattle.ubik_types.specs.declared.limits.TheConstants.{MAXSERVERS}
 use Rattle.cell_model.specs.World.{Site}
 use Rattle.cell_script.specs.declared.lines.TheConstants.{MAX_CLOCK, MAX_TICK}
 use Rattle.cell_runs.specs.declared.endings.Ending.{Ending}
-use Rattle.cell_runs.specs.Script.{Cell, Choice, LineRead, Line_run, ScriptEnd, Stage, Told, line_result, text_in, told_with}
+use Rattle.cell_runs.specs.declared.limits.TheConstants.{MAX_LINES}
+use Rattle.cell_runs.specs.Script.{Cell, Choice, LineRead, Line_run, ScriptEnd, Stage, Told, line_result, servers_of, text_in, told_with}
 use Rattle.cell_runs.specs.ScriptDatabase.{ScriptDatabase, Databases}
 use Rattle.cell_runs.specs.Trace.{TraceItem}
 use Rattle.cell_script.specs.declared.lines.Why.{Why}
@@ -28,28 +29,35 @@ clock_bound lines = MAX_CLOCK + MAX_TICK * lines
 -- a cell stands, and is sound
 abbrev pub CellIsSound : {D V : Type 0} → (D → Option Files) → (D → ℕ) → (bound : ℕ) → Option (OpenCell D V) → Type 0
 CellIsSound files faults bound None = Unit {0}
-CellIsSound files faults bound (Some open) = IsSound files faults bound open
+CellIsSound files faults bound (Some running) = IsSound files faults bound running
 
 abbrev pub sites_in : {D V : Type 0} → Option (OpenCell D V) → ℕ
 sites_in None = 0
-sites_in (Some open) = length open.sites.items
+sites_in (Some running) = length running.sites.items
 
--- A run between two lines: its cell is sound, the disks that no cell has are empty, and there are 20 in all.
-pub record IsSoundRun {D V : Type 0} (files : D → Option Files) (faults : D → ℕ) (run : CellRun D V) : Type 0 where
-  pub cell : CellIsSound files faults (clock_bound run.lines) run.cell
+-- A run that was sound after so many lines: its cell is sound, the disks that no cell has are empty, there are 20 in all, no more
+-- calls were asked than there were lines, and these are within their limit.
+pub record IsSoundBy {D V : Type 0} (files : D → Option Files) (faults : D → ℕ) (lines : ℕ) (run : CellRun D V) : Type 0 where
+  pub cell : CellIsSound files faults (clock_bound lines) run.cell
   pub spare : All (λ disk. files disk ≡ Some no_files) run.spare.items
   pub disks : sites_in run.cell + length run.spare.items ≡ MAXSERVERS
+  pub asks : run.asks ≤ lines
+  pub few : lines ≤ MAX_LINES
+
+-- a run between two lines
+abbrev pub IsSoundRun : {D V : Type 0} → (D → Option Files) → (D → ℕ) → CellRun D V → Type 0
+IsSoundRun files faults run = IsSoundBy files faults run.lines run
 
 -- the cell that stands is that of the stage
 abbrev pub CellStandsFor : {D V : Type 0} → Option (OpenCell D V) → Option Cell → Type 0
 CellStandsFor None None = Unit {0}
-CellStandsFor (Some open) (Some c) = StandsFor open c
+CellStandsFor (Some running) (Some c) = StandsFor running c
 CellStandsFor _ _ = ⊥
 
 -- what the disks of a run read as: those of the cell in their order, and then the others
 abbrev pub cell_helds : {D V : Type 0} → (D → Option Files) → (D → ℕ) → Option (OpenCell D V) → List Held
 cell_helds files faults None = []
-cell_helds files faults (Some open) = helds files faults open
+cell_helds files faults (Some running) = helds files faults running
 
 abbrev pub run_helds : {D V : Type 0} → (D → Option Files) → (D → ℕ) → CellRun D V → List Held
 run_helds files faults run = cell_helds files faults run.cell ++ all_held files faults run.spare.items
@@ -57,7 +65,7 @@ run_helds files faults run = cell_helds files faults run.cell ++ all_held files 
 -- each disk of the cell failed at least as often as is told of its server; before a cell stands nothing is told
 abbrev pub HasCauses : {D V : Type 0} → (D → Option Files) → (D → ℕ) → Option (OpenCell D V) → List TraceItem → Type 0
 HasCauses files faults None items = items ≡ []
-HasCauses files faults (Some open) items = AreCauses 0 items (helds files faults open)
+HasCauses files faults (Some running) items = AreCauses 0 items (helds files faults running)
 
 -- a run stands at a stage, some lines before it
 pub record IsNear {D V : Type 0} (ahead : ℕ) (run : CellRun D V) (st : Stage) : Type 0 where
@@ -114,13 +122,18 @@ pub record LineTold {D V : Type 0} (files : D → Option Files) (faults : D → 
   pub told : text_after ≡ text_before ++ added
   pub text : later.text ≡ t.text ++ added
   pub leaves : Leaves files faults result after later
+  pub servers : sites_in after.cell ≡ servers_of later.stage.cell
 
--- memory ran out in a line: the disks hold what the lines before it left, or what it left with some choices
-abbrev pub LineShort : {D V : Type 0} → (D → Option Files) → (D → ℕ) → Databases → (line : List ℕ) → Told → CellRun D V → Type 0
-LineShort files faults dbs line t after =
-    AreHeld t (run_helds files faults after)
-    ⊎ ((choices : List Choice)
-    × AreHeld (told_with dbs t (line_result dbs t.stage (record { line = line; choices = choices }))) (run_helds files faults after))
+-- disks hold what a line leaves with some choices
+pub record HeldAfter (dbs : Databases) (line : List ℕ) (t : Told) (disks : List Held) : Type 0 where
+  pub choices : List Choice
+  pub held : AreHeld (told_with dbs t (line_result dbs t.stage (record { line = line; choices = choices }))) disks
+
+-- Memory ran out in a line: each fault that was told before it has its cause, and the disks hold what the lines before it left, or
+-- what it left with some choices.
+pub record LineShort {D V : Type 0} (files : D → Option Files) (faults : D → ℕ) (dbs : Databases) (line : List ℕ) (t : Told) (after : CellRun D V) : Type 0 where
+  pub causes : HeldCauses t.stage.cell t.items (run_helds files faults after)
+  pub held : AreReadFirst (sites_of t.stage.cell) (run_helds files faults after) ⊎ HeldAfter dbs line t (run_helds files faults after)
 
 -- A line was run in a stage with some choices: it ended so, and what it told was added to a text.
 pub record StageTold {D V : Type 0} (files : D → Option Files) (faults : D → ℕ) (dbs : Databases) (run : List Choice → Result Line_run Why) (ended : Option Ending) (before after : CellRun D V) (text_before text_after : List ℕ) : Type 0 where

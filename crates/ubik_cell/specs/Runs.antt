@@ -1,10 +1,11 @@
 -- What a run of a script has read and written when it ends.
-use Rattle.std.specs.Prelude.{◌≡◌, ◌≤◌, ℕ, Unit, Bool, true, false, Option, Some, None, All, List, [], ◌∷◌, ◌++◌, map, length, take}
+use Rattle.std.specs.Prelude.{◌≡◌, ◌≤◌, ℕ, Bool, true, false, Option, Some, None, All, List, [], ◌∷◌, ◌++◌, map, length, take}
 use Rattle.cell_script.specs.LineLaws.{text_of}
 use Rattle.cell_script.specs.Lines.{HasNoLf, lines_of, whole_lines}
 use Rattle.cell_runs.specs.declared.endings.Ending.{Ending}
 use Rattle.cell_runs.specs.declared.endings.Ending.TheVariants.{Refused, Limit}
-use Rattle.cell_runs.specs.Script.{LineRead, ScriptEnd, Databases, told}
+use Rattle.cell_runs.specs.Script.{LineRead, ScriptEnd, told}
+use Rattle.cell_runs.specs.ScriptDatabase.{Databases}
 use Rattle.ubik_cell.specs.declared.cells.CellKind.{CellKind}
 use Rattle.ubik_cell.specs.declared.cells.CellKind.TheVariants as kind
 

@@ -82,6 +82,7 @@ impl<D: StopDisk, V: WordForms> CellRun<D, V> {
             cell.close(disks);
         }
         disks.append(&mut spare).unwrap();
+        spare.destroy_empty();
     }
 
     /// How many servers the cell has that stands; 0 where none does.
@@ -110,13 +111,12 @@ impl<D: StopDisk, V: WordForms> CellRun<D, V> {
         if self.cell.is_some() {
             return Err(Why::Cell.into());
         }
-        let cell = OpenCell::new(self.alloc, servers as usize)?;
-        let cell = self.cell.insert(cell);
-        for _ in 0..servers {
-            let disk = self.spare.remove(0);
-            cell.open_next(disk, clock, text)?;
+        let mut cell = OpenCell::new(self.alloc, servers as usize)?;
+        let opened = open_servers(&mut cell, &mut self.spare, servers, clock, text);
+        if let Some(cell) = self.cell.replace(cell) {
+            cell.close(&mut self.spare);
         }
-        Ok(())
+        Ok(opened?)
     }
 
     /// Asks a server a call in words. Once a cell stands the words come first: the number of the server is judged after them.
@@ -229,6 +229,21 @@ impl<D: StopDisk, V: WordForms> CellRun<D, V> {
             Err(NoMemory) => Err(RunEnd::NoMemory),
         }
     }
+}
+
+/// Opens the servers of a cell, each over the next of these disks, at a clock.
+fn open_servers<D: StopDisk, V: WordForms>(
+    cell: &mut OpenCell<D, V>,
+    spare: &mut Vec<D>,
+    servers: u32,
+    clock: u32,
+    text: &mut String,
+) -> Result<(), NoMemory> {
+    for _ in 0..servers {
+        let disk = spare.remove(0);
+        cell.open_next(disk, clock, text)?;
+    }
+    Ok(())
 }
 
 /// A line in a cell that stands, but for an ask.

@@ -11,6 +11,7 @@ use std::process::Abort;
 use std::test::Fail;
 use ubik_types::{MAXSERVERS, NoMemory};
 
+mod cells;
 mod chance;
 mod refusals;
 mod texts;

@@ -1,5 +1,5 @@
 //! A whole script: read line by line, each line run and told.
-ghost use Rattle.std.specs.Prelude.{◌≡◌, ◌≢◌, ◌+◌, ◌<◌, ◌≤◌, ℕ, Bool, List, Option, Some, None, Ok, Err, IsSome, IfSome, [], vec_len, vec_capacity, length, drop, All};
+ghost use Rattle.std.specs.Prelude.{◌≡◌, ◌≢◌, ◌+◌, ◌-◌, ◌++◌, ◌<◌, ◌≤◌, ℕ, Bool, List, Option, Some, None, Ok, Err, IsSome, IfSome, [], vec_len, vec_capacity, length, drop, All};
 ghost use Rattle.std.specs.String.{string_bytes};
 ghost use Rattle.disk_base.specs.Count.{HasCause};
 ghost use Rattle.disk_base.specs.Files.{no_files};
@@ -7,13 +7,14 @@ ghost use Rattle.ubik_types.specs.declared.limits.TheConstants.{MAXSERVERS};
 ghost use Rattle.prdb_entries.specs.CallWords.{protection_words};
 ghost use Rattle.prdb_entries.specs.Protection.{protection};
 ghost use Rattle.cell_runs.specs.ScriptDatabase.{script_database};
+ghost use Rattle.cell_script.specs.Write.{AppendsPart};
 ghost use Rattle.cell_sites.specs.Disks.{all_held};
 ghost use Rattle.script_promises.specs.Databases.{databases};
 ghost use Rattle.ubik_cell.specs.Disks.{AllFresh};
 ghost use Rattle.ubik_cell.specs.Headline.{Headline};
-ghost use Rattle.ubik_cell.specs.Lines.{IsSoundRun, only, run_helds};
+ghost use Rattle.ubik_cell.specs.Lines.{IsSoundRun, only, run_helds, sites_in};
 ghost use Rattle.ubik_cell.specs.Runs.{IsDoneOrShort, IsInside, kind_at, status_of};
-ghost use Rattle.ubik_cell.specs.Turns.{Ran, SoFar};
+ghost use Rattle.ubik_cell.specs.Turns.{Ran, RanOver, SoFar, end_after};
 
 use crate::cells::{CellEnd, CellKind};
 use crate::scripts::{CellRun, RunEnd};
@@ -23,8 +24,8 @@ use cell_script::{LineEnd, LineReader, write_whole};
 use db_image::WordForms;
 use disk_base::{Sink, Source, StopDisk};
 use prdb_entries::PrService;
-use script_laws::law_scripts_are_runs;
-use script_promises::law_scripts_keep_promises;
+use script_laws::{law_faults_have_servers, law_scripts_are_runs, law_sound_fronts};
+use script_promises::{law_scripts_keep_promises, law_words_are_calls};
 use std::alloc::Global;
 
 /// How a script ends that ends at this line.
@@ -43,7 +44,14 @@ fn write_line<K: Sink>(
     told: Result<(), RunEnd>,
     line: u32,
     text: &str,
-) -> Option<CellKind> {
+) -> Option<CellKind>
+    ensures unwritten { told ≡ Err RunEnd.NoMemory → (result ≡ Some CellKind.NoMemory) × (out.new ≡ out.old) }
+    ensures whole { told ≢ Err RunEnd.NoMemory → result ≢ Some CellKind.WriteFault → (result ≡ end_after line told)
+        × IfSome (K.written out.old) (λ before. K.written out.new ≡ Some (before ++ text.now)) }
+    ensures part { result ≡ Some CellKind.WriteFault → (told ≢ Err RunEnd.NoMemory)
+        × IfSome (K.written out.old) (λ before. AppendsPart before (K.written out.new) text.now) }
+    ensures cause { HasCause (K.faults out.old) (K.faults out.new) (result ≡ Some CellKind.WriteFault) }
+{
     if let Err(RunEnd::NoMemory) = told {
         return Some(CellKind::NoMemory);
     }
@@ -63,16 +71,36 @@ fn turn<S: Source, K: Sink, D: StopDisk, V: WordForms>(
     out: &mut K,
     run: &mut CellRun<D, V>,
     text: &mut String,
-) -> Option<CellKind> {
+) -> Option<CellKind>
+    requires sound { IsSoundRun D.files D.faults run.old }
+    ensures goes { result ≡ None → IfSome (K.written out.old) (λ written. (script before : List ℕ) →
+        SoFar D.files D.faults (only (script_database V.database V.words)) script reader.old.ended (S.left input.old) before (Some written) run.old →
+        SoFar D.files D.faults (only (script_database V.database V.words)) script reader.new.ended (S.left input.new) before (K.written out.new) run.new) }
+    ensures ends { IfSome result (λ kind. IfSome (K.written out.old) (λ written. (script before : List ℕ) →
+        SoFar D.files D.faults (only (script_database V.database V.words)) script reader.old.ended (S.left input.old) before (Some written) run.old →
+        Ran kind (only (script_database V.database V.words)) script (S.left input.new) before (K.written out.new) (sites_in run.new.cell) (run_helds D.files D.faults run.new))) }
+    ensures sound { result ≡ None → IsSoundRun D.files D.faults run.new }
+    ensures longer { result ≡ None → run.new.lines ≡ run.old.lines + 1 }
+    ensures disks { sites_in run.new.cell + length run.new.spare.items ≡ MAXSERVERS }
+    ensures spare { run.new.spare.items ≡ drop (sites_in run.new.cell - sites_in run.old.cell) run.old.spare.items }
+    ensures read_cause { HasCause (S.faults input.old) (S.faults input.new) (result ≡ Some CellKind.ReadFault) }
+    ensures write_cause { HasCause (K.faults out.old) (K.faults out.new) (result ≡ Some CellKind.WriteFault) }
+    ensures no_words { (place : ℕ) → result ≢ Some (CellKind.Words place) }
+{
     text.clear();
     let line = run.lines() + 1;
-    let told = match reader.next_line(input) {
-        LineEnd::End => return Some(CellKind::Done),
-        LineEnd::Failed => return Some(CellKind::ReadFault),
-        LineEnd::TooLong => run.long_line(text),
-        LineEnd::Line => run.line(reader.line(), text),
-    };
-    write_line(out, told, line, text)
+    match reader.next_line(input) {
+        LineEnd::End => Some(CellKind::Done),
+        LineEnd::Failed => Some(CellKind::ReadFault),
+        LineEnd::TooLong => {
+            let told = run.long_line(text);
+            write_line(out, told, line, text)
+        }
+        LineEnd::Line => {
+            let told = run.line(reader.line(), text);
+            write_line(out, told, line, text)
+        }
+    }
 }
 
 /// Runs a script to its end, over the disks.
@@ -81,7 +109,16 @@ fn run_script<S: Source, K: Sink, D: StopDisk, V: WordForms>(
     input: &mut S,
     out: &mut K,
     disks: &mut Vec<D>,
-) -> CellKind {
+) -> CellKind
+    requires twenty { vec_len disks.old ≡ MAXSERVERS }
+    requires empty { All (λ disk. D.files disk ≡ Some no_files) disks.old.items }
+    ensures ran { IfSome (S.left input.old) (λ script. IfSome (K.written out.old) (λ before.
+        RanOver D.files D.faults result (only (script_database V.database V.words)) script (S.left input.new) before (K.written out.new) disks.old.items disks.new.items)) }
+    ensures read_cause { HasCause (S.faults input.old) (S.faults input.new) (result ≡ CellKind.ReadFault) }
+    ensures write_cause { HasCause (K.faults out.old) (K.faults out.new) (result ≡ CellKind.WriteFault) }
+    ensures no_words { (place : ℕ) → result ≢ CellKind.Words place }
+    ensures twenty { vec_len disks.new ≡ MAXSERVERS }
+{
     let Ok(mut reader) = LineReader::new(alloc) else {
         return CellKind::NoMemory;
     };
@@ -123,7 +160,10 @@ pub fn cell_top<S: Source, K: Sink, D: StopDisk>(
     ensures twenty { vec_len disks.new ≡ 20 }
 {
     law_scripts_are_runs();
+    law_sound_fronts();
+    law_faults_have_servers();
     law_scripts_keep_promises();
+    law_words_are_calls();
     law_database_is_durable();
     if !words.is_empty() {
         let kind = CellKind::Words { place: 1 };

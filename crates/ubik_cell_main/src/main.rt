@@ -10,7 +10,7 @@ ghost use Rattle.cell_script.specs.Write.{AppendsPart};
 ghost use Rattle.disk_base.specs.Count.{HasCause};
 ghost use Rattle.disk_base.specs.MemDisk.{now_of, disk_stop, disk_faults};
 ghost use Rattle.ubik_cell.specs.Disks.{AllFresh};
-ghost use Rattle.ubik_cell.specs.Run.{status_of};
+ghost use Rattle.ubik_cell.specs.Runs.{status_of};
 ghost use Rattle.ubik_cell_main.specs.Telling.{text_of_word, text_for, message};
 
 use cell_script::write_whole;

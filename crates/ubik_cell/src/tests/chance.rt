@@ -61,7 +61,7 @@ const LINES: [&str; 16] = [
     "recover 1",
     "ask 1 newentry \"\" 0 0",
     "ask 1 nametoid 0",
-    "tickall 1",
+    "tick 1 76",
 ];
 
 /// A fixed row of numbers.
@@ -154,42 +154,82 @@ fn value_of(word: &str) -> Option<u32> {
     }
 }
 
+/// What the lines before left: how many servers the cell has, 0 where none stands, and by how much the clock of the first is past
+/// that of the second.
+#[derive(Clone, Copy)]
+struct Place {
+    servers: u32,
+    ahead: i64,
+}
+
 /// Why a line is refused that opens a cell.
-fn cell_reason(servers: &str, clock: &str, kind: &str, opened: bool) -> Option<Why> {
-    match kind {
+fn cell_reason(words: &[&str], place: Place) -> Option<Why> {
+    match words[2] {
         "pt" => {}
         "vl" => return Some(Why::Unbuilt),
         _ => return Some(Why::Syntax),
     }
-    match value_of(servers) {
-        Some(1) => {}
-        Some(2) => return Some(Why::Unbuilt),
-        _ => return Some(Why::Number),
+    match (value_of(words[0]), value_of(words[1])) {
+        (Some(1..=20), Some(1..)) if place.servers > 0 => Some(Why::Cell),
+        (Some(1..=20), Some(1..)) => None,
+        _ => Some(Why::Number),
     }
-    match value_of(clock) {
-        None | Some(0) => Some(Why::Number),
-        Some(_) if opened => Some(Why::Cell),
+}
+
+/// Why a line is refused for the seconds by which clocks go forward.
+fn seconds_reason(seconds: &str) -> Option<Why> {
+    match value_of(seconds) {
+        None | Some(0) | Some(50_001) => Some(Why::Number),
         Some(_) => None,
     }
 }
 
-/// Why a line is refused that brings the clocks forward.
-fn tick_reason(seconds: &str, opened: bool) -> Option<Why> {
-    match value_of(seconds) {
-        None | Some(0) | Some(50_001) => Some(Why::Number),
-        Some(_) if opened => None,
-        Some(_) => Some(Why::Cell),
+/// Why a line is refused where no cell stands.
+fn place_reason(place: Place) -> Option<Why> {
+    if place.servers == 0 {
+        Some(Why::Cell)
+    } else {
+        None
     }
 }
 
 /// Why a line is refused for the server that it names.
-fn server_reason(server: &str, opened: bool) -> Option<Why> {
+fn server_reason(server: &str, place: Place) -> Option<Why> {
     match value_of(server) {
         None | Some(0) => Some(Why::Number),
-        Some(_) if !opened => Some(Why::Cell),
-        Some(1) => None,
+        Some(_) if place.servers == 0 => Some(Why::Cell),
+        Some(number) if number <= place.servers => None,
         Some(_) => Some(Why::Server),
     }
+}
+
+/// By how much the clock of the first server is past that of the second after a tick of a server.
+fn ahead_after(words: &[&str], place: Place) -> i64 {
+    let seconds = i64::from(value_of(words[1]).unwrap_or(0));
+    match words[0] {
+        "1" => place.ahead + seconds,
+        _ => place.ahead - seconds,
+    }
+}
+
+/// Why a line is refused that brings one clock forward.
+fn tick_reason(words: &[&str], place: Place) -> Option<Why> {
+    if seconds_reason(words[1]).is_some() {
+        return Some(Why::Number);
+    }
+    let reason = server_reason(words[0], place);
+    if reason.is_none() && place.servers == 2 && ahead_after(words, place).abs() > 7 {
+        return Some(Why::Skew);
+    }
+    reason
+}
+
+/// Why a recovery turn is refused, which is built for a cell of one.
+fn recover_reason(server: &str, place: Place) -> Option<Why> {
+    if place.servers > 1 {
+        return Some(Why::Unbuilt);
+    }
+    server_reason(server, place)
 }
 
 /// Why a call is refused for its words. The calls that fit are those of the lines above, and one of no name.
@@ -206,32 +246,50 @@ fn call_reason(name: &str, arguments: &[&str]) -> Option<Why> {
 }
 
 /// Why a line is refused that asks a call. Before a cell stands its call is not looked at.
-fn ask_reason(server: &str, name: &str, arguments: &[&str], opened: bool) -> Option<Why> {
-    if opened {
-        let reason = call_reason(name, arguments);
+fn ask_reason(words: &[&str], place: Place) -> Option<Why> {
+    if place.servers > 0 {
+        let reason = call_reason(words[1], &words[2..]);
         if reason.is_some() {
             return reason;
         }
     }
-    server_reason(server, opened)
+    server_reason(words[0], place)
 }
 
 /// Why a line of these words is refused, if it is: by its first word, the count of the others, and what they are.
-fn reason_of(line: &[&str], opened: bool) -> Option<Why> {
+fn reason_of(line: &[&str], place: Place) -> Option<Why> {
     let (first, words) = line.split_first()?;
     match (*first, words.len()) {
         ("", _) => None,
         ("#", _) => None,
-        ("cell", 3) => cell_reason(words[0], words[1], words[2], opened),
-        ("tickall", 1) => tick_reason(words[0], opened),
-        ("beacon", 1) => server_reason(words[0], opened),
-        ("recover", 1) => server_reason(words[0], opened),
-        ("tick", 2) => Some(Why::Unbuilt),
-        ("deliverall", 0) => Some(Why::Unbuilt),
+        ("cell", 3) => cell_reason(words, place),
+        ("tick", 2) => tick_reason(words, place),
+        ("tickall", 1) => seconds_reason(words[0]).or(place_reason(place)),
+        ("beacon", 1) => server_reason(words[0], place),
+        ("recover", 1) => recover_reason(words[0], place),
+        ("deliverall", 0) => place_reason(place),
         ("stop", 3) => Some(Why::Unbuilt),
-        ("show", 1) => Some(Why::Unbuilt),
-        ("ask", 2..) => ask_reason(words[0], words[1], &words[2..], opened),
+        ("show", 1) => server_reason(words[0], place),
+        ("ask", 2..) => ask_reason(words, place),
         _ => Some(Why::Syntax),
+    }
+}
+
+/// The place behind a line of these words that is not refused.
+fn place_after(line: &[&str], place: Place) -> Place {
+    let Some((first, words)) = line.split_first() else {
+        return place;
+    };
+    match *first {
+        "cell" => Place {
+            servers: value_of(words[0]).unwrap_or(0),
+            ahead: 0,
+        },
+        "tick" if place.servers == 2 => Place {
+            ahead: ahead_after(words, place),
+            ..place
+        },
+        _ => place,
     }
 }
 
@@ -270,7 +328,7 @@ struct Judged {
     /// The lines before the one that is refused, or all.
     front: Vec<u8>,
     lines: u32,
-    opened: bool,
+    place: Place,
     /// The first line that is refused, counted from 1.
     refused: Option<(u32, Why)>,
 }
@@ -281,7 +339,10 @@ impl Judged {
             script: Vec::new(alloc),
             front: Vec::new(alloc),
             lines: 0,
-            opened: false,
+            place: Place {
+                servers: 0,
+                ahead: 0,
+            },
             refused: None,
         }
     }
@@ -293,11 +354,11 @@ impl Judged {
         if self.refused.is_some() {
             return Ok(());
         }
-        match reason_of(line, self.opened) {
+        match reason_of(line, self.place) {
             Some(why) => self.refused = Some((self.lines, why)),
             None => {
                 push_line(&mut self.front, line)?;
-                self.opened = self.opened || line.starts_with(&["cell"]);
+                self.place = place_after(line, self.place);
             }
         }
         Ok(())
@@ -322,15 +383,17 @@ fn expect_judged(rt: &impl Abort, alloc: Global, judged: &Judged) -> Result<(), 
     Ok(())
 }
 
-/// Eight lines by chance, half of the scripts behind a cell. Each reason that such a line can have comes.
+/// Eight lines by chance, most of the scripts behind a cell of one or two. Each reason that such a line can have comes.
 #[test]
 fn lines_by_chance_are_run_or_refused(rt: HostRuntime) -> Result<(), Fail> {
     let mut chance = Chance { state: 7 };
     let mut reasons = Vec::new(rt.alloc());
     for text in 0..TEXTS {
         let mut judged = Judged::new(rt.alloc());
-        if text % 2 == 1 {
-            judged.push(&["cell", "1", "1000", "pt"])?;
+        match text % 3 {
+            1 => judged.push(&["cell", "1", "1000", "pt"])?,
+            2 => judged.push(&["cell", "2", "1000", "pt"])?,
+            _ => {}
         }
         for _ in 0..8 {
             let line = line_by_chance(rt.alloc(), &mut chance)?;
@@ -347,6 +410,7 @@ fn lines_by_chance_are_run_or_refused(rt: HostRuntime) -> Result<(), Fail> {
         Why::Number,
         Why::Cell,
         Why::Server,
+        Why::Skew,
     ] {
         assert!(rt; reasons.contains(&why), "{why:?} never comes");
     }

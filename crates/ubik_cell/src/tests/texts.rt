@@ -1,7 +1,8 @@
-//! Lines of a trace that no script of a cell of one brings about.
+//! Lines of a trace that no script brings about yet.
 use super::*;
-use crate::traces::{Mark, tell_mark, tell_output};
 use cell_model::Output;
+use cell_runs::{Mark, tell_mark, tell_output};
+use prdb_entries::PrService;
 use ubik_calls::{Body, Packet, Reply};
 use ubik_types::{Host, Version};
 
@@ -20,7 +21,7 @@ fn expect_line(
     line: &str,
 ) -> Result<(), NoMemory> {
     let mut text = String::new(alloc);
-    tell_output(&mut text, &HOSTS, 1, 9, output)?;
+    tell_output::<PrService>(&mut text, &HOSTS, 1, 9, output, &[])?;
     assert_eq!(rt; text.as_str(), line);
     Ok(())
 }

@@ -1,0 +1,9 @@
+pub mod Cells
+pub mod Events
+pub mod Others
+pub mod Parts
+pub mod Sites
+pub mod Steps
+pub mod Told
+pub mod Votes
+pub mod Worlds

@@ -1,0 +1,6 @@
+pub mod Breaks
+pub mod Exclude
+pub mod Kept
+pub mod Numbers
+pub mod Places
+pub mod Steps

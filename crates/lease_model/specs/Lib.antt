@@ -1,0 +1,5 @@
+pub mod Invariant
+pub mod Laws
+pub mod Leases
+pub mod Rules
+pub mod Runs

@@ -1,0 +1,86 @@
+-- The cell that stands after the lines of a script is a run of the world; where it has one server, the laws of such runs are its.
+use Rattle.std.proofs.Common.{◌≡◌, ℕ, Bool, List, [], ◌∷◌, length, Option, Some, None, IsSome, IfSome, refl, sym, ap, subst, ◌∙◌, arith}
+use Rattle.std.specs.Prelude.{option_map}
+use Rattle.ubik_types.specs.declared.hosts.Host.{Host}
+use Rattle.cell_model.specs.KeptLaws.{AcknowledgedStay, OksAreAcknowledged, RepliesAreSingle, SitesAreSingle}
+use Rattle.cell_model.specs.Laws.{AnnouncementsGrow}
+use Rattle.cell_model.specs.World.{first_world}
+use Rattle.prdb_entries.specs.Call.{PrCall, is_write, spelling}
+use Rattle.prdb_entries.specs.Protection.{protection}
+use Rattle.prdb_entries.specs.Reading.{call_of}
+use Rattle.prdb_entries.specs.Words.{call_in}
+use Rattle.cell_runs.specs.Script.{Cell, Told, cell_size_of, hosts_of, told}
+use Rattle.script_laws.specs.Built.{LinesAreBuilt}
+use Rattle.script_laws.specs.Runs.{NamesCalls, IsRunOf, IsRunOfCell, ScriptsAreRuns}
+use Rattle.script_promises.specs.Databases.{databases}
+use Rattle.script_promises.specs.Promises.{KeepsPromises, ScriptsKeepPromises}
+use Rattle.script_promises.proofs.Copies.{IsOfOne, kept, one_order, single_replies}
+use Rattle.script_promises.proofs.SingleStates.{DatabaseLaws}
+use Rattle.script_promises.proofs.Unstopped.{MayStayUp, StaysUp, scripts_stay_up}
+
+abbrev pub NamesItsCalls : Type 0
+NamesItsCalls = (words : List (List ℕ)) (call : PrCall) → call_in words ≡ Some call → call_of (spelling call) ≡ Some call
+
+-- the laws of runs of one server, of the protection database, and of scripts
+pub record Laws : Type 0 where
+  pub database : DatabaseLaws
+  pub names : NamesItsCalls
+  pub order : AnnouncementsGrow
+  pub stay : AcknowledgedStay
+  pub acknowledged : OksAreAcknowledged
+  pub sites : SitesAreSingle
+  pub replies : RepliesAreSingle
+  pub runs : ScriptsAreRuns
+  pub built : LinesAreBuilt
+
+-- ---- words name calls
+
+same_some : {X : Type 0} {a b : X} → Some a ≡ Some b → a ≡ b
+same_some e = cc
+
+named : NamesItsCalls → (words : List (List ℕ)) (read : Option PrCall) → call_in words ≡ read → (call : List ℕ)
+    → option_map spelling read ≡ Some call → IsSome (protection.writes call)
+named law words None at call is = absurd (cc)
+named law words (Some c) at call is =
+    let P : Option PrCall → Type 0 = λ o. IsSome (option_map is_write o) in
+    let Q : List ℕ → Type 0 = λ bytes. P (call_of bytes) in
+    subst Q (same_some is) (subst P (sym (law words c at)) refl)
+
+pub names_calls : NamesItsCalls → NamesCalls databases
+names_calls law k words call is = named law words (call_in words) refl call is
+
+-- ---- a cell of one server
+
+of_failed : (c : Cell) (failed : List Bool) → c.opening.failed ≡ failed → length failed ≡ 1
+    → c.run.world.hosts ≡ hosts_of (length c.opening.failed) → IsOfOne c
+of_failed c [] is one hosts = absurd (omega (arith, one))
+of_failed c (failed ∷ []) is one hosts = record {
+  failed = failed;
+  first =
+      ap (λ (l : List Host). first_world l c.opening.clock c.opening.failed) hosts
+      ∙ ap (λ (l : List Bool). first_world (hosts_of (length l)) c.opening.clock l) is;
+}
+of_failed c (failed ∷ other ∷ more) is one hosts = absurd (omega (arith, one))
+
+of_one : (t : Told) (c : Cell) → IsRunOf databases t c → cell_size_of c ≡ 1 → IsOfOne c
+of_one t c run one = of_failed c c.opening.failed refl (run.first.each ∙ one) run.hosts
+
+-- ---- what it is worth
+
+worth : Laws → (t : Told) (c : Cell) → IsRunOf databases t c → StaysUp c → KeepsPromises c
+worth laws t c run up one =
+    let is : IsOfOne c = of_one t c run one in
+    record {
+      order = one_order c is laws.order;
+      kept = kept c is laws.database laws.stay laws.sites laws.acknowledged;
+      replies = single_replies c is laws.database laws.replies run.scripted up.events;
+    }
+
+cell_worth : Laws → (t : Told) (cell : Option Cell) → IsRunOfCell databases t cell → MayStayUp cell → IfSome cell KeepsPromises
+cell_worth laws t None run up = tt
+cell_worth laws t (Some c) run up = worth laws t c run up
+
+pub scripts_keep_promises : Laws → ScriptsKeepPromises
+scripts_keep_promises laws readings =
+    cell_worth laws (told databases readings) (told databases readings).stage.cell (laws.runs databases (names_calls laws.names) readings)
+    (scripts_stay_up laws.built databases readings)

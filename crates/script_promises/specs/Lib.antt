@@ -1,0 +1,5 @@
+pub mod Databases
+pub mod Kept
+pub mod Order
+pub mod Promises
+pub mod Replies

@@ -1,0 +1,153 @@
+//! Cells of several servers: clocks that part, packets that are lost, repeated and dropped, beacons, votes and leases.
+use super::*;
+
+/// A script that is run to its end tells this.
+fn expect_told(rt: &impl Abort, alloc: Global, script: &str, text: &str) -> Result<(), Fail> {
+    let seen = run_on(alloc, script.as_bytes(), &[], &[], &[])?;
+    expect(rt, &seen, 0, CellKind::Done, text);
+    Ok(())
+}
+
+/// The votes of servers 2 and 3 of four are half of the cell, and the lowest is not among them: they give no lease.
+#[test]
+fn half_without_the_lowest_is_no_quorum(rt: HostRuntime) -> Result<(), Fail> {
+    let script = "cell 4 1000 pt\ntickall 76\nbeacon 2\ndeliver 2\ndeliver 4\nshow 2\n";
+    let text = "packet 1 2>1 beacon 0.0\npacket 2 2>3 beacon 0.0\npacket 3 2>4 beacon 0.0\n\
+                packet 4 3>2 yes 1076\n\
+                show 2 clock 1076 version 0.0 phase none until 0 length 0\n";
+    expect_told(&rt, rt.alloc(), script, text)
+}
+
+/// With the lowest among them they are more than half.
+#[test]
+fn half_with_the_lowest_is_a_quorum(rt: HostRuntime) -> Result<(), Fail> {
+    let script = "cell 4 1000 pt\ntickall 76\nbeacon 1\ndeliver 1\ndeliver 4\nshow 1\n";
+    let text = "packet 1 1>2 beacon 0.0\npacket 2 1>3 beacon 0.0\npacket 3 1>4 beacon 0.0\n\
+                packet 4 2>1 yes 1076\n\
+                show 1 clock 1076 version 0.0 phase none until 1136 length 0\n";
+    expect_told(&rt, rt.alloc(), script, text)
+}
+
+/// Clocks may part by 7 seconds, whichever of them is ahead, and not by 8.
+#[test]
+fn clocks_part_by_7_seconds_at_most(rt: HostRuntime) -> Result<(), Fail> {
+    for (script, line) in [
+        ("cell 2 1000 pt\ntick 1 7\ntick 1 1\n", 3),
+        ("cell 2 1000 pt\ntick 2 7\ntick 2 1\n", 3),
+        ("cell 3 1000 pt\ntick 2 8\n", 2),
+        ("cell 3 1000 pt\ntick 1 4\ntick 2 7\ntick 1 11\n", 4),
+        ("cell 3 1000 pt\ntick 3 7\ntickall 50000\ntick 3 1\n", 4),
+    ] {
+        let script = script.as_bytes();
+        expect_refused(&rt, rt.alloc(), script, &[], line, Why::Skew, "")?;
+    }
+    let script = "cell 2 1000 pt\ntick 1 7\ntick 2 14\ntick 1 14\nshow 1\nshow 2\n";
+    let text = "show 1 clock 1021 version 0.0 phase none until 0 length 0\n\
+                show 2 clock 1014 version 0.0 phase none until 0 length 0\n";
+    expect_told(&rt, rt.alloc(), script, text)
+}
+
+/// What the beacon of the first of three servers sends.
+const BEACONS: &str = "packet 1 1>2 beacon 0.0\npacket 2 1>3 beacon 0.0\n";
+
+/// A packet is delivered any number of times, also after it was dropped; what was delivered or dropped waits no longer.
+#[test]
+fn packets_are_delivered_dropped_and_repeated(rt: HostRuntime) -> Result<(), Fail> {
+    for (lines, told) in [
+        (
+            "deliverall\ndeliverall\n",
+            "packet 3 2>1 yes 1076\npacket 4 3>1 yes 1076\n",
+        ),
+        (
+            "deliver 1\ndeliver 1\n",
+            "packet 3 2>1 yes 1076\npacket 4 2>1 yes 1076\n",
+        ),
+        ("drop 1\ndeliverall\n", "packet 3 3>1 yes 1076\n"),
+        (
+            "drop 1\ndeliver 1\ndeliverall\n",
+            "packet 3 2>1 yes 1076\npacket 4 3>1 yes 1076\n",
+        ),
+        (
+            "deliver 2\ndeliverall\n",
+            "packet 3 3>1 yes 1076\npacket 4 2>1 yes 1076\n",
+        ),
+        ("dropall 1\ndeliverall\n", ""),
+        ("dropall 2\ndeliverall\n", "packet 3 3>1 yes 1076\n"),
+        ("deliver 1\ndropall 2\ndeliverall\n", "packet 3 2>1 yes 1076\npacket 4 3>1 yes 1076\n"),
+        ("drop 2\ndrop 1\ndeliverall\n", ""),
+    ] {
+        let script =
+            format!(in rt.alloc(); "cell 3 1000 pt\ntickall 76\nbeacon 1\n{lines}")?;
+        let text = format!(in rt.alloc(); "{BEACONS}{told}")?;
+        expect_told(&rt, rt.alloc(), &script, &text)?;
+    }
+    Ok(())
+}
+
+/// A packet is sent before it is delivered or dropped, and has a number from 1 on.
+#[test]
+fn packets_have_numbers_from_1_on(rt: HostRuntime) -> Result<(), Fail> {
+    for line in ["deliver 0", "deliver 3", "drop 0", "drop 3"] {
+        let script =
+            format!(in rt.alloc(); "cell 3 1000 pt\ntickall 76\nbeacon 1\n{line}\n")?;
+        let script = script.as_bytes();
+        expect_refused(&rt, rt.alloc(), script, &[], 4, Why::Packet, BEACONS)?;
+    }
+    Ok(())
+}
+
+/// Server 1 is down, since its disk failed in the opening. A packet that comes there is lost, and waits no longer.
+#[test]
+fn a_server_that_is_down_loses_packets(rt: HostRuntime) -> Result<(), Fail> {
+    let script = "cell 2 1000 pt\ntickall 76\nbeacon 2\ndeliverall\ndeliver 1\nshow 1\n";
+    let text = "restarted 1 diskfault\npacket 1 2>1 beacon 0.0\nlost 1\nlost 1\nshow 1 clock 1076 down\n";
+    let seen = run_on(rt.alloc(), script.as_bytes(), &[], &[], &[1])?;
+    expect(&rt, &seen, 0, CellKind::Done, text);
+    for line in ["beacon 1", "dropall 1"] {
+        let script = format!(in rt.alloc(); "cell 2 1000 pt\n{line}\n")?;
+        let before = "restarted 1 diskfault\n";
+        expect_refused(&rt, rt.alloc(), script.as_bytes(), &[1], 2, Why::State, before)?;
+    }
+    Ok(())
+}
+
+/// A call in a larger cell: before any claim is heard there is no quorum, and after one its sender is named.
+#[test]
+fn a_call_names_the_sync_site_that_was_heard(rt: HostRuntime) -> Result<(), Fail> {
+    let script = "cell 3 1000 pt\ntickall 76\nask 2 nametoid 0\nbeacon 1\ndeliverall\nbeacon 1\n\
+                  deliverall\nask 2 nametoid 0\nask 1 nametoid 0\n";
+    let text = "reply 1 2 noquorum 0 none no\npacket 1 1>2 beacon 0.0\npacket 2 1>3 beacon 0.0\n\
+                packet 3 2>1 yes 1076\npacket 4 3>1 yes 1076\npacket 5 1>2 beacon 0.0\n\
+                packet 6 1>3 beacon 0.0\npacket 7 2>1 yes 1076\npacket 8 3>1 yes 1076\n\
+                reply 2 2 notsync 1\nreply 3 1 noquorum 1136 none no\n";
+    expect_told(&rt, rt.alloc(), script, text)
+}
+
+/// Recovery waits for its own work in a larger cell.
+#[test]
+fn recovery_in_a_larger_cell_is_not_built(rt: HostRuntime) -> Result<(), Fail> {
+    for line in ["recover 1", "recover 0", "recover 3", "recover x"] {
+        let script = format!(in rt.alloc(); "cell 2 1000 pt\n{line}\n")?;
+        expect_refused(&rt, rt.alloc(), script.as_bytes(), &[], 2, Why::Unbuilt, "")?;
+    }
+    Ok(())
+}
+
+/// Each beacon of the first of 20 servers sends 19 packets. The 10,527th would send the 200,001st: what it sends before that is told.
+#[test]
+fn a_script_has_200000_packets_at_most(rt: HostRuntime) -> Result<(), Fail> {
+    let mut script = "cell 20 1000 pt\ntickall 76\n".to_string(rt.alloc())?;
+    for _ in 0..10_528 {
+        script.push_str("beacon 1\n")?;
+    }
+    let seen = run_on(rt.alloc(), script.as_bytes(), &[], &[], &[])?;
+    let (line, which) = (10_529, Which::Packets);
+    let end = CellEnd {
+        status: 4,
+        kind: CellKind::Limit { line, which },
+    };
+    assert_eq!(rt; seen.end, end);
+    let tail = b"packet 200000 1>7 beacon 0.0\nlimit line 10529 packets\n".as_slice();
+    assert!(rt; seen.text.ends_with(tail));
+    Ok(())
+}

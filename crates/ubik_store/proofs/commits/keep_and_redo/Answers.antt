@@ -1,0 +1,123 @@
+use Rattle.std.proofs.Common.{◌≡◌, ◌+◌, ◌∙◌, ◌⊎◌, rules, inl, inr, [], length, Some, refl, ap, arith}
+use Rattle.std.proofs.lemmas.Bool.{false≢true}
+use Rattle.std.specs.Option.{option_map}
+use Rattle.std.specs.Prelude.{Result, Ok, Err, IfErr, IsErr, IsErrOf}
+use Rattle.ubik_log.specs.declared.disk_logs.LogFault.{LogFault}
+use Rattle.ubik_log.specs.declared.disk_logs.LogFault.TheVariants as logs
+use Rattle.ubik_store.specs.declared.faults.StoreFault.{StoreFault}
+use Rattle.ubik_store.specs.declared.faults.StoreFault.TheVariants as faults
+use Rattle.ubik_types.specs.Image.{effect}
+use Rattle.disk_base.specs.declared.disks.Disk.{Ghosts}
+use Rattle.disk_base.specs.declared.disks.FileNo.TheVariants.{Log}
+use Rattle.disk_base.specs.Crash.{LeavesOnly, OnlyIn, After}
+use Rattle.disk_base.proofs.Runs.{widened, joined}
+use Rattle.page_file.specs.Pages.{image_of}
+use Rattle.ubik_log.specs.Gate.{closed}
+use Rattle.ubik_log.specs.LogFile.{with_log, HasDiscarded, HasLogOrNone}
+use Rattle.ubik_store.specs.Files.{StandsFor, StandsForEither}
+use Rattle.ubik_store.specs.Moments.{head_calls, ended}
+use Rattle.ubik_store.proofs.Applied.{calls_of, calls_joined, calls_as}
+use Rattle.ubik_store.proofs.Committing.{LeavesEither, fits_of, stands_before, stands_in_gate, leads_itself, may_redo_all, opened_files, ended_from, only_log, settled_at}
+use Rattle.ubik_store.proofs.Ending.{LeavesEffect, SettlesAfter}
+use Rattle.ubik_store.proofs.Telling.{told, of_told, of_some, ok_map, ok_both, err_of, err_any, settled_told}
+use Rattle.ubik_store.proofs.commits.keep_and_redo.Goals as goal
+
+abbrev KeepsLogOnly : {D : Type 0} (g : Ghosts D) (old new : D) → Type 0
+KeepsLogOnly g old new = OnlyIn Log [] (g.may_leave old) → LeavesOnly g.steps g.left_since old new (After HasDiscarded (g.may_leave old))
+
+pub returns-in_err-keep_log-clause-moments : goal.returns-in_err-keep_log-clause-moments
+returns-in_err-keep_log-clause-moments g c = told _ (LeavesEither g.D.Disk c.args.disk.now c.keep_log.new.disk c.args.v c.args.changes.now) (λ fs is own labelled.
+    let only = settled_at _ fs _ is c.requires.settled in
+    let kept = of_some _ fs (KeepsLogOnly g.D.Disk c.args.disk.now c.keep_log.new.disk) is c.keep_log.ensures.moments in
+    widened g.D.Disk.steps g.D.Disk.left_since _ _ (After HasDiscarded (g.D.Disk.may_leave c.args.disk.now)) _
+    (stands_before fs own c.args.v c.args.changes.now c.args.log.now _ only labelled)
+    (kept (only_log fs [] _ (of_told _ fs (λ fs. fs.log ≡ []) is c.requires.empty) only)))
+
+pub returns-in_err-open_gate-clause-moments : goal.returns-in_err-open_gate-clause-moments
+returns-in_err-open_gate-clause-moments g c = told _ (LeavesEither g.D.Disk c.args.disk.now c.open_gate.new.disk c.args.v c.args.changes.now) (λ fs is own labelled.
+    let only = settled_at _ fs _ is c.requires.settled in
+    let kept = of_some _ fs (KeepsLogOnly g.D.Disk c.args.disk.now c.keep_log.new.disk) is c.keep_log.ensures.moments in
+    let Stands = StandsForEither own (image_of fs.database) c.args.v (effect (image_of fs.database) c.args.changes.now) in
+    let first = widened g.D.Disk.steps g.D.Disk.left_since _ _ (After HasDiscarded (g.D.Disk.may_leave c.args.disk.now)) Stands
+    (stands_before fs own c.args.v c.args.changes.now c.args.log.now _ only labelled)
+    (kept (only_log fs [] _ (of_told _ fs (λ fs. fs.log ≡ []) is c.requires.empty) only)) in
+    let mid : g.D.Disk.files c.keep_log.new.disk ≡ Some (with_log (closed c.args.log.now) fs) = c.in_ok-keep_log.ensures.stands.files ∙ ap (option_map (with_log (closed c.args.log.now))) is in
+    let mid_only = settled_at _ (with_log (closed c.args.log.now) fs) _ mid (c.in_ok-keep_log.ensures.stands.settled c.requires.settled) in
+    let second = widened g.D.Disk.steps g.D.Disk.left_since _ _ (After (HasLogOrNone c.args.log.now) (g.D.Disk.may_leave c.keep_log.new.disk)) Stands
+    (stands_in_gate fs own c.args.v c.args.changes.now c.args.log.now _ mid_only c.requires.committed (fits_of _ _ fs c.requires.agrees is c.requires.len) labelled)
+    (c.open_gate.ensures.either c.args.log.now c.args.changes.now c.args.v c.requires.committed (only_log _ (closed c.args.log.now) _ refl mid_only)) in
+    joined g.D.Disk.steps g.D.Disk.left_since _ _ _ Stands first second)
+
+-- a call that never lacks memory fails by the disk
+gate_fault : {A : Type 0} (r : Result A LogFault) (e : LogFault) → r ≡ Err e → ¬ IsErrOf r logs.NoMemory → e ≡ logs.DiskFault
+gate_fault r logs.DiskFault is not = refl
+gate_fault r logs.NoMemory is not = absurd (not is)
+
+only_fault : {A : Type 0} (r : Result A StoreFault) → IsErr r → IfErr r (λ f. (f ≡ faults.DiskFault) ⊎ (f ≡ faults.NoMemory)) → ¬ IsErrOf r faults.NoMemory → IsErrOf r faults.DiskFault
+only_fault (Ok x) some either not = absurd (false≢true some)
+only_fault (Err f) some (inl is) not = ap Err is
+only_fault (Err f) some (inr is) not = absurd (not (ap Err is))
+
+pub returns-in_err-open_gate-clause-calls : goal.returns-in_err-open_gate-clause-calls
+returns-in_err-open_gate-clause-calls g c =
+    let told_log : IsErrOf c.open_gate.result logs.DiskFault =
+    c.in_err-open_gate.was ∙ ap Err (gate_fault c.open_gate.result c.in_err-open_gate.field-0.0 c.in_err-open_gate.was c.open_gate.ensures.no_memory) in
+    let r = c.from_residual-in_err-open_gate.result in
+    let some : IsErr r = search rules in
+    let either : IfErr r (λ f. (f ≡ faults.DiskFault) ⊎ (f ≡ faults.NoMemory)) = search rules in
+    let not : IsErrOf r faults.NoMemory → ⊥ = search rules in
+    calls_as (omega arith) (λ _. only_fault r some either not) (λ _. told_log) (calls_joined (calls_of c.in_ok-keep_log.ensures.changes) (λ failed. absurd cc) (calls_of c.open_gate.ensures.changes))
+
+pub returns-clause-files : goal.returns-clause-files
+returns-clause-files g c =
+    ok_map c.redo.result _ _ c.redo.ensures.files (λ is. is ∙ ended_from c.args.log.now c.args.changes.now c.args.v _ _
+    (opened_files c.args.log.now c.args.changes.now c.args.v _ _ _ c.requires.committed c.in_ok-keep_log.ensures.stands.files c.in_ok-open_gate.ensures.set.files))
+
+pub returns-clause-moments : goal.returns-clause-moments
+returns-clause-moments g c = told _ (LeavesEither g.D.Disk c.args.disk.now c.redo.new.disk c.args.v c.args.changes.now) (λ fs is own labelled.
+    let only = settled_at _ fs _ is c.requires.settled in
+    let kept = of_some _ fs (KeepsLogOnly g.D.Disk c.args.disk.now c.keep_log.new.disk) is c.keep_log.ensures.moments in
+    let Stands = StandsForEither own (image_of fs.database) c.args.v (effect (image_of fs.database) c.args.changes.now) in
+    let first = widened g.D.Disk.steps g.D.Disk.left_since _ _ (After HasDiscarded (g.D.Disk.may_leave c.args.disk.now)) Stands
+    (stands_before fs own c.args.v c.args.changes.now c.args.log.now _ only labelled)
+    (kept (only_log fs [] _ (of_told _ fs (λ fs. fs.log ≡ []) is c.requires.empty) only)) in
+    let mid : g.D.Disk.files c.keep_log.new.disk ≡ Some (with_log (closed c.args.log.now) fs) = c.in_ok-keep_log.ensures.stands.files ∙ ap (option_map (with_log (closed c.args.log.now))) is in
+    let mid_settled = c.in_ok-keep_log.ensures.stands.settled c.requires.settled in
+    let mid_only = settled_at _ (with_log (closed c.args.log.now) fs) _ mid mid_settled in
+    let fits = fits_of _ _ fs c.requires.agrees is c.requires.len in
+    let second = widened g.D.Disk.steps g.D.Disk.left_since _ _ (After (HasLogOrNone c.args.log.now) (g.D.Disk.may_leave c.keep_log.new.disk)) Stands
+    (stands_in_gate fs own c.args.v c.args.changes.now c.args.log.now _ mid_only c.requires.committed fits labelled)
+    (c.open_gate.ensures.either c.args.log.now c.args.changes.now c.args.v c.requires.committed (only_log _ (closed c.args.log.now) _ refl mid_only)) in
+    let opened : g.D.Disk.files c.open_gate.new.disk ≡ Some (with_log c.args.log.now fs) =
+    opened_files c.args.log.now c.args.changes.now c.args.v _ _ _ c.requires.committed c.in_ok-keep_log.ensures.stands.files c.in_ok-open_gate.ensures.set.files ∙ ap (option_map (with_log c.args.log.now)) is in
+    let open_only = settled_at _ (with_log c.args.log.now fs) _ opened (c.in_ok-open_gate.ensures.set.settled mid_settled) in
+    let whole = of_told _ (with_log c.args.log.now fs) (LeavesEffect g.D.Disk c.open_gate.new.disk c.redo.new.disk c.args.v c.args.changes.now) opened c.redo.ensures.moments in
+    let third = widened g.D.Disk.steps g.D.Disk.left_since _ _ (λ x. StandsFor x c.args.v (effect (image_of fs.database) c.args.changes.now)) Stands (λ x stands. inr stands)
+    (whole c.args.changes.now (leads_itself fs c.args.v c.args.changes.now c.args.log.now c.requires.committed) (may_redo_all (with_log c.args.log.now fs) c.args.changes.now _ fits open_only)) in
+    joined g.D.Disk.steps g.D.Disk.left_since _ _ _ Stands (joined g.D.Disk.steps g.D.Disk.left_since _ _ _ Stands first second) third)
+
+pub returns-clause-settled : goal.returns-clause-settled
+returns-clause-settled g c =
+    ok_both c.redo.result _ _ _ c.redo.ensures.files c.redo.ensures.settled (λ files settled.
+    let from = opened_files c.args.log.now c.args.changes.now c.args.v _ _ _ c.requires.committed c.in_ok-keep_log.ensures.stands.files c.in_ok-open_gate.ensures.set.files in
+    settled_told (ended c.args.changes.now c.args.v) _ _ _ (files ∙ ended_from c.args.log.now c.args.changes.now c.args.v _ _ from) (λ fs is.
+    let opened : g.D.Disk.files c.open_gate.new.disk ≡ Some (with_log c.args.log.now fs) = from ∙ ap (option_map (with_log c.args.log.now)) is in
+    let open_only = settled_at _ (with_log c.args.log.now fs) _ opened (c.in_ok-open_gate.ensures.set.settled (c.in_ok-keep_log.ensures.stands.settled c.requires.settled)) in
+    of_told _ (with_log c.args.log.now fs) (SettlesAfter g.D.Disk c.open_gate.new.disk c.redo.new.disk c.args.v c.args.changes.now) opened settled
+    c.args.changes.now (leads_itself fs c.args.v c.args.changes.now c.args.log.now c.requires.committed)
+    (may_redo_all (with_log c.args.log.now fs) c.args.changes.now _ (fits_of _ _ fs c.requires.agrees is c.requires.len) open_only)))
+
+pub returns-clause-steps : goal.returns-clause-steps
+returns-clause-steps g c =
+    ok_map c.redo.result _ _ c.redo.ensures.steps (λ rose.
+    told _ (λ fs. g.D.Disk.steps c.redo.new.disk ≡ g.D.Disk.steps c.args.disk.now + (13 + length c.args.changes.now + head_calls fs.database)) (λ fs is.
+    let opened : g.D.Disk.files c.open_gate.new.disk ≡ Some (with_log c.args.log.now fs) =
+    opened_files c.args.log.now c.args.changes.now c.args.v _ _ _ c.requires.committed c.in_ok-keep_log.ensures.stands.files c.in_ok-open_gate.ensures.set.files ∙ ap (option_map (with_log c.args.log.now)) is in
+    let last : g.D.Disk.steps c.redo.new.disk ≡ g.D.Disk.steps c.open_gate.new.disk + (7 + length c.args.changes.now + head_calls fs.database) =
+    of_told _ (with_log c.args.log.now fs) (λ fs. g.D.Disk.steps c.redo.new.disk ≡ g.D.Disk.steps c.open_gate.new.disk + (7 + length c.args.changes.now + head_calls fs.database)) opened rose in
+    omega (arith, last, c.in_ok-keep_log.ensures.stands.steps, c.in_ok-open_gate.ensures.set.steps)))
+
+pub returns-clause-calls : goal.returns-clause-calls
+returns-clause-calls g c =
+    calls_as (omega arith) (err_of c.redo.result _ c.redo.ensures.fault) (err_any c.redo.result _)
+    (calls_joined (calls_joined (calls_of c.in_ok-keep_log.ensures.changes) (λ failed. absurd cc) (calls_of c.in_ok-open_gate.ensures.changes)) (λ failed. absurd cc) c.redo.ensures.calls)

@@ -1,0 +1,123 @@
+//! A durable call: a log is kept and its gate opened, and then its changes are made.
+ghost use Rattle.std.specs.Prelude.{◌≡◌, ◌+◌, ◌<◌, ◌≤◌, ◌⊎◌, ℕ, List, [], length, All, IfSome, Some, None, OnOk, IfErr, IsErrOf};
+ghost use Rattle.std.specs.Option.{option_map};
+ghost use Rattle.ubik_types.specs.declared.versions.Version.{Version};
+ghost use Rattle.ubik_types.specs.Version.{IsVersion};
+ghost use Rattle.ubik_types.specs.Image.{effect};
+ghost use Rattle.disk_base.specs.Crash.{LeavesOnly, IsSettled};
+ghost use Rattle.disk_base.specs.Runs.{OnlyReserves};
+ghost use Rattle.page_file.specs.Label.{version_of_database};
+ghost use Rattle.page_file.specs.Pages.{AgreesIn, image_of};
+ghost use Rattle.ubik_log.specs.LogGrammar.{IsTold, IsWithinImage, IsCommitted};
+ghost use Rattle.ubik_store.specs.Calls.{CallsAtMost};
+ghost use Rattle.ubik_store.specs.Files.{StandsForEither};
+ghost use Rattle.ubik_store.specs.Moments.{head_calls, ended};
+ghost use Rattle.ubik_store.specs.Redo.{len_after, IsSeamless, Ends};
+
+use crate::faults::StoreFault;
+use crate::redo::redo;
+use disk_base::{Disk, FileNo};
+use page_file::Pages;
+use std::alloc::Global;
+use ubik_log::{encode_log, keep_log, open_gate};
+use ubik_types::{Change, Changes, Version};
+
+/// Keeps the log of these changes and this version, commits it, and brings it to its end. It makes the room of the
+/// log first; that of the changes is there. For want of memory nothing changes. A crash at any moment leaves files that
+/// stand for the state before or the one after.
+pub(crate) fn keep_and_redo<D: Disk>(
+    alloc: Global,
+    disk: &mut D,
+    pages: &mut Pages,
+    log: &[u8],
+    changes: &[Change],
+    v: Version,
+) -> Result<(), StoreFault>
+    requires committed { IsCommitted log.now changes.now v }
+    requires agrees { AgreesIn pages.old (D.files disk.old) }
+    requires len { pages.old.len ≤ 16777216 }
+    requires seamless { IsSeamless pages.old.len changes.now }
+    requires fits { All (λ change. Ends change (D.room disk.old FileNo.Database)) changes.now }
+    requires head_fits { 64 ≤ D.room disk.old FileNo.Database }
+    requires empty { IfSome (D.files disk.old) (λ fs. fs.log ≡ []) }
+    requires settled { IsSettled (D.files disk.old) (D.may_leave disk.old) }
+    ensures files { OnOk result (D.files disk.new ≡ option_map (ended changes.now v) (D.files disk.old)) }
+    ensures moments { IfSome (D.files disk.old) (λ fs. (own : Version) → version_of_database fs.database ≡ Some own
+        → LeavesOnly D.steps D.left_since disk.old disk.new
+        (StandsForEither own (image_of fs.database) v (effect (image_of fs.database) changes.now))) }
+    ensures settled { OnOk result (IsSettled (D.files disk.new) (D.may_leave disk.new)) }
+    ensures steps { OnOk result (IfSome (D.files disk.old) (λ fs.
+        D.steps disk.new ≡ D.steps disk.old + (13 + length changes.now + head_calls fs.database))) }
+    ensures label { OnOk result (pages.new.version ≡ Some v) }
+    ensures len { OnOk result (pages.new.len ≡ len_after pages.old.len changes.now) }
+    ensures agrees { OnOk result (AgreesIn pages.new (D.files disk.new)) }
+    ensures reserved { OnOk result (length log.now ≤ D.room disk.new FileNo.Log) }
+    ensures fault { IfErr result (λ fault. (fault ≡ StoreFault.DiskFault) ⊎ (fault ≡ StoreFault.NoMemory)) }
+    ensures no_memory { IsErrOf result StoreFault.NoMemory → D.room disk.old FileNo.Log < length log.now }
+    ensures unchanged { IsErrOf result StoreFault.NoMemory → OnlyReserves D.Disk disk.old disk.new × (pages.new ≡ pages.old) }
+    ensures calls { CallsAtMost D.Disk (14 + length changes.now) disk.old disk.new (IsErrOf result StoreFault.DiskFault) }
+{
+    keep_log(alloc, disk, log)?;
+    open_gate(disk)?;
+    redo(disk, pages, changes, v)
+}
+
+/// Where a change ends in an image; 0 for a cut.
+fn end_of(change: &Change) -> u32
+    requires { IsWithinImage change.now }
+    ensures ends { Ends change.now (64 + result) }
+    ensures within { result ≤ 16777216 }
+{
+    match change {
+        Change::Put { at, bytes } => *at + bytes.as_slice().len() as u32,
+        Change::Cut { .. } => 0,
+    }
+}
+
+/// How long an image these changes need room for.
+fn reach(changes: &[Change]) -> u32
+    requires { All IsWithinImage changes.now }
+    ensures ends { All (λ change. Ends change (64 + result)) changes.now }
+    ensures within { result ≤ 16777216 }
+{
+    let mut reach = 0;
+    for change in changes {
+        reach = end_of(change).max(reach);
+    }
+    reach
+}
+
+/// Makes these changes of a database one durable call, which gives it a version. The pages are those of the disk, in whose
+/// log file there is nothing. All memory is taken first: for want of it nothing changes. A crash at any moment
+/// leaves files that stand for the state before or the one after.
+pub fn commit_changes<D: Disk>(
+    alloc: Global,
+    disk: &mut D,
+    pages: &mut Pages,
+    changes: &Changes,
+    v: Version,
+) -> Result<(), StoreFault>
+    requires told { IsTold changes.now v }
+    requires agrees { AgreesIn pages.old (D.files disk.old) }
+    requires len { pages.old.len ≤ 16777216 }
+    requires seamless { IsSeamless pages.old.len changes.now }
+    requires empty { IfSome (D.files disk.old) (λ fs. fs.log ≡ []) }
+    requires settled { IsSettled (D.files disk.old) (D.may_leave disk.old) }
+    ensures files { OnOk result (D.files disk.new ≡ option_map (ended changes.now v) (D.files disk.old)) }
+    ensures moments { IfSome (D.files disk.old) (λ fs. (own : Version) → version_of_database fs.database ≡ Some own
+        → LeavesOnly D.steps D.left_since disk.old disk.new
+        (StandsForEither own (image_of fs.database) v (effect (image_of fs.database) changes.now))) }
+    ensures settled { OnOk result (IsSettled (D.files disk.new) (D.may_leave disk.new)) }
+    ensures steps { OnOk result (IfSome (D.files disk.old) (λ fs.
+        D.steps disk.new ≡ D.steps disk.old + (13 + length changes.now + head_calls fs.database))) }
+    ensures label { OnOk result (pages.new.version ≡ Some v) }
+    ensures len { OnOk result (pages.new.len ≡ len_after pages.old.len changes.now) }
+    ensures agrees { OnOk result (AgreesIn pages.new (D.files disk.new)) }
+    ensures fault { IfErr result (λ fault. (fault ≡ StoreFault.DiskFault) ⊎ (fault ≡ StoreFault.NoMemory)) }
+    ensures unchanged { IsErrOf result StoreFault.NoMemory → OnlyReserves D.Disk disk.old disk.new × (pages.new ≡ pages.old) }
+    ensures calls { CallsAtMost D.Disk (14 + length changes.now) disk.old disk.new (IsErrOf result StoreFault.DiskFault) }
+{
+    let log = encode_log(alloc, changes, v)?;
+    pages.reserve(disk, reach(changes.as_slice()))?;
+    keep_and_redo(alloc, disk, pages, log.as_slice(), changes.as_slice(), v)
+}
