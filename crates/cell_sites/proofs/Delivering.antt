@@ -59,20 +59,6 @@ sound_with files faults bound running p sound sent =
       told = sound.told;
     }
 
--- a line that only takes packets off the waiting ones
-pub rests_with : {D V : Type 0} (files : D → Option Files) (faults : D → ℕ) (script_db : ScriptDatabase) (running : OpenCell D V) (c : Cell) (p : Traffic) (handed : List Bool) (line : List Choice → Run_or_why) (text : List ℕ) → StandsFor running c → p.sent ≡ running.packets.sent → handed ≡ p.handed
-    → line [] ≡ Ok (resting (with_handed c handed)) → CellTold files faults script_db line None running (with_packets running p) text text
-rests_with files faults script_db running c p handed line text stands sent is comes =
-    record {
-      choices = [];
-      ran = resting (with_handed c handed);
-      is = comes;
-      ends = refl;
-      cell = stands_with running c p handed stands sent is;
-      told = sym (append-nil text);
-      causes = rises_same _ _ refl;
-    }
-
 -- what is told of the cell with other packets is told of the cell
 pub told_before : {D V : Type 0} (files : D → Option Files) (faults : D → ℕ) (script_db : ScriptDatabase) (running after : OpenCell D V) (p : Traffic) (run : List Choice → Run_or_why) (ended : Option Ending) (tb ta : List ℕ) → CellTold files faults script_db run ended (with_packets running p) after tb ta → CellTold files faults script_db run ended running after tb ta
 told_before files faults script_db running after p run ended tb ta told =
@@ -120,10 +106,6 @@ lost {D} {V} files faults script_db running c number k p tb ta stands down o tol
     (ap (λ (l : List Packet). record { sent = l; handed = running.packets.handed }) (sym (append-nil running.packets.sent))
     ∙ ap (λ (l : List Bool). record { sent = running.packets.sent ++ []; handed = l }) (sym (append-nil running.packets.handed)))
     m.is
-
--- the host of a place, as an index reads it
-pub own_host : (hosts : List Host) (k : ℕ) (host : Host) → k < length hosts → host ≡ get_or hosts k host → host_at hosts k ≡ host
-own_host hosts k host lt value = ap (λ (o : Option Host). unwrap_or o (record { 0 = 0 })) (slice_get_read hosts (length hosts) k host refl lt value)
 
 -- ---- a packet that was sent
 

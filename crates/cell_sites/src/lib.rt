@@ -3,6 +3,7 @@
 
 mod cells;
 mod deliveries;
+mod drops;
 mod faults;
 mod packets;
 mod places;
