@@ -83,9 +83,9 @@ module _ (script_db : ScriptDatabase) (hosts : List Host) (k : ℕ) where
       let line = item_text script_db hosts item in
       let more = t.sent ++ p ∷ [] in
       let e : seen t.sent (one ∷ shown) marks ≡ within_more item (seen more shown marks) =
-          ap (λ (o : Option Ending). within_packet item o (within (bytes_of t.sent + packet_length p) (seen_from k (length t.sent + 1 + 1) shown ++ marks))) is
-          ∙ ap (λ (n : ℕ). within_more item (within n (seen_from k (length t.sent + 1 + 1) shown ++ marks))) (sym (bytes_of-push t.sent p))
-          ∙ ap (λ (n : ℕ). within_more item (within (bytes_of more) (seen_from k (n + 1) shown ++ marks))) (sym (length_push t.sent p)) in
+      ap (λ (o : Option Ending). within_packet item o (within (bytes_of t.sent + packet_length p) (seen_from k (length t.sent + 1 + 1) shown ++ marks))) is
+      ∙ ap (λ (n : ℕ). within_more item (within n (seen_from k (length t.sent + 1 + 1) shown ++ marks))) (sym (bytes_of-push t.sent p))
+      ∙ ap (λ (n : ℕ). within_more item (within (bytes_of more) (seen_from k (n + 1) shown ++ marks))) (sym (length_push t.sent p)) in
       let all = append_assoc t.text line (trace script_db hosts (seen more shown marks).items) in
       let shows = ap (λ (w : Within). t.text ++ trace script_db hosts w.items) (sym e) in
       record {

@@ -51,7 +51,7 @@ one_handed running c packets n number is same stands =
 pub host_handed : {D V : Type 0} (running : OpenCell D V) (c : Cell) (packets : Traffic) (k : ℕ) (host : Host) → packets ≡ dropped_all running.packets host → slice_get running.hosts.items k ≡ Some host → StandsFor running c → packets.handed ≡ dropped_of (host_at c.run.world.hosts k) c.run.world.packets c.handed
 host_handed running c packets k host is there stands =
     let at : host_at c.run.world.hosts k ≡ host =
-        ap (λ (l : List Host). host_at l k) stands.hosts ∙ ap (λ (o : Option Host). unwrap_or o (record { 0 = 0 })) there in
+    ap (λ (l : List Host). host_at l k) stands.hosts ∙ ap (λ (o : Option Host). unwrap_or o (record { 0 = 0 })) there in
     ap (λ (t : Traffic). t.handed) is
     ∙ ap (λ (h : Host). dropped_of h running.packets.sent running.packets.handed) (sym at)
     ∙ ap (λ (l : List Packet). dropped_of (host_at c.run.world.hosts k) l running.packets.handed) (sym stands.sent)

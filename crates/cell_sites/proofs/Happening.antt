@@ -63,10 +63,11 @@ module _ (script_db : ScriptDatabase) (c : Cell) (n : ℕ) (none : c.armed ≡ r
   serves model.Down = (0, refl)
   serves (model.Halted h) = (0, refl)
   serves (model.Up s) =
-      let t = step_of script_db.database (member c.run.world k) s (clock_at c.run.world k) e [] in
-      (calls_on_all s.version t.calls,
-      ap (λ (a : Option Armed). outcome_of_stop (calls_on_all s.version t.calls) false (stops_in s.version t.calls a))
-      (ap (λ (a : List (Option Armed)). armed_at a k) none ∙ none_armed n k))
+      let t = step_of script_db.database (member c.run.world k) s (clock_at c.run.world k) e [] in (
+        calls_on_all s.version t.calls,
+        ap (λ (a : Option Armed). outcome_of_stop (calls_on_all s.version t.calls) false (stops_in s.version t.calls a))
+            (ap (λ (a : List (Option Armed)). armed_at a k) none ∙ none_armed n k),
+      )
 
   outcome_is : (choice : Choice) → outcome_of script_db.database c.run.world choice c.armed (occasion c.run.world trigger) ≡ outcome_at script_db.database c.run.world choice c.armed (k, e) site.node
   outcome_is choice =

@@ -211,8 +211,8 @@ module _ {D V : Type 0} (files : D → Option Files) (faults : D → ℕ) (scrip
     told_line tb ta tells other found sends =
         let m = made other (λ id is. short_told mid.outputs id is found) in
         let at_before : WholeTold script_db before.hosts.items k halts (record { text = tb; sent = before.packets.sent }) m.h.shown ta after.packets.sent =
-            subst (λ (h : List Host). WholeTold script_db h k halts (record { text = tb; sent = before.packets.sent }) m.h.shown ta after.packets.sent) ss.hosts
-            (subst (λ (t : Traffic). WholeTold script_db mid.hosts.items k halts (record { text = tb; sent = t.sent }) m.h.shown ta after.packets.sent) ss.packets (tells m.h.shown m.outputs m.answers)) in
+        subst (λ (h : List Host). WholeTold script_db h k halts (record { text = tb; sent = before.packets.sent }) m.h.shown ta after.packets.sent) ss.hosts
+        (subst (λ (t : Traffic). WholeTold script_db mid.hosts.items k halts (record { text = tb; sent = t.sent }) m.h.shown ta after.packets.sent) ss.packets (tells m.h.shown m.outputs m.answers)) in
         whole files faults script_db before after c stands k m.ev m.h steps_so m.choices (ap Ok m.is) (seen_marks m) (up_site ss.clock ss.node) (up_site ss.clock ss.later) ss.there all_sites m.marks.rises m.marks.others
         tb at_before.text ta at_before.told
         (at_before.marked ∙ ap (λ (l : List Happening). at_before.text ++ trace script_db before.hosts.items (map Tells l)) (sym m.marks.marks))
@@ -239,14 +239,14 @@ module _ {D V : Type 0} (files : D → Option Files) (faults : D → ℕ) (scrip
     -- a packet passed a limit
     pub limit_line : (ending : Ending) (text_before text_after : List ℕ)
         → ((shown : List Shown) → outputs_of shown ≡ mid.outputs → All (λ one. AnswersCall call one) shown
-            → told_of script_db mid.hosts.items k (record { text = text_before; sent = mid.packets.sent }) shown ≡ record { after = record { text = text_after; sent = after.packets.sent }; ending = Some ending })
+        → told_of script_db mid.hosts.items k (record { text = text_before; sent = mid.packets.sent }) shown ≡ record { after = record { text = text_after; sent = after.packets.sent }; ending = Some ending })
         → end ≢ NoMemory
         → CellTold files faults script_db steps_so (Some ending) before after text_before text_after
     limit_line ending tb ta tells other =
         let m = made other (λ id is. no_limit mid.outputs id is refl) in
         let at_before : told_of script_db before.hosts.items k (record { text = tb; sent = before.packets.sent }) m.h.shown ≡ record { after = record { text = ta; sent = after.packets.sent }; ending = Some ending } =
-            subst (λ (h : List Host). told_of script_db h k (record { text = tb; sent = before.packets.sent }) m.h.shown ≡ record { after = record { text = ta; sent = after.packets.sent }; ending = Some ending }) ss.hosts
-            (subst (λ (t : Traffic). told_of script_db mid.hosts.items k (record { text = tb; sent = t.sent }) m.h.shown ≡ record { after = record { text = ta; sent = after.packets.sent }; ending = Some ending }) ss.packets (tells m.h.shown m.outputs m.answers)) in
+        subst (λ (h : List Host). told_of script_db h k (record { text = tb; sent = before.packets.sent }) m.h.shown ≡ record { after = record { text = ta; sent = after.packets.sent }; ending = Some ending }) ss.hosts
+        (subst (λ (t : Traffic). told_of script_db mid.hosts.items k (record { text = tb; sent = t.sent }) m.h.shown ≡ record { after = record { text = ta; sent = after.packets.sent }; ending = Some ending }) ss.packets (tells m.h.shown m.outputs m.answers)) in
         part files faults script_db before after c stands k m.ev m.h steps_so m.choices (ap Ok m.is) (seen_marks m) (up_site ss.clock ss.node) (up_site ss.clock ss.later) ss.there all_sites m.marks.rises m.marks.others
         ending tb ta after.packets.sent at_before (reads_made m)
       where

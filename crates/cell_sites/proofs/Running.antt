@@ -44,9 +44,10 @@ module _ {D V : Type 0} (files : D → Option Files) (faults : D → ℕ) where
   rises_set items p (suc k) (x ∷ sites) site later there rises others =
       let here : p + suc k ≡ p + 1 + k = omega arith in
       let none = others p (λ e. omega (arith, e)) in
-      let count : fault_count (p + suc k) items ≡ fault_count (p + 1 + k) items = ap (λ (n : ℕ). fault_count n items) here in
-      (omega (arith, none),
-      rises_set items (p + 1) k sites site later there (omega (arith, rises, count)) (λ j other. others j (λ e. other (e ∙ here))))
+      let count : fault_count (p + suc k) items ≡ fault_count (p + 1 + k) items = ap (λ (n : ℕ). fault_count n items) here in (
+        omega (arith, none),
+        rises_set items (p + 1) k sites site later there (omega (arith, rises, count)) (λ j other. others j (λ e. other (e ∙ here))),
+      )
 
   pub reads_set : (ss : List ModelSite) (sites : List (Site D V)) (k : ℕ) (s : ModelSite) (later : Site D V) → AreReadBy ss (map held_at sites) → slice_get ss k ≡ Some s → IsReadBy s.node (held_at later) → AreReadBy ss (map held_at (set sites k later))
   reads_set [] sites k s later read there is = cc

@@ -64,7 +64,7 @@ sound_after {D} {V} files faults bound before after k clock node later packets s
     let many : length after.sites.items ≡ length before.sites.items = ap length sites ∙ length-set before.sites.items k (up_site clock later) in
     let me : 0 + k ≡ k = omega arith in
     let site : IsSoundSite files faults (record { hosts = before.hosts.items; me = 0 + k }) bound (up_site clock later) =
-        subst (λ (n : ℕ). IsSoundSite files faults (record { hosts = before.hosts.items; me = n }) bound (up_site clock later)) (sym me) (record { moment = at.moment; within = at.within; server = is }) in
+    subst (λ (n : ℕ). IsSoundSite files faults (record { hosts = before.hosts.items; me = n }) bound (up_site clock later)) (sym me) (record { moment = at.moment; within = at.within; server = is }) in
     record {
       some = let some = sound.some in omega (arith, some, many);
       few = let few = sound.few in omega (arith, few, many);

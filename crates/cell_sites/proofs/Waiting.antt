@@ -208,4 +208,3 @@ passed_none number bytes none = by (nat_lt MAX_PACKETS number) refl (nat_lt MAX_
     by true is c eq = let over : Some (Limit Packets) ≡ None = sym (ap (λ (b : Bool). if b then Some (Limit Packets) else (if nat_lt MAX_PACKET_BYTES bytes then Some (Limit PacketBytes) else None)) is) ∙ none in absurd cc
     by false is true eq = let over : Some (Limit PacketBytes) ≡ None = sym (ap (λ (b : Bool). if b then Some (Limit Packets) else (if nat_lt MAX_PACKET_BYTES bytes then Some (Limit PacketBytes) else None)) is ∙ ap (λ (b : Bool). if b then Some (Limit PacketBytes) else None) eq) ∙ none in absurd cc
     by false is false eq = (ltb_not MAX_PACKETS number is, ltb_not MAX_PACKET_BYTES bytes eq)
-

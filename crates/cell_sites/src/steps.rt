@@ -149,7 +149,7 @@ impl<D: StopDisk, V: WordForms> OpenCell<D, V> {
             WholeTold (script_database V.database V.words) self.old.hosts.items k halts (record { text = string_bytes text.old; sent = self.old.packets.sent }) shown (string_bytes text.new) self.new.packets.sent }
         ensures limit { (which : AWhich) → result ≡ Err (LineFault.Limit which) → (shown : List Shown) → outputs_of shown ≡ self.old.outputs → All (λ one. AnswersCall call.now one) shown →
             told_of (script_database V.database V.words) self.old.hosts.items k (record { text = string_bytes text.old; sent = self.old.packets.sent }) shown
-                ≡ record { after = record { text = string_bytes text.new; sent = self.new.packets.sent }; ending = Some (ending.Limit which) } }
+            ≡ record { after = record { text = string_bytes text.new; sent = self.new.packets.sent }; ending = Some (ending.Limit which) } }
         ensures refused { (why : AWhy) → result ≢ Err (LineFault.Refused why) }
         ensures found { result ≡ Ok tt → All IsNotShort self.old.outputs }
         ensures sends { result ≡ Ok tt → self.new.packets ≡ sent_all self.old.packets (filter_map packet_in self.old.outputs) }
@@ -158,7 +158,14 @@ impl<D: StopDisk, V: WordForms> OpenCell<D, V> {
         ensures sites { self.new.sites.items ≡ self.old.sites.items }
     {
         let server = k as u32;
-        tell_outputs::<V>(text, &self.hosts, server, call, &mut self.outputs, &mut self.packets)?;
+        tell_outputs::<V>(
+            text,
+            &self.hosts,
+            server,
+            call,
+            &mut self.outputs,
+            &mut self.packets,
+        )?;
         if halts {
             tell_mark(text, Mark::Halts { server })?;
         }

@@ -34,10 +34,10 @@ pub fn tell_outputs<V: WordForms>(
     requires votes { All MayBeTold out.old }
     ensures told { OnOk result ((shown : List Shown) → outputs_of shown ≡ out.old → All (λ one. AnswersCall call.now one) shown →
         told_of (script_database V.database V.words) hosts.now server (record { text = string_bytes text.old; sent = packets.old.sent }) shown
-            ≡ record { after = record { text = string_bytes text.new; sent = packets.new.sent }; ending = None }) }
+        ≡ record { after = record { text = string_bytes text.new; sent = packets.new.sent }; ending = None }) }
     ensures limit { (which : Which) → result ≡ Err (LineFault.Limit which) → (shown : List Shown) → outputs_of shown ≡ out.old → All (λ one. AnswersCall call.now one) shown →
         told_of (script_database V.database V.words) hosts.now server (record { text = string_bytes text.old; sent = packets.old.sent }) shown
-            ≡ record { after = record { text = string_bytes text.new; sent = packets.new.sent }; ending = Some (ending.Limit which) } }
+        ≡ record { after = record { text = string_bytes text.new; sent = packets.new.sent }; ending = Some (ending.Limit which) } }
     ensures refused { (why : Why) → result ≢ Err (LineFault.Refused why) }
     ensures found { OnOk result (All IsNotShort out.old) }
     ensures sends { OnOk result (packets.new ≡ sent_all packets.old (filter_map packet_in out.old)) }
@@ -63,7 +63,7 @@ fn tell_one<V: WordForms>(
     ensures told { OnOk result ((one : Shown) → one.output ≡ output → AnswersCall call.now one →
         (passed_in (record { text = string_bytes text.old; sent = packets.old.sent }) (packet_in output) ≡ None)
         × (record { text = string_bytes text.new; sent = packets.new.sent }
-            ≡ with_shown (script_database V.database V.words) hosts.now server (record { text = string_bytes text.old; sent = packets.old.sent }) one)) }
+        ≡ with_shown (script_database V.database V.words) hosts.now server (record { text = string_bytes text.old; sent = packets.old.sent }) one)) }
     ensures limit { (which : Which) → result ≡ Err (LineFault.Limit which) →
         (passed_in (record { text = string_bytes text.old; sent = packets.old.sent }) (packet_in output) ≡ Some (ending.Limit which))
         × (string_bytes text.new ≡ string_bytes text.old) × (packets.new ≡ packets.old) }

@@ -12,14 +12,14 @@ loop-k-preserved c =
     let there : slice_get c.args.sent.now c.loop-k.k ≡ Some c.index-sent-k.result = slice_get_read c.args.sent.now (length c.args.sent.now) c.loop-k.k c.index-sent-k.result refl c.loop-k-test.true c.index-sent-k.is in
     let same : length c.loop-k.handed ≡ length c.args.sent.now = c.loop-k.auto.handed ∙ c.requires.each in
     elim c.if-packet-host.branch [
-      then-packet-host w ↦
-        c.loop-k.invariant ∙ walk_drops_at c.args.host c.args.sent.now c.loop-k.handed c.if-packet-host.handed c.loop-k.k c.index-sent-k.result same there
-        (elim w.then-packet-host.branch [
-          then-packet-host-via-then-packet-host w' ↦ is_of c.args.host c.index-sent-k.result w'.if-packet-host.true
-          | then-packet-host-via-else-packet-host+then-packet-host-2 w' ↦ is_to c.args.host c.index-sent-k.result w'.if-packet-host-2.true
-        ]) w.handed-is
+      | then-packet-host w ↦
+          c.loop-k.invariant ∙ walk_drops_at c.args.host c.args.sent.now c.loop-k.handed c.if-packet-host.handed c.loop-k.k c.index-sent-k.result same there
+          (elim w.then-packet-host.branch [
+            | then-packet-host-via-then-packet-host w' ↦ is_of c.args.host c.index-sent-k.result w'.if-packet-host.true
+            | then-packet-host-via-else-packet-host+then-packet-host-2 w' ↦ is_to c.args.host c.index-sent-k.result w'.if-packet-host-2.true
+          ]) w.handed-is
       | else-packet-host+else-packet-host-2 w ↦
-        c.loop-k.invariant ∙ walk_passes_at c.args.host c.args.sent.now c.loop-k.handed c.if-packet-host.handed c.loop-k.k c.index-sent-k.result same there (is_no c.args.host c.index-sent-k.result w.if-packet-host.false w.if-packet-host-2.false) w.handed-is
+          c.loop-k.invariant ∙ walk_passes_at c.args.host c.args.sent.now c.loop-k.handed c.if-packet-host.handed c.loop-k.k c.index-sent-k.result same there (is_no c.args.host c.index-sent-k.result w.if-packet-host.false w.if-packet-host-2.false) w.handed-is
     ]
 
 pub returns : goal.returns

@@ -16,10 +16,12 @@ pub returns-in_err-k-clause-refused : goal.returns-in_err-k-clause-refused
 returns-in_err-k-clause-refused g c = λ why is.
     let db = script_database g.V.Service.database g.V.WordForms.words in
     let p = err_from_is_err_and c.from_residual.result c.from_residual.ensures.1 in
-    let same : c.in_err-k.field-0.0 ≡ why = let given = p.2 in let left = p.1 in cc (given, left, is) in
-    (refl, λ cell stands choices.
-        let does : ℕ → Cell_run = λ k. stepped db cell (first_choice choices) (Asking k c.args.id c.args.call) in
-        c.in_err-k.ensures.up cell does (size_of g.D.Disk.files g.D.Disk.faults c.requires.0 c.args.self.now cell c.requires.1 stands) stands ∙ ap Err same)
+    let same : c.in_err-k.field-0.0 ≡ why = let given = p.2 in let left = p.1 in cc (given, left, is) in (
+      refl,
+      λ cell stands choices.
+          let does : ℕ → Cell_run = λ k. stepped db cell (first_choice choices) (Asking k c.args.id c.args.call) in
+          c.in_err-k.ensures.up cell does (size_of g.D.Disk.files g.D.Disk.faults c.requires.0 c.args.self.now cell c.requires.1 stands) stands ∙ ap Err same,
+    )
 
 pub returns-in_err-k-clause-never_falls : goal.returns-in_err-k-clause-never_falls
 returns-in_err-k-clause-never_falls g c = rises_same _ _ refl

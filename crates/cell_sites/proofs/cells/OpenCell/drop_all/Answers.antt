@@ -15,11 +15,13 @@ does c k = resting (record c { handed = dropped_of (host_at c.run.world.hosts k)
 pub returns-in_err-k-clause-refused : goal.returns-in_err-k-clause-refused
 returns-in_err-k-clause-refused g c = λ why is.
     let p = err_from_is_err_and c.from_residual.result c.from_residual.ensures.1 in
-    let same : c.in_err-k.field-0.0 ≡ why = let given = p.2 in let left = p.1 in cc (given, left, is) in
-    (refl, λ cell stands choices.
-        c.in_err-k.ensures.up cell (does cell)
-        (size_of g.D.Disk.files g.D.Disk.faults c.requires.0 c.args.self.now cell c.requires.1 stands) stands
-        ∙ ap Err same)
+    let same : c.in_err-k.field-0.0 ≡ why = let given = p.2 in let left = p.1 in cc (given, left, is) in (
+      refl,
+      λ cell stands choices.
+          c.in_err-k.ensures.up cell (does cell)
+          (size_of g.D.Disk.files g.D.Disk.faults c.requires.0 c.args.self.now cell c.requires.1 stands) stands
+          ∙ ap Err same,
+    )
 
 pub returns-in_err-k-clause-never_falls : goal.returns-in_err-k-clause-never_falls
 returns-in_err-k-clause-never_falls g c = rises_none 0 _
@@ -43,7 +45,7 @@ returns-clause-told g c = λ is cell text stands.
     packets_told g.D.Disk.files g.D.Disk.faults db running cell packets
     (dropped_of (host_at cell.run.world.hosts k) cell.run.world.packets cell.handed) _ text
     (λ choices. c.in_ok-k.ensures.up cell (does cell)
-        (size_of g.D.Disk.files g.D.Disk.faults c.requires.0 running cell c.requires.1 stands) stands)
+    (size_of g.D.Disk.files g.D.Disk.faults c.requires.0 running cell c.requires.1 stands) stands)
     (ap (λ (t : Traffic). t.sent) c.drop_all.ensures)
     (host_handed running cell packets k host c.drop_all.ensures there stands)
     stands

@@ -18,10 +18,10 @@ invariant_of-self c =
     let len : end ≡ length a.sent.items = omega (arith, c.len.ensures, a.sent.ok.0) in
     let after = dropped_of c.args.host a.sent.items a.handed.items in
     let dropped : c.drop_from.new.handed ≡ after =
-        c.drop_from.ensures ∙ ap (λ (s : List Packet). dropped_of c.args.host s c.deref_mut.result.now) c.deref-2.ensures.value
-        ∙ ap (dropped_of c.args.host a.sent.items) c.deref_mut.ensures.value in
+    c.drop_from.ensures ∙ ap (λ (s : List Packet). dropped_of c.args.host s c.deref_mut.result.now) c.deref-2.ensures.value
+    ∙ ap (dropped_of c.args.host a.sent.items) c.deref_mut.ensures.value in
     let swept : c.sweep.new.swept ≡ map (swept_to c.args.host end) a.swept.items =
-        c.sweep.ensures ∙ ap (map (swept_to c.args.host end)) c.deref_mut-2.ensures.value in
+    c.sweep.ensures ∙ ap (map (swept_to c.args.host end)) c.deref_mut-2.ensures.value in
     let as_many : length after ≡ length a.sent.items = length-dropped c.args.host a.sent.items a.handed.items kept.each in
     let handed = items_with a.handed c.drop_from.new.handed (ap length dropped ∙ as_many ∙ sym kept.each) ∙ dropped in
     let places = items_with a.swept c.sweep.new.swept (ap length swept ∙ length-map a.swept.items (swept_to c.args.host end)) ∙ swept in

@@ -10,9 +10,10 @@ use Rattle.cell_sites.proofs.packets.Packets.new.Goals as goal
 pub loop-host-preserved : goal.loop-host-preserved
 loop-host-preserved c =
     let P : Swept → Type 0 = λ s. s.below ≤ 0 in
-    let Q : Swept → Type 0 = λ s. HasSwept [] [] s.host s.below in
-    (All-same P _ _ c.in_ok-push.ensures.items (All-push P c.loop-host.swept.items _ c.loop-host.invariant.0 (omega arith)),
-    All-same Q _ _ c.in_ok-push.ensures.items (All-push Q c.loop-host.swept.items _ c.loop-host.invariant.1 (λ k p lt there is. absurd (omega arith))))
+    let Q : Swept → Type 0 = λ s. HasSwept [] [] s.host s.below in (
+      All-same P _ _ c.in_ok-push.ensures.items (All-push P c.loop-host.swept.items _ c.loop-host.invariant.0 (omega arith)),
+      All-same Q _ _ c.in_ok-push.ensures.items (All-push Q c.loop-host.swept.items _ c.loop-host.invariant.1 (λ k p lt there is. absurd (omega arith))),
+    )
 
 pub invariant_of-result : goal.invariant_of-result
 invariant_of-result c =

@@ -16,12 +16,12 @@ invariant_of-self-2 c =
     let p = c.args.packet in
     let handed : c.push.new.self.items ≡ a.handed.items ++ false ∷ [] = c.in_ok-push.ensures.items in
     let sent : c.push-2.new.self.items ≡ a.sent.items ++ p ∷ [] =
-        c.push-2.ensures.items ∙ ap (λ (b : Bool). if b then a.sent.items ++ p ∷ [] else a.sent.items) c.if-is_err.ensures.negation in
+    c.push-2.ensures.items ∙ ap (λ (b : Bool). if b then a.sent.items ++ p ∷ [] else a.sent.items) c.if-is_err.ensures.negation in
     let within = passed_none (length c.args.self.now.sent + 1) (bytes_of c.args.self.now.sent + packet_length p) c.requires.room in
     let same : c.args.self.now.sent ≡ a.sent.items = sym (ap (λ (t : Traffic). t.sent) c.self.view_is) in
     let count : length c.push-2.new.self.items ≡ length a.sent.items + 1 = ap length sent ∙ length_push a.sent.items p in
     let bytes : a.bytes + c.packet_len.result ≡ bytes_of c.push-2.new.self.items =
-        let more = ap bytes_of sent ∙ bytes_of-push a.sent.items p in omega (arith, more, c.self.invariant.bytes, c.packet_len.ensures) in
+    let more = ap bytes_of sent ∙ bytes_of-push a.sent.items p in omega (arith, more, c.self.invariant.bytes, c.packet_len.ensures) in
     record {
       each = let h = ap length handed ∙ length_push a.handed.items false in omega (arith, h, count, c.self.invariant.each);
       few = let n = ap length same in omega (arith, within.0, n, count);
