@@ -1,6 +1,8 @@
 pub mod Agreeing
 pub mod AtPlace
+pub mod Delivering
 pub mod Dropping
+pub mod Following
 pub mod Happening
 pub mod Hosts
 pub mod Joined

@@ -12,6 +12,12 @@ pub record IsUpAt {D V : Type 0} (running : OpenCell D V) (k : ℕ) : Type 0 whe
   pub node : Node D V
   pub there : slice_get running.sites.items k ≡ Some (record { clock = clock; server = server.Up node })
 
+-- the server at a place is down
+pub record IsDownAt {D V : Type 0} (running : OpenCell D V) (k : ℕ) : Type 0 where
+  pub clock : ℕ
+  pub disk : D
+  pub there : slice_get running.sites.items k ≡ Some (record { clock = clock; server = server.Down disk })
+
 -- a site whose clock went forward
 abbrev pub ticked_on : {D V : Type 0} → ℕ → Site D V → Site D V
 ticked_on seconds site = record site { clock = site.clock + seconds }

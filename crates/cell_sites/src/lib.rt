@@ -2,6 +2,7 @@
 #![tactic(auto)]
 
 mod cells;
+mod deliveries;
 mod drops;
 mod faults;
 mod packets;

@@ -126,6 +126,7 @@ impl Packets {
     /// The lowest number of a packet that waits.
     pub fn first_waiting(&mut self) -> Option<u32>
         ensures first { result ≡ first_waiting 1 self.old.handed }
+        ensures each { length self.old.handed ≡ length self.old.sent }
         ensures same { self.new ≡ self.old }
     {
         let place = next_waiting(&self.handed, self.low);

@@ -27,3 +27,7 @@ returns-clause-first c =
         let all : place ≡ length handed = omega (arith, w.if-place-len.false, len, end) in
         w.result-is ∙ sym (none_waits 1 handed (subst (λ (n : ℕ). NoneWaits handed n) all none)) ∙ is
     ]
+
+pub returns-clause-each : goal.returns-clause-each
+returns-clause-each c =
+    sym (ap (λ (t : Traffic). length t.handed) c.self.view_is) ∙ c.self.invariant.each ∙ ap (λ (t : Traffic). length t.sent) c.self.view_is

@@ -1,0 +1,128 @@
+-- Packets that are handed over or dropped in a running cell.
+use Rattle.std.proofs.Common.{if◌then◌else◌, ◌≡◌, ◌⊎◌, inl, inr, ◌<◌, ◌≤◌, ◌+◌, ◌-◌, ℕ, zero, suc, Bool, true, false, Option, Some, None, Result, Ok, Err, List, [], ◌∷◌, ◌++◌, drop, length, map, replicate, set, get_or, refl, sym, ap, subst, ◌∙◌, arith, append_assoc}
+use Rattle.std.specs.Prelude.{All, slice_get, unwrap_or}
+use Rattle.std.specs.Option.{option_and_then, option_map}
+use Rattle.std.proofs.lemmas.List.{append-nil}
+use Rattle.std.proofs.lemmas.Option.{get_or_from_slice_get, slice_get_read, slice_get_within}
+use Rattle.disk_base.specs.Files.{Files}
+use Rattle.ubik_types.specs.declared.hosts.Host.{Host}
+use Rattle.ubik_calls.specs.declared.packets.Packet.{Packet}
+use Rattle.cell_model.specs.declared.events.NodeEvent.{NodeEvent}
+use Rattle.cell_model.specs.declared.events.NodeEvent.TheVariants as event
+use Rattle.cell_model.specs.Node as model
+use Rattle.cell_model.specs.NodeRule.{place_of}
+use Rattle.cell_model.specs.Step.{host_at}
+use Rattle.cell_model.specs.Voters.{IsVotePacket}
+use Rattle.cell_model.specs.World.{Site as ModelSite, World, Delivery, Step, Lost, SiteHappened, occasion, only_marks, lost_at, packet_numbered}
+use Rattle.cell_model.specs.World as world
+use Rattle.cell_runs.specs.declared.endings.Ending.{Ending}
+use Rattle.cell_runs.specs.ScriptDatabase.{ScriptDatabase}
+use Rattle.cell_runs.specs.Script.{Cell, Cell_run, Choice, Run_or_why, all_delivered, delivered, dropped_of, first_choice, first_waiting, happened, joined_run, resting, stepped, unless_ended}
+use Rattle.cell_runs.specs.Script as script
+use Rattle.cell_runs.specs.Trace.{TraceItem, Tells, item_text, trace, fault_count}
+use Rattle.cell_sites.specs.declared.cells.OpenCell.{OpenCell}
+use Rattle.cell_sites.specs.declared.sites.Server.TheVariants.{Down}
+use Rattle.cell_sites.specs.declared.sites.Site.{Site}
+use Rattle.cell_sites.specs.Disks.{Held, AreReadBy, AreRises}
+use Rattle.cell_sites.specs.Places.{IsDownAt}
+use Rattle.cell_sites.specs.Sites.{StandsFor, helds}
+use Rattle.cell_sites.specs.Sound.{IsSound}
+use Rattle.cell_sites.specs.Told.{CellTold, IsShort, IsShortAfter}
+use Rattle.cell_sites.specs.Traffic.{Traffic, dropped_all, handed_over, sent_all}
+use Rattle.cell_sites.proofs.AtPlace.{rises_same, site_at}
+use Rattle.cell_sites.proofs.Happening.{down_happens, stepped_sound}
+use Rattle.cell_sites.proofs.Opening.{count_append}
+use Rattle.cell_sites.proofs.Running.{whole}
+
+-- ---- other packets
+
+-- the cell with other packets
+abbrev pub with_packets : {D V : Type 0} → OpenCell D V → Traffic → OpenCell D V
+with_packets running p = record running { packets = p }
+
+abbrev pub with_handed : Cell → List Bool → Cell
+with_handed c handed = record c { handed = handed }
+
+pub stands_with : {D V : Type 0} (running : OpenCell D V) (c : Cell) (p : Traffic) (handed : List Bool) → StandsFor running c → p.sent ≡ running.packets.sent → handed ≡ p.handed → StandsFor (with_packets running p) (with_handed c handed)
+stands_with running c p handed stands sent is =
+    record { hosts = stands.hosts; sites = stands.sites; sent = stands.sent ∙ sym sent; handed = is; unarmed = stands.unarmed }
+
+pub sound_with : {D V : Type 0} (files : D → Option Files) (faults : D → ℕ) (bound : ℕ) (running : OpenCell D V) (p : Traffic) → IsSound files faults bound running → p.sent ≡ running.packets.sent → IsSound files faults bound (with_packets running p)
+sound_with files faults bound running p sound sent =
+    record {
+      some = sound.some;
+      few = sound.few;
+      hosts = sound.hosts;
+      sites = sound.sites;
+      near = sound.near;
+      packets = subst (λ (l : List Packet). All (IsVotePacket running.hosts.items) l) (sym sent) sound.packets;
+      told = sound.told;
+    }
+
+-- what is told of the cell with other packets is told of the cell
+pub told_before : {D V : Type 0} (files : D → Option Files) (faults : D → ℕ) (script_db : ScriptDatabase) (running after : OpenCell D V) (p : Traffic) (run : List Choice → Run_or_why) (ended : Option Ending) (tb ta : List ℕ) → CellTold files faults script_db run ended (with_packets running p) after tb ta → CellTold files faults script_db run ended running after tb ta
+told_before files faults script_db running after p run ended tb ta told =
+    record { choices = told.choices; ran = told.ran; is = told.is; ends = told.ends; cell = told.cell; told = told.told; causes = told.causes }
+
+pub short_before : {D V : Type 0} (files : D → Option Files) (faults : D → ℕ) (running after : OpenCell D V) (p : Traffic) (run : List Choice → Run_or_why) (c : Cell) (handed : List Bool) → IsShort files faults run (with_handed c handed) (with_packets running p) after → IsShort files faults run c running after
+short_before files faults running after p run c handed (inl read) = inl read
+short_before files faults running after p run c handed (inr later) = inr (record { choices = later.choices; ran = later.ran; is = later.is; read = later.read; causes = later.causes })
+
+-- ---- where a packet goes
+
+pub numbered : (w : World) (number : ℕ) (p : Packet) → 0 < number → slice_get w.packets (number - 1) ≡ Some p → packet_numbered w number ≡ Some p
+numbered w zero p some there = absurd (omega arith)
+numbered w (suc n) p some there = let e : suc n - 1 ≡ n = omega arith in sym (ap (slice_get w.packets) e) ∙ there
+
+pub occasion_of : (w : World) (number k : ℕ) (p : Packet) → packet_numbered w number ≡ Some p → place_of w.hosts p.to ≡ Some k → occasion w (Delivery number) ≡ Some (k, event.Packet p)
+occasion_of w number k p there place =
+    ap (λ (o : Option Packet). option_and_then (world.delivered w.hosts) o) there
+    ∙ ap (λ (o : Option ℕ). option_map (λ (j : ℕ). (j, event.Packet p)) o) place
+
+pub all_at : {X : Type 0} (P : X → Type 0) (xs : List X) (i : ℕ) (x : X) → All P xs → slice_get xs i ≡ Some x → P x
+all_at P xs i x all there = subst P (get_or_from_slice_get xs i x x there) (all i x (slice_get_within xs i x there))
+
+pub set_same : {X : Type 0} (xs : List X) (k : ℕ) (x : X) → slice_get xs k ≡ Some x → set xs k x ≡ xs
+set_same [] k x there = refl
+set_same {X} (y ∷ xs) zero x there = let e : y ≡ x = cc in ap (λ (z : X). z ∷ xs) (sym e)
+set_same {X} (y ∷ xs) (suc k) x there = ap (λ (l : List X). y ∷ l) (set_same xs k x there)
+
+-- ---- a server that is down loses the packet
+
+pub lost : {D V : Type 0} (files : D → Option Files) (faults : D → ℕ) (script_db : ScriptDatabase) (running : OpenCell D V) (c : Cell) (number k : ℕ) (p : Packet) (text_before text_after : List ℕ) → StandsFor running c → (down : IsDownAt running k)
+    → occasion c.run.world (Delivery number) ≡ Some (k, event.Packet p) → text_after ≡ text_before ++ item_text script_db running.hosts.items (Tells (Lost number))
+    → CellTold files faults script_db (λ choices. Ok (stepped script_db c (first_choice choices) (Delivery number))) None running running text_before text_after
+lost {D} {V} files faults script_db running c number k p tb ta stands down o told =
+    let m = site_at running.sites.items c.run.world.sites k (record { clock = down.clock; server = Down down.disk }) stands.sites down.there in
+    let h : SiteHappened = only_marks m.s (Lost number ∷ []) in
+    let site : Site D V = record { clock = down.clock; server = Down down.disk } in
+    whole files faults script_db running running c stands k (Step (Delivery number) []) h (λ choices. Ok (stepped script_db c (first_choice choices) (Delivery number))) []
+    (ap Ok (stepped_sound script_db c (length running.hosts.items) stands.unarmed (Delivery number) k (event.Packet p) m.s o m.there
+    ∙ ap (happened c (Step (Delivery number) [])) (down_happens script_db.database c.run.world (Delivery number) k (event.Packet p) m.s o m.there m.is.node)))
+    tt site site down.there (sym (set_same running.sites.items k site down.there)) (omega arith) (λ j other. refl)
+    tb tb ta refl
+    (told ∙ ap (λ (l : List ℕ). tb ++ l) (sym (append-nil (item_text script_db running.hosts.items (Tells (Lost number))))))
+    refl
+    (ap (λ (l : List Packet). record { sent = l; handed = running.packets.handed }) (sym (append-nil running.packets.sent))
+    ∙ ap (λ (l : List Bool). record { sent = running.packets.sent ++ []; handed = l }) (sym (append-nil running.packets.handed)))
+    m.is
+
+-- ---- a packet that was sent
+
+-- the cell from which a packet is handed over, and where it goes
+pub record HandedOver {D V : Type 0} (running : OpenCell D V) (c : Cell) (p : Traffic) (number k : ℕ) (packet : Packet) : Type 0 where
+  pub stands : StandsFor (with_packets running p) (with_handed c (set c.handed (number - 1) true))
+  pub goes : occasion c.run.world (Delivery number) ≡ Some (k, event.Packet packet)
+
+pub handed_cell : {D V : Type 0} (running : OpenCell D V) (c : Cell) (p : Traffic) (number k : ℕ) (packet sent : Packet) → StandsFor running c → p ≡ handed_over running.packets number → 0 < number → slice_get p.sent (number - 1) ≡ Some sent → packet ≡ sent → place_of running.hosts.items packet.to ≡ Some k
+    → HandedOver running c p number k packet
+handed_cell running c p number k packet sent stands is some there same place =
+    record {
+      stands = stands_with running c p (set c.handed (number - 1) true) stands (ap (λ (t : Traffic). t.sent) is)
+          (ap (λ (h : List Bool). set h (number - 1) true) stands.handed ∙ sym (ap (λ (t : Traffic). t.handed) is));
+      goes =
+          occasion_of c.run.world number k packet
+          (numbered c.run.world number packet some
+          (ap (λ (l : List Packet). slice_get l (number - 1)) (stands.sent ∙ sym (ap (λ (t : Traffic). t.sent) is)) ∙ there ∙ ap Some (sym same)))
+          (ap (λ (h : List Host). place_of h packet.to) stands.hosts ∙ place);
+    }

@@ -1,0 +1,222 @@
+-- Waiting packets that are delivered one after the other.
+use Rattle.std.proofs.Common.{◌≡◌, ◌≢◌, ◌⊎◌, inl, inr, ◌<◌, ◌≤◌, ◌+◌, ◌-◌, ℕ, zero, suc, Bool, true, false, Option, Some, None, Result, Ok, Err, List, [], ◌∷◌, ◌++◌, drop, length, refl, sym, ap, subst, ◌∙◌, arith, append_assoc}
+use Rattle.std.specs.List.{flat_map}
+use Rattle.std.proofs.lemmas.List.{append-nil}
+use Rattle.disk_base.specs.Files.{Files}
+use Rattle.ubik_types.specs.declared.hosts.Host.{Host}
+use Rattle.cell_model.specs.World.{Site as ModelSite}
+use Rattle.cell_runs.specs.declared.endings.Ending.{Ending}
+use Rattle.cell_runs.specs.ScriptDatabase.{ScriptDatabase}
+use Rattle.cell_runs.specs.Script.{Cell, Cell_run, Choice, Run_or_why, all_delivered, delivered, first_choice, first_waiting, hosts_of, joined_run, resting, unless_ended}
+use Rattle.cell_runs.specs.Trace.{TraceItem, trace, item_text, fault_count}
+use Rattle.cell_sites.specs.declared.cells.OpenCell.{OpenCell}
+use Rattle.cell_sites.specs.Disks.{Held, AreReadBy, AreRises}
+use Rattle.cell_sites.specs.Sites.{StandsFor, helds}
+use Rattle.cell_sites.specs.Sound.{IsSound}
+use Rattle.cell_sites.specs.Told.{CellTold, IsShort}
+use Rattle.cell_sites.proofs.Opening.{count_append}
+use Rattle.cell_sites.proofs.Reading.{cell_reads}
+
+-- ---- joining what is told
+
+trace-append : (script_db : ScriptDatabase) (hosts : List Host) (items more : List TraceItem) → trace script_db hosts (items ++ more) ≡ trace script_db hosts items ++ trace script_db hosts more
+trace-append script_db hosts [] more = refl
+trace-append script_db hosts (item ∷ items) more =
+    ap (λ (l : List ℕ). item_text script_db hosts item ++ l) (trace-append script_db hosts items more)
+    ∙ sym (append_assoc (item_text script_db hosts item) (trace script_db hosts items) (trace script_db hosts more))
+
+pub rises_both : (k : ℕ) (items more : List TraceItem) (a b d : List Held) → AreRises k items a b → AreRises k more b d → AreRises k (items ++ more) a d
+rises_both k items more [] [] [] first then = tt
+rises_both k items more [] [] (z ∷ d) first then = absurd then
+rises_both k items more [] (y ∷ b) d first then = absurd first
+rises_both k items more (x ∷ a) [] d first then = absurd first
+rises_both k items more (x ∷ a) (y ∷ b) [] first then = absurd then
+rises_both k items more (x ∷ a) (y ∷ b) (z ∷ d) first then =
+    (let n = count_append k items more in omega (arith, n, first.0, then.0), rises_both (k + 1) items more a b d first.1 then.1)
+
+joined : (items more : List TraceItem) (r : Cell_run) → joined_run items (joined_run more r) ≡ joined_run (items ++ more) r
+joined items more r = ap (λ (l : List TraceItem). record r { items = l }) (sym (append_assoc items more r.items))
+
+-- ---- the loop
+
+-- what was delivered so far, with some choices: what it comes to in all is that, and then what it comes to from here with so much fuel
+pub record SoFar {D V : Type 0} (files : D → Option Files) (faults : D → ℕ) (script_db : ScriptDatabase) (most fuel : ℕ) (c : Cell) (start now : OpenCell D V) (text_before text : List ℕ) : Type 0 where
+  pub cell : Cell
+  pub stands : StandsFor now cell
+  pub items : List TraceItem
+  pub done : List Choice
+  pub is : (more : List Choice) → all_delivered script_db most c (done ++ more) (first_waiting 1 c.handed) ≡ joined_run items (all_delivered script_db fuel cell more (first_waiting 1 cell.handed))
+  pub told : text ≡ text_before ++ trace script_db start.hosts.items items
+  pub causes : AreRises 0 items (helds files faults start) (helds files faults now)
+  pub hosts : now.hosts.items ≡ start.hosts.items
+
+pub record Follows {D V : Type 0} (files : D → Option Files) (faults : D → ℕ) (script_db : ScriptDatabase) (most fuel : ℕ) (start now : OpenCell D V) (text_before text : List ℕ) : Type 0 where
+  pub runs : (c : Cell) → StandsFor start c → SoFar files faults script_db most fuel c start now text_before text
+  pub sound : (bound : ℕ) → IsSound files faults bound start → IsSound files faults bound now
+  pub rises : AreRises 0 [] (helds files faults start) (helds files faults now)
+  pub same : length now.sites.items ≡ length start.sites.items
+  pub keeps : (sites : List ModelSite) → AreReadBy sites (helds files faults start) → AreReadBy sites (helds files faults now)
+
+no_rise : (k : ℕ) (disks : List Held) → AreRises k [] disks disks
+no_rise k [] = tt
+no_rise k (disk ∷ disks) = (omega arith, no_rise (k + 1) disks)
+
+pub follows_none : {D V : Type 0} (files : D → Option Files) (faults : D → ℕ) (script_db : ScriptDatabase) (most fuel : ℕ) (start : OpenCell D V) (text : List ℕ) → fuel ≡ most → Follows files faults script_db most fuel start start text text
+follows_none files faults script_db most fuel start text same =
+    record {
+      runs = λ c stands. record {
+        cell = c;
+        stands = stands;
+        items = [];
+        done = [];
+        is = λ more. ap (λ (n : ℕ). joined_run [] (all_delivered script_db n c more (first_waiting 1 c.handed))) (sym same);
+        told = sym (append-nil text);
+        causes = no_rise 0 (helds files faults start);
+        hosts = refl;
+      };
+      sound = λ bound sound. sound;
+      rises = no_rise 0 (helds files faults start);
+      same = refl;
+      keeps = λ sites read. read;
+    }
+
+module _ {D V : Type 0} (files : D → Option Files) (faults : D → ℕ) (script_db : ScriptDatabase) (most fuel : ℕ) (c : Cell) (start now later : OpenCell D V) (tb text after : List ℕ) (so : SoFar files faults script_db most (suc fuel) c start now tb text) (number : ℕ) (waits : first_waiting 1 so.cell.handed ≡ Some number) (ended : Option Ending) (told : CellTold files faults script_db (λ choices. Ok (delivered script_db so.cell (first_choice choices) number)) ended now later text after) where
+  -- what one more packet comes to
+  one_more : (more : List Choice) → all_delivered script_db most c ((so.done ++ first_choice told.choices ∷ []) ++ more) (first_waiting 1 c.handed)
+      ≡ joined_run so.items (unless_ended told.ran told.ran.ending (all_delivered script_db fuel told.ran.cell more (first_waiting 1 told.ran.cell.handed)))
+  one_more more =
+      let choice = first_choice told.choices in
+      let ran : delivered script_db so.cell choice number ≡ told.ran = let e = told.is in cc in
+      ap (λ (l : List Choice). all_delivered script_db most c l (first_waiting 1 c.handed)) (append_assoc so.done (choice ∷ []) more)
+      ∙ so.is (choice ∷ more)
+      ∙ ap (λ (o : Option ℕ). joined_run so.items (all_delivered script_db (suc fuel) so.cell (choice ∷ more) o)) waits
+      ∙ ap (λ (r : Cell_run). joined_run so.items (unless_ended r r.ending (all_delivered script_db fuel r.cell more (first_waiting 1 r.cell.handed)))) ran
+
+  all_told : after ≡ tb ++ trace script_db start.hosts.items (so.items ++ told.ran.items)
+  all_told =
+      told.told ∙ ap (λ (h : List Host). text ++ trace script_db h told.ran.items) so.hosts
+      ∙ ap (λ (l : List ℕ). l ++ trace script_db start.hosts.items told.ran.items) so.told
+      ∙ append_assoc tb (trace script_db start.hosts.items so.items) (trace script_db start.hosts.items told.ran.items)
+      ∙ ap (λ (l : List ℕ). tb ++ l) (sym (trace-append script_db start.hosts.items so.items told.ran.items))
+
+  -- the script goes on
+  pub goes_on : ended ≡ None → StandsFor later told.ran.cell → later.hosts.items ≡ now.hosts.items → SoFar files faults script_db most fuel c start later tb after
+  goes_on none stands hosts =
+      record {
+        cell = told.ran.cell;
+        stands = stands;
+        items = so.items ++ told.ran.items;
+        done = so.done ++ first_choice told.choices ∷ [];
+        is = λ more.
+            one_more more
+            ∙ ap (λ (e : Option Ending). joined_run so.items (unless_ended told.ran e (all_delivered script_db fuel told.ran.cell more (first_waiting 1 told.ran.cell.handed)))) (told.ends ∙ none)
+            ∙ joined so.items told.ran.items (all_delivered script_db fuel told.ran.cell more (first_waiting 1 told.ran.cell.handed));
+        told = all_told;
+        causes = rises_both 0 so.items told.ran.items (helds files faults start) (helds files faults now) (helds files faults later) so.causes told.causes;
+        hosts = hosts ∙ so.hosts;
+      }
+
+  -- the script ends in it
+  pub ends_there : (ending : Ending) → ended ≡ Some ending → AreReadBy told.ran.cell.run.world.sites (helds files faults later)
+      → CellTold files faults script_db (λ choices. Ok (all_delivered script_db most c choices (first_waiting 1 c.handed))) (Some ending) start later tb after
+  ends_there ending some read =
+      record {
+        choices = (so.done ++ first_choice told.choices ∷ []) ++ [];
+        ran = joined_run so.items told.ran;
+        is = ap Ok (one_more [] ∙ ap (λ (e : Option Ending). joined_run so.items (unless_ended told.ran e (all_delivered script_db fuel told.ran.cell [] (first_waiting 1 told.ran.cell.handed)))) (told.ends ∙ some));
+        ends = told.ends ∙ some;
+        cell = read;
+        told = all_told;
+        causes = rises_both 0 so.items told.ran.items (helds files faults start) (helds files faults now) (helds files faults later) so.causes told.causes;
+      }
+
+-- no packet waits any more, or there is no fuel left
+pub followed : {D V : Type 0} (files : D → Option Files) (faults : D → ℕ) (script_db : ScriptDatabase) (most fuel : ℕ) (c : Cell) (start now : OpenCell D V) (tb text : List ℕ) (so : SoFar files faults script_db most fuel c start now tb text)
+    → all_delivered script_db fuel so.cell [] (first_waiting 1 so.cell.handed) ≡ resting so.cell
+    → CellTold files faults script_db (λ choices. Ok (all_delivered script_db most c choices (first_waiting 1 c.handed))) None start now tb text
+followed files faults script_db most fuel c start now tb text so rests =
+    record {
+      choices = so.done ++ [];
+      ran = joined_run so.items (resting so.cell);
+      is = ap Ok (so.is [] ∙ ap (joined_run so.items) rests);
+      ends = refl;
+      cell = so.stands;
+      told = so.told ∙ ap (λ (l : List TraceItem). tb ++ trace script_db start.hosts.items l) (sym (append-nil so.items));
+      causes = subst (λ (l : List TraceItem). AreRises 0 l (helds files faults start) (helds files faults now)) (sym (append-nil so.items)) so.causes;
+    }
+
+pub none_left : (script_db : ScriptDatabase) (fuel : ℕ) (c : Cell) → first_waiting 1 c.handed ≡ None → all_delivered script_db fuel c [] (first_waiting 1 c.handed) ≡ resting c
+none_left script_db fuel c none = ap (all_delivered script_db fuel c []) none
+
+pub no_fuel : (script_db : ScriptDatabase) (c : Cell) (o : Option ℕ) → all_delivered script_db zero c [] o ≡ resting c
+no_fuel script_db c None = refl
+no_fuel script_db c (Some number) = refl
+
+IsNone : Option ℕ → Type 0
+IsNone None = Unit {0}
+IsNone (Some n) = ⊥
+
+-- the number of the packet that waits first is that of a packet
+pub is_waiting : (k : ℕ) (handed : List Bool) (number : ℕ) → first_waiting k handed ≡ Some number → (k ≤ number) × (number < k + length handed)
+unfolding IsNone
+is_waiting k [] number waits = let w : None ≡ Some number = waits in absurd (subst IsNone w tt)
+is_waiting k (false ∷ handed) number waits = let e : k ≡ number = let w : Some k ≡ Some number = waits in cc in (omega (arith, e), omega (arith, e))
+is_waiting k (true ∷ handed) number waits =
+    let later = is_waiting (k + 1) handed number waits in (omega (arith, later.0), omega (arith, later.1))
+
+-- sound cells of as many servers have the same hosts
+pub same_hosts : {D V : Type 0} (files : D → Option Files) (faults : D → ℕ) (bound other : ℕ) (now later : OpenCell D V) → IsSound files faults bound now → IsSound files faults other later → length later.sites.items ≡ length now.sites.items → later.hosts.items ≡ now.hosts.items
+same_hosts files faults bound other now later sound sounds same = sounds.hosts ∙ ap hosts_of same ∙ sym sound.hosts
+
+module _ {D V : Type 0} (files : D → Option Files) (faults : D → ℕ) (script_db : ScriptDatabase) (most n fuel bound : ℕ) (start now later : OpenCell D V) (tb text after : List ℕ) (follows : Follows files faults script_db most n start now tb text) (less : n ≡ suc fuel) (sound : IsSound files faults bound start) (number : ℕ) (waits : first_waiting 1 now.packets.handed ≡ Some number) where
+  before : (c : Cell) → StandsFor start c → SoFar files faults script_db most (suc fuel) c start now tb text
+  before c stands = subst (λ (m : ℕ). SoFar files faults script_db most m c start now tb text) less (follows.runs c stands)
+
+  -- one more packet was handed over
+  pub follows_more : ((c : Cell) → StandsFor now c → CellTold files faults script_db (λ choices. Ok (delivered script_db c (first_choice choices) number)) None now later text after)
+      → ((b : ℕ) → IsSound files faults b now → IsSound files faults b later) → AreRises 0 [] (helds files faults now) (helds files faults later) → length later.sites.items ≡ length now.sites.items
+      → ((sites : List ModelSite) → AreReadBy sites (helds files faults now) → AreReadBy sites (helds files faults later))
+      → Follows files faults script_db most fuel start later tb after
+  follows_more told sounds rises same keeps =
+      record {
+        runs = λ c stands.
+            let so = before c stands in
+            let t = told so.cell so.stands in
+            goes_on files faults script_db most fuel c start now later tb text after so number (ap (first_waiting 1) so.stands.handed ∙ waits) None t refl t.cell
+            (same_hosts files faults bound bound now later (follows.sound bound sound) (sounds bound (follows.sound bound sound)) same);
+        sound = λ b s. sounds b (follows.sound b s);
+        rises = rises_both 0 [] [] (helds files faults start) (helds files faults now) (helds files faults later) follows.rises rises;
+        same = same ∙ follows.same;
+        keeps = λ sites read. keeps sites (follows.keeps sites read);
+      }
+
+  -- the next one passes a limit
+  pub limit_there : (c : Cell) → StandsFor start c → (ending : Ending) → ((d : Cell) → StandsFor now d → CellTold files faults script_db (λ choices. Ok (delivered script_db d (first_choice choices) number)) (Some ending) now later text after)
+      → CellTold files faults script_db (λ choices. Ok (all_delivered script_db most c choices (first_waiting 1 c.handed))) (Some ending) start later tb after
+  limit_there c stands ending told =
+      let so = before c stands in
+      let t = told so.cell so.stands in
+      ends_there files faults script_db most fuel c start now later tb text after so number (ap (first_waiting 1) so.stands.handed ∙ waits) (Some ending) t ending refl t.cell
+
+-- none waits any more
+pub all_followed : {D V : Type 0} (files : D → Option Files) (faults : D → ℕ) (script_db : ScriptDatabase) (most fuel : ℕ) (start now : OpenCell D V) (tb text : List ℕ) → Follows files faults script_db most fuel start now tb text
+    → first_waiting 1 now.packets.handed ≡ None → (c : Cell) → StandsFor start c
+    → CellTold files faults script_db (λ choices. Ok (all_delivered script_db most c choices (first_waiting 1 c.handed))) None start now tb text
+all_followed files faults script_db most fuel start now tb text follows none c stands =
+    let so = follows.runs c stands in
+    followed files faults script_db most fuel c start now tb text so (none_left script_db fuel so.cell (ap (first_waiting 1) so.stands.handed ∙ none))
+
+-- as many were handed over as a script may send
+pub fuel_followed : {D V : Type 0} (files : D → Option Files) (faults : D → ℕ) (script_db : ScriptDatabase) (most fuel : ℕ) (start now : OpenCell D V) (tb text : List ℕ) → Follows files faults script_db most fuel start now tb text
+    → fuel ≡ zero → (c : Cell) → StandsFor start c
+    → CellTold files faults script_db (λ choices. Ok (all_delivered script_db most c choices (first_waiting 1 c.handed))) None start now tb text
+fuel_followed files faults script_db most fuel start now tb text follows none c stands =
+    let so = follows.runs c stands in
+    followed files faults script_db most fuel c start now tb text so (ap (λ (m : ℕ). all_delivered script_db m so.cell [] (first_waiting 1 so.cell.handed)) none ∙ no_fuel script_db so.cell (first_waiting 1 so.cell.handed))
+
+-- memory ran out in the next one
+pub short_there : {D V : Type 0} (files : D → Option Files) (faults : D → ℕ) (script_db : ScriptDatabase) (most fuel bound : ℕ) (start now later : OpenCell D V) (tb text : List ℕ) → Follows files faults script_db most fuel start now tb text
+    → IsSound files faults bound start → ((sites : List ModelSite) → AreReadBy sites (helds files faults now) → AreReadBy sites (helds files faults later))
+    → (run : List Choice → Run_or_why) (c : Cell) → StandsFor start c → IsShort files faults run c start later
+short_there files faults script_db most fuel bound start now later tb text follows sound keeps run c stands =
+    inl (keeps c.run.world.sites (follows.keeps c.run.world.sites (cell_reads files faults bound start c sound stands)))

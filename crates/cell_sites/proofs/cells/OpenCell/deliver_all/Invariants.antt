@@ -1,0 +1,10 @@
+use Rattle.std.proofs.Common.{◌-◌}
+use Rattle.std.specs.String.{string_bytes}
+use Rattle.cell_runs.specs.ScriptDatabase.{script_database}
+use Rattle.cell_runs.specs.declared.limits.TheConstants.{MAX_PACKETS}
+use Rattle.cell_sites.proofs.Following.{Follows}
+use Rattle.cell_sites.proofs.cells.OpenCell.deliver_all.Given as goal
+
+abbrev pub invariant-loop : goal.invariant-loop
+invariant-loop g l =
+    Follows g.D.Disk.files g.D.Disk.faults (script_database g.V.Service.database g.V.WordForms.words) MAX_PACKETS (MAX_PACKETS - l.counter) l.initial.self l.self (string_bytes l.initial.text) (string_bytes l.text)

@@ -1,0 +1,150 @@
+//! Packets that are handed to their receivers.
+ghost use Rattle.std.specs.Prelude.{◌≡◌, ◌≢◌, ◌<◌, ◌≤◌, ◌+◌, ◌-◌, ℕ, List, Some, None, IfOk, MatchBool, Ok, Err, length, slice_get, []};
+ghost use Rattle.std.specs.String.{string_bytes};
+ghost use Rattle.cell_model.specs.NodeRule.{place_of};
+ghost use Rattle.cell_model.specs.World.{Site as ModelSite};
+ghost use Rattle.cell_model.specs.Voters.{IsOfVotes};
+ghost use Rattle.cell_runs.specs.declared.endings.Ending.TheVariants as ending;
+ghost use Rattle.cell_runs.specs.declared.endings.Which.{Which as AWhich};
+ghost use Rattle.cell_runs.specs.ScriptDatabase.{script_database};
+ghost use Rattle.cell_runs.specs.Script.{Cell, Cell_run, Choice, first_choice, delivered, at_packet, run_in};
+ghost use Rattle.cell_script.specs.declared.lines.Line.TheVariants as line;
+ghost use Rattle.cell_script.specs.declared.lines.Why.{Why as AWhy};
+ghost use Rattle.cell_sites.specs.Disks.{AreReadBy, AreRises};
+ghost use Rattle.cell_sites.specs.Places.{IsDownAt, IsUpAt};
+ghost use Rattle.cell_sites.specs.Sites.{StandsFor, helds};
+ghost use Rattle.cell_sites.specs.Sound.{IsSound};
+ghost use Rattle.cell_sites.specs.Told.{CellTold, IsRefused, IsShort};
+
+use crate::cells::OpenCell;
+use crate::faults::LineFault;
+use crate::sites::Server;
+use cell_runs::{MAX_PACKETS, Mark, tell_mark};
+use cell_script::Why;
+use db_image::WordForms;
+use disk_base::StopDisk;
+use ubik_calls::{Body, Packet};
+use ubik_node::NodeEvent;
+use ubik_types::Host;
+
+impl<D: StopDisk, V: WordForms> OpenCell<D, V> {
+    /// Hands the packet of a number to its receiver, whether it waits or not. A server that is down loses it.
+    pub fn deliver(&mut self, number: u64, text: &mut String) -> Result<(), LineFault>
+        requires { (bound : ℕ) × IsSound D.files D.faults bound self.old }
+        ensures told { result ≡ Ok tt → (c : Cell) → StandsFor self.old c →
+            CellTold D.files D.faults (script_database V.database V.words) (λ choices. run_in (script_database V.database V.words) c choices (line.Deliver number)) None self.old self.new (string_bytes text.old) (string_bytes text.new) }
+        ensures limit { (which : AWhich) → result ≡ Err (LineFault.Limit which) → (c : Cell) → StandsFor self.old c →
+            CellTold D.files D.faults (script_database V.database V.words) (λ choices. run_in (script_database V.database V.words) c choices (line.Deliver number)) (Some (ending.Limit which)) self.old self.new (string_bytes text.old) (string_bytes text.new) }
+        ensures refused { (why : AWhy) → result ≡ Err (LineFault.Refused why) → (self.new ≡ self.old)
+            × ((c : Cell) → StandsFor self.old c → IsRefused why (λ choices. run_in (script_database V.database V.words) c choices (line.Deliver number))) }
+        ensures quiet { (why : AWhy) → result ≡ Err (LineFault.Refused why) → string_bytes text.new ≡ string_bytes text.old }
+        ensures short { result ≡ Err LineFault.NoMemory → (c : Cell) → StandsFor self.old c →
+            IsShort D.files D.faults (λ choices. run_in (script_database V.database V.words) c choices (line.Deliver number)) c self.old self.new }
+        ensures sound { result ≡ Ok tt → (bound : ℕ) → IsSound D.files D.faults bound self.old → IsSound D.files D.faults bound self.new }
+        ensures never_falls { AreRises 0 [] (helds D.files D.faults self.old) (helds D.files D.faults self.new) }
+        ensures same { length self.new.sites.items ≡ length self.old.sites.items }
+    {
+        let number = self.sent_number(number)?;
+        self.deliver_sent(number, text)
+    }
+
+    /// Hands all packets that wait to their receivers, the lowest number first, those among them that are sent meanwhile. There are no
+    /// more of them than a script may send.
+    pub fn deliver_all(&mut self, text: &mut String) -> Result<(), LineFault>
+        requires { (bound : ℕ) × IsSound D.files D.faults bound self.old }
+        ensures told { result ≡ Ok tt → (c : Cell) → StandsFor self.old c →
+            CellTold D.files D.faults (script_database V.database V.words) (λ choices. run_in (script_database V.database V.words) c choices line.DeliverAll) None self.old self.new (string_bytes text.old) (string_bytes text.new) }
+        ensures limit { (which : AWhich) → result ≡ Err (LineFault.Limit which) → (c : Cell) → StandsFor self.old c →
+            CellTold D.files D.faults (script_database V.database V.words) (λ choices. run_in (script_database V.database V.words) c choices line.DeliverAll) (Some (ending.Limit which)) self.old self.new (string_bytes text.old) (string_bytes text.new) }
+        ensures refused { (why : AWhy) → result ≢ Err (LineFault.Refused why) }
+        ensures short { result ≡ Err LineFault.NoMemory → (c : Cell) → StandsFor self.old c →
+            IsShort D.files D.faults (λ choices. run_in (script_database V.database V.words) c choices line.DeliverAll) c self.old self.new }
+        ensures sound { result ≡ Ok tt → (bound : ℕ) → IsSound D.files D.faults bound self.old → IsSound D.files D.faults bound self.new }
+        ensures never_falls { AreRises 0 [] (helds D.files D.faults self.old) (helds D.files D.faults self.new) }
+        ensures same { length self.new.sites.items ≡ length self.old.sites.items }
+    {
+        for _ in 0..MAX_PACKETS {
+            let Some(number) = self.packets.first_waiting() else {
+                return Ok(());
+            };
+            self.deliver_sent(number, text)?;
+        }
+        Ok(())
+    }
+
+    /// Hands over a packet that was sent.
+    fn deliver_sent(&mut self, number: u32, text: &mut String) -> Result<(), LineFault>
+        requires sound { (bound : ℕ) × IsSound D.files D.faults bound self.old }
+        requires some { 0 < number }
+        requires sent { number ≤ length self.old.packets.sent }
+        ensures told { result ≡ Ok tt → (c : Cell) → StandsFor self.old c →
+            CellTold D.files D.faults (script_database V.database V.words) (λ choices. Ok (delivered (script_database V.database V.words) c (first_choice choices) number)) None self.old self.new (string_bytes text.old) (string_bytes text.new) }
+        ensures limit { (which : AWhich) → result ≡ Err (LineFault.Limit which) → (c : Cell) → StandsFor self.old c →
+            CellTold D.files D.faults (script_database V.database V.words) (λ choices. Ok (delivered (script_database V.database V.words) c (first_choice choices) number)) (Some (ending.Limit which)) self.old self.new (string_bytes text.old) (string_bytes text.new) }
+        ensures refused { (why : AWhy) → result ≢ Err (LineFault.Refused why) }
+        ensures short { result ≡ Err LineFault.NoMemory → (c : Cell) → StandsFor self.old c →
+            IsShort D.files D.faults (λ choices. Ok (delivered (script_database V.database V.words) c (first_choice choices) number)) c self.old self.new }
+        ensures sound { result ≡ Ok tt → (bound : ℕ) → IsSound D.files D.faults bound self.old → IsSound D.files D.faults bound self.new }
+        ensures never_falls { AreRises 0 [] (helds D.files D.faults self.old) (helds D.files D.faults self.new) }
+        ensures same { length self.new.sites.items ≡ length self.old.sites.items }
+        // A packet of votes leaves what disks read as.
+        ensures keeps { (sites : List ModelSite) → AreReadBy sites (helds D.files D.faults self.old) → AreReadBy sites (helds D.files D.faults self.new) }
+    {
+        self.packets.hand_over(number);
+        let packet = copy_of_votes(self.packets.packet(number));
+        let Some(k) = place_of(&self.hosts, packet.to) else {
+            unreachable!();
+        };
+        if self.is_up(k) {
+            return self.step(k, NodeEvent::Packet(packet), &[], text);
+        }
+        let packet = number;
+        tell_mark(text, Mark::Lost { packet })?;
+        Ok(())
+    }
+
+    /// Whether the server at a place is up.
+    fn is_up(&self, k: usize) -> bool
+        requires { k < length self.now.sites.items }
+        ensures { MatchBool result (IsUpAt self.now k) (IsDownAt self.now k) }
+    {
+        match &self.sites[k].server {
+            Server::Down(_) => false,
+            Server::Up(_) => true,
+        }
+    }
+}
+
+/// The place of the server that has this host.
+fn place_of(hosts: &[Host], host: Host) -> Option<usize>
+    ensures { result ≡ place_of hosts.now host }
+{
+    hosts.iter().position(|other| other.0 == host.0)
+}
+
+/// A copy of a packet of votes, for which no memory is taken.
+fn copy_of_votes(packet: &Packet) -> Packet
+    requires { IsOfVotes packet.now.body }
+    ensures { result ≡ packet.now }
+{
+    let body = match packet.body {
+        Body::Beacon {
+            start,
+            claim,
+            ready,
+            version,
+        } => Body::Beacon {
+            start,
+            claim,
+            ready,
+            version,
+        },
+        Body::Vote { start, yes } => Body::Vote { start, yes },
+        _ => unreachable!(),
+    };
+    Packet {
+        from: packet.from,
+        to: packet.to,
+        body,
+    }
+}
