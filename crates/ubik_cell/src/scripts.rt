@@ -1,14 +1,15 @@
 //! The lines of a script, run one after the other.
-ghost use Rattle.std.specs.Prelude.{◌≡◌, ◌≢◌, ◌+◌, ◌<◌, ◌≤◌, ◌++◌, ℕ, List, [], length, Some, None, Ok, Err, All, IfOk, OnErr, vec_len, vec_capacity};
+ghost use Rattle.std.specs.Prelude.{◌≡◌, ◌≢◌, ◌+◌, ◌-◌, ◌<◌, ◌≤◌, ◌++◌, ℕ, List, [], length, Some, None, Ok, Err, All, IfOk, OnErr, Option, vec_len, vec_capacity, drop};
 ghost use Rattle.std.specs.String.{string_bytes};
 ghost use Rattle.disk_base.specs.Files.{no_files};
 ghost use Rattle.ubik_types.specs.declared.limits.TheConstants.{MAXSERVERS};
 ghost use Rattle.cell_script.specs.declared.readers.TheConstants.{MAX_LINE};
+ghost use Rattle.cell_runs.specs.Script.{LineRead, Stage, Told, first_told, line_result};
+ghost use Rattle.cell_runs.specs.Trace.{ending_text};
 ghost use Rattle.cell_runs.specs.declared.limits.TheConstants.{MAX_LINES};
-ghost use Rattle.cell_runs.specs.Script.{Told, first_told};
-ghost use Rattle.cell_runs.specs.ScriptDatabase.{script_database};
+ghost use Rattle.cell_runs.specs.ScriptDatabase.{Databases, script_database};
 ghost use Rattle.cell_sites.specs.Disks.{all_held};
-ghost use Rattle.ubik_cell.specs.Lines.{IsAt, IsSoundRun, LineTold, LineShort, only, run_helds};
+ghost use Rattle.ubik_cell.specs.Lines.{IsAt, IsSoundRun, LineTold, LineShort, only, run_helds, sites_in};
 
 use cell_runs::{Ending, MAX_LINES, Which, tell_ending};
 use cell_script::{Line, Why, Words, line_meaning};
@@ -35,8 +36,6 @@ pub struct CellRun<D: StopDisk, V: WordForms> {
     asks: u32,
     cell: Option<OpenCell<D, V>>,
     spare: Vec<D>,
-    ghost few_lines: { lines ≤ MAX_LINES },
-    ghost few_asks: { asks ≤ lines },
 }
 
 impl<D: StopDisk, V: WordForms> CellRun<D, V> {
@@ -47,6 +46,7 @@ impl<D: StopDisk, V: WordForms> CellRun<D, V> {
         ensures at { IfOk result (λ run. IsAt D.files D.faults run first_told) }
         ensures sound { IfOk result (λ run. IsSoundRun D.files D.faults run) }
         ensures taken { IfOk result (λ run. (disks.new.items ≡ []) × (vec_capacity disks.new ≡ vec_capacity disks.old)) }
+        ensures spare { IfOk result (λ run. (run.spare.items ≡ disks.old.items) × (sites_in run.cell ≡ 0)) }
         ensures kept { OnErr result (disks.new ≡ disks.old) }
     {
         let mut spare = Vec::with_capacity(alloc, disks.len())?;
@@ -69,10 +69,11 @@ impl<D: StopDisk, V: WordForms> CellRun<D, V> {
 
     /// Takes all servers down, and puts the disks into an empty list, each in its place.
     pub fn close(self, disks: &mut Vec<D>)
-        requires sound { IsSoundRun D.files D.faults self }
+        requires count { sites_in self.cell + length self.spare.items ≡ MAXSERVERS }
         requires empty { disks.old.items ≡ [] }
         requires room { MAXSERVERS ≤ vec_capacity disks.old }
         ensures held { all_held D.files D.faults disks.new.items ≡ run_helds D.files D.faults self }
+        ensures others { drop (sites_in self.cell) disks.new.items ≡ self.spare.items }
         ensures twenty { vec_len disks.new ≡ MAXSERVERS }
     {
         let CellRun {
@@ -201,8 +202,10 @@ impl<D: StopDisk, V: WordForms> CellRun<D, V> {
             LineTold D.files D.faults (only (script_database V.database V.words)) line.now t result self.new (string_bytes text.old) (string_bytes text.new) }
         ensures short { result ≡ Err RunEnd.NoMemory → (t : Told) → IsAt D.files D.faults self.old t → t.ended ≡ None →
             LineShort D.files D.faults (only (script_database V.database V.words)) line.now t self.new }
-        ensures sound { IsSoundRun D.files D.faults self.new }
-        ensures longer { result ≡ Ok () → self.new.lines ≡ self.old.lines + 1 }
+        ensures sound { result ≡ Ok tt → IsSoundRun D.files D.faults self.new }
+        ensures longer { result ≡ Ok tt → self.new.lines ≡ self.old.lines + 1 }
+        ensures disks { sites_in self.new.cell + length self.new.spare.items ≡ MAXSERVERS }
+        ensures spare { self.new.spare.items ≡ drop (sites_in self.new.cell - sites_in self.old.cell) self.old.spare.items }
     {
         match self.read_line(line, text) {
             Ok(()) => Ok(()),
@@ -213,17 +216,37 @@ impl<D: StopDisk, V: WordForms> CellRun<D, V> {
     }
 
     /// The next line of the script where it has more bytes than a line may have.
-    pub fn long_line(&self, text: &mut String) -> Result<(), RunEnd> {
-        let ending = if self.lines >= MAX_LINES {
-            Ending::Limit(Which::Lines)
-        } else {
-            Ending::Refused(Why::Syntax)
-        };
+    pub fn long_line(&self, text: &mut String) -> Result<(), RunEnd>
+        requires sound { IsSoundRun D.files D.faults self.now }
+        ensures told { result ≢ Err RunEnd.NoMemory → (line : List ℕ) (t : Told) → MAX_LINE < length line → IsAt D.files D.faults self.now t → t.ended ≡ None →
+            LineTold D.files D.faults (only (script_database V.database V.words)) line t result self.now (string_bytes text.old) (string_bytes text.new) }
+        ensures short { result ≡ Err RunEnd.NoMemory → (line : List ℕ) (t : Told) → IsAt D.files D.faults self.now t →
+            LineShort D.files D.faults (only (script_database V.database V.words)) line t self.now }
+        ensures ends { result ≢ Ok tt }
+    {
+        let ending = self.long_ending();
         self.end(ending, text)
     }
 
+    /// How the script ends at the next line where it has more bytes than a line may have.
+    fn long_ending(&self) -> Ending
+        ensures { (dbs : Databases) (st : Stage) (r : LineRead) → st.lines ≡ self.now.lines → MAX_LINE < length r.line →
+            line_result dbs st r ≡ Err result }
+    {
+        if self.lines >= MAX_LINES {
+            Ending::Limit(Which::Lines)
+        } else {
+            Ending::Refused(Why::Syntax)
+        }
+    }
+
     /// Tells that the script ends in the next line, and why.
-    fn end(&self, ending: Ending, text: &mut String) -> Result<(), RunEnd> {
+    fn end(&self, ending: Ending, text: &mut String) -> Result<(), RunEnd>
+        requires few { self.now.lines ≤ MAX_LINES }
+        ensures told { result ≢ Err RunEnd.NoMemory → (result ≡ Err (RunEnd.Ended ending))
+            × (string_bytes text.new ≡ string_bytes text.old ++ ending_text (self.now.lines + 1) ending) }
+        ensures ends { result ≢ Ok tt }
+    {
         match tell_ending(text, self.lines + 1, ending) {
             Ok(()) => Err(RunEnd::Ended(ending)),
             Err(NoMemory) => Err(RunEnd::NoMemory),

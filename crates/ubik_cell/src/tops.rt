@@ -74,11 +74,15 @@ fn turn<S: Source, K: Sink, D: StopDisk, V: WordForms>(
 ) -> Option<CellKind>
     requires sound { IsSoundRun D.files D.faults run.old }
     ensures goes { result ≡ None → IfSome (K.written out.old) (λ written. (script before : List ℕ) →
-        SoFar D.files D.faults (only (script_database V.database V.words)) script reader.old.ended (S.left input.old) before (Some written) run.old →
-        SoFar D.files D.faults (only (script_database V.database V.words)) script reader.new.ended (S.left input.new) before (K.written out.new) run.new) }
+        SoFar D.files D.faults (only (script_database V.database V.words)) script reader.old.ended (S.left input.old) before
+        (Some written) run.old →
+        SoFar D.files D.faults (only (script_database V.database V.words)) script reader.new.ended (S.left input.new) before
+        (K.written out.new) run.new) }
     ensures ends { IfSome result (λ kind. IfSome (K.written out.old) (λ written. (script before : List ℕ) →
-        SoFar D.files D.faults (only (script_database V.database V.words)) script reader.old.ended (S.left input.old) before (Some written) run.old →
-        Ran kind (only (script_database V.database V.words)) script (S.left input.new) before (K.written out.new) (sites_in run.new.cell) (run_helds D.files D.faults run.new))) }
+        SoFar D.files D.faults (only (script_database V.database V.words)) script reader.old.ended (S.left input.old) before
+        (Some written) run.old →
+        Ran kind (only (script_database V.database V.words)) script (S.left input.new) before (K.written out.new)
+        (sites_in run.new.cell) (run_helds D.files D.faults run.new))) }
     ensures sound { result ≡ None → IsSoundRun D.files D.faults run.new }
     ensures longer { result ≡ None → run.new.lines ≡ run.old.lines + 1 }
     ensures disks { sites_in run.new.cell + length run.new.spare.items ≡ MAXSERVERS }
@@ -113,7 +117,8 @@ fn run_script<S: Source, K: Sink, D: StopDisk, V: WordForms>(
     requires twenty { vec_len disks.old ≡ MAXSERVERS }
     requires empty { All (λ disk. D.files disk ≡ Some no_files) disks.old.items }
     ensures ran { IfSome (S.left input.old) (λ script. IfSome (K.written out.old) (λ before.
-        RanOver D.files D.faults result (only (script_database V.database V.words)) script (S.left input.new) before (K.written out.new) disks.old.items disks.new.items)) }
+        RanOver D.files D.faults result (only (script_database V.database V.words)) script (S.left input.new) before (K.written out.new)
+        disks.old.items disks.new.items)) }
     ensures read_cause { HasCause (S.faults input.old) (S.faults input.new) (result ≡ CellKind.ReadFault) }
     ensures write_cause { HasCause (K.faults out.old) (K.faults out.new) (result ≡ CellKind.WriteFault) }
     ensures no_words { (place : ℕ) → result ≢ CellKind.Words place }

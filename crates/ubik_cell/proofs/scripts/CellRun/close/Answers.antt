@@ -1,0 +1,19 @@
+use Rattle.std.proofs.Common.{rules, ◌≡◌, ◌++◌, List, sym, ap, ◌∙◌}
+use Rattle.cell_sites.specs.Sites.{disks_of}
+use Rattle.ubik_cell.proofs.Closing.{cell_disks, closed_helds}
+use Rattle.ubik_cell.proofs.scripts.CellRun.close.Goals as goal
+use Rattle.ubik_cell.proofs.scripts.CellRun.close.Goals.{in-Some, in_default}
+
+pub returns-clause-held : goal.returns-clause-held
+returns-clause-held g c =
+    let spare = c.args.self.spare.items in
+    let of_cell : c.match-cell.disks.items ≡ cell_disks c.args.self.cell =
+    elim c.match-cell.branch [
+      in-Some w ↦ ap (λ d. d.items) w.disks-is ∙ w.close.ensures.disks
+          ∙ ap (λ (l : List _). l ++ disks_of w.in-Some.cell) c.requires.empty ∙ sym (ap cell_disks w.in-Some.is)
+    | in_default w ↦ ap (λ d. d.items) w.disks-is ∙ c.requires.empty ∙ sym (ap cell_disks w.in_default.is)
+    ] in
+    let joined : c.append.new.self.items ≡ c.match-cell.disks.items ++ spare =
+    search (rules, c.append.ensures, c.unwrap.ensures) in
+    closed_helds g.D.Disk.files g.D.Disk.faults c.args.self.cell spare c.append.new.self.items
+    (joined ∙ ap (λ (l : List _). l ++ spare) of_cell)
