@@ -22,17 +22,17 @@ padded_none (Some bytes) size at now told none zero = λ i below. zero i
 pub padded_front : (held : Option (List ℕ)) (size at n : ℕ) (cleared now : List ℕ) → IfSome held (λ bytes. length bytes ≡ size)
     → n ≡ min (size - at) (length now)
     → ((i : ℕ) → slice_index cleared i ≡ 0) → drop n now ≡ drop n cleared → IfSome held (λ bytes. take n now ≡ take n (drop at bytes))
-        → IfSome held (λ bytes. ShowsFrom at bytes now)
+    → IfSome held (λ bytes. ShowsFrom at bytes now)
 padded_front None size at n cleared now told count zero behind front = tt
 padded_front (Some bytes) size at n cleared now told count zero behind front = λ i below.
     ⊎_elim
     (λ (before : i < n).
     sym (get_or-take n now i 0 before) ∙ ap (λ (xs : List ℕ). slice_index xs i) front ∙ get_or-take n (drop at bytes) i 0 before
-        ∙ get_or-drop at bytes i 0)
+    ∙ get_or-drop at bytes i 0)
     (λ (past : n ≤ i).
     let e : n + (i - n) ≡ i = omega arith in
     ap (slice_index now) (sym e) ∙ sym (get_or-drop n now (i - n) 0) ∙ ap (λ (xs : List ℕ). slice_index xs (i - n)) behind
-        ∙ get_or-drop n cleared (i - n) 0
+    ∙ get_or-drop n cleared (i - n) 0
     ∙ zero (n + (i - n)) ∙ sym (get_or_past bytes (at + i) 0 (omega (arith, told, count, past, below))))
     (cases_lt i n)
 
@@ -50,7 +50,7 @@ bytes_at o beneath at below = get_or-map-range_with_len (λ (p : ℕ). byte_over
 pub read_is : (held : Option (List ℕ)) (o : Overlay) (at n : ℕ) (padded now : List ℕ) → at + n ≤ o.len → length now ≡ n
     → length padded ≡ n → IfSome held (λ bytes. ShowsFrom at bytes padded)
     → ((i : ℕ) → i < length now → slice_index now i ≡ byte_over o (at + i) (slice_index padded i))
-        → IfSome held (λ bytes. now ≡ take n (drop at (bytes_over o bytes)))
+    → IfSome held (λ bytes. now ≡ take n (drop at (bytes_over o bytes)))
 read_is None o at n padded now within len long shows covered = tt
 read_is (Some bytes) o at n padded now within len long shows covered =
     let all : List ℕ = bytes_over o bytes in
@@ -73,7 +73,7 @@ over_none (Some bytes) o none told =
     bytes_at o bytes i (omega (arith, below, bytes_len o bytes))
     ∙ byte_is o i (slice_index bytes i)
     ∙ ap (λ (b : Option ChangedBlock). byte_of b (i - block_start o.layout (block_number o.layout i)) (slice_index bytes i))
-        (none (block_number o.layout i))))
+    (none (block_number o.layout i))))
 
 pub over_told : (held : Option (List ℕ)) (o : Overlay) → IfSome (option_map (bytes_over o) held) (λ bytes. length bytes ≡ o.len)
 over_told None o = tt

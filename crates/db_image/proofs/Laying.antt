@@ -88,7 +88,7 @@ lays_then o m n at xs ys first then = record {
 stays_in : (o n : Overlay) (k : ℕ) (b c : ChangedBlock) (q beneath : ℕ) → 0 < o.layout.block → changed_at o k ≡ Some b
     → Replaces k c o n → block_number o.layout q ≡ k
     → slice_index c.new.items (q - block_start o.layout k) ≡ slice_index b.new.items (q - block_start o.layout k)
-        → byte_over n q beneath ≡ byte_over o q beneath
+    → byte_over n q beneath ≡ byte_over o q beneath
 stays_in o n k b c q beneath some was replaces here same =
     let lies : (block_start o.layout k ≤ q) × (q < block_start o.layout k + block_size o.layout k) =
     subst (λ (r : ℕ). (block_start o.layout r ≤ q) × (q < block_start o.layout r + block_size o.layout r)) here (lies_in o.layout q some) in
@@ -109,12 +109,12 @@ before_part l q at p some place here before =
 -- bytes that are laid over a part of one block
 pub lays_part : (o n : Overlay) (at : ℕ) (p : Place) (bytes : List ℕ) (b c : ChangedBlock) → 0 < o.layout.block → IsPlace o.layout at p
     → changed_at o p.number ≡ Some b → Replaces p.number c o n → IsLaidOver p.offset bytes b c
-        → p.offset + length bytes ≤ length b.new.items
+    → p.offset + length bytes ≤ length b.new.items
     → length b.new.items ≡ block_size o.layout p.number → Lays at bytes o n
 lays_part o n at p bytes b c some place was replaces laid fits full = record {
   inside = λ i beneath below.
       byte_in n p.number (p.offset + i) (at + i) beneath (rw replaces.layout (omega (arith, place.offset)))
-          (rw replaces.layout (omega (arith, below, fits, full)))
+      (rw replaces.layout (omega (arith, below, fits, full)))
       ∙ ap (λ (d : Option ChangedBlock). byte_of d (p.offset + i) beneath) replaces.here
       ∙ ap (λ (xs : List ℕ). slice_index xs (p.offset + i)) laid.new
       ∙ over_at b.new.items bytes p.offset i fits below;
@@ -151,12 +151,12 @@ pair_of (Some b) (Some c) offset bytes some here = (b, c, refl, refl, here)
 -- what a write in one block leaves
 pub lays_from : (o n : Overlay) (at : ℕ) (p : Place) (bytes : List ℕ) → IsSome (changed_at o (block_number o.layout at))
     → IfSome (changed_at o p.number) (λ b. IsSomeAnd (changed_at n p.number) (λ c. IsLaidOver p.offset bytes b c)) → ((q : ℕ)
-        → q ≢ p.number → changed_at n q ≡ changed_at o q)
+    → q ≢ p.number → changed_at n q ≡ changed_at o q)
     → n.len ≡ o.len → n.layout ≡ o.layout → 0 < o.layout.block → IsPlace o.layout at p → IsFull o → p.offset + length bytes ≤ p.size
-        → Lays at bytes o n
+    → Lays at bytes o n
 lays_from o n at p bytes some here others len layout positive place full fits =
     let two = pair_of (changed_at o p.number) (changed_at n p.number) p.offset bytes (subst (λ (k : ℕ). IsSome (changed_at o k))
-        (sym place.number) some) here in
+    (sym place.number) some) here in
     let whole : length two.0.new.items ≡ block_size o.layout p.number = full p.number two.0 two.2 in
     lays_part o n at p bytes two.0 two.1 positive place two.2
     (record { here = two.3; others = others; len = len; layout = layout }) two.4 (omega (arith, whole, place.size, fits)) whole

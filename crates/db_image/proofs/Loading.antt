@@ -21,7 +21,7 @@ pub record IsFresh (l : Layout) (size : ℕ) (beneath : Option (List ℕ)) (k : 
 padded_past : (xs : List ℕ) (n i : ℕ) → length xs ≤ i → slice_index (xs ++ replicate n 0) i ≡ 0
 padded_past xs n i past =
     ⊎_elim (λ (in_zeros : i - length xs < n). grind (arith, places)) (λ (behind : n ≤ i - length xs). grind (arith, places))
-        (cases_lt (i - length xs) n)
+    (cases_lt (i - length xs) n)
 
 padded_at : (bytes : List ℕ) (start size i : ℕ) → i < size
     → slice_index (block_at bytes start size ++ replicate (size - length (block_at bytes start size)) 0) i ≡ slice_index bytes (start + i)
@@ -77,12 +77,12 @@ is_kept o n k b q replaces is =
 loaded_byte : (o n : Overlay) (size : ℕ) (bytes : List ℕ) (k : ℕ) (b : ChangedBlock) (at : ℕ) → 0 < o.layout.block
     → changed_at o k ≡ None → Replaces k b o n
     → b.old.items ≡ block_at bytes (block_start o.layout k) (block_size o.layout k)
-        → b.new.items ≡ b.old.items ++ replicate (block_size o.layout k - length b.old.items) 0
+    → b.new.items ≡ b.old.items ++ replicate (block_size o.layout k - length b.old.items) 0
     → block_number o.layout at ≡ k → byte_over n at (slice_index bytes at) ≡ byte_over o at (slice_index bytes at)
 loaded_byte o n size bytes k b at some absent replaces old new here =
     let lies : (block_start o.layout k ≤ at) × (at < block_start o.layout k + block_size o.layout k) =
     subst (λ (q : ℕ). (block_start o.layout q ≤ at) × (at < block_start o.layout q + block_size o.layout q))
-        here (lies_in o.layout at some) in
+    here (lies_in o.layout at some) in
     let i : ℕ = at - block_start o.layout k in
     let e : block_start o.layout k + i ≡ at = omega (arith, lies.0) in
     let x : ℕ = slice_index bytes at in
@@ -120,7 +120,7 @@ loads_laid o n size beneath k b laid replaces fresh = record {
       let this : b ≡ c = cc (replaces.here, is, same) in
       subst (λ (d : ChangedBlock). IsChanged o.layout o.len beneath q d) this
       (subst (λ (r : ℕ). IsChanged o.layout o.len beneath r b) (sym same)
-          (fresh_is_changed o.layout size o.len beneath k b laid.longer fresh)))
+      (fresh_is_changed o.layout size o.len beneath k b laid.longer fresh)))
       (λ (other : q ≢ k). laid.each q c (sym (replaces.others q other) ∙ is))
       (cases_eq q k));
   grown = λ grows. rw replaces.layout (is_kept o n k b (block_number o.layout size) replaces (laid.grown (omega (arith, replaces.len))));
@@ -133,7 +133,7 @@ loads_same o n size beneath k b some absent replaces fresh = record {
   bytes = λ bytes is at.
       ⊎_elim
       (λ (same : block_number o.layout at ≡ k). loaded_byte o n size bytes k b at some absent replaces (fresh.bytes bytes is)
-          fresh.new same)
+      fresh.new same)
       (λ (other : block_number o.layout at ≢ k). byte_stays o n at (slice_index bytes at) replaces.layout (replaces.others _ other))
       (cases_eq (block_number o.layout at) k);
   len = replaces.len;

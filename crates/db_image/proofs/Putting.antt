@@ -43,7 +43,7 @@ raised_laid o n end size beneath laid raises grown = record {
 zero_behind : (o n : Overlay) (at size : ℕ) (bytes : List ℕ) (beneath : Option (List ℕ)) (k : ℕ) (b c : ChangedBlock)
     → IsLaid o size beneath → at + length bytes ≤ o.len → Lays at bytes o n
     → changed_at o k ≡ Some b → changed_at n k ≡ Some c → length c.new.items ≡ block_size o.layout k → (i : ℕ)
-        → o.len ≤ block_start o.layout k + i → slice_index c.new.items i ≡ 0
+    → o.len ≤ block_start o.layout k + i → slice_index c.new.items i ≡ 0
 zero_behind o n at size bytes beneath k b c laid within lays was is full i past =
     ⊎_elim
     (λ (inside : i < block_size o.layout k).
@@ -100,7 +100,7 @@ changed_len image bytes at = grind (arith, places)
 changed_before : (image bytes : List ℕ) (at p : ℕ) → p < at → slice_index (changed image (Put at bytes)) p ≡ slice_index image p
 changed_before image bytes at p before =
     ⊎_elim (λ (there : p < length image). grind (arith, places)) (λ (past : length image ≤ p). grind (arith, places))
-        (cases_lt p (length image))
+    (cases_lt p (length image))
 
 changed_in : (image bytes : List ℕ) (at i : ℕ) → i < length bytes
     → slice_index (changed image (Put at bytes)) (at + i) ≡ slice_index bytes i
@@ -121,7 +121,7 @@ put_bytes (Some xs) o m r n size at bytes laid same raises after lays =
     bytes_len n xs ∙ omega (arith, lays.len, raises.len, same.len, changed_len image bytes at, bytes_len o xs) in
     let was : (p : ℕ) → byte_over r p (slice_index xs p) ≡ slice_index image p =
     λ p. byte_stays m r p (slice_index xs p) raises.layout (raises.blocks (block_number m.layout p)) ∙ same.bytes xs refl p
-        ∙ sym (shown o size xs p laid) in
+    ∙ sym (shown o size xs p laid) in
     ext_get_or 0 (bytes_over n xs) (changed image (Put at bytes)) long (λ p below.
     shown n size xs p after
     ∙ ⊎_elim
@@ -150,12 +150,12 @@ same_bytes (Some xs) o m size laid after same =
 pub put_laid : (m r n : Overlay) (at size : ℕ) (bytes : List ℕ) (beneath : Option (List ℕ)) → Lays at bytes r n → IsFull n
     → IsLaid m size beneath
     → (m.len < at + length bytes → IsSome (changed_at m (block_number m.layout size))) → ((k : ℕ) → changed_at r k ≡ changed_at m k)
-        → r.layout ≡ m.layout
+    → r.layout ≡ m.layout
     → r.len ≡ max m.len (at + length bytes) → IsLaid n size beneath
 put_laid m r n at size bytes beneath lays full laid grown blocks layout len =
     lays_laid r n at size bytes beneath
     (raised_laid m r (at + length bytes) size beneath laid (record { blocks = blocks; layout = layout; len = len }) grown)
-        (omega (arith, len)) lays full
+    (omega (arith, len)) lays full
 
 -- and its bytes are those of the put
 pub put_shows : (o m r n : Overlay) (at size : ℕ) (bytes : List ℕ) (beneath : Option (List ℕ)) → Lays at bytes r n

@@ -48,13 +48,13 @@ reached_more l at end from p some place below r =
 pub reads_block : {I : Type 0} (g : Ghosts I) (l : Layout) (at end from : ℕ) (p : Place) (a b c : I) (first failed : Type 0)
     → 0 < l.block → IsPlace l from p
     → Reached l at end from → ReadsAtMost g (begin_of l from - begin_of l at) a b first
-        → ReadsAtMost g (block_size l (block_number l from)) b c failed
+    → ReadsAtMost g (block_size l (block_number l from)) b c failed
     → ReadsAtMost g (begin_of l (from + (p.size - p.offset)) - begin_of l at) a c failed
 reads_block g l at end from p a b c first failed some place r before now =
     let begins : begin_of l (from + (p.size - p.offset)) ≡ begin_of l from + block_size l (block_number l from) =
     ap (begin_of l) (end_is l from p place) ∙ next_start l (block_number l from) some in
     reads_then g (begin_of l from - begin_of l at)
-        (block_size l (block_number l from)) _ a b c first failed before now (omega (arith, begins, r.not_before))
+    (block_size l (block_number l from)) _ a b c first failed before now (omega (arith, begins, r.not_before))
 
 -- the whole range costs no more than a put of its length
 pub cost_within : (l : Layout) (at end from : ℕ) → 0 < l.block → Reached l at end from

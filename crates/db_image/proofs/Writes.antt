@@ -49,5 +49,5 @@ written_more f a k n first now part w within len same is =
       before = written_at f a k first now part w within len is;
       behind = λ i from below.
           written_after a k now part i from within len
-              ∙ w.behind i (omega arith) (omega (arith, below, written_len a k now part within len));
+          ∙ w.behind i (omega arith) (omega (arith, below, written_len a k now part within len));
     }

@@ -42,7 +42,13 @@ fn a_draft_gives_its_changes(rt: HostRuntime) -> Result<(), Fail> {
     draft.put(8, b"ijk")?;
     let changes = draft.finish()?;
     match changes.as_slice() {
-        [Change::Put { at: 7, bytes: end }, Change::Put { at: 10, bytes: last }] => {
+        [
+            Change::Put { at: 7, bytes: end },
+            Change::Put {
+                at: 10,
+                bytes: last,
+            },
+        ] => {
             assert_eq!(rt; end.as_slice(), b"hij".as_slice());
             assert_eq!(rt; last.as_slice(), b"k".as_slice());
         }

@@ -341,7 +341,7 @@ impl Overlay {
         requires at { at ≡ block_start self.now.layout number }
         ensures { IfOk result (λ found. (beneath : List ℕ) → IsLaid self.now size (Some beneath)
             → IsChangeOf (block_at beneath at (block_size self.now.layout number))
-                (block_at (bytes_over self.now beneath) at (block_size self.now.layout number)) found) }
+            (block_at (bytes_over self.now beneath) at (block_size self.now.layout number)) found) }
     {
         let block = size_of(self.layout, number);
         let count = self.len.saturating_sub(at).min(block) as usize;

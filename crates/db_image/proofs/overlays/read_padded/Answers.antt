@@ -5,10 +5,10 @@ use Rattle.db_image.proofs.overlays.read_padded.Goals as goal
 pub returns-then-held-eq0-clause-bytes : goal.returns-then-held-eq0-clause-bytes
 returns-then-held-eq0-clause-bytes g c = λ done.
     padded_none (g.I.ImageRead.held c.args.image.now)
-        (g.I.ImageRead.size c.args.image.now) c.args.at c.clear.new.buf c.len.ensures.told (omega arith) c.clear.ensures
+    (g.I.ImageRead.size c.args.image.now) c.args.at c.clear.new.buf c.len.ensures.told (omega arith) c.clear.ensures
 
 pub returns-clause-bytes : goal.returns-clause-bytes
 returns-clause-bytes g c = λ done.
     padded_front (g.I.ImageRead.held c.args.image.now)
-        (g.I.ImageRead.size c.args.image.now) c.args.at c.min-held.result c.clear.new.buf c.read_front.new.buf
+    (g.I.ImageRead.size c.args.image.now) c.args.at c.min-held.result c.clear.new.buf c.read_front.new.buf
     c.len.ensures.told (omega arith) c.clear.ensures c.read_front.ensures.behind (c.read_front.ensures.front done)

@@ -14,7 +14,7 @@ returns-in_err-insert-clause-same g c = keeps_same c.args.self.now c.insert.new.
 
 fresh : (g : Over) (c : goal.In_ok-insert g)
     → IsFresh c.args.self.now.layout (g.I.ImageRead.size c.args.image.now)
-        (g.I.ImageRead.held c.args.image.now) c.place_of-place.result.number
+    (g.I.ImageRead.held c.args.image.now) c.place_of-place.result.number
     record { old = c.in_ok-old.old; new = c.in_ok-new.new }
 fresh g c =
     let l = c.args.self.now.layout in

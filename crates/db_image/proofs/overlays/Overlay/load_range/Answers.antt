@@ -17,7 +17,7 @@ returns-in_err-load-clause-reads g c =
     let some : 0 < l.block = subst (λ (m : Layout). 0 < m.block) inv.same.layout inv.laid.block in
     let place : IsPlace l from p = subst (λ (m : Layout). IsPlace m from p) inv.same.layout c.place_of-place.ensures in
     let read = subst (λ (m : Layout). ReadsAtMost g.I.ImageRead (block_size m (block_number m from))
-        c.loop-from.image c.load.new.image (IsErrOf c.load.result DiskFault))
+    c.loop-from.image c.load.new.image (IsErrOf c.load.result DiskFault))
     inv.same.layout c.load.ensures.reads in
     reads_within g.I.ImageRead _ _ c.args.image.now c.load.new.image _ _
     (reads_block g.I.ImageRead l c.args.at c.args.end from p c.args.image.now c.loop-from.image c.load.new.image _ _ some place inv.reached inv.reads read)
@@ -33,7 +33,7 @@ loop-from-preserved g c =
     let some : 0 < l.block = subst (λ (m : Layout). 0 < m.block) inv.same.layout inv.laid.block in
     let place : IsPlace l from p = subst (λ (m : Layout). IsPlace m from p) inv.same.layout c.place_of-place.ensures in
     let read = subst (λ (m : Layout). ReadsAtMost g.I.ImageRead (block_size m (block_number m from))
-        c.loop-from.image c.load.new.image (IsErrOf c.load.result DiskFault))
+    c.loop-from.image c.load.new.image (IsErrOf c.load.result DiskFault))
     inv.same.layout c.load.ensures.reads in
     record {
       laid = rw (c.load.ensures.reads.reads.size, c.load.ensures.reads.reads.held) c.load.ensures.laid;
