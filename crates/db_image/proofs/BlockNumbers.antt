@@ -71,3 +71,8 @@ next_start l k some =
 pub size_most : (l : Layout) (k : ℕ) → block_size l k ≤ l.head + l.block
 size_most l zero = omega arith
 size_most l (suc k) = omega arith
+
+pub mul_more : (b k : ℕ) → b * (k + 1) ≡ b * k + b
+mul_more b k =
+    let e : k + 1 ≡ suc k = omega arith in
+    ap (λ (n : ℕ). b * n) e ∙ omega (arith, mul-suc b k)

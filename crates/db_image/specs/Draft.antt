@@ -1,5 +1,5 @@
 -- A draft: an image beneath, and blocks that were changed over it.
-use Rattle.std.specs.Prelude.{ℕ, ◌+◌, ◌-◌, ◌*◌, ◌<◌, ◌≤◌, ◌≡◌, ◌≢◌, List, Option, Some, IsSome, ◌++◌, length, map, take, drop, slice_index}
+use Rattle.std.specs.Prelude.{ℕ, ◌+◌, ◌-◌, ◌*◌, ◌<◌, ◌≤◌, ◌≡◌, ◌≢◌, List, Option, Some, None, IsSome, ◌++◌, length, map, take, drop, slice_index}
 use Rattle.std.specs.BTreeMap.{get}
 use Rattle.std.specs.List.{range_with_len}
 use Rattle.std.specs.Option.{option_map_or, ForSome}
@@ -115,3 +115,8 @@ range_cost l count = count + 2 * (l.head + l.block)
 -- how many bytes are read at most where so many are put: those blocks, and the one in which the image ends
 abbrev pub put_cost : Layout → ℕ → ℕ
 put_cost l count = (l.head + l.block) + range_cost l count
+
+-- what becomes of a block: nothing, or its bytes as they are now
+abbrev pub IsChangeOf : (old new : List ℕ) → Option (List ℕ) → Type 0
+IsChangeOf old new None = new ≡ old
+IsChangeOf old new (Some bytes) = (bytes ≡ new) × (new ≢ old)

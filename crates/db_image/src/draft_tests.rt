@@ -1,6 +1,7 @@
 //! A draft against a plain vector.
 use crate::{Draft, ImageRead, ReadEnd, VecImage};
 use std::test::Fail;
+use ubik_types::Change;
 
 /// Where bytes are put, and they.
 type Put = (u32, &'static [u8]);
@@ -28,6 +29,30 @@ fn a_draft_reads_what_was_put(rt: HostRuntime) -> Result<(), Fail> {
         let part = &mut all[..wanted.len()];
         assert_eq!(rt; draft.read(0, part), ReadEnd::Done);
         assert!(rt; &*part == wanted, "after {bytes:?} at {at}");
+    }
+    Ok(())
+}
+
+#[test]
+fn a_draft_gives_its_changes(rt: HostRuntime) -> Result<(), Fail> {
+    let image = VecImage::new(rt.alloc(), b"abcdefgh")?;
+    let mut draft = Draft::over(rt.alloc(), image, 4, 3);
+    // The same bytes again make no change; a new last block is put, and the block in which the image ended.
+    draft.put(4, b"ef")?;
+    draft.put(8, b"ijk")?;
+    let changes = draft.finish()?;
+    match changes.as_slice() {
+        [
+            Change::Put { at: 7, bytes: end },
+            Change::Put {
+                at: 10,
+                bytes: last,
+            },
+        ] => {
+            assert_eq!(rt; end.as_slice(), b"hij".as_slice());
+            assert_eq!(rt; last.as_slice(), b"k".as_slice());
+        }
+        _ => panic!(rt; "other changes"),
     }
     Ok(())
 }

@@ -13,6 +13,7 @@ use crate::{ImageRead, Layout, ReadEnd, RecordFault};
 use std::alloc::Global;
 use std::collections::BTreeMap;
 use std::marker::Model;
+use ubik_types::Changes;
 
 /// An image with changed blocks. It reads the image beneath where no block was changed, and keeps only the blocks that were.
 #[derive(Drop)]
@@ -68,6 +69,16 @@ impl<I: ImageRead> Draft<I> {
             (IsErrOf result RecordFault.DiskFault) }
     {
         self.over.put(&mut self.image, at, bytes)
+    }
+
+    /// One put of each whole block that is new or in which a byte is another one than beneath, ascending. The image is not read.
+    pub fn finish(self) -> Result<Changes, RecordFault>
+        ensures changes { IfOk result (λ changes. IfSome (I.held self.image) (λ old. IfSome self.bytes (λ new.
+            changes ≡ changes_between self.layout.head self.layout.block old new))) }
+        ensures fault { IfErr result (λ fault. fault ≡ RecordFault.NoMemory) }
+    {
+        let changes = self.over.changes(self.image.len())?;
+        Ok(changes)
     }
 }
 

@@ -1,18 +1,19 @@
 //! Changed blocks over an image.
-ghost use Rattle.std.specs.Prelude.{◌≡◌, ◌≢◌, ◌+◌, ◌-◌, ◌*◌, ◌<◌, ◌≤◌, ◌^◌, ℕ, List, Some, IfSome, IsSome, IsSomeAnd, OnOk, OnErr, IfErr, IfOk, IsErrOf, length, slice_index, min, max, take, drop, replicate, ◌++◌};
+ghost use Rattle.std.specs.Prelude.{◌≡◌, ◌≢◌, ◌+◌, ◌-◌, ◌*◌, ◌<◌, ◌≤◌, ◌^◌, ℕ, List, Some, IfSome, IsSome, IsSomeAnd, OnOk, OnErr, IfErr, IfOk, IsErrOf, length, slice_index, min, max, take, drop, replicate, ◌++◌, []};
 ghost use Rattle.std.specs.Option.{ForSome, option_copied};
 ghost use Rattle.ubik_types.specs.Image.{changed};
 ghost use Rattle.ubik_types.specs.declared.images.Change.TheVariants.{Put};
 ghost use Rattle.db_image.specs.Images.{OnlyReads, ReadsAtMost, IsOfImage};
-ghost use Rattle.db_image.specs.Blocks.{block_at, block_change};
+ghost use Rattle.db_image.specs.Blocks.{block_at, block_change, changes_between};
 ghost use Rattle.db_image.specs.Places.{block_number, block_start, block_size};
-ghost use Rattle.db_image.specs.Draft.{changed_at, byte_of, byte_over, IsLaid, IsFull, SameBytes, IsLoaded, Lays, Replaces, Keeps, IsLaidOver, ShowsFrom, bytes_over, range_cost, put_cost};
+ghost use Rattle.db_image.specs.Draft.{changed_at, byte_of, byte_over, IsLaid, IsFull, SameBytes, IsLoaded, Lays, Replaces, Keeps, IsLaidOver, ShowsFrom, bytes_over, range_cost, put_cost, IsChangeOf};
 
-use crate::places::place_of;
+use crate::places::{place_of, size_of};
 use crate::services::Layout;
 use crate::{ImageRead, ReadEnd, RecordFault};
 use std::alloc::{AllocError, Global};
 use std::collections::BTreeMap;
+use ubik_types::{Bytes, Change, Changes, NoMemory, bytes_of, changes_new, changes_push};
 
 /// A block that was changed: what it was, as far as the image beneath goes, and the whole block as it is.
 #[derive(Drop)]
@@ -105,6 +106,32 @@ fn padded(alloc: Global, bytes: &[u8], len: usize) -> Result<Vec<u8>, AllocError
         all.push(0)?;
     }
     Ok(all)
+}
+
+/// A changed block's first bytes, where they are other ones than beneath.
+fn changed_bytes(
+    alloc: Global,
+    block: &ChangedBlock,
+    count: usize,
+) -> Result<Option<Bytes>, NoMemory>
+    requires { count ≤ length block.now.new.items }
+    ensures { IfOk result (λ found. IsChangeOf block.now.old.items (take count block.now.new.items) found) }
+{
+    let new = &block.new[..count];
+    if new == block.old.as_slice() {
+        return Ok(None);
+    }
+    Ok(Some(bytes_of(alloc, new)?))
+}
+
+/// The zero bytes of a new block, which has some.
+fn zero_bytes(alloc: Global, count: usize) -> Result<Option<Bytes>, NoMemory>
+    ensures { IfOk result (λ found. IsChangeOf [] (replicate count 0) found) }
+{
+    if count == 0 {
+        return Ok(None);
+    }
+    Ok(Some(Bytes::new(padded(alloc, &[], count)?)))
 }
 
 impl Overlay {
@@ -306,5 +333,61 @@ impl Overlay {
         self.len = self.len.max(end);
         self.lay(at, bytes);
         Ok(())
+    }
+
+    /// A block as it is, where it is new or a byte of it is another one than beneath, in an image of `size` bytes.
+    fn change_of(&self, size: u32, number: u64, at: u32) -> Result<Option<Bytes>, NoMemory>
+        requires full { IsFull self.now }
+        requires at { at ≡ block_start self.now.layout number }
+        ensures { IfOk result (λ found. (beneath : List ℕ) → IsLaid self.now size (Some beneath)
+            → IsChangeOf (block_at beneath at (block_size self.now.layout number))
+            (block_at (bytes_over self.now beneath) at (block_size self.now.layout number)) found) }
+    {
+        let block = size_of(self.layout, number);
+        let count = self.len.saturating_sub(at).min(block) as usize;
+        match self.blocks.get(&number) {
+            Some(changed) => changed_bytes(self.alloc, changed, count),
+            None if at < size => Ok(None),
+            None => zero_bytes(self.alloc, count),
+        }
+    }
+
+    /// Adds the put of a block, where it is new or a byte of it is another one than beneath.
+    fn push_change(
+        &self,
+        changes: &mut Changes,
+        size: u32,
+        number: u64,
+        at: u32,
+    ) -> Result<(), NoMemory>
+        requires full { IsFull self.now }
+        requires at { at ≡ block_start self.now.layout number }
+        ensures { OnOk result ((beneath : List ℕ) → IsLaid self.now size (Some beneath)
+            → changes.new ≡ changes.old ++ block_change beneath (bytes_over self.now beneath) at (block_size self.now.layout number)) }
+    {
+        let Some(bytes) = self.change_of(size, number, at)? else {
+            return Ok(());
+        };
+        changes_push(changes, Change::Put { at, bytes })
+    }
+
+    /// The puts of all blocks that are new or in which a byte is another one than beneath, ascending.
+    pub fn changes(&self, size: u32) -> Result<Changes, NoMemory>
+        requires full { IsFull self.now }
+        ensures { IfOk result (λ changes. (beneath : List ℕ) → IsLaid self.now size (Some beneath)
+            → changes ≡ changes_between self.now.layout.head self.now.layout.block beneath (bytes_over self.now beneath)) }
+    {
+        let mut changes = changes_new(self.alloc);
+        self.push_change(&mut changes, size, 0, 0)?;
+        let len = u64::from(self.len);
+        let mut at = u64::from(self.layout.head);
+        for index in 0..len {
+            if at >= len {
+                break;
+            }
+            self.push_change(&mut changes, size, index + 1, at as u32)?;
+            at += u64::from(self.layout.block);
+        }
+        Ok(changes)
     }
 }

@@ -1,6 +1,6 @@
 //! The blocks of a layout: where a position lies.
-ghost use Rattle.std.specs.Prelude.{◌<◌, ◌^◌};
-ghost use Rattle.db_image.specs.Places.{IsPlace};
+ghost use Rattle.std.specs.Prelude.{◌≡◌, ◌<◌, ◌^◌};
+ghost use Rattle.db_image.specs.Places.{IsPlace, block_size};
 
 use crate::services::Layout;
 
@@ -35,5 +35,15 @@ pub fn place_of(layout: Layout, at: u64) -> Place
         number: 1 + behind / block,
         offset: behind % block,
         size: block,
+    }
+}
+
+/// The length of a block.
+pub fn size_of(layout: Layout, number: u64) -> u32
+    ensures { result ≡ block_size layout number }
+{
+    match number {
+        0 => layout.head,
+        _ => layout.block,
     }
 }
