@@ -1,9 +1,16 @@
+pub mod CellLines
 pub mod Closing
 pub mod Completeness
 pub mod Consuming
 pub mod Ends
 pub mod Headlines
 pub mod Holding
+pub mod KeptHosts
+pub mod Lifting
+pub mod LineDisks
+pub mod LineReads
+pub mod Opened
+pub mod Opening
 pub mod Refusing
 pub mod Starting
 pub mod Telling

@@ -1,5 +1,6 @@
 pub mod Disks
 pub mod Headline
+pub mod LineRuns
 pub mod Lines
 pub mod Runs
 pub mod Turns

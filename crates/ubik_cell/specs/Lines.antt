@@ -137,25 +137,30 @@ pub record LineShort {D V : Type 0} (files : D → Option Files) (faults : D →
   pub causes : HeldCauses t.stage.cell t.items (run_helds files faults after)
   pub held : AreReadFirst (sites_of t.stage.cell) (run_helds files faults after) ⊎ HeldAfter dbs line t (run_helds files faults after)
 
--- A line was run in a stage with some choices: it ended so, and what it told was added to a text.
-pub record StageTold {D V : Type 0} (files : D → Option Files) (faults : D → ℕ) (dbs : Databases)
-    (run : List Choice → Result Line_run Why) (ended : Option Ending) (before after : CellRun D V)
+-- A line was run in a stage with some choices: it ended so, and what it told was added to a text. Each fault that was told has its cause.
+pub record StageTold {D V : Type 0} (files : D → Option Files) (faults : D → ℕ) {E : Type 0} (dbs : Databases)
+    (run : List Choice → Result Line_run E) (ended : Option Ending) (before after : CellRun D V)
     (text_before text_after : List ℕ) : Type 0 where
   pub choices : List Choice
   pub ran : Line_run
   pub is : run choices ≡ Ok ran
   pub ends : ran.ending ≡ ended
   pub near : ended ≡ None → IsNear 1 after ran.stage
+  pub servers : sites_in after.cell ≡ servers_of ran.stage.cell
   pub read : AreReadFirst (sites_of ran.stage.cell) (run_helds files faults after)
   pub told : text_after ≡ text_before ++ text_in dbs ran.stage.cell ran.items
   pub causes : (items : List TraceItem) → HasCauses files faults before.cell items → HasCauses files faults after.cell (items ++ ran.items)
+  pub held : (items : List TraceItem) → HasCauses files faults before.cell items
+      → HeldCauses ran.stage.cell (items ++ ran.items) (run_helds files faults after)
+  pub kept : (c : Option Cell) (items : List TraceItem) → CellStandsFor before.cell c → HasCauses files faults before.cell items
+      → HeldCauses c items (run_helds files faults after)
 
 -- a line is refused for this reason, whatever its choices
 abbrev pub IsRefusedLine : Why → (List Choice → Result Line_run Why) → Type 0
 IsRefusedLine why run = (choices : List Choice) → run choices ≡ Err why
 
--- what memory that ran out in a line left on the disks: what stood there before it, or what it left with some choices
-pub record ShortAfter {D V : Type 0} (files : D → Option Files) (faults : D → ℕ) (run : List Choice → Result Line_run Why)
+-- what a line in which memory ran out left on the disks, with some choices
+pub record ShortAfter {D V : Type 0} (files : D → Option Files) (faults : D → ℕ) {E : Type 0} (run : List Choice → Result Line_run E)
     (before after : CellRun D V) : Type 0 where
   pub choices : List Choice
   pub ran : Line_run
@@ -164,9 +169,8 @@ pub record ShortAfter {D V : Type 0} (files : D → Option Files) (faults : D �
   pub causes : (items : List TraceItem) → HasCauses files faults before.cell items
       → HeldCauses ran.stage.cell (items ++ ran.items) (run_helds files faults after)
 
-abbrev pub StageShort : {D V : Type 0} → (D → Option Files) → (D → ℕ) → (List Choice → Result Line_run Why) → Stage
-    → (before after : CellRun D V) → Type 0
-StageShort files faults run st before after =
-    (AreReadFirst (sites_of st.cell) (run_helds files faults after)
-    × ((items : List TraceItem) → HasCauses files faults before.cell items → HeldCauses st.cell items (run_helds files faults after)))
-    ⊎ ShortAfter files faults run before after
+-- Memory ran out in a line: each fault that was told before it has its cause, and the disks read as before it, or as after it.
+pub record StageShort {D V : Type 0} (files : D → Option Files) (faults : D → ℕ) {E : Type 0} (run : List Choice → Result Line_run E)
+    (st : Stage) (before after : CellRun D V) : Type 0 where
+  pub causes : (items : List TraceItem) → HasCauses files faults before.cell items → HeldCauses st.cell items (run_helds files faults after)
+  pub held : AreReadFirst (sites_of st.cell) (run_helds files faults after) ⊎ ShortAfter files faults run before after

@@ -1,21 +1,33 @@
 //! The lines of a script, run one after the other.
-ghost use Rattle.std.specs.Prelude.{◌≡◌, ◌≢◌, ◌+◌, ◌-◌, ◌<◌, ◌≤◌, ◌++◌, ℕ, List, [], length, Some, None, Ok, Err, All, IfOk, OnErr, Option, vec_len, vec_capacity, drop};
+ghost use Rattle.std.specs.Prelude.{◌≡◌, ◌≢◌, ◌+◌, ◌-◌, ◌<◌, ◌≤◌, ◌++◌, ℕ, List, [], length, Some, None, Ok, Err, All, IfOk, OnErr, OnOk, Option, take, vec_len, vec_capacity, drop, if◌then◌else◌};
 ghost use Rattle.std.specs.String.{string_bytes};
 ghost use Rattle.disk_base.specs.Files.{no_files};
-ghost use Rattle.ubik_types.specs.declared.limits.TheConstants.{MAXSERVERS};
+ghost use Rattle.ubik_types.specs.declared.limits.TheConstants.{MAXSERVERS, MAX_MOMENT};
+ghost use Rattle.ubik_types.specs.Moment.{IsMoment};
+ghost use Rattle.cell_script.specs.Meaning.{HasBounds, line_of};
+ghost use Rattle.cell_script.specs.declared.lines.Kind.{Kind};
+ghost use Rattle.cell_script.specs.declared.lines.Line.TheVariants as line;
+ghost use Rattle.cell_script.specs.declared.lines.Why.TheVariants as Why;
+ghost use Rattle.cell_script.specs.declared.lines.TheConstants.{MAX_CLOCK, MAX_TICK};
 ghost use Rattle.cell_script.specs.declared.readers.TheConstants.{MAX_LINE};
-ghost use Rattle.cell_runs.specs.Script.{LineRead, Stage, Told, first_told, line_result};
-ghost use Rattle.cell_runs.specs.Trace.{ending_text};
 ghost use Rattle.cell_runs.specs.declared.limits.TheConstants.{MAX_LINES};
+ghost use Rattle.cell_runs.specs.Script.{LineRead, Stage, Told, first_told, line_result, run_in};
+ghost use Rattle.cell_runs.specs.Trace.{ending_text};
 ghost use Rattle.cell_runs.specs.ScriptDatabase.{Databases, script_database};
 ghost use Rattle.cell_sites.specs.Disks.{all_held};
-ghost use Rattle.ubik_cell.specs.Lines.{IsAt, IsSoundRun, LineTold, LineShort, only, run_helds, sites_in};
+ghost use Rattle.cell_sites.specs.Opened.{ArePartOpened, HasRoom};
+ghost use Rattle.cell_sites.specs.Sites.{helds};
+ghost use Rattle.cell_sites.specs.Sound.{IsSound};
+ghost use Rattle.script_laws.specs.Built.{IsBuiltLine};
+ghost use Rattle.ubik_cell.specs.LineRuns.{CellDone, KeepsCell, KeepsRun, LineDone, ReadDone};
+ghost use Rattle.ubik_cell.specs.Lines.{IsAt, IsSoundBy, IsSoundRun, LineTold, LineShort, IsUnwritten, only, run_helds, sites_in};
 
 use cell_runs::{Ending, MAX_LINES, Which, tell_ending};
 use cell_script::{Line, Why, Words, line_meaning};
-use cell_sites::{LineFault, OpenCell};
+use cell_sites::{LineFault, OpenCell, law_cell_opened};
 use db_image::WordForms;
 use disk_base::StopDisk;
+use script_laws::law_lines_are_built;
 use std::alloc::Global;
 use ubik_types::NoMemory;
 
@@ -87,37 +99,37 @@ impl<D: StopDisk, V: WordForms> CellRun<D, V> {
     }
 
     /// How many servers the cell has that stands; 0 where none does.
-    fn servers(&self) -> usize {
-        self.cell.as_ref().map_or(0, |cell| cell.servers())
+    fn servers(&self) -> usize
+        ensures { result ≡ sites_in self.now.cell }
+    {
+        match &self.cell {
+            None => 0,
+            Some(cell) => cell.servers(),
+        }
     }
 
     /// Opens a cell of so many servers at a clock: at first and once.
     fn open(&mut self, servers: u32, clock: u32, text: &mut String) -> Result<(), LineFault>
-        requires bounds { HasBounds (Line.Cell servers clock Kind.Protection) }
+        requires some { 1 ≤ servers }
+        requires few { servers ≤ MAXSERVERS }
+        requires moment { IsMoment clock }
+        requires early { clock ≤ MAX_CLOCK }
         requires room { self.old.lines < MAX_LINES }
         requires sound { IsSoundRun D.files D.faults self.old }
-        ensures told { result ≡ Ok () → (st : Stage) → IsNear 0 self.old st →
-            StageTold D.files D.faults (only (script_database V.database V.words)) (λ choices. line_run (only (script_database V.database V.words)) (next_line st) choices (Line.Cell servers clock Kind.Protection) st.cell) None self.old self.new (string_bytes text.old) (string_bytes text.new) }
-        ensures limit { (w : Which) → result ≡ Err (LineFault.Limit w) → (st : Stage) → IsNear 0 self.old st →
-            StageTold D.files D.faults (only (script_database V.database V.words)) (λ choices. line_run (only (script_database V.database V.words)) (next_line st) choices (Line.Cell servers clock Kind.Protection) st.cell) (Some (Ending.Limit w)) self.old self.new (string_bytes text.old) (string_bytes text.new) }
-        ensures refused { (why : Why) → result ≡ Err (LineFault.Refused why) → (st : Stage) → IsNear 0 self.old st → IsRefusedLine why (λ choices. line_run (only (script_database V.database V.words)) (next_line st) choices (Line.Cell servers clock Kind.Protection) st.cell) }
-        ensures quiet { (why : Why) → result ≡ Err (LineFault.Refused why) → (self.new ≡ self.old) × (string_bytes text.new ≡ string_bytes text.old) }
-        ensures short { result ≡ Err LineFault.NoMemory → (st : Stage) → IsNear 0 self.old st →
-            StageShort D.files D.faults (λ choices. line_run (only (script_database V.database V.words)) (next_line st) choices (Line.Cell servers clock Kind.Protection) st.cell) st self.old self.new }
-        ensures sound { result ≡ Ok () → IsSoundRun D.files D.faults self.new }
-        ensures disks { sites_in self.new.cell + vec_len self.new.spare ≡ MAXSERVERS }
-        ensures spare { self.new.spare.items ≡ drop (sites_in self.new.cell - sites_in self.old.cell) self.old.spare.items }
-        ensures lines { self.new.lines ≡ self.old.lines }
+        ensures done { (k : Kind) → LineDone D.files D.faults (script_database V.database V.words) (line.Cell servers clock k) result
+            self.old self.new (string_bytes text.old) (string_bytes text.new) }
+        ensures kept { KeepsRun D.files D.faults result self.old self.new }
     {
         if self.cell.is_some() {
             return Err(Why::Cell.into());
         }
+        law_cell_opened::<D, V>();
         let mut cell = OpenCell::new(self.alloc, servers as usize)?;
         let opened = open_servers(&mut cell, &mut self.spare, servers, clock, text);
-        if let Some(cell) = self.cell.replace(cell) {
-            cell.close(&mut self.spare);
+        match self.cell.replace(cell) {
+            None => Ok(opened?),
+            Some(_) => unreachable!(),
         }
-        Ok(opened?)
     }
 
     /// Asks a server a call in words. Once a cell stands the words come first: the number of the server is judged after them.
@@ -129,18 +141,9 @@ impl<D: StopDisk, V: WordForms> CellRun<D, V> {
     ) -> Result<(), LineFault>
         requires room { self.old.lines < MAX_LINES }
         requires sound { IsSoundRun D.files D.faults self.old }
-        ensures told { result ≡ Ok () → (st : Stage) → IsNear 0 self.old st →
-            StageTold D.files D.faults (only (script_database V.database V.words)) (λ choices. line_run (only (script_database V.database V.words)) (next_line st) choices (Line.Ask server words.now) st.cell) None self.old self.new (string_bytes text.old) (string_bytes text.new) }
-        ensures limit { (w : Which) → result ≡ Err (LineFault.Limit w) → (st : Stage) → IsNear 0 self.old st →
-            StageTold D.files D.faults (only (script_database V.database V.words)) (λ choices. line_run (only (script_database V.database V.words)) (next_line st) choices (Line.Ask server words.now) st.cell) (Some (Ending.Limit w)) self.old self.new (string_bytes text.old) (string_bytes text.new) }
-        ensures refused { (why : Why) → result ≡ Err (LineFault.Refused why) → (st : Stage) → IsNear 0 self.old st → IsRefusedLine why (λ choices. line_run (only (script_database V.database V.words)) (next_line st) choices (Line.Ask server words.now) st.cell) }
-        ensures quiet { (why : Why) → result ≡ Err (LineFault.Refused why) → (self.new ≡ self.old) × (string_bytes text.new ≡ string_bytes text.old) }
-        ensures short { result ≡ Err LineFault.NoMemory → (st : Stage) → IsNear 0 self.old st →
-            StageShort D.files D.faults (λ choices. line_run (only (script_database V.database V.words)) (next_line st) choices (Line.Ask server words.now) st.cell) st self.old self.new }
-        ensures sound { result ≡ Ok () → IsSoundRun D.files D.faults self.new }
-        ensures disks { sites_in self.new.cell + vec_len self.new.spare ≡ MAXSERVERS }
-        ensures spare { self.new.spare.items ≡ drop (sites_in self.new.cell - sites_in self.old.cell) self.old.spare.items }
-        ensures lines { self.new.lines ≡ self.old.lines }
+        ensures done { LineDone D.files D.faults (script_database V.database V.words) (line.Ask server words.now) result
+            self.old self.new (string_bytes text.old) (string_bytes text.new) }
+        ensures kept { KeepsRun D.files D.faults result self.old self.new }
     {
         let Some(cell) = &mut self.cell else {
             return Err(server.map_or(Why::Number, |_| Why::Cell).into());
@@ -158,26 +161,29 @@ impl<D: StopDisk, V: WordForms> CellRun<D, V> {
     /// A line that was understood.
     fn run_line(&mut self, line: &Line, text: &mut String) -> Result<(), LineFault>
         requires bounds { HasBounds line.now }
+        requires built { IsBuiltLine (sites_in self.old.cell) line.now }
         requires room { self.old.lines < MAX_LINES }
         requires sound { IsSoundRun D.files D.faults self.old }
-        ensures told { result ≡ Ok () → (st : Stage) → IsNear 0 self.old st →
-            StageTold D.files D.faults (only (script_database V.database V.words)) (λ choices. line_run (only (script_database V.database V.words)) (next_line st) choices line.now st.cell) None self.old self.new (string_bytes text.old) (string_bytes text.new) }
-        ensures limit { (w : Which) → result ≡ Err (LineFault.Limit w) → (st : Stage) → IsNear 0 self.old st →
-            StageTold D.files D.faults (only (script_database V.database V.words)) (λ choices. line_run (only (script_database V.database V.words)) (next_line st) choices line.now st.cell) (Some (Ending.Limit w)) self.old self.new (string_bytes text.old) (string_bytes text.new) }
-        ensures refused { (why : Why) → result ≡ Err (LineFault.Refused why) → (st : Stage) → IsNear 0 self.old st → IsRefusedLine why (λ choices. line_run (only (script_database V.database V.words)) (next_line st) choices line.now st.cell) }
-        ensures quiet { (why : Why) → result ≡ Err (LineFault.Refused why) → (self.new ≡ self.old) × (string_bytes text.new ≡ string_bytes text.old) }
-        ensures short { result ≡ Err LineFault.NoMemory → (st : Stage) → IsNear 0 self.old st →
-            StageShort D.files D.faults (λ choices. line_run (only (script_database V.database V.words)) (next_line st) choices line.now st.cell) st self.old self.new }
-        ensures sound { result ≡ Ok () → IsSoundRun D.files D.faults self.new }
-        ensures disks { sites_in self.new.cell + vec_len self.new.spare ≡ MAXSERVERS }
-        ensures spare { self.new.spare.items ≡ drop (sites_in self.new.cell - sites_in self.old.cell) self.old.spare.items }
-        ensures lines { self.new.lines ≡ self.old.lines }
+        ensures done { LineDone D.files D.faults (script_database V.database V.words) line.now result
+            self.old self.new (string_bytes text.old) (string_bytes text.new) }
+        ensures kept { KeepsRun D.files D.faults result self.old self.new }
     {
         match line {
             Line::Nothing => Ok(()),
             Line::Cell { servers, clock, .. } => self.open(*servers, *clock, text),
             Line::Ask { server, call } => self.ask(*server, call, text),
-            line => match &mut self.cell {
+            Line::Tick { .. }
+            | Line::TickAll { .. }
+            | Line::Beacon { .. }
+            | Line::Recover { .. }
+            | Line::Deliver { .. }
+            | Line::Drop { .. }
+            | Line::DropAll { .. }
+            | Line::DeliverAll
+            | Line::Stop { .. }
+            | Line::Crash { .. }
+            | Line::Restart { .. }
+            | Line::Show { .. } => match &mut self.cell {
                 None => Err(Why::Cell.into()),
                 Some(cell) => run_in_cell(cell, line, text),
             },
@@ -185,14 +191,19 @@ impl<D: StopDisk, V: WordForms> CellRun<D, V> {
     }
 
     /// A line as it was read. A script has 20,000 of them at most.
-    fn read_line(&mut self, line: &[u8], text: &mut String) -> Result<(), LineFault> {
+    fn read_line(&mut self, line: &[u8], text: &mut String) -> Result<(), LineFault>
+        requires sound { IsSoundRun D.files D.faults self.old }
+        ensures done { ReadDone D.files D.faults (script_database V.database V.words) line.now result
+            self.old self.new (string_bytes text.old) (string_bytes text.new) }
+        ensures kept { KeepsRun D.files D.faults result self.old self.new }
+    {
         if self.lines >= MAX_LINES {
             return Err(LineFault::Limit(Which::Lines));
         }
+        law_lines_are_built();
         let meaning = line_meaning(self.alloc, line, self.servers())?;
-        self.run_line(&meaning?, text)?;
-        self.lines += 1;
-        Ok(())
+        let line = meaning?;
+        self.run_line(&line, text)
     }
 
     /// The next line of the script, without its LF: what is told of it is added to the text, and, where the script ends in it, why.
@@ -208,7 +219,10 @@ impl<D: StopDisk, V: WordForms> CellRun<D, V> {
         ensures spare { self.new.spare.items ≡ drop (sites_in self.new.cell - sites_in self.old.cell) self.old.spare.items }
     {
         match self.read_line(line, text) {
-            Ok(()) => Ok(()),
+            Ok(()) => {
+                self.lines += 1;
+                Ok(())
+            }
             Err(LineFault::NoMemory) => Err(RunEnd::NoMemory),
             Err(LineFault::Refused(why)) => self.end(Ending::Refused(why), text),
             Err(LineFault::Limit(which)) => self.end(Ending::Limit(which), text),
@@ -254,14 +268,30 @@ impl<D: StopDisk, V: WordForms> CellRun<D, V> {
     }
 }
 
-/// Opens the servers of a cell, each over the next of these disks, at a clock.
+/// Opens the servers of a cell over these disks, one after the other. Each disk has its place in the cell also where memory ran out.
 fn open_servers<D: StopDisk, V: WordForms>(
     cell: &mut OpenCell<D, V>,
     spare: &mut Vec<D>,
     servers: u32,
     clock: u32,
     text: &mut String,
-) -> Result<(), NoMemory> {
+) -> Result<(), NoMemory>
+    requires moment { IsMoment clock }
+    requires room { HasRoom cell.old }
+    requires none { cell.old.sites.items ≡ [] }
+    requires servers { servers ≡ length cell.old.hosts.items }
+    requires enough { servers ≤ vec_len spare.old }
+    requires empty { All (λ disk. D.files disk ≡ Some no_files) spare.old.items }
+    requires opened { ArePartOpened D.files D.faults (script_database V.database V.words) clock [] cell.old (string_bytes text.old) (string_bytes text.old) }
+    ensures opened { OnOk result (ArePartOpened D.files D.faults (script_database V.database V.words) clock (take servers spare.old.items)
+        cell.new (string_bytes text.old) (string_bytes text.new)) }
+    ensures all { OnOk result (length cell.new.sites.items ≡ servers) }
+    ensures spare { spare.new.items ≡ drop (length cell.new.sites.items) spare.old.items }
+    ensures unwritten { All IsUnwritten (helds D.files D.faults cell.new) }
+    ensures room { HasRoom cell.new }
+    ensures hosts { cell.new.hosts.items ≡ cell.old.hosts.items }
+    ensures few { length cell.new.sites.items ≤ servers }
+{
     for _ in 0..servers {
         let disk = spare.remove(0);
         cell.open_next(disk, clock, text)?;
@@ -274,8 +304,18 @@ fn run_in_cell<D: StopDisk, V: WordForms>(
     cell: &mut OpenCell<D, V>,
     line: &Line,
     text: &mut String,
-) -> Result<(), LineFault> {
+) -> Result<(), LineFault>
+    requires bounds { HasBounds line.now }
+    requires built { IsBuiltLine (length cell.old.sites.items) line.now }
+    requires sound { (bound : ℕ) × IsSound D.files D.faults bound cell.old × (bound + MAX_TICK ≤ MAX_MOMENT) }
+    ensures done { CellDone D.files D.faults (script_database V.database V.words)
+        (λ c choices. run_in (script_database V.database V.words) c choices line.now) result
+        cell.old cell.new (string_bytes text.old) (string_bytes text.new) }
+    ensures kept { KeepsCell D.files D.faults result cell.old cell.new }
+{
     match line {
+        Line::Nothing => Ok(()),
+        Line::Cell { .. } => Err(Why::Cell.into()),
         Line::Tick { server, seconds } => Ok(cell.tick(*server, *seconds)?),
         Line::TickAll { seconds } => Ok(cell.tick_all(*seconds)),
         Line::Beacon { server } => cell.beacon(*server, text),
@@ -285,13 +325,15 @@ fn run_in_cell<D: StopDisk, V: WordForms>(
         Line::DropAll { server } => Ok(cell.drop_all(*server)?),
         Line::DeliverAll => cell.deliver_all(text),
         Line::Show { server } => cell.show(*server, text),
-        Line::Cell { .. } => Err(Why::Cell.into()),
-        _ => Ok(()),
+        Line::Ask { .. } => Err(Why::Syntax.into()),
+        Line::Stop { .. } | Line::Crash { .. } | Line::Restart { .. } => Ok(()),
     }
 }
 
 /// Why words that name no call are refused.
-fn why_no_call<V: WordForms>(words: &Words) -> Why {
+fn why_no_call<V: WordForms>(words: &Words) -> Why
+    ensures { result ≡ (if V.words.is_unbuilt words.now then Why.Unbuilt else Why.Syntax) }
+{
     if V::is_unbuilt(words.as_slice()) {
         Why::Unbuilt
     } else {

@@ -1,0 +1,127 @@
+-- A line in a cell that stands, by what each method of the cell says.
+use Rattle.std.proofs.Common.{◌≡◌, ◌⊎◌, ℕ, zero, suc, ◌+◌, ◌≤◌, List, [], ◌∷◌, ◌++◌, length, refl, sym, ap, subst, ◌∙◌, arith}
+use Rattle.std.proofs.lemmas.List.{append-nil}
+use Rattle.std.specs.Prelude.{Option, Some, None, Result, Ok, Err}
+use Rattle.std.specs.Result.{IsErrAnd}
+use Rattle.disk_base.specs.Files.{Files}
+use Rattle.ubik_types.specs.declared.hosts.Host.{Host}
+use Rattle.cell_script.specs.declared.lines.Line.{Line}
+use Rattle.cell_script.specs.declared.lines.Line.TheVariants as line
+use Rattle.cell_script.specs.declared.lines.TheConstants.{MAX_TICK}
+use Rattle.cell_script.specs.declared.lines.Why.{Why}
+use Rattle.cell_runs.specs.declared.endings.Ending.TheVariants as ending
+use Rattle.cell_runs.specs.declared.endings.Which.{Which}
+use Rattle.cell_runs.specs.Script.{Cell, Choice, Run_or_why, resting, run_in}
+use Rattle.cell_runs.specs.ScriptDatabase.{ScriptDatabase}
+use Rattle.cell_sites.specs.declared.cells.OpenCell.{OpenCell}
+use Rattle.cell_sites.specs.declared.faults.LineFault.{LineFault}
+use Rattle.cell_sites.specs.declared.faults.LineFault.TheVariants.{Refused, Limit, NoMemory}
+use Rattle.cell_sites.specs.declared.sites.Site.{Site}
+use Rattle.cell_sites.specs.Disks.{Held, AreRises}
+use Rattle.cell_sites.specs.Sites.{StandsFor, helds}
+use Rattle.cell_sites.specs.Sound.{AreSound, IsSound}
+use Rattle.cell_sites.specs.Told.{CellTold, IsRefused, IsShort}
+use Rattle.ubik_cell.specs.LineRuns.{CellDone, KeepsCell}
+
+-- ---- what stays sound
+
+sites_raised : {D V : Type 0} (files : D → Option Files) (faults : D → ℕ) (hosts : List Host) (place bound later : ℕ) (sites : List (Site D V)) → bound ≤ later
+    → AreSound files faults hosts place bound sites → AreSound files faults hosts place later sites
+sites_raised files faults hosts place bound later [] more sound = tt
+sites_raised files faults hosts place bound later (site ∷ sites) more sound =
+    (record { moment = sound.0.moment; within = omega (arith, sound.0.within); server = sound.0.server },
+    sites_raised files faults hosts (place + 1) bound later sites more sound.1)
+
+pub raised : {D V : Type 0} (files : D → Option Files) (faults : D → ℕ) (bound later : ℕ) (running : OpenCell D V) → bound ≤ later → IsSound files faults bound running → IsSound files faults later running
+raised files faults bound later running more sound = record {
+  some = sound.some;
+  few = sound.few;
+  hosts = sound.hosts;
+  sites = sites_raised files faults running.hosts.items 0 bound later running.sites.items more sound.sites;
+  near = sound.near;
+  packets = sound.packets;
+  told = sound.told;
+}
+
+pub no_rises : (k : ℕ) (disks : List Held) → AreRises k [] disks disks
+no_rises k [] = tt
+no_rises k (disk ∷ disks) = (omega arith, no_rises (k + 1) disks)
+
+-- ---- what a line does
+
+module _ {D V : Type 0} (files : D → Option Files) (faults : D → ℕ) (before after : OpenCell D V) where
+  pub kept_of : (result : Result (Unit {0}) LineFault) (seconds : ℕ) → seconds ≤ MAX_TICK
+      → (result ≡ Ok tt → (bound : ℕ) → IsSound files faults bound before → IsSound files faults (bound + seconds) after)
+      → AreRises 0 [] (helds files faults before) (helds files faults after) → length after.sites.items ≡ length before.sites.items
+      → KeepsCell files faults result before after
+  kept_of result seconds few sound rises same = record {
+    sound = λ done bound is. raised files faults (bound + seconds) (bound + MAX_TICK) after (omega (arith, few)) (sound done bound is);
+    never_falls = rises;
+    same = same;
+  }
+
+  -- what became of it, by its result
+  pub cell_done : (db : ScriptDatabase) (run : Cell → List Choice → Run_or_why) (result : Result (Unit {0}) LineFault) (text_before text_after : List ℕ)
+      → (result ≡ Ok tt → (c : Cell) → StandsFor before c → CellTold files faults db (run c) None before after text_before text_after)
+      → ((which : Which) → result ≡ Err (Limit which) → (c : Cell) → StandsFor before c
+          → CellTold files faults db (run c) (Some (ending.Limit which)) before after text_before text_after)
+      → ((why : Why) → result ≡ Err (Refused why) → (after ≡ before) × ((c : Cell) → StandsFor before c → IsRefused why (run c)))
+      → ((why : Why) → result ≡ Err (Refused why) → text_after ≡ text_before)
+      → (result ≡ Err NoMemory → (c : Cell) → StandsFor before c → IsShort files faults (run c) c before after)
+      → CellDone files faults db run result before after text_before text_after
+  cell_done db run (Ok done) text_before text_after told limit refused quiet short = told refl
+  cell_done db run (Err (Limit which)) text_before text_after told limit refused quiet short = limit which refl
+  cell_done db run (Err (Refused why)) text_before text_after told limit refused quiet short = ((refused why refl).0, quiet why refl, (refused why refl).1)
+  cell_done db run (Err NoMemory) text_before text_after told limit refused quiet short = short refl
+
+  module _ (db : ScriptDatabase) (l k : Line) (is : l ≡ k) where
+    -- a line that may refuse alone, and tells nothing
+    pub refused_of : (result : Result (Unit {0}) LineFault) (why : Why) (text : List ℕ) → IsErrAnd result (λ e. e ≡ Refused why)
+        → (after ≡ before) × ((c : Cell) → StandsFor before c → IsRefused why (λ choices. run_in db c choices k))
+        → CellDone files faults db (λ c choices. run_in db c choices l) result before after text text
+    refused_of (Ok done) why text err refused = absurd err
+    refused_of (Err e) why text err refused =
+        let P : LineFault → Type 0 = λ e. CellDone files faults db (λ c choices. run_in db c choices l) (Err e) before after text text in
+        let Q : Line → Type 0 = λ l. (after ≡ before) × (text ≡ text) × ((c : Cell) → StandsFor before c → IsRefused why (λ choices. run_in db c choices l)) in
+        subst P (sym err) (subst Q (sym is) (refused.0, refl, refused.1))
+
+    pub told_of : (text_before text_after : List ℕ)
+        → ((c : Cell) → StandsFor before c → CellTold files faults db (λ choices. run_in db c choices k) None before after text_before text_after)
+        → CellDone files faults db (λ c choices. run_in db c choices l) (Ok tt) before after text_before text_after
+    told_of text_before text_after told =
+        let P : Line → Type 0 = λ l. (c : Cell) → StandsFor before c → CellTold files faults db (λ choices. run_in db c choices l) None before after text_before text_after in
+        subst P (sym is) told
+
+    pub done_of : (result : Result (Unit {0}) LineFault) (text_before text_after : List ℕ)
+        → (result ≡ Ok tt → (c : Cell) → StandsFor before c → CellTold files faults db (λ choices. run_in db c choices k) None before after text_before text_after)
+        → ((which : Which) → result ≡ Err (Limit which) → (c : Cell) → StandsFor before c → CellTold files faults db (λ choices. run_in db c choices k) (Some (ending.Limit which)) before after text_before text_after)
+        → ((why : Why) → result ≡ Err (Refused why) → (after ≡ before) × ((c : Cell) → StandsFor before c → IsRefused why (λ choices. run_in db c choices k)))
+        → ((why : Why) → result ≡ Err (Refused why) → text_after ≡ text_before)
+        → (result ≡ Err NoMemory → (c : Cell) → StandsFor before c → IsShort files faults (λ choices. run_in db c choices k) c before after)
+        → CellDone files faults db (λ c choices. run_in db c choices l) result before after text_before text_after
+    done_of result text_before text_after told limit refused quiet short =
+        let P : Line → Type 0 = λ l. CellDone files faults db (λ c choices. run_in db c choices l) result before after text_before text_after in
+        subst P (sym is) (cell_done db (λ c choices. run_in db c choices k) result text_before text_after told limit refused quiet short)
+
+-- a line that does nothing
+pub kept_same : {D V : Type 0} (files : D → Option Files) (faults : D → ℕ) (result : Result (Unit {0}) LineFault) (running : OpenCell D V) → KeepsCell files faults result running running
+kept_same files faults result running =
+    kept_of files faults running running result 0 (omega arith) (λ done bound is. raised files faults bound (bound + 0) running (omega arith) is)
+    (no_rises 0 (helds files faults running)) refl
+
+pub nothing_told : {D V : Type 0} (files : D → Option Files) (faults : D → ℕ) (db : ScriptDatabase) (running : OpenCell D V) (text : List ℕ) (c : Cell)
+    → StandsFor running c → CellTold files faults db (λ choices. run_in db c choices line.Nothing) None running running text text
+nothing_told files faults db running text c stands = record {
+  choices = [];
+  ran = resting c;
+  is = refl;
+  ends = refl;
+  cell = stands;
+  told = sym (append-nil text);
+  causes = no_rises 0 (helds files faults running);
+}
+
+-- what is handed on by `?`
+pub handed_on : (P : Result (Unit {0}) LineFault → Type 0) (result : Result (Unit {0}) LineFault) (e : LineFault) → IsErrAnd result (λ x. x ≡ e) → P (Err e) → P result
+handed_on P (Ok done) e err holds = absurd err
+handed_on P (Err x) e err holds = subst (λ (x : LineFault). P (Err x)) (sym err) holds

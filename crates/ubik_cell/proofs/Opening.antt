@@ -1,0 +1,67 @@
+-- The opening of a cell over the disks of a run.
+use Rattle.std.proofs.Common.{◌≡◌, ℕ, zero, suc, ◌+◌, ◌-◌, ◌<◌, ◌≤◌, List, [], ◌∷◌, ◌++◌, length, get_or, map, refl, sym, ap, subst, ◌∙◌, add-one, arith}
+use Rattle.std.proofs.lemmas.List.{get_or-drop, take_more}
+use Rattle.std.proofs.lemmas.List.Elements.{All-append, All-cons, All-nil}
+use Rattle.std.specs.Prelude.{Option, Some, None, All, take, drop}
+use Rattle.disk_base.specs.Files.{Files, no_files}
+use Rattle.cell_sites.specs.declared.cells.OpenCell.{OpenCell}
+use Rattle.cell_sites.specs.declared.sites.Site.{Site}
+use Rattle.cell_sites.specs.Disks.{Held, all_held, held}
+use Rattle.cell_sites.specs.Opened.{IsAdded}
+use Rattle.cell_sites.specs.Sites.{disks_of, helds, site_disk}
+use Rattle.ubik_cell.specs.Lines.{IsUnwritten}
+
+-- what the disks of a cell read as
+sites_held : {D V : Type 0} (files : D → Option Files) (faults : D → ℕ) (sites : List (Site D V)) → map (λ (site : Site D V). held files faults (site_disk site)) sites ≡ all_held files faults (map site_disk sites)
+sites_held files faults [] = refl
+sites_held files faults (site ∷ sites) = ap (λ (l : List Held). held files faults (site_disk site) ∷ l) (sites_held files faults sites)
+
+held-append : {D : Type 0} (files : D → Option Files) (faults : D → ℕ) (a b : List D) → all_held files faults (a ++ b) ≡ all_held files faults a ++ all_held files faults b
+held-append files faults [] b = refl
+held-append files faults (disk ∷ a) b = ap (λ (l : List Held). held files faults disk ∷ l) (held-append files faults a b)
+
+-- one more disk is empty, or failed
+pub added_unwritten : {D V : Type 0} (files : D → Option Files) (faults : D → ℕ) (disk : D) (before after : OpenCell D V) → IsAdded files faults disk before after
+    → All IsUnwritten (helds files faults before) → All IsUnwritten (helds files faults after)
+added_unwritten files faults disk before after added empty =
+    let disks : helds files faults after ≡ helds files faults before ++ held files faults added.kept ∷ [] =
+    sites_held files faults after.sites.items ∙ ap (all_held files faults) added.disks ∙ held-append files faults (disks_of before) (added.kept ∷ [])
+    ∙ ap (λ (l : List Held). l ++ held files faults added.kept ∷ []) (sym (sites_held files faults before.sites.items)) in
+    subst (All IsUnwritten) (sym disks)
+    (All-append IsUnwritten (helds files faults before) (held files faults added.kept ∷ []) empty
+    (All-cons IsUnwritten (held files faults added.kept) [] added.empty (All-nil IsUnwritten)))
+
+pub none_unwritten : {D V : Type 0} (files : D → Option Files) (faults : D → ℕ) (running : OpenCell D V) → running.sites.items ≡ [] → All IsUnwritten (helds files faults running)
+none_unwritten {D} {V} files faults running none =
+    subst (λ (sites : List (Site D V)). All IsUnwritten (map (λ site. held files faults (site_disk site)) sites)) (sym none) (All-nil IsUnwritten)
+
+-- ---- the disks that are taken, one after the other
+
+drop-suc : {X : Type 0} (xs : List X) (i : ℕ) → drop 1 (drop i xs) ≡ drop (suc i) xs
+drop-suc [] zero = refl
+drop-suc [] (suc i) = refl
+drop-suc (x ∷ xs) zero = refl
+drop-suc (x ∷ xs) (suc i) = drop-suc xs i
+
+drop-next : {X : Type 0} (xs : List X) (i : ℕ) → drop 1 (drop i xs) ≡ drop (i + 1) xs
+drop-next xs i = rw add-one (drop-suc xs i)
+
+module _ {D : Type 0} (given : List D) (i : ℕ) (disk : D) (inside : i < length given) (is : disk ≡ get_or (drop i given) 0 disk) where
+  there : get_or given i disk ≡ disk
+  there = sym (is ∙ get_or-drop i given 0 disk ∙ ap (λ n. get_or given n disk) (omega arith))
+
+  pub next_taken : take (i + 1) given ≡ take i given ++ disk ∷ []
+  next_taken = take_more given i disk inside ∙ ap (λ x. take i given ++ x ∷ []) there
+
+  pub next_is : (P : D → Type 0) → All P given → P disk
+  next_is P all = subst P there (all i disk inside)
+
+pub next_left : {D : Type 0} (given left after : List D) (i : ℕ) → left ≡ drop i given → after ≡ take 0 left ++ drop 1 left → after ≡ drop (i + 1) given
+next_left given left after i is removed = removed ∙ ap (λ l. take 0 l ++ drop 1 l) is ∙ drop-next given i
+
+-- the disks of a closed run
+pub closed_held : {D V : Type 0} (files : D → Option Files) (faults : D → ℕ) (running : OpenCell D V) (all spare : List D) → all ≡ disks_of running ++ spare
+    → all_held files faults all ≡ helds files faults running ++ all_held files faults spare
+closed_held files faults running all spare is =
+    ap (all_held files faults) is ∙ held-append files faults (disks_of running) spare
+    ∙ ap (λ (l : List Held). l ++ all_held files faults spare) (sym (sites_held files faults running.sites.items))
