@@ -28,9 +28,10 @@ use Rattle.ubik_cell.specs.LineRuns.{CellDone, KeepsCell}
 sites_raised : {D V : Type 0} (files : D → Option Files) (faults : D → ℕ) (hosts : List Host) (place bound later : ℕ) (sites : List (Site D V)) → bound ≤ later
     → AreSound files faults hosts place bound sites → AreSound files faults hosts place later sites
 sites_raised files faults hosts place bound later [] more sound = tt
-sites_raised files faults hosts place bound later (site ∷ sites) more sound =
-    (record { moment = sound.0.moment; within = omega (arith, sound.0.within); server = sound.0.server },
-    sites_raised files faults hosts (place + 1) bound later sites more sound.1)
+sites_raised files faults hosts place bound later (site ∷ sites) more sound = (
+  record { moment = sound.0.moment; within = omega (arith, sound.0.within); server = sound.0.server },
+  sites_raised files faults hosts (place + 1) bound later sites more sound.1,
+)
 
 pub raised : {D V : Type 0} (files : D → Option Files) (faults : D → ℕ) (bound later : ℕ) (running : OpenCell D V) → bound ≤ later → IsSound files faults bound running → IsSound files faults later running
 raised files faults bound later running more sound = record {
@@ -64,7 +65,7 @@ module _ {D V : Type 0} (files : D → Option Files) (faults : D → ℕ) (befor
   pub cell_done : (db : ScriptDatabase) (run : Cell → List Choice → Run_or_why) (result : Result (Unit {0}) LineFault) (text_before text_after : List ℕ)
       → (result ≡ Ok tt → (c : Cell) → StandsFor before c → CellTold files faults db (run c) None before after text_before text_after)
       → ((which : Which) → result ≡ Err (Limit which) → (c : Cell) → StandsFor before c
-          → CellTold files faults db (run c) (Some (ending.Limit which)) before after text_before text_after)
+      → CellTold files faults db (run c) (Some (ending.Limit which)) before after text_before text_after)
       → ((why : Why) → result ≡ Err (Refused why) → (after ≡ before) × ((c : Cell) → StandsFor before c → IsRefused why (run c)))
       → ((why : Why) → result ≡ Err (Refused why) → text_after ≡ text_before)
       → (result ≡ Err NoMemory → (c : Cell) → StandsFor before c → IsShort files faults (run c) c before after)

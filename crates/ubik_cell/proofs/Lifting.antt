@@ -209,10 +209,13 @@ lifted files faults db l before running after bound (Ok done) text_before text_a
 lifted files faults db l before running after bound (Err (Limit which)) text_before text_after no_ask here sound cell is_sound keeps =
     λ st near. told_line files faults db l (λ st c choices. run_in db c choices l) next_line (no_ask_is db l no_ask) (λ st c choices. line_stays db c choices l)
     before running here sound st near bound before.asks (Some (ending.Limit which)) after text_before text_after cell keeps.same (λ never. absurd (cc)) (λ never. absurd (cc))
-lifted files faults db l before running after bound (Err (Refused why)) text_before text_after no_ask here sound cell is_sound keeps =
-    (same_again before running after here cell.0, cell.1, λ st near.
-    refused_line files faults db l (λ st c choices. run_in db c choices l) next_line (no_ask_is db l no_ask) (λ st c choices. line_stays db c choices l)
-    before running here sound st near why cell.2)
+lifted files faults db l before running after bound (Err (Refused why)) text_before text_after no_ask here sound cell is_sound keeps = (
+  same_again before running after here cell.0,
+  cell.1,
+  λ st near.
+      refused_line files faults db l (λ st c choices. run_in db c choices l) next_line (no_ask_is db l no_ask) (λ st c choices. line_stays db c choices l)
+      before running here sound st near why cell.2,
+)
 lifted files faults db l before running after bound (Err NoMemory) text_before text_after no_ask here sound cell is_sound keeps =
     λ st near. short_line files faults db l (λ st c choices. run_in db c choices l) next_line (no_ask_is db l no_ask) (λ st c choices. line_stays db c choices l)
     before running here sound st near after keeps.same keeps.never_falls cell
@@ -276,11 +279,14 @@ module _ {D V : Type 0} (files : D → Option Files) (faults : D → ℕ) (db : 
         causes = t.causes;
         held = t.held;
       }
-  asked_err text_before text_after (Refused why) cell same rises =
-      (same_again before running after here cell.0, cell.1, λ st near.
-      refused_line files faults db ask ask_run ask_later ask_is (λ st c choices. ask_stays db c (first_choice choices) (st.asks + 1) words (Some number))
-      before running here sound st near why
-      (λ c stands. subst (λ (run : List Choice → Run_or_why). IsRefused why run) (sym (same_run st c near)) (cell.2 c stands)))
+  asked_err text_before text_after (Refused why) cell same rises = (
+    same_again before running after here cell.0,
+    cell.1,
+    λ st near.
+        refused_line files faults db ask ask_run ask_later ask_is (λ st c choices. ask_stays db c (first_choice choices) (st.asks + 1) words (Some number))
+        before running here sound st near why
+        (λ c stands. subst (λ (run : List Choice → Run_or_why). IsRefused why run) (sym (same_run st c near)) (cell.2 c stands)),
+  )
   asked_err text_before text_after NoMemory cell same rises = λ st near.
       short_line files faults db ask ask_run ask_later ask_is (λ st c choices. ask_stays db c (first_choice choices) (st.asks + 1) words (Some number))
       before running here sound st near after same rises

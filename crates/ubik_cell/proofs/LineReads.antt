@@ -66,9 +66,13 @@ module _ {D V : Type 0} (files : D → Option Files) (faults : D → ℕ) (db : 
 
   -- one line too many
   pub ended_lines : (text : List ℕ) → MAX_LINES ≤ before.lines → IsEnded db bytes (ending.Limit Lines) before before text text
-  ended_lines text full = (refl, refl, λ st near choices.
-      let all : nat_le MAX_LINES st.lines ≡ true = grind (arith, nat_tests, near.lines) in
-      all_lines (nat_le MAX_LINES st.lines) _ _ all)
+  ended_lines text full = (
+    refl,
+    refl,
+    λ st near choices.
+        let all : nat_le MAX_LINES st.lines ≡ true = grind (arith, nat_tests, near.lines) in
+        all_lines (nat_le MAX_LINES st.lines) _ _ all,
+  )
 
   pub short_read : (text : List ℕ) → ReadDone files faults db bytes (Err NoMemory) before before text text
   short_read text = λ st near.

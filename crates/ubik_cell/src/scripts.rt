@@ -89,7 +89,9 @@ impl<D: StopDisk, V: WordForms> CellRun<D, V> {
         ensures twenty { vec_len disks.new ≡ MAXSERVERS }
     {
         let CellRun {
-            cell, mut spare, ..
+            cell,
+            mut spare,
+            ..
         } = self;
         if let Some(cell) = cell {
             cell.close(disks);

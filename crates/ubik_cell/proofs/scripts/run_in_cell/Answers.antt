@@ -133,4 +133,3 @@ returns-in-Show-clause-done g c =
 pub returns-in-Show-clause-kept : goal.returns-in-Show-clause-kept
 returns-in-Show-clause-kept g c =
     kept_same g.D.Disk.files g.D.Disk.faults _ c.args.cell.now
-

@@ -35,7 +35,7 @@ returns-in_err-ask-clause-done g c =
     ap g.V.WordForms.words.call_of (sym c.as_slice.ensures) ∙ sym c.in_ok-call.ensures ∙ c.in-Some-2.is in
     let so = λ (cell : Cell) (choices : List Choice). asked_at db cell (first_choice choices) (run.asks + 1) c.in-Some-2.call (Some c.in_ok-server.server) in
     let cell = cell_done g.D.Disk.files g.D.Disk.faults c.in-Some.cell c.ask.new.self db so c.ask.result text later
-        c.ask.ensures.told c.ask.ensures.limit c.ask.ensures.refused c.ask.ensures.quiet c.ask.ensures.short in
+    c.ask.ensures.told c.ask.ensures.limit c.ask.ensures.refused c.ask.ensures.quiet c.ask.ensures.short in
     handed_on (λ r. LineDone g.D.Disk.files g.D.Disk.faults db (line.Ask c.args.server c.args.words.now) r run (with_cell run c.ask.new.self) text later)
     c.from_residual-in_err-ask.result c.in_err-ask.field-0.0 c.from_residual-in_err-ask.ensures.1
     (subst (λ server. LineDone g.D.Disk.files g.D.Disk.faults db (line.Ask server c.args.words.now) (Err c.in_err-ask.field-0.0) run (with_cell run c.ask.new.self) text later) (sym number)
@@ -52,9 +52,9 @@ returns-clause-done g c =
     let named : g.V.WordForms.words.call_of c.args.words.now ≡ Some c.in-Some-2.call =
     ap g.V.WordForms.words.call_of (sym c.as_slice.ensures) ∙ sym c.in_ok-call.ensures ∙ c.in-Some-2.is in
     let sound : IsSound g.D.Disk.files g.D.Disk.faults (clock_bound run.lines) c.in-Some.cell =
-        subst (CellIsSound g.D.Disk.files g.D.Disk.faults (clock_bound run.lines)) c.in-Some.is c.requires.sound.cell in
+    subst (CellIsSound g.D.Disk.files g.D.Disk.faults (clock_bound run.lines)) c.in-Some.is c.requires.sound.cell in
     subst (λ server. LineDone g.D.Disk.files g.D.Disk.faults db (line.Ask server c.args.words.now) (Ok tt) run
-        (record run { cell = Some c.ask.new.self; asks = run.asks + 1 }) text later) (sym number)
+    (record run { cell = Some c.ask.new.self; asks = run.asks + 1 }) text later) (sym number)
     (asked_ok g.D.Disk.files g.D.Disk.faults db c.args.words.now c.in-Some-2.call c.in_ok-server.server named run c.in-Some.cell c.ask.new.self c.in-Some.is c.requires.sound
     (clock_bound run.lines) text later (c.in_ok-ask.ensures.told refl) c.ask.ensures.same (c.in_ok-ask.ensures.sound refl (clock_bound run.lines) sound))
 

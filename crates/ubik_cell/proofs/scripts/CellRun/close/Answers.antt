@@ -9,9 +9,9 @@ returns-clause-held g c =
     let spare = c.args.self.spare.items in
     let of_cell : c.match-cell.disks.items ≡ cell_disks c.args.self.cell =
     elim c.match-cell.branch [
-      in-Some w ↦ ap (λ d. d.items) w.disks-is ∙ w.close.ensures.disks
+      | in-Some w ↦ ap (λ d. d.items) w.disks-is ∙ w.close.ensures.disks
           ∙ ap (λ (l : List _). l ++ disks_of w.in-Some.cell) c.requires.empty ∙ sym (ap cell_disks w.in-Some.is)
-    | in_default w ↦ ap (λ d. d.items) w.disks-is ∙ c.requires.empty ∙ sym (ap cell_disks w.in_default.is)
+      | in_default w ↦ ap (λ d. d.items) w.disks-is ∙ c.requires.empty ∙ sym (ap cell_disks w.in_default.is)
     ] in
     let joined : c.append.new.self.items ≡ c.match-cell.disks.items ++ spare =
     search (rules, c.append.ensures, c.unwrap.ensures) in

@@ -55,9 +55,9 @@ limit_ends g c =
     let later = string_bytes c.end-in-Err-Limit.new.text in
     let e = Limit c.in-Err-Limit.which in
     let told = subst (λ n. EndTold (n + 1) e c.end-in-Err-Limit.result middle later) c.read_line.ensures.kept.lines
-        (end_told_of (c.read_line.new.self.lines + 1) e c.end-in-Err-Limit.result middle later c.end-in-Err-Limit.ensures.told c.end-in-Err-Limit.ensures.ends) in
+    (end_told_of (c.read_line.new.self.lines + 1) e c.end-in-Err-Limit.result middle later c.end-in-Err-Limit.ensures.told c.end-in-Err-Limit.ensures.ends) in
     elim (subst (λ f. ReadDone g.D.Disk.files g.D.Disk.faults db c.args.line.now (Err f) run c.read_line.new.self text middle) c.in-Err-Limit.field-0-is c.in-Err-Limit.ensures.done) [
-      inl ended ↦ line_ended g.D.Disk.files g.D.Disk.faults db c.args.line.now run e c.end-in-Err-Limit.result c.read_line.new.self text middle later c.requires.sound ended told
+      | inl ended ↦ line_ended g.D.Disk.files g.D.Disk.faults db c.args.line.now run e c.end-in-Err-Limit.result c.read_line.new.self text middle later c.requires.sound ended told
       | inr passed ↦ line_limited g.D.Disk.files g.D.Disk.faults db c.args.line.now run e c.end-in-Err-Limit.result c.read_line.new.self text middle later passed told
     ]
 

@@ -73,7 +73,7 @@ returns-clause-kept g c =
     let hosts : c.open_servers-opened.new.cell.hosts.items ≡ hosts_of c.args.servers = c.open_servers-opened.ensures.hosts ∙ c.in_ok-cell.ensures.hosts in
     let all : length given ≡ length c.open_servers-opened.new.cell.hosts.items = count ∙ sym (ap length hosts ∙ hosts_count c.args.servers) in
     let opened = c.law_cell_opened.ensures db c.args.clock Protection given c.open_servers-opened.new.cell text later c.requires.moment
-        c.open_servers-opened.ensures.room all c.in_ok-opened-in-None.ensures.opened in
+    c.open_servers-opened.ensures.room all c.in_ok-opened-in-None.ensures.opened in
     opened_keeps g.D.Disk.files g.D.Disk.faults db c.args.servers c.args.clock Protection run c.open_servers-opened.new.cell after c.replace.ensures.after none refl refl
     (Ok tt) c.requires.sound c.requires.room (omega (arith, c.open_servers-opened.ensures.few, c.requires.few)) c.open_servers-opened.ensures.spare
     (λ done. opened.sound) c.requires.early

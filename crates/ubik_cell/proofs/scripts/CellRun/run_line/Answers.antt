@@ -27,7 +27,7 @@ returns-in-Some g c =
     let bound = clock_bound run.lines in
     let no = λ (k : Line) (is : c.args.line.now ≡ k) (free : IsNoAsk k). subst IsNoAsk (sym is) free in
     let no_ask : IsNoAsk c.args.line.now = elim c.in-Tick.is [
-      inl a ↦ no _ a.2 tt
+      | inl a ↦ no _ a.2 tt
       | inr (inl a) ↦ no _ a.1 tt
       | inr (inr (inl a)) ↦ no _ a.1 tt
       | inr (inr (inr (inl a))) ↦ no _ a.1 tt
@@ -41,7 +41,7 @@ returns-in-Some g c =
       | inr (inr (inr (inr (inr (inr (inr (inr (inr (inr (inr a)))))))))) ↦ no _ a.1 tt
     ] in
     let sound : IsSound g.D.Disk.files g.D.Disk.faults bound c.in-Some.cell =
-        subst (CellIsSound g.D.Disk.files g.D.Disk.faults bound) c.in-Some.is c.requires.sound.cell in
+    subst (CellIsSound g.D.Disk.files g.D.Disk.faults bound) c.in-Some.is c.requires.sound.cell in
     record {
       done = lifted g.D.Disk.files g.D.Disk.faults (script_database g.V.Service.database g.V.WordForms.words) c.args.line.now run c.in-Some.cell c.run_in_cell.new.cell
           (bound + MAX_TICK) c.run_in_cell.result (string_bytes c.args.text.now) (string_bytes c.run_in_cell.new.text) no_ask c.in-Some.is c.requires.sound
