@@ -8,6 +8,21 @@ fn expect_told(rt: &impl Abort, alloc: Global, script: &str, text: &str) -> Resu
     Ok(())
 }
 
+/// Three servers elect their sync site, though a packet is lost: the second session of the README, in `examples/`.
+#[test]
+fn three_servers_elect_their_sync_site(rt: HostRuntime) -> Result<(), Fail> {
+    let script = "cell 3 1000 pt\ntickall 76\nbeacon 1\n# the beacon to server 3 is lost\ndrop 2\n\
+                  deliverall\nshow 1\nask 3 nametoid 1 smith\n\
+                  # the next beacon claims the lease, and reaches both\n\
+                  tickall 15\nbeacon 1\ndeliverall\nask 3 nametoid 1 smith\n";
+    let text = "packet 1 1>2 beacon 0.0\npacket 2 1>3 beacon 0.0\npacket 3 2>1 yes 1076\n\
+                show 1 clock 1076 version 0.0 phase none until 1136 length 0\n\
+                reply 1 3 noquorum 0 none no\n\
+                packet 4 1>2 beacon 0.0\npacket 5 1>3 beacon 0.0\n\
+                packet 6 2>1 yes 1091\npacket 7 3>1 yes 1091\nreply 2 3 notsync 1\n";
+    expect_told(&rt, rt.alloc(), script, text)
+}
+
 /// The votes of servers 2 and 3 of four are half of the cell, and the lowest is not among them: they give no lease.
 #[test]
 fn half_without_the_lowest_is_no_quorum(rt: HostRuntime) -> Result<(), Fail> {
