@@ -163,13 +163,13 @@ struct Place {
 }
 
 /// Why a line is refused that opens a cell.
-fn cell_reason(words: &[&str], place: Place) -> Option<Why> {
-    match words[2] {
+fn cell_reason(servers: &str, clock: &str, kind: &str, place: Place) -> Option<Why> {
+    match kind {
         "pt" => {}
         "vl" => return Some(Why::Unbuilt),
         _ => return Some(Why::Syntax),
     }
-    match (value_of(words[0]), value_of(words[1])) {
+    match (value_of(servers), value_of(clock)) {
         (Some(1..=20), Some(1..)) if place.servers > 0 => Some(Why::Cell),
         (Some(1..=20), Some(1..)) => None,
         _ => Some(Why::Number),
@@ -204,21 +204,22 @@ fn server_reason(server: &str, place: Place) -> Option<Why> {
 }
 
 /// By how much the clock of the first server is past that of the second after a tick of a server.
-fn ahead_after(words: &[&str], place: Place) -> i64 {
-    let seconds = i64::from(value_of(words[1]).unwrap_or(0));
-    match words[0] {
-        "1" => place.ahead + seconds,
-        _ => place.ahead - seconds,
+fn ahead_after(server: &str, seconds: &str, place: Place) -> i64 {
+    let seconds = i64::from(value_of(seconds).unwrap_or(0));
+    match server {
+        "1" => place.ahead.saturating_add(seconds),
+        _ => place.ahead.saturating_sub(seconds),
     }
 }
 
 /// Why a line is refused that brings one clock forward.
-fn tick_reason(words: &[&str], place: Place) -> Option<Why> {
-    if seconds_reason(words[1]).is_some() {
+fn tick_reason(server: &str, seconds: &str, place: Place) -> Option<Why> {
+    if seconds_reason(seconds).is_some() {
         return Some(Why::Number);
     }
-    let reason = server_reason(words[0], place);
-    if reason.is_none() && place.servers == 2 && ahead_after(words, place).abs() > 7 {
+    let reason = server_reason(server, place);
+    let ahead = ahead_after(server, seconds, place);
+    if reason.is_none() && place.servers == 2 && (ahead > 7 || ahead < -7) {
         return Some(Why::Skew);
     }
     reason
@@ -246,14 +247,14 @@ fn call_reason(name: &str, arguments: &[&str]) -> Option<Why> {
 }
 
 /// Why a line is refused that asks a call. Before a cell stands its call is not looked at.
-fn ask_reason(words: &[&str], place: Place) -> Option<Why> {
+fn ask_reason(server: &str, name: &str, arguments: &[&str], place: Place) -> Option<Why> {
     if place.servers > 0 {
-        let reason = call_reason(words[1], &words[2..]);
+        let reason = call_reason(name, arguments);
         if reason.is_some() {
             return reason;
         }
     }
-    server_reason(words[0], place)
+    server_reason(server, place)
 }
 
 /// Why a line of these words is refused, if it is: by its first word, the count of the others, and what they are.
@@ -262,15 +263,15 @@ fn reason_of(line: &[&str], place: Place) -> Option<Why> {
     match (*first, words.len()) {
         ("", _) => None,
         ("#", _) => None,
-        ("cell", 3) => cell_reason(words, place),
-        ("tick", 2) => tick_reason(words, place),
+        ("cell", 3) => cell_reason(words[0], words[1], words[2], place),
+        ("tick", 2) => tick_reason(words[0], words[1], place),
         ("tickall", 1) => seconds_reason(words[0]).or(place_reason(place)),
         ("beacon", 1) => server_reason(words[0], place),
         ("recover", 1) => recover_reason(words[0], place),
         ("deliverall", 0) => place_reason(place),
         ("stop", 3) => Some(Why::Unbuilt),
         ("show", 1) => server_reason(words[0], place),
-        ("ask", 2..) => ask_reason(words, place),
+        ("ask", 2..) => ask_reason(words[0], words[1], &words[2..], place),
         _ => Some(Why::Syntax),
     }
 }
@@ -280,14 +281,14 @@ fn place_after(line: &[&str], place: Place) -> Place {
     let Some((first, words)) = line.split_first() else {
         return place;
     };
-    match *first {
-        "cell" => Place {
+    match (*first, words.len()) {
+        ("cell", 3) => Place {
             servers: value_of(words[0]).unwrap_or(0),
             ahead: 0,
         },
-        "tick" if place.servers == 2 => Place {
-            ahead: ahead_after(words, place),
-            ..place
+        ("tick", 2) if place.servers == 2 => Place {
+            servers: 2,
+            ahead: ahead_after(words[0], words[1], place),
         },
         _ => place,
     }
