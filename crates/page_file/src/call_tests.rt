@@ -4,7 +4,7 @@ ghost use Rattle.disk_base.specs.declared.disks.FileNo.TheVariants.{Database};
 ghost use Rattle.page_file.specs.Pages.{AgreesIn};
 
 use crate::tests::{disk_with, expect_headed, label, version};
-use crate::{PageFault, Pages};
+use crate::{LABEL_LEN, PageFault, Pages};
 use disk_base::Disk;
 use std::alloc::Global;
 use std::process::Abort;
@@ -82,10 +82,10 @@ fn make<D: Disk>(
     step: usize,
 ) -> Result<(), PageFault>
     requires agrees { AgreesIn pages.old (D.files disk.old) }
-    requires headed { IfSome (D.files disk.old) (λ fs. 64 ≤ length fs.database) }
+    requires headed { IfSome (D.files disk.old) (λ fs. LABEL_LEN ≤ length fs.database) }
     requires room { 64 + 2000 ≤ D.room disk.old Database }
     ensures agrees { OnOk result (AgreesIn pages.new (D.files disk.new)) }
-    ensures headed { OnOk result (IfSome (D.files disk.new) (λ fs. 64 ≤ length fs.database)) }
+    ensures headed { OnOk result (IfSome (D.files disk.new) (λ fs. LABEL_LEN ≤ length fs.database)) }
     ensures room { 64 + 2000 ≤ D.room disk.new Database }
 {
     let len = pages.len();

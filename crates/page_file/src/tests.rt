@@ -78,11 +78,11 @@ fn a_part_of_a_label_is_refused(rt: HostRuntime) -> Result<(), Fail> {
 
 /// The database file has room for a label.
 pub(crate) fn expect_headed<D: Disk>(rt: &impl Abort, disk: &mut D)
-    ensures headed { IfSome (D.files disk.new) (λ fs. 64 ≤ length fs.database) }
+    ensures headed { IfSome (D.files disk.new) (λ fs. LABEL_LEN ≤ length fs.database) }
     ensures files { D.files disk.new ≡ D.files disk.old }
 {
     match disk.len(FileNo::Database) {
-        LenEnd::Known(len) => assert!(rt; len >= 64),
+        LenEnd::Known(len) => assert!(rt; len >= LABEL_LEN as u64),
         LenEnd::Failed => panic!(rt; "the disk failed"),
     }
 }
