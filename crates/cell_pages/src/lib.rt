@@ -3,4 +3,4 @@
 
 mod laws;
 
-pub use laws::{law_lists_stay, law_versions_are_made_once};
+pub use laws::{law_lists_stay, law_one_label, law_versions_are_made_once};
