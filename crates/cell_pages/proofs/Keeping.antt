@@ -260,7 +260,8 @@ module _ (db : Database) where
     set_length (x ∷ pieces) (suc number) piece = ap suc (set_length pieces number piece)
 
     pub piece_kept : (v new : Version) (number : ℕ) (bytes : List ℕ) (kept : Option KeptWrite) →
-        Carries db book (body.PutPiece new number bytes) → KeptIsWrite db book v kept → KeptIsWrite db book v (kept_with new number bytes kept)
+        Carries db book (body.PutPiece new number bytes) → KeptIsWrite db book v kept →
+        KeptIsWrite db book v (kept_with new number bytes kept)
     piece_kept v new number bytes None carries is = tt
     piece_kept v new number bytes (Some w) carries is =
         cond_both (version_eq w.new new && nat_lt number (length w.pieces)) (record w { pieces = set w.pieces number (Some bytes) }) w

@@ -9,3 +9,5 @@ pub mod Runs
 pub mod Texts
 pub mod Versions
 pub mod Walk
+pub mod WalkEvents
+pub mod WalkRecovery

@@ -1,6 +1,7 @@
 //! Laws of versions in cells of 1 to 20 servers, over every run: each is the clause of a public call.
 ghost use Rattle.cell_pages.specs.Laws.{ListsStay, VersionsAreMadeOnce};
 ghost use Rattle.cell_pages.specs.OneLabel.{OneLabel};
+ghost use Rattle.cell_pages.specs.Pages.{AllRise, LeadersAreAhead, ListsGoOn};
 
 use lease_model::law_rules_are_safe;
 
@@ -11,9 +12,31 @@ pub fn law_versions_are_made_once()
     law_rules_are_safe();
 }
 
+/// In each cell, whatever happens, each version in the book is above all before it: epochs rise, and so do the counters of one epoch.
+pub fn law_versions_rise()
+    ensures { AllRise }
+{
+    law_rules_are_safe();
+}
+
+/// In each cell, whatever happens, a server that is in lease and sends its database has a version that none in the book is above.
+pub fn law_leaders_are_ahead()
+    ensures { LeadersAreAhead }
+{
+    law_rules_are_safe();
+}
+
 /// In each cell a version that has a list of transactions keeps it, whatever happens later.
 pub fn law_lists_stay()
     ensures { ListsStay }
+{
+    law_rules_are_safe();
+}
+
+/// In each cell, over a database that makes no image shorter, each version in the book goes on from one before it: a relabelling begins
+/// a later epoch and has the same list, a commit is the next counter and has that list and then its transaction.
+pub fn law_lists_go_on()
+    ensures { ListsGoOn }
 {
     law_rules_are_safe();
 }
