@@ -5,6 +5,7 @@ pub mod Leading
 pub mod LoggedChanges
 pub mod Making
 pub mod Once
+pub mod Rising
 pub mod Runs
 pub mod Texts
 pub mod Versions

@@ -156,7 +156,7 @@ but_leads : (v new : Version) (kept : Option KeptWrite) → KeptLeadsOn v kept �
 but_leads v new None leads = tt
 but_leads v new (Some w) leads = cond_both (version_eq w.new new) _ _ (KeptLeadsOn v) (λ _. tt) (λ _. leads)
 
-whole_leads : (v new : Version) (kept : Option KeptWrite) (one : List Change) → whole_write new kept ≡ Some one → KeptLeadsOn v kept →
+pub whole_leads : (v new : Version) (kept : Option KeptWrite) (one : List Change) → whole_write new kept ≡ Some one → KeptLeadsOn v kept →
     version_lt v new ≡ true
 whole_leads v new None one is leads = absurd (cc)
 whole_leads v new (Some w) one is leads = by (version_eq w.new new) refl is
@@ -181,7 +181,7 @@ not_sending (Relabel poll) is = refl
 not_sending (Send poll spread) is = no (sym is)
 not_sending (Ready poll spread announced) is = no (sym is)
 
-no_content : (bodies : List Body) → AllBodies (λ b. Unit {0}) bodies
+pub no_content : (bodies : List Body) → AllBodies (λ b. Unit {0}) bodies
 no_content [] = tt
 no_content (b ∷ bodies) = (tt, no_content bodies)
 

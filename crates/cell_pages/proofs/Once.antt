@@ -21,7 +21,7 @@ use Rattle.cell_pages.proofs.Making.{once_grew, rise_grew, makes_pass}
 use Rattle.cell_pages.proofs.Runs.{along, first_keeps}
 use Rattle.cell_pages.proofs.Versions.{same_of_eq}
 
-abbrev Keeps : (Book → Type 0) → World → Book → Type 0
+abbrev pub Keeps : (Book → Type 0) → World → Book → Type 0
 Keeps B w book = WorldKeeps MakesVersions MakerWentOn (λ book b. Unit {0}) B w book
 
 -- a version that is new has no list
@@ -55,10 +55,10 @@ lists_kept lease k book later grew =
     (λ v list is. is)
 
 -- versions are made once, and rise
-abbrev OnceAndRising : Book → Type 0
+abbrev pub OnceAndRising : Book → Type 0
 OnceAndRising book = MadeOnce book × VersionsRise book
 
-both_grew : (lease : Bool) (k : ℕ) (book later : Book) → Grew lease k book later → OnceAndRising book → OnceAndRising later
+pub both_grew : (lease : Bool) (k : ℕ) (book later : Book) → Grew lease k book later → OnceAndRising book → OnceAndRising later
 both_grew lease k book later grew is = (once_grew lease k book later grew is.0, rise_grew lease k book later grew is.1)
 
 module _ (safe : AreSafe cell_rules) where
@@ -66,7 +66,7 @@ module _ (safe : AreSafe cell_rules) where
   Made db B = Pass db MakesVersions MakerWentOn (λ book b. Unit {0}) B
 
   -- the first world, and so each later one
-  begun : (db : Database) (hosts : List Host) (clock : ℕ) (failed : List Bool) (events : List Event) → IsFirst hosts clock failed →
+  pub begun : (db : Database) (hosts : List Host) (clock : ℕ) (failed : List Bool) (events : List Event) → IsFirst hosts clock failed →
       IsRun db (first_world hosts clock failed) events →
       Keeps OnceAndRising (run_of db hosts clock failed events).world (run_of db hosts clock failed events).book
   begun db hosts clock failed events first run =

@@ -4,17 +4,17 @@ use Rattle.db_image.specs.Database.{Database}
 use Rattle.ubik_types.specs.declared.hosts.Host.{Host}
 use Rattle.ubik_types.specs.declared.versions.Version.{Version}
 use Rattle.ubik_types.specs.Version.{version_lt}
-use Rattle.cell_model.specs.Book.{BookVersion, Book, list_of}
+use Rattle.cell_model.specs.Book.{BookVersion, Book, list_of, run_through}
 use Rattle.cell_model.specs.Durable.{Transaction}
 use Rattle.cell_model.specs.Node.{Up, Server}
 use Rattle.cell_model.specs.Receiver.{is_sending}
 use Rattle.cell_model.specs.Step.{leased}
-use Rattle.cell_model.specs.World.{Site, Event, IsFirst, IsRun, first_world, member, site_of}
+use Rattle.cell_model.specs.World.{Site, Event, IsFirst, IsRun, first_world, world_after, member, site_of}
 use Rattle.cell_model.specs.Writes.{next_version}
 use Rattle.cell_laws.specs.Invariant.{AllVersions}
 use Rattle.cell_pages.specs.Images.{KeepsImages}
 use Rattle.cell_pages.specs.Laws.{run_of}
-use Rattle.cell_pages.specs.Parts.{IsGreatest}
+use Rattle.cell_pages.specs.Parts.{AtMost, IsGreatest}
 
 -- each version of the book is below this one
 abbrev pub IsAbove : Version → Book → Type 0
@@ -66,3 +66,13 @@ abbrev pub ListsGoOn : Type 0
 ListsGoOn =
     (db : Database) (hosts : List Host) (clock : ℕ) (failed : List Bool) (events : List Event) → KeepsImages db →
     IsFirst hosts clock failed → IsRun db (first_world hosts clock failed) events → PagesFollow (run_of db hosts clock failed events).book
+
+-- In each cell the durable version of a server is later no less than it was, whatever happens to it.
+abbrev pub VersionsNeverFall : Type 0
+VersionsNeverFall =
+    (db : Database) (hosts : List Host) (clock : ℕ) (failed : List Bool) (events more : List Event) →
+    IsFirst hosts clock failed → IsRun db (first_world hosts clock failed) events →
+    IsRun db (world_after db (first_world hosts clock failed) events) more →
+    let r = run_of db hosts clock failed events in
+    (k : ℕ) (before after : Site) → site_of r.world k ≡ Some before → site_of (run_through db r more).world k ≡ Some after →
+    AtMost before.durable.version after.durable.version

@@ -1,7 +1,7 @@
 //! Laws of versions in cells of 1 to 20 servers, over every run: each is the clause of a public call.
 ghost use Rattle.cell_pages.specs.Laws.{ListsStay, VersionsAreMadeOnce};
 ghost use Rattle.cell_pages.specs.OneLabel.{OneLabel};
-ghost use Rattle.cell_pages.specs.Pages.{AllRise, LeadersAreAhead, ListsGoOn};
+ghost use Rattle.cell_pages.specs.Pages.{AllRise, LeadersAreAhead, ListsGoOn, VersionsNeverFall};
 
 use lease_model::law_rules_are_safe;
 
@@ -22,6 +22,14 @@ pub fn law_versions_rise()
 /// In each cell, whatever happens, a server that is in lease and sends its database has a version that none in the book is above.
 pub fn law_leaders_are_ahead()
     ensures { LeadersAreAhead }
+{
+    law_rules_are_safe();
+}
+
+/// In each cell the durable version of a server never falls, whatever happens to it: neither a packet of the past nor a restart takes it
+/// back.
+pub fn law_versions_never_fall()
+    ensures { VersionsNeverFall }
 {
     law_rules_are_safe();
 }
