@@ -135,8 +135,8 @@ module _ (db : Database) where
   taken_image book s old new same have is = record {
     list = have.0;
     listed = have.2;
-    image_is =
-        is.image_is
+    image_is = λ good.
+        is.image_is good
         ∙ ap (image_after db)
         (one_list book old is.list have.0 (subst (λ (v : Version). list_of book v ≡ Some is.list) same is.listed) have.1);
   }
@@ -220,13 +220,13 @@ module _ (db : Database) where
           newest (relabelled_page book m.me now s.version) book ∙ ap (λ (l : List Transaction). Some l)
           (list_is book s.version holds.image.list holds.image.listed)
 
-  commits_holds : KeepsImages db → (book : Book) (m : Member) (now : ℕ) (s : Server) (id : ℕ) (call answer image : List ℕ)
+  commits_holds : (book : Book) (m : Member) (now : ℕ) (s : Server) (id : ℕ) (call answer image : List ℕ)
       (changes : List Change) (poll : Polled) (spread : Spread) (announced : Version) → s.phase ≡ Ready poll spread announced →
       image ≡ (db.call s.image now call).image → changes ≡ changes_of db s.image image → too_large 0 (length s.image) changes ≡ None →
       KeepsLists book (with_version book m.me s.version (next_version s.version) (Committed (transaction_of now call))) → Holds book s →
       Holds (with_version book m.me s.version (next_version s.version) (Committed (transaction_of now call)))
       (own_write_begun m s now id call answer image changes poll spread).server
-  commits_holds good book m now s id call answer image changes poll spread announced at image_is changes_are within keeps holds = record {
+  commits_holds book m now s id call answer image changes poll spread announced at image_is changes_are within keeps holds = record {
     image = record { list = list ++ t ∷ []; listed = listed; image_is = new_image };
     relabelled =
         relabelled_later db book later keeps s.version (Ready poll spread announced)
@@ -254,19 +254,16 @@ module _ (db : Database) where
           ∙ ap (λ (l : List Transaction). Some (l ++ transaction_of now call ∷ []))
           (list_is book s.version holds.image.list holds.image.listed)
 
-      old_image : s.image ≡ image_after db holds.image.list
-      old_image = holds.image.image_is
-
-      new_image : image ≡ image_after db (holds.image.list ++ transaction_of now call ∷ [])
-      new_image =
-          image_is ∙ ap (λ (i : List ℕ). (db.call i now call).image) holds.image.image_is
+      new_image : KeepsImages db → image ≡ image_after db (holds.image.list ++ transaction_of now call ∷ [])
+      new_image good =
+          image_is ∙ ap (λ (i : List ℕ). (db.call i now call).image) (holds.image.image_is good)
           ∙ sym (image_from-append db [] holds.image.list (transaction_of now call ∷ []))
 
-      same_changes : changes
+      same_changes : KeepsImages db → changes
           ≡ changes_of db (image_after db holds.image.list) (image_after db (holds.image.list ++ transaction_of now call ∷ []))
-      same_changes =
-          changes_are ∙ ap (λ (i : List ℕ). changes_of db i image) holds.image.image_is
-          ∙ ap (λ (i : List ℕ). changes_of db (image_after db holds.image.list) i) new_image
+      same_changes good =
+          changes_are ∙ ap (λ (i : List ℕ). changes_of db i image) (holds.image.image_is good)
+          ∙ ap (λ (i : List ℕ). changes_of db (image_after db holds.image.list) i) (new_image good)
 
       write : IsWriteOn db (with_version book m.me s.version (next_version s.version) (Committed (transaction_of now call)))
           s.version (next_version s.version) (text_of changes)
@@ -275,12 +272,12 @@ module _ (db : Database) where
           before = holds.image.list;
           last = transaction_of now call;
           listed = listed;
-          spelled =
+          spelled = λ good.
               changes_spelled db.head db.block (image_after db holds.image.list)
               (image_after db (holds.image.list ++ transaction_of now call ∷ []))
-              (ap (λ (c : List Change). too_large 0 (length (image_after db holds.image.list)) c) (sym same_changes)
-              ∙ ap (λ (i : List ℕ). too_large 0 (length i) changes) (sym holds.image.image_is) ∙ within);
-          text_is = ap text_of same_changes;
+              (ap (λ (c : List Change). too_large 0 (length (image_after db holds.image.list)) c) (sym (same_changes good))
+              ∙ ap (λ (i : List ℕ). too_large 0 (length i) changes) (sym (holds.image.image_is good)) ∙ within);
+          text_is = λ good. ap text_of (same_changes good);
         },
         keeps s.version holds.image.list holds.image.listed,
       )
@@ -325,7 +322,7 @@ module _ (db : Database) where
 
 -- ---- all moves
 
-module _ (db : Database) (good : KeepsImages db) (B : Book → Type 0)
+module _ (db : Database) (B : Book → Type 0)
     (grows : (lease : Bool) (k : ℕ) (book later : Book) → Grew lease k book later → B book → B later) where
   abbrev pub Both : ℕ → Bool → Book → Server → Type 0
   Both k lease book s = MakesVersions k lease book s × HoldsContents db book s
@@ -484,7 +481,7 @@ module _ (db : Database) (good : KeepsImages db) (B : Book → Type 0)
             join book _ (makes.received.writes book s old new changes tt idle same whole within (first book s f))
             f.2.1
             (over db book s new (effect s.image (logged (length s.image) changes)) idle
-            (whole_kept db book good s.version new s.image s.kept changes whole f.0.1.image f.0.1.kept));
+            (whole_kept db book s.version new s.image s.kept changes whole f.0.1.image f.0.1.kept));
       };
       own = record {
         relabels = λ book s poll leased idle past f.
@@ -499,7 +496,7 @@ module _ (db : Database) (good : KeepsImages db) (B : Book → Type 0)
             image_is changes_are within (first book s f) in (
               w.0,
               join _ _ w.1 (commits_follow db book m now call s f.0.1, f.2.1)
-                  (commits_holds db good book m now s id call answer image changes poll spread announced at image_is changes_are within
+                  (commits_holds db book m now s id call answer image changes poll spread announced at image_is changes_are within
                   (lists_kept lease m.me book _ w.0) f.0.1),
             );
         stands = λ book s f. ((f.0.0.went_on, f.0.1.image), f.2);

@@ -12,7 +12,7 @@ use Rattle.cell_model.specs.Book.{Book, Run, first_run}
 use Rattle.cell_model.specs.World.{World, Event, IsFirst, IsRun, first_world}
 use Rattle.cell_laws.proofs.Cells.{first_good}
 use Rattle.cell_pages.specs.Contents.{Carries}
-use Rattle.cell_pages.specs.Images.{KeepsImages, IsImageOf}
+use Rattle.cell_pages.specs.Images.{IsImageOf}
 use Rattle.cell_pages.specs.Laws.{run_of, MadeOnce}
 use Rattle.cell_pages.specs.OneLabel.{IsSentOf, HasOneLabel, OneLabel}
 use Rattle.cell_pages.specs.Pages.{ListsGoOn}
@@ -33,22 +33,22 @@ all_sent : (db : Database) (book : Book) (packets : List Packet) → AllPackets 
 all_sent db book [] all = tt
 all_sent db book (p ∷ packets) all = (sent_of db book p.body all.0, all_sent db book packets all.1)
 
-module _ (safe : AreSafe cell_rules) (db : Database) (good : KeepsImages db) where
+module _ (safe : AreSafe cell_rules) (db : Database) where
   abbrev Keeps : World → Book → Type 0
   Keeps w book =
-      WorldKeeps (Both db good MadeOnce once_grew) (BothDurable db good MadeOnce once_grew) (Carries db)
-      (Pages db good MadeOnce once_grew) w book
+      WorldKeeps (Both db MadeOnce once_grew) (BothDurable db MadeOnce once_grew) (Carries db)
+      (Pages db MadeOnce once_grew) w book
 
   reached : (hosts : List Host) (clock : ℕ) (failed : List Bool) (events : List Event) → IsFirst hosts clock failed →
       IsRun db (first_world hosts clock failed) events →
       Keeps (run_of db hosts clock failed events).world (run_of db hosts clock failed events).book
   reached hosts clock failed events first run =
-      along db (Both db good MadeOnce once_grew) (BothDurable db good MadeOnce once_grew) (Carries db) (Pages db good MadeOnce once_grew)
-      (contents_pass db good MadeOnce once_grew) safe (first_run (first_world hosts clock failed)) (runs.first cell_rules clock failed)
+      along db (Both db MadeOnce once_grew) (BothDurable db MadeOnce once_grew) (Carries db) (Pages db MadeOnce once_grew)
+      (contents_pass db MadeOnce once_grew) safe (first_run (first_world hosts clock failed)) (runs.first cell_rules clock failed)
       events (first_good hosts clock failed first)
-      (first_keeps db (Both db good MadeOnce once_grew) (BothDurable db good MadeOnce once_grew) (Carries db) (Pages db good MadeOnce once_grew)
-      (contents_pass db good MadeOnce once_grew) hosts clock failed (tt, tt)
-      (λ k. (tt, record { list = []; listed = refl; image_is = refl }))) run
+      (first_keeps db (Both db MadeOnce once_grew) (BothDurable db MadeOnce once_grew) (Carries db) (Pages db MadeOnce once_grew)
+      (contents_pass db MadeOnce once_grew) hosts clock failed (tt, tt)
+      (λ k. (tt, record { list = []; listed = refl; image_is = λ good. refl }))) run
 
   -- what a run reached has one label
   labelled : (r : Run) → Keeps r.world r.book → HasOneLabel db r
@@ -56,18 +56,18 @@ module _ (safe : AreSafe cell_rules) (db : Database) (good : KeepsImages db) whe
     once = keeps.pages.0;
     durable = λ k site get. (keeps.sites k site get).durable.1;
     up = λ k site s get is_up.
-        (subst (NodeKeeps (λ lease. Both db good MadeOnce once_grew k lease r.book) (length r.world.hosts) site.clock site.durable) is_up
+        (subst (NodeKeeps (λ lease. Both db MadeOnce once_grew k lease r.book) (length r.world.hosts) site.clock site.durable) is_up
         (keeps.sites k site get).node).1.1.image;
     sent = all_sent db r.book r.world.packets keeps.packets;
-    alike = λ j k x y at_x at_y same.
-        one_image db r.book y.durable.version x.durable.image y.durable.image
+    alike = λ good j k x y at_x at_y same.
+        one_image db r.book good y.durable.version x.durable.image y.durable.image
         (subst (λ (v : Version). IsImageOf db r.book v x.durable.image) same (keeps.sites j x at_x).durable.1)
         (keeps.sites k y at_y).durable.1;
   }
 
 pub one_label : AreSafe cell_rules → OneLabel
-one_label safe db hosts clock failed events good first run =
-    labelled safe db good (run_of db hosts clock failed events) (reached safe db good hosts clock failed events first run)
+one_label safe db hosts clock failed events first run =
+    labelled safe db (run_of db hosts clock failed events) (reached safe db hosts clock failed events first run)
 
 pub lists_go_on : AreSafe cell_rules → ListsGoOn
-lists_go_on safe db hosts clock failed events good first run = (reached safe db good hosts clock failed events first run).pages.1
+lists_go_on safe db hosts clock failed events first run = (reached safe db hosts clock failed events first run).pages.1

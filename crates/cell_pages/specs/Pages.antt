@@ -12,7 +12,6 @@ use Rattle.cell_model.specs.Step.{leased}
 use Rattle.cell_model.specs.World.{Site, Event, IsFirst, IsRun, first_world, world_after, member, site_of}
 use Rattle.cell_model.specs.Writes.{next_version}
 use Rattle.cell_laws.specs.Invariant.{AllVersions}
-use Rattle.cell_pages.specs.Images.{KeepsImages}
 use Rattle.cell_pages.specs.Laws.{run_of}
 use Rattle.cell_pages.specs.Parts.{AtMost, IsGreatest}
 
@@ -61,10 +60,10 @@ abbrev pub PagesFollow : Book → Type 0
 PagesFollow [] = Unit {0}
 PagesFollow (newest ∷ book) = IsPageOn book newest × PagesFollow book
 
--- In each cell, after each run over a database that keeps its images, each version in the book goes on from one before it.
+-- In each cell, after each run, each version in the book goes on from one before it.
 abbrev pub ListsGoOn : Type 0
 ListsGoOn =
-    (db : Database) (hosts : List Host) (clock : ℕ) (failed : List Bool) (events : List Event) → KeepsImages db →
+    (db : Database) (hosts : List Host) (clock : ℕ) (failed : List Bool) (events : List Event) →
     IsFirst hosts clock failed → IsRun db (first_world hosts clock failed) events → PagesFollow (run_of db hosts clock failed events).book
 
 -- In each cell the durable version of a server is later no less than it was, whatever happens to it.

@@ -41,17 +41,17 @@ pub fn law_lists_stay()
     law_rules_are_safe();
 }
 
-/// In each cell, over a database that makes no image shorter, each version in the book goes on from one before it: a relabelling begins
-/// a later epoch and has the same list, a commit is the next counter and has that list and then its transaction.
+/// In each cell, whatever happens, each version in the book goes on from one before it: a relabelling begins a later epoch and has
+/// the same list, a commit is the next counter and has that list and then its transaction.
 pub fn law_lists_go_on()
     ensures { ListsGoOn }
 {
     law_rules_are_safe();
 }
 
-/// In each cell, over a database that makes no image shorter, one version is one list of transactions and one image: the durable
-/// image of each server, in any state, is that of the single copy after the list of its version, and so are all pieces of images
-/// that were ever sent.
+/// In each cell, whatever happens, one version is one list of transactions: the version of each durable state has one, and so has that of
+/// each piece of an image that was ever sent. Over a database that makes no image shorter it is one image too: that of the single copy
+/// after the list.
 pub fn law_one_label()
     ensures { OneLabel }
 {
