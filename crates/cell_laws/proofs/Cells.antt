@@ -89,7 +89,7 @@ own_place hosts ascending k within =
         (λ _. ap (λ (h : Host). (get_or hosts k (record { 0 = 0 })).0 == h.0) at_k ∙ equal _)
 
 module _ (hosts : List Host) (clock : ℕ) where
-  first_each : (P : ℕ → Site → Type 0) (failed : List Bool) → ((k : ℕ) (b : Bool) → P k (first_site (length hosts) clock b)) →
+  pub first_each : (P : ℕ → Site → Type 0) (failed : List Bool) → ((k : ℕ) (b : Bool) → P k (first_site (length hosts) clock b)) →
       (k : ℕ) (site : Site) → slice_get (map (first_site (length hosts) clock) failed) k ≡ Some site → P k site
   first_each P [] all k site is = absurd (cc)
   first_each P (b ∷ failed) all zero site is =
@@ -110,7 +110,7 @@ module _ (hosts : List Host) (clock : ℕ) where
   first_holds x k true = tt
   first_holds x k false = (refl, record { sending = λ is. absurd (true≢false (sym is)); kept = tt })
 
-  first_good : (failed : List Bool) → IsFirst hosts clock failed →
+  pub first_good : (failed : List Bool) → IsFirst hosts clock failed →
       CellInvariant (first_world hosts clock failed) (runs.first cell_rules clock failed) []
   first_good failed is = record {
     servers = first_view (length failed) failed is.each;
@@ -150,7 +150,7 @@ along safe db r x (e ∷ events) good run =
     by (inl next) rest = rest x next
     by (inr next) rest = let w = rest (runs.after cell_rules x next.0) next.2 in (next.0 ∷ w.0, (next.1, w.1), w.2)
 
-same_world : (db : Database) (r : Run) (events : List Event) → (run_through db r events).world ≡ world_after db r.world events
+pub same_world : (db : Database) (r : Run) (events : List Event) → (run_through db r events).world ≡ world_after db r.world events
 same_world db r [] = refl
 same_world db r (e ∷ events) = same_world db (run_after db r e) events
 
@@ -175,7 +175,7 @@ lease_seen w x book k good leased = by (site_of w k) refl leased
         (node_is (length x.servers) site.clock site.node here.moment here.size is)
 
 module _ (safe : AreSafe cell_rules) where
-  run_good : (db : Database) (hosts : List Host) (clock : ℕ) (failed : List Bool) (events : List Event) → IsFirst hosts clock failed →
+  pub run_good : (db : Database) (hosts : List Host) (clock : ℕ) (failed : List Bool) (events : List Event) → IsFirst hosts clock failed →
       IsRun db (first_world hosts clock failed) events →
       (moves : List runs.Event) × runs.IsRun cell_rules (runs.first cell_rules clock failed) moves
       × CellInvariant (run_through db (first_run (first_world hosts clock failed)) events).world

@@ -42,7 +42,7 @@ site_length (z ∷ sites) zero site = refl
 site_length (z ∷ sites) (suc k) site = ap suc (site_length sites k site)
 
 -- what stands at a place after one server is another one
-site_either : (sites : List Site) (k j : ℕ) (site z : Site) → slice_get (set sites k site) j ≡ Some z →
+pub site_either : (sites : List Site) (k j : ℕ) (site z : Site) → slice_get (set sites k site) j ≡ Some z →
     ((j ≡ k) × (z ≡ site)) ⊎ ((j ≡ k → ⊥) × (slice_get sites j ≡ Some z))
 site_either [] k j site z is = absurd (cc)
 site_either (y ∷ sites) zero zero site z is = inl (refl, cc)
@@ -349,14 +349,14 @@ module _ (safe : AreSafe cell_rules) (w : World) (x : Leases) (book : Book) (goo
   }
 
 -- the same server at a later clock
-ticked_one : (sites : List Site) (k seconds : ℕ) → LaterSites sites (tick_at sites k seconds)
+pub ticked_one : (sites : List Site) (k seconds : ℕ) → LaterSites sites (tick_at sites k seconds)
 ticked_one [] k seconds j z is = absurd (cc)
 ticked_one (y ∷ sites) zero seconds zero z is = later_ticked (y ∷ sites) 0 y z seconds refl (cc)
 ticked_one (y ∷ sites) zero seconds (suc j) z is = (z, is, omega arith, refl, refl)
 ticked_one (y ∷ sites) (suc k) seconds zero z is = let same : y ≡ z = cc in (z, ap (λ (s : Site). Some s) same, omega arith, refl, refl)
 ticked_one (y ∷ sites) (suc k) seconds (suc j) z is = ticked_one sites k seconds j z is
 
-ticked_each : (sites : List Site) (seconds : ℕ) → LaterSites sites (map (ticked seconds) sites)
+pub ticked_each : (sites : List Site) (seconds : ℕ) → LaterSites sites (map (ticked seconds) sites)
 ticked_each [] seconds j z is = absurd (cc)
 ticked_each (y ∷ sites) seconds zero z is = later_ticked (y ∷ sites) 0 y z seconds refl (cc)
 ticked_each (y ∷ sites) seconds (suc j) z is = ticked_each sites seconds j z is

@@ -1,0 +1,11 @@
+pub mod Holding
+pub mod Keeping
+pub mod Labels
+pub mod Leading
+pub mod LoggedChanges
+pub mod Making
+pub mod Once
+pub mod Runs
+pub mod Texts
+pub mod Versions
+pub mod Walk

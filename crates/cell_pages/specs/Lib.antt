@@ -1,0 +1,11 @@
+pub mod Contents
+pub mod Growth
+pub mod Holdings
+pub mod Images
+pub mod Laws
+pub mod Moves
+pub mod OneLabel
+pub mod Parts
+pub mod Passes
+pub mod Says
+pub mod WritesOnTheWay
