@@ -1,5 +1,10 @@
 pub mod Calls
+pub mod DurableCall
 pub mod Faults
 pub mod Files
+pub mod Gaps
 pub mod Moments
+pub mod Opening
 pub mod Redo
+pub mod Rest
+pub mod Store

@@ -19,8 +19,8 @@ use crate::redo::redo;
 use disk_base::{Disk, FileNo};
 use page_file::Pages;
 use std::alloc::Global;
-use ubik_log::{encode_log, keep_log, open_gate};
-use ubik_types::{Change, Changes, Version};
+use ubik_log::{empty_log, encode_log, keep_log, open_gate};
+use ubik_types::{Change, Changes, Version, bytes_of, changes_new, changes_push};
 
 /// Keeps the log of these changes and this version, commits it, and brings it to its end. It makes the room of the
 /// log first; that of the changes is there. For want of memory nothing changes. A crash at any moment leaves files that
@@ -120,4 +120,24 @@ pub fn commit_changes<D: Disk>(
     let log = encode_log(alloc, changes, v)?;
     pages.reserve(disk, reach(changes.as_slice()))?;
     keep_and_redo(alloc, disk, pages, log.as_slice(), changes.as_slice(), v)
+}
+
+/// Gives the image a version, in one durable call: a log of no change. Where there is room for that log and a label it takes no memory.
+pub(crate) fn relabel_files<D: Disk>(alloc: Global, disk: &mut D, pages: &mut Pages, v: Version) -> Result<(), StoreFault>
+    requires version { IsVersion v }
+{
+    pages.reserve(disk, 0)?;
+    keep_and_redo(alloc, disk, pages, &empty_log(v), &[], v)
+}
+
+/// Takes another image under a version, in one durable call: everything is cut, and the image is put.
+pub(crate) fn install_files<D: Disk>(alloc: Global, disk: &mut D, pages: &mut Pages, image: &[u8], v: Version) -> Result<(), StoreFault>
+    requires version { IsVersion v }
+    requires fits { length image.now ≤ 16777216 }
+{
+    let bytes = bytes_of(alloc, image)?;
+    let mut changes = changes_new(alloc);
+    changes_push(&mut changes, Change::Cut { len: 0 })?;
+    changes_push(&mut changes, Change::Put { at: 0, bytes })?;
+    commit_changes(alloc, disk, pages, &changes, v)
 }

@@ -4,10 +4,13 @@
 
 mod commits;
 mod faults;
+mod opening;
 mod redo;
+mod stores;
+mod transactions;
 
-pub use commits::commit_changes;
 pub use faults::StoreFault;
+pub use stores::Store;
 
 #[cfg(test)]
 mod tests;
