@@ -1,4 +1,5 @@
 pub mod Calls
+pub mod Commit
 pub mod DurableCall
 pub mod Faults
 pub mod Files

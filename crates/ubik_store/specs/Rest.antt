@@ -11,8 +11,8 @@ use Rattle.page_file.specs.Pages.{image_of}
 -- an empty log, and a database file of this version and image
 pub record IsAtRest (version : Version) (image : List ℕ) (fs : Files) : Type 0 where
   pub log : fs.log ≡ []
-  pub version : version_of_database fs.database ≡ Some version
-  pub image : image_of fs.database ≡ image
+  pub label : version_of_database fs.database ≡ Some version
+  pub content : image_of fs.database ≡ image
 
 -- a disk tells its files, and they are at rest
 abbrev pub RestsAs : Version → List ℕ → Option Files → Type 0

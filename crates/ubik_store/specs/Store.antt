@@ -7,7 +7,7 @@ use Rattle.ubik_types.specs.declared.images.Change.TheVariants.{Put, Cut}
 use Rattle.ubik_types.specs.declared.limits.TheConstants.{MAX_CHANGES, MAX_IMAGE}
 use Rattle.ubik_types.specs.declared.versions.Version.{Version}
 use Rattle.ubik_types.specs.Logged.{logged, too_large}
-use Rattle.ubik_types.specs.Version.{IsVersion}
+use Rattle.ubik_types.specs.Version.{IsVersion, version_lt}
 use Rattle.disk_base.specs.declared.disks.Disk.{Ghosts}
 use Rattle.disk_base.specs.Crash.{IsSettled}
 use Rattle.disk_base.specs.Files.{Files}
@@ -36,11 +36,11 @@ abbrev pub changes_begun : Option Transaction → Option (List Change)
 changes_begun begun = option_map (λ t. t.changes) begun
 
 -- changes begun over an image of a length: they leave no gap and go past no limit, and their sums are these
-pub record IsBegunOver (len : ℕ) (t : Transaction) : Type 0 where
-  pub start : t.start ≡ len
-  pub seamless : IsSeamless len t.changes
+pub record IsBegunOver (before : ℕ) (t : Transaction) : Type 0 where
+  pub start : t.start ≡ before
+  pub seamless : IsSeamless before t.changes
   pub within : All IsWithinImage t.changes
-  pub len : t.len ≡ len_after len t.changes
+  pub len : t.len ≡ len_after before t.changes
   pub sum : t.sum ≡ put_bytes t.changes
   pub few : t.sum ≤ MAX_CHANGES
   pub not_long : t.len ≤ MAX_IMAGE
@@ -99,3 +99,11 @@ IsPutRefused s change NoMemory = Unit {0}
 -- an image of so many bytes is too long
 abbrev pub IsTooLong : List ℕ → ℕ → Type 0
 IsTooLong image bytes = (MAX_IMAGE < length image) × (bytes ≡ length image)
+
+-- a durable call under this version is refused at once: the store has failed, or the version is not newer
+abbrev pub IsForbidden : {D : Type 0} → Store D → Version → StoreFault → Type 0
+IsForbidden s v DiskFault = s.failed ≡ true
+IsForbidden s v (BadLabel len head) = ⊥
+IsForbidden s v (TooLarge bytes) = ⊥
+IsForbidden s v (NotNewer own given) = (own ≡ s.version) × (given ≡ v) × (s.failed ≡ false) × (version_lt s.version v ≡ false)
+IsForbidden s v NoMemory = ⊥

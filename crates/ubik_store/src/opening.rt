@@ -1,5 +1,5 @@
 //! From files that a crash may have left to files at rest.
-ghost use Rattle.std.specs.Prelude.{◌≡◌, ◌≢◌, ◌+◌, ◌≤◌, ◌⊎◌, ◌×◌, ℕ, List, length, Some, None, IfOk, IfErr, IfSome, IsErrOf, OnOk};
+ghost use Rattle.std.specs.Prelude.{◌≡◌, ◌≢◌, ◌+◌, ◌≤◌, ◌⊎◌, ℕ, List, length, Some, None, IfOk, IfErr, IfSome, IsErrOf, OnOk};
 ghost use Rattle.ubik_types.specs.declared.versions.Version.{Version};
 ghost use Rattle.ubik_types.specs.Version.{IsVersion};
 ghost use Rattle.disk_base.specs.Crash.{IsSettled};

@@ -1,6 +1,6 @@
 //! The store of a server.
-ghost use Rattle.std.specs.Prelude.{◌≡◌, ◌≢◌, ◌+◌, ◌<◌, ◌≤◌, ◌⊎◌, ◌×◌, ◌^◌, ◌↔◌, ℕ, List, [], ◌∷◌, ◌++◌, length, take, drop, true, false, IsTrue, Some, None, IsSome, IfOk, IfErr, IfSome, IsErrOf, OnOk, OnErr, MatchResult};
-ghost use Rattle.ubik_types.specs.Version.{IsVersion};
+ghost use Rattle.std.specs.Prelude.{◌≡◌, ◌≢◌, ◌+◌, ◌<◌, ◌≤◌, ◌⊎◌, ◌^◌, ◌↔◌, ℕ, List, [], ◌∷◌, ◌++◌, length, take, drop, true, false, IsTrue, Some, None, IsSome, IfOk, IfErr, IfSome, IsErrOf, OnOk, OnErr, MatchResult};
+ghost use Rattle.ubik_types.specs.Version.{IsVersion, version_lt};
 ghost use Rattle.ubik_types.specs.declared.images.Change.TheVariants as change;
 ghost use Rattle.disk_base.specs.Crash.{IsSettled};
 ghost use Rattle.disk_base.specs.Runs.{OnlyReads};
@@ -9,7 +9,7 @@ ghost use Rattle.ubik_store.specs.DurableCall.{Commits, EndsAs, HasFailed, IsDur
 ghost use Rattle.ubik_store.specs.Files.{StandsFor};
 ghost use Rattle.ubik_store.specs.Opening.{OpensIn, RefusesFiles, IsOpening};
 ghost use Rattle.ubik_store.specs.Rest.{RestsAs, CanRelabel};
-ghost use Rattle.ubik_store.specs.Store.{Adds, IsPutRefused, IsSound, IsTooLong, SameButBegun, StaysAsItWas, changes_begun, image_in};
+ghost use Rattle.ubik_store.specs.Store.{Adds, IsForbidden, IsPutRefused, IsSound, IsTooLong, SameButBegun, StaysAsItWas, changes_begun, image_in};
 
 use crate::commits::{commit_changes, install_files, relabel_files};
 use crate::faults::StoreFault;
@@ -231,7 +231,7 @@ impl<D: Disk> Store<D> {
     /// Refuses a version that is not newer, and anything where the store has failed.
     fn allow(&self, v: Version) -> Result<(), StoreFault>
         ensures ok { OnOk result ((self.now.failed ≡ false) × (version_lt self.now.version v ≡ true)) }
-        ensures fault { IfErr result (λ fault. ForbidsFor self.now v fault) }
+        ensures fault { IfErr result (λ fault. IsForbidden self.now v fault) }
     {
         if self.failed {
             Err(StoreFault::DiskFault)
