@@ -1,4 +1,5 @@
 pub mod Applied
+pub mod Begun
 pub mod Closing
 pub mod Committing
 pub mod Ending
