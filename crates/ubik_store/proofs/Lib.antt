@@ -6,4 +6,5 @@ pub mod Ending
 pub mod Heads
 pub mod Redoing
 pub mod Redone
+pub mod Rests
 pub mod Telling
