@@ -2,6 +2,7 @@ pub mod Applied
 pub mod Closing
 pub mod Committing
 pub mod Ending
+pub mod Gaps
 pub mod Heads
 pub mod Redoing
 pub mod Redone
