@@ -3,6 +3,7 @@ pub mod Begun
 pub mod Closing
 pub mod Committing
 pub mod Ending
+pub mod Gaps
 pub mod Heads
 pub mod Redoing
 pub mod Redone
