@@ -32,7 +32,7 @@ pub(crate) fn put_head<D: Disk>(disk: &mut D) -> Result<(), PageFault>
     ensures redo { (kept : Files) (told : List Change) → Narrows (MayRedo kept told) (D.may_leave disk.old)
         → LeavesOnly D.steps D.left_since disk.old disk.new (MayRedo kept told) }
     ensures fault { IfErr result (λ fault. fault ≡ PageFault.DiskFault) }
-    ensures calls { CallsAtMost D.Disk 1 disk.old disk.new (IsErr result) }
+    ensures changes { ChangesAtMost D.Disk FileNo.Database 1 disk.old disk.new (IsErr result) }
 {
     match disk.len(FileNo::Database) {
         LenEnd::Known(len) if len >= LABEL_LEN as u64 => Ok(()),
@@ -61,7 +61,7 @@ fn apply<D: Disk>(disk: &mut D, pages: &mut Pages, change: &Change) -> Result<()
         → Narrows (MayRedo kept told) (D.may_leave disk.old)
         → LeavesOnly D.steps D.left_since disk.old disk.new (MayRedo kept told) }
     ensures fault { IfErr result (λ fault. fault ≡ PageFault.DiskFault) }
-    ensures calls { CallsAtMost D.Disk 1 disk.old disk.new (IsErr result) }
+    ensures changes { ChangesAtMost D.Disk FileNo.Database 1 disk.old disk.new (IsErr result) }
 {
     match change {
         Change::Put { at, bytes } => pages.write_range(disk, *at, bytes.as_slice()),
@@ -90,7 +90,7 @@ pub(crate) fn apply_all<D: Disk>(
         → Narrows (MayRedo kept told) (D.may_leave disk.old)
         → LeavesOnly D.steps D.left_since disk.old disk.new (MayRedo kept told) }
     ensures fault { IfErr result (λ fault. fault ≡ PageFault.DiskFault) }
-    ensures calls { CallsAtMost D.Disk (length changes.now) disk.old disk.new (IsErr result) }
+    ensures changes { ChangesAtMost D.Disk FileNo.Database (length changes.now) disk.old disk.new (IsErr result) }
 {
     for change in changes {
         apply(disk, pages, change)?;
@@ -114,7 +114,7 @@ fn put_label<D: Disk>(disk: &mut D, pages: &mut Pages, v: Version) -> Result<(),
     ensures redo { (kept : Files) (told : List Change) → Narrows (MayRedo kept told) (D.may_leave disk.old)
         → LeavesOnly D.steps D.left_since disk.old disk.new (MayRedo kept told) }
     ensures fault { IfErr result (λ fault. fault ≡ PageFault.DiskFault) }
-    ensures calls { CallsAtMost D.Disk 3 disk.old disk.new (IsErr result) }
+    ensures changes { ChangesAtMost D.Disk FileNo.Database 3 disk.old disk.new (IsErr result) }
 {
     pages.sync(disk)?;
     pages.set_label(disk, v)?;
@@ -178,8 +178,7 @@ pub(crate) fn redo<D: Disk>(
         → LeavesOnly D.steps D.left_since disk.old disk.new (λ c. StandsFor c v (effect (image_of fs.database) told))) }
     ensures plain { IfSome (D.files disk.old) (λ fs. (told : List Change) → LeadsTo fs told v changes.now → IsPlain fs
         → Narrows (MayRedo fs told) (D.may_leave disk.old) → LeavesOnly D.steps D.left_since disk.old disk.new IsPlain) }
-    ensures settled { OnOk result (IfSome (D.files disk.old) (λ fs. (told : List Change) → LeadsTo fs told v changes.now
-        → Narrows (MayRedo fs told) (D.may_leave disk.old) → IsSettled (D.files disk.new) (D.may_leave disk.new))) }
+    ensures settled { OnOk result (IsSettled (D.files disk.old) (D.may_leave disk.old) → IsSettled (D.files disk.new) (D.may_leave disk.new)) }
     ensures steps { OnOk result (IfSome (D.files disk.old) (λ fs.
         D.steps disk.new ≡ D.steps disk.old + (7 + length changes.now + head_calls fs.database))) }
     ensures label { OnOk result (pages.new.version ≡ Some v) }

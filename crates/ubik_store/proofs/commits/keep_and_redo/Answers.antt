@@ -18,7 +18,7 @@ use Rattle.ubik_store.specs.Files.{StandsFor, StandsForEither}
 use Rattle.ubik_store.specs.Moments.{head_calls, ended}
 use Rattle.ubik_store.proofs.Applied.{calls_of, calls_joined, calls_as}
 use Rattle.ubik_store.proofs.Committing.{LeavesEither, fits_of, stands_before, stands_in_gate, leads_itself, may_redo_all, opened_files, ended_from, only_log, settled_at}
-use Rattle.ubik_store.proofs.Ending.{LeavesEffect, SettlesAfter}
+use Rattle.ubik_store.proofs.Ending.{LeavesEffect}
 use Rattle.ubik_store.proofs.Telling.{told, of_told, of_some, ok_map, ok_both, err_of, err_any, settled_told}
 use Rattle.ubik_store.proofs.commits.keep_and_redo.Goals as goal
 
@@ -98,14 +98,7 @@ returns-clause-moments g c = told _ (LeavesEither g.D.Disk c.args.disk.now c.red
 
 pub returns-clause-settled : goal.returns-clause-settled
 returns-clause-settled g c =
-    ok_both c.redo.result _ _ _ c.redo.ensures.files c.redo.ensures.settled (λ files settled.
-    let from = opened_files c.args.log.now c.args.changes.now c.args.v _ _ _ c.requires.committed c.in_ok-keep_log.ensures.stands.files c.in_ok-open_gate.ensures.set.files in
-    settled_told (ended c.args.changes.now c.args.v) _ _ _ (files ∙ ended_from c.args.log.now c.args.changes.now c.args.v _ _ from) (λ fs is.
-    let opened : g.D.Disk.files c.open_gate.new.disk ≡ Some (with_log c.args.log.now fs) = from ∙ ap (option_map (with_log c.args.log.now)) is in
-    let open_only = settled_at _ (with_log c.args.log.now fs) _ opened (c.in_ok-open_gate.ensures.set.settled (c.in_ok-keep_log.ensures.stands.settled c.requires.settled)) in
-    of_told _ (with_log c.args.log.now fs) (SettlesAfter g.D.Disk c.open_gate.new.disk c.redo.new.disk c.args.v c.args.changes.now) opened settled
-    c.args.changes.now (leads_itself fs c.args.v c.args.changes.now c.args.log.now c.requires.committed)
-    (may_redo_all (with_log c.args.log.now fs) c.args.changes.now _ (fits_of _ _ fs c.requires.agrees is c.requires.len) open_only)))
+    ok_map c.redo.result _ _ c.redo.ensures.settled (λ settles. settles (c.in_ok-open_gate.ensures.set.settled (c.in_ok-keep_log.ensures.stands.settled c.requires.settled)))
 
 pub returns-clause-steps : goal.returns-clause-steps
 returns-clause-steps g c =
