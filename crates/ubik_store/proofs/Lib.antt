@@ -5,6 +5,7 @@ pub mod Committing
 pub mod Ending
 pub mod Gaps
 pub mod Heads
+pub mod Plain
 pub mod Redoing
 pub mod Redone
 pub mod Rests
