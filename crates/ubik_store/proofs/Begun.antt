@@ -1,5 +1,5 @@
 -- Changes that are begun, one after the other.
-use Rattle.std.proofs.Common.{◌≡◌, ◌<◌, ◌≤◌, ℕ, ◌+◌, ◌-◌, max, min, Bool, true, false, cond, ltb, List, [], ◌∷◌, ◌++◌, length, replicate, Option, Some, None, refl, sym, ap, subst, ◌∙◌, arith}
+use Rattle.std.proofs.Common.{◌≡◌, ◌<◌, ◌≤◌, ℕ, ◌+◌, ◌-◌, max, min, Bool, true, false, cond, ltb, List, [], ◌∷◌, ◌++◌, length, replicate, Option, Some, None, IfSome, refl, sym, ap, subst, ◌∙◌, arith}
 use Rattle.std.proofs.lemmas.Bool.{ltb-true, ltb-false}
 use Rattle.std.proofs.lemmas.List.{length-replicate}
 use Rattle.std.specs.List.{All}
@@ -11,7 +11,7 @@ use Rattle.ubik_types.specs.Logged.{logged, passed_limit}
 use Rattle.ubik_log.specs.LogGrammar.{IsWithinImage}
 use Rattle.ubik_store.specs.declared.transactions.Transaction.{Transaction}
 use Rattle.ubik_store.specs.Redo.{changed_len, len_after, IsSeam, IsSeamless}
-use Rattle.ubik_store.specs.Store.{IsBegunOver, put_bytes}
+use Rattle.ubik_store.specs.Store.{IsBegunOver, changes_begun, put_bytes}
 
 pub len_after-append : (len : ℕ) (xs ys : List Change) → len_after len (xs ++ ys) ≡ len_after (len_after len xs) ys
 len_after-append len [] ys = refl
@@ -113,3 +113,11 @@ cut_may_be_added t to few not_long = record {
   few = omega (arith, few);
   not_long = omega (arith, not_long);
 }
+
+-- they leave an image that is not too long
+pub begun_fits : (begun : Option Transaction) (before : ℕ) (changes : List Change) → IfSome begun (IsBegunOver before)
+    → changes_begun begun ≡ Some changes → len_after before changes ≤ MAX_IMAGE
+begun_fits None before changes over is = absurd cc
+begun_fits (Some t) before changes over is =
+    let same : t.changes ≡ changes = cc in
+    subst (λ (cs : List Change). len_after before cs ≤ MAX_IMAGE) same (subst (λ (n : ℕ). n ≤ MAX_IMAGE) over.len over.not_long)

@@ -2,6 +2,7 @@ pub mod Applied
 pub mod Begun
 pub mod Closing
 pub mod Committing
+pub mod Ended
 pub mod Ending
 pub mod Gaps
 pub mod Heads

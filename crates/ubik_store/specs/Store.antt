@@ -1,5 +1,5 @@
 -- A store as those see it who use it: a version and an image, changes begun or none, failed or not; and what it keeps to be that (own).
-use Rattle.std.specs.Prelude.{◌≡◌, ◌+◌, ◌<◌, ◌≤◌, ℕ, true, false, List, [], ◌∷◌, ◌++◌, length, Option, Some, None, IfSome}
+use Rattle.std.specs.Prelude.{◌≡◌, ◌+◌, ◌-◌, ◌^◌, ◌<◌, ◌≤◌, ℕ, min, true, false, List, [], ◌∷◌, ◌++◌, length, Option, Some, None, IfSome, Result, Ok, Err}
 use Rattle.std.specs.List.{All}
 use Rattle.std.specs.Option.{option_map}
 use Rattle.ubik_types.specs.declared.images.Change.{Change}
@@ -115,3 +115,12 @@ IsForbidden s v (BadLabel len head) = ⊥
 IsForbidden s v (TooLarge bytes) = ⊥
 IsForbidden s v (NotNewer own given) = (own ≡ s.version) × (given ≡ v) × (s.failed ≡ false) × (version_lt s.version v ≡ false)
 IsForbidden s v NoMemory = ⊥
+
+-- how a store takes over the end of a durable call under this version: version and length after it, or the mark of a failure
+abbrev pub taken_over : {D : Type 0} → Version → Store D → Result (Unit {0}) StoreFault → Store D
+taken_over v s (Ok done) = record s { version = v; len = min s.pages.len (2 ^ 32 - 1); begun = None }
+taken_over v s (Err DiskFault) = record s { failed = true }
+taken_over v s (Err (BadLabel len head)) = s
+taken_over v s (Err (TooLarge bytes)) = s
+taken_over v s (Err (NotNewer own given)) = s
+taken_over v s (Err NoMemory) = s
