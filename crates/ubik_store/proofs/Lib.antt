@@ -4,6 +4,7 @@ pub mod Committing
 pub mod Ending
 pub mod Gaps
 pub mod Heads
+pub mod Logged
 pub mod Redoing
 pub mod Redone
 pub mod Telling
