@@ -7,4 +7,5 @@ pub mod Heads
 pub mod Plain
 pub mod Redoing
 pub mod Redone
+pub mod Resting
 pub mod Telling
