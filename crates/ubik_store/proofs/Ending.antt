@@ -156,7 +156,7 @@ module _ (fs : Files) (told changes : List Change) (v : Version) (leads : LeadsT
       let version : version_of_database c.database ≡ Some v = ap version_of_database file ∙ version_labelled v (applied changes (with_head fs.database)) is fits in
       subst (λ (xs : List ℕ). StandsFor c v xs) image (by_label c v discarded version)
 
-  same_log : (c d : Files) → MayRedo fs told d → c ≡ with_log c.log d → c.log ≡ fs.log → MayRedo fs told c
+  pub same_log : (c d : Files) → MayRedo fs told d → c ≡ with_log c.log d → c.log ≡ fs.log → MayRedo fs told c
   same_log c d may same log = record {
     log = log;
     incoming = ap (λ (f : Files). f.incoming) same ∙ may.incoming;

@@ -1,10 +1,12 @@
 pub mod Applied
+pub mod AsMade
 pub mod Closing
 pub mod Committing
 pub mod Ending
 pub mod Gaps
 pub mod Heads
-pub mod Logged
+pub mod Plain
 pub mod Redoing
 pub mod Redone
+pub mod Resting
 pub mod Telling

@@ -14,6 +14,7 @@ ghost use Rattle.ubik_log.specs.LogGrammar.{IsWithinImage};
 ghost use Rattle.ubik_types.specs.Image.{effect};
 ghost use Rattle.ubik_store.specs.Files.{StandsFor};
 ghost use Rattle.ubik_store.specs.Calls.{CallsAtMost};
+ghost use Rattle.ubik_store.specs.Gaps.{IsPlain};
 ghost use Rattle.ubik_store.specs.Moments.{MayRedo, with_database, with_head, head_calls, changed_file, applied, labelled, without_log, ended, LeadsTo};
 ghost use Rattle.ubik_store.specs.Redo.{changed_len, len_after, IsSeam, IsSeamless, IsCovered, Ends};
 
@@ -175,6 +176,8 @@ pub(crate) fn redo<D: Disk>(
     ensures moments { IfSome (D.files disk.old) (λ fs. (told : List Change) → LeadsTo fs told v changes.now
         → Narrows (MayRedo fs told) (D.may_leave disk.old)
         → LeavesOnly D.steps D.left_since disk.old disk.new (λ c. StandsFor c v (effect (image_of fs.database) told))) }
+    ensures plain { IfSome (D.files disk.old) (λ fs. (told : List Change) → LeadsTo fs told v changes.now → IsPlain fs
+        → Narrows (MayRedo fs told) (D.may_leave disk.old) → LeavesOnly D.steps D.left_since disk.old disk.new IsPlain) }
     ensures settled { OnOk result (IsSettled (D.files disk.old) (D.may_leave disk.old) → IsSettled (D.files disk.new) (D.may_leave disk.new)) }
     ensures steps { OnOk result (IfSome (D.files disk.old) (λ fs.
         D.steps disk.new ≡ D.steps disk.old + (7 + length changes.now + head_calls fs.database))) }

@@ -13,6 +13,7 @@ use Rattle.ubik_store.specs.Moments.{MayRedo, with_database, head_calls, with_he
 use Rattle.ubik_store.specs.Redo.{IsSeamless}
 use Rattle.ubik_store.proofs.Applied.{calls_of, calls_joined, calls_as}
 use Rattle.ubik_store.proofs.Ending.{agrees_headed, finished_files, ended_files, log_there, stands_by_log, settled_end, run_ended, LeavesEffect}
+use Rattle.ubik_store.proofs.Plain.{LeavesPlain, plain_by_log, run_plain}
 use Rattle.ubik_store.proofs.Redoing.{narrowed}
 use Rattle.ubik_store.proofs.Telling.{told, of_told, of_some}
 use Rattle.ubik_store.proofs.redo.redo.Goals as goal
@@ -122,3 +123,41 @@ returns-clause-steps g c = told _ (λ fs. g.D.Disk.steps c.end_log.new.disk ≡ 
     let head : g.D.Disk.steps c.put_head.new.disk ≡ g.D.Disk.steps c.args.disk.now + head_calls fs.database =
     of_told _ fs (λ fs. g.D.Disk.steps c.put_head.new.disk ≡ g.D.Disk.steps c.args.disk.now + head_calls fs.database) is c.in_ok-put_head.ensures.steps in
     omega (arith, head, c.in_ok-apply_all.ensures.steps, c.in_ok-put_label.ensures.steps, c.in_ok-end_log.ensures.steps))
+
+pub returns-in_err-put_head-clause-plain : goal.returns-in_err-put_head-clause-plain
+returns-in_err-put_head-clause-plain g c = told _ (LeavesPlain g.D.Disk c.args.disk.now c.put_head.new.disk c.args.v c.args.changes.now) (λ fs is cs leads plain before.
+    let one = c.put_head.ensures.redo fs cs before in
+    widened g.D.Disk.steps g.D.Disk.left_since _ _ (MayRedo fs cs) _ (plain_by_log fs cs c.args.changes.now c.args.v leads plain) one)
+
+pub returns-in_err-apply_all-clause-plain : goal.returns-in_err-apply_all-clause-plain
+returns-in_err-apply_all-clause-plain g c = told _ (LeavesPlain g.D.Disk c.args.disk.now c.apply_all.new.disk c.args.v c.args.changes.now) (λ fs is cs leads plain before.
+    let one = c.put_head.ensures.redo fs cs before in
+    let two = joined g.D.Disk.steps g.D.Disk.left_since _ _ _ (MayRedo fs cs) one (c.apply_all.ensures.redo fs cs leads.covered (narrowed g.D.Disk one)) in
+    widened g.D.Disk.steps g.D.Disk.left_since _ _ (MayRedo fs cs) _ (plain_by_log fs cs c.args.changes.now c.args.v leads plain) two)
+
+pub returns-in_err-put_label-clause-plain : goal.returns-in_err-put_label-clause-plain
+returns-in_err-put_label-clause-plain g c = told _ (LeavesPlain g.D.Disk c.args.disk.now c.put_label.new.disk c.args.v c.args.changes.now) (λ fs is cs leads plain before.
+    let one = c.put_head.ensures.redo fs cs before in
+    let two = joined g.D.Disk.steps g.D.Disk.left_since _ _ _ (MayRedo fs cs) one (c.apply_all.ensures.redo fs cs leads.covered (narrowed g.D.Disk one)) in
+    let three = joined g.D.Disk.steps g.D.Disk.left_since _ _ _ (MayRedo fs cs) two (c.put_label.ensures.redo fs cs (narrowed g.D.Disk two)) in
+    widened g.D.Disk.steps g.D.Disk.left_since _ _ (MayRedo fs cs) _ (plain_by_log fs cs c.args.changes.now c.args.v leads plain) three)
+
+pub returns-in_err-end_log-clause-plain : goal.returns-in_err-end_log-clause-plain
+returns-in_err-end_log-clause-plain g c = told _ (LeavesPlain g.D.Disk c.args.disk.now c.end_log.new.disk c.args.v c.args.changes.now) (λ fs is cs leads plain before.
+    let one = c.put_head.ensures.redo fs cs before in
+    let two = joined g.D.Disk.steps g.D.Disk.left_since _ _ _ (MayRedo fs cs) one (c.apply_all.ensures.redo fs cs leads.covered (narrowed g.D.Disk one)) in
+    let three = joined g.D.Disk.steps g.D.Disk.left_since _ _ _ (MayRedo fs cs) two (c.put_label.ensures.redo fs cs (narrowed g.D.Disk two)) in
+    let mid = two_files c.args.changes.now _ _ _ fs is c.in_ok-put_head.ensures.files c.in_ok-apply_all.ensures.files in
+    run_plain fs cs c.args.changes.now c.args.v leads plain g.D.Disk (finished c.args.changes.now c.args.v) three
+    (c.in_ok-put_label.ensures.files ∙ ap (option_map (with_database (labelled c.args.v))) mid)
+    c.end_log.ensures.moments)
+
+pub returns-clause-plain : goal.returns-clause-plain
+returns-clause-plain g c = told _ (LeavesPlain g.D.Disk c.args.disk.now c.end_log.new.disk c.args.v c.args.changes.now) (λ fs is cs leads plain before.
+    let one = c.put_head.ensures.redo fs cs before in
+    let two = joined g.D.Disk.steps g.D.Disk.left_since _ _ _ (MayRedo fs cs) one (c.apply_all.ensures.redo fs cs leads.covered (narrowed g.D.Disk one)) in
+    let three = joined g.D.Disk.steps g.D.Disk.left_since _ _ _ (MayRedo fs cs) two (c.put_label.ensures.redo fs cs (narrowed g.D.Disk two)) in
+    let mid = two_files c.args.changes.now _ _ _ fs is c.in_ok-put_head.ensures.files c.in_ok-apply_all.ensures.files in
+    run_plain fs cs c.args.changes.now c.args.v leads plain g.D.Disk (finished c.args.changes.now c.args.v) three
+    (c.in_ok-put_label.ensures.files ∙ ap (option_map (with_database (labelled c.args.v))) mid)
+    c.end_log.ensures.moments)

@@ -36,7 +36,7 @@ logged_gap len at bytes changes gap =
     ap (λ (gap : List Change). gap ++ Put at bytes ∷ logged (max len (at + length bytes)) changes) (gap_some len at gap)
 
 len_filled : (len at : ℕ) → len < at → changed_len len (Put len (replicate (at - len) 0)) ≡ at
-len_filled len at gap = let long = length-replicate (at - len) 0 in omega arith
+len_filled len at gap = let long : length (replicate {A = ℕ} (at - len) 0) ≡ at - len = length-replicate (at - len) 0 in omega arith
 
 pub logged_is_seamless : (changes : List Change) (len : ℕ) → IsSeamless len (logged len changes)
 logged_is_seamless [] len = tt
@@ -70,7 +70,7 @@ logged_is_within (Put at bytes ∷ changes) len short within =
     let put = All-cons IsWithinImage (Put at bytes) (logged (max len (at + length bytes)) changes) here rest in
     elim (cases_lt len at) [
       | inl gap ↦
-          let long = length-replicate (at - len) 0 in
+          let long : length (replicate {A = ℕ} (at - len) 0) ≡ at - len = length-replicate (at - len) 0 in
           subst (All IsWithinImage) (sym (logged_gap len at bytes changes gap))
           (All-cons IsWithinImage (Put len (replicate (at - len) 0)) (Put at bytes ∷ logged (max len (at + length bytes)) changes) (omega arith) put)
       | inr close ↦ subst (All IsWithinImage) (sym (logged_put len at bytes changes close)) put
@@ -92,7 +92,10 @@ extended_byte : (image : List ℕ) (at p : ℕ) → get_or (extended image at) p
 extended_byte image at p = grind (arith, common_steps)
 
 length-extended : (image : List ℕ) (at : ℕ) → length image < at → length (extended image at) ≡ at
-length-extended image at gap = let a = length-append image (replicate (at - length image) 0) in let b = length-replicate (at - length image) 0 in omega arith
+length-extended image at gap = 
+    let zeros : List ℕ = replicate (at - length image) 0 in
+    let long : length zeros ≡ at - length image = length-replicate (at - length image) 0 in
+    omega (arith, length-append image zeros)
 
 -- a put behind a gap makes the same of it
 put_over_gap : (image bytes : List ℕ) (at : ℕ) → length image < at → changed (extended image at) (Put at bytes) ≡ changed image (Put at bytes)
