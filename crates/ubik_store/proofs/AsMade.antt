@@ -5,7 +5,7 @@ use Rattle.std.proofs.lemmas.Bool.{cases_lt}
 use Rattle.std.proofs.lemmas.Bool.Decides.{nat_tests}
 use Rattle.std.proofs.lemmas.Grind.{common_steps}
 use Rattle.std.proofs.lemmas.List.{length-replicate, get_or-replicate, take_at, drop_all, append-nil, get_or_append_left, get_or-append_right}
-use Rattle.std.proofs.lemmas.List.Elements.{All-cons, All-nil}
+use Rattle.std.proofs.lemmas.List.Elements.{All-cons, All-nil, All-head, All-tail}
 use Rattle.ubik_types.specs.declared.images.Change.{Change}
 use Rattle.ubik_types.specs.declared.images.Change.TheVariants.{Put, Cut}
 use Rattle.ubik_types.specs.Image.{extended, changed, effect}
@@ -56,17 +56,11 @@ logged_is_seamless (Cut to ∷ changes) len =
     let same : min to len ≡ min (min to len) len = omega arith in
     (omega arith, subst (λ (n : ℕ). IsSeamless n (logged (min to len) changes)) same (logged_is_seamless changes (min to len)))
 
-head_of : (P : Change → Type 0) (change : Change) (changes : List Change) → All P (change ∷ changes) → P change
-head_of P change changes all = all 0 change (omega arith)
-
-rest_of : (P : Change → Type 0) (change : Change) (changes : List Change) → All P (change ∷ changes) → All P changes
-rest_of P change changes all = λ k d below. all (suc k) d (omega (arith, below))
-
 pub logged_is_within : (changes : List Change) (len : ℕ) → len ≤ 16777216 → All IsWithinImage changes → All IsWithinImage (logged len changes)
 logged_is_within [] len short within = All-nil IsWithinImage
 logged_is_within (Put at bytes ∷ changes) len short within =
-    let here : at + length bytes ≤ 16777216 = head_of IsWithinImage (Put at bytes) changes within in
-    let rest = logged_is_within changes (max len (at + length bytes)) (omega arith) (rest_of IsWithinImage (Put at bytes) changes within) in
+    let here : at + length bytes ≤ 16777216 = All-head IsWithinImage (Put at bytes) changes within in
+    let rest = logged_is_within changes (max len (at + length bytes)) (omega arith) (All-tail IsWithinImage (Put at bytes) changes within) in
     let put = All-cons IsWithinImage (Put at bytes) (logged (max len (at + length bytes)) changes) here rest in
     elim (cases_lt len at) [
       | inl gap ↦
@@ -76,9 +70,9 @@ logged_is_within (Put at bytes ∷ changes) len short within =
       | inr close ↦ subst (All IsWithinImage) (sym (logged_put len at bytes changes close)) put
     ]
 logged_is_within (Cut to ∷ changes) len short within =
-    let here : to ≤ 16777216 = head_of IsWithinImage (Cut to) changes within in
+    let here : to ≤ 16777216 = All-head IsWithinImage (Cut to) changes within in
     All-cons IsWithinImage (Cut (min to len)) (logged (min to len) changes) (omega arith)
-    (logged_is_within changes (min to len) (omega arith) (rest_of IsWithinImage (Cut to) changes within))
+    (logged_is_within changes (min to len) (omega arith) (All-tail IsWithinImage (Cut to) changes within))
 
 -- an image with a gap filled
 fills : (image : List ℕ) (at : ℕ) → changed image (Put (length image) (replicate (at - length image) 0)) ≡ extended image at
@@ -127,11 +121,8 @@ effect_logged (Cut to ∷ changes) image =
     ∙ ap (λ (n : ℕ). effect (take to image) (logged n changes)) (sym (length-changed image (Cut to)))
     ∙ effect_logged changes (take to image)
 
--- images stay within the limit
-pub len_is_within : (changes : List Change) (len : ℕ) → len ≤ 16777216 → All IsWithinImage changes → len_after len changes ≤ 16777216
-len_is_within [] len short within = short
-len_is_within (Put at bytes ∷ changes) len short within =
-    let here : at + length bytes ≤ 16777216 = head_of IsWithinImage (Put at bytes) changes within in
-    len_is_within changes (max len (at + length bytes)) (omega arith) (rest_of IsWithinImage (Put at bytes) changes within)
-len_is_within (Cut to ∷ changes) len short within =
-    len_is_within changes (min to len) (omega arith) (rest_of IsWithinImage (Cut to) changes within)
+-- the first of more changes as it is made, and then the others
+pub logged_more : (change : Change) (len : ℕ) (changes : List Change) → logged len (change ∷ changes) ≡ logged len (change ∷ []) ++ logged (changed_len len change) changes
+logged_more (Put at bytes) len changes = sym (append_assoc (gap_before len at) (Put at bytes ∷ []) (logged (max len (at + length bytes)) changes))
+logged_more (Cut to) len changes = refl
+

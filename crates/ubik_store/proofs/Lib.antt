@@ -2,6 +2,7 @@ pub mod Applied
 pub mod AsMade
 pub mod Closing
 pub mod Committing
+pub mod Covering
 pub mod Ending
 pub mod Gaps
 pub mod Heads
