@@ -1,7 +1,9 @@
 pub mod Applied
+pub mod AsMade
 pub mod Begun
 pub mod Closing
 pub mod Committing
+pub mod Covering
 pub mod Ended
 pub mod Ending
 pub mod Gaps
@@ -9,5 +11,6 @@ pub mod Heads
 pub mod Plain
 pub mod Redoing
 pub mod Redone
+pub mod Resting
 pub mod Rests
 pub mod Telling

@@ -1,18 +1,21 @@
 -- What a crash leaves while a log is brought to its end is plain, where the files were.
-use Rattle.std.proofs.Common.{◌≡◌, inl, inr, ℕ, List, Option, Some, IfSome}
+use Rattle.std.proofs.Common.{◌≡◌, inl, inr, ℕ, List, length, Option, Some, IfSome, subst, sym, ap, ◌∙◌}
 use Rattle.ubik_types.specs.declared.images.Change.{Change}
 use Rattle.ubik_types.specs.declared.versions.Version.{Version}
 use Rattle.disk_base.specs.declared.disks.Disk.{Ghosts}
 use Rattle.disk_base.specs.declared.disks.FileNo.TheVariants.{Log}
 use Rattle.disk_base.specs.Files.{Files}
-use Rattle.disk_base.specs.Crash.{Narrows, LeavesOnly, OnlyIn, After}
+use Rattle.disk_base.specs.Crash.{Narrows, LeavesOnly, Only, OnlyIn, After}
 use Rattle.disk_base.proofs.Runs.{widened, joined}
-use Rattle.ubik_log.specs.LogFile.{HasLogOrNone}
-use Rattle.ubik_store.specs.Gaps.{IsPlain}
+use Rattle.page_file.specs.Pages.{image_of}
+use Rattle.ubik_log.specs.Gate.{closed}
+use Rattle.ubik_log.specs.LogFile.{with_log, HasDiscarded, HasLogOrNone}
+use Rattle.ubik_log.specs.LogGrammar.{IsCommitted}
+use Rattle.ubik_store.specs.Gaps.{LeaveNoGap, CutsNoPut, IsPlain}
 use Rattle.ubik_store.specs.Moments.{MayRedo, LeadsTo, with_database}
 use Rattle.ubik_store.proofs.Closing.{LeavesLog}
 use Rattle.ubik_store.proofs.Ending.{same_log, is_open}
-use Rattle.ubik_store.proofs.Gaps.{plain_again, discarded_is_plain}
+use Rattle.ubik_store.proofs.Gaps.{plain_again, committed_is_plain, discarded_is_plain}
 use Rattle.ubik_store.proofs.Redoing.{narrowed}
 use Rattle.ubik_store.proofs.Telling.{of_told}
 
@@ -46,3 +49,23 @@ module _ (fs : Files) (told changes : List Change) (v : Version) (leads : LeadsT
       (widened g.steps g.left_since old mid (MayRedo fs told) IsPlain plain_by_log run)
       (widened g.steps g.left_since mid new (After (HasLogOrNone fs.log) (g.may_leave mid)) IsPlain (plain_either (g.may_leave mid) may)
       (last (is_open fs told changes v leads) logs))
+
+-- while a log is kept
+pub plain_before : (before : Files → Type 0) (c : Files) → After HasDiscarded before c → IsPlain c
+plain_before before c from = discarded_is_plain c from.2.0
+
+module _ (fs : Files) (changes : List Change) (v : Version) (log : List ℕ) where
+  -- and once it is committed
+  pub plain_committed : (c : Files) → IsCommitted log changes v → LeaveNoGap (length (image_of fs.database)) changes → CutsNoPut changes
+      → c.log ≡ log → c.database ≡ fs.database → IsPlain c
+  plain_committed c committed gapless cuts same file =
+      committed_is_plain changes v c (subst (λ (xs : List ℕ). IsCommitted xs changes v) (sym same) committed)
+      (subst (λ (xs : List ℕ). LeaveNoGap (length (image_of xs)) changes) (sym file) gapless) cuts
+
+  -- while its gate is opened, the one or the other
+  pub plain_in_gate : (mid : Files → Type 0) → Only (with_log (closed log) fs) mid → IsCommitted log changes v → LeaveNoGap (length (image_of fs.database)) changes → CutsNoPut changes
+      → (c : Files) → After (HasLogOrNone log) mid c → IsPlain c
+  plain_in_gate mid only committed gapless cuts c from = elim from.2.0 [
+    | inl same ↦ plain_committed c committed gapless cuts same (ap (λ (f : Files). f.database) from.2.1 ∙ ap (λ (f : Files). f.database) (only from.0 from.1))
+    | inr discarded ↦ discarded_is_plain c discarded
+  ]

@@ -11,6 +11,7 @@ ghost use Rattle.page_file.specs.Pages.{AgreesIn, image_of};
 ghost use Rattle.ubik_log.specs.LogGrammar.{IsTold, IsWithinImage, IsCommitted};
 ghost use Rattle.ubik_store.specs.Calls.{CallsAtMost};
 ghost use Rattle.ubik_store.specs.Commit.{CommitsFiles, IsDurableOver};
+ghost use Rattle.ubik_store.specs.Gaps.{IsPlain, CutsNoPut};
 ghost use Rattle.ubik_store.specs.Rest.{CanRelabel, RestsAs};
 ghost use Rattle.ubik_store.specs.DurableCall.{whole_image};
 ghost use Rattle.ubik_store.specs.Files.{StandsForEither};
@@ -48,13 +49,17 @@ pub(crate) fn keep_and_redo<D: Disk>(
     ensures moments { IfSome (D.files disk.old) (λ fs. (own : Version) → version_of_database fs.database ≡ Some own
         → LeavesOnly D.steps D.left_since disk.old disk.new
         (StandsForEither own (image_of fs.database) v (effect (image_of fs.database) changes.now))) }
+    ensures plain { CutsNoPut changes.now → IfSome (D.files disk.old) (λ _.
+        LeavesOnly D.steps D.left_since disk.old disk.new IsPlain) }
+    ensures rests { OnOk result (IfSome (D.files disk.old) (λ fs.
+        RestsAs v (effect (image_of fs.database) changes.now) (D.files disk.new))) }
     ensures settled { OnOk result (IsSettled (D.files disk.new) (D.may_leave disk.new)) }
     ensures steps { OnOk result (IfSome (D.files disk.old) (λ fs.
         D.steps disk.new ≡ D.steps disk.old + (13 + length changes.now + head_calls fs.database))) }
     ensures label { OnOk result (pages.new.version ≡ Some v) }
     ensures len { OnOk result (pages.new.len ≡ len_after pages.old.len changes.now) }
     ensures agrees { OnOk result (AgreesIn pages.new (D.files disk.new)) }
-    ensures reserved { OnOk result (length log.now ≤ D.room disk.new FileNo.Log) }
+    ensures room { OnOk result (CanRelabel D.Disk disk.new) }
     ensures fault { IfErr result (λ fault. (fault ≡ StoreFault.DiskFault) ⊎ (fault ≡ StoreFault.NoMemory)) }
     ensures no_memory { IsErrOf result StoreFault.NoMemory → D.room disk.old FileNo.Log < length log.now }
     ensures unchanged { IsErrOf result StoreFault.NoMemory → OnlyReserves D.Disk disk.old disk.new × (pages.new ≡ pages.old) }

@@ -8,17 +8,22 @@ use Rattle.ubik_store.specs.declared.faults.StoreFault.{StoreFault}
 use Rattle.ubik_store.specs.declared.faults.StoreFault.TheVariants as faults
 use Rattle.ubik_types.specs.Image.{effect}
 use Rattle.disk_base.specs.declared.disks.Disk.{Ghosts}
-use Rattle.disk_base.specs.declared.disks.FileNo.TheVariants.{Log}
+use Rattle.disk_base.specs.declared.disks.FileNo.TheVariants.{Database, Log}
 use Rattle.disk_base.specs.Crash.{LeavesOnly, OnlyIn, After}
 use Rattle.disk_base.proofs.Runs.{widened, joined}
 use Rattle.page_file.specs.Pages.{image_of}
 use Rattle.ubik_log.specs.Gate.{closed}
 use Rattle.ubik_log.specs.LogFile.{with_log, HasDiscarded, HasLogOrNone}
+use Rattle.ubik_store.specs.Gaps.{IsPlain}
+use Rattle.ubik_store.specs.Rest.{RestsAs}
 use Rattle.ubik_store.specs.Files.{StandsFor, StandsForEither}
 use Rattle.ubik_store.specs.Moments.{head_calls, ended}
 use Rattle.ubik_store.proofs.Applied.{calls_of, calls_joined, calls_as}
 use Rattle.ubik_store.proofs.Committing.{LeavesEither, fits_of, stands_before, stands_in_gate, leads_itself, may_redo_all, opened_files, ended_from, only_log, settled_at}
 use Rattle.ubik_store.proofs.Ending.{LeavesEffect}
+use Rattle.ubik_store.proofs.Gaps.{seamless_is_gapless}
+use Rattle.ubik_store.proofs.Plain.{LeavesPlain, plain_before, plain_in_gate, plain_committed}
+use Rattle.ubik_store.proofs.Resting.{seamless_of, rests_in, committed_long}
 use Rattle.ubik_store.proofs.Telling.{told, of_told, of_some, ok_map, ok_both, err_of, err_any, settled_told}
 use Rattle.ubik_store.proofs.commits.keep_and_redo.Goals as goal
 
@@ -114,3 +119,75 @@ pub returns-clause-calls : goal.returns-clause-calls
 returns-clause-calls g c =
     calls_as (omega arith) (err_of c.redo.result _ c.redo.ensures.fault) (err_any c.redo.result _)
     (calls_joined (calls_joined (calls_of c.in_ok-keep_log.ensures.changes) (λ failed. absurd cc) (calls_of c.in_ok-open_gate.ensures.changes)) (λ failed. absurd cc) c.redo.ensures.calls)
+
+pub returns-in_err-keep_log-clause-plain : goal.returns-in_err-keep_log-clause-plain
+returns-in_err-keep_log-clause-plain g c = λ cuts. told _ (λ _. LeavesOnly g.D.Disk.steps g.D.Disk.left_since c.args.disk.now c.keep_log.new.disk IsPlain) (λ fs is.
+    let only = settled_at _ fs _ is c.requires.settled in
+    let kept = of_some _ fs (KeepsLogOnly g.D.Disk c.args.disk.now c.keep_log.new.disk) is c.keep_log.ensures.moments in
+    let first = widened g.D.Disk.steps g.D.Disk.left_since _ _ (After HasDiscarded (g.D.Disk.may_leave c.args.disk.now)) IsPlain
+    (plain_before (g.D.Disk.may_leave c.args.disk.now))
+    (kept (only_log fs [] _ (of_told _ fs (λ fs. fs.log ≡ []) is c.requires.empty) only)) in
+    first)
+
+pub returns-in_err-open_gate-clause-plain : goal.returns-in_err-open_gate-clause-plain
+returns-in_err-open_gate-clause-plain g c = λ cuts. told _ (λ _. LeavesOnly g.D.Disk.steps g.D.Disk.left_since c.args.disk.now c.open_gate.new.disk IsPlain) (λ fs is.
+    let only = settled_at _ fs _ is c.requires.settled in
+    let kept = of_some _ fs (KeepsLogOnly g.D.Disk c.args.disk.now c.keep_log.new.disk) is c.keep_log.ensures.moments in
+    let first = widened g.D.Disk.steps g.D.Disk.left_since _ _ (After HasDiscarded (g.D.Disk.may_leave c.args.disk.now)) IsPlain
+    (plain_before (g.D.Disk.may_leave c.args.disk.now))
+    (kept (only_log fs [] _ (of_told _ fs (λ fs. fs.log ≡ []) is c.requires.empty) only)) in
+    let changes = c.args.changes.now in
+    let log = c.args.log.now in
+    let gapless = seamless_is_gapless changes _ (seamless_of c.args.pages.now _ fs changes c.requires.agrees is c.requires.seamless) in
+    let mid : g.D.Disk.files c.keep_log.new.disk ≡ Some (with_log (closed log) fs) = c.in_ok-keep_log.ensures.stands.files ∙ ap (option_map (with_log (closed log))) is in
+    let mid_settled = c.in_ok-keep_log.ensures.stands.settled c.requires.settled in
+    let mid_only = settled_at _ (with_log (closed log) fs) _ mid mid_settled in
+    let second = widened g.D.Disk.steps g.D.Disk.left_since _ _ (After (HasLogOrNone log) (g.D.Disk.may_leave c.keep_log.new.disk)) IsPlain
+    (plain_in_gate fs changes c.args.v log _ mid_only c.requires.committed gapless cuts)
+    (c.open_gate.ensures.either log changes c.args.v c.requires.committed (only_log _ (closed log) _ refl mid_only)) in
+    let both = joined g.D.Disk.steps g.D.Disk.left_since _ _ _ IsPlain first second in
+    both)
+
+pub returns-clause-plain : goal.returns-clause-plain
+returns-clause-plain g c = λ cuts. told _ (λ _. LeavesOnly g.D.Disk.steps g.D.Disk.left_since c.args.disk.now c.redo.new.disk IsPlain) (λ fs is.
+    let only = settled_at _ fs _ is c.requires.settled in
+    let kept = of_some _ fs (KeepsLogOnly g.D.Disk c.args.disk.now c.keep_log.new.disk) is c.keep_log.ensures.moments in
+    let first = widened g.D.Disk.steps g.D.Disk.left_since _ _ (After HasDiscarded (g.D.Disk.may_leave c.args.disk.now)) IsPlain
+    (plain_before (g.D.Disk.may_leave c.args.disk.now))
+    (kept (only_log fs [] _ (of_told _ fs (λ fs. fs.log ≡ []) is c.requires.empty) only)) in
+    let changes = c.args.changes.now in
+    let log = c.args.log.now in
+    let gapless = seamless_is_gapless changes _ (seamless_of c.args.pages.now _ fs changes c.requires.agrees is c.requires.seamless) in
+    let mid : g.D.Disk.files c.keep_log.new.disk ≡ Some (with_log (closed log) fs) = c.in_ok-keep_log.ensures.stands.files ∙ ap (option_map (with_log (closed log))) is in
+    let mid_settled = c.in_ok-keep_log.ensures.stands.settled c.requires.settled in
+    let mid_only = settled_at _ (with_log (closed log) fs) _ mid mid_settled in
+    let second = widened g.D.Disk.steps g.D.Disk.left_since _ _ (After (HasLogOrNone log) (g.D.Disk.may_leave c.keep_log.new.disk)) IsPlain
+    (plain_in_gate fs changes c.args.v log _ mid_only c.requires.committed gapless cuts)
+    (c.open_gate.ensures.either log changes c.args.v c.requires.committed (only_log _ (closed log) _ refl mid_only)) in
+    let both = joined g.D.Disk.steps g.D.Disk.left_since _ _ _ IsPlain first second in
+    let opened : g.D.Disk.files c.open_gate.new.disk ≡ Some (with_log log fs) =
+    opened_files log changes c.args.v _ _ _ c.requires.committed c.in_ok-keep_log.ensures.stands.files c.in_ok-open_gate.ensures.set.files ∙ ap (option_map (with_log log)) is in
+    let open_only = settled_at _ (with_log log fs) _ opened (c.in_ok-open_gate.ensures.set.settled mid_settled) in
+    let rest = of_told _ (with_log log fs) (LeavesPlain g.D.Disk c.open_gate.new.disk c.redo.new.disk c.args.v changes) opened c.redo.ensures.plain in
+    joined g.D.Disk.steps g.D.Disk.left_since _ _ _ IsPlain both
+    (rest changes (leads_itself fs c.args.v changes log c.requires.committed) (plain_committed fs changes c.args.v log (with_log log fs) c.requires.committed gapless cuts refl refl)
+    (may_redo_all (with_log log fs) changes _ (fits_of _ _ fs c.requires.agrees is c.requires.len) open_only)))
+
+pub returns-clause-rests : goal.returns-clause-rests
+returns-clause-rests g c =
+    ok_map c.redo.result _ _ c.redo.ensures.files (λ files.
+    told _ (λ fs. RestsAs c.args.v (effect (image_of fs.database) c.args.changes.now) (g.D.Disk.files c.redo.new.disk)) (λ fs is.
+    let from = opened_files c.args.log.now c.args.changes.now c.args.v _ _ _ c.requires.committed c.in_ok-keep_log.ensures.stands.files c.in_ok-open_gate.ensures.set.files in
+    rests_in c.args.changes.now c.args.v fs c.args.pages.now _ _ c.requires.committed.told c.requires.agrees is c.requires.seamless c.requires.len
+    (files ∙ ended_from c.args.log.now c.args.changes.now c.args.v _ _ from ∙ ap (option_map (ended c.args.changes.now c.args.v)) is)))
+
+pub returns-clause-room : goal.returns-clause-room
+returns-clause-room g c =
+    ok_map c.redo.result _ _ c.redo.ensures.files (λ _.
+    let long = committed_long c.args.log.now c.args.changes.now c.args.v c.requires.committed in
+    let kept = c.in_ok-open_gate.ensures.changes.room Log in
+    let last = c.redo.ensures.calls.room Log in
+    let first_database = c.keep_log.ensures.changes.room Database in
+    let kept_database = c.in_ok-open_gate.ensures.changes.room Database in
+    let last_database = c.redo.ensures.calls.room Database in
+    (omega (arith, long, kept, last, c.in_ok-keep_log.ensures.stands.reserved), omega (arith, first_database, kept_database, last_database, c.requires.head_fits)))
