@@ -1,6 +1,7 @@
 pub mod Applied
 pub mod Closing
 pub mod Committing
+pub mod Durable
 pub mod Ending
 pub mod Gaps
 pub mod Heads
