@@ -4,6 +4,7 @@ pub mod Begun
 pub mod Closing
 pub mod Committing
 pub mod Covering
+pub mod Durable
 pub mod Ended
 pub mod Ending
 pub mod Gaps
