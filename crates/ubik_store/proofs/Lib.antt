@@ -3,9 +3,11 @@ pub mod AsMade
 pub mod Closing
 pub mod Committing
 pub mod Covering
+pub mod Emptying
 pub mod Ending
 pub mod Gaps
 pub mod Heads
+pub mod Opened
 pub mod Plain
 pub mod Redoing
 pub mod Redone
