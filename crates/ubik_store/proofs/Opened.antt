@@ -16,17 +16,21 @@ use Rattle.disk_base.specs.Runs.{OnlyReads, ChangesAtMost}
 use Rattle.disk_base.specs.Stops.{DiskStop, IsStopped}
 use Rattle.disk_base.proofs.Runs.{widened, rested, reads_change_none}
 use Rattle.page_file.specs.declared.label.TheConstants.{MAX_DATABASE_LEN}
+use Rattle.page_file.specs.declared.faults.PageFault.{PageFault}
+use Rattle.page_file.specs.declared.faults.PageFault.TheVariants as pages
+use Rattle.page_file.specs.Fault.{Refuses, IsUnlabelled}
 use Rattle.page_file.specs.Label.{version_of_database}
 use Rattle.page_file.specs.Pages.{Known, AgreesIn, image_of}
 use Rattle.ubik_log.specs.LogFile.{with_log, HasDiscarded}
 use Rattle.ubik_log.specs.LogGrammar.{IsTold, IsWithinImage, IsCommitted, IsDiscarded}
 use Rattle.ubik_log.proofs.OneReading.{log_has_one_reading}
 use Rattle.ubik_store.specs.Calls.{CallsAtMost}
+use Rattle.ubik_store.specs.Faults.{of_page}
 use Rattle.ubik_store.specs.Files.{StandsFor}
 use Rattle.ubik_store.specs.Files.StandsFor.{by_log, by_label}
 use Rattle.ubik_store.specs.Gaps.{LeaveNoGap, IsGapless, IsPlain}
 use Rattle.ubik_store.specs.Moments.{MayRedo, LeadsTo, head_calls, without_log, ended}
-use Rattle.ubik_store.specs.Opening.{OpensIn, IsOpening}
+use Rattle.ubik_store.specs.Opening.{OpensIn, RefusesFiles, IsOpening}
 use Rattle.ubik_store.specs.Opening.OpensIn.{redoes, closes, cuts}
 use Rattle.ubik_store.specs.Plans.{IsBegun, Plans, PlansRedo, PlansEmpty}
 use Rattle.ubik_store.specs.declared.opening.Plan.{Plan}
@@ -57,6 +61,9 @@ planned g disk plan pages made v is plans = subst (Plans g disk) is plans
 pub emptied : {D : Type 0} (g : Ghosts D) (disk : D) (plan : Plan) (pages : Known) (begun : Bool) → plan ≡ Empty pages begun → Plans g disk plan → PlansEmpty g disk pages begun
 emptied g disk plan pages begun is plans = subst (Plans g disk) is plans
 
+some_is_none : (version : Version) → Some version ≡ None → ⊥
+some_is_none version is = cc
+
 -- files stand for one version and one image
 pub stands_by_log_once : (fs : Files) (version v : Version) (image : List ℕ) (changes : List Change) → IsCommitted fs.log changes v → StandsFor fs version image
     → (version ≡ v) × (image ≡ effect (image_of fs.database) changes)
@@ -69,6 +76,13 @@ pub stands_by_label_once : (fs : Files) (version : Version) (image : List ℕ) �
     → (version_of_database fs.database ≡ Some version) × (image ≡ image_of fs.database)
 stands_by_label_once fs version image discarded (by_log _ others _ other fits) = absurd (discarded others version other)
 stands_by_label_once fs version image discarded (by_label _ _ none labelled) = (labelled, refl)
+
+-- files that were not taken stand for nothing
+pub refused_open : (fs : Files) (fault : PageFault) → IsDiscarded fs.log → Refuses IsUnlabelled fs.database fault → RefusesFiles fs (of_page fault)
+refused_open fs pages.DiskFault none refused = tt
+refused_open fs (pages.BadLabel len head) none refused =
+    (λ version image stands. some_is_none version (sym (stands_by_label_once fs version image none stands).0 ∙ refused.0), refused.1, refused.2)
+refused_open fs pages.NoMemory none refused = tt
 
 -- and an opening of them makes so many calls
 calls_by_log : (fs : Files) (calls : ℕ) (changes : List Change) (v : Version) → IsCommitted fs.log changes v → OpensIn fs calls

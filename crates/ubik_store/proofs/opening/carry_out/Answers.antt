@@ -1,4 +1,4 @@
-use Rattle.std.proofs.Common.{◌≡◌, ◌∙◌, ◌+◌, ℕ, List, length, sym, ap, subst}
+use Rattle.std.proofs.Common.{◌≡◌, ◌∙◌, ◌+◌, ℕ, List, length, sym, ap, subst, rules, IsErr, IfErr}
 use Rattle.std.specs.List.{All}
 use Rattle.std.specs.Result.{is_err}
 use Rattle.std.proofs.lemmas.Bool.{false≢true}
@@ -6,10 +6,11 @@ use Rattle.ubik_types.specs.declared.images.Change.{Change}
 use Rattle.ubik_log.specs.LogGrammar.{IsWithinImage}
 use Rattle.ubik_store.specs.Moments.{head_calls}
 use Rattle.ubik_store.specs.Opening.{OpensIn}
+use Rattle.ubik_store.specs.declared.faults.StoreFault.TheVariants.{DiskFault}
 use Rattle.ubik_store.specs.declared.opening.Plan.TheVariants.{Redo}
 use Rattle.ubik_store.specs.Redo.{IsSeamless}
 use Rattle.ubik_store.proofs.Opened.{Opened, planned, emptied, plan_seamless, plan_within, plan_len, plan_stands, plan_calls, redo_is_opening, empty_stands, empty_calls, empty_is_opening}
-use Rattle.ubik_store.proofs.Telling.{told, of_told}
+use Rattle.ubik_store.proofs.Telling.{told, of_told, err_of}
 use Rattle.ubik_store.proofs.opening.carry_out.Goals as goal
 
 pub redo-requires-clause-seamless : goal.redo-requires-clause-seamless
@@ -22,17 +23,20 @@ redo-requires-clause-within g c =
 
 pub returns-in_err-redo-in-Redo-clause-opening : goal.returns-in_err-redo-in-Redo-clause-opening
 returns-in_err-redo-in-Redo-clause-opening g c =
+    let r = c.from_residual.result in
+    let some : IsErr r = search rules in
+    let only : IfErr r (λ fault. fault ≡ DiskFault) = search rules in
     let made = c.as_slice.result.now in
     let plan = planned g.D.Disk c.args.disk.now c.args.plan _ made _ (c.in-Redo.is ∙ ap (λ (xs : List Change). Redo c.in-Redo.pages xs c.in-Redo.version) (sym c.as_slice.ensures)) c.requires.plans in
     redo_is_opening g.D.Disk c.args.disk.now c.in-Redo.pages made c.in-Redo.version plan c.requires.settled c.requires.runs c.redo.ensures.moments c.redo.ensures.plain
-    (λ failed. cc) (λ failed. ap is_err c.in_err-redo-in-Redo.was) c.redo.ensures.calls
+    (λ failed. err_of r DiskFault only some) (λ failed. ap is_err c.in_err-redo-in-Redo.was) c.redo.ensures.calls
 
 pub returns-in_ok-redo-in-Redo-clause-opening : goal.returns-in_ok-redo-in-Redo-clause-opening
 returns-in_ok-redo-in-Redo-clause-opening g c =
     let made = c.as_slice.result.now in
     let plan = planned g.D.Disk c.args.disk.now c.args.plan _ made _ (c.in-Redo.is ∙ ap (λ (xs : List Change). Redo c.in-Redo.pages xs c.in-Redo.version) (sym c.as_slice.ensures)) c.requires.plans in
     redo_is_opening g.D.Disk c.args.disk.now c.in-Redo.pages made c.in-Redo.version plan c.requires.settled c.requires.runs c.redo.ensures.moments c.redo.ensures.plain
-    (λ failed. absurd (false≢true failed)) (λ failed. absurd cc) c.in_ok-redo-in-Redo.ensures.calls
+    (λ failed. absurd (false≢true failed)) (λ failed. absurd (false≢true (ap is_err failed))) c.in_ok-redo-in-Redo.ensures.calls
 
 pub returns-in_ok-redo-in-Redo-clause-stands : goal.returns-in_ok-redo-in-Redo-clause-stands
 returns-in_ok-redo-in-Redo-clause-stands g c =
@@ -59,15 +63,20 @@ returns-in_ok-redo-in-Redo-clause-steps g c =
 
 pub returns-in_err-empty_discarded-in-Empty-clause-opening : goal.returns-in_err-empty_discarded-in-Empty-clause-opening
 returns-in_err-empty_discarded-in-Empty-clause-opening g c =
+    let r = c.from_residual-in_err-empty_discarded-in-Empty.result in
+    let some : IsErr r = search rules in
+    let only : IfErr r (λ fault. fault ≡ DiskFault) = search rules in
     let plan = emptied g.D.Disk c.args.disk.now c.args.plan _ _ c.in-Empty.is c.requires.plans in
     empty_is_opening g.D.Disk c.args.disk.now c.in-Empty.pages c.in-Empty.begun plan c.requires.runs c.empty_discarded.ensures.moments
-    (λ failed. cc) (λ failed. cc) c.empty_discarded.ensures.changes
+    (λ failed. err_of r DiskFault only some)
+    (λ failed. err_of c.empty_discarded.result DiskFault c.empty_discarded.ensures.fault (ap is_err c.in_err-empty_discarded-in-Empty.was))
+    c.empty_discarded.ensures.changes
 
 pub returns-in_ok-empty_discarded-in-Empty-clause-opening : goal.returns-in_ok-empty_discarded-in-Empty-clause-opening
 returns-in_ok-empty_discarded-in-Empty-clause-opening g c =
     let plan = emptied g.D.Disk c.args.disk.now c.args.plan _ _ c.in-Empty.is c.requires.plans in
     empty_is_opening g.D.Disk c.args.disk.now c.in-Empty.pages c.in-Empty.begun plan c.requires.runs c.empty_discarded.ensures.moments
-    (λ failed. absurd cc) (λ failed. absurd cc) c.empty_discarded.ensures.changes
+    (λ failed. absurd (false≢true (ap is_err failed))) (λ failed. absurd (false≢true (ap is_err failed))) c.in_ok-empty_discarded-in-Empty.ensures.changes
 
 pub returns-in_ok-empty_discarded-in-Empty-clause-stands : goal.returns-in_ok-empty_discarded-in-Empty-clause-stands
 returns-in_ok-empty_discarded-in-Empty-clause-stands g c =
