@@ -19,7 +19,7 @@ use Rattle.ubik_store.specs.Rest.{RestsAs}
 use Rattle.ubik_store.specs.Files.{StandsFor, StandsForEither}
 use Rattle.ubik_store.specs.Moments.{head_calls, ended}
 use Rattle.ubik_store.proofs.Applied.{calls_of, calls_joined, calls_as}
-use Rattle.ubik_store.proofs.Committing.{LeavesEither, fits_of, stands_before, stands_in_gate, leads_itself, may_redo_all, opened_files, ended_from, only_log, settled_at}
+use Rattle.ubik_store.proofs.Committing.{LeavesEither, fits_of, stands_before, stands_in_gate, leads_itself, may_redo_all, opened_files, ended_from, only_log, settled_at, all_end_more}
 use Rattle.ubik_store.proofs.Ending.{LeavesEffect}
 use Rattle.ubik_store.proofs.Gaps.{seamless_is_gapless}
 use Rattle.ubik_store.proofs.Plain.{LeavesPlain, plain_before, plain_in_gate, plain_committed}
@@ -72,6 +72,12 @@ returns-in_err-open_gate-clause-calls g c =
     let either : IfErr r (λ f. (f ≡ faults.DiskFault) ⊎ (f ≡ faults.NoMemory)) = search rules in
     let not : IsErrOf r faults.NoMemory → ⊥ = search rules in
     calls_as (omega arith) (λ _. only_fault r some either not) (λ _. told_log) (calls_joined (calls_of c.in_ok-keep_log.ensures.changes) (λ failed. absurd cc) (calls_of c.open_gate.ensures.changes))
+
+pub redo-requires-clause-fits : goal.redo-requires-clause-fits
+redo-requires-clause-fits g c =
+    let kept = c.in_ok-keep_log.ensures.changes.room Database in
+    let opened = c.in_ok-open_gate.ensures.changes.room Database in
+    all_end_more c.args.changes.now _ _ (omega (arith, kept, opened)) c.requires.fits
 
 pub returns-clause-files : goal.returns-clause-files
 returns-clause-files g c =
