@@ -5,7 +5,7 @@ use Rattle.ubik_types.specs.declared.images.Change.{Change}
 use Rattle.page_file.specs.Pages.{Known}
 use Rattle.ubik_store.specs.Commit.{CommitsFiles, IsDurableOver}
 use Rattle.ubik_store.specs.Redo.{len_after}
-use Rattle.ubik_store.proofs.Durable.{ok_of, durable_unmoved, durable_reserved, durable_first, commits_first}
+use Rattle.ubik_store.proofs.Durable.{durable_unmoved, durable_reserved, durable_first}
 use Rattle.ubik_store.proofs.Telling.{on_ok}
 use Rattle.ubik_store.proofs.commits.commit_changes.Goals as goal
 
