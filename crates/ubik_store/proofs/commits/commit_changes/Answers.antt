@@ -2,11 +2,8 @@ use Rattle.std.proofs.Common.{rules, List, subst}
 use Rattle.std.specs.Prelude.{IsErrOf}
 use Rattle.ubik_store.specs.declared.faults.StoreFault.TheVariants as faults
 use Rattle.ubik_types.specs.declared.images.Change.{Change}
-use Rattle.page_file.specs.Pages.{Known}
-use Rattle.ubik_store.specs.Commit.{CommitsFiles, IsDurableOver}
-use Rattle.ubik_store.specs.Redo.{len_after}
+use Rattle.ubik_store.specs.Commit.{IsDurableOver}
 use Rattle.ubik_store.proofs.Durable.{durable_unmoved, durable_reserved, durable_first}
-use Rattle.ubik_store.proofs.Telling.{on_ok}
 use Rattle.ubik_store.proofs.commits.commit_changes.Goals as goal
 
 pub returns-in_err-log-clause-durable : goal.returns-in_err-log-clause-durable

@@ -1,4 +1,4 @@
-use Rattle.std.proofs.Common.{◌≡◌, ◌+◌, ◌∙◌, ◌⊎◌, rules, inl, inr, [], length, Some, refl, ap, arith}
+use Rattle.std.proofs.Common.{◌≡◌, ◌+◌, ◌∙◌, ◌⊎◌, rules, inl, inr, length, Some, refl, ap, arith}
 use Rattle.std.proofs.lemmas.Bool.{false≢true}
 use Rattle.std.specs.Option.{option_map}
 use Rattle.std.specs.Prelude.{Result, Ok, Err, IfErr, IsErr, IsErrOf}
@@ -7,13 +7,11 @@ use Rattle.ubik_log.specs.declared.disk_logs.LogFault.TheVariants as logs
 use Rattle.ubik_store.specs.declared.faults.StoreFault.{StoreFault}
 use Rattle.ubik_store.specs.declared.faults.StoreFault.TheVariants as faults
 use Rattle.ubik_types.specs.Image.{effect}
-use Rattle.disk_base.specs.declared.disks.Disk.{Ghosts}
 use Rattle.disk_base.specs.declared.disks.FileNo.TheVariants.{Database, Log}
-use Rattle.disk_base.specs.Crash.{LeavesOnly, OnlyIn, After}
+use Rattle.disk_base.specs.Crash.{LeavesOnly}
 use Rattle.disk_base.proofs.Runs.{widened, joined}
 use Rattle.page_file.specs.Pages.{image_of}
-use Rattle.ubik_log.specs.Gate.{closed}
-use Rattle.ubik_log.specs.LogFile.{with_log, HasDiscarded, HasLogOrNone}
+use Rattle.ubik_log.specs.LogFile.{with_log}
 use Rattle.ubik_store.specs.Gaps.{IsPlain}
 use Rattle.ubik_store.specs.Rest.{RestsAs}
 use Rattle.ubik_store.specs.Files.{StandsFor, StandsForEither}
@@ -24,7 +22,7 @@ use Rattle.ubik_store.proofs.Ending.{LeavesEffect}
 use Rattle.ubik_store.proofs.Gaps.{seamless_is_gapless}
 use Rattle.ubik_store.proofs.Plain.{LeavesPlain, plain_before, plain_in_gate, plain_committed}
 use Rattle.ubik_store.proofs.Resting.{seamless_of, rests_in, committed_long}
-use Rattle.ubik_store.proofs.Telling.{told, of_told, of_some, ok_map, ok_both, err_of, err_any, settled_told}
+use Rattle.ubik_store.proofs.Telling.{told, of_told, ok_map, err_of, err_any}
 use Rattle.ubik_store.proofs.commits.keep_and_redo.Goals as goal
 
 pub returns-in_err-keep_log-clause-moments : goal.returns-in_err-keep_log-clause-moments

@@ -1,10 +1,8 @@
-use Rattle.std.proofs.Common.{rules, [], subst}
+use Rattle.std.proofs.Common.{rules, []}
 use Rattle.std.specs.Prelude.{IsErrOf}
-use Rattle.page_file.specs.Pages.{Known}
 use Rattle.ubik_store.specs.declared.faults.StoreFault.TheVariants as faults
-use Rattle.ubik_store.specs.Commit.{CommitsFiles, IsDurableOver}
+use Rattle.ubik_store.specs.Commit.{IsDurableOver}
 use Rattle.ubik_store.proofs.Durable.{durable_reserved, durable_first}
-use Rattle.ubik_store.proofs.Telling.{on_ok}
 use Rattle.ubik_store.proofs.commits.relabel_files.Goals as goal
 
 pub returns-in_err-reserve-clause-durable : goal.returns-in_err-reserve-clause-durable
