@@ -1,7 +1,11 @@
 pub mod Applied
+pub mod AsMade
+pub mod Begun
 pub mod Closing
 pub mod Committing
+pub mod Covering
 pub mod Durable
+pub mod Ended
 pub mod Ending
 pub mod Gaps
 pub mod Heads
@@ -9,4 +13,5 @@ pub mod Plain
 pub mod Redoing
 pub mod Redone
 pub mod Resting
+pub mod Rests
 pub mod Telling

@@ -4,6 +4,7 @@
 
 mod commits;
 mod faults;
+mod logged;
 mod opening;
 mod redo;
 mod stores;

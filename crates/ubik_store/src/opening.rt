@@ -27,6 +27,7 @@ pub(crate) fn open_files<D: Disk>(alloc: Global, disk: &mut D) -> Result<Pages, 
     ensures agrees { IfOk result (λ pages. AgreesIn pages (D.files disk.new)) }
     ensures settled { OnOk result (IsSettled (D.files disk.new) (D.may_leave disk.new)) }
     ensures steps { OnOk result (IfSome (D.files disk.old) (λ fs. (calls : ℕ) → OpensIn fs calls → D.steps disk.new ≡ D.steps disk.old + calls)) }
+    ensures untold { OnOk result (D.files disk.old ≡ None → D.files disk.new ≡ None) }
     ensures refused { IfErr result (λ fault. IfSome (D.files disk.old) (λ fs. RefusesFiles fs fault)) }
     ensures unchanged { IfErr result (λ fault. fault ≢ StoreFault.DiskFault → OnlyReads D.Disk disk.old disk.new ⊥) }
     ensures opening { IsOpening D.Disk disk.old disk.new (IsErrOf result StoreFault.DiskFault) }
