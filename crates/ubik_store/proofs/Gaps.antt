@@ -52,7 +52,7 @@ module _ (told : List Change) (v : Version) where
   pub committed_is_plain : (fs : Files) → IsCommitted fs.log told v → LeaveNoGap (length (image_of fs.database)) told → CutsNoPut told → IsPlain fs
   committed_is_plain fs committed gapless cuts = record {
     gapless = λ changes version other.
-    subst (LeaveNoGap (length (image_of fs.database))) (log_has_one_reading fs.log told changes v version committed other).0 gapless;
+        subst (LeaveNoGap (length (image_of fs.database))) (log_has_one_reading fs.log told changes v version committed other).0 gapless;
     cuts = λ changes version other. subst CutsNoPut (log_has_one_reading fs.log told changes v version committed other).0 cuts;
   }
 

@@ -1,9 +1,12 @@
 pub mod Applied
 pub mod AsMade
+pub mod Begun
 pub mod Closing
 pub mod Committing
 pub mod Covering
+pub mod Durable
 pub mod Emptying
+pub mod Ended
 pub mod Ending
 pub mod Gaps
 pub mod Heads
@@ -12,4 +15,5 @@ pub mod Plain
 pub mod Redoing
 pub mod Redone
 pub mod Resting
+pub mod Rests
 pub mod Telling

@@ -1,12 +1,12 @@
 -- A store as those see it who use it: a version and an image, changes begun or none, failed or not; and what it keeps to be that (own).
-use Rattle.std.specs.Prelude.{◌≡◌, ◌+◌, ◌<◌, ◌≤◌, ℕ, true, false, List, [], ◌∷◌, ◌++◌, length, Option, Some, None, IfSome}
+use Rattle.std.specs.Prelude.{◌≡◌, ◌+◌, ◌-◌, ◌^◌, ◌<◌, ◌≤◌, ℕ, min, true, false, List, [], ◌∷◌, ◌++◌, length, Option, Some, None, IfSome, Result, Ok, Err}
 use Rattle.std.specs.List.{All}
 use Rattle.std.specs.Option.{option_map}
 use Rattle.ubik_types.specs.declared.images.Change.{Change}
 use Rattle.ubik_types.specs.declared.images.Change.TheVariants.{Put, Cut}
 use Rattle.ubik_types.specs.declared.limits.TheConstants.{MAX_CHANGES, MAX_IMAGE}
 use Rattle.ubik_types.specs.declared.versions.Version.{Version}
-use Rattle.ubik_types.specs.Logged.{logged, too_large}
+use Rattle.ubik_types.specs.Logged.{logged, passed_limit, too_large}
 use Rattle.ubik_types.specs.Version.{IsVersion, version_lt}
 use Rattle.disk_base.specs.declared.disks.Disk.{Ghosts}
 use Rattle.disk_base.specs.Crash.{IsSettled}
@@ -68,6 +68,14 @@ pub record StaysAsItWas {D : Type 0} (old new : Store D) : Type 0 where
   pub begun : changes_begun new.begun ≡ changes_begun old.begun
   pub failed : new.failed ≡ old.failed
 
+-- so many bytes put, or an image that ends there, pass a limit by this number
+abbrev pub IsPassed : (sum end : ℕ) → StoreFault → Type 0
+IsPassed sum end DiskFault = ⊥
+IsPassed sum end (BadLabel len head) = ⊥
+IsPassed sum end (TooLarge bytes) = passed_limit sum end ≡ Some bytes
+IsPassed sum end (NotNewer own given) = ⊥
+IsPassed sum end NoMemory = ⊥
+
 -- a put is refused: with the number of bytes with which it passes a limit, or for want of memory
 abbrev pub IsPutFault : (sum len : ℕ) → Change → StoreFault → Type 0
 IsPutFault sum len change DiskFault = ⊥
@@ -107,3 +115,12 @@ IsForbidden s v (BadLabel len head) = ⊥
 IsForbidden s v (TooLarge bytes) = ⊥
 IsForbidden s v (NotNewer own given) = (own ≡ s.version) × (given ≡ v) × (s.failed ≡ false) × (version_lt s.version v ≡ false)
 IsForbidden s v NoMemory = ⊥
+
+-- how a store takes over the end of a durable call under this version: version and length after it, or the mark of a failure
+abbrev pub taken_over : {D : Type 0} → Version → Store D → Result (Unit {0}) StoreFault → Store D
+taken_over v s (Ok done) = record s { version = v; len = min s.pages.len (2 ^ 32 - 1); begun = None }
+taken_over v s (Err DiskFault) = record s { failed = true }
+taken_over v s (Err (BadLabel len head)) = s
+taken_over v s (Err (TooLarge bytes)) = s
+taken_over v s (Err (NotNewer own given)) = s
+taken_over v s (Err NoMemory) = s

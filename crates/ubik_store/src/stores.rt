@@ -9,7 +9,7 @@ ghost use Rattle.ubik_store.specs.DurableCall.{Commits, EndsAs, HasFailed, IsDur
 ghost use Rattle.ubik_store.specs.Files.{StandsFor};
 ghost use Rattle.ubik_store.specs.Opening.{OpensIn, RefusesFiles, IsOpening};
 ghost use Rattle.ubik_store.specs.Rest.{RestsAs, CanRelabel};
-ghost use Rattle.ubik_store.specs.Store.{Adds, IsForbidden, IsPutRefused, IsSound, IsTooLong, SameButBegun, StaysAsItWas, changes_begun, image_in};
+ghost use Rattle.ubik_store.specs.Store.{Adds, IsForbidden, IsPutRefused, IsSound, IsTooLong, SameButBegun, StaysAsItWas, changes_begun, image_in, taken_over};
 
 use crate::commits::{commit_changes, install_files, relabel_files};
 use crate::faults::StoreFault;
@@ -247,7 +247,8 @@ impl<D: Disk> Store<D> {
 
     /// Takes over how a durable call ended: version and length after it, or the mark of a failure.
     fn end(&mut self, ended: Result<(), StoreFault>, v: Version) -> Result<(), StoreFault>
-        ensures { result ≡ ended }
+        ensures store { self.new ≡ taken_over v self.old ended }
+        ensures same { result ≡ ended }
     {
         match &ended {
             Ok(()) => {
