@@ -25,11 +25,6 @@ use Rattle.ubik_store.proofs.Committing.{LeavesEither, settled_at, stands_at_res
 use Rattle.ubik_store.proofs.Gaps.{discarded_is_plain}
 use Rattle.ubik_store.proofs.Telling.{told, of_told, of_some}
 
--- what a call that went well says
-pub ok_of : {A E : Type 0} (r : Result A E) (P : Type 0) → OnOk r P → ¬ IsErr r → P
-ok_of (Ok x) P so went = so
-ok_of (Err e) P so went = absurd (went refl)
-
 -- files at rest are plain
 plain_at_rest : (fs : Files) (before : Files → Type 0) → fs.log ≡ [] → Only fs before → Narrows IsPlain before
 plain_at_rest fs before empty only c here =
@@ -88,19 +83,3 @@ module _ {D : Type 0} (g : Ghosts D) where
           (of_some (g.files mid) fs (LeavesOnly g.steps g.left_since mid new IsPlain) (made.files ∙ is) (rest.plain cuts)));
       calls = calls_first made rest.calls;
     }
-
-  pub commits_first : {changes : List Change} {v : Version} {old mid new : D} {before after : Known} → OnlyReserves g old mid
-      → CommitsFiles g changes v mid new before after → CommitsFiles g changes v old new before after
-  commits_first {changes} {v} {old} {mid} {new} made done = record {
-    files = done.files ∙ ap (option_map (ended changes v)) made.files;
-    rests = let P : Option Files → Type 0 = λ o. IfSome o (λ fs. RestsAs v (effect (image_of fs.database) changes) (g.files new)) in subst P made.files done.rests;
-    settled = done.settled;
-    steps = told (g.files old) (λ fs. g.steps new ≡ g.steps old + (13 + length changes + head_calls fs.database)) (λ fs is.
-        let rose : g.steps new ≡ g.steps mid + (13 + length changes + head_calls fs.database) =
-        of_told (g.files mid) fs (λ fs. g.steps new ≡ g.steps mid + (13 + length changes + head_calls fs.database)) (made.files ∙ is) done.steps in
-        omega (arith, rose, made.steps));
-    label = done.label;
-    len = done.len;
-    agrees = done.agrees;
-    room = done.room;
-  }

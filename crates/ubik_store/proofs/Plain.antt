@@ -51,8 +51,8 @@ module _ (fs : Files) (told changes : List Change) (v : Version) (leads : LeadsT
       (last (is_open fs told changes v leads) logs))
 
 -- while a log is kept
-pub plain_before : (before : Files → Type 0) (c : Files) → After HasDiscarded before c → IsPlain c
-plain_before before c from = discarded_is_plain c from.2.0
+pub plain_before : (fs : Files) (before : Files → Type 0) → Only fs before → (c : Files) → After HasDiscarded before c → IsPlain c
+plain_before fs before only c from = discarded_is_plain c from.2.0
 
 module _ (fs : Files) (changes : List Change) (v : Version) (log : List ℕ) where
   -- and once it is committed
@@ -63,9 +63,9 @@ module _ (fs : Files) (changes : List Change) (v : Version) (log : List ℕ) whe
       (subst (λ (xs : List ℕ). LeaveNoGap (length (image_of xs)) changes) (sym file) gapless) cuts
 
   -- while its gate is opened, the one or the other
-  pub plain_in_gate : (mid : Files → Type 0) → Only (with_log (closed log) fs) mid → IsCommitted log changes v → LeaveNoGap (length (image_of fs.database)) changes → CutsNoPut changes
-      → (c : Files) → After (HasLogOrNone log) mid c → IsPlain c
-  plain_in_gate mid only committed gapless cuts c from = elim from.2.0 [
+  pub plain_in_gate : IsCommitted log changes v → LeaveNoGap (length (image_of fs.database)) changes → CutsNoPut changes
+      → (mid : Files → Type 0) → Only (with_log (closed log) fs) mid → (c : Files) → After (HasLogOrNone log) mid c → IsPlain c
+  plain_in_gate committed gapless cuts mid only c from = elim from.2.0 [
     | inl same ↦ plain_committed c committed gapless cuts same (ap (λ (f : Files). f.database) from.2.1 ∙ ap (λ (f : Files). f.database) (only from.0 from.1))
     | inr discarded ↦ discarded_is_plain c discarded
   ]

@@ -6,6 +6,7 @@ pub mod Files
 pub mod Gaps
 pub mod Moments
 pub mod Opening
+pub mod Plans
 pub mod Redo
 pub mod Rest
 pub mod Store

@@ -83,7 +83,7 @@ fn end_of(change: &Change) -> u32
 }
 
 /// How long an image these changes need room for.
-fn reach(changes: &[Change]) -> u32
+pub(crate) fn reach(changes: &[Change]) -> u32
     requires { All IsWithinImage changes.now }
     ensures ends { All (λ change. Ends change (64 + result)) changes.now }
     ensures within { result ≤ 16777216 }

@@ -122,7 +122,7 @@ fn put_label<D: Disk>(disk: &mut D, pages: &mut Pages, v: Version) -> Result<(),
 }
 
 /// Empties the log file.
-fn empty_log_file<D: Disk>(disk: &mut D) -> DiskEnd
+pub(crate) fn empty_log_file<D: Disk>(disk: &mut D) -> DiskEnd
     ensures files { OnDone result (D.files disk.new ≡ option_map without_log (D.files disk.old)) }
     ensures durable { OnDone result (IfSome (D.files disk.old) (λ _. OnlyIn FileNo.Log [] (D.may_leave disk.new))) }
     ensures moments { LeavesOnly D.steps D.left_since disk.old disk.new
@@ -137,7 +137,7 @@ fn empty_log_file<D: Disk>(disk: &mut D) -> DiskEnd
 }
 
 /// Closes the gate of the log, and empties its file.
-fn end_log<D: Disk>(disk: &mut D) -> Result<(), LogFault>
+pub(crate) fn end_log<D: Disk>(disk: &mut D) -> Result<(), LogFault>
     requires header { IfSome (D.files disk.old) (λ fs. 4 ≤ length fs.log) }
     requires fits { D.files disk.old ≡ None → 4 ≤ D.room disk.old FileNo.Log }
     ensures files { OnOk result (D.files disk.new ≡ option_map without_log (D.files disk.old)) }

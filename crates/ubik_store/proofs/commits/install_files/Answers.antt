@@ -1,6 +1,5 @@
-use Rattle.std.proofs.Common.{◌≡◌, rules, arith, ℕ, List, [], ◌∷◌, ◌++◌, length, take, drop, subst}
+use Rattle.std.proofs.Common.{◌≡◌, rules, arith, ℕ, List, subst}
 use Rattle.std.proofs.lemmas.Grind.{common_steps}
-use Rattle.std.proofs.lemmas.List.{append-nil}
 use Rattle.std.specs.Prelude.{OnOk, IsErrOf}
 use Rattle.ubik_types.specs.Image.{effect}
 use Rattle.page_file.specs.Pages.{image_of}

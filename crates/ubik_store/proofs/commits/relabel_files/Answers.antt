@@ -1,33 +1,14 @@
-use Rattle.std.proofs.Common.{rules, [], subst}
+use Rattle.std.proofs.Common.{rules, []}
 use Rattle.std.specs.Prelude.{IsErrOf}
-use Rattle.page_file.specs.Pages.{Known}
 use Rattle.ubik_store.specs.declared.faults.StoreFault.TheVariants as faults
-use Rattle.ubik_store.specs.Commit.{CommitsFiles, IsDurableOver}
-use Rattle.ubik_store.proofs.Durable.{ok_of, durable_reserved, durable_first, commits_first}
-use Rattle.ubik_store.proofs.Telling.{on_ok}
+use Rattle.ubik_store.specs.Commit.{IsDurableOver}
+use Rattle.ubik_store.proofs.Durable.{durable_reserved, durable_first}
 use Rattle.ubik_store.proofs.commits.relabel_files.Goals as goal
 
 pub returns-in_err-reserve-clause-durable : goal.returns-in_err-reserve-clause-durable
 returns-in_err-reserve-clause-durable g c =
     let not : IsErrOf c.from_residual.result faults.DiskFault → ⊥ = search rules in
     durable_reserved g.D.Disk [] c.args.v c.args.disk.now c.requires.empty c.requires.settled c.reserve.ensures.reserves not
-
-pub returns-clause-done : goal.returns-clause-done
-returns-clause-done g c = on_ok c.keep_and_redo.result _ (λ went.
-    let kept = c.keep_and_redo.ensures in
-    let result = c.keep_and_redo.result in
-    let Done : Known → Type 0 = λ before. CommitsFiles g.D.Disk [] c.args.v c.reserve.new.disk c.keep_and_redo.new.disk before c.keep_and_redo.new.pages in
-    let done : Done c.reserve.new.self = record {
-      files = ok_of result _ kept.files went;
-      rests = ok_of result _ kept.rests went;
-      settled = ok_of result _ kept.settled went;
-      steps = ok_of result _ kept.steps went;
-      label = ok_of result _ kept.label went;
-      len = ok_of result _ kept.len went;
-      agrees = ok_of result _ kept.agrees went;
-      room = ok_of result _ kept.room went;
-    } in
-    commits_first g.D.Disk c.in_ok-reserve.ensures.reserves (subst Done c.reserve.ensures.pages done))
 
 pub returns-clause-durable : goal.returns-clause-durable
 returns-clause-durable g c =

@@ -9,13 +9,13 @@ use Rattle.disk_base.proofs.Runs.{widened, joined, others_joined}
 use Rattle.page_file.specs.Pages.{Known, Agrees, AgreesIn, image_of}
 use Rattle.ubik_types.specs.declared.images.Change.{Change}
 use Rattle.ubik_types.specs.declared.versions.Version.{Version}
-use Rattle.ubik_store.specs.Moments.{MayRedo, with_database, head_calls, with_head, without_log, applied, labelled, finished}
+use Rattle.ubik_store.specs.Moments.{MayRedo, with_database, head_calls, with_head, applied, labelled, finished}
 use Rattle.ubik_store.specs.Redo.{IsSeamless}
 use Rattle.ubik_store.proofs.Applied.{calls_of, calls_joined, calls_as}
 use Rattle.ubik_store.proofs.Ending.{agrees_headed, finished_files, ended_files, log_there, stands_by_log, settled_end, run_ended, LeavesEffect}
 use Rattle.ubik_store.proofs.Plain.{LeavesPlain, plain_by_log, run_plain}
 use Rattle.ubik_store.proofs.Redoing.{narrowed}
-use Rattle.ubik_store.proofs.Telling.{told, of_told, of_some}
+use Rattle.ubik_store.proofs.Telling.{told, of_told}
 use Rattle.ubik_store.proofs.redo.redo.Goals as goal
 
 pub returns-in_err-put_head-clause-moments : goal.returns-in_err-put_head-clause-moments
