@@ -41,7 +41,7 @@ module _ (fs : Files) (before : Files → Type 0) (only : Only fs before) (disca
   pub discarded_by_end : (c : Files) → After (HasLogOrNone fs.log) before c → HasDiscarded fs c
   discarded_by_end c from =
       let is = only from.0 from.1 in
-      let none : IsDiscarded c.log = elim from.2.0 [ | inl same ↦ subst IsDiscarded (sym same) discarded | inr other ↦ other ] in
+      let none : IsDiscarded c.log = elim from.2.0 [ inl same ↦ subst IsDiscarded (sym same) discarded | inr other ↦ other ] in
       (none, from.2.1 ∙ ap (with_log c.log) is)
 
 -- nothing is pending then

@@ -136,8 +136,7 @@ module _ {D : Type 0} (g : Ghosts D) (old : D) (pages : Known) (made : List Chan
     pub plan_stands : (new : Option Files) (after : Known) → new ≡ option_map (ended made v) (g.files old) → after.version ≡ Some v → after.len ≡ len_after pages.len made
         → Opened new after fs
     plan_stands new after ends label len =
-        let rests = rests_in made v fs pages (g.files old) new plan_told plan.agrees is plan_seamless plan.len (ends ∙ ap (option_map (ended made v)) is) in
-        (
+        let rests = rests_in made v fs pages (g.files old) new plan_told plan.agrees is plan_seamless plan.len (ends ∙ ap (option_map (ended made v)) is) in (
           v,
           effect (image_of fs.database) plan.told,
           by_log fs plan.told v plan_committed plan_fits,

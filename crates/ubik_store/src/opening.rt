@@ -38,7 +38,10 @@ enum Plan {
         version: Version,
     },
     /// A discarded log is emptied. It begins with the first record of a log, or not.
-    Empty { pages: Pages, begun: bool },
+    Empty {
+        pages: Pages,
+        begun: bool,
+    },
 }
 
 /// Whether the log begins with the first record of one.

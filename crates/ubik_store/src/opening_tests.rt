@@ -1,14 +1,12 @@
 //! Openings of files that a crash may have left: of each front of a committed log, each stopped in each of its changing calls.
-ghost use Rattle.std.specs.Prelude.{◌≤◌};
 ghost use Rattle.disk_base.specs.Crash.{IsSettled};
 
 use super::*;
-use crate::tests::{disk_of, holds, label, opened, version};
+use crate::tests::{fresh, holds, label, laid, opened, version};
 use disk_base::{Disk, Fill, Refused, StopDisk};
 use std::alloc::Global;
 use std::process::Abort;
 use std::test::Fail;
-use ubik_types::Version;
 
 /// "abcd" at position 2, and then a cut to 5, under version 2000.7.
 const LOG: [u8; 48] = [
@@ -60,65 +58,61 @@ fn opened_with_stop<D: StopDisk + Drop>(
     (ended, disk)
 }
 
-/// Opens a front of the log with a stop, and then what is left.
-fn expect_front(
+/// Opens files with a stop, and then what is left. Whether the first opening ended well, and the state that the second finds.
+fn opened_twice<D: StopDisk + Drop>(
     rt: &impl Abort,
     alloc: Global,
-    front: usize,
+    disk: D,
     calls: u32,
     fill: Fill,
-) -> Result<(), Fail>
-    requires { front ≤ 48 }
+) -> Result<(bool, u32, bool), Fail>
+    requires settled { IsSettled (D.files disk) (D.may_leave disk) }
 {
-    let disk = disk_of(rt, alloc, &database(), &LOG[..front])?;
     let (ended, disk) = opened_with_stop(rt, alloc, disk, calls, fill);
-    assert_eq!(rt;
-        ended,
-        calls >= calls_of(front),
-        "{front} bytes, {fill:?} at {calls}"
-    );
     let mut store = opened(alloc, disk)?;
-    let (version, image) = match front {
-        48 => (version(2000, 7), b"xyabc".as_slice()),
-        _ => (version(2000, 1), b"xyz".as_slice()),
+    let counter = store.version().counter;
+    let image = if counter == 1 {
+        b"xyz"
+    } else {
+        b"xyabc".as_slice()
     };
-    assert!(rt;
-        holds(alloc, &mut store, version, image)?,
-        "{front} bytes, {fill:?} at {calls}"
-    );
-    Ok(())
+    let held = holds(alloc, &mut store, version(2000, counter), image)?;
+    Ok((ended, counter, held))
 }
+
+const OPENING_FILLS: [Fill; 5] = [
+    Fill::Old,
+    Fill::New,
+    Fill::Byte(0),
+    Fill::Byte(100),
+    Fill::Byte(255),
+];
 
 #[test]
 fn each_front_of_a_log_is_opened_over_each_stop(rt: HostRuntime) -> Result<(), Fail> {
+    let file = database();
     for front in 0..=48 {
+        let counter = if front == 48 { 7 } else { 1 };
         for calls in 0..=9 {
-            for fill in [
-                Fill::Old,
-                Fill::New,
-                Fill::Byte(0),
-                Fill::Byte(100),
-                Fill::Byte(255),
-            ] {
-                expect_front(&rt, rt.alloc(), front, calls, fill)?;
+            for fill in OPENING_FILLS {
+                let disk = laid(&rt, fresh(rt.alloc())?, &file, &LOG[..front]);
+                let found = opened_twice(&rt, rt.alloc(), disk, calls, fill)?;
+                let wanted = (calls >= calls_of(front), counter, true);
+                assert_eq!(rt; found, wanted, "{front} bytes, {fill:?} at {calls}");
             }
         }
     }
     Ok(())
 }
 
-/// A log without a gate that is open, and one that begins otherwise.
 #[test]
 fn a_closed_log_is_not_replayed(rt: HostRuntime) -> Result<(), Fail> {
     for gate in [0, 1, 99, 101] {
         let mut log = LOG;
         log[3] = gate;
-        let disk = disk_of(&rt, rt.alloc(), &database(), &log)?;
-        let mut store = opened(rt.alloc(), disk)?;
-        assert!(rt;
-            holds(rt.alloc(), &mut store, version(2000, 1), b"xyz")?,
-            "{gate}"
-        );
+        let disk = laid(&rt, fresh(rt.alloc())?, &database(), &log);
+        let found = opened_twice(&rt, rt.alloc(), disk, 9, Fill::Old)?;
+        assert_eq!(rt; found, (true, 1, true), "{gate}");
     }
     Ok(())
 }

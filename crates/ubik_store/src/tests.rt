@@ -2,6 +2,7 @@
 ghost use Rattle.std.specs.Prelude.{◌≡◌, ◌<◌, false, None, Some, IsSome, IfOk};
 ghost use Rattle.disk_base.specs.Crash.{IsSettled};
 ghost use Rattle.disk_base.specs.MemDisk.{now_of, disk_may_leave};
+ghost use Rattle.ubik_types.specs.Version.{IsVersion};
 ghost use Rattle.ubik_store.specs.Store.{IsSound};
 
 use super::*;
@@ -11,7 +12,7 @@ use std::alloc::Global;
 use std::process::Abort;
 use std::test::Fail;
 use std::{env, fs, process};
-use ubik_types::{MAX_CHANGES, MAX_IMAGE, Version};
+use ubik_types::{MAX_CHANGES, MAX_IMAGE, NoMemory, Version};
 
 /// The image before a call of the tests, and its version.
 pub(crate) const BEFORE: &[u8] = b"0123456789";
@@ -60,6 +61,22 @@ pub(crate) fn opened<D: Disk + Drop>(alloc: Global, disk: D) -> Result<Store<D>,
     }
 }
 
+/// Puts bytes into the changes that were begun.
+fn put<D: Disk>(
+    rt: &impl Abort,
+    store: &mut Store<D>,
+    at: u32,
+    bytes: &[u8],
+) -> Result<(), StoreFault>
+    requires sound { IsSound D.Disk store.old }
+    requires begun { IsSome store.old.begun }
+    ensures sound { IsSound D.Disk store.new }
+    ensures begun { IsSome store.new.begun }
+{
+    assert!(rt; u64::from(at) + (bytes.len() as u64) < 1 << 32);
+    store.put(at, bytes)
+}
+
 /// Adds a change to those that were begun.
 fn add<D: Disk>(rt: &impl Abort, store: &mut Store<D>, edit: Edit) -> Result<(), StoreFault>
     requires sound { IsSound D.Disk store.old }
@@ -68,10 +85,7 @@ fn add<D: Disk>(rt: &impl Abort, store: &mut Store<D>, edit: Edit) -> Result<(),
     ensures begun { IsSome store.new.begun }
 {
     match edit {
-        Edit::Put(at, bytes) => {
-            assert!(rt; u64::from(at) + (bytes.len() as u64) < 1 << 32);
-            store.put(at, bytes)
-        }
+        Edit::Put(at, bytes) => put(rt, store, at, bytes),
         Edit::Cut(len) => store.truncate(len),
     }
 }
@@ -132,46 +146,57 @@ pub(crate) fn installed<D: Disk + Drop>(alloc: Global, disk: D) -> Result<Store<
     Ok(store)
 }
 
-/// A disk in memory with these two files, and nothing pending.
-pub(crate) fn disk_of(
-    rt: &impl Abort,
-    alloc: Global,
-    database: &[u8],
-    log: &[u8],
-) -> Result<MemDisk, Fail>
-    ensures settled { IfOk result (λ disk. IsSettled (Some (now_of disk)) (disk_may_leave disk)) }
+/// A disk in memory with three empty files.
+pub(crate) fn fresh(alloc: Global) -> Result<MemDisk, NoMemory>
+    ensures { IfOk result (λ disk. IsSettled (Some (now_of disk)) (disk_may_leave disk)) }
 {
-    let mut disk = MemDisk::new(alloc, &[])?;
+    MemDisk::new(alloc, &[])
+}
+
+/// Gives an empty disk these two files, with nothing pending.
+pub(crate) fn laid<D: StopDisk>(rt: &impl Abort, disk: D, database: &[u8], log: &[u8]) -> D
+    ensures settled { IsSettled (D.files result) (D.may_leave result) }
+{
+    let mut disk = disk;
     for (file, bytes) in [(FileNo::Database, database), (FileNo::Log, log)] {
         assert_eq!(rt; disk.reserve(file, bytes.len() as u64), RoomEnd::Done);
         assert_eq!(rt; disk.write_at(file, 0, bytes), DiskEnd::Done);
         assert_eq!(rt; disk.sync(file), DiskEnd::Done);
     }
     disk.revive();
-    Ok(disk)
+    disk
+}
+
+/// Changes that are begun are not seen, and are seen once they are committed.
+fn expect_seen<D: Disk>(rt: &impl Abort, alloc: Global, store: &mut Store<D>) -> Result<(), Fail>
+    requires sound { IsSound D.Disk store.old }
+    requires none { store.old.begun ≡ None }
+    ensures sound { IsSound D.Disk store.new }
+{
+    store.begin();
+    put(rt, store, 12, b"ab")?;
+    store.truncate(13)?;
+    assert!(rt; store.begun() && holds(alloc, store, OWN, BEFORE)?);
+    store.abort();
+    commit(
+        rt,
+        store,
+        &[Edit::Put(12, b"ab"), Edit::Cut(13), Edit::Cut(20)],
+    )?;
+    assert!(rt; !store.begun() && holds(alloc, store, NEXT, b"0123456789\0\0a")?);
+    Ok(())
+}
+
+fn expect_seen_anew<D: Disk + Drop>(rt: &impl Abort, alloc: Global, disk: D) -> Result<(), Fail>
+    requires settled { IsSettled (D.files disk) (D.may_leave disk) }
+{
+    let mut store = installed(alloc, disk)?;
+    expect_seen(rt, alloc, &mut store)
 }
 
 #[test]
 fn changes_are_seen_once_they_are_committed(rt: HostRuntime) -> Result<(), Fail> {
-    let alloc = rt.alloc();
-    let mut store = installed(alloc, MemDisk::new(alloc, &[])?)?;
-    assert!(rt; !store.begun());
-    store.begin();
-    assert!(rt; store.begun());
-    store.put(12, b"ab")?;
-    store.truncate(13)?;
-    store.truncate(20)?;
-    assert!(rt; holds(alloc, &mut store, OWN, BEFORE)?);
-    store.commit(NEXT)?;
-    assert!(rt; !store.begun());
-    assert!(rt; holds(alloc, &mut store, NEXT, b"0123456789\0\0a")?);
-    store.begin();
-    store.put(0, b"-")?;
-    store.abort();
-    assert!(rt; holds(alloc, &mut store, NEXT, b"0123456789\0\0a")?);
-    let mut again = opened(alloc, store.close())?;
-    assert!(rt; holds(alloc, &mut again, NEXT, b"0123456789\0\0a")?);
-    Ok(())
+    expect_seen_anew(&rt, rt.alloc(), fresh(rt.alloc())?)
 }
 
 /// The number of bytes that are too many, where a call was refused for it.
@@ -182,68 +207,111 @@ fn too_many(ended: Result<(), StoreFault>) -> Option<u64> {
     }
 }
 
-#[test]
-fn too_many_bytes_are_refused(rt: HostRuntime) -> Result<(), Fail> {
-    let alloc = rt.alloc();
-    let mut store = installed(alloc, MemDisk::new(alloc, &[])?)?;
+/// The sum of the bytes has a limit, and a gap is a put of its own, tried before the put behind it.
+fn expect_few<D: Disk + Drop>(rt: &impl Abort, alloc: Global, disk: D) -> Result<(), Fail>
+    requires settled { IsSettled (D.files disk) (D.may_leave disk) }
+{
+    let mut store = installed(alloc, disk)?;
     let bytes = vec![in alloc; 7; MAX_CHANGES + 1]?;
     store.begin();
-    assert_eq!(rt; too_many(store.put(0, &bytes)), Some(1_048_577));
-    store.put(0, &bytes[..MAX_CHANGES])?;
-    assert_eq!(rt; too_many(store.put(0, b"a")), Some(1_048_577));
-    store.abort();
-    store.begin();
-    // The gap is a put of its own, and is tried before the put behind it.
-    assert_eq!(rt; too_many(store.put(1_048_588, b"abc")), Some(1_048_578));
-    assert_eq!(rt; too_many(store.put(1_048_585, b"abc")), Some(1_048_578));
-    store.put(1_048_583, b"abc")?;
+    assert_eq!(rt; too_many(put(rt, &mut store, 0, &bytes)), Some(1_048_577));
+    assert_eq!(rt;
+        too_many(put(rt, &mut store, 1_048_588, b"abc")),
+        Some(1_048_578)
+    );
+    assert_eq!(rt;
+        too_many(put(rt, &mut store, 1_048_585, b"abc")),
+        Some(1_048_578)
+    );
+    put(rt, &mut store, 1_048_583, b"abc")?;
+    assert_eq!(rt; too_many(put(rt, &mut store, 0, b"a")), Some(1_048_577));
     store.commit(NEXT)?;
     assert_eq!(rt; store.len(), 1_048_586);
     Ok(())
 }
 
 #[test]
-fn an_image_that_is_too_long_is_refused(rt: HostRuntime) -> Result<(), Fail> {
-    let alloc = rt.alloc();
-    let mut store = opened(alloc, MemDisk::new(alloc, &[])?)?;
+fn too_many_bytes_are_refused(rt: HostRuntime) -> Result<(), Fail> {
+    expect_few(&rt, rt.alloc(), fresh(rt.alloc())?)
+}
+
+/// The image has a limit.
+fn expect_short<D: Disk + Drop>(rt: &impl Abort, alloc: Global, disk: D) -> Result<(), Fail>
+    requires settled { IsSettled (D.files disk) (D.may_leave disk) }
+{
+    let mut store = opened(alloc, disk)?;
     let image = vec![in alloc; 7; MAX_IMAGE + 1]?;
     assert_eq!(rt; too_many(store.install(&image, OWN)), Some(16_777_217));
-    assert!(rt; holds(alloc, &mut store, version(0, 0), b"")?);
+    assert_eq!(rt; store.len(), 0);
     store.install(&image[..MAX_IMAGE], OWN)?;
     store.begin();
-    assert_eq!(rt; too_many(store.put(16_777_216, b"a")), Some(16_777_217));
-    assert_eq!(rt; too_many(store.put(16_777_215, b"ab")), Some(16_777_217));
-    store.put(16_777_215, b"a")?;
+    assert_eq!(rt;
+        too_many(put(rt, &mut store, 16_777_216, b"a")),
+        Some(16_777_217)
+    );
+    assert_eq!(rt;
+        too_many(put(rt, &mut store, 16_777_215, b"ab")),
+        Some(16_777_217)
+    );
+    put(rt, &mut store, 16_777_215, b"a")?;
     store.commit(NEXT)?;
     assert_eq!(rt; store.len(), 16_777_216);
     Ok(())
 }
 
-/// The versions that a call was refused for.
-fn not_newer(ended: Result<(), StoreFault>) -> Option<(Version, Version)> {
+#[test]
+fn an_image_that_is_too_long_is_refused(rt: HostRuntime) -> Result<(), Fail> {
+    expect_short(&rt, rt.alloc(), fresh(rt.alloc())?)
+}
+
+/// Whether a call was refused for a version that is not newer than the store's own.
+fn is_refused(ended: Result<(), StoreFault>, version: Version) -> bool {
     match ended {
-        Err(StoreFault::NotNewer { own, given }) => Some((own, given)),
-        _ => None,
+        Err(StoreFault::NotNewer { own, given }) => own == OWN && given == version,
+        _ => false,
     }
+}
+
+/// Nothing is done under this version.
+fn expect_refused<D: Disk>(
+    rt: &impl Abort,
+    alloc: Global,
+    store: &mut Store<D>,
+    given: Version,
+) -> Result<(), Fail>
+    requires sound { IsSound D.Disk store.old }
+    requires none { store.old.begun ≡ None }
+    requires version { IsVersion given }
+    ensures sound { IsSound D.Disk store.new }
+    ensures none { store.new.begun ≡ None }
+{
+    store.begin();
+    put(rt, store, 0, b"abc")?;
+    assert!(rt; is_refused(store.commit(given), given));
+    assert!(rt; store.begun());
+    store.abort();
+    assert!(rt; is_refused(store.install(b"abc", given), given));
+    assert!(rt; is_refused(store.relabel(given), given));
+    assert!(rt; holds(alloc, store, OWN, BEFORE)?);
+    store.abort();
+    Ok(())
+}
+
+fn expect_newer<D: Disk + Drop>(rt: &impl Abort, alloc: Global, disk: D) -> Result<(), Fail>
+    requires settled { IsSettled (D.files disk) (D.may_leave disk) }
+{
+    let mut store = installed(alloc, disk)?;
+    expect_refused(rt, alloc, &mut store, OWN)?;
+    expect_refused(rt, alloc, &mut store, version(1076, 0))?;
+    expect_refused(rt, alloc, &mut store, version(1075, 7))?;
+    store.relabel(version(1077, 0))?;
+    assert!(rt; holds(alloc, &mut store, version(1077, 0), BEFORE)?);
+    Ok(())
 }
 
 #[test]
 fn a_version_that_is_not_newer_is_refused(rt: HostRuntime) -> Result<(), Fail> {
-    let alloc = rt.alloc();
-    let mut store = installed(alloc, MemDisk::new(alloc, &[])?)?;
-    for given in [OWN, version(1076, 0), version(1075, 7)] {
-        assert_eq!(rt; not_newer(store.relabel(given)), Some((OWN, given)));
-        assert_eq!(rt; not_newer(store.install(b"abc", given)), Some((OWN, given)));
-        store.begin();
-        store.put(0, b"abc")?;
-        assert_eq!(rt; not_newer(store.commit(given)), Some((OWN, given)));
-        assert!(rt; store.begun());
-        store.abort();
-        assert!(rt; holds(alloc, &mut store, OWN, BEFORE)?);
-    }
-    store.relabel(version(1077, 0))?;
-    assert!(rt; holds(alloc, &mut store, version(1077, 0), BEFORE)?);
-    Ok(())
+    expect_newer(&rt, rt.alloc(), fresh(rt.alloc())?)
 }
 
 /// The label of version 2000.1.
@@ -253,45 +321,61 @@ pub(crate) fn label() -> [u8; LABEL_LEN] {
     label
 }
 
+/// The length and the head that an opening refuses.
+fn refused<D: Disk + Drop>(alloc: Global, disk: D) -> Option<(u64, [u8; LABEL_LEN])>
+    requires settled { IsSettled (D.files disk) (D.may_leave disk) }
+{
+    match Store::open(alloc, disk) {
+        Err(
+            Refused {
+                why: StoreFault::BadLabel { len, head },
+                ..
+            },
+        ) => Some((len, head)),
+        _ => None,
+    }
+}
+
 #[test]
 fn a_file_without_a_label_is_refused(rt: HostRuntime) -> Result<(), Fail> {
-    let alloc = rt.alloc();
     let mut bytes = label();
-    let mut store = opened(alloc, disk_of(&rt, alloc, &bytes, b"")?)?;
-    assert!(rt; holds(alloc, &mut store, version(2000, 1), b"")?);
+    let disk = laid(&rt, fresh(rt.alloc())?, &bytes, b"");
+    assert_eq!(rt; refused(rt.alloc(), disk), None);
     bytes[63] = 1;
     for log in [b"".as_slice(), b"\0\0\0\x64", b"abc"] {
-        match Store::open(alloc, disk_of(&rt, alloc, &bytes, log)?) {
-            Err(
-                Refused {
-                    why: StoreFault::BadLabel { len, head },
-                    ..
-                },
-            ) => {
-                assert_eq!(rt; len, 64);
-                assert_eq!(rt; head, bytes);
-            }
-            _ => panic!(rt; "the file was taken"),
-        }
+        let disk = laid(&rt, fresh(rt.alloc())?, &bytes, log);
+        assert_eq!(rt; refused(rt.alloc(), disk), Some((64, bytes)));
     }
+    Ok(())
+}
+
+fn expect_committed<D: Disk + Drop>(rt: &impl Abort, alloc: Global, disk: D) -> Result<(), Fail>
+    requires settled { IsSettled (D.files disk) (D.may_leave disk) }
+{
+    let mut store = installed(alloc, disk)?;
+    commit(rt, &mut store, &[Edit::Put(10, b"ab"), Edit::Put(0, b"-")])?;
+    Ok(())
+}
+
+fn expect_held<D: Disk + Drop>(rt: &impl Abort, alloc: Global, disk: D) -> Result<(), Fail>
+    requires settled { IsSettled (D.files disk) (D.may_leave disk) }
+{
+    let mut store = opened(alloc, disk)?;
+    assert!(rt; holds(alloc, &mut store, NEXT, b"-123456789ab")?);
     Ok(())
 }
 
 #[test]
 fn a_store_in_a_folder_is_opened_anew(rt: HostRuntime) -> Result<(), Fail> {
-    let alloc = rt.alloc();
-    let name = format!(in alloc; "ubik_store-{}", process::id(rt.process()))?;
-    let folder = env::temp_dir(&rt)?.join(alloc, name.as_str())?;
+    let name = format!(in rt.alloc(); "ubik_store-{}", process::id(rt.process()))?;
+    let folder = env::temp_dir(&rt)?.join(rt.alloc(), name.as_str())?;
     let folder = folder.into_string();
     let _ = fs::remove_dir_all(&rt, folder.as_str());
     fs::create_dir(&rt, folder.as_str())?;
-    let mut store = installed(alloc, FileDisk::open(&rt, alloc, folder.as_str())?)?;
-    store.begin();
-    store.put(10, b"ab")?;
-    store.put(0, b"-")?;
-    store.commit(NEXT)?;
-    let mut again = opened(alloc, FileDisk::open(&rt, alloc, folder.as_str())?)?;
-    assert!(rt; holds(alloc, &mut again, NEXT, b"-123456789ab")?);
+    let disk = FileDisk::open(&rt, rt.alloc(), folder.as_str())?;
+    expect_committed(&rt, rt.alloc(), disk)?;
+    let disk = FileDisk::open(&rt, rt.alloc(), folder.as_str())?;
+    expect_held(&rt, rt.alloc(), disk)?;
     fs::remove_dir_all(&rt, folder.as_str())?;
     Ok(())
 }
