@@ -1,5 +1,5 @@
 //! A store on a disk in memory and on one in a folder: what it holds, what it refuses, and what it leaves.
-ghost use Rattle.std.specs.Prelude.{◌≡◌, ◌<◌, false, None, Some, IsSome, IfOk};
+ghost use Rattle.std.specs.Prelude.{◌≡◌, ◌<◌, false, None, Some, IsSome, IfOk, OnOk};
 ghost use Rattle.disk_base.specs.Crash.{IsSettled};
 ghost use Rattle.disk_base.specs.MemDisk.{now_of, disk_may_leave};
 ghost use Rattle.ubik_types.specs.Version.{IsVersion};
@@ -207,24 +207,39 @@ fn too_many(ended: Result<(), StoreFault>) -> Option<u64> {
     }
 }
 
+/// So many bytes.
+fn sevens(alloc: Global, len: usize) -> Result<Vec<u8>, Fail> {
+    Ok(vec![in alloc; 7; len]?)
+}
+
+/// A put is refused with this number of bytes.
+fn expect_too_many<D: Disk>(
+    rt: &impl Abort,
+    store: &mut Store<D>,
+    at: u32,
+    bytes: &[u8],
+    number: u64,
+)
+    requires sound { IsSound D.Disk store.old }
+    requires begun { IsSome store.old.begun }
+    ensures sound { IsSound D.Disk store.new }
+    ensures begun { IsSome store.new.begun }
+{
+    assert_eq!(rt; too_many(put(rt, store, at, bytes)), Some(number));
+}
+
 /// The sum of the bytes has a limit, and a gap is a put of its own, tried before the put behind it.
 fn expect_few<D: Disk + Drop>(rt: &impl Abort, alloc: Global, disk: D) -> Result<(), Fail>
     requires settled { IsSettled (D.files disk) (D.may_leave disk) }
 {
     let mut store = installed(alloc, disk)?;
-    let bytes = vec![in alloc; 7; MAX_CHANGES + 1]?;
+    let bytes = sevens(alloc, MAX_CHANGES + 1)?;
     store.begin();
-    assert_eq!(rt; too_many(put(rt, &mut store, 0, &bytes)), Some(1_048_577));
-    assert_eq!(rt;
-        too_many(put(rt, &mut store, 1_048_588, b"abc")),
-        Some(1_048_578)
-    );
-    assert_eq!(rt;
-        too_many(put(rt, &mut store, 1_048_585, b"abc")),
-        Some(1_048_578)
-    );
+    expect_too_many(rt, &mut store, 0, &bytes, 1_048_577);
+    expect_too_many(rt, &mut store, 1_048_588, b"abc", 1_048_578);
+    expect_too_many(rt, &mut store, 1_048_585, b"abc", 1_048_578);
     put(rt, &mut store, 1_048_583, b"abc")?;
-    assert_eq!(rt; too_many(put(rt, &mut store, 0, b"a")), Some(1_048_577));
+    expect_too_many(rt, &mut store, 0, b"a", 1_048_577);
     store.commit(NEXT)?;
     assert_eq!(rt; store.len(), 1_048_586);
     Ok(())
@@ -235,28 +250,32 @@ fn too_many_bytes_are_refused(rt: HostRuntime) -> Result<(), Fail> {
     expect_few(&rt, rt.alloc(), fresh(rt.alloc())?)
 }
 
-/// The image has a limit.
+/// An image of the greatest length is taken, and no put makes it longer.
+fn expect_longest<D: Disk>(rt: &impl Abort, alloc: Global, store: &mut Store<D>) -> Result<(), Fail>
+    requires sound { IsSound D.Disk store.old }
+    requires none { store.old.begun ≡ None }
+{
+    store.install(&sevens(alloc, MAX_IMAGE)?, OWN)?;
+    store.begin();
+    expect_too_many(rt, store, 16_777_216, b"a", 16_777_217);
+    expect_too_many(rt, store, 16_777_215, b"ab", 16_777_217);
+    put(rt, store, 16_777_215, b"a")?;
+    store.commit(NEXT)?;
+    assert_eq!(rt; store.len(), 16_777_216);
+    Ok(())
+}
+
+/// A longer one is not taken.
 fn expect_short<D: Disk + Drop>(rt: &impl Abort, alloc: Global, disk: D) -> Result<(), Fail>
     requires settled { IsSettled (D.files disk) (D.may_leave disk) }
 {
     let mut store = opened(alloc, disk)?;
-    let image = vec![in alloc; 7; MAX_IMAGE + 1]?;
-    assert_eq!(rt; too_many(store.install(&image, OWN)), Some(16_777_217));
+    let image = sevens(alloc, MAX_IMAGE + 1)?;
+    let ended = store.install(&image, OWN);
+    assert_eq!(rt; too_many(ended), Some(16_777_217));
     assert_eq!(rt; store.len(), 0);
-    store.install(&image[..MAX_IMAGE], OWN)?;
-    store.begin();
-    assert_eq!(rt;
-        too_many(put(rt, &mut store, 16_777_216, b"a")),
-        Some(16_777_217)
-    );
-    assert_eq!(rt;
-        too_many(put(rt, &mut store, 16_777_215, b"ab")),
-        Some(16_777_217)
-    );
-    put(rt, &mut store, 16_777_215, b"a")?;
-    store.commit(NEXT)?;
-    assert_eq!(rt; store.len(), 16_777_216);
-    Ok(())
+    store.abort();
+    expect_longest(rt, alloc, &mut store)
 }
 
 #[test]
@@ -283,7 +302,7 @@ fn expect_refused<D: Disk>(
     requires none { store.old.begun ≡ None }
     requires version { IsVersion given }
     ensures sound { IsSound D.Disk store.new }
-    ensures none { store.new.begun ≡ None }
+    ensures none { OnOk result (store.new.begun ≡ None) }
 {
     store.begin();
     put(rt, store, 0, b"abc")?;
@@ -291,6 +310,7 @@ fn expect_refused<D: Disk>(
     assert!(rt; store.begun());
     store.abort();
     assert!(rt; is_refused(store.install(b"abc", given), given));
+    store.abort();
     assert!(rt; is_refused(store.relabel(given), given));
     assert!(rt; holds(alloc, store, OWN, BEFORE)?);
     store.abort();
