@@ -60,7 +60,7 @@ EndsAs g long v old new DiskFault = HasFailed old new
 EndsAs g long v old new (BadLabel len head) = ⊥
 EndsAs g long v old new (TooLarge bytes) = long bytes × Refuses g old new
 EndsAs g long v old new (NotNewer own given) = IsNotNewer old v own given × Refuses g old new
-EndsAs g long v old new NoMemory = Refuses g old new
+EndsAs g long v old new NoMemory = (version_lt old.version v ≡ true) × Refuses g old new
 
 -- no image is too long: for calls that bring none
 abbrev pub IsNeverLong : ℕ → Type 0
