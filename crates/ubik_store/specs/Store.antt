@@ -76,13 +76,13 @@ IsPassed sum end (TooLarge bytes) = passed_limit sum end ≡ Some bytes
 IsPassed sum end (NotNewer own given) = ⊥
 IsPassed sum end NoMemory = ⊥
 
--- a put is refused: with the number of bytes with which it passes a limit, or for want of memory
+-- a put is refused: with the number of bytes with which it passes a limit or, where it passes none, for want of memory
 abbrev pub IsPutFault : (sum len : ℕ) → Change → StoreFault → Type 0
 IsPutFault sum len change DiskFault = ⊥
 IsPutFault sum len change (BadLabel bytes head) = ⊥
 IsPutFault sum len change (TooLarge bytes) = too_large sum len (change ∷ []) ≡ Some bytes
 IsPutFault sum len change (NotNewer own given) = ⊥
-IsPutFault sum len change NoMemory = Unit {0}
+IsPutFault sum len change NoMemory = too_large sum len (change ∷ []) ≡ None
 
 -- all but the changes that were begun stays
 pub record SameButBegun {D : Type 0} (old new : Store D) : Type 0 where
@@ -102,7 +102,7 @@ IsPutRefused s change DiskFault = s.failed ≡ true
 IsPutRefused s change (BadLabel len head) = ⊥
 IsPutRefused s change (TooLarge bytes) = IfSome s.begun (λ t. too_large t.sum t.len (change ∷ []) ≡ Some bytes)
 IsPutRefused s change (NotNewer own given) = ⊥
-IsPutRefused s change NoMemory = Unit {0}
+IsPutRefused s change NoMemory = IfSome s.begun (λ t. too_large t.sum t.len (change ∷ []) ≡ None)
 
 -- an image of so many bytes is too long
 abbrev pub IsTooLong : List ℕ → ℕ → Type 0
