@@ -1,17 +1,17 @@
 -- The changes of a log as they are made over an image: each gap is filled by a put of zero bytes, and no cut goes past the end.
-use Rattle.std.proofs.Common.{◌≡◌, ◌<◌, ◌≤◌, inl, inr, ℕ, zero, suc, ◌+◌, ◌-◌, max, min, Bool, true, false, cond, ltb, List, [], ◌∷◌, ◌++◌, length, take, drop, get_or, replicate, Option, Some, None, refl, sym, ap, subst, ◌∙◌, append_assoc, arith, length-append}
+use Rattle.std.proofs.Common.{◌≡◌, ◌<◌, ◌≤◌, inl, inr, ℕ, ◌+◌, ◌-◌, max, min, Bool, true, false, cond, ltb, List, [], ◌∷◌, ◌++◌, length, take, drop, get_or, replicate, refl, sym, ap, subst, ◌∙◌, append_assoc, arith, length-append}
 use Rattle.std.specs.List.{All}
 use Rattle.std.proofs.lemmas.Bool.{cases_lt}
 use Rattle.std.proofs.lemmas.Bool.Decides.{nat_tests}
 use Rattle.std.proofs.lemmas.Grind.{common_steps}
-use Rattle.std.proofs.lemmas.List.{length-replicate, get_or-replicate, take_at, drop_all, append-nil, get_or_append_left, get_or-append_right}
+use Rattle.std.proofs.lemmas.List.{length-replicate, take_at, drop_all, append-nil}
 use Rattle.std.proofs.lemmas.List.Elements.{All-cons, All-nil, All-head, All-tail}
 use Rattle.ubik_types.specs.declared.images.Change.{Change}
 use Rattle.ubik_types.specs.declared.images.Change.TheVariants.{Put, Cut}
 use Rattle.ubik_types.specs.Image.{extended, changed, effect}
 use Rattle.ubik_types.specs.Logged.{gap_before, logged}
 use Rattle.ubik_log.specs.LogGrammar.{IsWithinImage}
-use Rattle.ubik_store.specs.Redo.{changed_len, len_after, IsSeamless, Redoes, Leaves, AllLeave}
+use Rattle.ubik_store.specs.Redo.{changed_len, IsSeamless}
 use Rattle.ubik_store.specs.Redo.Reaches.{begins}
 use Rattle.ubik_store.proofs.Redone.{length-changed, redone}
 

@@ -1,5 +1,5 @@
 -- Changes that are begun, one after the other.
-use Rattle.std.proofs.Common.{◌≡◌, ◌<◌, ◌≤◌, ℕ, ◌+◌, ◌-◌, max, min, Bool, true, false, cond, ltb, List, [], ◌∷◌, ◌++◌, length, replicate, Option, Some, None, IfSome, refl, sym, ap, subst, ◌∙◌, arith}
+use Rattle.std.proofs.Common.{◌≡◌, ◌≤◌, ℕ, ◌+◌, ◌-◌, max, min, Bool, true, false, cond, ltb, List, [], ◌∷◌, ◌++◌, length, replicate, Option, Some, None, IfSome, refl, sym, ap, subst, ◌∙◌, arith}
 use Rattle.std.proofs.lemmas.Bool.{ltb-true, ltb-false}
 use Rattle.std.proofs.lemmas.List.{length-replicate}
 use Rattle.std.specs.List.{All}
@@ -10,7 +10,7 @@ use Rattle.ubik_types.specs.declared.limits.TheConstants.{MAX_CHANGES, MAX_IMAGE
 use Rattle.ubik_types.specs.Logged.{logged, passed_limit}
 use Rattle.ubik_log.specs.LogGrammar.{IsWithinImage}
 use Rattle.ubik_store.specs.declared.transactions.Transaction.{Transaction}
-use Rattle.ubik_store.specs.Redo.{changed_len, len_after, IsSeam, IsSeamless}
+use Rattle.ubik_store.specs.Redo.{changed_len, len_after, IsSeamless}
 use Rattle.ubik_store.specs.Store.{IsBegunOver, changes_begun, put_bytes}
 
 pub len_after-append : (len : ℕ) (xs ys : List Change) → len_after len (xs ++ ys) ≡ len_after (len_after len xs) ys

@@ -1,7 +1,5 @@
 -- A durable call over files at rest: what went before its first changing call shows in nothing.
-use Rattle.std.proofs.Common.{◌≡◌, ◌+◌, inl, ℕ, List, [], length, Option, Some, IfSome, refl, subst, sym, ap, ◌∙◌, arith}
-use Rattle.std.specs.Option.{option_map}
-use Rattle.std.specs.Prelude.{Result, Ok, Err, OnOk, IsErr}
+use Rattle.std.proofs.Common.{◌≡◌, inl, ℕ, List, [], length, Some, IfSome, subst, sym, ap, ◌∙◌, arith}
 use Rattle.ubik_types.specs.declared.images.Change.{Change}
 use Rattle.ubik_types.specs.declared.versions.Version.{Version}
 use Rattle.ubik_types.specs.Image.{effect}
@@ -12,14 +10,12 @@ use Rattle.disk_base.specs.Runs.{OnlyReserves}
 use Rattle.disk_base.specs.Stops.{IsStopped}
 use Rattle.disk_base.proofs.Stopping.{advances_none}
 use Rattle.page_file.specs.Label.{version_of_database}
-use Rattle.page_file.specs.Pages.{Known, image_of}
+use Rattle.page_file.specs.Pages.{image_of}
 use Rattle.ubik_log.proofs.Gates.{short_log_is_discarded}
 use Rattle.ubik_store.specs.Calls.{CallsAtMost}
-use Rattle.ubik_store.specs.Commit.{CommitsFiles, IsDurableOver}
+use Rattle.ubik_store.specs.Commit.{IsDurableOver}
 use Rattle.ubik_store.specs.Files.{StandsForEither}
 use Rattle.ubik_store.specs.Gaps.{IsPlain}
-use Rattle.ubik_store.specs.Moments.{head_calls, ended}
-use Rattle.ubik_store.specs.Rest.{RestsAs}
 use Rattle.ubik_store.proofs.Applied.{calls_joined, calls_as, no_calls}
 use Rattle.ubik_store.proofs.Committing.{LeavesEither, settled_at, stands_at_rest, unmoved, room_made, room_first}
 use Rattle.ubik_store.proofs.Gaps.{discarded_is_plain}

@@ -1,5 +1,5 @@
 -- A discarded log is emptied: what a crash leaves meanwhile is discarded too.
-use Rattle.std.proofs.Common.{◌≡◌, ◌≤◌, inl, inr, ℕ, ◌+◌, min, List, [], length, take, get_or, Option, Some, None, IfSome, refl, sym, ap, subst, ◌∙◌, arith, length-take, get_or-take}
+use Rattle.std.proofs.Common.{◌≡◌, ◌≤◌, inl, inr, ℕ, List, [], length, take, get_or, Option, Some, None, IfSome, refl, sym, ap, subst, ◌∙◌, arith, length-take, get_or-take}
 use Rattle.std.specs.Option.{option_map}
 use Rattle.std.proofs.lemmas.List.{take_at, take-take}
 use Rattle.disk_base.specs.declared.disks.FileNo.TheVariants.{Log}

@@ -1,33 +1,32 @@
 -- How a durable call of a store ends, by how the call over its files did.
-use Rattle.std.proofs.Common.{◌≡◌, ◌≤◌, ◌<◌, ◌⊎◌, inl, inr, ⊎_elim, ℕ, ◌+◌, ◌-◌, ◌^◌, min, max, true, false, List, [], ◌∷◌, length, Option, Some, None, IfSome, refl, sym, ap, subst, ◌∙◌, arith}
+use Rattle.std.proofs.Common.{◌≡◌, ◌≤◌, ◌⊎◌, ⊎_elim, ℕ, ◌-◌, ◌^◌, min, true, false, List, [], length, Option, Some, None, IfSome, refl, sym, ap, subst, ◌∙◌, arith}
 use Rattle.std.proofs.lemmas.Bool.{false≢true}
-use Rattle.std.specs.Prelude.{Result, Ok, Err, OnOk, IfErr, IsErrOf, MatchResult}
+use Rattle.std.specs.Prelude.{Result, Ok, Err, OnOk, IfErr, IsErrOf}
 use Rattle.std.specs.Option.{option_map}
 use Rattle.ubik_types.specs.declared.images.Change.{Change}
 use Rattle.ubik_types.specs.declared.limits.TheConstants.{MAX_IMAGE}
 use Rattle.ubik_types.specs.declared.versions.Version.{Version}
 use Rattle.ubik_types.specs.Image.{effect}
-use Rattle.ubik_types.specs.Version.{IsVersion, version_lt}
+use Rattle.ubik_types.specs.Version.{IsVersion}
 use Rattle.disk_base.specs.declared.disks.Disk.{Ghosts}
-use Rattle.disk_base.specs.Crash.{LeavesOnly, LeavesSame, IsSettled}
+use Rattle.disk_base.specs.Crash.{LeavesOnly, LeavesSame}
 use Rattle.disk_base.specs.Files.{Files}
 use Rattle.disk_base.specs.Runs.{OnlyReads, OnlyReserves}
 use Rattle.disk_base.specs.Stops.{IsStopped}
 use Rattle.page_file.specs.Label.{version_of_database}
 use Rattle.page_file.specs.Pages.{Known, AgreesIn, image_of}
-use Rattle.ubik_log.specs.LogGrammar.{IsDiscarded}
 use Rattle.ubik_log.proofs.Gates.{short_log_is_discarded}
 use Rattle.ubik_store.specs.declared.faults.StoreFault.{StoreFault}
 use Rattle.ubik_store.specs.declared.faults.StoreFault.TheVariants.{DiskFault, BadLabel, TooLarge, NotNewer, NoMemory}
 use Rattle.ubik_store.specs.declared.stores.Store.{Store}
 use Rattle.ubik_store.specs.Commit.{CommitsFiles, IsDurableOver}
-use Rattle.ubik_store.specs.DurableCall.{Commits, EndsAs, IsDurable, Refuses}
+use Rattle.ubik_store.specs.DurableCall.{IsDurable, Refuses}
 use Rattle.ubik_store.specs.Files.{StandsForEither}
-use Rattle.ubik_store.specs.Gaps.{IsPlain, CutsNoPut}
+use Rattle.ubik_store.specs.Gaps.{IsPlain}
 use Rattle.ubik_store.specs.Moments.{ended}
 use Rattle.ubik_store.specs.Redo.{len_after}
 use Rattle.ubik_store.specs.Rest.{IsAtRest, RestsAs}
-use Rattle.ubik_store.specs.Store.{IsReady, IsSound, IsForbidden, StaysAsItWas, image_in, taken_over}
+use Rattle.ubik_store.specs.Store.{IsReady, IsSound, IsForbidden, image_in, taken_over}
 use Rattle.ubik_store.proofs.Applied.{no_calls, calls_as}
 use Rattle.ubik_store.proofs.Committing.{settled_at, settled_narrow, stands_at_rest, unmoved}
 use Rattle.ubik_store.proofs.Gaps.{discarded_is_plain}

@@ -1,5 +1,5 @@
 -- What an opening makes of files, and what a crash in the midst of it leaves.
-use Rattle.std.proofs.Common.{◌≡◌, ◌≤◌, ◌↔◌, inl, inr, ⊎_elim, ℕ, ◌+◌, Bool, true, false, IsTrue, cond, List, [], length, Option, Some, None, IfSome, refl, sym, ap, subst, ◌∙◌, arith}
+use Rattle.std.proofs.Common.{◌≡◌, ◌≤◌, ◌↔◌, ⊎_elim, ℕ, ◌+◌, Bool, true, false, IsTrue, cond, List, length, Option, Some, None, IfSome, refl, sym, ap, subst, ◌∙◌, arith}
 use Rattle.std.specs.List.{All}
 use Rattle.std.proofs.lemmas.Bool.{false≢true}
 use Rattle.std.specs.Option.{option_map}
@@ -8,10 +8,9 @@ use Rattle.ubik_types.specs.declared.versions.Version.{Version}
 use Rattle.ubik_types.specs.Image.{effect}
 use Rattle.ubik_types.specs.Logged.{logged}
 use Rattle.disk_base.specs.declared.disks.Disk.{Ghosts}
-use Rattle.disk_base.specs.declared.disks.FileNo.{FileNo}
 use Rattle.disk_base.specs.declared.disks.FileNo.TheVariants.{Log}
 use Rattle.disk_base.specs.Files.{Files}
-use Rattle.disk_base.specs.Crash.{Narrows, Only, LeavesOnly, IsSettled}
+use Rattle.disk_base.specs.Crash.{Narrows, LeavesOnly, IsSettled}
 use Rattle.disk_base.specs.Runs.{OnlyReads, ChangesAtMost}
 use Rattle.disk_base.specs.Stops.{DiskStop, IsStopped}
 use Rattle.disk_base.proofs.Runs.{widened, rested, reads_change_none}
@@ -20,8 +19,8 @@ use Rattle.page_file.specs.declared.faults.PageFault.{PageFault}
 use Rattle.page_file.specs.declared.faults.PageFault.TheVariants as pages
 use Rattle.page_file.specs.Fault.{Refuses, IsUnlabelled}
 use Rattle.page_file.specs.Label.{version_of_database}
-use Rattle.page_file.specs.Pages.{Known, AgreesIn, image_of}
-use Rattle.ubik_log.specs.LogFile.{with_log, HasDiscarded}
+use Rattle.page_file.specs.Pages.{Known, image_of}
+use Rattle.ubik_log.specs.LogFile.{HasDiscarded}
 use Rattle.ubik_log.specs.LogGrammar.{IsTold, IsWithinImage, IsCommitted, IsDiscarded}
 use Rattle.ubik_log.proofs.OneReading.{log_has_one_reading}
 use Rattle.ubik_store.specs.Calls.{CallsAtMost}
@@ -36,7 +35,7 @@ use Rattle.ubik_store.specs.Plans.{IsBegun, Plans, PlansRedo, PlansEmpty}
 use Rattle.ubik_store.specs.declared.opening.Plan.{Plan}
 use Rattle.ubik_store.specs.declared.opening.Plan.TheVariants.{Redo, Empty}
 use Rattle.ubik_store.specs.Redo.{len_after, IsSeamless}
-use Rattle.ubik_store.specs.Rest.{IsAtRest, RestsAs}
+use Rattle.ubik_store.specs.Rest.{RestsAs}
 use Rattle.ubik_store.proofs.Applied.{calls_of, calls_joined, calls_as}
 use Rattle.ubik_store.proofs.AsMade.{logged_is_seamless, logged_is_within, effect_logged}
 use Rattle.ubik_store.proofs.Committing.{fits_of, may_redo_all, settled_at}
@@ -47,7 +46,7 @@ use Rattle.ubik_store.proofs.Plain.{LeavesPlain}
 use Rattle.ubik_store.proofs.Redone.{length-effect}
 use Rattle.ubik_store.proofs.Redoing.{rested_first}
 use Rattle.ubik_store.proofs.Resting.{len_of, len_after_within, rests_in}
-use Rattle.ubik_store.proofs.Telling.{told, of_told, of_some}
+use Rattle.ubik_store.proofs.Telling.{told, of_told}
 
 -- after an opening the files are at rest, as what they stood for
 abbrev pub Opened : Option Files → Known → Files → Type 0

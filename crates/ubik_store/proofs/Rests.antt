@@ -1,5 +1,5 @@
 -- Files at rest, and the store over them.
-use Rattle.std.proofs.Common.{◌≡◌, ◌≤◌, ℕ, ◌+◌, List, length, Option, Some, None, IfSome, refl, sym, ap, subst, ◌∙◌, arith}
+use Rattle.std.proofs.Common.{◌≡◌, ℕ, List, length, Option, Some, None, IfSome, refl, sym, subst, ◌∙◌}
 use Rattle.ubik_types.specs.declared.versions.Version.{Version}
 use Rattle.disk_base.specs.Files.{Files}
 use Rattle.page_file.specs.Pages.{Known, image_of}

@@ -1,5 +1,5 @@
 -- A durable call over the pages and the files of a disk: what it makes, and what a crash leaves of it (own).
-use Rattle.std.specs.Prelude.{◌≡◌, ◌+◌, ℕ, List, length, Some, IfSome}
+use Rattle.std.specs.Prelude.{◌≡◌, ◌+◌, List, length, Some, IfSome}
 use Rattle.std.specs.Option.{option_map}
 use Rattle.ubik_types.specs.declared.images.Change.{Change}
 use Rattle.ubik_types.specs.declared.versions.Version.{Version}

@@ -1,4 +1,4 @@
-use Rattle.std.proofs.Common.{◌≡◌, ◌↔◌, ◌∙◌, IsTrue, refl, sym}
+use Rattle.std.proofs.Common.{◌↔◌, ◌∙◌, IsTrue, refl, sym}
 use Rattle.std.proofs.lemmas.Bool.{false≢true}
 use Rattle.disk_base.specs.declared.disks.FileNo.TheVariants.{Log}
 use Rattle.disk_base.specs.Crash.{CutShort, InFile, LeavesOnly, After}
@@ -8,7 +8,7 @@ use Rattle.ubik_log.specs.LogGrammar.{IsDiscarded}
 use Rattle.ubik_store.specs.Plans.{IsBegun}
 use Rattle.ubik_store.proofs.Closing.{LeavesLog}
 use Rattle.ubik_store.proofs.Committing.{only_log, settled_at}
-use Rattle.ubik_store.proofs.Emptying.{begun_is_open, begun_is_long, discarded_by_cut, discarded_by_end, settled_empty}
+use Rattle.ubik_store.proofs.Emptying.{begun_is_open, discarded_by_cut, discarded_by_end, settled_empty}
 use Rattle.ubik_store.proofs.Telling.{told, of_told}
 use Rattle.ubik_store.proofs.opening.empty_discarded.Goals as goal
 

@@ -1,4 +1,4 @@
-use Rattle.std.proofs.Common.{◌≡◌, ◌∙◌, IsErr, IfErr, ap, sym, rules}
+use Rattle.std.proofs.Common.{◌≡◌, IsErr, IfErr, ap, rules}
 use Rattle.std.specs.Result.{is_err}
 use Rattle.std.proofs.lemmas.Bool.{false≢true}
 use Rattle.disk_base.proofs.Runs.{reads_as}

@@ -1,6 +1,5 @@
-use Rattle.std.proofs.Common.{◌∙◌, ℕ, subst, sym, arith}
+use Rattle.std.proofs.Common.{◌∙◌, subst, sym, arith}
 use Rattle.std.specs.List.{All}
-use Rattle.ubik_types.specs.declared.images.Change.{Change}
 use Rattle.ubik_log.specs.LogGrammar.{IsWithinImage}
 use Rattle.ubik_store.proofs.AsMade.{logged_is_within}
 use Rattle.ubik_store.proofs.opening.plan_redo.Goals as goal

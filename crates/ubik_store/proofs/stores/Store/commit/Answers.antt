@@ -1,4 +1,4 @@
-use Rattle.std.proofs.Common.{◌≡◌, List, Option, Some, IfSome, sym, ap, subst, ◌∙◌, rules}
+use Rattle.std.proofs.Common.{List, Option, Some, IfSome, sym, ap, subst, ◌∙◌, rules}
 use Rattle.std.specs.Prelude.{IsErrOf}
 use Rattle.ubik_types.specs.declared.images.Change.{Change}
 use Rattle.ubik_store.specs.declared.faults.StoreFault.TheVariants.{DiskFault}

@@ -1,9 +1,7 @@
-use Rattle.std.proofs.Common.{◌≡◌, ℕ, ◌+◌, List, length, Option, Some, None, IfSome, refl, sym, ap, subst, ◌∙◌, arith}
+use Rattle.std.proofs.Common.{◌≡◌, Option, Some, sym, ap, subst, ◌∙◌, arith}
 use Rattle.std.specs.Prelude.{unwrap_or}
 use Rattle.ubik_types.specs.declared.versions.Version.{Version}
 use Rattle.ubik_types.specs.Version.{IsVersion, zero_version}
-use Rattle.ubik_store.specs.Files.{StandsFor}
-use Rattle.ubik_store.specs.Rest.{RestsAs}
 use Rattle.ubik_store.proofs.Rests.{opened_rests, opened_stands}
 use Rattle.ubik_store.proofs.stores.Store.open.Goals as goal
 

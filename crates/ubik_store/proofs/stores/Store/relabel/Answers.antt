@@ -1,4 +1,4 @@
-use Rattle.std.proofs.Common.{◌≡◌, [], rules}
+use Rattle.std.proofs.Common.{[], rules}
 use Rattle.ubik_store.proofs.Ended.{EndsFiles, sound_taken, durable_itself, durable_taken, not_forbidden}
 use Rattle.ubik_store.proofs.stores.Store.relabel.Goals as goal
 

@@ -1,5 +1,4 @@
-use Rattle.std.proofs.Common.{◌≡◌, ◌+◌, List, [], ◌∷◌, ◌++◌, refl, rules, arith}
-use Rattle.ubik_types.specs.declared.images.Change.{Change}
+use Rattle.std.proofs.Common.{[], ◌∷◌, refl, rules, arith}
 use Rattle.ubik_types.specs.declared.images.Change.TheVariants as change
 use Rattle.ubik_types.specs.Logged.{logged}
 use Rattle.ubik_store.proofs.Begun.{IsAdded, begun_more, cut_may_be_added}
