@@ -86,7 +86,7 @@ extended_byte : (image : List ℕ) (at p : ℕ) → get_or (extended image at) p
 extended_byte image at p = grind (arith, common_steps)
 
 length-extended : (image : List ℕ) (at : ℕ) → length image < at → length (extended image at) ≡ at
-length-extended image at gap = 
+length-extended image at gap =
     let zeros : List ℕ = replicate (at - length image) 0 in
     let long : length zeros ≡ at - length image = length-replicate (at - length image) 0 in
     omega (arith, length-append image zeros)
@@ -125,4 +125,3 @@ effect_logged (Cut to ∷ changes) image =
 pub logged_more : (change : Change) (len : ℕ) (changes : List Change) → logged len (change ∷ changes) ≡ logged len (change ∷ []) ++ logged (changed_len len change) changes
 logged_more (Put at bytes) len changes = sym (append_assoc (gap_before len at) (Put at bytes ∷ []) (logged (max len (at + length bytes)) changes))
 logged_more (Cut to) len changes = refl
-

@@ -5,10 +5,12 @@ pub mod Closing
 pub mod Committing
 pub mod Covering
 pub mod Durable
+pub mod Emptying
 pub mod Ended
 pub mod Ending
 pub mod Gaps
 pub mod Heads
+pub mod Opened
 pub mod Plain
 pub mod Redoing
 pub mod Redone

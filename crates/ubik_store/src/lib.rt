@@ -14,4 +14,8 @@ pub use faults::StoreFault;
 pub use stores::Store;
 
 #[cfg(test)]
+mod opening_tests;
+#[cfg(test)]
+mod stop_tests;
+#[cfg(test)]
 mod tests;

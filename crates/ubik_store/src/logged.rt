@@ -19,12 +19,7 @@ fn push_gap(alloc: Global, made: &mut Changes, len: u32, at: u32) -> Result<(), 
 }
 
 /// Adds a put behind one that fills the gap before it, or a cut to no more than the length. Gives the length after it.
-fn push_made(
-    alloc: Global,
-    made: &mut Changes,
-    len: u32,
-    change: Change,
-) -> Result<u32, NoMemory>
+fn push_made(alloc: Global, made: &mut Changes, len: u32, change: Change) -> Result<u32, NoMemory>
     requires within { IsWithinImage change }
     ensures made { OnOk result (made.new ≡ made.old ++ logged len (change ∷ [])) }
     ensures len { IfOk result (λ after. after ≡ changed_len len change) }

@@ -182,7 +182,13 @@ impl<D: Disk> Store<D> {
         self.allow(v)?;
         match &self.begun {
             Some(begun) => {
-                let ended = commit_changes(self.alloc, &mut self.disk, &mut self.pages, begun.changes(), v);
+                let ended = commit_changes(
+                    self.alloc,
+                    &mut self.disk,
+                    &mut self.pages,
+                    begun.changes(),
+                    v,
+                );
                 self.end(ended, v)
             }
             None => Err(StoreFault::DiskFault),

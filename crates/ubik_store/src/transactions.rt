@@ -7,7 +7,9 @@ ghost use Rattle.ubik_store.specs.Store.{IsBegunOver, IsPassed, IsPutFault};
 use crate::faults::StoreFault;
 use std::alloc::Global;
 use std::mem;
-use ubik_types::{Bytes, Change, Changes, MAX_CHANGES, MAX_IMAGE, NoMemory, bytes_of, changes_new, changes_push};
+use ubik_types::{
+    Bytes, Change, Changes, MAX_CHANGES, MAX_IMAGE, NoMemory, bytes_of, changes_new, changes_push,
+};
 
 /// Adds changes at the end: all of them or, for want of memory, none.
 fn append(alloc: Global, list: &mut Changes, more: Changes) -> Result<(), NoMemory>
@@ -28,7 +30,13 @@ fn kept_put(alloc: Global, len: u32, at: u32, bytes: &[u8]) -> Result<Changes, N
     let mut changes = changes_new(alloc);
     if len < at {
         let zeros = vec![in alloc; 0u8; (at - len) as usize]?;
-        changes_push(&mut changes, Change::Put { at: len, bytes: Bytes::new(zeros) })?;
+        changes_push(
+            &mut changes,
+            Change::Put {
+                at: len,
+                bytes: Bytes::new(zeros),
+            },
+        )?;
     }
     let bytes = bytes_of(alloc, bytes)?;
     changes_push(&mut changes, Change::Put { at, bytes })?;
