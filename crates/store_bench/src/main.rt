@@ -4,14 +4,15 @@
 //! opened. Without words it does nothing.
 #![tactic(auto)]
 
-ghost use Rattle.std.specs.Prelude.{◌≡◌, ◌+◌, ◌*◌, ◌<◌, ◌≤◌, [], ◌∷◌, IfOk, IfSome, OnOk, length, replicate, None};
+ghost use Rattle.std.specs.Prelude.{◌≡◌, ◌+◌, ◌*◌, ◌<◌, ◌≤◌, ◌^◌, ℕ, List, [], IfOk, IfSome, OnOk, None, Some, length, replicate};
 ghost use Rattle.std.specs.Option.{option_map};
 ghost use Rattle.disk_base.specs.Crash.{IsSettled};
 ghost use Rattle.ubik_log.specs.LogGrammar.{IsCommitted};
 ghost use Rattle.ubik_store.specs.Store.{IsSound, image_in};
 ghost use Rattle.ubik_types.specs.Image.{changed};
+ghost use Rattle.ubik_types.specs.declared.images.Change.{Change};
 ghost use Rattle.ubik_types.specs.declared.images.Change.TheVariants as change;
-ghost use Rattle.store_bench.specs.Blocks.{block, blocks};
+ghost use Rattle.store_bench.specs.Blocks.{blocks, IsLabelled};
 
 use disk_base::{Disk, MemDisk};
 use std::alloc::Global;
@@ -48,6 +49,12 @@ const VERSION: Version = Version {
     counter: 1,
 };
 
+/// The version of the image before a block is committed.
+const FIRST: Version = Version {
+    epoch: 1,
+    counter: 0,
+};
+
 /// How many blocks are some kibibyte: 64 kibibytes have 341 blocks and 64 bytes.
 fn blocks_in(kibibytes: u16) -> u32
     ensures { result * 192 ≤ kibibytes * 1024 }
@@ -60,12 +67,13 @@ fn commit_block<D: Disk>(store: &mut Store<D>, at: u32, counter: u32) -> Result<
     requires sound { IsSound D.Disk store.old }
     requires none { store.old.begun ≡ None }
     requires within { at + LEN ≤ store.old.len }
+    requires counter { counter < 2 ^ 31 }
     ensures sound { IsSound D.Disk store.new }
     ensures none { OnOk result (store.new.begun ≡ None) }
     ensures len { OnOk result (store.new.len ≡ store.old.len) }
     ensures counter { OnOk result (store.new.version.counter ≡ counter) }
     ensures image { OnOk result (image_in (D.files store.new.disk)
-        ≡ option_map (λ image. changed image (change.Put at block)) (image_in (D.files store.old.disk))) }
+        ≡ option_map (λ image. changed image (change.Put at LAID)) (image_in (D.files store.old.disk))) }
 {
     store.begin();
     store.put(at, &LAID)?;
@@ -78,6 +86,7 @@ fn commit_often<D: Disk>(store: &mut Store<D>, times: u32) -> Result<(), StoreFa
     requires none { store.old.begun ≡ None }
     requires long { 65536 ≤ store.old.len }
     requires first { store.old.version.counter ≡ 0 }
+    requires few { times < 2 ^ 31 }
     ensures { OnOk result (store.new.version.counter ≡ times) }
 {
     for turn in 0..times {
@@ -93,31 +102,35 @@ fn zero_bytes(alloc: Global, len: usize) -> Result<Vec<u8>, NoMemory>
     Ok(vec![in alloc; 0u8; len]?)
 }
 
-/// A store on a disk in memory, of an image of so many zero bytes.
-fn filled_store(alloc: Global, len: usize) -> Result<Store<MemDisk>, StoreFault>
+/// A store on an empty disk, of an image of so many zero bytes.
+fn filled_store<D: Disk + Drop>(alloc: Global, disk: D, len: usize) -> Result<Store<D>, StoreFault>
+    requires settled { IsSettled (D.files disk) (D.may_leave disk) }
+    ensures sound { IfOk result (IsSound D.Disk) }
+    ensures none { IfOk result (λ store. store.begun ≡ None) }
+    ensures len { IfOk result (λ store. store.len ≡ len) }
+    ensures counter { IfOk result (λ store. store.version.counter ≡ 0) }
 {
-    let disk = MemDisk::new(alloc, &[])?;
     let mut store = match Store::open(alloc, disk) {
         Ok(store) => store,
         Err(refused) => return Err(refused.why),
     };
     let image = zero_bytes(alloc, len)?;
-    store.install(
-        &image,
-        Version {
-            epoch: 1,
-            counter: 0,
-        },
-    )?;
+    store.install(&image, FIRST)?;
     Ok(store)
 }
 
 /// A store of an image of so many kibibytes, to which so many blocks were committed.
-fn worn_store(alloc: Global, kibibytes: u16, times: u16) -> Result<Store<MemDisk>, StoreFault>
-    requires { 64 ≤ kibibytes }
+fn worn_store<D: Disk + Drop>(
+    alloc: Global,
+    disk: D,
+    kibibytes: u16,
+    times: u16,
+) -> Result<Store<D>, StoreFault>
+    requires settled { IsSettled (D.files disk) (D.may_leave disk) }
+    requires long { 64 ≤ kibibytes }
     ensures { IfOk result (λ store. store.version.counter ≡ times) }
 {
-    let mut store = filled_store(alloc, usize::from(kibibytes) * 1024)?;
+    let mut store = filled_store(alloc, disk, usize::from(kibibytes) * 1024)?;
     commit_often(&mut store, u32::from(times))?;
     Ok(store)
 }
@@ -130,7 +143,13 @@ fn long_list(alloc: Global, count: u32) -> Result<Changes, NoMemory>
     let mut changes = changes_new(alloc);
     for place in 0..count {
         let bytes = bytes_of(alloc, &LAID)?;
-        changes_push(&mut changes, Change::Put { at: place * LEN as u32, bytes })?;
+        changes_push(
+            &mut changes,
+            Change::Put {
+                at: place * LEN as u32,
+                bytes,
+            },
+        )?;
     }
     Ok(changes)
 }
@@ -146,6 +165,12 @@ fn long_log(alloc: Global, count: u32) -> Result<Bytes, NoMemory>
 
 /// Keeps a log on a disk and opens its gate, as a commit that a crash ended there, and opens the files.
 fn reopened<D: Disk + Drop>(alloc: Global, disk: D, log: &[u8]) -> Result<D, StoreFault>
+    requires committed { (changes : List Change) × IsCommitted log.now changes VERSION }
+    requires empty { IfSome (D.files disk) (λ fs. fs.log ≡ []) }
+    requires settled { IsSettled (D.files disk) (D.may_leave disk) }
+    ensures empty { IfOk result (λ new. IfSome (D.files new) (λ fs. fs.log ≡ [])) }
+    ensures settled { IfOk result (λ new. IsSettled (D.files new) (D.may_leave new)) }
+    ensures label { IfOk result (λ new. IfSome (D.files disk) (λ _. IsLabelled VERSION (D.files new))) }
 {
     let mut disk = disk;
     keep_log(alloc, &mut disk, log)?;
@@ -156,16 +181,42 @@ fn reopened<D: Disk + Drop>(alloc: Global, disk: D, log: &[u8]) -> Result<D, Sto
     }
 }
 
-/// A disk on which a log of so many kibibytes of blocks was kept and brought to its end so many times.
-fn opened_disk(alloc: Global, kibibytes: u16, times: u16) -> Result<MemDisk, StoreFault>
+/// A disk on which this log was kept and brought to its end so many times.
+fn opened_often<D: Disk + Drop>(
+    alloc: Global,
+    disk: D,
+    log: &[u8],
+    times: u16,
+) -> Result<D, StoreFault>
+    requires committed { (changes : List Change) × IsCommitted log.now changes VERSION }
+    requires empty { IfSome (D.files disk) (λ fs. fs.log ≡ []) }
+    requires settled { IsSettled (D.files disk) (D.may_leave disk) }
+    ensures { IfOk result (λ new. 0 < times → IfSome (D.files disk) (λ _. IsLabelled VERSION (D.files new))) }
+{
+    let mut opened = disk;
+    for _turn in 0..times {
+        opened = reopened(alloc, opened, log)?;
+    }
+    Ok(opened)
+}
+
+/// Commits so many blocks to an image of so many kibibytes on a disk in memory.
+fn commits(alloc: Global, kibibytes: u16, times: u16) -> Result<(), StoreFault>
+    requires { 64 ≤ kibibytes }
+{
+    let disk = MemDisk::new(alloc, &[])?;
+    worn_store(alloc, disk, kibibytes, times)?;
+    Ok(())
+}
+
+/// Opens so many times a store over a log of so many kibibytes of blocks on a disk in memory.
+fn openings(alloc: Global, kibibytes: u16, times: u16) -> Result<(), StoreFault>
     requires { kibibytes ≤ 1024 }
 {
     let log = long_log(alloc, blocks_in(kibibytes))?;
-    let mut disk = MemDisk::new(alloc, &[])?;
-    for _ in 0..times {
-        disk = reopened(alloc, disk, log.as_slice())?;
-    }
-    Ok(disk)
+    let disk = MemDisk::new(alloc, &[])?;
+    opened_often(alloc, disk, log.as_slice(), times)?;
+    Ok(())
 }
 
 fn main(rt: HostRuntime) -> ExitCode {
@@ -182,8 +233,8 @@ fn main(rt: HostRuntime) -> ExitCode {
         return ExitCode::from(WORDS);
     };
     let ended = match kind.as_str() {
-        "commits" if kibibytes >= LEAST => worn_store(rt.alloc(), kibibytes, times).is_ok(),
-        "openings" if kibibytes <= MOST => opened_disk(rt.alloc(), kibibytes, times).is_ok(),
+        "commits" if kibibytes >= LEAST => commits(rt.alloc(), kibibytes, times).is_ok(),
+        "openings" if kibibytes <= MOST => openings(rt.alloc(), kibibytes, times).is_ok(),
         _ => return ExitCode::from(WORDS),
     };
     if ended {
