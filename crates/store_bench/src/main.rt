@@ -1,6 +1,6 @@
 //! Commits blocks to a store on a disk in memory, or opens stores over a committed log, again and again, for
-//! `bench/store_commits`. Its words are `commits`, how many kibibytes the image has, at least 64, and how many blocks are
-//! committed; or `openings`, how many kibibytes of blocks the log has, at most 1,024, and how many times it is kept and
+//! `bench/store_commits`. Its words are `commits`, how many kibibytes the image has, at least 64, and how many rounds of
+//! 200 blocks are committed; or `openings`, how many kibibytes of blocks the log has, at most 1,024, and how many times it is kept and
 //! opened. Without words it does nothing.
 #![tactic(auto)]
 
@@ -36,6 +36,9 @@ const LAID: [u8; LEN] = [120; LEN];
 
 /// The blocks that are committed lie side by side in the first 64 kibibytes: so many of them.
 const PLACES: u32 = 341;
+
+/// How many commits are a round.
+const ROUND: u32 = 200;
 
 /// The least length of the image, in kibibytes.
 const LEAST: u16 = 64;
@@ -119,19 +122,19 @@ fn filled_store<D: Disk + Drop>(alloc: Global, disk: D, len: usize) -> Result<St
     Ok(store)
 }
 
-/// A store of an image of so many kibibytes, to which so many blocks were committed.
+/// A store of an image of so many kibibytes, to which so many rounds of blocks were committed.
 fn worn_store<D: Disk + Drop>(
     alloc: Global,
     disk: D,
     kibibytes: u16,
-    times: u16,
+    rounds: u16,
 ) -> Result<Store<D>, StoreFault>
     requires settled { IsSettled (D.files disk) (D.may_leave disk) }
     requires long { 64 ≤ kibibytes }
-    ensures { IfOk result (λ store. store.version.counter ≡ times) }
+    ensures { IfOk result (λ store. store.version.counter ≡ rounds * 200) }
 {
     let mut store = filled_store(alloc, disk, usize::from(kibibytes) * 1024)?;
-    commit_often(&mut store, u32::from(times))?;
+    commit_often(&mut store, u32::from(rounds) * ROUND)?;
     Ok(store)
 }
 
@@ -200,12 +203,12 @@ fn opened_often<D: Disk + Drop>(
     Ok(opened)
 }
 
-/// Commits so many blocks to an image of so many kibibytes on a disk in memory.
-fn commits(alloc: Global, kibibytes: u16, times: u16) -> Result<(), StoreFault>
+/// Commits so many rounds of blocks to an image of so many kibibytes on a disk in memory.
+fn commits(alloc: Global, kibibytes: u16, rounds: u16) -> Result<(), StoreFault>
     requires { 64 ≤ kibibytes }
 {
     let disk = MemDisk::new(alloc, &[])?;
-    worn_store(alloc, disk, kibibytes, times)?;
+    worn_store(alloc, disk, kibibytes, rounds)?;
     Ok(())
 }
 
