@@ -2,6 +2,7 @@
 use Rattle.std.proofs.Common.{Bool, true, false, cond, ◌==◌, ◌≡◌, ℕ, zero, suc, ◌+◌, ◌<◌, List, [], ◌∷◌, ◌++◌, length}
 use Rattle.std.proofs.Common.{refl, sym, ap, subst, ◌∙◌}
 use Rattle.std.proofs.lemmas.Bool.{cond_both}
+use Rattle.std.proofs.lemmas.List.{append-nil}
 use Rattle.std.specs.Prelude.{Option, Some, None}
 use Rattle.ubik_types.specs.declared.images.Change.{Change}
 use Rattle.ubik_types.specs.declared.versions.Version.{Version}
@@ -31,6 +32,7 @@ use Rattle.cell_pages.specs.Holdings.{WasRelabelled, HoldsContents}
 use Rattle.cell_pages.specs.Images.{KeepsImages, IsImageOf, IsOfBook, HaveOneList}
 use Rattle.cell_pages.specs.Laws.{KeepsLists}
 use Rattle.cell_pages.specs.Moves.{AllBodies, transaction_of, Moves, IsPlain}
+use Rattle.cell_pages.specs.Pages.{IsPageOn, PagesFollow}
 use Rattle.cell_pages.specs.Parts.{MakerWentOn, MakesVersions}
 use Rattle.cell_pages.specs.Passes.{InStep, Pass}
 use Rattle.cell_pages.specs.WritesOnTheWay.{IsWriteOf, IsWriteOn}
@@ -38,7 +40,7 @@ use Rattle.cell_pages.proofs.Keeping.{one_list, carries_later, relabelled_later,
 use Rattle.cell_pages.proofs.Keeping.{but_kept, whole_kept}
 use Rattle.cell_pages.proofs.Leading.{bodies_append}
 use Rattle.cell_pages.proofs.LoggedChanges.{changes_spelled}
-use Rattle.cell_pages.proofs.Making.{makes_moves, others_went_on, others_make}
+use Rattle.cell_pages.proofs.Making.{makes_moves, makes_pass, others_went_on, others_make}
 use Rattle.cell_pages.proofs.Once.{lists_kept}
 use Rattle.cell_pages.proofs.Versions.{same_of_eq}
 
@@ -53,7 +55,8 @@ not_relabelled book v (Relabel poll) idle = tt
 not_relabelled book v (Send poll spread) idle = no (sym idle)
 not_relabelled book v (Ready poll spread announced) idle = no (sym idle)
 
-relabelled_held : (book : Book) (v : Version) (phase : PhaseRecord) (k : ℕ) → WasRelabelled book v phase → WasRelabelled book v (held_by phase k)
+relabelled_held : (book : Book) (v : Version) (phase : PhaseRecord) (k : ℕ) → WasRelabelled book v phase →
+    WasRelabelled book v (held_by phase k)
 relabelled_held book v NoPhase k is = tt
 relabelled_held book v (Poll poll) k is = tt
 relabelled_held book v (Fetch poll best host) k is = tt
@@ -132,8 +135,8 @@ module _ (db : Database) where
   taken_image book s old new same have is = record {
     list = have.0;
     listed = have.2;
-    image_is =
-        is.image_is
+    image_is = λ good.
+        is.image_is good
         ∙ ap (image_after db)
         (one_list book old is.list have.0 (subst (λ (v : Version). list_of book v ≡ Some is.list) same is.listed) have.1);
   }
@@ -214,15 +217,16 @@ module _ (db : Database) where
 
       listed : list_of (with_version book m.me s.version (first_of_epoch now) Own_relabelling) (first_of_epoch now) ≡ Some holds.image.list
       listed =
-          newest (relabelled_page book m.me now s.version) book ∙ ap (λ (l : List Transaction). Some l) (list_is book s.version holds.image.list holds.image.listed)
+          newest (relabelled_page book m.me now s.version) book ∙ ap (λ (l : List Transaction). Some l)
+          (list_is book s.version holds.image.list holds.image.listed)
 
-  commits_holds : KeepsImages db → (book : Book) (m : Member) (now : ℕ) (s : Server) (id : ℕ) (call answer image : List ℕ)
+  commits_holds : (book : Book) (m : Member) (now : ℕ) (s : Server) (id : ℕ) (call answer image : List ℕ)
       (changes : List Change) (poll : Polled) (spread : Spread) (announced : Version) → s.phase ≡ Ready poll spread announced →
       image ≡ (db.call s.image now call).image → changes ≡ changes_of db s.image image → too_large 0 (length s.image) changes ≡ None →
       KeepsLists book (with_version book m.me s.version (next_version s.version) (Committed (transaction_of now call))) → Holds book s →
       Holds (with_version book m.me s.version (next_version s.version) (Committed (transaction_of now call)))
       (own_write_begun m s now id call answer image changes poll spread).server
-  commits_holds good book m now s id call answer image changes poll spread announced at image_is changes_are within keeps holds = record {
+  commits_holds book m now s id call answer image changes poll spread announced at image_is changes_are within keeps holds = record {
     image = record { list = list ++ t ∷ []; listed = listed; image_is = new_image };
     relabelled =
         relabelled_later db book later keeps s.version (Ready poll spread announced)
@@ -242,25 +246,24 @@ module _ (db : Database) where
       later : Book
       later = with_version book m.me s.version (next_version s.version) (Committed (transaction_of now call))
 
-      listed : list_of (with_version book m.me s.version (next_version s.version) (Committed (transaction_of now call))) (next_version s.version)
+      listed : list_of (with_version book m.me s.version (next_version s.version) (Committed (transaction_of now call)))
+          (next_version s.version)
           ≡ Some (holds.image.list ++ transaction_of now call ∷ [])
       listed =
           newest (committed_page book m.me s.version (transaction_of now call)) book
-          ∙ ap (λ (l : List Transaction). Some (l ++ transaction_of now call ∷ [])) (list_is book s.version holds.image.list holds.image.listed)
+          ∙ ap (λ (l : List Transaction). Some (l ++ transaction_of now call ∷ []))
+          (list_is book s.version holds.image.list holds.image.listed)
 
-      old_image : s.image ≡ image_after db holds.image.list
-      old_image = holds.image.image_is
-
-      new_image : image ≡ image_after db (holds.image.list ++ transaction_of now call ∷ [])
-      new_image =
-          image_is ∙ ap (λ (i : List ℕ). (db.call i now call).image) holds.image.image_is
+      new_image : KeepsImages db → image ≡ image_after db (holds.image.list ++ transaction_of now call ∷ [])
+      new_image good =
+          image_is ∙ ap (λ (i : List ℕ). (db.call i now call).image) (holds.image.image_is good)
           ∙ sym (image_from-append db [] holds.image.list (transaction_of now call ∷ []))
 
-      same_changes : changes
+      same_changes : KeepsImages db → changes
           ≡ changes_of db (image_after db holds.image.list) (image_after db (holds.image.list ++ transaction_of now call ∷ []))
-      same_changes =
-          changes_are ∙ ap (λ (i : List ℕ). changes_of db i image) holds.image.image_is
-          ∙ ap (λ (i : List ℕ). changes_of db (image_after db holds.image.list) i) new_image
+      same_changes good =
+          changes_are ∙ ap (λ (i : List ℕ). changes_of db i image) (holds.image.image_is good)
+          ∙ ap (λ (i : List ℕ). changes_of db (image_after db holds.image.list) i) (new_image good)
 
       write : IsWriteOn db (with_version book m.me s.version (next_version s.version) (Committed (transaction_of now call)))
           s.version (next_version s.version) (text_of changes)
@@ -269,12 +272,12 @@ module _ (db : Database) where
           before = holds.image.list;
           last = transaction_of now call;
           listed = listed;
-          spelled =
+          spelled = λ good.
               changes_spelled db.head db.block (image_after db holds.image.list)
               (image_after db (holds.image.list ++ transaction_of now call ∷ []))
-              (ap (λ (c : List Change). too_large 0 (length (image_after db holds.image.list)) c) (sym same_changes)
-              ∙ ap (λ (i : List ℕ). too_large 0 (length i) changes) (sym holds.image.image_is) ∙ within);
-          text_is = ap text_of same_changes;
+              (ap (λ (c : List Change). too_large 0 (length (image_after db holds.image.list)) c) (sym (same_changes good))
+              ∙ ap (λ (i : List ℕ). too_large 0 (length i) changes) (sym (holds.image.image_is good)) ∙ within);
+          text_is = λ good. ap text_of (same_changes good);
         },
         keeps s.version holds.image.list holds.image.listed,
       )
@@ -296,38 +299,64 @@ module _ (db : Database) where
           (with_version book m.me s.version (next_version s.version) (Committed (transaction_of now call))) s.version
           (next_version s.version) (text_of c)) changes_same write)
 
+  -- the versions that they make go on from the own one
+  relabels_follow : (book : Book) (m : Member) (now : ℕ) (s : Server) → Holds book s → s.version.epoch < now →
+      IsPageOn book (relabelled_page book m.me now s.version)
+  relabels_follow book m now s holds past = record {
+    list = holds.image.list;
+    listed = holds.image.listed;
+    list_is = list_is book s.version holds.image.list holds.image.listed ∙ sym (append-nil holds.image.list);
+    goes_on = (past, refl);
+  }
+
+  commits_follow : (book : Book) (m : Member) (now : ℕ) (call : List ℕ) (s : Server) → Holds book s →
+      IsPageOn book (committed_page book m.me s.version (transaction_of now call))
+  commits_follow book m now call s holds = record {
+    list = holds.image.list;
+    listed = holds.image.listed;
+    list_is =
+        ap (λ (l : List Transaction). l ++ transaction_of now call ∷ [])
+        (list_is book s.version holds.image.list holds.image.listed);
+    goes_on = refl;
+  }
+
 -- ---- all moves
 
-module _ (db : Database) (good : KeepsImages db) (B : Book → Type 0)
-    (grows : (k : ℕ) (book later : Book) → Grew k book later → B book → B later) where
-  abbrev pub Both : ℕ → Book → Server → Type 0
-  Both k book s = MakesVersions k book s × HoldsContents db book s
+module _ (db : Database) (B : Book → Type 0)
+    (grows : (lease : Bool) (k : ℕ) (book later : Book) → Grew lease k book later → B book → B later) where
+  abbrev pub Both : ℕ → Bool → Book → Server → Type 0
+  Both k lease book s = MakesVersions k lease book s × HoldsContents db book s
 
   abbrev pub BothDurable : ℕ → Book → Durable → Type 0
   BothDurable k book d = MakerWentOn k book d × IsOfBook db book d
 
+  -- what is kept of the book: each version goes on from one before it
+  abbrev pub Pages : Book → Type 0
+  Pages book = B book × PagesFollow book
+
   module _ (m : Member) (now : ℕ) (lease : Bool) (some : 0 < now) where
     abbrev F : Book → Server → Type 0
-    F = InStep Both B m.me now (lease ≡ true)
+    F = InStep Both Pages m.me now lease
 
     abbrev E : Book → Server → Type 0
-    E = InStep MakesVersions B m.me now (lease ≡ true)
+    E = InStep MakesVersions B m.me now lease
 
-    makes : Moves db m now (lease ≡ true) E (MakerWentOn m.me) (λ book b. Unit {0})
+    makes : Moves db m now lease E (λ book d. MakerWentOn m.me book d × B book) (λ book b. Unit {0})
     makes = makes_moves db B grows m now lease some
 
     first : (book : Book) (s : Server) → F book s → E book s
-    first book s f = (f.0.0, f.1, f.2)
+    first book s f = (f.0.0, f.1, f.2.0)
 
-    join : (book : Book) (s : Server) → E book s → HoldsContents db book s → F book s
-    join book s e holds = ((e.0, holds), e.1, e.2)
+    join : (book : Book) (s : Server) → E book s → PagesFollow book → HoldsContents db book s → F book s
+    join book s e follow holds = ((e.0, holds), e.1, (e.2, follow))
 
-    contents_moves : Moves db m now (lease ≡ true) F (BothDurable m.me) (Carries db)
+    contents_moves : Moves db m now lease F (λ book d. BothDurable m.me book d × Pages book) (Carries db)
     contents_moves = record {
       phase = record {
         votes = λ book s votes starts beacon f.
             join book (record s { votes = votes; starts = starts; beacon = beacon })
             (makes.phase.votes book s votes starts beacon (first book s f))
+            f.2.1
             (record {
               image = f.0.1.image;
               relabelled = f.0.1.relabelled;
@@ -337,6 +366,7 @@ module _ (db : Database) (good : KeepsImages db) (B : Book → Type 0)
             });
         waits = λ book s waiting f.
             join book (record s { waiting = waiting }) (makes.phase.waits book s waiting (first book s f))
+            f.2.1
             (record {
               image = f.0.1.image;
               relabelled = f.0.1.relabelled;
@@ -347,6 +377,7 @@ module _ (db : Database) (good : KeepsImages db) (B : Book → Type 0)
         no_flight = λ book s is f. f.0.0.no_flight is;
         lapses = λ book s phase idle f.
             join book (with_phase (without_writes s) phase) (makes.phase.lapses book s phase idle (first book s f))
+            f.2.1
             (record {
               image = f.0.1.image;
               relabelled = not_relabelled book s.version phase idle;
@@ -356,9 +387,11 @@ module _ (db : Database) (good : KeepsImages db) (B : Book → Type 0)
             });
         leaves = λ book s phase idle none f.
             join book (with_phase s phase) (makes.phase.leaves book s phase idle none (first book s f))
+            f.2.1
             (in_phase db book s phase idle none f.0.1);
         holds = λ book s k f.
             join book (with_phase s (held_by s.phase k)) (makes.phase.holds book s k (first book s f))
+            f.2.1
             (record {
               image = f.0.1.image;
               relabelled = relabelled_held book s.version s.phase k f.0.1.relabelled;
@@ -369,6 +402,7 @@ module _ (db : Database) (good : KeepsImages db) (B : Book → Type 0)
             });
         announces = λ book s poll spread at f.
             join book (with_phase s (Ready poll spread s.version)) (makes.phase.announces book s poll spread at (first book s f))
+            f.2.1
             (record {
               image = f.0.1.image;
               relabelled = subst (WasRelabelled book s.version) at f.0.1.relabelled;
@@ -379,6 +413,7 @@ module _ (db : Database) (good : KeepsImages db) (B : Book → Type 0)
         ends = λ book s poll spread announced flight at is f.
             join book (record (with_phase s (Ready poll spread s.version)) { flight = None })
             (makes.phase.ends book s poll spread announced flight at is (first book s f))
+            f.2.1
             (record {
               image = f.0.1.image;
               relabelled = subst (WasRelabelled book s.version) at f.0.1.relabelled;
@@ -391,6 +426,7 @@ module _ (db : Database) (good : KeepsImages db) (B : Book → Type 0)
         texts = λ book s may_begin k poll version total at bytes text says is f.
             join book (record s { received = Some text })
             (makes.field.texts book s may_begin k poll version total at bytes text tt is (first book s f))
+            f.2.1
             (record {
               image = f.0.1.image;
               relabelled = f.0.1.relabelled;
@@ -400,6 +436,7 @@ module _ (db : Database) (good : KeepsImages db) (B : Book → Type 0)
             });
         begins = λ book s old new pieces len says idle same less f.
             join book _ (makes.field.begins book s old new pieces len tt idle same less (first book s f))
+            f.2.1
             (record {
               image = f.0.1.image;
               relabelled = f.0.1.relabelled;
@@ -409,6 +446,7 @@ module _ (db : Database) (good : KeepsImages db) (B : Book → Type 0)
             });
         puts = λ book s new number bytes says f.
             join book _ (makes.field.puts book s new number bytes tt (first book s f))
+            f.2.1
             (record {
               image = f.0.1.image;
               relabelled = f.0.1.relabelled;
@@ -418,6 +456,7 @@ module _ (db : Database) (good : KeepsImages db) (B : Book → Type 0)
             });
         aborts = λ book s new f.
             join book _ (makes.field.aborts book s new (first book s f))
+            f.2.1
             (record {
               image = f.0.1.image;
               relabelled = f.0.1.relabelled;
@@ -429,34 +468,41 @@ module _ (db : Database) (good : KeepsImages db) (B : Book → Type 0)
       received = record {
         takes = λ book s poll old new says idle same less f.
             join book _ (makes.received.takes book s poll old new tt idle same less (first book s f))
+            f.2.1
             (over db book s new s.image idle (taken_image db book s old new (same_of_eq s.version old same) says f.0.1.image));
         installs = λ book s may_begin k poll version total at bytes text says is idle whole less f.
             join book _
             (makes.received.installs book s may_begin k poll version total at bytes text tt is idle whole less (first book s f))
+            f.2.1
             (over db book s text.version text.bytes idle
             (whole_image db book text whole
             (front_with db book may_begin k version total at bytes s.received text says f.0.1.received is)));
         writes = λ book s old new changes says idle same whole within f.
             join book _ (makes.received.writes book s old new changes tt idle same whole within (first book s f))
+            f.2.1
             (over db book s new (effect s.image (logged (length s.image) changes)) idle
-            (whole_kept db book good s.version new s.image s.kept changes whole f.0.1.image f.0.1.kept));
+            (whole_kept db book s.version new s.image s.kept changes whole f.0.1.image f.0.1.kept));
       };
       own = record {
         relabels = λ book s poll leased idle past f.
-            let w = makes.own.relabels book s poll leased idle past (first book s f) in
-            (w.0, join _ _ w.1 (relabels_holds db book m now s poll (lists_kept m.me book _ w.0) f.0.1));
+            let w = makes.own.relabels book s poll leased idle past (first book s f) in (
+              w.0,
+              join _ _ w.1 (relabels_follow db book m now s f.0.1 past, f.2.1)
+                  (relabels_holds db book m now s poll (lists_kept lease m.me book _ w.0) f.0.1),
+            );
         commits =
             λ book s id call answer image changes poll spread announced leased at free counter image_is changes_are within f.
-            let w = makes.own.commits book s id call answer image changes poll spread announced leased at free counter image_is changes_are within (first book s f) in (
+            let w = makes.own.commits book s id call answer image changes poll spread announced leased at free counter
+            image_is changes_are within (first book s f) in (
               w.0,
-              join _ _ w.1
-                  (commits_holds db good book m now s id call answer image changes poll spread announced at image_is changes_are within
-                  (lists_kept m.me book _ w.0) f.0.1),
+              join _ _ w.1 (commits_follow db book m now call s f.0.1, f.2.1)
+                  (commits_holds db book m now s id call answer image changes poll spread announced at image_is changes_are within
+                  (lists_kept lease m.me book _ w.0) f.0.1),
             );
-        stands = λ book s f. (f.0.0.went_on, f.0.1.image);
+        stands = λ book s f. ((f.0.0.went_on, f.0.1.image), f.2);
       };
       packet = record {
-        later = λ book after b grew says. carries_later db book after (lists_kept m.me book after grew) b says;
+        later = λ book after b grew says. carries_later db book after (lists_kept lease m.me book after grew) b says;
         plain = plain_carries db;
         alike = λ book poll version total at bytes says. says;
         piece = λ book s poll version at is f. record {
@@ -475,21 +521,22 @@ module _ (db : Database) (good : KeepsImages db) (B : Book → Type 0)
       };
     }
 
-  pub contents_pass : Pass db Both BothDurable (Carries db) B
+  pub contents_pass : Pass db Both BothDurable (Carries db) Pages
   contents_pass = record {
     moves = contents_moves;
-    pages = grows;
-    durable = λ j k book later d other grew is. (
-      others_went_on j k book later d.version other grew is.0,
-      image_later db book later (lists_kept k book later grew) d.version d.image is.1,
+    durable = λ lease j k book later d other grew is. (
+      others_went_on lease j k book later d.version other grew is.0,
+      image_later db book later (lists_kept lease k book later grew) d.version d.image is.1,
     );
-    server = λ j k book later s other grew is. (
-      others_make j k book later s other grew is.0,
-      holds_later db book later (lists_kept k book later grew) s is.1,
+    server = λ lease own j k book later s other alone grew is. (
+      others_make lease own j k book later s other alone grew is.0,
+      holds_later db book later (lists_kept lease k book later grew) s is.1,
     );
-    packet = λ k book later b grew says. carries_later db book later (lists_kept k book later grew) b says;
-    opened = λ k n now book d is. (
-      record { went_on = is.0; owns = λ sends. no sends; no_flight = λ _. refl; kept = tt },
+    packet = λ lease k book later b grew says. carries_later db book later (lists_kept lease k book later grew) b says;
+    fades = λ k book s is. ((makes_pass db B grows).fades k book s is.0, is.1);
+    begins = λ k book s idle is. ((makes_pass db B grows).begins k book s idle is.0, is.1);
+    opened = λ k n now lease book d pages is. (
+      (makes_pass db B grows).opened k n now lease book d pages.0 is.0,
       record {
         image = is.1;
         relabelled = tt;

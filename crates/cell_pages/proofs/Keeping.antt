@@ -139,17 +139,17 @@ module _ (db : Database) where
 
   module _ (book : Book) where
     -- one version has one image, and one text
-    pub one_image : (v : Version) (a b : List ℕ) → IsImageOf db book v a → IsImageOf db book v b → a ≡ b
-    one_image v a b first second =
-        first.image_is ∙ ap (image_after db) (one_list book v first.list second.list first.listed second.listed) ∙ sym second.image_is
+    pub one_image : KeepsImages db → (v : Version) (a b : List ℕ) → IsImageOf db book v a → IsImageOf db book v b → a ≡ b
+    one_image good v a b first second =
+        first.image_is good ∙ ap (image_after db) (one_list book v first.list second.list first.listed second.listed) ∙ sym (second.image_is good)
 
-    one_text : (v : Version) (a b : List ℕ) → IsWriteOf db book v a → IsWriteOf db book v b → a ≡ b
-    one_text v a b first second =
+    one_text : KeepsImages db → (v : Version) (a b : List ℕ) → IsWriteOf db book v a → IsWriteOf db book v b → a ≡ b
+    one_text good v a b first second =
         let lists : first.before ++ first.last ∷ [] ≡ second.before ++ second.last ∷ [] =
         one_list book v _ _ first.listed second.listed in
         let both = last_is first.before second.before first.last second.last lists in
-        first.text_is ∙ ap (λ (l : List Transaction). text_of (last_changes db l first.last)) both.0
-        ∙ ap (λ (t : Transaction). text_of (last_changes db second.before t)) both.1 ∙ sym second.text_is
+        first.text_is good ∙ ap (λ (l : List Transaction). text_of (last_changes db l first.last)) both.0
+        ∙ ap (λ (t : Transaction). text_of (last_changes db second.before t)) both.1 ∙ sym (second.text_is good)
 
     -- ---- received texts
 
@@ -160,7 +160,7 @@ module _ (db : Database) where
       of = is.of;
       total_is = is.total_is;
       rest = drop MAX_PIECE is.image;
-      image_is = sym (take-append-drop MAX_PIECE is.image) ∙ ap (λ (b : List ℕ). b ++ drop MAX_PIECE is.image) (sym is.bytes_are);
+      image_is = λ good. sym (take-append-drop MAX_PIECE is.image) ∙ ap (λ (b : List ℕ). b ++ drop MAX_PIECE is.image) (sym is.bytes_are);
     }
 
     front_goes_on : (v : Version) (total : ℕ) (bytes : List ℕ) (text : ReceivedText) → text.version ≡ v →
@@ -171,20 +171,20 @@ module _ (db : Database) where
       of = front.of;
       total_is = front.total_is;
       rest = drop MAX_PIECE front.rest;
-      image_is =
-          front.image_is ∙ ap (λ (r : List ℕ). text.bytes ++ r) (sym (take-append-drop MAX_PIECE front.rest))
+      image_is = λ good.
+          front.image_is good ∙ ap (λ (r : List ℕ). text.bytes ++ r) (sym (take-append-drop MAX_PIECE front.rest))
           ∙ sym (append_assoc text.bytes (take MAX_PIECE front.rest) (drop MAX_PIECE front.rest))
-          ∙ ap (λ (b : List ℕ). text.bytes ++ b ++ drop MAX_PIECE front.rest) (sym bytes_are);
+          ∙ ap (λ (b : List ℕ). text.bytes ++ b ++ drop MAX_PIECE front.rest) (sym (bytes_are good));
     }
       where
-        images : piece.image ≡ front.image
-        images =
-            one_image v piece.image front.image piece.of
+        images : KeepsImages db → piece.image ≡ front.image
+        images good =
+            one_image good v piece.image front.image piece.of
             (subst (λ (u : Version). IsImageOf db book u front.image) same front.of)
 
-        bytes_are : bytes ≡ take MAX_PIECE front.rest
-        bytes_are =
-            piece.bytes_are ∙ ap (λ (i : List ℕ). take MAX_PIECE (drop (length text.bytes) i)) (images ∙ front.image_is)
+        bytes_are : KeepsImages db → bytes ≡ take MAX_PIECE front.rest
+        bytes_are good =
+            piece.bytes_are ∙ ap (λ (i : List ℕ). take MAX_PIECE (drop (length text.bytes) i)) (images good ∙ front.image_is good)
             ∙ ap (take MAX_PIECE) (drop_at text.bytes front.rest (length text.bytes) refl)
 
     -- the text with a piece
@@ -231,15 +231,19 @@ module _ (db : Database) where
 
     -- a text that is whole is the image
     pub whole_image : (text : ReceivedText) → is_whole text ≡ true → IsFrontOf db book text → IsImageOf db book text.version text.bytes
-    whole_image text whole front = subst (λ (i : List ℕ). IsImageOf db book text.version i) (same front.rest refl) front.of
+    whole_image text whole front = record {
+      list = front.of.list;
+      listed = front.of.listed;
+      image_is = λ good. sym (same good front.rest refl) ∙ front.of.image_is good;
+    }
       where
         size : length text.bytes ≡ length front.image
         size = eq_true (length text.bytes) text.total whole ∙ front.total_is
 
-        same : (rest : List ℕ) → front.rest ≡ rest → front.image ≡ text.bytes
-        same [] is = front.image_is ∙ ap (λ (r : List ℕ). text.bytes ++ r) is ∙ append-nil text.bytes
-        same (x ∷ xs) is =
-            let whole_is : front.image ≡ text.bytes ++ x ∷ xs = front.image_is ∙ ap (λ (r : List ℕ). text.bytes ++ r) is in
+        same : KeepsImages db → (rest : List ℕ) → front.rest ≡ rest → front.image ≡ text.bytes
+        same good [] is = front.image_is good ∙ ap (λ (r : List ℕ). text.bytes ++ r) is ∙ append-nil text.bytes
+        same good (x ∷ xs) is =
+            let whole_is : front.image ≡ text.bytes ++ x ∷ xs = front.image_is good ∙ ap (λ (r : List ℕ). text.bytes ++ r) is in
             absurd (omega (arith, size, ap length whole_is, length-append text.bytes (x ∷ xs)))
 
     -- ---- kept writes
@@ -251,7 +255,7 @@ module _ (db : Database) where
       write = subst (λ (u : Version). IsWriteOn db book u new is.0) (sym same) is.1;
       len = is.3;
       count = length-replicate pieces None ∙ is.2;
-      pieces = none_yet is.0 0 pieces;
+      pieces = λ good. none_yet is.0 0 pieces;
     }
 
     set_length : (pieces : List (Option (List ℕ))) (number : ℕ) (piece : Option (List ℕ)) → length (set pieces number piece) ≡ length pieces
@@ -260,68 +264,69 @@ module _ (db : Database) where
     set_length (x ∷ pieces) (suc number) piece = ap suc (set_length pieces number piece)
 
     pub piece_kept : (v new : Version) (number : ℕ) (bytes : List ℕ) (kept : Option KeptWrite) →
-        Carries db book (body.PutPiece new number bytes) → KeptIsWrite db book v kept → KeptIsWrite db book v (kept_with new number bytes kept)
+        Carries db book (body.PutPiece new number bytes) → KeptIsWrite db book v kept →
+        KeptIsWrite db book v (kept_with new number bytes kept)
     piece_kept v new number bytes None carries is = tt
     piece_kept v new number bytes (Some w) carries is =
         cond_both (version_eq w.new new && nat_lt number (length w.pieces)) (record w { pieces = set w.pieces number (Some bytes) }) w
         (λ (w : KeptWrite). IsKeptOn db book v w) (λ fits. with_it (same_of_eq w.new new (and_both (version_eq w.new new) _ fits).0))
         (λ _. is)
       where
-        with_it : w.new ≡ new → IsKeptOn db book v (record w { pieces = set w.pieces number (Some bytes) })
-        with_it same =
+        bytes_are : KeepsImages db → w.new ≡ new → bytes ≡ numbered_piece is.text (0 + number)
+        bytes_are good same =
             let texts : carries.0 ≡ is.text =
-            one_text w.new carries.0 is.text (subst (λ (u : Version). IsWriteOf db book u carries.0) (sym same) carries.1) is.write.0 in
+            one_text good w.new carries.0 is.text (subst (λ (u : Version). IsWriteOf db book u carries.0) (sym same) carries.1)
+            is.write.0 in
             let place : 0 + number ≡ number = omega arith in
-            let bytes_are : bytes ≡ numbered_piece is.text (0 + number) =
-            carries.2 ∙ ap (λ (t : List ℕ). numbered_piece t number) texts ∙ ap (λ (n : ℕ). numbered_piece is.text n) (sym place) in
-            record {
-              text = is.text;
-              write = is.write;
-              len = is.len;
-              count = set_length w.pieces number (Some bytes) ∙ is.count;
-              pieces = one_more is.text 0 number bytes w.pieces bytes_are is.pieces;
-            }
+            carries.2 ∙ ap (λ (t : List ℕ). numbered_piece t number) texts ∙ ap (λ (n : ℕ). numbered_piece is.text n) (sym place)
+
+        with_it : w.new ≡ new → IsKeptOn db book v (record w { pieces = set w.pieces number (Some bytes) })
+        with_it same = record {
+          text = is.text;
+          write = is.write;
+          len = is.len;
+          count = set_length w.pieces number (Some bytes) ∙ is.count;
+          pieces = λ good. one_more is.text 0 number bytes w.pieces (bytes_are good same) (is.pieces good);
+        }
 
     pub but_kept : (v new : Version) (kept : Option KeptWrite) → KeptIsWrite db book v kept → KeptIsWrite db book v (kept_but new kept)
     but_kept v new None is = tt
     but_kept v new (Some w) is = cond_both (version_eq w.new new) None (Some w) (KeptIsWrite db book v) (λ _. tt) (λ _. is)
 
     -- a kept write that is whole leads to the image of its version
-    pub whole_kept : KeepsImages db → (v new : Version) (image : List ℕ) (kept : Option KeptWrite) (changes : List Change) →
+    pub whole_kept : (v new : Version) (image : List ℕ) (kept : Option KeptWrite) (changes : List Change) →
         whole_write new kept ≡ Some changes → IsImageOf db book v image → KeptIsWrite db book v kept →
         IsImageOf db book new (effect image (logged (length image) changes))
-    whole_kept good v new image None changes whole is kept = absurd (cc)
-    whole_kept good v new image (Some w) changes whole is kept = by (version_eq w.new new) refl whole
+    whole_kept v new image None changes whole is kept = absurd (cc)
+    whole_kept v new image (Some w) changes whole is kept = by (version_eq w.new new) refl whole
       where
         write : IsWriteOf db book w.new kept.text
         write = kept.write.0
 
-        written : List Change
-        written = last_changes db write.before write.last
+        before_is : KeepsImages db → image ≡ image_after db write.before
+        before_is good = is.image_is good ∙ ap (image_after db) (one_list book v is.list write.before is.listed kept.write.1)
 
-        before_is : image ≡ image_after db write.before
-        before_is = is.image_is ∙ ap (image_after db) (one_list book v is.list write.before is.listed kept.write.1)
-
-        spelled : (o : Option (List Change)) (joint : List ℕ) → joint ≡ kept.text → changes_of_length w.len joint ≡ Some changes →
+        spelled : KeepsImages db → (joint : List ℕ) → joint ≡ kept.text → changes_of_length w.len joint ≡ Some changes →
             changes ≡ last_changes db write.before write.last
-        spelled o joint same is = long (length joint == w.len) is
+        spelled good joint same is = long (length joint == w.len) is
           where
             long : (t : Bool) → cond t (changes_in joint) None ≡ Some changes → changes ≡ last_changes db write.before write.last
             long true at =
                 some_is changes (last_changes db write.before write.last)
-                (sym at ∙ ap changes_in (same ∙ write.text_is) ∙ changes_in_text (last_changes db write.before write.last) write.spelled)
+                (sym at ∙ ap changes_in (same ∙ write.text_is good)
+                ∙ changes_in_text (last_changes db write.before write.last) (write.spelled good))
             long false at = absurd (cc)
 
-        read : (o : Option (List ℕ)) → joined w.pieces ≡ o → option_and_then (changes_of_length w.len) o ≡ Some changes →
+        read : KeepsImages db → (o : Option (List ℕ)) → joined w.pieces ≡ o → option_and_then (changes_of_length w.len) o ≡ Some changes →
             changes ≡ last_changes db write.before write.last
-        read None at is = absurd (cc)
-        read (Some joint) at is = spelled None joint (joined_text kept.text w.pieces joint kept.pieces kept.count at) is
+        read good None at is = absurd (cc)
+        read good (Some joint) at is = spelled good joint (joined_text kept.text w.pieces joint (kept.pieces good) kept.count at) is
 
-        leads : changes ≡ last_changes db write.before write.last →
+        leads : KeepsImages db → changes ≡ last_changes db write.before write.last →
             effect image (logged (length image) changes) ≡ image_after db (write.before ++ write.last ∷ [])
-        leads are =
+        leads good are =
             logged_effect image (length image) changes refl ∙ ap (effect image) are
-            ∙ ap (λ (i : List ℕ). effect i (last_changes db write.before write.last)) before_is
+            ∙ ap (λ (i : List ℕ). effect i (last_changes db write.before write.last)) (before_is good)
             ∙ changes_lead db.head db.block (image_after db write.before) (image_after db (write.before ++ write.last ∷ [])) good.block
             (subst (λ (i : List ℕ). length (image_after db write.before) ≤ length i)
             (sym (image_from-append db [] write.before (write.last ∷ [])))
@@ -334,6 +339,6 @@ module _ (db : Database) where
             (record {
               list = write.before ++ write.last ∷ [];
               listed = write.listed;
-              image_is = leads (read (joined w.pieces) refl at);
+              image_is = λ good. leads good (read good (joined w.pieces) refl at);
             })
         by false same at = absurd (cc)

@@ -25,30 +25,32 @@ use Rattle.cell_pages.specs.Says.{OutputSays, AllSay}
 
 -- ---- the book
 
-pub grew_none : (k : ℕ) (book : Book) → Grew k book book
-grew_none k book = ([], refl, tt)
+pub grew_none : (lease : Bool) (k : ℕ) (book : Book) → Grew lease k book book
+grew_none lease k book = ([], refl, tt)
 
-next_append : (k : ℕ) (book : Book) (newer more : List BookVersion) → AreNext k book newer → AreNext k (newer ++ book) more →
-    AreNext k book (more ++ newer)
-next_append k book newer [] first second = first
-next_append k book newer (b ∷ more) first second = (
-  subst (λ (g : Book). IsNext k g b) (sym (append_assoc more newer book)) second.0,
-  next_append k book newer more first second.1,
+next_append : (lease : Bool) (k : ℕ) (book : Book) (newer more : List BookVersion) → AreNext lease k book newer →
+    AreNext lease k (newer ++ book) more →
+    AreNext lease k book (more ++ newer)
+next_append lease k book newer [] first second = first
+next_append lease k book newer (b ∷ more) first second = (
+  subst (λ (g : Book). IsNext lease k g b) (sym (append_assoc more newer book)) second.0,
+  next_append lease k book newer more first second.1,
 )
 
-pub grew_then : (k : ℕ) (a b c : Book) → Grew k a b → Grew k b c → Grew k a c
-grew_then k a b c first second = (
+pub grew_then : (lease : Bool) (k : ℕ) (a b c : Book) → Grew lease k a b → Grew lease k b c → Grew lease k a c
+grew_then lease k a b c first second = (
   second.0 ++ first.0,
   second.1 ∙ ap (λ (g : Book). second.0 ++ g) first.1 ∙ sym (append_assoc second.0 first.0 a),
-  next_append k a first.0 second.0 first.2 (subst (λ (g : Book). AreNext k g second.0) first.1 second.2),
+  next_append lease k a first.0 second.0 first.2 (subst (λ (g : Book). AreNext lease k g second.0) first.1 second.2),
 )
 
 -- what one more version keeps, all that is added keeps
-pub grew_keeps : (k : ℕ) (Q : Book → Type 0) → ((book : Book) (b : BookVersion) → IsNext k book b → Q book → Q (b ∷ book)) →
-    (book after : Book) → Grew k book after → Q book → Q after
-grew_keeps k Q one book after grew is = subst Q (sym grew.1) (each grew.0 grew.2)
+pub grew_keeps : (lease : Bool) (k : ℕ) (Q : Book → Type 0) →
+    ((book : Book) (b : BookVersion) → IsNext lease k book b → Q book → Q (b ∷ book)) →
+    (book after : Book) → Grew lease k book after → Q book → Q after
+grew_keeps lease k Q one book after grew is = subst Q (sym grew.1) (each grew.0 grew.2)
   where
-    each : (newer : List BookVersion) → AreNext k book newer → Q (newer ++ book)
+    each : (newer : List BookVersion) → AreNext lease k book newer → Q (newer ++ book)
     each [] all = is
     each (b ∷ newer) all = one (newer ++ book) b all.0 (each newer all.1)
 
@@ -59,19 +61,19 @@ after_version d (Commit version changes image) = refl
 after_version d (Relabel version) = refl
 after_version d (Install version image) = refl
 
-module _ (D : Book → Durable → Type 0) (k : ℕ) where
-  pub leads_append : (book middle later : Book) (d e last : Durable) (calls more : List Made) → Leads D k book d calls middle e →
-      Leads D k middle e more later last → Leads D k book d (calls ++ more) later last
+module _ (D : Book → Durable → Type 0) (lease : Bool) (k : ℕ) where
+  pub leads_append : (book middle later : Book) (d e last : Durable) (calls more : List Made) → Leads D lease k book d calls middle e →
+      Leads D lease k middle e more later last → Leads D lease k book d (calls ++ more) later last
   leads_append book middle later d e last [] more first second =
-      subst (λ (g : Book). Leads D k g d more later last) (sym first.0)
-      (subst (λ (c : Durable). Leads D k middle c more later last) (sym first.1) second)
+      subst (λ (g : Book). Leads D lease k g d more later last) (sym first.0)
+      (subst (λ (c : Durable). Leads D lease k middle c more later last) (sym first.1) second)
   leads_append book middle later d e last (made ∷ calls) more first second = (
     first.0,
     leads_append (book_with k book d made) middle later (durable_after d made.call) e last calls more first.1 second,
   )
 
   -- where they end
-  pub leads_to : (book later : Book) (d last : Durable) (calls : List Made) → Leads D k book d calls later last →
+  pub leads_to : (book later : Book) (d last : Durable) (calls : List Made) → Leads D lease k book d calls later last →
       (entered book (entries_from k d.version calls) ≡ later) × (durable_after_all d calls ≡ last) × D later last
   leads_to book later d last [] leads = (
     leads.0,
@@ -86,8 +88,8 @@ module _ (D : Book → Durable → Type 0) (k : ℕ) where
       )
 
   -- the first of them alone
-  pub leads_take : (book later : Book) (d last : Durable) (calls : List Made) (count : ℕ) → Leads D k book d calls later last →
-      (g : Book) × (c : Durable) × Leads D k book d (take count calls) g c
+  pub leads_take : (book later : Book) (d last : Durable) (calls : List Made) (count : ℕ) → Leads D lease k book d calls later last →
+      (g : Book) × (c : Durable) × Leads D lease k book d (take count calls) g c
   leads_take book later d last [] zero leads = (book, d, (refl, refl, leads.2))
   leads_take book later d last [] (suc n) leads = (book, d, (refl, refl, leads.2))
   leads_take book later d last (made ∷ calls) zero leads = (book, d, (refl, refl, leads.0.0))
@@ -95,10 +97,11 @@ module _ (D : Book → Durable → Type 0) (k : ℕ) where
       let w = leads_take (book_with k book d made) later (durable_after d made.call) last calls n leads.1 in (w.0, w.1, (leads.0, w.2))
 
   -- the book grew
-  pub leads_grew : (book later : Book) (d last : Durable) (calls : List Made) → Leads D k book d calls later last → Grew k book later
-  leads_grew book later d last [] leads = subst (λ (g : Book). Grew k book g) leads.0 (grew_none k book)
+  pub leads_grew : (book later : Book) (d last : Durable) (calls : List Made) → Leads D lease k book d calls later last →
+      Grew lease k book later
+  leads_grew book later d last [] leads = subst (λ (g : Book). Grew lease k book g) leads.0 (grew_none lease k book)
   leads_grew book later d last (made ∷ calls) leads =
-      grew_then k book (book_with k book d made) later leads.0.1
+      grew_then lease k book (book_with k book d made) later leads.0.1
       (leads_grew (book_with k book d made) later (durable_after d made.call) last calls leads.1)
 
 -- ---- packets

@@ -5,7 +5,10 @@ pub mod Leading
 pub mod LoggedChanges
 pub mod Making
 pub mod Once
+pub mod Rising
 pub mod Runs
 pub mod Texts
 pub mod Versions
 pub mod Walk
+pub mod WalkEvents
+pub mod WalkRecovery

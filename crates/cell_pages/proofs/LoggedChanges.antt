@@ -141,7 +141,8 @@ put_filled image at bytes =
     -- filled twice is filled once
     twice : extended (extended image at) at ≡ extended image at
     twice =
-        let enough : at - length (extended image at) ≡ 0 = (let h : length (extended image at) ≡ max (length image) at = filled image at in omega arith) in
+        let enough : at - length (extended image at) ≡ 0 =
+        (let h : length (extended image at) ≡ max (length image) at = filled image at in omega arith) in
         ap (λ (n : ℕ). extended image at ++ replicate n 0) enough ∙ append-nil (extended image at)
 
     front : take at (extended (extended image at) at) ≡ take at (extended image at)

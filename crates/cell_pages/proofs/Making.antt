@@ -21,13 +21,14 @@ use Rattle.cell_model.specs.Writes.{next_version, own_write_begun, write_bodies}
 use Rattle.cell_laws.specs.Invariant.{AllVersions}
 use Rattle.cell_laws.specs.Laws.{AllBelow}
 use Rattle.cell_laws.proofs.Parts.{eq_true, no}
-use Rattle.cell_pages.specs.Growth.{HasEpoch, IsMadeBy, OwnsEpoch, IsNext, Grew}
+use Rattle.cell_pages.specs.Growth.{HasEpoch, IsMadeBy, OwnsEpoch, IsNext, AreNext, Grew}
 use Rattle.cell_pages.specs.Laws.{IsNew, MadeOnce}
 use Rattle.cell_pages.specs.Moves.{AllBodies, transaction_of, Moves}
-use Rattle.cell_pages.specs.Parts.{AtMost, IsReached, MakerWentOn, KeptLeadsOn, MakesVersions}
-use Rattle.cell_pages.specs.Passes.{InStep, Pass}
+use Rattle.cell_pages.specs.Pages.{VersionsRise}
+use Rattle.cell_pages.specs.Parts.{AtMost, IsGreatest, IsReached, MakerWentOn, KeptLeadsOn, MakesVersions}
+use Rattle.cell_pages.specs.Passes.{is_held, InStep, Pass}
 use Rattle.cell_pages.proofs.Leading.{grew_keeps}
-use Rattle.cell_pages.proofs.Versions.{same_of_eq, less_of_lt, at_most_less, at_most_same}
+use Rattle.cell_pages.proofs.Versions.{same_of_eq, less_of_lt, at_most_less, at_most_same, lt_of_epoch, lt_of_next}
 
 -- ---- versions of the book
 
@@ -57,7 +58,8 @@ has_below e epoch (b ∷ book) below (inl same) =
 has_below e epoch (b ∷ book) below (inr has) = has_below e epoch book below.1 has
 
 -- one epoch has one maker
-one_maker : (j k epoch : ℕ) (book : Book) → HasEpoch epoch book → AllVersions (IsMadeBy j epoch) book → AllVersions (IsMadeBy k epoch) book →
+one_maker : (j k epoch : ℕ) (book : Book) → HasEpoch epoch book → AllVersions (IsMadeBy j epoch) book →
+    AllVersions (IsMadeBy k epoch) book →
     j ≡ k
 one_maker j k epoch [] has first second = absurd has
 one_maker j k epoch (b ∷ book) (inl is) first second = sym (first.0 is) ∙ second.0 is
@@ -65,13 +67,14 @@ one_maker j k epoch (b ∷ book) (inr has) first second = one_maker j k epoch bo
 
 -- ---- what another server adds
 
-reached_next : (j k : ℕ) (v : Version) (book : Book) (b : BookVersion) → (j ≡ k → ⊥) → IsNext k book b → AllVersions (IsReached j v) book →
+reached_next : (lease : Bool) (j k : ℕ) (v : Version) (book : Book) (b : BookVersion) → (j ≡ k → ⊥) → IsNext lease k book b →
+    AllVersions (IsReached j v) book →
     AllVersions (IsReached j v) (b ∷ book)
-reached_next j k v book b other next all = (λ is. absurd (other (sym is ∙ next.maker)), all)
+reached_next lease j k v book b other next all = (λ is. absurd (other (sym is ∙ next.maker)), all)
 
-owns_next : (j k epoch : ℕ) (book : Book) (b : BookVersion) → (j ≡ k → ⊥) → IsNext k book b → OwnsEpoch j book epoch →
+owns_next : (lease : Bool) (j k epoch : ℕ) (book : Book) (b : BookVersion) → (j ≡ k → ⊥) → IsNext lease k book b → OwnsEpoch j book epoch →
     OwnsEpoch j (b ∷ book) epoch
-owns_next j k epoch book b other next owns = (inr owns.0, (is_made, owns.1))
+owns_next lease j k epoch book b other next owns = (inr owns.0, (is_made, owns.1))
   where
     by : b.version.epoch ≡ epoch → AllBelow b.version.epoch book ⊎ OwnsEpoch k book b.version.epoch → b.maker ≡ j
     by same (inl below) =
@@ -83,26 +86,41 @@ owns_next j k epoch book b other next owns = (inr owns.0, (is_made, owns.1))
     is_made : b.version.epoch ≡ epoch → b.maker ≡ j
     is_made same = by same next.epoch
 
-pub others_went_on : (j k : ℕ) (book later : Book) (v : Version) → (j ≡ k → ⊥) → Grew k book later → AllVersions (IsReached j v) book →
+pub others_went_on : (lease : Bool) (j k : ℕ) (book later : Book) (v : Version) → (j ≡ k → ⊥) → Grew lease k book later →
+    AllVersions (IsReached j v) book →
     AllVersions (IsReached j v) later
-others_went_on j k book later v other grew all =
-    grew_keeps k (λ g. AllVersions (IsReached j v) g) (λ g b next is. reached_next j k v g b other next is) book later grew all
+others_went_on lease j k book later v other grew all =
+    grew_keeps lease k (λ g. AllVersions (IsReached j v) g) (λ g b next is. reached_next lease j k v g b other next is) book later grew all
 
-pub others_make : (j k : ℕ) (book later : Book) (s : Server) → (j ≡ k → ⊥) → Grew k book later → MakesVersions j book s →
-    MakesVersions j later s
-others_make j k book later s other grew makes = record {
-  went_on = others_went_on j k book later s.version other grew makes.went_on;
+-- a server that is in lease finds the book as it was
+greatest_still : (lease own : Bool) (k : ℕ) (v : Version) (book later : Book) → (own ≡ true → lease ≡ true → ⊥) → Grew lease k book later →
+    own ≡ true → IsGreatest v book → IsGreatest v later
+greatest_still lease own k v book later alone grew leased greatest =
+    subst (IsGreatest v) (sym grew.1) (by grew.0 grew.2)
+  where
+    by : (newer : List BookVersion) → AreNext lease k book newer → IsGreatest v (newer ++ book)
+    by [] all = greatest
+    by (b ∷ newer) all = absurd (alone leased all.0.leased)
+
+pub others_make : (lease own : Bool) (j k : ℕ) (book later : Book) (s : Server) → (j ≡ k → ⊥) → (own ≡ true → lease ≡ true → ⊥) →
+    Grew lease k book later → MakesVersions j own book s → MakesVersions j own later s
+others_make lease own j k book later s other alone grew makes = record {
+  went_on = others_went_on lease j k book later s.version other grew makes.went_on;
   owns = λ is.
-      grew_keeps k (λ g. OwnsEpoch j g s.version.epoch) (λ g b next owns. owns_next j k s.version.epoch g b other next owns) book later grew
-      (makes.owns is);
+      grew_keeps lease k (λ g. OwnsEpoch j g s.version.epoch)
+      (λ g b next owns. owns_next lease j k s.version.epoch g b other next owns) book later grew (makes.owns is);
+  greatest = λ leased is. greatest_still lease own k s.version book later alone grew leased (makes.greatest leased is);
   no_flight = makes.no_flight;
   kept = makes.kept;
 }
 
 -- ---- what holds of the book
 
-pub once_grew : (k : ℕ) (book later : Book) → Grew k book later → MadeOnce book → MadeOnce later
-once_grew k book later grew once = grew_keeps k MadeOnce (λ g b next is. (next.new, is)) book later grew once
+pub once_grew : (lease : Bool) (k : ℕ) (book later : Book) → Grew lease k book later → MadeOnce book → MadeOnce later
+once_grew lease k book later grew once = grew_keeps lease k MadeOnce (λ g b next is. (next.new, is)) book later grew once
+
+pub rise_grew : (lease : Bool) (k : ℕ) (book later : Book) → Grew lease k book later → VersionsRise book → VersionsRise later
+rise_grew lease k book later grew rise = grew_keeps lease k VersionsRise (λ g b next is. (next.above, is)) book later grew rise
 
 -- ---- the moves
 
@@ -138,7 +156,7 @@ but_leads : (v new : Version) (kept : Option KeptWrite) → KeptLeadsOn v kept �
 but_leads v new None leads = tt
 but_leads v new (Some w) leads = cond_both (version_eq w.new new) _ _ (KeptLeadsOn v) (λ _. tt) (λ _. leads)
 
-whole_leads : (v new : Version) (kept : Option KeptWrite) (one : List Change) → whole_write new kept ≡ Some one → KeptLeadsOn v kept →
+pub whole_leads : (v new : Version) (kept : Option KeptWrite) (one : List Change) → whole_write new kept ≡ Some one → KeptLeadsOn v kept →
     version_lt v new ≡ true
 whole_leads v new None one is leads = absurd (cc)
 whole_leads v new (Some w) one is leads = by (version_eq w.new new) refl is
@@ -155,24 +173,35 @@ ready_not (Relabel poll) is = refl
 ready_not (Send poll spread) is = refl
 ready_not (Ready poll spread announced) is = no (sym is)
 
-no_content : (bodies : List Body) → AllBodies (λ b. Unit {0}) bodies
+pub not_sending : (phase : PhaseRecord) → is_held phase ≡ false → is_sending phase ≡ false
+not_sending NoPhase is = refl
+not_sending (Poll poll) is = refl
+not_sending (Fetch poll best host) is = refl
+not_sending (Relabel poll) is = refl
+not_sending (Send poll spread) is = no (sym is)
+not_sending (Ready poll spread announced) is = no (sym is)
+
+pub no_content : (bodies : List Body) → AllBodies (λ b. Unit {0}) bodies
 no_content [] = tt
 no_content (b ∷ bodies) = (tt, no_content bodies)
 
 -- a database that was taken over
-taken : (k : ℕ) (book : Book) (s : Server) (new : Version) → is_sending s.phase ≡ false → version_lt s.version new ≡ true →
-    MakesVersions k book s → (image : List ℕ) → MakesVersions k book (record s { version = new; image = image; kept = None; received = None })
-taken k book s new idle less makes image = record {
+taken : (k : ℕ) (lease : Bool) (book : Book) (s : Server) (new : Version) → is_sending s.phase ≡ false → version_lt s.version new ≡ true →
+    MakesVersions k lease book s → (image : List ℕ) →
+    MakesVersions k lease book (record s { version = new; image = image; kept = None; received = None })
+taken k lease book s new idle less makes image = record {
   went_on = reaches k s.version new book less makes.went_on;
   owns = λ is. no (sym idle ∙ is);
+  greatest = λ leased is. no (sym idle ∙ is);
   no_flight = makes.no_flight;
   kept = tt;
 }
 
-module _ (db : Database) (B : Book → Type 0) (grows : (k : ℕ) (book later : Book) → Grew k book later → B book → B later) where
+module _ (db : Database) (B : Book → Type 0)
+    (grows : (lease : Bool) (k : ℕ) (book later : Book) → Grew lease k book later → B book → B later) where
   module _ (m : Member) (now : ℕ) (lease : Bool) (some : 0 < now) where
     abbrev F : Book → Server → Type 0
-    F = InStep MakesVersions B m.me now (lease ≡ true)
+    F = InStep MakesVersions B m.me now lease
 
     -- what was made, and others below, are below a moment past the own epoch
     all_below : (book : Book) (s : Server) → lease ≡ true → s.version.epoch < now → F book s →
@@ -203,10 +232,12 @@ module _ (db : Database) (B : Book → Type 0) (grows : (k : ℕ) (book later : 
       transactions = list_or_none book old;
     }
 
-    relabels_keeps : (book : Book) (s : Server) (poll : Polled) → lease ≡ true → is_sending s.phase ≡ false → s.version.epoch < now → F book s →
-        Grew m.me book (page_relabelled book s.version ∷ book)
+    relabels_keeps : (book : Book) (s : Server) (poll : Polled) → lease ≡ true → is_sending s.phase ≡ false → s.version.epoch < now →
+        F book s →
+        Grew lease m.me book (page_relabelled book s.version ∷ book)
         × F (page_relabelled book s.version ∷ book) (relabelled_to m s poll (first_of_epoch now)).server
-    relabels_keeps book s poll leased idle past f = (grew, (makes, (λ other. absurd (other refl), f.1), grows m.me book later grew f.2))
+    relabels_keeps book s poll leased idle past f =
+        (grew, (makes, (λ other. absurd (other refl), f.1), grows lease m.me book later grew f.2))
       where
         later : Book
         later = page_relabelled book s.version ∷ book
@@ -221,14 +252,25 @@ module _ (db : Database) (B : Book → Type 0) (grows : (k : ℕ) (book later : 
             (versions_map (λ b. b.version.epoch < now) (λ b. first_of_epoch now ≡ b.version → ⊥) book
             (λ b less same. let e : now ≡ b.version.epoch = ap (λ (v : Version). v.epoch) same in omega arith) below)
 
-        grew : Grew m.me book (page_relabelled book s.version ∷ book)
+        grew : Grew lease m.me book (page_relabelled book s.version ∷ book)
         grew = (
           page_relabelled book s.version ∷ [],
           refl,
-          (record { maker = refl; new = is_new; epoch = inl (below_all now book some below) }, tt),
+          (
+            record {
+              leased = leased;
+              maker = refl;
+              new = is_new;
+              above =
+                  versions_map (λ b. b.version.epoch < now) (λ b. version_lt b.version (first_of_epoch now) ≡ true) book
+                  (λ b less. lt_of_epoch b.version (first_of_epoch now) less) below;
+              epoch = inl (below_all now book some below);
+            },
+            tt,
+          ),
         )
 
-        makes : MakesVersions m.me (page_relabelled book s.version ∷ book) (relabelled_to m s poll (first_of_epoch now)).server
+        makes : MakesVersions m.me lease (page_relabelled book s.version ∷ book) (relabelled_to m s poll (first_of_epoch now)).server
         makes = record {
           went_on = (
             λ own. at_most_same (first_of_epoch now),
@@ -241,6 +283,11 @@ module _ (db : Database) (B : Book → Type 0) (grows : (k : ℕ) (book later : 
                   λ same. refl,
                   versions_map (λ b. b.version.epoch < now) (IsMadeBy m.me now) book (λ b less same. absurd (omega arith)) below,
                 ),
+              );
+          greatest =
+              λ _ sends. (
+                at_most_same (first_of_epoch now),
+                versions_map (λ b. b.version.epoch < now) (λ b. AtMost b.version (first_of_epoch now)) book (λ b less. inl less) below,
               );
           no_flight = λ _. f.0.no_flight (ready_not s.phase idle);
           kept = tt;
@@ -257,12 +304,12 @@ module _ (db : Database) (B : Book → Type 0) (grows : (k : ℕ) (book later : 
     }
 
     commits_keeps : (book : Book) (s : Server) (id : ℕ) (call answer image : List ℕ) (changes : List Change) (poll : Polled)
-        (spread : Spread) (announced : Version) → s.phase ≡ Ready poll spread announced → F book s →
-        Grew m.me book (page_committed book s.version (transaction_of now call) ∷ book)
+        (spread : Spread) (announced : Version) → lease ≡ true → s.phase ≡ Ready poll spread announced → F book s →
+        Grew lease m.me book (page_committed book s.version (transaction_of now call) ∷ book)
         × F (page_committed book s.version (transaction_of now call) ∷ book)
         (own_write_begun m s now id call answer image changes poll spread).server
-    commits_keeps book s id call answer image changes poll spread announced at f =
-        (grew, (makes, (λ other. absurd (other refl), f.1), grows m.me book later grew f.2))
+    commits_keeps book s id call answer image changes poll spread announced leased at f =
+        (grew, (makes, (λ other. absurd (other refl), f.1), grows lease m.me book later grew f.2))
       where
         page : BookVersion
         page = page_committed book s.version (transaction_of now call)
@@ -296,10 +343,25 @@ module _ (db : Database) (B : Book → Type 0) (grows : (k : ℕ) (book later : 
             (versions_two (IsReached m.me s.version) (IsMadeBy m.me s.version.epoch) (λ b. next_version s.version ≡ b.version → ⊥) book
             differs f.0.went_on owned.1)
 
-        grew : Grew m.me book later
-        grew = (page ∷ [], refl, (record { maker = refl; new = is_new; epoch = inr owned }, tt))
+        grew : Grew lease m.me book later
+        grew = (
+          page ∷ [],
+          refl,
+          (
+            record {
+              leased = leased;
+              maker = refl;
+              new = is_new;
+              above =
+                  versions_map (λ b. AtMost b.version s.version) (λ b. version_lt b.version (next_version s.version) ≡ true) book
+                  (λ b is. lt_of_next b.version s.version is) (f.0.greatest leased (ap is_sending at));
+              epoch = inr owned;
+            },
+            tt,
+          ),
+        )
 
-        makes : MakesVersions m.me later (own_write_begun m s now id call answer image changes poll spread).server
+        makes : MakesVersions m.me lease later (own_write_begun m s now id call answer image changes poll spread).server
         makes = record {
           went_on = (
             λ own. at_most_same (next_version s.version),
@@ -307,17 +369,25 @@ module _ (db : Database) (B : Book → Type 0) (grows : (k : ℕ) (book later : 
                 (λ b is own. at_most_less b.version s.version (next_version s.version) (is own) (inr (refl, omega arith))) f.0.went_on,
           );
           owns = λ _. (inl refl, (λ same. refl, owned.1));
+          greatest =
+              λ leased sends. (
+                at_most_same (next_version s.version),
+                versions_map (λ b. AtMost b.version s.version) (λ b. AtMost b.version (next_version s.version)) book
+                    (λ b is. at_most_less b.version s.version (next_version s.version) is (inr (refl, omega arith)))
+                    (f.0.greatest leased (ap is_sending at)),
+              );
           no_flight = λ is. no (sym is);
           kept = tt;
         }
 
-    pub makes_moves : Moves db m now (lease ≡ true) F (MakerWentOn m.me) (λ book b. Unit {0})
+    pub makes_moves : Moves db m now lease F (λ book d. MakerWentOn m.me book d × B book) (λ book b. Unit {0})
     makes_moves = record {
       phase = record {
         votes = λ book s votes starts beacon f. (
           record {
             went_on = f.0.went_on;
             owns = f.0.owns;
+            greatest = f.0.greatest;
             no_flight = f.0.no_flight;
             kept = f.0.kept;
           },
@@ -328,6 +398,7 @@ module _ (db : Database) (B : Book → Type 0) (grows : (k : ℕ) (book later : 
           record {
             went_on = f.0.went_on;
             owns = f.0.owns;
+            greatest = f.0.greatest;
             no_flight = f.0.no_flight;
             kept = f.0.kept;
           },
@@ -339,6 +410,7 @@ module _ (db : Database) (B : Book → Type 0) (grows : (k : ℕ) (book later : 
           record {
             went_on = f.0.went_on;
             owns = λ is. no (sym idle ∙ is);
+            greatest = λ leased is. no (sym idle ∙ is);
             no_flight = λ _. refl;
             kept = f.0.kept;
           },
@@ -349,6 +421,7 @@ module _ (db : Database) (B : Book → Type 0) (grows : (k : ℕ) (book later : 
           record {
             went_on = f.0.went_on;
             owns = λ is. no (sym idle ∙ is);
+            greatest = λ leased is. no (sym idle ∙ is);
             no_flight = λ _. none;
             kept = f.0.kept;
           },
@@ -359,6 +432,7 @@ module _ (db : Database) (B : Book → Type 0) (grows : (k : ℕ) (book later : 
           record {
             went_on = f.0.went_on;
             owns = λ is. f.0.owns (sym (sending_held s.phase k) ∙ is);
+            greatest = λ leased is. f.0.greatest leased (sym (sending_held s.phase k) ∙ is);
             no_flight = λ is. f.0.no_flight (sym (ready_held s.phase k) ∙ is);
             kept = f.0.kept;
           },
@@ -369,6 +443,7 @@ module _ (db : Database) (B : Book → Type 0) (grows : (k : ℕ) (book later : 
           record {
             went_on = f.0.went_on;
             owns = λ _. f.0.owns (ap is_sending at);
+            greatest = λ leased _. f.0.greatest leased (ap is_sending at);
             no_flight = λ is. no (sym is);
             kept = f.0.kept;
           },
@@ -379,6 +454,7 @@ module _ (db : Database) (B : Book → Type 0) (grows : (k : ℕ) (book later : 
           record {
             went_on = f.0.went_on;
             owns = λ _. f.0.owns (ap is_sending at);
+            greatest = λ leased _. f.0.greatest leased (ap is_sending at);
             no_flight = λ _. refl;
             kept = f.0.kept;
           },
@@ -391,6 +467,7 @@ module _ (db : Database) (B : Book → Type 0) (grows : (k : ℕ) (book later : 
           record {
             went_on = f.0.went_on;
             owns = f.0.owns;
+            greatest = f.0.greatest;
             no_flight = f.0.no_flight;
             kept = f.0.kept;
           },
@@ -401,6 +478,7 @@ module _ (db : Database) (B : Book → Type 0) (grows : (k : ℕ) (book later : 
           record {
             went_on = f.0.went_on;
             owns = f.0.owns;
+            greatest = f.0.greatest;
             no_flight = f.0.no_flight;
             kept = subst (λ (v : Version). version_lt v new ≡ true) (sym (same_of_eq s.version old same)) less;
           },
@@ -411,6 +489,7 @@ module _ (db : Database) (B : Book → Type 0) (grows : (k : ℕ) (book later : 
           record {
             went_on = f.0.went_on;
             owns = f.0.owns;
+            greatest = f.0.greatest;
             no_flight = f.0.no_flight;
             kept = piece_leads s.version new number bytes s.kept f.0.kept;
           },
@@ -421,6 +500,7 @@ module _ (db : Database) (B : Book → Type 0) (grows : (k : ℕ) (book later : 
           record {
             went_on = f.0.went_on;
             owns = f.0.owns;
+            greatest = f.0.greatest;
             no_flight = f.0.no_flight;
             kept = but_leads s.version new s.kept f.0.kept;
           },
@@ -430,22 +510,22 @@ module _ (db : Database) (B : Book → Type 0) (grows : (k : ℕ) (book later : 
       };
       received = record {
         takes = λ book s poll old new says idle same less f. (
-          taken m.me book s new idle (subst (λ (v : Version). version_lt v new ≡ true) (sym (same_of_eq s.version old same)) less) f.0
+          taken m.me lease book s new idle (subst (λ (v : Version). version_lt v new ≡ true) (sym (same_of_eq s.version old same)) less) f.0
               s.image,
           f.1,
           f.2,
         );
         installs = λ book s may_begin k poll version total at bytes text says is idle whole less f.
-            (taken m.me book s text.version idle less f.0 text.bytes, f.1, f.2);
+            (taken m.me lease book s text.version idle less f.0 text.bytes, f.1, f.2);
         writes = λ book s old new changes says idle same whole within f.
-            (taken m.me book s new idle (whole_leads s.version new s.kept changes whole f.0.kept) f.0 _, f.1, f.2);
+            (taken m.me lease book s new idle (whole_leads s.version new s.kept changes whole f.0.kept) f.0 _, f.1, f.2);
       };
       own = record {
         relabels = λ book s poll leased idle past f. relabels_keeps book s poll leased idle past f;
         commits =
             λ book s id call answer image changes poll spread announced leased at free counter image_is changes_are within f.
-            commits_keeps book s id call answer image changes poll spread announced at f;
-        stands = λ book s f. f.0.went_on;
+            commits_keeps book s id call answer image changes poll spread announced leased at f;
+        stands = λ book s f. (f.0.went_on, f.2);
       };
       packet = record {
         later = λ book after b grew says. tt;
@@ -462,10 +542,23 @@ module _ (db : Database) (B : Book → Type 0) (grows : (k : ℕ) (book later : 
   pub makes_pass : Pass db MakesVersions MakerWentOn (λ book b. Unit {0}) B
   makes_pass = record {
     moves = λ m now lease some. makes_moves m now lease some;
-    pages = grows;
-    durable = λ j k book later d other grew is. others_went_on j k book later d.version other grew is;
+    durable = λ lease j k book later d other grew is. others_went_on lease j k book later d.version other grew is;
     server = others_make;
-    packet = λ k book later b grew says. tt;
-    opened = λ k n now book d is.
-        record { went_on = is; owns = λ sends. no sends; no_flight = λ _. refl; kept = tt };
+    packet = λ lease k book later b grew says. tt;
+    fades = λ k book s makes. record {
+      went_on = makes.went_on;
+      owns = makes.owns;
+      greatest = λ leased. no leased;
+      no_flight = makes.no_flight;
+      kept = makes.kept;
+    };
+    begins = λ k book s idle makes. record {
+      went_on = makes.went_on;
+      owns = makes.owns;
+      greatest = λ leased sends. no (sym (not_sending s.phase idle) ∙ sends);
+      no_flight = makes.no_flight;
+      kept = makes.kept;
+    };
+    opened = λ k n now lease book d pages is.
+        record { went_on = is; owns = λ sends. no sends; greatest = λ leased sends. no sends; no_flight = λ _. refl; kept = tt };
   }

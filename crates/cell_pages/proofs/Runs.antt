@@ -1,9 +1,10 @@
 -- What each move of a step keeps is kept along each run of each cell.
-use Rattle.std.proofs.Common.{Bool, true, false, ◌≡◌, ◌⊎◌, inl, inr, ℕ, zero, suc, ◌<◌, List, [], ◌∷◌, ◌++◌, length, map, take, refl, sym, ap, subst, ◌∙◌}
-use Rattle.std.specs.Prelude.{Option, Some, None, slice_get, option_and_then, option_map}
+use Rattle.std.proofs.Common.{true≢false, arith, ◌≤◌, Bool, true, false, ◌≡◌, ◌⊎◌, inl, inr, ℕ, zero, suc, ◌<◌, List, [], ◌∷◌, ◌++◌, length, map, take, refl, sym, ap, subst, ◌∙◌}
+use Rattle.std.proofs.lemmas.Bool.Decides.{nat_tests}
+use Rattle.std.specs.Prelude.{Option, Some, None, nat_le, slice_get, option_and_then, option_map}
 use Rattle.std.specs.List.{cons_option}
 use Rattle.ubik_types.specs.declared.hosts.Host.{Host}
-use Rattle.ubik_types.specs.Lease.{is_in_lease}
+use Rattle.ubik_types.specs.Lease.{is_in_lease, lease_end}
 use Rattle.ubik_calls.specs.declared.packets.Body.{Body}
 use Rattle.ubik_calls.specs.declared.packets.Packet.{Packet}
 use Rattle.db_image.specs.Database.{Database}
@@ -16,7 +17,7 @@ use Rattle.cell_model.specs.declared.events.NodeEvent.{NodeEvent}
 use Rattle.cell_model.specs.declared.events.NodeEvent.TheVariants as event
 use Rattle.cell_model.specs.declared.events.Output.{Output}
 use Rattle.cell_model.specs.declared.events.Output.TheVariants as output
-use Rattle.cell_model.specs.Book.{BookVersion, Book, Run, entered, run_after, run_through}
+use Rattle.cell_model.specs.Book.{Book, Run, entered, run_after, run_through}
 use Rattle.cell_model.specs.Durable.{Durable, Made, durable_after_all, no_database}
 use Rattle.cell_model.specs.Node.{Node, Down, Halted, Up, Server}
 use Rattle.cell_model.specs.NodeRule.{step_of, refusals, place_of}
@@ -34,11 +35,11 @@ use Rattle.cell_laws.proofs.Worlds.{here_of, site_either, LaterSites, ticked_one
 use Rattle.cell_laws.proofs.Cells.{first_each}
 use Rattle.cell_pages.specs.Growth.{Grew, durable_of, Leads}
 use Rattle.cell_pages.specs.Parts.{OthersBelow}
-use Rattle.cell_pages.specs.Passes.{InStep, Pass, NodeKeeps, SiteKeeps, WorldKeeps}
+use Rattle.cell_pages.specs.Passes.{is_held, InStep, Pass, NodeKeeps, SiteKeeps, WorldKeeps}
 use Rattle.cell_pages.specs.Says.{OutputSays, AllSay, AllPackets}
 use Rattle.cell_pages.proofs.Leading.{grew_none, leads_to, leads_take, leads_grew}
 use Rattle.cell_pages.proofs.Making.{versions_map}
-use Rattle.cell_pages.proofs.Walk.{Ends, EventSays, step_ends}
+use Rattle.cell_pages.proofs.WalkEvents.{Ends, EventSays, step_ends}
 
 -- ---- packets
 
@@ -75,116 +76,169 @@ module _ (P : Body → Type 0) where
 abbrev packet_at : Packet → ℕ → ℕ × NodeEvent
 packet_at p k = (k, event.Packet p)
 
-module _ (db : Database) (F : ℕ → Book → Server → Type 0) (D : ℕ → Book → Durable → Type 0) (P : Book → Body → Type 0) (B : Book → Type 0)
+module _ (db : Database) (F : ℕ → Bool → Book → Server → Type 0) (D : ℕ → Book → Durable → Type 0) (P : Book → Body → Type 0)
+    (B : Book → Type 0)
     (pass : Pass db F D P B) where
   abbrev Keeps : World → Book → Type 0
   Keeps w book = WorldKeeps F D P B w book
 
   -- what happened at one server
-  pub record Leaves (k : ℕ) (book : Book) (h : SiteHappened) : Type 0 where
-    pub grew : Grew k book (entered book h.entries)
-    pub site : SiteKeeps (F k (entered book h.entries)) (D k (entered book h.entries)) h.site
+  pub record Leaves (n k : ℕ) (book : Book) (site : Site) (h : SiteHappened) : Type 0 where
+    pub lease : Bool
+    pub leased : lease ≡ true → (s : Server) × (site.node ≡ Up s) × (is_in_lease n s.starts site.clock ≡ true)
+    pub grew : Grew lease k book (entered book h.entries)
+    pub pages : B (entered book h.entries)
+    pub after : SiteKeeps (λ lease. F k lease (entered book h.entries)) (D k (entered book h.entries)) n h.site
     pub shown : AllSay (P (entered book h.entries)) h.shown
 
   -- ---- one server
 
   module _ (hosts : List Host) (k : ℕ) (book : Book) (site : Site) (moment : 0 < site.clock)
-      (others : (s : Server) → site.node ≡ Up s → OthersBelow k site.clock (is_in_lease (length hosts) s.starts site.clock ≡ true) book)
-      (pages : B book) (keeps : SiteKeeps (F k book) (D k book) site) where
+      (others : (s : Server) → site.node ≡ Up s → OthersBelow k site.clock (is_in_lease (length hosts) s.starts site.clock) book)
+      (pages : B book) (keeps : SiteKeeps (λ lease. F k lease book) (D k book) (length hosts) site) where
     abbrev me : Member
     me = record { hosts = hosts; me = k }
 
+    abbrev Here_leaves : SiteHappened → Type 0
+    Here_leaves h = Leaves (length hosts) k book site h
+
     -- nothing durable happens
-    stays : (h : SiteHappened) → h.entries ≡ [] → h.site.durable ≡ site.durable → NodeKeeps (F k book) h.site.durable h.site.node →
-        AllSay (P book) h.shown → Leaves k book h
+    stays : (h : SiteHappened) → h.entries ≡ [] → h.site.durable ≡ site.durable →
+        NodeKeeps (λ lease. F k lease book) (length hosts) h.site.clock h.site.durable h.site.node → AllSay (P book) h.shown → Here_leaves h
     stays h entries durable node shown =
         whole (subst Of (sym entries) (
-          grew_none k book,
+          pages,
           record { durable = subst (λ (d : Durable). D k book d) (sym durable) keeps.durable; node = node },
           shown,
+          ap (entered book) entries,
         ))
       where
         Of : List Entry → Type 0
         Of es =
-            Grew k book (entered book es) × SiteKeeps (F k (entered book es)) (D k (entered book es)) h.site
-            × AllSay (P (entered book es)) h.shown
+            B (entered book es) × SiteKeeps (λ lease. F k lease (entered book es)) (D k (entered book es)) (length hosts) h.site
+            × AllSay (P (entered book es)) h.shown × (entered book h.entries ≡ book)
 
-        whole : Of h.entries → Leaves k book h
-        whole w = record { grew = w.0; site = w.1; shown = w.2 }
+        whole : Of h.entries → Here_leaves h
+        whole w = record {
+          lease = false;
+          leased = λ is. absurd (true≢false (sym is));
+          grew = subst (λ (g : Book). Grew false k book g) (sym w.3) (grew_none false k book);
+          pages = w.0;
+          after = w.1;
+          shown = w.2;
+        }
+
+    -- as the lease is after a step
+    refreshed : (g : Book) (s : Server) (lease now : Bool) → (is_held s.phase ≡ true → lease ≡ true) → F k lease g s → F k now g s
+    refreshed g s true true held f = f
+    refreshed g s true false held f = pass.fades k g s f
+    refreshed g s false false held f = f
+    refreshed g s false true held f = pass.begins k g s (idle (is_held s.phase) refl) f
+      where
+        idle : (t : Bool) → is_held s.phase ≡ t → is_held s.phase ≡ false
+        idle true is = absurd (true≢false (sym (held is)))
+        idle false is = is
 
     -- ---- a step of a server that is up
 
     module _ (s : Server) (is_up : site.node ≡ Up s) where
-      up : (site.durable ≡ durable_of s) × F k book s
-      up = subst (NodeKeeps (F k book) site.durable) is_up keeps.node
+      up : (site.durable ≡ durable_of s) × F k (is_in_lease (length hosts) s.starts site.clock) book s
+      up = subst (NodeKeeps (λ lease. F k lease book) (length hosts) site.clock site.durable) is_up keeps.node
 
-      abbrev Lease : Type 0
-      Lease = is_in_lease (length hosts) s.starts site.clock ≡ true
+      abbrev lease : Bool
+      lease = is_in_lease (length hosts) s.starts site.clock
+
+      abbrev Led : Book → Durable → Type 0
+      Led g d = D k g d × B g
 
       abbrev Ending : Stepped → Type 0
       Ending t =
-          Ends db me site.clock s.starts (InStep F B k site.clock Lease) (D k) P
-          (pass.moves me site.clock (is_in_lease (length hosts) s.starts site.clock) moment) book s t
+          Ends db me site.clock s.starts (InStep F B k site.clock lease) Led P
+          (pass.moves me site.clock lease moment) book s t
 
       ends : (e : NodeEvent) (short : List Bool) →
-          EventSays db me site.clock s.starts (InStep F B k site.clock Lease) (D k) P
+          EventSays db me site.clock s.starts (InStep F B k site.clock lease) Led P
           (pass.moves me site.clock (is_in_lease (length hosts) s.starts site.clock) moment) book e →
           Ending (step_of db me s site.clock e short)
       ends e short says =
-          step_ends db me site.clock s.starts (InStep F B k site.clock Lease) (D k) P
+          step_ends db me site.clock s.starts (InStep F B k site.clock lease) Led P
           (pass.moves me site.clock (is_in_lease (length hosts) s.starts site.clock) moment) book s e short refl says
           (up.1, others s is_up, pages)
 
       -- the book and the durable state after durable calls
-      led : (later : Book) (last : Durable) (calls : List Made) → Leads (D k) k book (durable_of s) calls later last →
-          (entered book (entries_from k s.version calls) ≡ later) × (durable_after_all site.durable calls ≡ last) × D k later last
+      led : (later : Book) (last : Durable) (calls : List Made) → Leads Led lease k book (durable_of s) calls later last →
+          (entered book (entries_from k s.version calls) ≡ later) × (durable_after_all site.durable calls ≡ last) × D k later last × B later
       led later last calls leads =
-          let w = leads_to (D k) k book later (durable_of s) last calls leads in
-          (w.0, ap (λ (d : Durable). durable_after_all d calls) up.0 ∙ w.1, w.2)
+          let w = leads_to Led lease k book later (durable_of s) last calls leads in
+          (w.0, ap (λ (d : Durable). durable_after_all d calls) up.0 ∙ w.1, w.2.0, w.2.1)
 
-      up_leaves : (e : NodeEvent) (t : Stepped) → Ending t → Leaves k book (step_up k site e s.version t)
+      up_leaves : (e : NodeEvent) (t : Stepped) → Ending t → Here_leaves (step_up k site e s.version t)
       up_leaves e t end = whole (subst Of (sym w.0) (
         end.grew,
+        w.3,
         record {
           durable = subst (λ (d : Durable). D k end.later d) (sym w.1) w.2;
-          node = (w.1, end.keeps.0);
+          node = (w.1, refreshed end.later t.server lease (is_in_lease (length hosts) t.server.starts site.clock) end.held end.keeps.0);
         },
         end.shown,
       ))
         where
           w : (entered book (entries_from k s.version t.calls) ≡ end.later)
-              × (durable_after_all site.durable t.calls ≡ durable_of t.server) × D k end.later (durable_of t.server)
+              × (durable_after_all site.durable t.calls ≡ durable_of t.server) × D k end.later (durable_of t.server) × B end.later
           w = led end.later (durable_of t.server) t.calls end.leads
 
           Of : Book → Type 0
           Of g =
-              Grew k book g × SiteKeeps (F k g) (D k g) (step_up k site e s.version t).site × AllSay (P g) t.shown
+              Grew (is_in_lease (length hosts) s.starts site.clock) k book g × B g
+              × SiteKeeps (λ lease. F k lease g) (D k g) (length hosts) (step_up k site e s.version t).site × AllSay (P g) t.shown
 
-          whole : Of (entered book (entries_from k s.version t.calls)) → Leaves k book (step_up k site e s.version t)
-          whole is = record { grew = is.0; site = is.1; shown = is.2 }
+          whole : Of (entered book (entries_from k s.version t.calls)) → Here_leaves (step_up k site e s.version t)
+          whole is = record {
+            lease = is_in_lease (length hosts) s.starts site.clock;
+            leased = λ leased. (s, is_up, leased);
+            grew = is.0;
+            pages = is.1;
+            after = is.2;
+            shown = is.3;
+          }
 
       -- the first durable calls of a step, after which the server is down or halted
       broken_leaves : (t : Stepped) (made : ℕ) (h : SiteHappened) → Ending t → h.entries ≡ entries_from k s.version (take made t.calls) →
           h.site.durable ≡ durable_after_all site.durable (take made t.calls) →
-          ((g : Book) (d : Durable) → NodeKeeps (F k g) d h.site.node) → ((g : Book) → AllSay (P g) h.shown) → Leaves k book h
+          ((g : Book) (clock : ℕ) (d : Durable) → NodeKeeps (λ lease. F k lease g) (length hosts) clock d h.site.node) →
+          ((g : Book) → AllSay (P g) h.shown) → Here_leaves h
       broken_leaves t made h end entries durable node shown = whole (subst Of (sym (ap (entered book) entries ∙ w.0)) (
-        leads_grew (D k) k book first.0 (durable_of s) first.1 (take made t.calls) first.2,
-        record { durable = subst (λ (d : Durable). D k first.0 d) (sym (durable ∙ w.1)) w.2; node = node first.0 h.site.durable },
+        leads_grew Led lease k book first.0 (durable_of s) first.1 (take made t.calls) first.2,
+        w.3,
+        record {
+          durable = subst (λ (d : Durable). D k first.0 d) (sym (durable ∙ w.1)) w.2;
+          node = node first.0 h.site.clock h.site.durable;
+        },
         shown first.0,
       ))
         where
-          first : (g : Book) × (c : Durable) × Leads (D k) k book (durable_of s) (take made t.calls) g c
-          first = leads_take (D k) k book end.later (durable_of s) (durable_of t.server) t.calls made end.leads
+          first : (g : Book) × (c : Durable)
+              × Leads (λ g d. D k g d × B g) (is_in_lease (length hosts) s.starts site.clock) k book (durable_of s) (take made t.calls) g c
+          first = leads_take Led lease k book end.later (durable_of s) (durable_of t.server) t.calls made end.leads
 
           w : (entered book (entries_from k s.version (take made t.calls)) ≡ first.0)
-              × (durable_after_all site.durable (take made t.calls) ≡ first.1) × D k first.0 first.1
+              × (durable_after_all site.durable (take made t.calls) ≡ first.1) × D k first.0 first.1 × B first.0
           w = led first.0 first.1 (take made t.calls) first.2
 
           Of : Book → Type 0
-          Of g = Grew k book g × SiteKeeps (F k g) (D k g) h.site × AllSay (P g) h.shown
+          Of g =
+              Grew (is_in_lease (length hosts) s.starts site.clock) k book g × B g
+              × SiteKeeps (λ lease. F k lease g) (D k g) (length hosts) h.site × AllSay (P g) h.shown
 
-          whole : Of (entered book h.entries) → Leaves k book h
-          whole is = record { grew = is.0; site = is.1; shown = is.2 }
+          whole : Of (entered book h.entries) → Here_leaves h
+          whole is = record {
+            lease = is_in_lease (length hosts) s.starts site.clock;
+            leased = λ leased. (s, is_up, leased);
+            grew = is.0;
+            pages = is.1;
+            after = is.2;
+            shown = is.3;
+          }
 
     -- ---- each event
 
@@ -195,7 +249,7 @@ module _ (db : Database) (F : ℕ → Book → Server → Type 0) (D : ℕ → B
 
     event_says : (s : Server) (e : NodeEvent) → Says e →
         EventSays db me site.clock s.starts
-        (InStep F B k site.clock (is_in_lease (length hosts) s.starts site.clock ≡ true)) (D k) P
+        (InStep F B k site.clock (is_in_lease (length hosts) s.starts site.clock)) (λ g d. D k g d × B g) P
         (pass.moves me site.clock (is_in_lease (length hosts) s.starts site.clock) moment) book e
     event_says s (event.Packet p) says = says
     event_says s event.BeaconTurn says = tt
@@ -203,111 +257,156 @@ module _ (db : Database) (F : ℕ → Book → Server → Type 0) (D : ℕ → B
     event_says s (event.Ask id call) says = tt
 
     step_leaves : (trigger : Trigger) (e : NodeEvent) (short : List Bool) → Says e →
-        Leaves k book (step_at db me trigger e short site site.node)
+        Here_leaves (step_at db me trigger e short site site.node)
     step_leaves trigger e short says = by site.node refl
       where
-        by : (node : Node) → site.node ≡ node → Leaves k book (step_at db me trigger e short site node)
+        by : (node : Node) → site.node ≡ node → Here_leaves (step_at db me trigger e short site node)
         by Down is = stays (only_marks site (lost_at trigger)) refl refl keeps.node tt
         by (Halted h) is = stays (halted_step site e) refl refl keeps.node (refusals_say (P book) e)
         by (Up s) is = up_leaves s is e (step_of db me s site.clock e short) (ends s is e short (event_says s e says))
 
-    stop_leaves : (e : NodeEvent) (short : List Bool) (made : ℕ) → Says e → Leaves k book (stop_at db me e short made site site.node)
+    stop_leaves : (e : NodeEvent) (short : List Bool) (made : ℕ) → Says e → Here_leaves (stop_at db me e short made site site.node)
     stop_leaves e short made says = by site.node refl
       where
-        by : (node : Node) → site.node ≡ node → Leaves k book (stop_at db me e short made site node)
+        by : (node : Node) → site.node ≡ node → Here_leaves (stop_at db me e short made site node)
         by Down is = stays (only_marks site []) refl refl keeps.node tt
         by (Halted h) is = stays (stop_at db me e short made site (Halted h)) refl refl tt tt
         by (Up s) is =
             broken_leaves s is (step_of db me s site.clock e short) made (stop_at db me e short made site (Up s))
-            (ends s is e short (event_says s e says)) refl refl (λ g d. tt) (λ g. tt)
+            (ends s is e short (event_says s e says)) refl refl (λ g clock d. tt) (λ g. tt)
 
-    fault_leaves : (e : NodeEvent) (short : List Bool) (made : ℕ) → Says e → Leaves k book (fault_at db me e short made site site.node)
+    fault_leaves : (e : NodeEvent) (short : List Bool) (made : ℕ) → Says e → Here_leaves (fault_at db me e short made site site.node)
     fault_leaves e short made says = by site.node refl
       where
-        by : (node : Node) → site.node ≡ node → Leaves k book (fault_at db me e short made site node)
+        by : (node : Node) → site.node ≡ node → Here_leaves (fault_at db me e short made site node)
         by Down is = stays (only_marks site []) refl refl keeps.node tt
         by (Halted h) is = stays (only_marks site []) refl refl keeps.node tt
         by (Up s) is =
             broken_leaves s is (step_of db me s site.clock e short) made (fault_at db me e short made site (Up s))
-            (ends s is e short (event_says s e says)) refl refl (λ g d. tt) (λ g. refusals_say (P g) e)
+            (ends s is e short (event_says s e says)) refl refl (λ g clock d. tt) (λ g. refusals_say (P g) e)
 
-    crash_leaves : Leaves k book (crash_at site)
+    crash_leaves : Here_leaves (crash_at site)
     crash_leaves = stays (crash_at site) refl refl tt tt
 
-    restart_leaves : (failed : Bool) → Leaves k book (restart_at (length hosts) k failed site)
+    restart_leaves : (failed : Bool) → Here_leaves (restart_at (length hosts) k failed site)
     restart_leaves true = stays (restart_at (length hosts) k true site) refl refl keeps.node tt
     restart_leaves false =
         stays (restart_at (length hosts) k false site) refl refl
-        (refl, pass.opened k (length hosts) site.clock book site.durable keeps.durable) tt
+        (refl, pass.opened k (length hosts) site.clock _ book site.durable pages keeps.durable) tt
 
   -- ---- the world
 
-  node_more : (E G : Server → Type 0) (d : Durable) (node : Node) → ((s : Server) → E s → G s) → NodeKeeps E d node → NodeKeeps G d node
-  node_more E G d Down f is = tt
-  node_more E G d (Halted h) f is = tt
-  node_more E G d (Up s) f is = (is.0, f s is.1)
+  node_more : (E G : Bool → Server → Type 0) (n clock : ℕ) (d : Durable) (node : Node) →
+      ((s : Server) → node ≡ Up s → E (is_in_lease n s.starts clock) s → G (is_in_lease n s.starts clock) s) →
+      NodeKeeps E n clock d node → NodeKeeps G n clock d node
+  node_more E G n clock d Down f is = tt
+  node_more E G n clock d (Halted h) f is = tt
+  node_more E G n clock d (Up s) f is = (is.0, f s refl is.1)
+
+  -- a server that is in lease has the claim to its moment
+  claim : (w : World) (x : Leases) (k : ℕ) (site : Site) (s : Server) → Here w.hosts x k site → site.node ≡ Up s →
+      is_in_lease (length w.hosts) s.starts site.clock ≡ true → WereGiven cell_rules x k site.clock
+  claim w x k site s here is_up is =
+      lease_given cell_rules x k (seen_voter site.clock (voter_of s)) here.kept
+      (here.get ∙ ap (λ (n : Node). Some (record { clock = site.clock; standing = standing_of n })) is_up)
+      (subst (λ (n : ℕ). IsLeased cell_rules n s.starts site.clock) (sym here.size)
+      (leased_is (length w.hosts) s.starts site.clock here.moment is))
 
   -- what other servers made is of epochs below the clock of a server that is in lease
   others_below : AreSafe cell_rules → (w : World) (x : Leases) (book : Book) (k : ℕ) (site : Site) (s : Server) → CellInvariant w x book →
-      Here w.hosts x k site → site.node ≡ Up s →
-      OthersBelow k site.clock (is_in_lease (length w.hosts) s.starts site.clock ≡ true) book
+      Here w.hosts x k site → site.node ≡ Up s → OthersBelow k site.clock (is_in_lease (length w.hosts) s.starts site.clock) book
   others_below safe w x book k site s good here is_up =
       versions_map (VersionHolds w.sites x)
-      (λ b. (b.maker ≡ k → ⊥) → is_in_lease (length w.hosts) s.starts site.clock ≡ true → b.version.epoch < site.clock) book one
-      good.versions
-    where
-      get_up : slice_get x.servers k ≡ Some (seen_voter site.clock (voter_of s))
-      get_up = here.get ∙ ap (λ (n : Node). Some (record { clock = site.clock; standing = standing_of n })) is_up
+      (λ b. (b.maker ≡ k → ⊥) → is_in_lease (length w.hosts) s.starts site.clock ≡ true → b.version.epoch < site.clock) book
+      (λ b holds other leased.
+      separated cell_rules x b.maker k b.version.epoch (view site) safe here.kept holds.0 here.get (claim w x k site s here is_up leased)
+      other) good.versions
 
-      claim : is_in_lease (length w.hosts) s.starts site.clock ≡ true → WereGiven cell_rules x k site.clock
-      claim is =
-          lease_given cell_rules x k (seen_voter site.clock (voter_of s)) here.kept get_up
-          (subst (λ (n : ℕ). IsLeased cell_rules n s.starts site.clock) (sym here.size)
-          (leased_is (length w.hosts) s.starts site.clock here.moment is))
+  -- two servers are not in lease at once
+  one_leads : AreSafe cell_rules → (w : World) (x : Leases) (j k : ℕ) (y z : Site) (s u : Server) → Here w.hosts x j y →
+      Here w.hosts x k z → y.node ≡ Up s → z.node ≡ Up u → (j ≡ k → ⊥) → is_in_lease (length w.hosts) s.starts y.clock ≡ true →
+      is_in_lease (length w.hosts) u.starts z.clock ≡ true → ⊥
+  one_leads safe w x j k y z s u here_j here_k up_j up_k other leased_j leased_k =
+      let first : y.clock < z.clock =
+      separated cell_rules x j k y.clock (view z) safe here_k.kept (claim w x j y s here_j up_j leased_j) here_k.get
+      (claim w x k z u here_k up_k leased_k) other in
+      let second : z.clock < y.clock =
+      separated cell_rules x k j z.clock (view y) safe here_j.kept (claim w x k z u here_k up_k leased_k) here_j.get
+      (claim w x j y s here_j up_j leased_j) (λ same. other (sym same)) in
+      omega arith
 
-      one : (b : BookVersion) → VersionHolds w.sites x b → (b.maker ≡ k → ⊥) →
-          is_in_lease (length w.hosts) s.starts site.clock ≡ true → b.version.epoch < site.clock
-      one b holds other leased =
-          separated cell_rules x b.maker k b.version.epoch (view site) safe here.kept holds.0 here.get (claim leased) other
+  -- a lease that is there later was there before
+  earlier_lease : (until clock later : ℕ) → clock ≤ later → nat_le later until ≡ true → nat_le clock until ≡ true
+  earlier_lease until clock later before is = grind (arith, nat_tests)
+
+  -- at a later clock
+  faded : (k : ℕ) (book : Book) (s : Server) (lease later : Bool) → (later ≡ true → lease ≡ true) → F k lease book s → F k later book s
+  faded k book s true true then f = f
+  faded k book s true false then f = pass.fades k book s f
+  faded k book s false false then f = f
+  faded k book s false true then f = absurd (true≢false (sym (then refl)))
+
+  node_later : (k : ℕ) (book : Book) (n clock later : ℕ) (d : Durable) (node : Node) → clock ≤ later →
+      NodeKeeps (λ lease. F k lease book) n clock d node → NodeKeeps (λ lease. F k lease book) n later d node
+  node_later k book n clock later d Down before is = tt
+  node_later k book n clock later d (Halted h) before is = tt
+  node_later k book n clock later d (Up s) before is = (
+    is.0,
+    faded k book s (is_in_lease n s.starts clock) (is_in_lease n s.starts later)
+        (earlier_lease (lease_end n s.starts) clock later before) is.1,
+  )
 
   module _ (safe : AreSafe cell_rules) (w : World) (x : Leases) (book : Book) (good : CellInvariant w x book) (keeps : Keeps w book) where
     -- one server did something
-    happened_keeps : (k : ℕ) (h : SiteHappened) → Leaves k book h → Keeps (happened_at w k h).world (entered book h.entries)
-    happened_keeps k h leaves = record {
-      pages = pass.pages k book (entered book h.entries) leaves.grew keeps.pages;
+    happened_keeps : (k : ℕ) (site : Site) (h : SiteHappened) → Here w.hosts x k site → Leaves (length w.hosts) k book site h →
+        Keeps (happened_at w k h).world (entered book h.entries)
+    happened_keeps k site h here leaves = record {
+      pages = leaves.pages;
       sites = λ j z get. by j z (site_either w.sites k j h.site z get);
       packets =
           packets_append (P (entered book h.entries)) w.packets (packets_of h.shown)
           (packets_more (P book) (P (entered book h.entries)) w.packets
-          (λ b is. pass.packet k book (entered book h.entries) b leaves.grew is) keeps.packets)
+          (λ b is. pass.packet leaves.lease k book (entered book h.entries) b leaves.grew is) keeps.packets)
           (shown_packets (P (entered book h.entries)) h.shown leaves.shown);
     }
       where
-        later : Book
-        later = entered book h.entries
+        alone : (j : ℕ) (z : Site) (s : Server) → slice_get w.sites j ≡ Some z → z.node ≡ Up s → (j ≡ k → ⊥) →
+            is_in_lease (length w.hosts) s.starts z.clock ≡ true → leaves.lease ≡ true → ⊥
+        alone j z s get is_up other leased at =
+            let w1 = leaves.leased at in
+            one_leads safe w x j k z site s w1.0 (here_of w x book j z good get) here is_up w1.1 other leased w1.2
 
         by : (j : ℕ) (z : Site) → ((j ≡ k) × (z ≡ h.site)) ⊎ ((j ≡ k → ⊥) × (slice_get w.sites j ≡ Some z)) →
-            SiteKeeps (F j (entered book h.entries)) (D j (entered book h.entries)) z
+            SiteKeeps (λ lease. F j lease (entered book h.entries)) (D j (entered book h.entries)) (length w.hosts) z
         by j z (inl p) =
-            subst (λ (z : Site). SiteKeeps (F j (entered book h.entries)) (D j (entered book h.entries)) z) (sym p.1)
-            (subst (λ (i : ℕ). SiteKeeps (F i (entered book h.entries)) (D i (entered book h.entries)) h.site) (sym p.0) leaves.site)
+            subst
+            (λ (z : Site). SiteKeeps (λ lease. F j lease (entered book h.entries)) (D j (entered book h.entries)) (length w.hosts) z)
+            (sym p.1)
+            (subst
+            (λ (i : ℕ). SiteKeeps (λ lease. F i lease (entered book h.entries)) (D i (entered book h.entries)) (length w.hosts) h.site)
+            (sym p.0) leaves.after)
         by j z (inr p) =
-            let old : SiteKeeps (F j book) (D j book) z = keeps.sites j z p.1 in
+            let old : SiteKeeps (λ lease. F j lease book) (D j book) (length w.hosts) z = keeps.sites j z p.1 in
             record {
-              durable = pass.durable j k book (entered book h.entries) z.durable p.0 leaves.grew old.durable;
+              durable = pass.durable leaves.lease j k book (entered book h.entries) z.durable p.0 leaves.grew old.durable;
               node =
-                  node_more (F j book) (F j (entered book h.entries)) z.durable z.node
-                  (λ s is. pass.server j k book (entered book h.entries) s p.0 leaves.grew is) old.node;
+                  node_more (λ lease. F j lease book) (λ lease. F j lease (entered book h.entries)) (length w.hosts) z.clock z.durable
+                  z.node
+                  (λ s is_up is.
+                  pass.server leaves.lease (is_in_lease (length w.hosts) s.starts z.clock) j k book (entered book h.entries) s p.0
+                  (alone j z s p.1 is_up p.0) leaves.grew is) old.node;
             }
 
     at_server : (k : ℕ) (f : Site → SiteHappened) →
-        ((site : Site) → site_of w k ≡ Some site → Here w.hosts x k site → Leaves k book (f site)) →
+        ((site : Site) → site_of w k ≡ Some site → Here w.hosts x k site → Leaves (length w.hosts) k book site (f site)) →
         Keeps (happens_at w k f (site_of w k)).world (entered book (happens_at w k f (site_of w k)).entries)
     at_server k f leaves = by (site_of w k) refl
       where
         by : (o : Option Site) → site_of w k ≡ o → Keeps (happens_at w k f o).world (entered book (happens_at w k f o).entries)
         by None is = keeps
-        by (Some site) is = happened_keeps k (f site) (leaves site is (here_of w x book k site good is))
+        by (Some site) is =
+            let here : Here w.hosts x k site = here_of w x book k site good is in
+            happened_keeps k site (f site) here (leaves site is here)
 
     -- what a trigger brings
     abbrev Brings : NodeEvent → Type 0
@@ -344,7 +443,7 @@ module _ (db : Database) (F : ℕ → Book → Server → Type 0) (D : ℕ → B
 
     at_trigger : (trigger : Trigger) (f : Member → NodeEvent → Site → SiteHappened) →
         ((k : ℕ) (e : NodeEvent) (site : Site) → Brings e → site_of w k ≡ Some site → Here w.hosts x k site →
-        Leaves k book (f (member w k) e site)) →
+        Leaves (length w.hosts) k book site (f (member w k) e site)) →
         Keeps (triggered w f (occasion w trigger)).world (entered book (triggered w f (occasion w trigger)).entries)
     at_trigger trigger f leaves = by (occasion w trigger) refl
       where
@@ -358,18 +457,20 @@ module _ (db : Database) (F : ℕ → Book → Server → Type 0) (D : ℕ → B
       pages = keeps.pages;
       sites = λ j z get.
           let old = later j z get in
-          let kept : SiteKeeps (F j book) (D j book) old.0 = keeps.sites j old.0 old.1 in
+          let kept : SiteKeeps (λ lease. F j lease book) (D j book) (length w.hosts) old.0 = keeps.sites j old.0 old.1 in
+          let node : NodeKeeps (λ lease. F j lease book) (length w.hosts) z.clock old.0.durable old.0.node =
+          node_later j book (length w.hosts) old.0.clock z.clock old.0.durable old.0.node old.2 kept.node in
           record {
             durable = subst (λ (d : Durable). D j book d) (sym old.3) kept.durable;
             node =
-                subst (λ (d : Durable). NodeKeeps (F j book) d z.node) (sym old.3)
-                (subst (NodeKeeps (F j book) old.0.durable) (sym old.4) kept.node);
+                subst (λ (d : Durable). NodeKeeps (λ lease. F j lease book) (length w.hosts) z.clock d z.node) (sym old.3)
+                (subst (NodeKeeps (λ lease. F j lease book) (length w.hosts) z.clock old.0.durable) (sym old.4) node);
           };
       packets = keeps.packets;
     }
 
     others : (k : ℕ) (site : Site) → Here w.hosts x k site → (s : Server) → site.node ≡ Up s →
-        OthersBelow k site.clock (is_in_lease (length w.hosts) s.starts site.clock ≡ true) book
+        OthersBelow k site.clock (is_in_lease (length w.hosts) s.starts site.clock) book
     others k site here s is_up = others_below safe w x book k site s good here is_up
 
     says_of : (k : ℕ) (site : Site) (here : Here w.hosts x k site) (get : site_of w k ≡ Some site) (e : NodeEvent) → Brings e →
@@ -427,10 +528,11 @@ module _ (db : Database) (F : ℕ → Book → Server → Type 0) (D : ℕ → B
       Keeps (first_world hosts clock failed) []
   first_keeps hosts clock failed pages durable = record {
     pages = pages;
-    sites = first_each hosts clock (λ k site. SiteKeeps (F k []) (D k []) site) failed (λ k b. one k b);
+    sites =
+        first_each hosts clock (λ k site. SiteKeeps (λ lease. F k lease []) (D k []) (length hosts) site) failed (λ k b. one k b);
     packets = tt;
   }
     where
-      one : (k : ℕ) (b : Bool) → SiteKeeps (F k []) (D k []) (first_site (length hosts) clock b)
+      one : (k : ℕ) (b : Bool) → SiteKeeps (λ lease. F k lease []) (D k []) (length hosts) (first_site (length hosts) clock b)
       one k true = record { durable = durable k; node = tt }
-      one k false = record { durable = durable k; node = (refl, pass.opened k (length hosts) clock [] no_database (durable k)) }
+      one k false = record { durable = durable k; node = (refl, pass.opened k (length hosts) clock _ [] no_database pages (durable k)) }

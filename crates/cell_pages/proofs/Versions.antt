@@ -1,5 +1,5 @@
 -- Versions are ordered, and the text with a piece is of the version of that piece.
-use Rattle.std.proofs.Common.{Bool, true, false, cond, ◌==◌, ◌≡◌, ◌⊎◌, inl, inr, ℕ, ◌<◌, ◌≤◌, List, ◌++◌, refl, sym, ap, subst, ◌∙◌}
+use Rattle.std.proofs.Common.{◌+◌, Bool, true, false, cond, ◌==◌, ◌≡◌, ◌⊎◌, inl, inr, ℕ, ◌<◌, ◌≤◌, List, ◌++◌, refl, sym, ap, subst, ◌∙◌}
 use Rattle.std.proofs.Common.{arith}
 use Rattle.std.proofs.lemmas.Bool.Decides.{nat_tests}
 use Rattle.std.specs.Prelude.{Option, Some, None, ◌&&◌, ◌||◌, nat_lt}
@@ -94,3 +94,15 @@ at_most_less a b c (inr x) (inr y) =
 
 pub at_most_same : (a : Version) → AtMost a a
 at_most_same a = inr (refl, omega arith)
+
+-- ---- below
+
+pub lt_of_epoch : (a b : Version) → a.epoch < b.epoch → version_lt a b ≡ true
+lt_of_epoch a b less = grind (arith, nat_tests)
+
+pub lt_of_next : (a b : Version) → AtMost a b → version_lt a (record b { counter = b.counter + 1 }) ≡ true
+lt_of_next a b (inl less) = lt_of_epoch a (record b { counter = b.counter + 1 }) less
+lt_of_next a b (inr same) =
+    let epoch : a.epoch ≡ b.epoch = same.0 in
+    let counter : a.counter < b.counter + 1 = (let h : a.counter ≤ b.counter = same.1 in omega arith) in
+    grind (arith, nat_tests)

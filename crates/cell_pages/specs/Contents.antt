@@ -7,7 +7,7 @@ use Rattle.ubik_calls.specs.declared.packets.Body.TheVariants as body
 use Rattle.cell_model.specs.Book.{Book}
 use Rattle.cell_model.specs.Node.{ReceivedText}
 use Rattle.cell_model.specs.Pieces.{piece_from, piece_count, numbered_piece}
-use Rattle.cell_pages.specs.Images.{IsImageOf, HaveOneList}
+use Rattle.cell_pages.specs.Images.{KeepsImages, IsImageOf, HaveOneList}
 use Rattle.cell_pages.specs.WritesOnTheWay.{IsWriteOf, IsWriteOn}
 
 -- Pieces: of the image of a version, from a place on.
@@ -23,7 +23,7 @@ pub record IsFrontOf (db : Database) (book : Book) (text : ReceivedText) : Type 
   pub of : IsImageOf db book text.version image
   pub total_is : text.total ≡ length image
   pub rest : List ℕ
-  pub image_is : image ≡ text.bytes ++ rest
+  pub image_is : KeepsImages db → image ≡ text.bytes ++ rest
 
 abbrev pub ReceivedIsFront : Database → Book → Option ReceivedText → Type 0
 ReceivedIsFront db book None = Unit {0}

@@ -1,5 +1,6 @@
 -- How one server lets the book grow: each version that it adds is new, and of an epoch that is its own (own).
-use Rattle.std.specs.Prelude.{◌≡◌, ℕ, ◌⊎◌, List, [], ◌∷◌, ◌++◌}
+use Rattle.std.specs.Prelude.{◌≡◌, ℕ, Bool, true, ◌⊎◌, List, [], ◌∷◌, ◌++◌}
+use Rattle.ubik_types.specs.Version.{version_lt}
 use Rattle.cell_model.specs.Book.{BookVersion, Book, with_version}
 use Rattle.cell_model.specs.Durable.{Durable, Made, durable, durable_after, version_after}
 use Rattle.cell_model.specs.Node.{Server}
@@ -20,19 +21,21 @@ IsMadeBy k epoch b = b.version.epoch ≡ epoch → b.maker ≡ k
 abbrev pub OwnsEpoch : ℕ → Book → ℕ → Type 0
 OwnsEpoch k book epoch = HasEpoch epoch book × AllVersions (IsMadeBy k epoch) book
 
--- what server k may add to the book: a new version, of an epoch above all others or of one that it made
-pub record IsNext (k : ℕ) (book : Book) (b : BookVersion) : Type 0 where
+-- what server k may add to the book, in its lease: a new version above all others, of an epoch above theirs or of one that it made
+pub record IsNext (lease : Bool) (k : ℕ) (book : Book) (b : BookVersion) : Type 0 where
+  pub leased : lease ≡ true
   pub maker : b.maker ≡ k
   pub new : IsNew b.version book
+  pub above : AllVersions (λ p. version_lt p.version b.version ≡ true) book
   pub epoch : AllBelow b.version.epoch book ⊎ OwnsEpoch k book b.version.epoch
 
-abbrev pub AreNext : ℕ → Book → List BookVersion → Type 0
-AreNext k book [] = Unit {0}
-AreNext k book (b ∷ newer) = IsNext k (newer ++ book) b × AreNext k book newer
+abbrev pub AreNext : Bool → ℕ → Book → List BookVersion → Type 0
+AreNext lease k book [] = Unit {0}
+AreNext lease k book (b ∷ newer) = IsNext lease k (newer ++ book) b × AreNext lease k book newer
 
 -- the book after server k added to it
-abbrev pub Grew : ℕ → Book → Book → Type 0
-Grew k book later = (newer : List BookVersion) × (later ≡ newer ++ book) × AreNext k book newer
+abbrev pub Grew : (lease : Bool) → ℕ → Book → Book → Type 0
+Grew lease k book later = (newer : List BookVersion) × (later ≡ newer ++ book) × AreNext lease k book newer
 
 -- the durable state of a server that is up
 abbrev pub durable_of : Server → Durable
@@ -43,7 +46,8 @@ abbrev pub book_with : ℕ → Book → Durable → Made → Book
 book_with k book d made = with_version book k d.version (version_after made.call) made.reason
 
 -- Durable calls of server k lead from one book and state to another, and so it is between them.
-abbrev pub Leads : (Book → Durable → Type 0) → ℕ → Book → Durable → List Made → Book → Durable → Type 0
-Leads D k book d [] later last = (book ≡ later) × (d ≡ last) × D book d
-Leads D k book d (made ∷ calls) later last =
-    (D book d × Grew k book (book_with k book d made)) × Leads D k (book_with k book d made) (durable_after d made.call) calls later last
+abbrev pub Leads : (Book → Durable → Type 0) → Bool → ℕ → Book → Durable → List Made → Book → Durable → Type 0
+Leads D lease k book d [] later last = (book ≡ later) × (d ≡ last) × D book d
+Leads D lease k book d (made ∷ calls) later last =
+    (D book d × Grew lease k book (book_with k book d made)) × Leads D lease k (book_with k book d made)
+    (durable_after d made.call) calls later last

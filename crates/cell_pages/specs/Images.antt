@@ -12,11 +12,12 @@ pub record KeepsImages (db : Database) : Type 0 where
   pub block : db.block ≢ 0
   pub grows : (image : List ℕ) (now : ℕ) (call : List ℕ) → length image ≤ length (db.call image now call).image
 
--- The version has a list of transactions in the book, and this is the image of the single copy after them.
+-- The version has a list of transactions in the book, and, where the database keeps its images, this is the image of the single copy
+-- after them.
 pub record IsImageOf (db : Database) (book : Book) (v : Version) (image : List ℕ) : Type 0 where
   pub list : List Transaction
   pub listed : list_of book v ≡ Some list
-  pub image_is : image ≡ image_after db list
+  pub image_is : KeepsImages db → image ≡ image_after db list
 
 -- Images: so of a durable state.
 abbrev pub IsOfBook : Database → Book → Durable → Type 0

@@ -5,6 +5,7 @@ pub mod Images
 pub mod Laws
 pub mod Moves
 pub mod OneLabel
+pub mod Pages
 pub mod Parts
 pub mod Passes
 pub mod Says

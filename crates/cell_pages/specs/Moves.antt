@@ -61,7 +61,8 @@ pub record PhaseMoves (m : Member) (now : ℕ) (F : Book → Server → Type 0) 
 
 -- What a server keeps of the packets of others: pieces of an image, and a write on its way.
 pub record FieldMoves (F : Book → Server → Type 0) (P : Book → Body → Type 0) : Type 0 where
-  pub texts : (book : Book) (s : Server) (may_begin : Bool) (k poll : ℕ) (version : Version) (total at : ℕ) (bytes : List ℕ) (text : ReceivedText) →
+  pub texts : (book : Book) (s : Server) (may_begin : Bool) (k poll : ℕ) (version : Version) (total at : ℕ) (bytes : List ℕ)
+      (text : ReceivedText) →
       P book (body.SendPiece poll version total at bytes) → text_with may_begin k version total at bytes s.received ≡ Some text → F book s →
       F book (record s { received = Some text })
   pub begins : (book : Book) (s : Server) (old new : Version) (pieces len : ℕ) → P book (body.Begin old new pieces len) →
@@ -76,7 +77,8 @@ pub record ReceivedMoves (F : Book → Server → Type 0) (P : Book → Body →
   pub takes : (book : Book) (s : Server) (poll : ℕ) (old new : Version) → P book (body.SetVersion poll old new) →
       is_sending s.phase ≡ false → version_eq s.version old ≡ true → version_lt old new ≡ true → F book s →
       F book (with_database s new s.image)
-  pub installs : (book : Book) (s : Server) (may_begin : Bool) (k poll : ℕ) (version : Version) (total at : ℕ) (bytes : List ℕ) (text : ReceivedText) →
+  pub installs : (book : Book) (s : Server) (may_begin : Bool) (k poll : ℕ) (version : Version) (total at : ℕ) (bytes : List ℕ)
+      (text : ReceivedText) →
       P book (body.SendPiece poll version total at bytes) → text_with may_begin k version total at bytes s.received ≡ Some text →
       is_sending s.phase ≡ false → is_whole text ≡ true → version_lt s.version text.version ≡ true → F book s →
       F book (with_database s text.version text.bytes)
@@ -90,22 +92,22 @@ abbrev pub transaction_of : ℕ → List ℕ → Transaction
 transaction_of now call = record { moment = now; call = call }
 
 -- Durable calls in the lease: the server relabels its own database, or commits a write as the sync site.
-pub record OwnMoves (db : Database) (m : Member) (now : ℕ) (Lease : Type 0) (F : Book → Server → Type 0) (D : Book → Durable → Type 0) :
+pub record OwnMoves (db : Database) (m : Member) (now : ℕ) (lease : Bool) (F : Book → Server → Type 0) (D : Book → Durable → Type 0) :
     Type 0 where
-  pub relabels : (book : Book) (s : Server) (poll : Polled) → Lease → is_sending s.phase ≡ false → s.version.epoch < now → F book s →
+  pub relabels : (book : Book) (s : Server) (poll : Polled) → lease ≡ true → is_sending s.phase ≡ false → s.version.epoch < now → F book s →
       let later = with_version book m.me s.version (first_of_epoch now) Own_relabelling in
-      Grew m.me book later × F later (relabelled_to m s poll (first_of_epoch now)).server
+      Grew lease m.me book later × F later (relabelled_to m s poll (first_of_epoch now)).server
   pub commits : (book : Book) (s : Server) (id : ℕ) (call answer image : List ℕ) (changes : List Change) (poll : Polled) (spread : Spread)
-      (announced : Version) → Lease → s.phase ≡ Ready poll spread announced → s.flight ≡ None →
+      (announced : Version) → lease ≡ true → s.phase ≡ Ready poll spread announced → s.flight ≡ None →
       (s.version.counter == MAX_COUNTER) ≡ false → image ≡ (db.call s.image now call).image → changes ≡ changes_of db s.image image →
       too_large 0 (length s.image) changes ≡ None → F book s →
       let later = with_version book m.me s.version (next_version s.version) (Committed (transaction_of now call)) in
-      Grew m.me book later × F later (own_write_begun m s now id call answer image changes poll spread).server
+      Grew lease m.me book later × F later (own_write_begun m s now id call answer image changes poll spread).server
   pub stands : (book : Book) (s : Server) → F book s → D book (durable_of s)
 
 -- What is put out: all packets with content speak of the server after the step.
-pub record PacketMoves (m : Member) (F : Book → Server → Type 0) (P : Book → Body → Type 0) : Type 0 where
-  pub later : (book after : Book) (b : Body) → Grew m.me book after → P book b → P after b
+pub record PacketMoves (m : Member) (lease : Bool) (F : Book → Server → Type 0) (P : Book → Body → Type 0) : Type 0 where
+  pub later : (book after : Book) (b : Body) → Grew lease m.me book after → P book b → P after b
   pub plain : (book : Book) (b : Body) → IsPlain b → P book b
   pub alike : (book : Book) (poll : ℕ) (version : Version) (total at : ℕ) (bytes : List ℕ) →
       P book (body.Piece poll version total at bytes) → P book (body.SendPiece poll version total at bytes)
@@ -122,10 +124,11 @@ pub record PacketMoves (m : Member) (F : Book → Server → Type 0) (P : Book �
       AllBodies (P book) (write_bodies announced s.version (text_of f.changes))
 
 -- all of them
-pub record Moves (db : Database) (m : Member) (now : ℕ) (Lease : Type 0) (F : Book → Server → Type 0) (D : Book → Durable → Type 0) (P : Book → Body → Type 0) :
+pub record Moves (db : Database) (m : Member) (now : ℕ) (lease : Bool) (F : Book → Server → Type 0) (D : Book → Durable → Type 0)
+    (P : Book → Body → Type 0) :
     Type 0 where
   pub phase : PhaseMoves m now F
   pub field : FieldMoves F P
   pub received : ReceivedMoves F P
-  pub own : OwnMoves db m now Lease F D
-  pub packet : PacketMoves m F P
+  pub own : OwnMoves db m now lease F D
+  pub packet : PacketMoves m lease F P

@@ -18,19 +18,19 @@ IsSentOf db book (body.Piece poll version total offset bytes) = IsPieceOf db boo
 IsSentOf db book (body.SendPiece poll version total offset bytes) = IsPieceOf db book version total offset bytes
 IsSentOf db book _ = Unit {0}
 
--- Each version was made once, so it has one list of transactions. The version of each durable state has a list, and the image is
--- that of the single copy after it; so it is of each server that is up; and so are all pieces that were ever sent. Servers with
--- one version have one image.
+-- Each version was made once, so it has one list of transactions. The version of each durable state has a list, and so has that of
+-- each server that is up, and of each piece that was ever sent. Where the database keeps its images, the images are those of the
+-- single copy after these lists, and the pieces are of them; so servers with one version have one image.
 pub record HasOneLabel (db : Database) (r : Run) : Type 0 where
   pub once : MadeOnce r.book
   pub durable : (k : ℕ) (site : Site) → site_of r.world k ≡ Some site → IsOfBook db r.book site.durable
   pub up : (k : ℕ) (site : Site) (s : Server) → site_of r.world k ≡ Some site → site.node ≡ Up s → IsImageOf db r.book s.version s.image
   pub sent : AllPackets (IsSentOf db r.book) r.world.packets
-  pub alike : (j k : ℕ) (x y : Site) → site_of r.world j ≡ Some x → site_of r.world k ≡ Some y →
+  pub alike : KeepsImages db → (j k : ℕ) (x y : Site) → site_of r.world j ≡ Some x → site_of r.world k ≡ Some y →
       x.durable.version ≡ y.durable.version → x.durable.image ≡ y.durable.image
 
--- In each cell, after each run over a database that keeps its images.
+-- In each cell, after each run.
 abbrev pub OneLabel : Type 0
 OneLabel =
-    (db : Database) (hosts : List Host) (clock : ℕ) (failed : List Bool) (events : List Event) → KeepsImages db →
+    (db : Database) (hosts : List Host) (clock : ℕ) (failed : List Bool) (events : List Event) →
     IsFirst hosts clock failed → IsRun db (first_world hosts clock failed) events → HasOneLabel db (run_of db hosts clock failed events)

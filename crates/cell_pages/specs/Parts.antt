@@ -1,5 +1,5 @@
 -- What every run keeps, part by part, beside leases and epochs: why no version is made twice (own).
-use Rattle.std.specs.Prelude.{◌≡◌, ℕ, ◌<◌, ◌≤◌, ◌⊎◌, true, false, Option, Some, None}
+use Rattle.std.specs.Prelude.{◌≡◌, ℕ, Bool, ◌<◌, ◌≤◌, ◌⊎◌, true, false, Option, Some, None}
 use Rattle.ubik_types.specs.declared.versions.Version.{Version}
 use Rattle.ubik_types.specs.Version.{version_lt}
 use Rattle.cell_model.specs.Book.{BookVersion, Book}
@@ -27,14 +27,19 @@ abbrev pub KeptLeadsOn : Version → Option KeptWrite → Type 0
 KeptLeadsOn v None = Unit {0}
 KeptLeadsOn v (Some w) = version_lt v w.new ≡ true
 
--- Of a server that is up: it has gone on from what it made; where it sends its database, it made the epoch of it; a write is in
--- flight in Ready alone; and a kept write leads on.
-pub record MakesVersions (k : ℕ) (book : Book) (s : Server) : Type 0 where
+-- each version in the book is at most this one
+abbrev pub IsGreatest : Version → Book → Type 0
+IsGreatest v book = AllVersions (λ b. AtMost b.version v) book
+
+-- Of a server that is up: it has gone on from what it made; where it sends its database, it made the epoch of it, and in its lease no
+-- version in the book is above its own; a write is in flight in Ready alone; and a kept write leads on.
+pub record MakesVersions (k : ℕ) (lease : Bool) (book : Book) (s : Server) : Type 0 where
   pub went_on : AllVersions (IsReached k s.version) book
   pub owns : is_sending s.phase ≡ true → OwnsEpoch k book s.version.epoch
+  pub greatest : lease ≡ true → is_sending s.phase ≡ true → IsGreatest s.version book
   pub no_flight : is_ready s.phase ≡ false → s.flight ≡ None
   pub kept : KeptLeadsOn s.version s.kept
 
 -- Epochs rise: what other servers made is of epochs below this moment, where this server is in lease.
-abbrev pub OthersBelow : ℕ → ℕ → Type 0 → Book → Type 0
-OthersBelow k now Lease book = AllVersions (λ b. (b.maker ≡ k → ⊥) → Lease → b.version.epoch < now) book
+abbrev pub OthersBelow : ℕ → ℕ → Bool → Book → Type 0
+OthersBelow k now lease book = AllVersions (λ b. (b.maker ≡ k → ⊥) → lease ≡ true → b.version.epoch < now) book

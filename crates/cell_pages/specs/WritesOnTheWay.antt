@@ -10,18 +10,19 @@ use Rattle.cell_model.specs.Durable.{Transaction}
 use Rattle.cell_model.specs.Node.{KeptWrite}
 use Rattle.cell_model.specs.Pieces.{piece_count, numbered_piece}
 use Rattle.cell_model.specs.SingleCopy.{image_after}
+use Rattle.cell_pages.specs.Images.{KeepsImages}
 
 -- the changes of the single copy by a transaction behind others
 abbrev pub last_changes : Database → List Transaction → Transaction → List Change
 last_changes db before last = changes_of db (image_after db before) (image_after db (before ++ last ∷ []))
 
--- The text of the changes by the last transaction of a version.
+-- The version has a last transaction, and, where the database keeps its images, this is the text of the changes by it.
 pub record IsWriteOf (db : Database) (book : Book) (new : Version) (text : List ℕ) : Type 0 where
   pub before : List Transaction
   pub last : Transaction
   pub listed : list_of book new ≡ Some (before ++ last ∷ [])
-  pub spelled : AllByRecursion HasSpelling (last_changes db before last)
-  pub text_is : text ≡ text_of (last_changes db before last)
+  pub spelled : KeepsImages db → AllByRecursion HasSpelling (last_changes db before last)
+  pub text_is : KeepsImages db → text ≡ text_of (last_changes db before last)
 
 -- and the version before it has the transactions before that one
 abbrev pub IsWriteOn : Database → Book → (old new : Version) → List ℕ → Type 0
@@ -39,7 +40,7 @@ pub record IsKeptOn (db : Database) (book : Book) (v : Version) (w : KeptWrite) 
   pub write : IsWriteOn db book v w.new text
   pub len : w.len ≡ length text
   pub count : length w.pieces ≡ piece_count text
-  pub pieces : ArePieces text 0 w.pieces
+  pub pieces : KeepsImages db → ArePieces text 0 w.pieces
 
 abbrev pub KeptIsWrite : Database → Book → Version → Option KeptWrite → Type 0
 KeptIsWrite db book v None = Unit {0}

@@ -1,12 +1,35 @@
 //! Laws of versions in cells of 1 to 20 servers, over every run: each is the clause of a public call.
 ghost use Rattle.cell_pages.specs.Laws.{ListsStay, VersionsAreMadeOnce};
 ghost use Rattle.cell_pages.specs.OneLabel.{OneLabel};
+ghost use Rattle.cell_pages.specs.Pages.{AllRise, LeadersAreAhead, ListsGoOn, VersionsNeverFall};
 
 use lease_model::law_rules_are_safe;
 
 /// In each cell, whatever happens, no version is made twice, and none is the first one.
 pub fn law_versions_are_made_once()
     ensures { VersionsAreMadeOnce }
+{
+    law_rules_are_safe();
+}
+
+/// In each cell, whatever happens, each version in the book is above all before it: epochs rise, and so do the counters of one epoch.
+pub fn law_versions_rise()
+    ensures { AllRise }
+{
+    law_rules_are_safe();
+}
+
+/// In each cell, whatever happens, a server that is in lease and sends its database has a version that none in the book is above.
+pub fn law_leaders_are_ahead()
+    ensures { LeadersAreAhead }
+{
+    law_rules_are_safe();
+}
+
+/// In each cell the durable version of a server never falls, whatever happens to it: neither a packet of the past nor a restart takes it
+/// back.
+pub fn law_versions_never_fall()
+    ensures { VersionsNeverFall }
 {
     law_rules_are_safe();
 }
@@ -18,9 +41,17 @@ pub fn law_lists_stay()
     law_rules_are_safe();
 }
 
-/// In each cell, over a database that makes no image shorter, one version is one list of transactions and one image: the durable
-/// image of each server, in any state, is that of the single copy after the list of its version, and so are all pieces of images
-/// that were ever sent.
+/// In each cell, whatever happens, each version in the book goes on from one before it: a relabelling begins a later epoch and has
+/// the same list, a commit is the next counter and has that list and then its transaction.
+pub fn law_lists_go_on()
+    ensures { ListsGoOn }
+{
+    law_rules_are_safe();
+}
+
+/// In each cell, whatever happens, one version is one list of transactions: the version of each durable state has one, and so has that of
+/// each piece of an image that was ever sent. Over a database that makes no image shorter it is one image too: that of the single copy
+/// after the list.
 pub fn law_one_label()
     ensures { OneLabel }
 {
