@@ -118,11 +118,21 @@ impl MemFiles {
 }
 
 /// A disk whose files lie in memory, and are lost with it.
-#[derive(Drop)]
 pub struct MemDisk {
     files: MemFiles,
     calls: MemCalls,
     moments: Moments,
+}
+
+// Derived, it would be spelled out for each field of each field wherever a caller lets a disk go, and proved there.
+impl Drop for MemDisk {
+    fn drop(self) {
+        let Self {
+            files: _,
+            calls: _,
+            moments: _,
+        } = self;
+    }
 }
 
 impl MemDisk {

@@ -11,7 +11,7 @@ ghost use Rattle.ubik_types.specs.declared.versions.Version.{Version};
 ghost use Rattle.ubik_log.specs.Gate.{IsOpen, BeginsWithZero, closed};
 ghost use Rattle.ubik_log.specs.LogGrammar.{IsCommitted};
 ghost use Rattle.ubik_log.specs.LogFile.{with_log, SetsGate, KeepsLog, HasAnyGate, HasDiscarded, HasLogOrNone};
-ghost use Rattle.ubik_log.specs.Reading.{IsStateOf};
+ghost use Rattle.ubik_log.specs.Reading.{IsStateOf, MayBeTold};
 
 use crate::codec::parse_log;
 use crate::opcodes::LOGNEW;
@@ -70,6 +70,7 @@ const CLOSED: u8 = 0;
 /// length is too long for one.
 pub fn read_log<D: Disk>(alloc: Global, disk: &mut D) -> Result<LogState, LogFault>
     ensures state { IfOk result (λ state. IfSome (D.files disk.old) (λ fs. IsStateOf fs.log state)) }
+    ensures told { IfOk result MayBeTold }
     ensures stopped { IsStopped (D.stop disk.old) → IsErrOf result LogFault.DiskFault }
     ensures reads { OnlyReads D.Disk disk.old disk.new (IsErrOf result LogFault.DiskFault) }
 {

@@ -38,7 +38,6 @@ pub enum StepEnd {
 }
 
 /// A server that is up, over its disk, and the database that it serves.
-#[derive(Drop)]
 pub struct Node<D: Disk, V: Service> {
     alloc: Global,
     disk: D,
@@ -46,6 +45,20 @@ pub struct Node<D: Disk, V: Service> {
     halted: bool,
     last: u32,
     service: PhantomData<V>,
+}
+
+// Derived, it would be spelled out for each field wherever a caller lets a server go, and proved there.
+impl<D: Disk + Drop, V: Service> Drop for Node<D, V> {
+    fn drop(self) {
+        let Self {
+            alloc: _,
+            disk: _,
+            state: _,
+            halted: _,
+            last: _,
+            service: _,
+        } = self;
+    }
 }
 
 impl<D: Disk, V: Service> Node<D, V> {
@@ -207,7 +220,15 @@ impl<D: Disk, V: Service> Node<D, V> {
     pub fn close(self) -> D
         ensures { result ≡ self.disk }
     {
-        self.disk
+        let Self {
+            alloc: _,
+            disk,
+            state: _,
+            halted: _,
+            last: _,
+            service: _,
+        } = self;
+        disk
     }
 
     /// The host of a server of the cell, 0 for none.

@@ -5,7 +5,8 @@ use Rattle.ubik_types.specs.declared.images.Change.{Change}
 use Rattle.disk_base.specs.declared.disks.Disk.{Ghosts}
 use Rattle.disk_base.specs.declared.disks.FileNo.{FileNo}
 use Rattle.disk_base.specs.Files.{Files}
-use Rattle.disk_base.specs.Runs.{ChangesAtMost}
+use Rattle.disk_base.specs.Runs.{OnlyReads, ChangesAtMost}
+use Rattle.disk_base.proofs.Runs.{reads_change_none}
 use Rattle.disk_base.proofs.Stopping.{advances_none, advances_joined}
 use Rattle.ubik_store.specs.Calls.{CallsAtMost}
 use Rattle.ubik_store.specs.Moments.{with_database, changed_file, applied}
@@ -39,6 +40,22 @@ module _ {D : Type 0} {g : Ghosts D} where
     tells = run.tells;
     cause = run.cause;
   }
+
+  -- no change of a file
+  pub no_changes : (f : FileNo) (disk : D) → ChangesAtMost g f 0 disk disk ⊥
+  no_changes f disk =
+      let reads : OnlyReads g disk disk ⊥ = record {
+        files = λ _. refl;
+        kept = λ _. refl;
+        room = λ file. omega arith;
+        steps = refl;
+        crash = record { no_more = λ c left. left; no_less = λ c left. left; since_no_more = λ t c left. left; since_no_less = λ t c left. left };
+        stop = refl;
+        pending = refl;
+        tells = refl;
+        cause = record { never_falls = omega arith; rose = λ none. absurd none };
+      } in
+      reads_change_none reads
 
   -- none at all
   pub no_calls : (disk : D) (F : Type 0) → ¬ F → CallsAtMost g 0 disk disk F

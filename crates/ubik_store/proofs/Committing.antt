@@ -1,5 +1,5 @@
 -- What a crash leaves while a log is kept and its gate is opened.
-use Rattle.std.proofs.Common.{◌≡◌, ◌<◌, ◌≤◌, ◌⊎◌, inl, inr, ℕ, List, [], length, get_or, Option, Some, None, refl, sym, ap, subst, ◌∙◌, arith, length-drop}
+use Rattle.std.proofs.Common.{◌≡◌, ◌<◌, ◌≤◌, ◌⊎◌, inl, inr, ℕ, List, [], length, get_or, Option, Some, None, IfSome, refl, sym, ap, subst, ◌∙◌, arith, length-drop}
 use Rattle.std.specs.List.{All}
 use Rattle.ubik_store.specs.Redo.{IsCovered, Ends}
 use Rattle.std.specs.Option.{option_map}
@@ -12,12 +12,12 @@ use Rattle.disk_base.specs.declared.disks.FileNo.TheVariants.{Log}
 use Rattle.disk_base.specs.Files.{Files}
 use Rattle.disk_base.specs.Crash.{Narrows, LeavesOnly, Only, OnlyIn, IsSettled, After}
 use Rattle.disk_base.specs.Runs.{OnlyReserves}
-use Rattle.disk_base.proofs.Runs.{joined, rested}
+use Rattle.disk_base.proofs.Runs.{joined, rested, widened}
 use Rattle.page_file.specs.declared.label.TheConstants.{MAX_DATABASE_LEN}
 use Rattle.page_file.specs.Label.{version_of_database}
 use Rattle.page_file.specs.Pages.{Known, Agrees, AgreesIn, image_of}
 use Rattle.ubik_log.specs.Gate.{closed}
-use Rattle.ubik_log.specs.LogFile.{with_log, gate_set, HasDiscarded, HasLogOrNone}
+use Rattle.ubik_log.specs.LogFile.{with_log, gate_set, HasDiscarded, HasLogOrNone, KeepsLog}
 use Rattle.ubik_log.specs.LogGrammar.{IsCommitted, IsDiscarded}
 use Rattle.ubik_log.proofs.Gates.{opened_log_is_committed, short_log_is_discarded}
 use Rattle.ubik_store.specs.Files.{StandsFor, StandsForEither}
@@ -25,7 +25,7 @@ use Rattle.ubik_store.specs.Files.StandsFor.{by_log, by_label}
 use Rattle.ubik_store.specs.Moments.{MayRedo, LeadsTo, ended}
 use Rattle.ubik_store.proofs.Redone.{redoes_itself, one_at}
 use Rattle.ubik_store.proofs.Redoing.{one_covered}
-use Rattle.ubik_store.proofs.Telling.{of_told}
+use Rattle.ubik_store.proofs.Telling.{of_told, of_some}
 
 -- the database file fits, by the pages
 pub fits_of : (pages : Known) (files : Option Files) (fs : Files) → AgreesIn pages files → files ≡ Some fs → pages.len ≤ 16777216 → length fs.database ≤ MAX_DATABASE_LEN
@@ -39,9 +39,9 @@ module _ (fs : Files) (own v : Version) (changes : List Change) (log : List ℕ)
   stands_by_own c labelled same discarded =
       subst (λ (xs : List ℕ). StandsFor c own (image_of xs)) same (by_label c own discarded (ap version_of_database same ∙ labelled))
 
-  pub stands_before : (before : Files → Type 0) → Only fs before → version_of_database fs.database ≡ Some own → (c : Files) → After HasDiscarded before c
+  pub stands_before : version_of_database fs.database ≡ Some own → (before : Files → Type 0) → Only fs before → (c : Files) → After HasDiscarded before c
       → StandsForEither own (image_of fs.database) v (effect (image_of fs.database) changes) c
-  stands_before before only labelled c from =
+  stands_before labelled before only c from =
       inl (stands_by_own c labelled (ap (λ (f : Files). f.database) from.2.1 ∙ ap (λ (f : Files). f.database) (only from.0 from.1)) from.2.0)
 
   stands_at_gate : (c : Files) → IsCommitted log changes v → length fs.database ≤ MAX_DATABASE_LEN → version_of_database fs.database ≡ Some own → c.database ≡ fs.database
@@ -53,9 +53,9 @@ module _ (fs : Files) (own v : Version) (changes : List Change) (log : List ℕ)
   stands_at_gate c committed fits labelled same (inr discarded) = inl (stands_by_own c labelled same discarded)
 
   -- while its gate is opened, the one or the other
-  pub stands_in_gate : (mid : Files → Type 0) → Only (with_log (closed log) fs) mid → IsCommitted log changes v → length fs.database ≤ MAX_DATABASE_LEN → version_of_database fs.database ≡ Some own
-      → (c : Files) → After (HasLogOrNone log) mid c → StandsForEither own (image_of fs.database) v (effect (image_of fs.database) changes) c
-  stands_in_gate mid only committed fits labelled c from =
+  pub stands_in_gate : IsCommitted log changes v → length fs.database ≤ MAX_DATABASE_LEN → version_of_database fs.database ≡ Some own
+      → (mid : Files → Type 0) → Only (with_log (closed log) fs) mid → (c : Files) → After (HasLogOrNone log) mid c → StandsForEither own (image_of fs.database) v (effect (image_of fs.database) changes) c
+  stands_in_gate committed fits labelled mid only c from =
       stands_at_gate c committed fits labelled (ap (λ (f : Files). f.database) from.2.1 ∙ ap (λ (f : Files). f.database) (only from.0 from.1)) from.2.0
 
 all_covered : (changes : List Change) (base : List ℕ) (k : ℕ) (d : Change) → k < length changes → IsCovered changes base (get_or changes k d)
@@ -80,6 +80,11 @@ pub opened_files : (log : List ℕ) (changes : List Change) (v : Version) (old m
 opened_files log changes v None mid new committed a b = b ∙ ap (option_map (gate_set 100)) a
 opened_files log changes v (Some fs) mid new committed a b =
     b ∙ ap (option_map (gate_set 100)) a ∙ ap (λ (xs : List ℕ). Some (with_log xs fs)) (opened_log_is_committed log changes v committed)
+
+-- where the files were these
+pub opened_over : (log : List ℕ) (changes : List Change) (v : Version) (fs : Files) (old mid new : Option Files) → old ≡ Some fs → IsCommitted log changes v
+    → mid ≡ option_map (with_log (closed log)) old → new ≡ option_map (gate_set 100) mid → new ≡ Some (with_log log fs)
+opened_over log changes v fs old mid new is committed a b = opened_files log changes v old mid new committed a b ∙ ap (option_map (with_log log)) is
 
 pub ended_from : (log : List ℕ) (changes : List Change) (v : Version) (old mid : Option Files) → mid ≡ option_map (with_log log) old
     → option_map (ended changes v) mid ≡ option_map (ended changes v) old
@@ -135,3 +140,40 @@ abbrev pub LeavesEither : {D : Type 0} (g : Ghosts D) (old new : D) (v : Version
 LeavesEither g old new v changes fs =
     (own : Version) → version_of_database fs.database ≡ Some own
     → LeavesOnly g.steps g.left_since old new (StandsForEither own (image_of fs.database) v (effect (image_of fs.database) changes))
+
+-- P is so of what a crash leaves of these files while a log is kept
+abbrev pub HoldsKept : (P : Files → Type 0) → Files → Type 1
+HoldsKept P fs = (left : Files → Type 0) → Only fs left → (c : Files) → After HasDiscarded left c → P c
+
+-- and while its gate is opened
+abbrev pub HoldsAtGate : (P : Files → Type 0) → Files → (log : List ℕ) → Type 1
+HoldsAtGate P fs log = (left : Files → Type 0) → Only (with_log (closed log) fs) left → (c : Files) → After (HasLogOrNone log) left c → P c
+
+-- over an empty log a run leaves discarded ones
+abbrev pub KeepsLogOnly : {D : Type 0} (g : Ghosts D) (old new : D) → Type 0
+KeepsLogOnly g old new = OnlyIn Log [] (g.may_leave old) → LeavesOnly g.steps g.left_since old new (After HasDiscarded (g.may_leave old))
+
+-- over a log that was kept a run leaves that one, or discarded ones
+abbrev pub OpensLogOnly : {D : Type 0} (g : Ghosts D) (old new : D) → Type 0
+OpensLogOnly g old new =
+    (log : List ℕ) (changes : List Change) (v : Version) → IsCommitted log changes v → OnlyIn Log (closed log) (g.may_leave old)
+    → LeavesOnly g.steps g.left_since old new (After (HasLogOrNone log) (g.may_leave old))
+
+module _ {D : Type 0} (g : Ghosts D) (P : Files → Type 0) (fs : Files) (log : List ℕ) where
+  pub while_kept : {old mid : D} → g.files old ≡ Some fs → IfSome (g.files old) (λ fs. fs.log ≡ []) → IsSettled (g.files old) (g.may_leave old)
+      → HoldsKept P fs → IfSome (g.files old) (λ _. KeepsLogOnly g old mid) → LeavesOnly g.steps g.left_since old mid P
+  while_kept {old} {mid} is empty settled holds keeps =
+      let only = settled_at (g.files old) fs (g.may_leave old) is settled in
+      let run = of_some (g.files old) fs (KeepsLogOnly g old mid) is keeps in
+      widened g.steps g.left_since old mid (After HasDiscarded (g.may_leave old)) P (holds (g.may_leave old) only)
+      (run (only_log fs [] (g.may_leave old) (of_told (g.files old) fs (λ fs. fs.log ≡ []) is empty) only))
+
+  pub until_open : {old mid new : D} (changes : List Change) (v : Version) → g.files old ≡ Some fs → IfSome (g.files old) (λ fs. fs.log ≡ []) → IsSettled (g.files old) (g.may_leave old)
+      → HoldsKept P fs → IfSome (g.files old) (λ _. KeepsLogOnly g old mid)
+      → HoldsAtGate P fs log → IsCommitted log changes v → KeepsLog g log old mid → OpensLogOnly g mid new → LeavesOnly g.steps g.left_since old new P
+  until_open {old} {mid} {new} changes v is empty settled holds keeps at_gate committed kept opens =
+      let there : g.files mid ≡ Some (with_log (closed log) fs) = kept.files ∙ ap (option_map (with_log (closed log))) is in
+      let only = settled_at (g.files mid) (with_log (closed log) fs) (g.may_leave mid) there (kept.settled settled) in
+      joined g.steps g.left_since old mid new P (while_kept is empty settled holds keeps)
+      (widened g.steps g.left_since mid new (After (HasLogOrNone log) (g.may_leave mid)) P (at_gate (g.may_leave mid) only)
+      (opens log changes v committed (only_log (with_log (closed log) fs) (closed log) (g.may_leave mid) refl only)))

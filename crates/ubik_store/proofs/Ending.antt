@@ -29,7 +29,7 @@ use Rattle.ubik_store.proofs.Closing.{LeavesLog}
 use Rattle.ubik_store.proofs.Heads.{short_head, long_head}
 use Rattle.ubik_store.proofs.Redone.{length-changed, redone}
 use Rattle.ubik_store.proofs.Redoing.{narrowed}
-use Rattle.ubik_store.proofs.Telling.{of_told}
+use Rattle.ubik_store.proofs.Telling.{of_told, of_some}
 
 -- the image of a database file that is shorter than a label is empty, and stays so
 pub image_headed : (file : List ℕ) → image_of (with_head file) ≡ image_of file
@@ -139,11 +139,6 @@ LeavesEffect g old new v changes fs =
     (told : List Change) → LeadsTo fs told v changes → Narrows (MayRedo fs told) (g.may_leave old)
     → LeavesOnly g.steps g.left_since old new (λ c. StandsFor c v (effect (image_of fs.database) told))
 
--- and then nothing is pending
-abbrev pub SettlesAfter : {D : Type 0} (g : Ghosts D) (old new : D) (v : Version) (changes : List Change) → Files → Type 0
-SettlesAfter g old new v changes fs =
-    (told : List Change) → LeadsTo fs told v changes → Narrows (MayRedo fs told) (g.may_leave old) → IsSettled (g.files new) (g.may_leave new)
-
 module _ (fs : Files) (told changes : List Change) (v : Version) (leads : LeadsTo fs told v changes) where
   -- with the log there still
   pub stands_by_log : (c : Files) → MayRedo fs told c → StandsFor c v (effect (image_of fs.database) told)
@@ -161,7 +156,7 @@ module _ (fs : Files) (told changes : List Change) (v : Version) (leads : LeadsT
       let version : version_of_database c.database ≡ Some v = ap version_of_database file ∙ version_labelled v (applied changes (with_head fs.database)) is fits in
       subst (λ (xs : List ℕ). StandsFor c v xs) image (by_label c v discarded version)
 
-  same_log : (c d : Files) → MayRedo fs told d → c ≡ with_log c.log d → c.log ≡ fs.log → MayRedo fs told c
+  pub same_log : (c d : Files) → MayRedo fs told d → c ≡ with_log c.log d → c.log ≡ fs.log → MayRedo fs told c
   same_log c d may same log = record {
     log = log;
     incoming = ap (λ (f : Files). f.incoming) same ∙ may.incoming;
@@ -180,19 +175,24 @@ module _ (fs : Files) (told changes : List Change) (v : Version) (leads : LeadsT
   pub is_open : IsOpen fs.log
   is_open = ap (λ (log : List ℕ). get_or log 3 0) leads.committed.begins
 
-  -- after it a crash leaves the files that reads give
-  pub settled_end : (left now : Files → Type 0) (files : Option Files) → Narrows (MayRedo fs told) left → OnlyIn Database (finished changes v fs.database) left
-      → LeavesOthers Log left now → OnlyIn Log [] now → files ≡ Some (ended changes v fs) → IsSettled files now
-  unfolding LeavesOthers
-  settled_end left now files may only others empty is =
-      let P : Option Files → Type 0 = λ o. IsSettled o now in
-      subst P (sym is) (λ c here.
-      let from = others.no_more c here in
-      let database : from.0.database ≡ finished changes v fs.database = only from.0 from.1 in
-      let incoming : from.0.incoming ≡ fs.incoming = (may from.0 from.1).incoming in
-      let files_of : List ℕ → List ℕ → List ℕ → Files = λ a b i. record { database = a; log = b; incoming = i } in
-      from.2 ∙ ap (λ (b : List ℕ). files_of from.0.database b from.0.incoming) (empty c here)
-      ∙ ap (λ (a : List ℕ). files_of a [] from.0.incoming) database ∙ ap (files_of (finished changes v fs.database) []) incoming)
+-- What a crash leaves once the database file is whole and the log empty is what reads give: the files were settled before.
+pub settled_end : (changes : List Change) (v : Version) (old end new : Option Files) (before mid now : Files → Type 0) → IsSettled old before
+    → end ≡ option_map (with_database (finished changes v)) old → new ≡ option_map without_log end
+    → LeavesOthers Database before mid → IfSome old (λ fs. OnlyIn Database (finished changes v fs.database) mid)
+    → LeavesOthers Log mid now → IfSome end (λ _. OnlyIn Log [] now) → IsSettled new now
+unfolding LeavesOthers
+settled_end changes v None end new before mid now settled finishes empties others whole last empty =
+    let P : Option Files → Type 0 = λ o. IsSettled o now in subst P (sym (empties ∙ ap (option_map without_log) finishes)) tt
+settled_end changes v (Some fs) end new before mid now settled finishes empties others whole last empty =
+    let file = finished changes v fs.database in
+    let cleared : OnlyIn Log [] now = of_some end (with_database (finished changes v) fs) (OnlyIn Log [] now) finishes empty in
+    let P : Option Files → Type 0 = λ o. IsSettled o now in
+    subst P (sym (empties ∙ ap (option_map without_log) finishes)) (λ c here.
+    let d = last.no_more c here in
+    let e = others.no_more d.0 d.1 in
+    let files_of : List ℕ → List ℕ → Files → Files = λ a b f. record { database = a; log = b; incoming = f.incoming } in
+    d.2 ∙ ap (λ (f : Files). files_of d.0.database c.log f) e.2 ∙ ap (files_of d.0.database c.log) (settled e.0 e.1)
+    ∙ ap (λ (a : List ℕ). files_of a c.log fs) (whole d.0 d.1) ∙ ap (λ (b : List ℕ). files_of file b fs) (cleared c here))
 
 module _ {D : Type 0} (g : Ghosts D) (fs : Files) (told changes : List Change) (v : Version) (leads : LeadsTo fs told v changes) where
   -- the whole run: its changes are made and labelled, and then its log is ended

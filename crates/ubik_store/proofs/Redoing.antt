@@ -1,14 +1,17 @@
 -- What a crash leaves in the midst of a change has the same effect under the log.
-use Rattle.std.proofs.Common.{◌≡◌, ◌≤◌, inl, inr, ℕ, ◌+◌, ◌-◌, List, length, take, drop, sym, ap, subst, ◌∙◌, arith, length-take, length-drop}
+use Rattle.std.proofs.Common.{◌≡◌, ◌≤◌, IsSome, refl, inl, inr, ℕ, ◌+◌, ◌-◌, List, length, take, drop, sym, ap, subst, ◌∙◌, arith, length-take, length-drop}
 use Rattle.std.proofs.lemmas.List.{drop-drop, drop-take}
 use Rattle.ubik_types.specs.declared.images.Change.{Change}
 use Rattle.ubik_types.specs.declared.images.Change.TheVariants.{Put, Cut}
 use Rattle.disk_base.specs.declared.disks.Disk.{Ghosts}
 use Rattle.disk_base.specs.declared.disks.FileNo.{FileNo}
 use Rattle.disk_base.specs.declared.disks.FileNo.TheVariants.{Database}
-use Rattle.disk_base.specs.Files.{Files}
+use Rattle.disk_base.specs.declared.disks.LenEnd.{LenEnd}
+use Rattle.disk_base.specs.declared.disks.LenEnd.TheVariants as lens
+use Rattle.disk_base.specs.Count.{HasCause}
+use Rattle.disk_base.specs.Files.{Files, OnKnown, KeepsRoom}
 use Rattle.disk_base.specs.Crash.{Torn, CutShort, InFile, Narrows, Follows, LeavesOnly, LeavesSame}
-use Rattle.disk_base.specs.Runs.{OneChange, Syncs}
+use Rattle.disk_base.specs.Runs.{OneChange, OnlyReads, Syncs}
 use Rattle.disk_base.proofs.Runs.{called, rested, joined}
 use Rattle.page_file.specs.declared.label.TheConstants.{MAX_DATABASE_LEN}
 use Rattle.page_file.specs.Pages.{image_of}
@@ -104,6 +107,15 @@ module _ {D : Type 0} (g : Ghosts D) where
 
   pub sync_leaves : {f : FileNo} {old new : D} {F : Type 0} (P : Files → Type 0) → Syncs g f old new F → Narrows P (g.may_leave old) → LeavesOnly g.steps g.left_since old new P
   sync_leaves {f} {old} {new} P sync before = one_leaves P sync.change before (λ c left. before c (sync.crash c left))
+
+  -- a call of the length only reads
+  pub len_reads : {old new : D} (r : LenEnd) → OnKnown r (λ _. g.files new ≡ g.files old) → KeepsRoom (g.room old) (g.room new) → g.steps new ≡ g.steps old
+      → LeavesSame (g.may_leave old) (g.may_leave new) (g.left_since old) (g.left_since new) → g.stop new ≡ g.stop old → g.pending new ≡ g.pending old
+      → (IsSome (g.pending old) → g.files new ≡ g.files old) → g.tells new ≡ g.tells old → HasCause (g.faults old) (g.faults new) (r ≡ lens.Failed) → OnlyReads g old new (r ≡ lens.Failed)
+  len_reads (lens.Known n) files room steps crash stop pending kept tells cause =
+      record { files = λ _. files; kept = kept; room = room; steps = steps; crash = crash; stop = stop; pending = pending; tells = tells; cause = cause }
+  len_reads lens.Failed files room steps crash stop pending kept tells cause =
+      record { files = λ not. absurd (not refl); kept = kept; room = room; steps = steps; crash = crash; stop = stop; pending = pending; tells = tells; cause = cause }
 
   -- calls that only read went before
   pub rested_first : {old mid new : D} (P : Files → Type 0) → g.steps mid ≡ g.steps old → LeavesSame (g.may_leave old) (g.may_leave mid) (g.left_since old) (g.left_since mid)

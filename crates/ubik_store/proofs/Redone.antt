@@ -7,7 +7,8 @@ use Rattle.ubik_types.specs.declared.images.Change.{Change}
 use Rattle.ubik_types.specs.declared.images.Change.TheVariants.{Put, Cut}
 use Rattle.ubik_types.specs.Image.{extended, changed, effect}
 use Rattle.disk_base.specs.Crash.{Torn, CutShort}
-use Rattle.ubik_store.specs.Redo.{changed_len, len_after, Leaves, AllLeave, Redoes}
+use Rattle.ubik_store.specs.Redo.{changed_len, len_after, Leaves, AllLeave, Reaches, Redoes}
+use Rattle.ubik_store.specs.Redo.Reaches.{begins, goes_on}
 
 -- how long an image is after a change
 pub length-changed : (image : List ℕ) (change : Change) → length (changed image change) ≡ changed_len (length image) change
@@ -74,9 +75,39 @@ left_or_made (Put at bytes) p = elim (cases_lt p at) [
 ]
 left_or_made (Cut to) p = cases_lt p to
 
+-- a longer image is one too
+reaches_more : {changes : List Change} {len x : ℕ} (y : ℕ) → x ≤ y → Reaches len changes x → Reaches len changes y
+reaches_more y le (begins len changes x low) = begins len changes y (omega arith)
+reaches_more y le (goes_on len change changes x rest) = goes_on len change changes y (reaches_more y le rest)
+
+-- an image that is longer before the first change is longer after it, or stays
+change_keeps : (len x : ℕ) (change : Change) → (changed_len len change ≤ changed_len x change) ⊎ (x ≤ changed_len x change)
+change_keeps len x (Put at bytes) = inr (omega arith)
+change_keeps len x (Cut to) = elim (cases_lt to x) [
+  | inl above ↦ inl (omega arith)
+  | inr within ↦ inr (omega arith)
+]
+
+change-le : (x y : ℕ) (change : Change) → x ≤ y → changed_len x change ≤ changed_len y change
+change-le x y (Put at bytes) le = omega arith
+change-le x y (Cut to) le = omega arith
+
+-- a length that is reached is so still after the first change, by those behind it
+pub reaches_tail : {change : Change} {changes : List Change} {len x : ℕ} → Reaches len (change ∷ changes) x → Reaches (changed_len len change) changes (changed_len x change)
+reaches_tail {change} {changes} (begins len all x low) = begins (changed_len len change) changes (changed_len x change) (change-le len x change low)
+reaches_tail (goes_on len change changes x rest) = elim (change_keeps len x change) [
+  | inl low ↦ begins (changed_len len change) changes (changed_len x change) low
+  | inr more ↦ reaches_more (changed_len x change) more rest
+]
+
 -- after the first change the others lead to one image still
 redoes_tail : (change : Change) (changes : List Change) (base image : List ℕ) → Redoes (change ∷ changes) base image → Redoes changes (changed base change) (changed image change)
 redoes_tail change changes base image same = record {
+  reaches =
+      let P : ℕ → ℕ → Type 0 = λ m n. Reaches m changes n in
+      let tail = reaches_tail same.reaches in
+      subst (λ (n : ℕ). P (length (changed base change)) n) (sym (length-changed image change))
+      (subst (λ (m : ℕ). P m (changed_len (length image) change)) (sym (length-changed base change)) tail);
   len =
       ap (λ (n : ℕ). len_after n changes) (length-changed image change) ∙ same.len
       ∙ ap (λ (n : ℕ). len_after n changes) (sym (length-changed base change));
@@ -91,7 +122,7 @@ redone [] base image same = ext_get_or 0 image base same.len (λ p within. same.
 redone (change ∷ changes) base image same = redone changes (changed base change) (changed image change) (redoes_tail change changes base image same)
 
 pub redoes_itself : (changes : List Change) (base : List ℕ) → Redoes changes base base
-redoes_itself changes base = record { len = refl; bytes = λ p left. refl }
+redoes_itself changes base = record { reaches = begins (length base) changes (length base) (omega arith); len = refl; bytes = λ p left. refl }
 
 -- one of these changes
 pub IsOne : List Change → Change → Type 0
@@ -151,6 +182,7 @@ torn_byte at p bytes old new torn (inr behind) = torn_behind at (length bytes) p
 -- a torn put leaves an image on which the changes have the same effect
 pub redoes_torn : (changes : List Change) (base old new : List ℕ) (at : ℕ) (bytes : List ℕ) → IsOne changes (Put at bytes) → Torn at (length bytes) old new → Redoes changes base old → Redoes changes base new
 redoes_torn changes base old new at bytes one torn same = record {
+  reaches = reaches_more (length new) torn.no_shorter same.reaches;
   len = len_put changes at (length old) (length new) bytes one torn.no_shorter torn.no_longer ∙ same.len;
   bytes = λ p left. torn_byte at p bytes old new torn (left_by_one changes (Put at bytes) p one left) ∙ same.bytes p left;
 }
@@ -168,9 +200,24 @@ cut_high : (to : ℕ) (old new : List ℕ) → CutShort to old new → length ne
 cut_high to old new (inl same) = omega (arith, ap length same)
 cut_high to old new (inr short) = omega (arith, ap length short.1, length-take (length new) old)
 
+-- where one of these changes cuts an image, each length from there on is reached
+reaches_cut : (changes : List Change) (to len x : ℕ) → IsOne changes (Cut to) → to ≤ x → Reaches len changes x
+unfolding IsOne
+reaches_cut [] to len x one above = absurd one
+reaches_cut (first ∷ changes) to len x (inl same) above =
+    let low : changed_len len (Cut to) ≤ x = omega arith in
+    goes_on len first changes x (begins (changed_len len first) changes x (subst (λ (c : Change). changed_len len c ≤ x) (sym same) low))
+reaches_cut (first ∷ changes) to len x (inr one) above =
+    goes_on len first changes x (reaches_cut changes to (changed_len len first) x one above)
+
+cut_reaches : (changes : List Change) (to len : ℕ) (old new : List ℕ) → IsOne changes (Cut to) → CutShort to old new → Reaches len changes (length old) → Reaches len changes (length new)
+cut_reaches changes to len old new one (inl same) reaches = reaches_more (length new) (omega (arith, ap length same)) reaches
+cut_reaches changes to len old new one (inr short) reaches = reaches_cut changes to len (length new) one short.0
+
 -- and so does a cut that happened in part
 pub redoes_cut : (changes : List Change) (base old new : List ℕ) (to : ℕ) → IsOne changes (Cut to) → CutShort to old new → Redoes changes base old → Redoes changes base new
 redoes_cut changes base old new to one cut same = record {
+  reaches = cut_reaches changes to (length base) old new one cut same.reaches;
   len = len_cut changes to (length old) (length new) one (cut_low to old new cut) (cut_high to old new cut) ∙ same.len;
   bytes = λ p left. cut_bytes to p old new cut (left_by_one changes (Cut to) p one left) ∙ same.bytes p left;
 }

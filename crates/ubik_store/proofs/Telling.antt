@@ -1,5 +1,5 @@
 -- What is said where a disk tells its files, and where a call went well.
-use Rattle.std.proofs.Common.{◌≡◌, Option, Some, None, IfSome, refl, sym, ap, subst}
+use Rattle.std.proofs.Common.{◌≡◌, Option, Some, None, IfSome, refl, sym, ap, subst, ◌∙◌}
 use Rattle.std.specs.Result.{is_err}
 use Rattle.std.proofs.lemmas.Bool.{false≢true}
 use Rattle.std.specs.Prelude.{Result, Ok, Err, OnOk, IfErr, IsErr, IsErrOf}
@@ -40,6 +40,25 @@ err_of (Err f) e only failed = ap Err only
 
 pub err_any : {A E : Type 0} (r : Result A E) (e : E) → IsErrOf r e → IsErr r
 err_any r e failed = ap is_err failed
+
+-- what is said of the one error that it may end with
+pub if_err : {A E : Type 0} (r : Result A E) (e : E) (P : E → Type 0) → IfErr r (λ f. f ≡ e) → P e → IfErr r P
+if_err (Ok x) e P only here = tt
+if_err (Err f) e P only here = subst P (sym only) here
+
+err_is : {A E : Type 0} (r : Result A E) (f : E) → IsErr r → IfErr r (λ x. x ≡ f) → r ≡ Err f
+err_is (Ok x) f some only = absurd (false≢true some)
+err_is (Err x) f some only = ap Err only
+
+err_same : {A B E : Type 0} (r : Result A E) (s : Result B E) (f e : E) → r ≡ Err f → s ≡ Err f → IsErrOf s e → IsErrOf r e
+err_same r s f e a b is = let same : f ≡ e = cc in a ∙ ap Err same
+
+-- an error that is handed on as it is
+pub err_on : {A B E : Type 0} (r : Result A E) (s : Result B E) (f e : E) → s ≡ Err f → IsErr r → IfErr r (λ x. x ≡ f) → IsErrOf s e → IsErrOf r e
+err_on r s f e was some only is = err_same r s f e (err_is r f some only) was is
+
+pub err_back : {A B E : Type 0} (r : Result A E) (s : Result B E) (f e : E) → s ≡ Err f → IsErr r → IfErr r (λ x. x ≡ f) → IsErrOf r e → IsErrOf s e
+err_back r s f e was some only is = err_same s r f e was (err_is r f some only) is
 
 -- nothing is said of a disk that does not tell its files
 pub settled_told : (change : Files → Files) (old new : Option Files) (now : Files → Type 0) → new ≡ option_map change old

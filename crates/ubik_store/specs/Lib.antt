@@ -1,5 +1,12 @@
 pub mod Calls
+pub mod Commit
+pub mod DurableCall
 pub mod Faults
 pub mod Files
+pub mod Gaps
 pub mod Moments
+pub mod Opening
+pub mod Plans
 pub mod Redo
+pub mod Rest
+pub mod Store

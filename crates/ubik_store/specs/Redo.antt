@@ -25,9 +25,17 @@ abbrev pub AllLeave : List Change → ℕ → Type 0
 AllLeave [] p = Unit {0}
 AllLeave (change ∷ changes) p = Leaves change p × AllLeave changes p
 
+-- a length that an image reaches while these changes are made, over one of `len` bytes: it is no shorter than after the first
+-- so many of them, for some number
+pub data Reaches : ℕ → List Change → ℕ → Type 0 where
+  begins : (len : ℕ) (changes : List Change) (reached : ℕ) → len ≤ reached → Reaches len changes reached
+  goes_on : (len : ℕ) (change : Change) (changes : List Change) (reached : ℕ)
+      → Reaches (changed_len len change) changes reached → Reaches len (change ∷ changes) reached
+
 -- Changes lead from this image to where they lead from the other one: they end at the same length, and the two have the
--- same bytes wherever no change comes.
+-- same bytes wherever no change comes. It is no shorter than the other one was at some time.
 pub record Redoes (changes : List Change) (base image : List ℕ) : Type 0 where
+  pub reaches : Reaches (length base) changes (length image)
   pub len : len_after (length image) changes ≡ len_after (length base) changes
   pub bytes : (p : ℕ) → AllLeave changes p → slice_index image p ≡ slice_index base p
 

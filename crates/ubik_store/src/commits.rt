@@ -10,6 +10,10 @@ ghost use Rattle.page_file.specs.Label.{version_of_database};
 ghost use Rattle.page_file.specs.Pages.{AgreesIn, image_of};
 ghost use Rattle.ubik_log.specs.LogGrammar.{IsTold, IsWithinImage, IsCommitted};
 ghost use Rattle.ubik_store.specs.Calls.{CallsAtMost};
+ghost use Rattle.ubik_store.specs.Commit.{CommitsFiles, IsDurableOver};
+ghost use Rattle.ubik_store.specs.Gaps.{IsPlain, CutsNoPut};
+ghost use Rattle.ubik_store.specs.Rest.{CanRelabel, RestsAs};
+ghost use Rattle.ubik_store.specs.DurableCall.{whole_image};
 ghost use Rattle.ubik_store.specs.Files.{StandsForEither};
 ghost use Rattle.ubik_store.specs.Moments.{head_calls, ended};
 ghost use Rattle.ubik_store.specs.Redo.{len_after, IsSeamless, Ends};
@@ -19,8 +23,8 @@ use crate::redo::redo;
 use disk_base::{Disk, FileNo};
 use page_file::Pages;
 use std::alloc::Global;
-use ubik_log::{encode_log, keep_log, open_gate};
-use ubik_types::{Change, Changes, Version};
+use ubik_log::{empty_log, encode_log, keep_log, open_gate};
+use ubik_types::{Change, Changes, MAX_IMAGE, Version, bytes_of, changes_new, changes_push};
 
 /// Keeps the log of these changes and this version, commits it, and brings it to its end. It makes the room of the
 /// log first; that of the changes is there. For want of memory nothing changes. A crash at any moment leaves files that
@@ -45,13 +49,17 @@ pub(crate) fn keep_and_redo<D: Disk>(
     ensures moments { IfSome (D.files disk.old) (λ fs. (own : Version) → version_of_database fs.database ≡ Some own
         → LeavesOnly D.steps D.left_since disk.old disk.new
         (StandsForEither own (image_of fs.database) v (effect (image_of fs.database) changes.now))) }
+    ensures plain { CutsNoPut changes.now → IfSome (D.files disk.old) (λ _.
+        LeavesOnly D.steps D.left_since disk.old disk.new IsPlain) }
+    ensures rests { OnOk result (IfSome (D.files disk.old) (λ fs.
+        RestsAs v (effect (image_of fs.database) changes.now) (D.files disk.new))) }
     ensures settled { OnOk result (IsSettled (D.files disk.new) (D.may_leave disk.new)) }
     ensures steps { OnOk result (IfSome (D.files disk.old) (λ fs.
         D.steps disk.new ≡ D.steps disk.old + (13 + length changes.now + head_calls fs.database))) }
     ensures label { OnOk result (pages.new.version ≡ Some v) }
     ensures len { OnOk result (pages.new.len ≡ len_after pages.old.len changes.now) }
     ensures agrees { OnOk result (AgreesIn pages.new (D.files disk.new)) }
-    ensures reserved { OnOk result (length log.now ≤ D.room disk.new FileNo.Log) }
+    ensures room { OnOk result (CanRelabel D.Disk disk.new) }
     ensures fault { IfErr result (λ fault. (fault ≡ StoreFault.DiskFault) ⊎ (fault ≡ StoreFault.NoMemory)) }
     ensures no_memory { IsErrOf result StoreFault.NoMemory → D.room disk.old FileNo.Log < length log.now }
     ensures unchanged { IsErrOf result StoreFault.NoMemory → OnlyReserves D.Disk disk.old disk.new × (pages.new ≡ pages.old) }
@@ -75,7 +83,7 @@ fn end_of(change: &Change) -> u32
 }
 
 /// How long an image these changes need room for.
-fn reach(changes: &[Change]) -> u32
+pub(crate) fn reach(changes: &[Change]) -> u32
     requires { All IsWithinImage changes.now }
     ensures ends { All (λ change. Ends change (64 + result)) changes.now }
     ensures within { result ≤ 16777216 }
@@ -90,7 +98,7 @@ fn reach(changes: &[Change]) -> u32
 /// Makes these changes of a database one durable call, which gives it a version. The pages are those of the disk, in whose
 /// log file there is nothing. All memory is taken first: for want of it nothing changes. A crash at any moment
 /// leaves files that stand for the state before or the one after.
-pub fn commit_changes<D: Disk>(
+pub(crate) fn commit_changes<D: Disk>(
     alloc: Global,
     disk: &mut D,
     pages: &mut Pages,
@@ -99,25 +107,65 @@ pub fn commit_changes<D: Disk>(
 ) -> Result<(), StoreFault>
     requires told { IsTold changes.now v }
     requires agrees { AgreesIn pages.old (D.files disk.old) }
-    requires len { pages.old.len ≤ 16777216 }
+    requires len { pages.old.len ≤ MAX_IMAGE }
     requires seamless { IsSeamless pages.old.len changes.now }
     requires empty { IfSome (D.files disk.old) (λ fs. fs.log ≡ []) }
     requires settled { IsSettled (D.files disk.old) (D.may_leave disk.old) }
-    ensures files { OnOk result (D.files disk.new ≡ option_map (ended changes.now v) (D.files disk.old)) }
-    ensures moments { IfSome (D.files disk.old) (λ fs. (own : Version) → version_of_database fs.database ≡ Some own
-        → LeavesOnly D.steps D.left_since disk.old disk.new
-        (StandsForEither own (image_of fs.database) v (effect (image_of fs.database) changes.now))) }
-    ensures settled { OnOk result (IsSettled (D.files disk.new) (D.may_leave disk.new)) }
-    ensures steps { OnOk result (IfSome (D.files disk.old) (λ fs.
-        D.steps disk.new ≡ D.steps disk.old + (13 + length changes.now + head_calls fs.database))) }
-    ensures label { OnOk result (pages.new.version ≡ Some v) }
-    ensures len { OnOk result (pages.new.len ≡ len_after pages.old.len changes.now) }
-    ensures agrees { OnOk result (AgreesIn pages.new (D.files disk.new)) }
+    ensures done { OnOk result (CommitsFiles D.Disk changes.now v disk.old disk.new pages.old pages.new) }
+    ensures durable { IsDurableOver D.Disk changes.now v disk.old disk.new (IsErrOf result StoreFault.DiskFault) }
     ensures fault { IfErr result (λ fault. (fault ≡ StoreFault.DiskFault) ⊎ (fault ≡ StoreFault.NoMemory)) }
     ensures unchanged { IsErrOf result StoreFault.NoMemory → OnlyReserves D.Disk disk.old disk.new × (pages.new ≡ pages.old) }
-    ensures calls { CallsAtMost D.Disk (14 + length changes.now) disk.old disk.new (IsErrOf result StoreFault.DiskFault) }
 {
     let log = encode_log(alloc, changes, v)?;
     pages.reserve(disk, reach(changes.as_slice()))?;
     keep_and_redo(alloc, disk, pages, log.as_slice(), changes.as_slice(), v)
+}
+
+/// Gives the image a version, in one durable call: a log of no change. Where there is room for that log and a label it takes no memory.
+pub(crate) fn relabel_files<D: Disk>(
+    alloc: Global,
+    disk: &mut D,
+    pages: &mut Pages,
+    v: Version,
+) -> Result<(), StoreFault>
+    requires version { IsVersion v }
+    requires agrees { AgreesIn pages.old (D.files disk.old) }
+    requires len { pages.old.len ≤ MAX_IMAGE }
+    requires empty { IfSome (D.files disk.old) (λ fs. fs.log ≡ []) }
+    requires settled { IsSettled (D.files disk.old) (D.may_leave disk.old) }
+    ensures done { OnOk result (CommitsFiles D.Disk [] v disk.old disk.new pages.old pages.new) }
+    ensures durable { IsDurableOver D.Disk [] v disk.old disk.new (IsErrOf result StoreFault.DiskFault) }
+    ensures fault { IfErr result (λ fault. (fault ≡ StoreFault.DiskFault) ⊎ (fault ≡ StoreFault.NoMemory)) }
+    ensures no_memory { CanRelabel D.Disk disk.old → ¬ IsErrOf result StoreFault.NoMemory }
+    ensures unchanged { IsErrOf result StoreFault.NoMemory → OnlyReserves D.Disk disk.old disk.new × (pages.new ≡ pages.old) }
+{
+    pages.reserve(disk, 0)?;
+    keep_and_redo(alloc, disk, pages, &empty_log(v), &[], v)
+}
+
+/// Takes another image under a version, in one durable call: everything is cut, and the image is put.
+pub(crate) fn install_files<D: Disk>(
+    alloc: Global,
+    disk: &mut D,
+    pages: &mut Pages,
+    image: &[u8],
+    v: Version,
+) -> Result<(), StoreFault>
+    requires version { IsVersion v }
+    requires fits { length image.now ≤ MAX_IMAGE }
+    requires agrees { AgreesIn pages.old (D.files disk.old) }
+    requires len { pages.old.len ≤ MAX_IMAGE }
+    requires empty { IfSome (D.files disk.old) (λ fs. fs.log ≡ []) }
+    requires settled { IsSettled (D.files disk.old) (D.may_leave disk.old) }
+    ensures done { OnOk result (CommitsFiles D.Disk (whole_image image.now) v disk.old disk.new pages.old pages.new) }
+    ensures rests { OnOk result (IfSome (D.files disk.old) (λ _. RestsAs v image.now (D.files disk.new))) }
+    ensures durable { IsDurableOver D.Disk (whole_image image.now) v disk.old disk.new (IsErrOf result StoreFault.DiskFault) }
+    ensures fault { IfErr result (λ fault. (fault ≡ StoreFault.DiskFault) ⊎ (fault ≡ StoreFault.NoMemory)) }
+    ensures unchanged { IsErrOf result StoreFault.NoMemory → OnlyReserves D.Disk disk.old disk.new × (pages.new ≡ pages.old) }
+{
+    let bytes = bytes_of(alloc, image)?;
+    let mut changes = changes_new(alloc);
+    changes_push(&mut changes, Change::Cut { len: 0 })?;
+    changes_push(&mut changes, Change::Put { at: 0, bytes })?;
+    commit_changes(alloc, disk, pages, &changes, v)
 }

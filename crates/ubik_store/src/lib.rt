@@ -4,10 +4,18 @@
 
 mod commits;
 mod faults;
+mod logged;
+mod opening;
 mod redo;
+mod stores;
+mod transactions;
 
-pub use commits::commit_changes;
 pub use faults::StoreFault;
+pub use stores::Store;
 
+#[cfg(test)]
+mod opening_tests;
+#[cfg(test)]
+mod stop_tests;
 #[cfg(test)]
 mod tests;

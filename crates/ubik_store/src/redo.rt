@@ -14,6 +14,7 @@ ghost use Rattle.ubik_log.specs.LogGrammar.{IsWithinImage};
 ghost use Rattle.ubik_types.specs.Image.{effect};
 ghost use Rattle.ubik_store.specs.Files.{StandsFor};
 ghost use Rattle.ubik_store.specs.Calls.{CallsAtMost};
+ghost use Rattle.ubik_store.specs.Gaps.{IsPlain};
 ghost use Rattle.ubik_store.specs.Moments.{MayRedo, with_database, with_head, head_calls, changed_file, applied, labelled, without_log, ended, LeadsTo};
 ghost use Rattle.ubik_store.specs.Redo.{changed_len, len_after, IsSeam, IsSeamless, IsCovered, Ends};
 
@@ -31,7 +32,7 @@ pub(crate) fn put_head<D: Disk>(disk: &mut D) -> Result<(), PageFault>
     ensures redo { (kept : Files) (told : List Change) → Narrows (MayRedo kept told) (D.may_leave disk.old)
         → LeavesOnly D.steps D.left_since disk.old disk.new (MayRedo kept told) }
     ensures fault { IfErr result (λ fault. fault ≡ PageFault.DiskFault) }
-    ensures calls { CallsAtMost D.Disk 1 disk.old disk.new (IsErr result) }
+    ensures changes { ChangesAtMost D.Disk FileNo.Database 1 disk.old disk.new (IsErr result) }
 {
     match disk.len(FileNo::Database) {
         LenEnd::Known(len) if len >= LABEL_LEN as u64 => Ok(()),
@@ -60,7 +61,7 @@ fn apply<D: Disk>(disk: &mut D, pages: &mut Pages, change: &Change) -> Result<()
         → Narrows (MayRedo kept told) (D.may_leave disk.old)
         → LeavesOnly D.steps D.left_since disk.old disk.new (MayRedo kept told) }
     ensures fault { IfErr result (λ fault. fault ≡ PageFault.DiskFault) }
-    ensures calls { CallsAtMost D.Disk 1 disk.old disk.new (IsErr result) }
+    ensures changes { ChangesAtMost D.Disk FileNo.Database 1 disk.old disk.new (IsErr result) }
 {
     match change {
         Change::Put { at, bytes } => pages.write_range(disk, *at, bytes.as_slice()),
@@ -89,7 +90,7 @@ pub(crate) fn apply_all<D: Disk>(
         → Narrows (MayRedo kept told) (D.may_leave disk.old)
         → LeavesOnly D.steps D.left_since disk.old disk.new (MayRedo kept told) }
     ensures fault { IfErr result (λ fault. fault ≡ PageFault.DiskFault) }
-    ensures calls { CallsAtMost D.Disk (length changes.now) disk.old disk.new (IsErr result) }
+    ensures changes { ChangesAtMost D.Disk FileNo.Database (length changes.now) disk.old disk.new (IsErr result) }
 {
     for change in changes {
         apply(disk, pages, change)?;
@@ -113,7 +114,7 @@ fn put_label<D: Disk>(disk: &mut D, pages: &mut Pages, v: Version) -> Result<(),
     ensures redo { (kept : Files) (told : List Change) → Narrows (MayRedo kept told) (D.may_leave disk.old)
         → LeavesOnly D.steps D.left_since disk.old disk.new (MayRedo kept told) }
     ensures fault { IfErr result (λ fault. fault ≡ PageFault.DiskFault) }
-    ensures calls { CallsAtMost D.Disk 3 disk.old disk.new (IsErr result) }
+    ensures changes { ChangesAtMost D.Disk FileNo.Database 3 disk.old disk.new (IsErr result) }
 {
     pages.sync(disk)?;
     pages.set_label(disk, v)?;
@@ -121,7 +122,7 @@ fn put_label<D: Disk>(disk: &mut D, pages: &mut Pages, v: Version) -> Result<(),
 }
 
 /// Empties the log file.
-fn empty_log_file<D: Disk>(disk: &mut D) -> DiskEnd
+pub(crate) fn empty_log_file<D: Disk>(disk: &mut D) -> DiskEnd
     ensures files { OnDone result (D.files disk.new ≡ option_map without_log (D.files disk.old)) }
     ensures durable { OnDone result (IfSome (D.files disk.old) (λ _. OnlyIn FileNo.Log [] (D.may_leave disk.new))) }
     ensures moments { LeavesOnly D.steps D.left_since disk.old disk.new
@@ -136,7 +137,7 @@ fn empty_log_file<D: Disk>(disk: &mut D) -> DiskEnd
 }
 
 /// Closes the gate of the log, and empties its file.
-fn end_log<D: Disk>(disk: &mut D) -> Result<(), LogFault>
+pub(crate) fn end_log<D: Disk>(disk: &mut D) -> Result<(), LogFault>
     requires header { IfSome (D.files disk.old) (λ fs. 4 ≤ length fs.log) }
     requires fits { D.files disk.old ≡ None → 4 ≤ D.room disk.old FileNo.Log }
     ensures files { OnOk result (D.files disk.new ≡ option_map without_log (D.files disk.old)) }
@@ -175,8 +176,9 @@ pub(crate) fn redo<D: Disk>(
     ensures moments { IfSome (D.files disk.old) (λ fs. (told : List Change) → LeadsTo fs told v changes.now
         → Narrows (MayRedo fs told) (D.may_leave disk.old)
         → LeavesOnly D.steps D.left_since disk.old disk.new (λ c. StandsFor c v (effect (image_of fs.database) told))) }
-    ensures settled { OnOk result (IfSome (D.files disk.old) (λ fs. (told : List Change) → LeadsTo fs told v changes.now
-        → Narrows (MayRedo fs told) (D.may_leave disk.old) → IsSettled (D.files disk.new) (D.may_leave disk.new))) }
+    ensures plain { IfSome (D.files disk.old) (λ fs. (told : List Change) → LeadsTo fs told v changes.now → IsPlain fs
+        → Narrows (MayRedo fs told) (D.may_leave disk.old) → LeavesOnly D.steps D.left_since disk.old disk.new IsPlain) }
+    ensures settled { OnOk result (IsSettled (D.files disk.old) (D.may_leave disk.old) → IsSettled (D.files disk.new) (D.may_leave disk.new)) }
     ensures steps { OnOk result (IfSome (D.files disk.old) (λ fs.
         D.steps disk.new ≡ D.steps disk.old + (7 + length changes.now + head_calls fs.database))) }
     ensures label { OnOk result (pages.new.version ≡ Some v) }

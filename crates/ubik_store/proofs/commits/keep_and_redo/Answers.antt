@@ -1,4 +1,4 @@
-use Rattle.std.proofs.Common.{◌≡◌, ◌+◌, ◌∙◌, ◌⊎◌, rules, inl, inr, [], length, Some, refl, ap, arith}
+use Rattle.std.proofs.Common.{◌≡◌, ◌+◌, ◌∙◌, ◌⊎◌, rules, inl, inr, length, Some, refl, ap, arith}
 use Rattle.std.proofs.lemmas.Bool.{false≢true}
 use Rattle.std.specs.Option.{option_map}
 use Rattle.std.specs.Prelude.{Result, Ok, Err, IfErr, IsErr, IsErrOf}
@@ -7,46 +7,48 @@ use Rattle.ubik_log.specs.declared.disk_logs.LogFault.TheVariants as logs
 use Rattle.ubik_store.specs.declared.faults.StoreFault.{StoreFault}
 use Rattle.ubik_store.specs.declared.faults.StoreFault.TheVariants as faults
 use Rattle.ubik_types.specs.Image.{effect}
-use Rattle.disk_base.specs.declared.disks.Disk.{Ghosts}
-use Rattle.disk_base.specs.declared.disks.FileNo.TheVariants.{Log}
-use Rattle.disk_base.specs.Crash.{LeavesOnly, OnlyIn, After}
+use Rattle.disk_base.specs.declared.disks.FileNo.TheVariants.{Database, Log}
+use Rattle.disk_base.specs.Crash.{LeavesOnly}
 use Rattle.disk_base.proofs.Runs.{widened, joined}
 use Rattle.page_file.specs.Pages.{image_of}
-use Rattle.ubik_log.specs.Gate.{closed}
-use Rattle.ubik_log.specs.LogFile.{with_log, HasDiscarded, HasLogOrNone}
+use Rattle.ubik_log.specs.LogFile.{with_log}
+use Rattle.ubik_store.specs.Gaps.{IsPlain}
+use Rattle.ubik_store.specs.Rest.{RestsAs}
 use Rattle.ubik_store.specs.Files.{StandsFor, StandsForEither}
 use Rattle.ubik_store.specs.Moments.{head_calls, ended}
 use Rattle.ubik_store.proofs.Applied.{calls_of, calls_joined, calls_as}
-use Rattle.ubik_store.proofs.Committing.{LeavesEither, fits_of, stands_before, stands_in_gate, leads_itself, may_redo_all, opened_files, ended_from, only_log, settled_at}
-use Rattle.ubik_store.proofs.Ending.{LeavesEffect, SettlesAfter}
-use Rattle.ubik_store.proofs.Telling.{told, of_told, of_some, ok_map, ok_both, err_of, err_any, settled_told}
+use Rattle.ubik_store.proofs.Committing.{LeavesEither, fits_of, stands_before, stands_in_gate, leads_itself, may_redo_all, opened_files, ended_from, opened_over, while_kept, until_open, settled_at, all_end_more}
+use Rattle.ubik_store.proofs.Ending.{LeavesEffect}
+use Rattle.ubik_store.proofs.Gaps.{seamless_is_gapless}
+use Rattle.ubik_store.proofs.Plain.{LeavesPlain, plain_before, plain_in_gate, plain_committed}
+use Rattle.ubik_store.proofs.Resting.{seamless_of, rests_in, committed_long}
+use Rattle.ubik_store.proofs.Telling.{told, of_told, ok_map, err_of, err_any}
 use Rattle.ubik_store.proofs.commits.keep_and_redo.Goals as goal
-
-abbrev KeepsLogOnly : {D : Type 0} (g : Ghosts D) (old new : D) → Type 0
-KeepsLogOnly g old new = OnlyIn Log [] (g.may_leave old) → LeavesOnly g.steps g.left_since old new (After HasDiscarded (g.may_leave old))
 
 pub returns-in_err-keep_log-clause-moments : goal.returns-in_err-keep_log-clause-moments
 returns-in_err-keep_log-clause-moments g c = told _ (LeavesEither g.D.Disk c.args.disk.now c.keep_log.new.disk c.args.v c.args.changes.now) (λ fs is own labelled.
-    let only = settled_at _ fs _ is c.requires.settled in
-    let kept = of_some _ fs (KeepsLogOnly g.D.Disk c.args.disk.now c.keep_log.new.disk) is c.keep_log.ensures.moments in
-    widened g.D.Disk.steps g.D.Disk.left_since _ _ (After HasDiscarded (g.D.Disk.may_leave c.args.disk.now)) _
-    (stands_before fs own c.args.v c.args.changes.now c.args.log.now _ only labelled)
-    (kept (only_log fs [] _ (of_told _ fs (λ fs. fs.log ≡ []) is c.requires.empty) only)))
+    let log = c.args.log.now in
+    while_kept g.D.Disk _ fs log is c.requires.empty c.requires.settled (stands_before fs own c.args.v c.args.changes.now log labelled) c.keep_log.ensures.moments)
 
 pub returns-in_err-open_gate-clause-moments : goal.returns-in_err-open_gate-clause-moments
 returns-in_err-open_gate-clause-moments g c = told _ (LeavesEither g.D.Disk c.args.disk.now c.open_gate.new.disk c.args.v c.args.changes.now) (λ fs is own labelled.
-    let only = settled_at _ fs _ is c.requires.settled in
-    let kept = of_some _ fs (KeepsLogOnly g.D.Disk c.args.disk.now c.keep_log.new.disk) is c.keep_log.ensures.moments in
-    let Stands = StandsForEither own (image_of fs.database) c.args.v (effect (image_of fs.database) c.args.changes.now) in
-    let first = widened g.D.Disk.steps g.D.Disk.left_since _ _ (After HasDiscarded (g.D.Disk.may_leave c.args.disk.now)) Stands
-    (stands_before fs own c.args.v c.args.changes.now c.args.log.now _ only labelled)
-    (kept (only_log fs [] _ (of_told _ fs (λ fs. fs.log ≡ []) is c.requires.empty) only)) in
-    let mid : g.D.Disk.files c.keep_log.new.disk ≡ Some (with_log (closed c.args.log.now) fs) = c.in_ok-keep_log.ensures.stands.files ∙ ap (option_map (with_log (closed c.args.log.now))) is in
-    let mid_only = settled_at _ (with_log (closed c.args.log.now) fs) _ mid (c.in_ok-keep_log.ensures.stands.settled c.requires.settled) in
-    let second = widened g.D.Disk.steps g.D.Disk.left_since _ _ (After (HasLogOrNone c.args.log.now) (g.D.Disk.may_leave c.keep_log.new.disk)) Stands
-    (stands_in_gate fs own c.args.v c.args.changes.now c.args.log.now _ mid_only c.requires.committed (fits_of _ _ fs c.requires.agrees is c.requires.len) labelled)
-    (c.open_gate.ensures.either c.args.log.now c.args.changes.now c.args.v c.requires.committed (only_log _ (closed c.args.log.now) _ refl mid_only)) in
-    joined g.D.Disk.steps g.D.Disk.left_since _ _ _ Stands first second)
+    let log = c.args.log.now in
+    let changes = c.args.changes.now in
+    until_open g.D.Disk _ fs log changes c.args.v is c.requires.empty c.requires.settled (stands_before fs own c.args.v changes log labelled) c.keep_log.ensures.moments
+    (stands_in_gate fs own c.args.v changes log c.requires.committed (fits_of _ _ fs c.requires.agrees is c.requires.len) labelled) c.requires.committed
+    c.in_ok-keep_log.ensures.stands c.open_gate.ensures.either)
+
+pub returns-in_err-keep_log-clause-plain : goal.returns-in_err-keep_log-clause-plain
+returns-in_err-keep_log-clause-plain g c = λ cuts. told _ (λ _. LeavesOnly g.D.Disk.steps g.D.Disk.left_since c.args.disk.now c.keep_log.new.disk IsPlain) (λ fs is.
+    while_kept g.D.Disk IsPlain fs c.args.log.now is c.requires.empty c.requires.settled (plain_before fs) c.keep_log.ensures.moments)
+
+pub returns-in_err-open_gate-clause-plain : goal.returns-in_err-open_gate-clause-plain
+returns-in_err-open_gate-clause-plain g c = λ cuts. told _ (λ _. LeavesOnly g.D.Disk.steps g.D.Disk.left_since c.args.disk.now c.open_gate.new.disk IsPlain) (λ fs is.
+    let log = c.args.log.now in
+    let changes = c.args.changes.now in
+    let gapless = seamless_is_gapless changes _ (seamless_of c.args.pages.now _ fs changes c.requires.agrees is c.requires.seamless) in
+    until_open g.D.Disk IsPlain fs log changes c.args.v is c.requires.empty c.requires.settled (plain_before fs) c.keep_log.ensures.moments
+    (plain_in_gate fs changes c.args.v log c.requires.committed gapless cuts) c.requires.committed c.in_ok-keep_log.ensures.stands c.open_gate.ensures.either)
 
 -- a call that never lacks memory fails by the disk
 gate_fault : {A : Type 0} (r : Result A LogFault) (e : LogFault) → r ≡ Err e → ¬ IsErrOf r logs.NoMemory → e ≡ logs.DiskFault
@@ -68,6 +70,12 @@ returns-in_err-open_gate-clause-calls g c =
     let not : IsErrOf r faults.NoMemory → ⊥ = search rules in
     calls_as (omega arith) (λ _. only_fault r some either not) (λ _. told_log) (calls_joined (calls_of c.in_ok-keep_log.ensures.changes) (λ failed. absurd cc) (calls_of c.open_gate.ensures.changes))
 
+pub redo-requires-clause-fits : goal.redo-requires-clause-fits
+redo-requires-clause-fits g c =
+    let kept = c.in_ok-keep_log.ensures.changes.room Database in
+    let opened = c.in_ok-open_gate.ensures.changes.room Database in
+    all_end_more c.args.changes.now _ _ (omega (arith, kept, opened)) c.requires.fits
+
 pub returns-clause-files : goal.returns-clause-files
 returns-clause-files g c =
     ok_map c.redo.result _ _ c.redo.ensures.files (λ is. is ∙ ended_from c.args.log.now c.args.changes.now c.args.v _ _
@@ -75,37 +83,36 @@ returns-clause-files g c =
 
 pub returns-clause-moments : goal.returns-clause-moments
 returns-clause-moments g c = told _ (LeavesEither g.D.Disk c.args.disk.now c.redo.new.disk c.args.v c.args.changes.now) (λ fs is own labelled.
-    let only = settled_at _ fs _ is c.requires.settled in
-    let kept = of_some _ fs (KeepsLogOnly g.D.Disk c.args.disk.now c.keep_log.new.disk) is c.keep_log.ensures.moments in
-    let Stands = StandsForEither own (image_of fs.database) c.args.v (effect (image_of fs.database) c.args.changes.now) in
-    let first = widened g.D.Disk.steps g.D.Disk.left_since _ _ (After HasDiscarded (g.D.Disk.may_leave c.args.disk.now)) Stands
-    (stands_before fs own c.args.v c.args.changes.now c.args.log.now _ only labelled)
-    (kept (only_log fs [] _ (of_told _ fs (λ fs. fs.log ≡ []) is c.requires.empty) only)) in
-    let mid : g.D.Disk.files c.keep_log.new.disk ≡ Some (with_log (closed c.args.log.now) fs) = c.in_ok-keep_log.ensures.stands.files ∙ ap (option_map (with_log (closed c.args.log.now))) is in
-    let mid_settled = c.in_ok-keep_log.ensures.stands.settled c.requires.settled in
-    let mid_only = settled_at _ (with_log (closed c.args.log.now) fs) _ mid mid_settled in
+    let log = c.args.log.now in
+    let changes = c.args.changes.now in
+    let Stands = StandsForEither own (image_of fs.database) c.args.v (effect (image_of fs.database) changes) in
     let fits = fits_of _ _ fs c.requires.agrees is c.requires.len in
-    let second = widened g.D.Disk.steps g.D.Disk.left_since _ _ (After (HasLogOrNone c.args.log.now) (g.D.Disk.may_leave c.keep_log.new.disk)) Stands
-    (stands_in_gate fs own c.args.v c.args.changes.now c.args.log.now _ mid_only c.requires.committed fits labelled)
-    (c.open_gate.ensures.either c.args.log.now c.args.changes.now c.args.v c.requires.committed (only_log _ (closed c.args.log.now) _ refl mid_only)) in
-    let opened : g.D.Disk.files c.open_gate.new.disk ≡ Some (with_log c.args.log.now fs) =
-    opened_files c.args.log.now c.args.changes.now c.args.v _ _ _ c.requires.committed c.in_ok-keep_log.ensures.stands.files c.in_ok-open_gate.ensures.set.files ∙ ap (option_map (with_log c.args.log.now)) is in
-    let open_only = settled_at _ (with_log c.args.log.now fs) _ opened (c.in_ok-open_gate.ensures.set.settled mid_settled) in
-    let whole = of_told _ (with_log c.args.log.now fs) (LeavesEffect g.D.Disk c.open_gate.new.disk c.redo.new.disk c.args.v c.args.changes.now) opened c.redo.ensures.moments in
-    let third = widened g.D.Disk.steps g.D.Disk.left_since _ _ (λ x. StandsFor x c.args.v (effect (image_of fs.database) c.args.changes.now)) Stands (λ x stands. inr stands)
-    (whole c.args.changes.now (leads_itself fs c.args.v c.args.changes.now c.args.log.now c.requires.committed) (may_redo_all (with_log c.args.log.now fs) c.args.changes.now _ fits open_only)) in
-    joined g.D.Disk.steps g.D.Disk.left_since _ _ _ Stands (joined g.D.Disk.steps g.D.Disk.left_since _ _ _ Stands first second) third)
+    let opened = opened_over log changes c.args.v fs _ _ _ is c.requires.committed c.in_ok-keep_log.ensures.stands.files c.in_ok-open_gate.ensures.set.files in
+    let only = settled_at _ (with_log log fs) _ opened (c.in_ok-open_gate.ensures.set.settled (c.in_ok-keep_log.ensures.stands.settled c.requires.settled)) in
+    let rest = of_told _ (with_log log fs) (LeavesEffect g.D.Disk c.open_gate.new.disk c.redo.new.disk c.args.v changes) opened c.redo.ensures.moments in
+    joined g.D.Disk.steps g.D.Disk.left_since _ _ _ Stands
+    (until_open g.D.Disk Stands fs log changes c.args.v is c.requires.empty c.requires.settled (stands_before fs own c.args.v changes log labelled) c.keep_log.ensures.moments
+    (stands_in_gate fs own c.args.v changes log c.requires.committed fits labelled) c.requires.committed c.in_ok-keep_log.ensures.stands c.open_gate.ensures.either)
+    (widened g.D.Disk.steps g.D.Disk.left_since _ _ (λ x. StandsFor x c.args.v (effect (image_of fs.database) changes)) Stands (λ x stands. inr stands)
+    (rest changes (leads_itself fs c.args.v changes log c.requires.committed) (may_redo_all (with_log log fs) changes _ fits only))))
+
+pub returns-clause-plain : goal.returns-clause-plain
+returns-clause-plain g c = λ cuts. told _ (λ _. LeavesOnly g.D.Disk.steps g.D.Disk.left_since c.args.disk.now c.redo.new.disk IsPlain) (λ fs is.
+    let log = c.args.log.now in
+    let changes = c.args.changes.now in
+    let gapless = seamless_is_gapless changes _ (seamless_of c.args.pages.now _ fs changes c.requires.agrees is c.requires.seamless) in
+    let opened = opened_over log changes c.args.v fs _ _ _ is c.requires.committed c.in_ok-keep_log.ensures.stands.files c.in_ok-open_gate.ensures.set.files in
+    let only = settled_at _ (with_log log fs) _ opened (c.in_ok-open_gate.ensures.set.settled (c.in_ok-keep_log.ensures.stands.settled c.requires.settled)) in
+    let rest = of_told _ (with_log log fs) (LeavesPlain g.D.Disk c.open_gate.new.disk c.redo.new.disk c.args.v changes) opened c.redo.ensures.plain in
+    joined g.D.Disk.steps g.D.Disk.left_since _ _ _ IsPlain
+    (until_open g.D.Disk IsPlain fs log changes c.args.v is c.requires.empty c.requires.settled (plain_before fs) c.keep_log.ensures.moments
+    (plain_in_gate fs changes c.args.v log c.requires.committed gapless cuts) c.requires.committed c.in_ok-keep_log.ensures.stands c.open_gate.ensures.either)
+    (rest changes (leads_itself fs c.args.v changes log c.requires.committed) (plain_committed fs changes c.args.v log (with_log log fs) c.requires.committed gapless cuts refl refl)
+    (may_redo_all (with_log log fs) changes _ (fits_of _ _ fs c.requires.agrees is c.requires.len) only)))
 
 pub returns-clause-settled : goal.returns-clause-settled
 returns-clause-settled g c =
-    ok_both c.redo.result _ _ _ c.redo.ensures.files c.redo.ensures.settled (λ files settled.
-    let from = opened_files c.args.log.now c.args.changes.now c.args.v _ _ _ c.requires.committed c.in_ok-keep_log.ensures.stands.files c.in_ok-open_gate.ensures.set.files in
-    settled_told (ended c.args.changes.now c.args.v) _ _ _ (files ∙ ended_from c.args.log.now c.args.changes.now c.args.v _ _ from) (λ fs is.
-    let opened : g.D.Disk.files c.open_gate.new.disk ≡ Some (with_log c.args.log.now fs) = from ∙ ap (option_map (with_log c.args.log.now)) is in
-    let open_only = settled_at _ (with_log c.args.log.now fs) _ opened (c.in_ok-open_gate.ensures.set.settled (c.in_ok-keep_log.ensures.stands.settled c.requires.settled)) in
-    of_told _ (with_log c.args.log.now fs) (SettlesAfter g.D.Disk c.open_gate.new.disk c.redo.new.disk c.args.v c.args.changes.now) opened settled
-    c.args.changes.now (leads_itself fs c.args.v c.args.changes.now c.args.log.now c.requires.committed)
-    (may_redo_all (with_log c.args.log.now fs) c.args.changes.now _ (fits_of _ _ fs c.requires.agrees is c.requires.len) open_only)))
+    ok_map c.redo.result _ _ c.redo.ensures.settled (λ settles. settles (c.in_ok-open_gate.ensures.set.settled (c.in_ok-keep_log.ensures.stands.settled c.requires.settled)))
 
 pub returns-clause-steps : goal.returns-clause-steps
 returns-clause-steps g c =
@@ -121,3 +128,22 @@ pub returns-clause-calls : goal.returns-clause-calls
 returns-clause-calls g c =
     calls_as (omega arith) (err_of c.redo.result _ c.redo.ensures.fault) (err_any c.redo.result _)
     (calls_joined (calls_joined (calls_of c.in_ok-keep_log.ensures.changes) (λ failed. absurd cc) (calls_of c.in_ok-open_gate.ensures.changes)) (λ failed. absurd cc) c.redo.ensures.calls)
+
+pub returns-clause-rests : goal.returns-clause-rests
+returns-clause-rests g c =
+    ok_map c.redo.result _ _ c.redo.ensures.files (λ files.
+    told _ (λ fs. RestsAs c.args.v (effect (image_of fs.database) c.args.changes.now) (g.D.Disk.files c.redo.new.disk)) (λ fs is.
+    let from = opened_files c.args.log.now c.args.changes.now c.args.v _ _ _ c.requires.committed c.in_ok-keep_log.ensures.stands.files c.in_ok-open_gate.ensures.set.files in
+    rests_in c.args.changes.now c.args.v fs c.args.pages.now _ _ c.requires.committed.told c.requires.agrees is c.requires.seamless c.requires.len
+    (files ∙ ended_from c.args.log.now c.args.changes.now c.args.v _ _ from ∙ ap (option_map (ended c.args.changes.now c.args.v)) is)))
+
+pub returns-clause-room : goal.returns-clause-room
+returns-clause-room g c =
+    ok_map c.redo.result _ _ c.redo.ensures.files (λ _.
+    let long = committed_long c.args.log.now c.args.changes.now c.args.v c.requires.committed in
+    let kept = c.in_ok-open_gate.ensures.changes.room Log in
+    let last = c.redo.ensures.calls.room Log in
+    let first_database = c.keep_log.ensures.changes.room Database in
+    let kept_database = c.in_ok-open_gate.ensures.changes.room Database in
+    let last_database = c.redo.ensures.calls.room Database in
+    (omega (arith, long, kept, last, c.in_ok-keep_log.ensures.stands.reserved), omega (arith, first_database, kept_database, last_database, c.requires.head_fits)))

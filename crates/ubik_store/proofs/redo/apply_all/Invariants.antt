@@ -2,10 +2,11 @@ use Rattle.std.proofs.Common.{◌≡◌, ◌+◌, ◌≤◌, List, length, drop,
 use Rattle.std.specs.List.{All}
 use Rattle.std.specs.Option.{option_map}
 use Rattle.ubik_types.specs.declared.images.Change.{Change}
+use Rattle.disk_base.specs.declared.disks.FileNo.TheVariants.{Database}
 use Rattle.disk_base.specs.Files.{Files}
 use Rattle.disk_base.specs.Crash.{Narrows, LeavesOnly}
+use Rattle.disk_base.specs.Runs.{ChangesAtMost}
 use Rattle.page_file.specs.Pages.{AgreesIn, image_of}
-use Rattle.ubik_store.specs.Calls.{CallsAtMost}
 use Rattle.ubik_store.specs.Moments.{MayRedo, with_database, applied}
 use Rattle.ubik_store.specs.Redo.{len_after, IsSeamless, IsCovered}
 use Rattle.ubik_store.proofs.redo.apply_all.Given as goal
@@ -23,5 +24,5 @@ invariant-loop-change g l =
       steps : g.D.Disk.steps l.disk ≡ g.D.Disk.steps l.initial.disk + l.change-index;
       redo : (kept : Files) (told : List Change) → All (IsCovered told (image_of kept.database)) l.changes → Narrows (MayRedo kept told) (g.D.Disk.may_leave l.initial.disk)
           → LeavesOnly g.D.Disk.steps g.D.Disk.left_since l.initial.disk l.disk (MayRedo kept told);
-      calls : CallsAtMost g.D.Disk l.change-index l.initial.disk l.disk ⊥;
+      changes : ChangesAtMost g.D.Disk Database l.change-index l.initial.disk l.disk ⊥;
     }

@@ -4,9 +4,8 @@ use Rattle.std.specs.Option.{option_map}
 use Rattle.std.specs.Result.{is_err}
 use Rattle.disk_base.specs.declared.disks.FileNo.TheVariants.{Database}
 use Rattle.disk_base.specs.Crash.{InFile, Torn}
-use Rattle.disk_base.proofs.Runs.{joined, sync_changes, write_changes}
+use Rattle.disk_base.proofs.Runs.{joined, sync_changes, write_changes, changes_joined, changes_as}
 use Rattle.ubik_store.specs.Moments.{MayRedo, with_database, labelled}
-use Rattle.ubik_store.proofs.Applied.{calls_of, calls_joined, calls_as}
 use Rattle.ubik_store.proofs.Redoing.{narrowed, step_leaves, sync_leaves, redo_head}
 use Rattle.ubik_store.proofs.Telling.{told, of_told, on_ok}
 use Rattle.ubik_store.proofs.redo.put_label.Goals as goal
@@ -21,10 +20,10 @@ returns-in_err-set_label-clause-redo g c = λ kept told before.
     joined g.D.Disk.steps g.D.Disk.left_since _ _ _ (MayRedo kept told) first
     (step_leaves g.D.Disk (MayRedo kept told) (InFile Database (Torn 0 64)) write.change write.crash (redo_head kept told) (narrowed g.D.Disk first))
 
-pub returns-in_err-set_label-clause-calls : goal.returns-in_err-set_label-clause-calls
-returns-in_err-set_label-clause-calls g c =
-    calls_as (omega arith) (λ _. cc) (λ _. ap is_err c.in_err-set_label.was)
-    (calls_joined (calls_of (sync_changes c.in_ok-sync.ensures.syncs)) false≢true (calls_of (write_changes c.set_label.ensures.writes)))
+pub returns-in_err-set_label-clause-changes : goal.returns-in_err-set_label-clause-changes
+returns-in_err-set_label-clause-changes g c =
+    changes_as (omega arith) (λ _. cc) (λ _. ap is_err c.in_err-set_label.was)
+    (changes_joined (sync_changes c.in_ok-sync.ensures.syncs) false≢true (write_changes c.set_label.ensures.writes))
 
 pub returns-clause-files : goal.returns-clause-files
 returns-clause-files g c =
@@ -44,7 +43,7 @@ returns-clause-redo g c = λ kept told before.
     joined g.D.Disk.steps g.D.Disk.left_since _ _ _ (MayRedo kept told) both
     (sync_leaves g.D.Disk (MayRedo kept told) c.sync-2.ensures.syncs (narrowed g.D.Disk both))
 
-pub returns-clause-calls : goal.returns-clause-calls
-returns-clause-calls g c =
-    calls_joined (calls_joined (calls_of (sync_changes c.in_ok-sync.ensures.syncs)) false≢true (calls_of (write_changes c.in_ok-set_label.ensures.writes))) false≢true
-    (calls_of (sync_changes c.sync-2.ensures.syncs))
+pub returns-clause-changes : goal.returns-clause-changes
+returns-clause-changes g c =
+    changes_joined (changes_joined (sync_changes c.in_ok-sync.ensures.syncs) false≢true (write_changes c.in_ok-set_label.ensures.writes)) false≢true
+    (sync_changes c.sync-2.ensures.syncs)

@@ -5,16 +5,17 @@ use Rattle.std.specs.Result.{is_err}
 use Rattle.disk_base.specs.declared.disks.FileNo.TheVariants.{Database}
 use Rattle.disk_base.specs.Files.{Files}
 use Rattle.disk_base.specs.Crash.{OnlyIn}
-use Rattle.disk_base.proofs.Runs.{widened, joined}
+use Rattle.disk_base.proofs.Runs.{widened, joined, others_joined}
 use Rattle.page_file.specs.Pages.{Known, Agrees, AgreesIn, image_of}
 use Rattle.ubik_types.specs.declared.images.Change.{Change}
 use Rattle.ubik_types.specs.declared.versions.Version.{Version}
-use Rattle.ubik_store.specs.Moments.{MayRedo, with_database, head_calls, with_head, without_log, applied, labelled, finished}
+use Rattle.ubik_store.specs.Moments.{MayRedo, with_database, head_calls, with_head, applied, labelled, finished}
 use Rattle.ubik_store.specs.Redo.{IsSeamless}
 use Rattle.ubik_store.proofs.Applied.{calls_of, calls_joined, calls_as}
-use Rattle.ubik_store.proofs.Ending.{agrees_headed, finished_files, ended_files, log_there, stands_by_log, settled_end, run_ended, LeavesEffect, SettlesAfter}
+use Rattle.ubik_store.proofs.Ending.{agrees_headed, finished_files, ended_files, log_there, stands_by_log, settled_end, run_ended, LeavesEffect}
+use Rattle.ubik_store.proofs.Plain.{LeavesPlain, plain_by_log, run_plain}
 use Rattle.ubik_store.proofs.Redoing.{narrowed}
-use Rattle.ubik_store.proofs.Telling.{told, of_told, of_some}
+use Rattle.ubik_store.proofs.Telling.{told, of_told}
 use Rattle.ubik_store.proofs.redo.redo.Goals as goal
 
 pub returns-in_err-put_head-clause-moments : goal.returns-in_err-put_head-clause-moments
@@ -33,7 +34,7 @@ returns-in_err-apply_all-clause-moments g c = told _ (LeavesEffect g.D.Disk c.ar
 
 pub returns-in_err-apply_all-clause-calls : goal.returns-in_err-apply_all-clause-calls
 returns-in_err-apply_all-clause-calls g c =
-    calls_as (omega arith) (λ _. cc) (λ _. ap is_err c.in_err-apply_all.was) (calls_joined c.in_ok-put_head.ensures.calls false≢true c.apply_all.ensures.calls)
+    calls_as (omega arith) (λ _. cc) (λ _. ap is_err c.in_err-apply_all.was) (calls_joined (calls_of c.in_ok-put_head.ensures.changes) false≢true (calls_of c.apply_all.ensures.changes))
 
 pub returns-in_err-put_label-clause-moments : goal.returns-in_err-put_label-clause-moments
 returns-in_err-put_label-clause-moments g c = told _ (LeavesEffect g.D.Disk c.args.disk.now c.put_label.new.disk c.args.v c.args.changes.now) (λ fs is cs leads before.
@@ -45,7 +46,7 @@ returns-in_err-put_label-clause-moments g c = told _ (LeavesEffect g.D.Disk c.ar
 pub returns-in_err-put_label-clause-calls : goal.returns-in_err-put_label-clause-calls
 returns-in_err-put_label-clause-calls g c =
     calls_as (omega arith) (λ _. cc) (λ _. ap is_err c.in_err-put_label.was)
-    (calls_joined (calls_joined c.in_ok-put_head.ensures.calls false≢true c.in_ok-apply_all.ensures.calls) false≢true c.put_label.ensures.calls)
+    (calls_joined (calls_joined (calls_of c.in_ok-put_head.ensures.changes) false≢true (calls_of c.in_ok-apply_all.ensures.changes)) false≢true (calls_of c.put_label.ensures.changes))
 
 pub end_log-requires-clause-header : goal.end_log-requires-clause-header
 end_log-requires-clause-header g c =
@@ -93,12 +94,12 @@ returns-clause-moments g c = told _ (LeavesEffect g.D.Disk c.args.disk.now c.end
 pub returns-in_err-end_log-clause-calls : goal.returns-in_err-end_log-clause-calls
 returns-in_err-end_log-clause-calls g c =
     calls_as (omega arith) (λ _. cc) (λ _. ap is_err c.in_err-end_log.was)
-    (calls_joined (calls_joined (calls_joined c.in_ok-put_head.ensures.calls false≢true c.in_ok-apply_all.ensures.calls) false≢true c.in_ok-put_label.ensures.calls) false≢true (calls_of c.end_log.ensures.changes))
+    (calls_joined (calls_joined (calls_joined (calls_of c.in_ok-put_head.ensures.changes) false≢true (calls_of c.in_ok-apply_all.ensures.changes)) false≢true (calls_of c.in_ok-put_label.ensures.changes)) false≢true (calls_of c.end_log.ensures.changes))
 
 pub returns-clause-calls : goal.returns-clause-calls
 returns-clause-calls g c =
     calls_as (omega arith) (λ failed. absurd (false≢true failed)) (λ failed. absurd (false≢true failed))
-    (calls_joined (calls_joined (calls_joined c.in_ok-put_head.ensures.calls false≢true c.in_ok-apply_all.ensures.calls) false≢true c.in_ok-put_label.ensures.calls) false≢true (calls_of c.in_ok-end_log.ensures.changes))
+    (calls_joined (calls_joined (calls_joined (calls_of c.in_ok-put_head.ensures.changes) false≢true (calls_of c.in_ok-apply_all.ensures.changes)) false≢true (calls_of c.in_ok-put_label.ensures.changes)) false≢true (calls_of c.in_ok-end_log.ensures.changes))
 
 pub returns-clause-files : goal.returns-clause-files
 returns-clause-files g c =
@@ -107,21 +108,56 @@ returns-clause-files g c =
     c.in_ok-end_log.ensures.files
 
 pub returns-clause-settled : goal.returns-clause-settled
-returns-clause-settled g c = told _ (SettlesAfter g.D.Disk c.args.disk.now c.end_log.new.disk c.args.v c.args.changes.now) (λ fs is cs leads before.
-    let one = c.put_head.ensures.redo fs cs before in
-    let two = joined g.D.Disk.steps g.D.Disk.left_since _ _ _ (MayRedo fs cs) one (c.apply_all.ensures.redo fs cs leads.covered (narrowed g.D.Disk one)) in
-    let three = joined g.D.Disk.steps g.D.Disk.left_since _ _ _ (MayRedo fs cs) two (c.put_label.ensures.redo fs cs (narrowed g.D.Disk two)) in
-    let mid = two_files c.args.changes.now _ _ _ fs is c.in_ok-put_head.ensures.files c.in_ok-apply_all.ensures.files in
-    let end : g.D.Disk.files c.put_label.new.disk ≡ Some (with_database (finished c.args.changes.now c.args.v) fs) =
-    c.in_ok-put_label.ensures.files ∙ ap (option_map (with_database (labelled c.args.v))) mid in
-    settled_end fs cs c.args.changes.now c.args.v leads (g.D.Disk.may_leave c.put_label.new.disk) (g.D.Disk.may_leave c.end_log.new.disk) _ (narrowed g.D.Disk three)
-    (labelled_only c.args.v c.args.changes.now _ fs _ mid c.in_ok-put_label.ensures.durable)
+returns-clause-settled g c = λ settled.
+    let others = others_joined Database _ _ _ (others_joined Database _ _ _ c.put_head.ensures.changes.others c.apply_all.ensures.changes.others) c.put_label.ensures.changes.others in
+    settled_end c.args.changes.now c.args.v _ _ _ (g.D.Disk.may_leave c.args.disk.now) (g.D.Disk.may_leave c.put_label.new.disk) (g.D.Disk.may_leave c.end_log.new.disk) settled
+    (finished_files c.args.changes.now c.args.v _ _ _ _ c.in_ok-put_head.ensures.files c.in_ok-apply_all.ensures.files c.in_ok-put_label.ensures.files)
+    c.in_ok-end_log.ensures.files others
+    (told _ (λ fs. OnlyIn Database (finished c.args.changes.now c.args.v fs.database) (g.D.Disk.may_leave c.put_label.new.disk)) (λ fs is.
+    labelled_only c.args.v c.args.changes.now _ fs _ (two_files c.args.changes.now _ _ _ fs is c.in_ok-put_head.ensures.files c.in_ok-apply_all.ensures.files) c.in_ok-put_label.ensures.durable))
     c.in_ok-end_log.ensures.changes.others
-    (of_some _ (with_database (finished c.args.changes.now c.args.v) fs) _ end c.in_ok-end_log.ensures.durable)
-    (c.in_ok-end_log.ensures.files ∙ ap (option_map without_log) end))
+    c.in_ok-end_log.ensures.durable
 
 pub returns-clause-steps : goal.returns-clause-steps
 returns-clause-steps g c = told _ (λ fs. g.D.Disk.steps c.end_log.new.disk ≡ g.D.Disk.steps c.args.disk.now + (7 + length c.args.changes.now + head_calls fs.database)) (λ fs is.
     let head : g.D.Disk.steps c.put_head.new.disk ≡ g.D.Disk.steps c.args.disk.now + head_calls fs.database =
     of_told _ fs (λ fs. g.D.Disk.steps c.put_head.new.disk ≡ g.D.Disk.steps c.args.disk.now + head_calls fs.database) is c.in_ok-put_head.ensures.steps in
     omega (arith, head, c.in_ok-apply_all.ensures.steps, c.in_ok-put_label.ensures.steps, c.in_ok-end_log.ensures.steps))
+
+pub returns-in_err-put_head-clause-plain : goal.returns-in_err-put_head-clause-plain
+returns-in_err-put_head-clause-plain g c = told _ (LeavesPlain g.D.Disk c.args.disk.now c.put_head.new.disk c.args.v c.args.changes.now) (λ fs is cs leads plain before.
+    let one = c.put_head.ensures.redo fs cs before in
+    widened g.D.Disk.steps g.D.Disk.left_since _ _ (MayRedo fs cs) _ (plain_by_log fs cs c.args.changes.now c.args.v leads plain) one)
+
+pub returns-in_err-apply_all-clause-plain : goal.returns-in_err-apply_all-clause-plain
+returns-in_err-apply_all-clause-plain g c = told _ (LeavesPlain g.D.Disk c.args.disk.now c.apply_all.new.disk c.args.v c.args.changes.now) (λ fs is cs leads plain before.
+    let one = c.put_head.ensures.redo fs cs before in
+    let two = joined g.D.Disk.steps g.D.Disk.left_since _ _ _ (MayRedo fs cs) one (c.apply_all.ensures.redo fs cs leads.covered (narrowed g.D.Disk one)) in
+    widened g.D.Disk.steps g.D.Disk.left_since _ _ (MayRedo fs cs) _ (plain_by_log fs cs c.args.changes.now c.args.v leads plain) two)
+
+pub returns-in_err-put_label-clause-plain : goal.returns-in_err-put_label-clause-plain
+returns-in_err-put_label-clause-plain g c = told _ (LeavesPlain g.D.Disk c.args.disk.now c.put_label.new.disk c.args.v c.args.changes.now) (λ fs is cs leads plain before.
+    let one = c.put_head.ensures.redo fs cs before in
+    let two = joined g.D.Disk.steps g.D.Disk.left_since _ _ _ (MayRedo fs cs) one (c.apply_all.ensures.redo fs cs leads.covered (narrowed g.D.Disk one)) in
+    let three = joined g.D.Disk.steps g.D.Disk.left_since _ _ _ (MayRedo fs cs) two (c.put_label.ensures.redo fs cs (narrowed g.D.Disk two)) in
+    widened g.D.Disk.steps g.D.Disk.left_since _ _ (MayRedo fs cs) _ (plain_by_log fs cs c.args.changes.now c.args.v leads plain) three)
+
+pub returns-in_err-end_log-clause-plain : goal.returns-in_err-end_log-clause-plain
+returns-in_err-end_log-clause-plain g c = told _ (LeavesPlain g.D.Disk c.args.disk.now c.end_log.new.disk c.args.v c.args.changes.now) (λ fs is cs leads plain before.
+    let one = c.put_head.ensures.redo fs cs before in
+    let two = joined g.D.Disk.steps g.D.Disk.left_since _ _ _ (MayRedo fs cs) one (c.apply_all.ensures.redo fs cs leads.covered (narrowed g.D.Disk one)) in
+    let three = joined g.D.Disk.steps g.D.Disk.left_since _ _ _ (MayRedo fs cs) two (c.put_label.ensures.redo fs cs (narrowed g.D.Disk two)) in
+    let mid = two_files c.args.changes.now _ _ _ fs is c.in_ok-put_head.ensures.files c.in_ok-apply_all.ensures.files in
+    run_plain fs cs c.args.changes.now c.args.v leads plain g.D.Disk (finished c.args.changes.now c.args.v) three
+    (c.in_ok-put_label.ensures.files ∙ ap (option_map (with_database (labelled c.args.v))) mid)
+    c.end_log.ensures.moments)
+
+pub returns-clause-plain : goal.returns-clause-plain
+returns-clause-plain g c = told _ (LeavesPlain g.D.Disk c.args.disk.now c.end_log.new.disk c.args.v c.args.changes.now) (λ fs is cs leads plain before.
+    let one = c.put_head.ensures.redo fs cs before in
+    let two = joined g.D.Disk.steps g.D.Disk.left_since _ _ _ (MayRedo fs cs) one (c.apply_all.ensures.redo fs cs leads.covered (narrowed g.D.Disk one)) in
+    let three = joined g.D.Disk.steps g.D.Disk.left_since _ _ _ (MayRedo fs cs) two (c.put_label.ensures.redo fs cs (narrowed g.D.Disk two)) in
+    let mid = two_files c.args.changes.now _ _ _ fs is c.in_ok-put_head.ensures.files c.in_ok-apply_all.ensures.files in
+    run_plain fs cs c.args.changes.now c.args.v leads plain g.D.Disk (finished c.args.changes.now c.args.v) three
+    (c.in_ok-put_label.ensures.files ∙ ap (option_map (with_database (labelled c.args.v))) mid)
+    c.end_log.ensures.moments)

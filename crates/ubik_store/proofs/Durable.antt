@@ -1,0 +1,81 @@
+-- A durable call over files at rest: what went before its first changing call shows in nothing.
+use Rattle.std.proofs.Common.{◌≡◌, inl, ℕ, List, [], length, Some, IfSome, subst, sym, ap, ◌∙◌, arith}
+use Rattle.ubik_types.specs.declared.images.Change.{Change}
+use Rattle.ubik_types.specs.declared.versions.Version.{Version}
+use Rattle.ubik_types.specs.Image.{effect}
+use Rattle.disk_base.specs.declared.disks.Disk.{Ghosts}
+use Rattle.disk_base.specs.Crash.{Narrows, LeavesOnly, Only, IsSettled}
+use Rattle.disk_base.specs.Files.{Files}
+use Rattle.disk_base.specs.Runs.{OnlyReserves}
+use Rattle.disk_base.specs.Stops.{IsStopped}
+use Rattle.disk_base.proofs.Stopping.{advances_none}
+use Rattle.page_file.specs.Label.{version_of_database}
+use Rattle.page_file.specs.Pages.{image_of}
+use Rattle.ubik_log.proofs.Gates.{short_log_is_discarded}
+use Rattle.ubik_store.specs.Calls.{CallsAtMost}
+use Rattle.ubik_store.specs.Commit.{IsDurableOver}
+use Rattle.ubik_store.specs.Files.{StandsForEither}
+use Rattle.ubik_store.specs.Gaps.{IsPlain}
+use Rattle.ubik_store.proofs.Applied.{calls_joined, calls_as, no_calls}
+use Rattle.ubik_store.proofs.Committing.{LeavesEither, settled_at, stands_at_rest, unmoved, room_made, room_first}
+use Rattle.ubik_store.proofs.Gaps.{discarded_is_plain}
+use Rattle.ubik_store.proofs.Telling.{told, of_told, of_some}
+
+-- files at rest are plain
+plain_at_rest : (fs : Files) (before : Files → Type 0) → fs.log ≡ [] → Only fs before → Narrows IsPlain before
+plain_at_rest fs before empty only c here =
+    subst IsPlain (sym (only c here)) (discarded_is_plain fs (short_log_is_discarded fs.log (omega (arith, ap length empty))))
+
+module _ {D : Type 0} (g : Ghosts D) where
+  calls_reserved : {old new : D} {F : Type 0} → OnlyReserves g old new → ¬ F → CallsAtMost g 0 old new F
+  calls_reserved made not = record {
+    at_most = (omega (arith, made.steps), omega (arith, made.steps));
+    advances = advances_none made.steps made.stop;
+    stopped = λ is. inl (subst IsStopped made.stop is);
+    room = made.room;
+    tells = made.tells;
+    cause = record { never_falls = omega (arith, made.faults); rose = λ failed. absurd (not failed) };
+  }
+
+  calls_first : {n : ℕ} {old mid new : D} {F : Type 0} → OnlyReserves g old mid → CallsAtMost g n mid new F → CallsAtMost g n old new F
+  calls_first {n} {old} {mid} {new} {F} made rest =
+      calls_as (omega arith) (λ failed. failed) (λ failed. failed) (calls_joined (calls_reserved {F = ⊥} made (λ none. none)) (λ none. none) rest)
+
+  module _ (changes : List Change) (v : Version) (disk : D) (empty : IfSome (g.files disk) (λ fs. fs.log ≡ [])) (settled : IsSettled (g.files disk) (g.may_leave disk)) where
+    stands_here : (fs : Files) (own : Version) → g.files disk ≡ Some fs → version_of_database fs.database ≡ Some own
+        → Narrows (StandsForEither own (image_of fs.database) v (effect (image_of fs.database) changes)) (g.may_leave disk)
+    stands_here fs own is labelled =
+        stands_at_rest fs own v (effect (image_of fs.database) changes) (g.may_leave disk) (of_told (g.files disk) fs (λ fs. fs.log ≡ []) is empty) labelled
+        (settled_at (g.files disk) fs (g.may_leave disk) is settled)
+
+    plain_here : (fs : Files) → g.files disk ≡ Some fs → Narrows IsPlain (g.may_leave disk)
+    plain_here fs is =
+        plain_at_rest fs (g.may_leave disk) (of_told (g.files disk) fs (λ fs. fs.log ≡ []) is empty) (settled_at (g.files disk) fs (g.may_leave disk) is settled)
+
+    -- no call of the disk at all
+    pub durable_unmoved : {F : Type 0} → ¬ F → IsDurableOver g changes v disk disk F
+    durable_unmoved {F} not = record {
+      moments = told (g.files disk) (LeavesEither g disk disk v changes) (λ fs is own labelled. unmoved g disk _ (stands_here fs own is labelled));
+      plain = λ _. told (g.files disk) (λ _. LeavesOnly g.steps g.left_since disk disk IsPlain) (λ fs is. unmoved g disk IsPlain (plain_here fs is));
+      calls = calls_as (omega arith) (λ failed. failed) (λ failed. failed) (no_calls disk F not);
+    }
+
+    -- room was made, and nothing else
+    pub durable_reserved : {new : D} {F : Type 0} → OnlyReserves g disk new → ¬ F → IsDurableOver g changes v disk new F
+    durable_reserved {new} {F} made not = record {
+      moments = told (g.files disk) (LeavesEither g disk new v changes) (λ fs is own labelled. room_made g _ made (stands_here fs own is labelled));
+      plain = λ _. told (g.files disk) (λ _. LeavesOnly g.steps g.left_since disk new IsPlain) (λ fs is. room_made g IsPlain made (plain_here fs is));
+      calls = calls_as (omega arith) (λ failed. failed) (λ failed. failed) (calls_reserved made not);
+    }
+
+    -- room was made first
+    pub durable_first : {mid new : D} {F : Type 0} → OnlyReserves g disk mid → IsDurableOver g changes v mid new F → IsDurableOver g changes v disk new F
+    durable_first {mid} {new} {F} made rest = record {
+      moments = told (g.files disk) (LeavesEither g disk new v changes) (λ fs is own labelled.
+          room_first g _ made (stands_here fs own is labelled)
+          (of_told (g.files mid) fs (LeavesEither g mid new v changes) (made.files ∙ is) rest.moments own labelled));
+      plain = λ cuts. told (g.files disk) (λ _. LeavesOnly g.steps g.left_since disk new IsPlain) (λ fs is.
+          room_first g IsPlain made (plain_here fs is)
+          (of_some (g.files mid) fs (LeavesOnly g.steps g.left_since mid new IsPlain) (made.files ∙ is) (rest.plain cuts)));
+      calls = calls_first made rest.calls;
+    }

@@ -1,0 +1,216 @@
+-- How a durable call of a store ends, by how the call over its files did.
+use Rattle.std.proofs.Common.{◌≡◌, ◌≤◌, ◌⊎◌, ⊎_elim, ℕ, ◌-◌, ◌^◌, min, true, false, List, [], length, Option, Some, None, IfSome, refl, sym, ap, subst, ◌∙◌, arith}
+use Rattle.std.proofs.lemmas.Bool.{false≢true}
+use Rattle.std.specs.Prelude.{Result, Ok, Err, OnOk, IfErr, IsErrOf}
+use Rattle.std.specs.Option.{option_map}
+use Rattle.ubik_types.specs.declared.images.Change.{Change}
+use Rattle.ubik_types.specs.declared.limits.TheConstants.{MAX_IMAGE}
+use Rattle.ubik_types.specs.declared.versions.Version.{Version}
+use Rattle.ubik_types.specs.Image.{effect}
+use Rattle.ubik_types.specs.Version.{IsVersion}
+use Rattle.disk_base.specs.declared.disks.Disk.{Ghosts}
+use Rattle.disk_base.specs.Crash.{LeavesOnly, LeavesSame}
+use Rattle.disk_base.specs.Files.{Files}
+use Rattle.disk_base.specs.Runs.{OnlyReads, OnlyReserves}
+use Rattle.disk_base.specs.Stops.{IsStopped}
+use Rattle.page_file.specs.Label.{version_of_database}
+use Rattle.page_file.specs.Pages.{Known, AgreesIn, image_of}
+use Rattle.ubik_log.proofs.Gates.{short_log_is_discarded}
+use Rattle.ubik_store.specs.declared.faults.StoreFault.{StoreFault}
+use Rattle.ubik_store.specs.declared.faults.StoreFault.TheVariants.{DiskFault, BadLabel, TooLarge, NotNewer, NoMemory}
+use Rattle.ubik_store.specs.declared.stores.Store.{Store}
+use Rattle.ubik_store.specs.Commit.{CommitsFiles, IsDurableOver}
+use Rattle.ubik_store.specs.DurableCall.{IsDurable, Refuses}
+use Rattle.ubik_store.specs.Files.{StandsForEither}
+use Rattle.ubik_store.specs.Gaps.{IsPlain}
+use Rattle.ubik_store.specs.Moments.{ended}
+use Rattle.ubik_store.specs.Redo.{len_after}
+use Rattle.ubik_store.specs.Rest.{IsAtRest, RestsAs}
+use Rattle.ubik_store.specs.Store.{IsReady, IsSound, IsForbidden, image_in, taken_over}
+use Rattle.ubik_store.proofs.Applied.{no_calls, calls_as}
+use Rattle.ubik_store.proofs.Committing.{settled_at, settled_narrow, stands_at_rest, unmoved}
+use Rattle.ubik_store.proofs.Gaps.{discarded_is_plain}
+use Rattle.ubik_store.proofs.Rests.{AllAtRest, rests_here}
+use Rattle.ubik_store.proofs.Telling.{told, of_told}
+
+-- what is said of the files under the version of their label, is said under the version of files at rest
+labelled : (files : Option Files) (own : Version) (P : Version → Files → Type 0) → AllAtRest own files
+    → IfSome files (λ fs. (w : Version) → version_of_database fs.database ≡ Some w → P w fs) → IfSome files (P own)
+labelled None own P rests says = tt
+labelled (Some fs) own P rests says = says own rests.label
+
+-- what a durable call leaves where the disk tells its files
+RestsAfter : Version → List Change → Option Files → Files → Type 0
+RestsAfter v changes new fs = RestsAs v (effect (image_of fs.database) changes) new
+
+module _ (v : Version) (changes : List Change) (change : Files → Files) where
+  rests_after : (old new : Option Files) → new ≡ option_map change old
+      → IfSome old (λ fs. RestsAs v (effect (image_of fs.database) changes) new) → AllAtRest v new
+  rests_after None new is rests = subst (AllAtRest v) (sym is) tt
+  rests_after (Some fs) new is rests = rests_here new v (effect (image_of fs.database) changes) rests
+
+  image_after : (old new : Option Files) → new ≡ option_map change old
+      → IfSome old (λ fs. RestsAs v (effect (image_of fs.database) changes) new) → image_in new ≡ option_map (λ image. effect image changes) (image_in old)
+  image_after None new is rests = ap image_in is
+  image_after (Some fs) new is rests = ap image_in rests.1 ∙ ap (λ (image : List ℕ). Some image) rests.2.content
+
+-- files at rest are plain
+plain_at_rest : (fs : Files) → fs.log ≡ [] → IsPlain fs
+plain_at_rest fs empty = discarded_is_plain fs (short_log_is_discarded fs.log (omega (arith, ap length empty)))
+
+nothing_left : {D : Type 0} (g : Ghosts D) (disk : D) → LeavesSame (g.may_leave disk) (g.may_leave disk) (g.left_since disk) (g.left_since disk)
+nothing_left g disk = record { no_more = λ c is. is; no_less = λ c is. is; since_no_more = λ t c is. is; since_no_less = λ t c is. is }
+
+module _ {D : Type 0} (g : Ghosts D) where
+  -- a store that was not touched refuses
+  pub refuses_itself : (s : Store D) → Refuses g s s
+  refuses_itself s = record {
+    store = record { version = refl; len = refl; begun = refl; failed = refl };
+    disk = record {
+      files = λ _. refl;
+      kept = λ _. refl;
+      room = λ f. omega arith;
+      steps = refl;
+      crash = nothing_left g s.disk;
+      stop = refl;
+      pending = refl;
+      tells = refl;
+      cause = record { never_falls = omega arith; rose = λ failed. absurd failed };
+    };
+  }
+
+  only_reads : {old new : D} → OnlyReserves g old new → OnlyReads g old new ⊥
+  only_reads {old} {new} made = record {
+    files = λ _. made.files;
+    kept = λ _. made.files;
+    room = made.room;
+    steps = made.steps;
+    crash = made.crash;
+    stop = made.stop;
+    pending = made.pending;
+    tells = made.tells;
+    cause = record { never_falls = omega (arith, made.faults); rose = λ failed. absurd failed };
+  }
+
+  -- nor does a crash find it otherwise
+  pub durable_itself : (changes : List Change) (v : Version) (s : Store D) (F : Type 0) → IsReady g s → ¬ F → IsDurable g changes v s s F
+  durable_itself changes v s F ready not = record {
+    moments = told (g.files s.disk) _ (λ fs is.
+        let rest = of_told (g.files s.disk) fs (λ fs. IsAtRest s.version (image_of fs.database) fs) is ready.rests in
+        let only = settled_at (g.files s.disk) fs (g.may_leave s.disk) is ready.settled in
+        unmoved g s.disk (StandsForEither s.version (image_of fs.database) v (effect (image_of fs.database) changes))
+        (stands_at_rest fs s.version v (effect (image_of fs.database) changes) (g.may_leave s.disk) rest.log rest.label only));
+    plain = λ cuts. told (g.files s.disk) _ (λ fs is.
+        let rest = of_told (g.files s.disk) fs (λ fs. IsAtRest s.version (image_of fs.database) fs) is ready.rests in
+        let only = settled_at (g.files s.disk) fs (g.may_leave s.disk) is ready.settled in
+        unmoved g s.disk IsPlain (λ c here. subst IsPlain (sym (only c here)) (plain_at_rest fs rest.log)));
+    calls = calls_as (omega arith) (λ failed. failed) (λ failed. failed) (no_calls s.disk F not);
+  }
+
+-- what a durable call over the files of a store tells of its end
+pub record EndsFiles {D : Type 0} (g : Ghosts D) (changes : List Change) (v : Version) (s : Store D) (disk : D) (pages : Known) (r : Result (Unit {0}) StoreFault) : Type 0 where
+  pub done : OnOk r (CommitsFiles g changes v s.disk disk s.pages pages)
+  pub durable : IsDurableOver g changes v s.disk disk (IsErrOf r DiskFault)
+  pub fault : IfErr r (λ f. (f ≡ DiskFault) ⊎ (f ≡ NoMemory))
+  pub unchanged : IsErrOf r NoMemory → OnlyReserves g s.disk disk × (pages ≡ s.pages)
+
+module _ {D : Type 0} (g : Ghosts D) (changes : List Change) (v : Version) (s : Store D) (disk : D) (pages : Known) where
+  sound_done : IsSound g s → s.failed ≡ false → IsVersion v → len_after s.len changes ≤ MAX_IMAGE
+      → CommitsFiles g changes v s.disk disk s.pages pages → ¬ IsStopped (g.stop disk)
+      → IsSound g (record s { disk = disk; pages = pages; version = v; len = min pages.len (2 ^ 32 - 1); begun = None })
+  sound_done sound went version fits done runs =
+      let len : pages.len ≡ len_after s.len changes = done.len ∙ ap (λ (n : ℕ). len_after n changes) (sound.ready went).len in
+      record {
+        version = version;
+        len = omega (arith, len, fits);
+        ready = λ _. record {
+          agrees = done.agrees;
+          label = done.label;
+          len = omega (arith, len, fits);
+          rests = rests_after v changes (ended changes v) (g.files s.disk) (g.files disk) done.files done.rests;
+          settled = done.settled;
+          runs = runs;
+        };
+        begun = tt;
+      }
+
+  sound_as_it_was : IsSound g s → s.failed ≡ false → OnlyReserves g s.disk disk → pages ≡ s.pages
+      → IsSound g (record s { disk = disk; pages = pages })
+  sound_as_it_was sound went made same =
+      let ready = sound.ready went in
+      record {
+        version = sound.version;
+        len = sound.len;
+        ready = λ _. record {
+          agrees = subst (λ (p : Known). AgreesIn p (g.files disk)) (sym same) (subst (λ (fs : Option Files). AgreesIn s.pages fs) (sym made.files) ready.agrees);
+          label = ap (λ (p : Known). p.version) same ∙ ready.label;
+          len = ap (λ (p : Known). p.len) same ∙ ready.len;
+          rests = subst (AllAtRest s.version) (sym made.files) ready.rests;
+          settled = settled_narrow (g.files s.disk) (g.files disk) (g.may_leave s.disk) (g.may_leave disk) made.files made.crash.no_more ready.settled;
+          runs = λ stopped. ready.runs (subst IsStopped made.stop stopped);
+        };
+        begun = sound.begun;
+      }
+
+  sound_failed : IsSound g s → IsSound g (record s { disk = disk; pages = pages; failed = true })
+  sound_failed sound = record {
+    version = sound.version;
+    len = sound.len;
+    ready = λ went. absurd (false≢true (sym went));
+    begun = sound.begun;
+  }
+
+  -- a store stays sound
+  sound_ended : (r : Result (Unit {0}) StoreFault) → IsSound g s → s.failed ≡ false → IsVersion v → len_after s.len changes ≤ MAX_IMAGE
+      → EndsFiles g changes v s disk pages r → IsSound g (taken_over v (record s { disk = disk; pages = pages }) r)
+  sound_ended (Ok done) sound went version fits is =
+      sound_done sound went version fits is.done (λ stopped. ⊎_elim (sound.ready went).runs (λ failed. absurd cc) (is.durable.calls.stopped stopped))
+  sound_ended (Err DiskFault) sound went version fits is = sound_failed sound
+  sound_ended (Err (BadLabel len head)) sound went version fits is = absurd (⊎_elim (λ e. cc) (λ e. cc) is.fault)
+  sound_ended (Err (TooLarge bytes)) sound went version fits is = absurd (⊎_elim (λ e. cc) (λ e. cc) is.fault)
+  sound_ended (Err (NotNewer own given)) sound went version fits is = absurd (⊎_elim (λ e. cc) (λ e. cc) is.fault)
+  sound_ended (Err NoMemory) sound went version fits is = let same = is.unchanged refl in sound_as_it_was sound went same.0 same.1
+
+  -- the call was made of a durable one over the files
+  durable_at : (after : Store D) (F : Type 0) → IsReady g s → IsDurableOver g changes v s.disk after.disk F → IsDurable g changes v s after F
+  durable_at after F ready durable = record {
+    moments = labelled (g.files s.disk) s.version
+        (λ w fs. LeavesOnly g.steps g.left_since s.disk after.disk (StandsForEither w (image_of fs.database) v (effect (image_of fs.database) changes)))
+        ready.rests durable.moments;
+    plain = durable.plain;
+    calls = durable.calls;
+  }
+
+  durable_ended : (r : Result (Unit {0}) StoreFault) → IsSound g s → s.failed ≡ false → IsDurableOver g changes v s.disk disk (IsErrOf r DiskFault)
+      → IsDurable g changes v s (taken_over v (record s { disk = disk; pages = pages }) r) (IsErrOf r DiskFault)
+  durable_ended (Ok done) sound went durable = durable_at _ _ (sound.ready went) durable
+  durable_ended (Err DiskFault) sound went durable = durable_at _ _ (sound.ready went) durable
+  durable_ended (Err (BadLabel len head)) sound went durable = durable_at _ _ (sound.ready went) durable
+  durable_ended (Err (TooLarge bytes)) sound went durable = durable_at _ _ (sound.ready went) durable
+  durable_ended (Err (NotNewer own given)) sound went durable = durable_at _ _ (sound.ready went) durable
+  durable_ended (Err NoMemory) sound went durable = durable_at _ _ (sound.ready went) durable
+
+  pub sound_taken : (r : Result (Unit {0}) StoreFault) (after : Store D) → after ≡ taken_over v (record s { disk = disk; pages = pages }) r
+      → IsSound g s → s.failed ≡ false → IsVersion v → len_after s.len changes ≤ MAX_IMAGE → EndsFiles g changes v s disk pages r → IsSound g after
+  sound_taken r after is sound went version fits ends =
+      subst (λ (x : Store D). IsSound g x) (sym is) (sound_ended r sound went version fits ends)
+
+  pub durable_taken : (r said : Result (Unit {0}) StoreFault) (after : Store D) → after ≡ taken_over v (record s { disk = disk; pages = pages }) r → said ≡ r
+      → IsSound g s → s.failed ≡ false → IsDurableOver g changes v s.disk disk (IsErrOf r DiskFault) → IsDurable g changes v s after (IsErrOf said DiskFault)
+  durable_taken r said after is same sound went durable =
+      let P : Store D → Type 0 = λ x. IsDurable g changes v s x (IsErrOf said DiskFault) in
+      let Q : Result (Unit {0}) StoreFault → Type 0 = λ x. IsDurable g changes v s (taken_over v (record s { disk = disk; pages = pages }) r) (IsErrOf x DiskFault) in
+      subst P (sym is) (subst Q (sym same) (durable_ended r sound went durable))
+
+-- where a version is not newer, the disk is not at fault
+pub not_forbidden : {D : Type 0} (s : Store D) (v : Version) (fault : StoreFault) → s.failed ≡ false → IsForbidden s v fault → ¬ (fault ≡ DiskFault)
+not_forbidden s v DiskFault went forbidden is = false≢true (sym went ∙ forbidden)
+not_forbidden s v (BadLabel len head) went forbidden is = forbidden
+not_forbidden s v (TooLarge bytes) went forbidden is = forbidden
+not_forbidden s v (NotNewer own given) went forbidden is = absurd cc
+not_forbidden s v NoMemory went forbidden is = forbidden
+
+-- what is so of all changes is so of those that were begun
+pub of_all : (begun : Option (List Change)) (P : List Change → Type 0) → ((changes : List Change) → P changes) → IfSome begun P
+of_all None P all = tt
+of_all (Some changes) P all = all changes

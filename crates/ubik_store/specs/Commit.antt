@@ -1,0 +1,36 @@
+-- A durable call over the pages and the files of a disk: what it makes, and what a crash leaves of it (own).
+use Rattle.std.specs.Prelude.{◌≡◌, ◌+◌, List, length, Some, IfSome}
+use Rattle.std.specs.Option.{option_map}
+use Rattle.ubik_types.specs.declared.images.Change.{Change}
+use Rattle.ubik_types.specs.declared.versions.Version.{Version}
+use Rattle.ubik_types.specs.Image.{effect}
+use Rattle.disk_base.specs.declared.disks.Disk.{Ghosts}
+use Rattle.disk_base.specs.Crash.{LeavesOnly, IsSettled}
+use Rattle.page_file.specs.Label.{version_of_database}
+use Rattle.page_file.specs.Pages.{Known, AgreesIn, image_of}
+use Rattle.ubik_store.specs.Calls.{CallsAtMost}
+use Rattle.ubik_store.specs.Files.{StandsForEither}
+use Rattle.ubik_store.specs.Gaps.{IsPlain, CutsNoPut}
+use Rattle.ubik_store.specs.Moments.{head_calls, ended}
+use Rattle.ubik_store.specs.Redo.{len_after}
+use Rattle.ubik_store.specs.Rest.{RestsAs, CanRelabel}
+
+-- The changes are made under this version, with 13 changing calls and one for each change, and one more where the database file was
+-- shorter than a label. Files at rest are left, with which the pages agree, and room for a relabelling.
+pub record CommitsFiles {D : Type 0} (g : Ghosts D) (changes : List Change) (v : Version) (old new : D) (before after : Known) : Type 0 where
+  pub files : g.files new ≡ option_map (ended changes v) (g.files old)
+  pub rests : IfSome (g.files old) (λ fs. RestsAs v (effect (image_of fs.database) changes) (g.files new))
+  pub settled : IsSettled (g.files new) (g.may_leave new)
+  pub steps : IfSome (g.files old) (λ fs. g.steps new ≡ g.steps old + (13 + length changes + head_calls fs.database))
+  pub label : after.version ≡ Some v
+  pub len : after.len ≡ len_after before.len changes
+  pub agrees : AgreesIn after (g.files new)
+  pub room : CanRelabel g new
+
+-- Done or not, a crash at any moment of the call leaves files that stand for the version and image before it or for those after it. Where
+-- no cut goes to before an earlier put, an opening over what is left may crash in turn.
+pub record IsDurableOver {D : Type 0} (g : Ghosts D) (changes : List Change) (v : Version) (old new : D) (failed : Type 0) : Type 0 where
+  pub moments : IfSome (g.files old) (λ fs. (own : Version) → version_of_database fs.database ≡ Some own
+      → LeavesOnly g.steps g.left_since old new (StandsForEither own (image_of fs.database) v (effect (image_of fs.database) changes)))
+  pub plain : CutsNoPut changes → IfSome (g.files old) (λ _. LeavesOnly g.steps g.left_since old new IsPlain)
+  pub calls : CallsAtMost g (14 + length changes) old new failed

@@ -1,0 +1,50 @@
+-- What an opening of files does: how many changing calls it makes, and why it refuses (own).
+use Rattle.std.specs.Prelude.{◌≡◌, ℕ, ◌+◌, List, length, take, IfSome}
+use Rattle.ubik_types.specs.declared.images.Change.{Change}
+use Rattle.ubik_types.specs.declared.versions.Version.{Version}
+use Rattle.ubik_types.specs.Logged.{logged}
+use Rattle.disk_base.specs.declared.disks.Disk.{Ghosts}
+use Rattle.disk_base.specs.Crash.{LeavesOnly}
+use Rattle.disk_base.specs.Files.{Files}
+use Rattle.disk_base.specs.Stops.{IsStopped}
+use Rattle.page_file.specs.Label.{IsHeadOf}
+use Rattle.page_file.specs.Pages.{image_of}
+use Rattle.ubik_log.specs.LogGrammar.{IsCommitted, IsDiscarded, new_record}
+use Rattle.ubik_store.specs.declared.faults.StoreFault.{StoreFault}
+use Rattle.ubik_store.specs.declared.faults.StoreFault.TheVariants.{DiskFault, BadLabel, TooLarge, NotNewer, NoMemory}
+use Rattle.ubik_store.specs.Calls.{CallsAtMost}
+use Rattle.ubik_store.specs.Files.{StandsFor}
+use Rattle.ubik_store.specs.Gaps.{IsGapless, IsPlain}
+use Rattle.ubik_store.specs.Moments.{head_calls}
+
+-- how many changing calls an opening of these files makes, by cases
+pub data OpensIn : Files → ℕ → Type 0 where
+  -- a committed log: its changes as they are made over the image that stands there, two syncs and the label, and the end of the log
+  redoes : (fs : Files) (changes : List Change) (version : Version) → IsCommitted fs.log changes version
+      → OpensIn fs (7 + length (logged (length (image_of fs.database)) changes) + head_calls fs.database)
+  -- a discarded log that begins with LOGNEW: its gate is closed, and it is cut to nothing, and both is synced
+  closes : (fs : Files) → IsDiscarded fs.log → take 4 fs.log ≡ new_record → OpensIn fs 4
+  -- any other, an empty one too: it is cut to nothing, and synced
+  cuts : (fs : Files) → IsDiscarded fs.log → ¬ (take 4 fs.log ≡ new_record) → OpensIn fs 2
+
+-- the files stand for no version and no image
+abbrev pub StandsForNothing : Files → Type 0
+StandsForNothing fs = (version : Version) (image : List ℕ) → ¬ StandsFor fs version image
+
+-- an opening of these files is refused: where they stand for nothing, with length and head of the database file
+abbrev pub RefusesFiles : Files → StoreFault → Type 0
+RefusesFiles fs DiskFault = Unit {0}
+RefusesFiles fs (BadLabel len head) = StandsForNothing fs × (len ≡ length fs.database) × IsHeadOf head fs.database
+RefusesFiles fs (TooLarge bytes) = ⊥
+RefusesFiles fs (NotNewer own given) = ⊥
+RefusesFiles fs NoMemory = Unit {0}
+
+-- What an opening leaves of a disk, done or not. Where no put of a committed log leaves a gap, a crash at any moment of it leaves files
+-- that stand for the same; where none of its cuts goes to before an earlier put either, so it is at any crash of a later opening.
+pub record IsOpening {D : Type 0} (g : Ghosts D) (old new : D) (failed : Type 0) : Type 0 where
+  pub moments : IfSome (g.files old) (λ fs. IsGapless fs → (version : Version) (image : List ℕ) → StandsFor fs version image
+      → LeavesOnly g.steps g.left_since old new (λ c. StandsFor c version image))
+  pub plain : IfSome (g.files old) (λ fs. IsPlain fs → LeavesOnly g.steps g.left_since old new IsPlain)
+  pub stopped : IsStopped (g.stop new) → failed
+  pub most : ℕ
+  pub calls : CallsAtMost g most old new failed

@@ -1,0 +1,203 @@
+//! From files that a crash may have left to files at rest: first all is read and all memory taken, and then changes are made.
+ghost use Rattle.std.specs.Prelude.{◌≡◌, ◌≢◌, ◌↔◌, ◌+◌, ◌≤◌, ◌⊎◌, ℕ, List, length, if◌then◌else◌, IsTrue, Some, None, IfOk, IfErr, IfSome, IsErrOf, OnOk};
+ghost use Rattle.std.specs.Option.{option_map};
+ghost use Rattle.ubik_types.specs.declared.versions.Version.{Version};
+ghost use Rattle.ubik_types.specs.Version.{IsVersion};
+ghost use Rattle.disk_base.specs.Crash.{LeavesOnly, IsSettled};
+ghost use Rattle.disk_base.specs.Runs.{OnlyReads, OnlyReserves, ChangesAtMost};
+ghost use Rattle.disk_base.specs.Stops.{IsStopped};
+ghost use Rattle.page_file.specs.Pages.{AgreesIn};
+ghost use Rattle.ubik_log.specs.LogFile.{HasDiscarded};
+ghost use Rattle.ubik_log.specs.LogGrammar.{IsTold, IsCommitted, IsDiscarded};
+ghost use Rattle.ubik_store.specs.Files.{StandsFor};
+ghost use Rattle.ubik_store.specs.Moments.{without_log};
+ghost use Rattle.ubik_store.specs.Opening.{OpensIn, RefusesFiles, IsOpening};
+ghost use Rattle.ubik_store.specs.Plans.{IsBegun, Plans};
+ghost use Rattle.ubik_store.specs.Rest.{RestsAs};
+
+use crate::commits::reach;
+use crate::faults::StoreFault;
+use crate::logged::as_made;
+use crate::redo::{empty_log_file, end_log, redo};
+use disk_base::{Disk, DiskEnd, FileNo, LenEnd, RoomEnd};
+use page_file::Pages;
+use std::alloc::Global;
+use ubik_log::{LogState, read_log};
+use ubik_types::{Changes, MAX_IMAGE, NoMemory, Version, WORD_LEN};
+
+/// The first record of a log.
+const FIRST_RECORD: [u8; WORD_LEN] = [0, 0, 0, 100];
+
+/// What an opening is to do, once all is read and all memory is taken.
+#[derive(Drop)]
+enum Plan {
+    /// A committed log: these changes are made, under this version.
+    Redo {
+        pages: Pages,
+        changes: Changes,
+        version: Version,
+    },
+    /// A discarded log is emptied. It begins with the first record of a log, or not.
+    Empty {
+        pages: Pages,
+        begun: bool,
+    },
+}
+
+/// Whether the log begins with the first record of one.
+fn is_begun<D: Disk>(disk: &mut D) -> Result<bool, StoreFault>
+    ensures begun { IfOk result (λ begun. IfSome (D.files disk.old) (λ fs. IsTrue begun ↔ IsBegun fs.log)) }
+    ensures fault { IfErr result (λ fault. fault ≡ StoreFault.DiskFault) }
+    ensures reads { OnlyReads D.Disk disk.old disk.new (IsErrOf result StoreFault.DiskFault) }
+{
+    match disk.len(FileNo::Log) {
+        LenEnd::Known(len) if len < WORD_LEN as u64 => Ok(false),
+        LenEnd::Known(_) => {
+            let mut word = [0; WORD_LEN];
+            match disk.read(FileNo::Log, 0, &mut word) {
+                DiskEnd::Done => Ok(word == FIRST_RECORD),
+                DiskEnd::Failed => Err(StoreFault::DiskFault),
+            }
+        }
+        LenEnd::Failed => Err(StoreFault::DiskFault),
+    }
+}
+
+/// Makes room for the gate of a log; there is such room where the disk tells a log that has one.
+fn reserve_gate<D: Disk>(disk: &mut D) -> Result<(), NoMemory>
+    ensures reserved { OnOk result (4 ≤ D.room disk.new FileNo.Log) }
+    ensures reserves { OnlyReserves D.Disk disk.old disk.new }
+{
+    match disk.reserve(FileNo::Log, WORD_LEN as u64) {
+        RoomEnd::Done => Ok(()),
+        RoomEnd::NoMemory => Err(NoMemory),
+    }
+}
+
+/// Makes out what a committed log changes in the image that stands there, and makes the room for it.
+fn plan_redo<D: Disk>(
+    alloc: Global,
+    disk: &mut D,
+    told: Changes,
+    version: Version,
+) -> Result<Plan, StoreFault>
+    requires told { IsTold told version }
+    requires committed { IfSome (D.files disk.old) (λ fs. IsCommitted fs.log told version) }
+    ensures plans { IfOk result (Plans D.Disk disk.new) }
+    ensures refused { IfErr result (λ fault. IfSome (D.files disk.old) (λ fs. RefusesFiles fs fault)) }
+    ensures reads { OnlyReads D.Disk disk.old disk.new (IsErrOf result StoreFault.DiskFault) }
+{
+    let mut pages = Pages::over(disk)?;
+    let changes = as_made(alloc, pages.len(), told)?;
+    pages.reserve(disk, reach(changes.as_slice()))?;
+    reserve_gate(disk)?;
+    Ok(Plan::Redo {
+        pages,
+        changes,
+        version,
+    })
+}
+
+/// Reads length and label of a database file over which a discarded log stands, and whether that log has an open gate.
+fn plan_empty<D: Disk>(disk: &mut D) -> Result<Plan, StoreFault>
+    requires discarded { IfSome (D.files disk.old) (λ fs. IsDiscarded fs.log) }
+    ensures plans { IfOk result (Plans D.Disk disk.new) }
+    ensures refused { IfErr result (λ fault. IfSome (D.files disk.old) (λ fs. RefusesFiles fs fault)) }
+    ensures reads { OnlyReads D.Disk disk.old disk.new (IsErrOf result StoreFault.DiskFault) }
+{
+    let pages = Pages::open(disk)?;
+    let begun = is_begun(disk)?;
+    if begun {
+        reserve_gate(disk)?;
+    }
+    Ok(Plan::Empty { pages, begun })
+}
+
+/// Reads the files, and takes all memory that an opening of them needs.
+fn plan_opening<D: Disk>(alloc: Global, disk: &mut D) -> Result<Plan, StoreFault>
+    ensures plans { IfOk result (Plans D.Disk disk.new) }
+    ensures refused { IfErr result (λ fault. IfSome (D.files disk.old) (λ fs. RefusesFiles fs fault)) }
+    ensures stopped { IsStopped (D.stop disk.old) → IsErrOf result StoreFault.DiskFault }
+    ensures reads { OnlyReads D.Disk disk.old disk.new (IsErrOf result StoreFault.DiskFault) }
+{
+    match read_log(alloc, disk)? {
+        LogState::Committed { changes, version } => plan_redo(alloc, disk, changes, version),
+        LogState::Discarded => plan_empty(disk),
+    }
+}
+
+/// Empties the file of a discarded log. Where it begins with the first record of one its gate is closed first: a crash could
+/// else leave a front of it that is a committed log.
+fn empty_discarded<D: Disk>(disk: &mut D, begun: bool) -> Result<(), StoreFault>
+    requires discarded { IfSome (D.files disk.old) (λ fs. IsDiscarded fs.log) }
+    requires begins { IfSome (D.files disk.old) (λ fs. IsTrue begun ↔ IsBegun fs.log) }
+    requires fits { IsTrue begun → 4 ≤ D.room disk.old FileNo.Log }
+    requires settled { IsSettled (D.files disk.old) (D.may_leave disk.old) }
+    ensures files { OnOk result (D.files disk.new ≡ option_map without_log (D.files disk.old)) }
+    ensures settled { OnOk result (IsSettled (D.files disk.new) (D.may_leave disk.new)) }
+    ensures moments { IfSome (D.files disk.old) (λ fs. LeavesOnly D.steps D.left_since disk.old disk.new (HasDiscarded fs)) }
+    ensures steps { OnOk result (D.steps disk.new ≡ D.steps disk.old + (if begun then 4 else 2)) }
+    ensures fault { IfErr result (λ fault. fault ≡ StoreFault.DiskFault) }
+    ensures changes { ChangesAtMost D.Disk FileNo.Log 4 disk.old disk.new (IsErrOf result StoreFault.DiskFault) }
+{
+    if begun {
+        return Ok(end_log(disk)?);
+    }
+    match empty_log_file(disk) {
+        DiskEnd::Done => Ok(()),
+        DiskEnd::Failed => Err(StoreFault::DiskFault),
+    }
+}
+
+/// Makes the changes that an opening makes.
+fn carry_out<D: Disk>(disk: &mut D, plan: Plan) -> Result<Pages, StoreFault>
+    requires plans { Plans D.Disk disk.old plan }
+    requires settled { IsSettled (D.files disk.old) (D.may_leave disk.old) }
+    requires runs { ¬ IsStopped (D.stop disk.old) }
+    ensures stands { IfOk result (λ pages. IfSome (D.files disk.old) (λ fs. (version : Version) × (image : List ℕ) × StandsFor fs version image
+        × RestsAs version image (D.files disk.new) × (pages.version ≡ Some version) × (pages.len ≡ length image))) }
+    ensures numbers { IfOk result (λ pages. (version : Version) × (pages.version ≡ Some version) × IsVersion version) }
+    ensures len { IfOk result (λ pages. pages.len ≤ MAX_IMAGE) }
+    ensures agrees { IfOk result (λ pages. AgreesIn pages (D.files disk.new)) }
+    ensures settled { OnOk result (IsSettled (D.files disk.new) (D.may_leave disk.new)) }
+    ensures steps { OnOk result (IfSome (D.files disk.old) (λ fs. (calls : ℕ) → OpensIn fs calls → D.steps disk.new ≡ D.steps disk.old + calls)) }
+    ensures untold { OnOk result (D.files disk.old ≡ None → D.files disk.new ≡ None) }
+    ensures fault { IfErr result (λ fault. fault ≡ StoreFault.DiskFault) }
+    ensures opening { IsOpening D.Disk disk.old disk.new (IsErrOf result StoreFault.DiskFault) }
+{
+    match plan {
+        Plan::Redo {
+            mut pages,
+            changes,
+            version,
+        } => {
+            redo(disk, &mut pages, changes.as_slice(), version)?;
+            Ok(pages)
+        }
+        Plan::Empty { pages, begun } => {
+            empty_discarded(disk, begun)?;
+            Ok(pages)
+        }
+    }
+}
+
+/// Brings a committed log to its end, empties any other, and reads length and label of the database file. Files at rest are
+/// left, which stand for what the files stood for. A crash at any moment leaves files that stand for the same, but where a put of a
+/// committed log leaves a gap. Files that stand for nothing are refused, and nothing changes; nor does it for want of memory.
+pub(crate) fn open_files<D: Disk>(alloc: Global, disk: &mut D) -> Result<Pages, StoreFault>
+    requires settled { IsSettled (D.files disk.old) (D.may_leave disk.old) }
+    ensures stands { IfOk result (λ pages. IfSome (D.files disk.old) (λ fs. (version : Version) × (image : List ℕ) × StandsFor fs version image
+        × RestsAs version image (D.files disk.new) × (pages.version ≡ Some version) × (pages.len ≡ length image))) }
+    ensures numbers { IfOk result (λ pages. (version : Version) × (pages.version ≡ Some version) × IsVersion version) }
+    ensures len { IfOk result (λ pages. pages.len ≤ MAX_IMAGE) }
+    ensures agrees { IfOk result (λ pages. AgreesIn pages (D.files disk.new)) }
+    ensures settled { OnOk result (IsSettled (D.files disk.new) (D.may_leave disk.new)) }
+    ensures steps { OnOk result (IfSome (D.files disk.old) (λ fs. (calls : ℕ) → OpensIn fs calls → D.steps disk.new ≡ D.steps disk.old + calls)) }
+    ensures untold { OnOk result (D.files disk.old ≡ None → D.files disk.new ≡ None) }
+    ensures refused { IfErr result (λ fault. IfSome (D.files disk.old) (λ fs. RefusesFiles fs fault)) }
+    ensures unchanged { IfErr result (λ fault. fault ≢ StoreFault.DiskFault → OnlyReads D.Disk disk.old disk.new ⊥) }
+    ensures opening { IsOpening D.Disk disk.old disk.new (IsErrOf result StoreFault.DiskFault) }
+{
+    let plan = plan_opening(alloc, disk)?;
+    carry_out(disk, plan)
+}
