@@ -13,3 +13,4 @@ pub mod CallWords
 pub mod ByteMeaning
 pub mod Registry
 pub mod Records
+pub mod RecordEnds
