@@ -16,3 +16,6 @@ pub mod Means
 pub mod UserAdded
 pub mod WordCalls
 pub mod InitialState
+pub mod FirstBlocks
+pub mod LaidOut
+pub mod Scanned

@@ -108,6 +108,7 @@ pub fn maxima<I: ImageRead>(_alloc: Global, d: &mut Draft<I>) -> Result<(i32, i3
 // ---- what is changed
 
 /// Writes the first image where the draft is empty.
+#[tactic(auto, unfolding(crate::specs::Records::whole))]
 fn make_whole<I: ImageRead>(alloc: Global, d: &mut Draft<I>) -> Result<(), RecordFault>
     ensures bytes { OnOk result (Becomes whole d.old d.new) }
     ensures empty { OnOk result (d.old.len ≡ 0 → d.new.len ≡ FIRST_LEN) }
@@ -123,6 +124,7 @@ fn make_whole<I: ImageRead>(alloc: Global, d: &mut Draft<I>) -> Result<(), Recor
 }
 
 /// A block with the fields of this entry in place of those that it had. Its pairs stay.
+#[tactic(auto, unfolding(crate::specs::Records::with_fields))]
 fn with_fields(alloc: Global, e: &PrEntry, block: &Block) -> Result<Vec<u8>, AllocError>
     ensures { IfOk result (λ after. after.items ≡ with_fields (seen e.now) block.now) }
 {

@@ -102,6 +102,7 @@ pub fn block_count(len: u32) -> Result<u32, RecordFault>
 }
 
 /// A block of the draft, where its first word is one of a block.
+#[tactic(auto, unfolding(crate::specs::Records::block_in))]
 fn read_block<I: ImageRead>(d: &mut Draft<I>, number: u32) -> Result<Block, RecordFault>
     requires within { block_place number + BLOCK_LEN ≤ d.old.len }
     requires len { d.old.len < 2 ^ 31 }
