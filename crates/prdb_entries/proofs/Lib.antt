@@ -19,3 +19,7 @@ pub mod InitialState
 pub mod FirstBlocks
 pub mod LaidOut
 pub mod Scanned
+pub mod Lookups
+pub mod BlockPlaces
+pub mod EntryFields
+pub mod Changed

@@ -76,7 +76,7 @@ scanned_more g first now next w count done block failed s looks is fails = recor
 first_so : (bytes : Option (List ℕ)) (w : Wanted) (count done : ℕ) (block : List ℕ) → IfSome bytes (λ image. length image ≡ block_place count)
     → IfSome bytes (λ image. (j : ℕ) → j < done → is_met w (block_in image j) ≡ false) → done < count
     → IfSome bytes (λ image. block ≡ block_in image done) → is_met w block ≡ true
-    → IfSome bytes (λ image. IsFirst w image (Some (record { number = done; block = block })))
+    → IfSome bytes (λ image. IsFirst (is_met w) image (Some (record { number = done; block = block })))
 first_so None w count done block told before below is met = tt
 first_so (Some image) w count done block told before below is met =
     let n : block_count image ≡ count = count_is image count told in
@@ -88,20 +88,20 @@ first_so (Some image) w count done block told before below is met =
 
 pub scan_first : {I : Type 0} (g : Ghosts I) (first now : Drafted I) (w : Wanted) (count done : ℕ) (block : List ℕ)
     → Scanned g first now w count done → done < count → IfSome now.bytes (λ image. block ≡ block_in image done) → is_met w block ≡ true
-    → IfSome first.bytes (λ image. IsFirst w image (Some (record { number = done; block = block })))
+    → IfSome first.bytes (λ image. IsFirst (is_met w) image (Some (record { number = done; block = block })))
 scan_first g first now w count done block s below is met =
     first_so first.bytes w count done block s.told s.before below
     (subst (λ (b : Option (List ℕ)). IfSome b (λ image. block ≡ block_in image done)) s.frame.same.bytes is) met
 
 none_so : (bytes : Option (List ℕ)) (w : Wanted) (count : ℕ) → IfSome bytes (λ image. length image ≡ block_place count)
-    → IfSome bytes (λ image. (j : ℕ) → j < count → is_met w (block_in image j) ≡ false) → IfSome bytes (λ image. IsFirst w image None)
+    → IfSome bytes (λ image. (j : ℕ) → j < count → is_met w (block_in image j) ≡ false) → IfSome bytes (λ image. IsFirst (is_met w) image None)
 none_so None w count told before = tt
 none_so (Some image) w count told before =
     let n : block_count image ≡ count = count_is image count told in
     first_none (λ k. is_met w (block_in image k)) 0 (block_count image) (λ j from less. before j (omega arith)) ∙ omega arith
 
 pub scan_none : {I : Type 0} (g : Ghosts I) (first now : Drafted I) (w : Wanted) (count : ℕ) → Scanned g first now w count count
-    → IfSome first.bytes (λ image. IsFirst w image None)
+    → IfSome first.bytes (λ image. IsFirst (is_met w) image None)
 scan_none g first now w count s = none_so first.bytes w count s.told s.before
 
 -- ---- the least id above one

@@ -25,10 +25,10 @@ is_met (wanted.Name name) block = has_name name.now block
 is_met (wanted.Id id) block = has_id id block
 is_met wanted.Free block = is_free block
 
--- what a scan found: the first block that meets it, if one does
-abbrev pub IsFirst : Wanted → List ℕ → Option Found → Type 0
-IsFirst w image None = first_block (is_met w) image ≡ block_count image
-IsFirst w image (Some f) = (f.number < block_count image) × (f.number ≡ first_block (is_met w) image) × (f.block ≡ block_in image f.number)
+-- what a scan found: the first block that meets a test, if one does
+abbrev pub IsFirst : (List ℕ → Bool) → List ℕ → Option Found → Type 0
+IsFirst test image None = first_block test image ≡ block_count image
+IsFirst test image (Some f) = (f.number < block_count image) × (f.number ≡ first_block test image) × (f.block ≡ block_in image f.number)
 
 -- what bytes hold, if they are told, does not fit
 abbrev pub HoldNone : Option (List ℕ) → (List ℕ → Registry → Type 0) → Type 0

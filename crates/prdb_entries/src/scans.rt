@@ -125,7 +125,7 @@ fn scan<I: ImageRead>(
     wanted: Wanted<'_>,
 ) -> Result<Option<Found>, RecordFault>
     requires { d.old.len < 2 ^ 31 }
-    ensures found { IfOk result (λ found. IfSome d.old.bytes (λ image. IsFirst wanted.entry image found)) }
+    ensures found { IfOk result (λ found. IfSome d.old.bytes (λ image. IsFirst (is_met wanted.entry) image found)) }
     ensures within { IfOk result (λ found. IfSome found (λ f. block_place f.number + BLOCK_LEN ≤ d.old.len)) }
     ensures fault { IfErr result (HasCause d.old.bytes IsLaidOut) }
     ensures frame { OnlyLooks I.ImageRead d.old d.new (IsErrOf result RecordFault.DiskFault) }
@@ -157,7 +157,7 @@ pub fn find_block<I: ImageRead>(
     wanted: Wanted<'_>,
 ) -> Result<Option<Found>, RecordFault>
     requires { d.old.len < 2 ^ 31 }
-    ensures found { IfOk result (λ found. IfSome d.old.bytes (λ image. IsFirst wanted.entry (whole image) found)) }
+    ensures found { IfOk result (λ found. IfSome d.old.bytes (λ image. IsFirst (is_met wanted.entry) (whole image) found)) }
     ensures within { IfOk result (λ found. IfSome found (λ f. block_place f.number + BLOCK_LEN ≤ max d.old.len FIRST_LEN)) }
     ensures fault { IfErr result (HasCause d.old.bytes Holds) }
     ensures frame { OnlyLooks I.ImageRead d.old d.new (IsErrOf result RecordFault.DiskFault) }
