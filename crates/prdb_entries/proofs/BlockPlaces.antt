@@ -152,3 +152,7 @@ pub put_maxima : (image : List ℕ) (user group u g : ℤ) (n : ℕ) → length 
     → IsHeadPut image (changed image (Put 8 (word (bits u) ++ word (bits g)))) (head_with u g n)
 put_maxima image user group u g n size is =
     head_put image (word (bits u) ++ word (bits g)) (head_with user group n) (head_with u g n) 8 n size (omega arith) is (maxima_head user group u g n)
+
+pub block_len : (image : List ℕ) (k n : ℕ) → length image ≡ block_place n → k < n → length (block_in image k) ≡ 192
+unfolding block_in
+block_len image k n size below = length-take-le 192 (drop (block_place k) image) (omega (arith, length-drop (block_place k) image))

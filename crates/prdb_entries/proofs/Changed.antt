@@ -23,16 +23,16 @@ int_other a b other = ⊎_elim (λ (t : int_eq a b ≡ true). absurd (other ((De
 abbrev pub set_under : ℤ → Option PrEntry → (ℤ → Option PrEntry) → ℤ → Option PrEntry
 set_under x content entry id = cond (int_eq id x) content (entry id)
 
-under_same : (x id : ℤ) (content : Option PrEntry) (entry : ℤ → Option PrEntry) → id ≡ x → set_under x content entry id ≡ content
+pub under_same : (x id : ℤ) (content : Option PrEntry) (entry : ℤ → Option PrEntry) → id ≡ x → set_under x content entry id ≡ content
 under_same x id content entry same = ap (λ (b : Bool). cond b content (entry id)) (int_same id x same)
 
-under_other : (x id : ℤ) (content : Option PrEntry) (entry : ℤ → Option PrEntry) → id ≢ x → set_under x content entry id ≡ entry id
+pub under_other : (x id : ℤ) (content : Option PrEntry) (entry : ℤ → Option PrEntry) → id ≢ x → set_under x content entry id ≡ entry id
 under_other x id content entry other = ap (λ (b : Bool). cond b content (entry id)) (int_other id x other)
 
-by_id : {P : Type 0} (a b : ℤ) → (a ≡ b → P) → (a ≢ b → P) → P
+pub by_id : {P : Type 0} (a b : ℤ) → (a ≡ b → P) → (a ≢ b → P) → P
 by_id {P} a b same other = ⊎_elim (λ (t : int_eq a b ≡ true). same ((Decides-int_eq a b).0 t)) (λ (f : int_eq a b ≡ false). other (λ e. let t = int_same a b e in absurd cc)) (cases_Bool (int_eq a b))
 
-some_same : {X : Type 0} {x y : X} → Some x ≡ Some y → x ≡ y
+pub some_same : {X : Type 0} {x y : X} → Some x ≡ Some y → x ≡ y
 some_same e = cc
 
 -- ---- one block is another one

@@ -13,7 +13,7 @@ use Rattle.prdb_entries.specs.State.{initial_state}
 pub count_is : (image : List ℕ) (k : ℕ) → length image ≡ block_place k → block_count image ≡ k
 count_is image k size = omega arith
 
-zero_kind : kind_of (zeros 192) ≡ 0
+pub zero_kind : kind_of (zeros 192) ≡ 0
 unfolding zeros
 zero_kind = refl
 

@@ -23,3 +23,5 @@ pub mod Lookups
 pub mod BlockPlaces
 pub mod EntryFields
 pub mod Changed
+pub mod Registries
+pub mod Held

@@ -34,7 +34,7 @@ name_parts name block e =
 name_from : (name block : List ℕ) → kind_of block ≡ 1 → block_name block ≡ name → has_name name block ≡ true
 name_from name block kind same = and_from (eqb (kind_of block) 1) (bytes_eq (block_name block) name) (eq-eqb (kind_of block) 1 kind) ((bytes_eq-Decides (block_name block) name).1 same)
 
-id_parts : (id : ℤ) (block : List ℕ) → has_id id block ≡ true → (kind_of block ≡ 1) × ((entry_in block).id ≡ id)
+pub id_parts : (id : ℤ) (block : List ℕ) → has_id id block ≡ true → (kind_of block ≡ 1) × ((entry_in block).id ≡ id)
 id_parts id block e =
     let p = and_parts (eqb (kind_of block) 1) (int_eq (entry_in block).id id) e in
     (eqb-true (kind_of block) 1 p.0, (Decides-int_eq (entry_in block).id id).0 p.1)

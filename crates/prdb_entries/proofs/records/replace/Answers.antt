@@ -1,0 +1,4 @@
+use Rattle.std.proofs.Common.{arith}
+use Rattle.prdb_entries.proofs.Held.{holds_inserted, holds_replaced, holds_removed, holds_maxima}
+use Rattle.prdb_entries.proofs.records.replace.Goals as goal
+
