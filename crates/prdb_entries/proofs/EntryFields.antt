@@ -8,16 +8,16 @@ use Rattle.std.proofs.lemmas.List.{take_at, drop_at, drop-drop, length-append, l
 use Rattle.std.proofs.lemmas.Nat.{from_be_bytes-to_be_bytes_4}
 use Rattle.prdb_entries.specs.Blocks.{block_name}
 use Rattle.prdb_entries.specs.Bytes.{bits, words, zeros, filled, word_at}
-use Rattle.prdb_entries.specs.Records.{IsBlock, IsEntryBlock, entry_in, kind_of, signed_at, with_fields, new_block}
+use Rattle.prdb_entries.specs.Records.{IsBlock, IsEntryBlock, entry_in, field_numbers, kind_of, signed_at, with_fields, new_block}
 use Rattle.prdb_entries.specs.State.{PrEntry, IsPrEntry}
 use Rattle.prdb_entries.proofs.Fields.{length-zeros}
 use Rattle.prdb_entries.proofs.LayoutRead.{text_end, fits_id, bits_below}
 
 numbers : PrEntry → List ℕ
-numbers e = words (1 ∷ e.flags ∷ bits e.id ∷ bits e.owner ∷ bits e.creator ∷ bits e.quota ∷ [])
+numbers e = words (field_numbers e)
 
 length-numbers : (e : PrEntry) → length (numbers e) ≡ 24
-unfolding numbers words
+unfolding numbers words field_numbers
 length-numbers e = refl
 
 front : PrEntry → List ℕ → List ℕ
@@ -53,30 +53,30 @@ length-with_fields e block len short =
     length-front e block len, length-filled e.name short, length-drop 96 block)
 
 pub kind_with : (e : PrEntry) (block : List ℕ) → kind_of (with_fields e block) ≡ 1
-unfolding with_fields words
+unfolding with_fields words field_numbers
 kind_with e block = refl
 
 flags_with : (e : PrEntry) (block : List ℕ) → e.flags < 2 ^ 32 → word_at (with_fields e block) 4 ≡ e.flags
-unfolding with_fields words
+unfolding with_fields words field_numbers
 flags_with e block fits = from_be_bytes-to_be_bytes_4 e.flags fits
 
 signed : (z : ℤ) (n : ℕ) → FitsSigned w32 z → n ≡ bits z → cast_signed w32 n ≡ z
 signed z n fits is = ap (cast_signed w32) is ∙ to_z-of_z w32 z fits
 
 id_with : (e : PrEntry) (block : List ℕ) → FitsSigned w32 e.id → signed_at (with_fields e block) 8 ≡ e.id
-unfolding with_fields words
+unfolding with_fields words field_numbers
 id_with e block fits = signed e.id _ fits (from_be_bytes-to_be_bytes_4 (bits e.id) (bits_below e.id fits))
 
 owner_with : (e : PrEntry) (block : List ℕ) → FitsSigned w32 e.owner → signed_at (with_fields e block) 12 ≡ e.owner
-unfolding with_fields words
+unfolding with_fields words field_numbers
 owner_with e block fits = signed e.owner _ fits (from_be_bytes-to_be_bytes_4 (bits e.owner) (bits_below e.owner fits))
 
 creator_with : (e : PrEntry) (block : List ℕ) → FitsSigned w32 e.creator → signed_at (with_fields e block) 16 ≡ e.creator
-unfolding with_fields words
+unfolding with_fields words field_numbers
 creator_with e block fits = signed e.creator _ fits (from_be_bytes-to_be_bytes_4 (bits e.creator) (bits_below e.creator fits))
 
 quota_with : (e : PrEntry) (block : List ℕ) → FitsSigned w32 e.quota → signed_at (with_fields e block) 20 ≡ e.quota
-unfolding with_fields words
+unfolding with_fields words field_numbers
 quota_with e block fits = signed e.quota _ fits (from_be_bytes-to_be_bytes_4 (bits e.quota) (bits_below e.quota fits))
 
 pub name_with : (e : PrEntry) (block : List ℕ) → length block ≡ 192 → IsPrEntry e → block_name (with_fields e block) ≡ e.name

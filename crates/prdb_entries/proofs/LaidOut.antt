@@ -70,7 +70,7 @@ err_whole (Err (BadRecord at)) (Some image) len told more is = λ r holds.
     is r (subst (λ (i : List ℕ). IsLaidOut i r) (whole_same image (omega arith)) holds.laid)
 
 -- and what it says of the first image is said of the empty one
-whole_empty : (image : List ℕ) → length image ≡ 0 → whole image ≡ layout initial_state
+pub whole_empty : (image : List ℕ) → length image ≡ 0 → whole image ≡ layout initial_state
 unfolding whole
 whole_empty [] none = refl
 whole_empty (b ∷ bytes) none = absurd (omega arith)
@@ -93,3 +93,8 @@ err_empty (Err (BadRecord at)) None first len told none here is = tt
 err_empty (Err (BadRecord at)) (Some image) first len told none here is = λ r holds.
     let not = subst (λ (b : Option (List ℕ)). HoldNone b IsLaidOut) here is in
     not r (subst (λ (i : List ℕ). IsLaidOut i r) (whole_empty image (told ∙ none)) holds.laid)
+
+-- a fault over an image that is not empty
+pub fault_whole : (bytes : Option (List ℕ)) (len : ℕ) (fault : RecordFault) → IfSome bytes (λ image. length image ≡ len) → 0 < len
+    → HasCause bytes IsLaidOut fault → HasCause bytes Holds fault
+fault_whole bytes len fault told more cause = err_whole {X = ℕ} (Err fault) bytes len told more cause

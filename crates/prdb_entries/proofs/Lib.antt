@@ -25,3 +25,4 @@ pub mod EntryFields
 pub mod Changed
 pub mod Registries
 pub mod Held
+pub mod MaximaRead

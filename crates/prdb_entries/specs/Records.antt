@@ -44,11 +44,14 @@ pub record IsEntryBlock (block : List ℕ) : Type 0 where
 abbrev pub IsBlock : List ℕ → Type 0
 IsBlock block = (block ≡ zeros BLOCK_LEN) ⊎ (kind_of block ≡ 2) ⊎ IsEntryBlock block
 
+-- the numbers at the front of an entry's block: its kind, and its own
+unfoldable pub field_numbers : PrEntry → List ℕ
+field_numbers e = 1 ∷ e.flags ∷ bits e.id ∷ bits e.owner ∷ bits e.creator ∷ bits e.quota ∷ []
+
 -- a block with the fields of this entry in place of those that it had; its pairs stay
 unfoldable pub with_fields : PrEntry → List ℕ → List ℕ
 with_fields e block =
-    words (1 ∷ e.flags ∷ bits e.id ∷ bits e.owner ∷ bits e.creator ∷ bits e.quota ∷ [])
-    ++ take (NAME_AT - PAIR_COUNT_AT) (drop PAIR_COUNT_AT block) ++ filled NAME_FIELD e.name ++ drop CHAINS_AT block
+    words (field_numbers e) ++ take (NAME_AT - PAIR_COUNT_AT) (drop PAIR_COUNT_AT block) ++ filled NAME_FIELD e.name ++ drop CHAINS_AT block
 
 -- the block of a new entry, which has no pairs
 abbrev pub new_block : PrEntry → List ℕ

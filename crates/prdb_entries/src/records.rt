@@ -6,15 +6,14 @@ ghost use Rattle.db_image.specs.Draft.{StaysAsItWas};
 ghost use Rattle.db_image.specs.Images.{IsOfImage};
 ghost use Rattle.prdb_entries.specs.Blocks.{block_count};
 ghost use Rattle.prdb_entries.specs.RecordEnds.{Becomes, HasCause, HoldsTheSame, Makes, OnlyDrafts, OnlyLooks, seen};
-ghost use Rattle.prdb_entries.specs.Records.{Holds, after_insert, after_remove, after_replace, after_set_maxima, block_place, maxima_in, with_count, with_block, with_new_block, with_fields, whole};
+ghost use Rattle.prdb_entries.specs.Records.{Holds, IsLaidOut, after_insert, after_remove, after_replace, after_set_maxima, block_place, field_numbers, maxima_in, with_count, with_block, with_new_block, with_fields, whole};
 ghost use Rattle.prdb_entries.specs.Registry.{Registry, AreMaxima, IsRecord, IsNamed, IsNext, MayBeAdded, MayReplace, MayBeRemoved, with_entry, without_entry, with_maxima};
 
 use crate::blocks::{
-    BLOCK_COUNT_AT, BLOCK_LEN, Block, CHAINS_AT, FIRST_LEN, MAX_USER_AT, NAME_AT, PAIR_COUNT_AT,
-    word_at,
+    BLOCK_COUNT_AT, BLOCK_LEN, CHAINS_AT, FIRST_LEN, MAX_USER_AT, NAME_AT, PAIR_COUNT_AT,
 };
 use crate::entries::{ENTRY, MAX_GROUP, initial_image, push_name, push_words};
-use crate::scans::{Wanted, block_count, block_place, entry_in, find_block, find_next};
+use crate::scans::{Wanted, block_count, block_place, entry_in, find_block, find_next, signed_at};
 use db_image::{Draft, ImageRead, RecordFault};
 use std::alloc::{AllocError, Global};
 use ubik_types::{Bytes, WORD_LEN};
@@ -102,7 +101,7 @@ pub fn maxima<I: ImageRead>(_alloc: Global, d: &mut Draft<I>) -> Result<(i32, i3
     block_count(d.len())?;
     let mut words = [0; 2 * WORD_LEN];
     d.read(MAX_USER_AT as u32, &mut words).done()?;
-    Ok((word_at(&words, 0).cast_signed(), word_at(&words, WORD_LEN).cast_signed()))
+    Ok((signed_at(&words, 0), signed_at(&words, WORD_LEN)))
 }
 
 // ---- what is changed
@@ -123,24 +122,33 @@ fn make_whole<I: ImageRead>(alloc: Global, d: &mut Draft<I>) -> Result<(), Recor
     d.put(0, &initial_image(alloc)?)
 }
 
-/// A block with the fields of this entry in place of those that it had. Its pairs stay.
-#[tactic(auto, unfolding(crate::specs::Records::with_fields))]
-fn with_fields(alloc: Global, e: &PrEntry, block: &Block) -> Result<Vec<u8>, AllocError>
-    ensures { IfOk result (λ after. after.items ≡ with_fields (seen e.now) block.now) }
+/// The numbers at the front of an entry's block.
+#[tactic(auto, unfolding(crate::specs::Records::field_numbers))]
+fn field_numbers(e: &PrEntry) -> [u32; 6]
+    ensures { result ≡ field_numbers (seen e.now) }
 {
-    let mut after = Vec::with_capacity(alloc, BLOCK_LEN)?;
-    let numbers = [
+    [
         ENTRY,
         e.flags,
         e.id.cast_unsigned(),
         e.owner.cast_unsigned(),
         e.creator.cast_unsigned(),
         e.quota.cast_unsigned(),
-    ];
-    push_words(&mut after, &numbers)?;
+    ]
+}
+
+/// A block with the fields of this entry in place of those that it had. Its pairs stay.
+#[tactic(auto, unfolding(crate::specs::Records::with_fields))]
+fn with_fields(alloc: Global, e: &PrEntry, block: &[u8]) -> Result<Vec<u8>, AllocError>
+    requires { length block.now ≡ BLOCK_LEN }
+    ensures { IfOk result (λ after. after.items ≡ with_fields (seen e.now) block.now) }
+{
+    let mut after = Vec::with_capacity(alloc, BLOCK_LEN)?;
+    push_words(&mut after, &field_numbers(e))?;
     after.extend_from_slice(&block[PAIR_COUNT_AT..NAME_AT])?;
     push_name(&mut after, e.name.as_slice())?;
-    after.extend_from_slice(&block[CHAINS_AT..])?;
+    let (_, behind) = block.split_at(CHAINS_AT);
+    after.extend_from_slice(behind)?;
     Ok(after)
 }
 
@@ -151,7 +159,7 @@ fn add_block<I: ImageRead>(d: &mut Draft<I>, block: &[u8]) -> Result<(), RecordF
     ensures bytes { OnOk result (Becomes (λ image. with_count (block_count image + 1) (with_block (block_count image) block.now image)) d.old d.new) }
     ensures left { OnErr result ((d.new.bytes ≡ d.old.bytes) ⊎ Becomes (λ image. with_block (block_count image) block.now image) d.old d.new) }
     ensures len { OnOk result (d.new.len ≡ d.old.len + BLOCK_LEN) }
-    ensures fault { IfErr result (HasCause d.old.bytes (λ image r. length image ≡ block_place (block_count image))) }
+    ensures fault { IfErr result (HasCause d.old.bytes IsLaidOut) }
     ensures frame { OnlyDrafts I.ImageRead d.old d.new (IsErrOf result RecordFault.DiskFault) }
 {
     let count = block_count(d.len())?;

@@ -1,5 +1,5 @@
 //! Blocks of a draft, read one after the other.
-ghost use Rattle.std.specs.Prelude.{◌≡◌, ◌≢◌, ◌+◌, ◌<◌, ◌≤◌, ◌^◌, ℕ, Some, IfSome, IfOk, IfErr, IsErrOf, max};
+ghost use Rattle.std.specs.Prelude.{◌≡◌, ◌≢◌, ◌+◌, ◌<◌, ◌≤◌, ◌^◌, ℕ, Some, IfSome, IfOk, IfErr, IsErrOf, length, max};
 ghost use Rattle.std.specs.Option.{option_copied};
 ghost use Rattle.prdb_entries.specs.Blocks.{block_count};
 ghost use Rattle.prdb_entries.specs.Layout.{layout};
@@ -41,11 +41,11 @@ pub struct Found {
 }
 
 /// The signed number at a place.
-fn signed_at(block: &Block, at: usize) -> i32
-    requires { at + 4 ≤ BLOCK_LEN }
-    ensures { result ≡ signed_at block.now at }
+pub fn signed_at(bytes: &[u8], at: usize) -> i32
+    requires { at + 4 ≤ length bytes.now }
+    ensures { result ≡ signed_at bytes.now at }
 {
-    word_at(block, at).cast_signed()
+    word_at(bytes, at).cast_signed()
 }
 
 /// The entry whose fields stand in a block.

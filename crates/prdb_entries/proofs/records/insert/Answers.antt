@@ -1,4 +1,3 @@
-use Rattle.std.proofs.Common.{arith}
 use Rattle.prdb_entries.proofs.Held.{holds_inserted, holds_replaced, holds_removed, holds_maxima}
 use Rattle.prdb_entries.proofs.records.insert.Goals as goal
 

@@ -1,4 +1,0 @@
-use Rattle.std.proofs.Common.{arith}
-use Rattle.prdb_entries.proofs.Held.{holds_inserted, holds_replaced, holds_removed, holds_maxima}
-use Rattle.prdb_entries.proofs.records.replace.Goals as goal
-
