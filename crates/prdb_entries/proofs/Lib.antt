@@ -26,3 +26,4 @@ pub mod Changed
 pub mod Registries
 pub mod Held
 pub mod MaximaRead
+pub mod Becoming

@@ -2,6 +2,8 @@
 //! nothing of pairs: an entry comes without any, and keeps those that it has.
 ghost use Rattle.std.specs.Prelude.{◌≡◌, ◌≢◌, ◌+◌, ◌<◌, ◌≤◌, ◌^◌, ◌⊎◌, ℕ, IfSome, IfOk, IfErr, OnOk, OnErr, IsErrOf, length, max};
 ghost use Rattle.std.specs.Option.{option_map};
+ghost use Rattle.ubik_types.specs.Image.{changed};
+ghost use Rattle.ubik_types.specs.declared.images.Change.TheVariants.{Put};
 ghost use Rattle.db_image.specs.Draft.{StaysAsItWas};
 ghost use Rattle.db_image.specs.Images.{IsOfImage};
 ghost use Rattle.prdb_entries.specs.Blocks.{block_count};
@@ -122,6 +124,25 @@ fn make_whole<I: ImageRead>(alloc: Global, d: &mut Draft<I>) -> Result<(), Recor
     d.put(0, &initial_image(alloc)?)
 }
 
+/// Lays bytes at a position, after the first image where the draft is empty.
+fn put_whole<I: ImageRead>(
+    alloc: Global,
+    d: &mut Draft<I>,
+    at: u32,
+    bytes: &[u8],
+) -> Result<(), RecordFault>
+    requires len { d.old.len < 2 ^ 31 }
+    requires within { at + length bytes.now ≤ max d.old.len FIRST_LEN }
+    ensures bytes { OnOk result (Becomes (λ image. changed (whole image) (Put at bytes.now)) d.old d.new) }
+    ensures len { OnOk result (d.new.len ≤ max d.old.len FIRST_LEN) }
+    ensures left { OnErr result (HoldsTheSame d.old d.new) }
+    ensures fault { IfErr result IsOfImage }
+    ensures frame { OnlyDrafts I.ImageRead d.old d.new (IsErrOf result RecordFault.DiskFault) }
+{
+    make_whole(alloc, d)?;
+    d.put(at, bytes)
+}
+
 /// The numbers at the front of an entry's block.
 #[tactic(auto, unfolding(crate::specs::Records::field_numbers))]
 fn field_numbers(e: &PrEntry) -> [u32; 6]
@@ -180,11 +201,11 @@ pub fn insert<I: ImageRead>(alloc: Global, d: &mut Draft<I>, e: &PrEntry) -> Res
 {
     let free = find_block(alloc, d, Wanted::Free)?;
     let block = with_fields(alloc, e, &[0; BLOCK_LEN])?;
-    make_whole(alloc, d)?;
-    match free {
-        Some(found) => d.put(block_place(found.number), &block),
-        None => add_block(d, &block),
+    if let Some(found) = free {
+        return put_whole(alloc, d, block_place(found.number), &block);
     }
+    make_whole(alloc, d)?;
+    add_block(d, &block)
 }
 
 /// Gives the entry of an id other fields. Its pairs stay, and no byte is changed where the fields are those that it has.
@@ -210,8 +231,7 @@ pub fn replace<I: ImageRead>(
     if block.as_slice() == found.block.as_slice() {
         return Ok(());
     }
-    make_whole(alloc, d)?;
-    d.put(block_place(found.number), &block)
+    put_whole(alloc, d, block_place(found.number), &block)
 }
 
 /// Removes the entry of an id, which has no pairs. Its block is free from then on, and zero.
@@ -227,8 +247,7 @@ pub fn remove<I: ImageRead>(alloc: Global, d: &mut Draft<I>, id: i32) -> Result<
     let Some(found) = find_block(alloc, d, Wanted::Id(id))? else {
         return Err(RecordFault::BadRecord { at: d.len() });
     };
-    make_whole(alloc, d)?;
-    d.put(block_place(found.number), &[0; BLOCK_LEN])
+    put_whole(alloc, d, block_place(found.number), &[0; BLOCK_LEN])
 }
 
 /// Sets both maxima. No byte is changed where they are those that stand there.
@@ -250,8 +269,7 @@ pub fn set_maxima<I: ImageRead>(
     if maxima(alloc, d)? == (user, group) {
         return Ok(());
     }
-    make_whole(alloc, d)?;
     let mut words = Vec::with_capacity(alloc, 2 * WORD_LEN)?;
     push_words(&mut words, &[user.cast_unsigned(), group.cast_unsigned()])?;
-    d.put(MAX_USER_AT as u32, &words)
+    put_whole(alloc, d, MAX_USER_AT as u32, &words)
 }
