@@ -7,7 +7,7 @@ use Rattle.db_image.specs.Draft.{Drafted, StaysAsItWas}
 use Rattle.db_image.specs.Images.{OnlyReads}
 use Rattle.db_image.specs.declared.images.ImageRead.{Ghosts}
 use Rattle.prdb_entries.specs.Blocks.{block_count}
-use Rattle.prdb_entries.specs.RecordEnds.{OnlyLooks, IsFirst, is_met}
+use Rattle.prdb_entries.specs.RecordEnds.{OnlyDrafts, OnlyLooks, IsFirst, is_met}
 use Rattle.prdb_entries.specs.Records.{block_in, block_place, first_block, kind_of, signed_at, is_below, is_nearer, IsAbove, IsLeastAbove}
 use Rattle.prdb_entries.specs.declared.scans.Found.{Found}
 use Rattle.prdb_entries.specs.declared.scans.Wanted.{Wanted}
@@ -39,6 +39,18 @@ pub looks_so : {I : Type 0} (g : Ghosts I) (a b : Drafted I) (first failed : Typ
 looks_so g a b first failed r so = record {
   same = r.same;
   reads = record { held = r.reads.held; size = r.reads.size; never_falls = r.reads.never_falls; cause = λ h. r.reads.cause (so h) };
+}
+
+pub drafts_after : {I : Type 0} (g : Ghosts I) (a b c : Drafted I) (first failed : Type 0) → OnlyLooks g a b first → OnlyDrafts g b c failed
+    → OnlyDrafts g a c failed
+drafts_after g a b c first failed r s = record {
+  layout = s.layout ∙ r.same.layout;
+  reads = record {
+    held = s.reads.held ∙ r.reads.held;
+    size = s.reads.size ∙ r.reads.size;
+    never_falls = omega (arith, r.reads.never_falls, s.reads.never_falls);
+    cause = λ h. omega (arith, r.reads.never_falls, s.reads.cause h);
+  };
 }
 
 -- ---- the first block that is what is looked for

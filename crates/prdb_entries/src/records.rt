@@ -1,12 +1,13 @@
 //! The records of the protection database over a draft: its entries, found by a scan of the blocks, and the two maxima. They say
 //! nothing of pairs: an entry comes without any, and keeps those that it has.
-ghost use Rattle.std.specs.Prelude.{◌≡◌, ◌≢◌, ◌+◌, ◌<◌, ◌≤◌, ◌^◌, ◌⊎◌, ℕ, IfSome, IfOk, IfErr, OnOk, OnErr, IsErrOf, length, max};
+ghost use Rattle.std.specs.Prelude.{◌≡◌, ◌≢◌, ◌+◌, ◌++◌, ◌<◌, ◌≤◌, ◌^◌, ◌⊎◌, ℕ, IfSome, IfOk, IfErr, OnOk, OnErr, IsErrOf, length, max};
 ghost use Rattle.std.specs.Option.{option_map};
 ghost use Rattle.ubik_types.specs.Image.{changed};
 ghost use Rattle.ubik_types.specs.declared.images.Change.TheVariants.{Put};
 ghost use Rattle.db_image.specs.Draft.{StaysAsItWas};
 ghost use Rattle.db_image.specs.Images.{IsOfImage};
 ghost use Rattle.prdb_entries.specs.Blocks.{block_count};
+ghost use Rattle.prdb_entries.specs.Bytes.{bits, word};
 ghost use Rattle.prdb_entries.specs.RecordEnds.{Becomes, HasCause, HoldsTheSame, Makes, OnlyDrafts, OnlyLooks, seen};
 ghost use Rattle.prdb_entries.specs.Records.{Holds, IsLaidOut, after_insert, after_remove, after_replace, after_set_maxima, block_place, field_numbers, maxima_in, with_count, with_block, with_new_block, with_fields, whole};
 ghost use Rattle.prdb_entries.specs.Registry.{Registry, AreMaxima, IsRecord, IsNamed, IsNext, MayBeAdded, MayReplace, MayBeRemoved, with_entry, without_entry, with_maxima};
@@ -250,6 +251,16 @@ pub fn remove<I: ImageRead>(alloc: Global, d: &mut Draft<I>, id: i32) -> Result<
     put_whole(alloc, d, block_place(found.number), &[0; BLOCK_LEN])
 }
 
+/// The maxima as they stand in the head.
+fn maxima_words(alloc: Global, user: i32, group: i32) -> Result<Vec<u8>, AllocError>
+    ensures { IfOk result (λ words. words.items ≡ word (bits user) ++ word (bits group)) }
+{
+    let mut words = Vec::with_capacity(alloc, 2 * WORD_LEN)?;
+    words.extend_from_slice(&user.cast_unsigned().to_be_bytes())?;
+    words.extend_from_slice(&group.cast_unsigned().to_be_bytes())?;
+    Ok(words)
+}
+
 /// Sets both maxima. No byte is changed where they are those that stand there.
 pub fn set_maxima<I: ImageRead>(
     alloc: Global,
@@ -269,7 +280,6 @@ pub fn set_maxima<I: ImageRead>(
     if maxima(alloc, d)? == (user, group) {
         return Ok(());
     }
-    let mut words = Vec::with_capacity(alloc, 2 * WORD_LEN)?;
-    push_words(&mut words, &[user.cast_unsigned(), group.cast_unsigned()])?;
+    let words = maxima_words(alloc, user, group)?;
     put_whole(alloc, d, MAX_USER_AT as u32, &words)
 }
