@@ -27,3 +27,4 @@ pub mod Registries
 pub mod Held
 pub mod MaximaRead
 pub mod Becoming
+pub mod FirstImage
