@@ -146,7 +146,7 @@ groups_named (e ∷ es) owners passes =
     let p = and_parts (list_all (begins_so e) owners) (list_all (λ x. list_all (begins_so x) owners) es) passes in
     (All-from_recursion (IsNamedAfter e) owners (all_named e owners p.0), groups_named es owners p.1)
 
-initial-valid : IsPrState initial_state
+pub initial-valid : IsPrState initial_state
 unfolding fixed_entries
 initial-valid = record {
   entries = All-from_recursion IsPrEntry fixed_entries entries_are;

@@ -7,6 +7,8 @@ ghost use Rattle.prdb_entries.specs.State.{PrState, initial_state};
 ghost use Rattle.prdb_entries.specs.Meaning.{meaning};
 ghost use Rattle.prdb_entries.specs.Layout.{StandsFor};
 ghost use Rattle.prdb_entries.specs.Agreement.{IsMeant};
+ghost use Rattle.prdb_entries.specs.Records.{Holds};
+ghost use Rattle.prdb_entries.specs.Registry.{first_registry};
 ghost use Rattle.prdb_entries.specs.Words.{call_in};
 ghost use Rattle.prdb_entries.specs.Protection.{outcome, protection};
 ghost use Rattle.prdb_entries.specs.Words.{number_words, joined, reply_in_words};
@@ -49,4 +51,9 @@ pub fn law_answers_are_words()
     ensures { (s : PrState) (now : ℕ) (call : PrCall) (fields : List ℕ) → IsPrCall call
         → (meaning s now call).reply ≡ CallReply.Done fields
         → reply_in_words (spelling call) fields ≡ Some (joined (number_words fields)) }
+{}
+
+/// The empty image holds the first registry, which is valid.
+pub fn law_empty_holds_the_first()
+    ensures { Holds [] first_registry }
 {}
