@@ -154,13 +154,14 @@ fn carry_out<D: Disk>(disk: &mut D, plan: Plan) -> Result<Pages, StoreFault>
     requires plans { Plans D.Disk disk.old plan }
     requires settled { IsSettled (D.files disk.old) (D.may_leave disk.old) }
     requires runs { ¬ IsStopped (D.stop disk.old) }
-    ensures stands { IfOk result (λ pages. IfSome (D.files disk.old) (λ fs. (version : Version) × (image : List ℕ) × StandsFor fs version image
-        × RestsAs version image (D.files disk.new) × (pages.version ≡ Some version) × (pages.len ≡ length image))) }
+    ensures stands { IfOk result (λ pages. IfSome (D.files disk.old) (λ fs. (version : Version) × (image : List ℕ)
+        × StandsFor fs version image × RestsAs version image (D.files disk.new) × (pages.version ≡ Some version) × (pages.len ≡ length image))) }
     ensures numbers { IfOk result (λ pages. (version : Version) × (pages.version ≡ Some version) × IsVersion version) }
     ensures len { IfOk result (λ pages. pages.len ≤ MAX_IMAGE) }
     ensures agrees { IfOk result (λ pages. AgreesIn pages (D.files disk.new)) }
     ensures settled { OnOk result (IsSettled (D.files disk.new) (D.may_leave disk.new)) }
-    ensures steps { OnOk result (IfSome (D.files disk.old) (λ fs. (calls : ℕ) → OpensIn fs calls → D.steps disk.new ≡ D.steps disk.old + calls)) }
+    ensures steps { OnOk result (IfSome (D.files disk.old) (λ fs. (calls : ℕ) → OpensIn fs calls
+        → D.steps disk.new ≡ D.steps disk.old + calls)) }
     ensures untold { OnOk result (D.files disk.old ≡ None → D.files disk.new ≡ None) }
     ensures fault { IfErr result (λ fault. fault ≡ StoreFault.DiskFault) }
     ensures opening { IsOpening D.Disk disk.old disk.new (IsErrOf result StoreFault.DiskFault) }
@@ -186,13 +187,14 @@ fn carry_out<D: Disk>(disk: &mut D, plan: Plan) -> Result<Pages, StoreFault>
 /// committed log leaves a gap. Files that stand for nothing are refused, and nothing changes; nor does it for want of memory.
 pub(crate) fn open_files<D: Disk>(alloc: Global, disk: &mut D) -> Result<Pages, StoreFault>
     requires settled { IsSettled (D.files disk.old) (D.may_leave disk.old) }
-    ensures stands { IfOk result (λ pages. IfSome (D.files disk.old) (λ fs. (version : Version) × (image : List ℕ) × StandsFor fs version image
-        × RestsAs version image (D.files disk.new) × (pages.version ≡ Some version) × (pages.len ≡ length image))) }
+    ensures stands { IfOk result (λ pages. IfSome (D.files disk.old) (λ fs. (version : Version) × (image : List ℕ)
+        × StandsFor fs version image × RestsAs version image (D.files disk.new) × (pages.version ≡ Some version) × (pages.len ≡ length image))) }
     ensures numbers { IfOk result (λ pages. (version : Version) × (pages.version ≡ Some version) × IsVersion version) }
     ensures len { IfOk result (λ pages. pages.len ≤ MAX_IMAGE) }
     ensures agrees { IfOk result (λ pages. AgreesIn pages (D.files disk.new)) }
     ensures settled { OnOk result (IsSettled (D.files disk.new) (D.may_leave disk.new)) }
-    ensures steps { OnOk result (IfSome (D.files disk.old) (λ fs. (calls : ℕ) → OpensIn fs calls → D.steps disk.new ≡ D.steps disk.old + calls)) }
+    ensures steps { OnOk result (IfSome (D.files disk.old) (λ fs. (calls : ℕ) → OpensIn fs calls
+        → D.steps disk.new ≡ D.steps disk.old + calls)) }
     ensures untold { OnOk result (D.files disk.old ≡ None → D.files disk.new ≡ None) }
     ensures refused { IfErr result (λ fault. IfSome (D.files disk.old) (λ fs. RefusesFiles fs fault)) }
     ensures unchanged { IfErr result (λ fault. fault ≢ StoreFault.DiskFault → OnlyReads D.Disk disk.old disk.new ⊥) }

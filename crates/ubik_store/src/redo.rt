@@ -178,7 +178,8 @@ pub(crate) fn redo<D: Disk>(
         → LeavesOnly D.steps D.left_since disk.old disk.new (λ c. StandsFor c v (effect (image_of fs.database) told))) }
     ensures plain { IfSome (D.files disk.old) (λ fs. (told : List Change) → LeadsTo fs told v changes.now → IsPlain fs
         → Narrows (MayRedo fs told) (D.may_leave disk.old) → LeavesOnly D.steps D.left_since disk.old disk.new IsPlain) }
-    ensures settled { OnOk result (IsSettled (D.files disk.old) (D.may_leave disk.old) → IsSettled (D.files disk.new) (D.may_leave disk.new)) }
+    ensures settled { OnOk result (IsSettled (D.files disk.old) (D.may_leave disk.old)
+        → IsSettled (D.files disk.new) (D.may_leave disk.new)) }
     ensures steps { OnOk result (IfSome (D.files disk.old) (λ fs.
         D.steps disk.new ≡ D.steps disk.old + (7 + length changes.now + head_calls fs.database))) }
     ensures label { OnOk result (pages.new.version ≡ Some v) }

@@ -173,8 +173,8 @@ impl<D: Disk> Store<D> {
         requires version { IsVersion v }
         requires begun { IsSome self.old.begun }
         ensures sound { IsSound D.Disk self.new }
-        ensures ended { IfSome (changes_begun self.old.begun) (λ changes. MatchResult result (λ _. Commits D.Disk changes v self.old self.new)
-            (EndsAs D.Disk IsNeverLong v self.old self.new)) }
+        ensures ended { IfSome (changes_begun self.old.begun) (λ changes.
+            MatchResult result (λ _. Commits D.Disk changes v self.old self.new) (EndsAs D.Disk IsNeverLong v self.old self.new)) }
         ensures durable { self.old.failed ≡ false → IfSome (changes_begun self.old.begun) (λ changes.
             IsDurable D.Disk changes v self.old self.new (IsErrOf result StoreFault.DiskFault)) }
         ensures rests { self.old.failed ≡ true → (self.new.disk ≡ self.old.disk) × IsErrOf result StoreFault.DiskFault }
@@ -220,9 +220,11 @@ impl<D: Disk> Store<D> {
         ensures ended { MatchResult result (λ _. Commits D.Disk (whole_image image.now) v self.old self.new)
             (EndsAs D.Disk (IsTooLong image.now) v self.old self.new) }
         ensures fits { OnOk result (length image.now ≤ MAX_IMAGE) }
-        ensures too_long { self.old.failed ≡ false → MAX_IMAGE < length image.now → IsErrOf result (StoreFault.TooLarge (length image.now)) }
+        ensures too_long { self.old.failed ≡ false → MAX_IMAGE < length image.now
+            → IsErrOf result (StoreFault.TooLarge (length image.now)) }
         ensures image { OnOk result (IfSome (D.files self.old.disk) (λ _. image_in (D.files self.new.disk) ≡ Some image.now)) }
-        ensures durable { self.old.failed ≡ false → IsDurable D.Disk (whole_image image.now) v self.old self.new (IsErrOf result StoreFault.DiskFault) }
+        ensures durable { self.old.failed ≡ false
+            → IsDurable D.Disk (whole_image image.now) v self.old self.new (IsErrOf result StoreFault.DiskFault) }
         ensures rests { self.old.failed ≡ true → (self.new.disk ≡ self.old.disk) × IsErrOf result StoreFault.DiskFault }
     {
         if !self.failed && image.len() > MAX_IMAGE {
