@@ -9,6 +9,7 @@ use Rattle.ubik_types.specs.declared.versions.Version.{Version}
 use Rattle.ubik_types.specs.Image.{effect}
 use Rattle.ubik_types.specs.Logged.{logged, too_large}
 use Rattle.ubik_types.specs.Phase.{Polled, Spread, PhaseRecord, NoPhase, Poll, Fetch, Relabel, Send, Ready}
+use Rattle.ubik_types.specs.Votes.{VoteState}
 use Rattle.xdr_base.specs.ChangeText.{text_of}
 use Rattle.ubik_calls.specs.declared.packets.Body.{Body}
 use Rattle.ubik_calls.specs.declared.packets.Body.TheVariants as body
@@ -16,7 +17,7 @@ use Rattle.db_image.specs.Database.{Database, changes_of}
 use Rattle.cell_model.specs.Book.{BookVersion, Book, list_of, list_or_none, with_version}
 use Rattle.cell_model.specs.Durable.{Durable, Transaction, Own_relabelling, Committed}
 use Rattle.cell_model.specs.Lapse.{without_writes}
-use Rattle.cell_model.specs.Node.{Server, Flight}
+use Rattle.cell_model.specs.Node.{Server, ReadyBeacon, Flight, Waiting}
 use Rattle.cell_model.specs.Pieces.{piece_count}
 use Rattle.cell_model.specs.Polls.{only_holder}
 use Rattle.cell_model.specs.Receiver.{is_sending}
@@ -106,6 +107,18 @@ module _ (db : Database) where
   received_in book s phase front =
       cond_both (is_fetch s.phase) None (cond (is_fetch phase) None s.received) (ReceivedIsFront db book) (λ _. tt)
       (λ _. cond_both (is_fetch phase) None s.received (ReceivedIsFront db book) (λ _. tt) (λ _. front))
+
+  -- votes and waiting calls are no part of it
+  beside : (book : Book) (s : Server) (votes : VoteState) (starts : List (Option ℕ)) (beacon : Option ReadyBeacon)
+      (waiting : List Waiting) → Holds book s →
+      Holds book (record s { votes = votes; starts = starts; beacon = beacon; waiting = waiting })
+  beside book s votes starts beacon waiting holds = record {
+    image = holds.image;
+    relabelled = holds.relabelled;
+    flight = holds.flight;
+    received = holds.received;
+    kept = holds.kept;
+  }
 
   -- a phase of no sending
   in_phase : (book : Book) (s : Server) (phase : PhaseRecord) → is_sending phase ≡ false → s.flight ≡ None → Holds book s →
@@ -357,23 +370,11 @@ module _ (db : Database) (B : Book → Type 0)
             join book (record s { votes = votes; starts = starts; beacon = beacon })
             (makes.phase.votes book s votes starts beacon (first book s f))
             f.2.1
-            (record {
-              image = f.0.1.image;
-              relabelled = f.0.1.relabelled;
-              flight = f.0.1.flight;
-              received = f.0.1.received;
-              kept = f.0.1.kept;
-            });
+            (beside db book s votes starts beacon s.waiting f.0.1);
         waits = λ book s waiting f.
             join book (record s { waiting = waiting }) (makes.phase.waits book s waiting (first book s f))
             f.2.1
-            (record {
-              image = f.0.1.image;
-              relabelled = f.0.1.relabelled;
-              flight = f.0.1.flight;
-              received = f.0.1.received;
-              kept = f.0.1.kept;
-            });
+            (beside db book s s.votes s.starts s.beacon waiting f.0.1);
         no_flight = λ book s is f. f.0.0.no_flight is;
         lapses = λ book s phase idle f.
             join book (with_phase (without_writes s) phase) (makes.phase.lapses book s phase idle (first book s f))

@@ -7,6 +7,7 @@ pub mod Making
 pub mod Once
 pub mod Rising
 pub mod Runs
+pub mod Shorter
 pub mod Texts
 pub mod Versions
 pub mod Walk

@@ -7,13 +7,14 @@ use Rattle.std.specs.Prelude.{Option, Some, None, ◌&&◌, nat_lt}
 use Rattle.ubik_types.specs.declared.images.Change.{Change}
 use Rattle.ubik_types.specs.declared.versions.Version.{Version}
 use Rattle.ubik_types.specs.Phase.{Polled, Spread, PhaseRecord, NoPhase, Poll, Fetch, Relabel, Send, Ready}
+use Rattle.ubik_types.specs.Votes.{VoteState}
 use Rattle.ubik_types.specs.Version.{zero_version, version_lt, version_eq}
 use Rattle.xdr_base.specs.ChangeText.{text_of}
 use Rattle.ubik_calls.specs.declared.packets.Body.{Body}
 use Rattle.db_image.specs.Database.{Database}
 use Rattle.cell_model.specs.Book.{BookVersion, Book, list_or_none}
 use Rattle.cell_model.specs.Durable.{Transaction}
-use Rattle.cell_model.specs.Node.{Server, KeptWrite}
+use Rattle.cell_model.specs.Node.{Server, ReadyBeacon, KeptWrite, ReceivedText, Waiting}
 use Rattle.cell_model.specs.Receiver.{is_sending, whole_changes, kept_with, kept_but, whole_write}
 use Rattle.cell_model.specs.Recovery.{first_of_epoch, relabelled_to, held_by}
 use Rattle.cell_model.specs.Step.{Member, is_ready}
@@ -184,6 +185,19 @@ not_sending (Ready poll spread announced) is = no (sym is)
 pub no_content : (bodies : List Body) → AllBodies (λ b. Unit {0}) bodies
 no_content [] = tt
 no_content (b ∷ bodies) = (tt, no_content bodies)
+
+-- votes, waiting calls and texts are no part of it
+beside : (k : ℕ) (lease : Bool) (book : Book) (s : Server) (votes : VoteState) (starts : List (Option ℕ)) (beacon : Option ReadyBeacon)
+    (waiting : List Waiting) (received : Option ReceivedText) → MakesVersions k lease book s →
+    MakesVersions k lease book
+    (record s { votes = votes; starts = starts; beacon = beacon; waiting = waiting; received = received })
+beside k lease book s votes starts beacon waiting received makes = record {
+  went_on = makes.went_on;
+  owns = makes.owns;
+  greatest = makes.greatest;
+  no_flight = makes.no_flight;
+  kept = makes.kept;
+}
 
 -- a database that was taken over
 taken : (k : ℕ) (lease : Bool) (book : Book) (s : Server) (new : Version) → is_sending s.phase ≡ false → version_lt s.version new ≡ true →
@@ -383,28 +397,9 @@ module _ (db : Database) (B : Book → Type 0)
     pub makes_moves : Moves db m now lease F (λ book d. MakerWentOn m.me book d × B book) (λ book b. Unit {0})
     makes_moves = record {
       phase = record {
-        votes = λ book s votes starts beacon f. (
-          record {
-            went_on = f.0.went_on;
-            owns = f.0.owns;
-            greatest = f.0.greatest;
-            no_flight = f.0.no_flight;
-            kept = f.0.kept;
-          },
-          f.1,
-          f.2,
-        );
-        waits = λ book s waiting f. (
-          record {
-            went_on = f.0.went_on;
-            owns = f.0.owns;
-            greatest = f.0.greatest;
-            no_flight = f.0.no_flight;
-            kept = f.0.kept;
-          },
-          f.1,
-          f.2,
-        );
+        votes = λ book s votes starts beacon f.
+            (beside m.me lease book s votes starts beacon s.waiting s.received f.0, f.1, f.2);
+        waits = λ book s waiting f. (beside m.me lease book s s.votes s.starts s.beacon waiting s.received f.0, f.1, f.2);
         no_flight = λ book s is f. f.0.no_flight is;
         lapses = λ book s phase idle f. (
           record {
@@ -463,17 +458,8 @@ module _ (db : Database) (B : Book → Type 0)
         );
       };
       field = record {
-        texts = λ book s may_begin k poll version total at bytes text says is f. (
-          record {
-            went_on = f.0.went_on;
-            owns = f.0.owns;
-            greatest = f.0.greatest;
-            no_flight = f.0.no_flight;
-            kept = f.0.kept;
-          },
-          f.1,
-          f.2,
-        );
+        texts = λ book s may_begin k poll version total at bytes text says is f.
+            (beside m.me lease book s s.votes s.starts s.beacon s.waiting (Some text) f.0, f.1, f.2);
         begins = λ book s old new pieces len says idle same less f. (
           record {
             went_on = f.0.went_on;

@@ -1,6 +1,7 @@
 -- Images: what a version in the book stands for (own).
 use Rattle.std.specs.Prelude.{◌≡◌, ℕ, ◌≤◌, ◌≢◌, Some, List, length}
-use Rattle.db_image.specs.Database.{Database}
+use Rattle.db_image.specs.Database.{Database, changes_of}
+use Rattle.ubik_types.specs.Image.{effect}
 use Rattle.ubik_types.specs.declared.versions.Version.{Version}
 use Rattle.cell_model.specs.Book.{Book, list_of}
 use Rattle.cell_model.specs.Durable.{Durable, Transaction}
@@ -26,3 +27,10 @@ IsOfBook db book d = IsImageOf db book d.version d.image
 -- two versions have one list: a relabelling made the one of the other
 abbrev pub HaveOneList : Book → Version → Version → Type 0
 HaveOneList book old new = (list : List Transaction) × (list_of book old ≡ Some list) × (list_of book new ≡ Some list)
+
+-- Why no call may make an image shorter: there is a database whose blocks have a length, and a call on an image, whose changes do not
+-- lead from that image to the one after the call. Who commits these changes has another image than who made the call.
+abbrev pub ShorterImagesDiffer : Type 0
+ShorterImagesDiffer =
+    (db : Database) × (image : List ℕ) × (now : ℕ) × (call : List ℕ) × (db.block ≢ 0)
+    × (let after = (db.call image now call).image in effect image (changes_of db image after) ≢ after)

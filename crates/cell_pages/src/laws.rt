@@ -1,4 +1,5 @@
 //! Laws of versions in cells of 1 to 20 servers, over every run: each is the clause of a public call.
+ghost use Rattle.cell_pages.specs.Images.{ShorterImagesDiffer};
 ghost use Rattle.cell_pages.specs.Laws.{ListsStay, VersionsAreMadeOnce};
 ghost use Rattle.cell_pages.specs.OneLabel.{OneLabel};
 ghost use Rattle.cell_pages.specs.Pages.{AllRise, LeadersAreAhead, ListsGoOn, VersionsNeverFall};
@@ -57,3 +58,8 @@ pub fn law_one_label()
 {
     law_rules_are_safe();
 }
+
+/// A call that makes an image shorter has changes that do not lead to it: so `law_one_label` asks of a database that none does.
+pub fn law_shorter_images_differ()
+    ensures { ShorterImagesDiffer }
+{}
