@@ -9,9 +9,9 @@ use Rattle.ubik_types.specs.declared.versions.Version.{Version}
 use Rattle.ubik_types.specs.Image.{effect}
 use Rattle.ubik_types.specs.Version.{IsVersion}
 use Rattle.disk_base.specs.declared.disks.Disk.{Ghosts}
-use Rattle.disk_base.specs.Crash.{LeavesOnly, LeavesSame}
+use Rattle.disk_base.specs.Crash.{LeavesOnly}
 use Rattle.disk_base.specs.Files.{Files}
-use Rattle.disk_base.specs.Runs.{OnlyReads, OnlyReserves}
+use Rattle.disk_base.specs.Runs.{OnlyReserves}
 use Rattle.disk_base.specs.Stops.{IsStopped}
 use Rattle.page_file.specs.Label.{version_of_database}
 use Rattle.page_file.specs.Pages.{Known, AgreesIn, image_of}
@@ -20,13 +20,13 @@ use Rattle.ubik_store.specs.declared.faults.StoreFault.{StoreFault}
 use Rattle.ubik_store.specs.declared.faults.StoreFault.TheVariants.{DiskFault, BadLabel, TooLarge, NotNewer, NoMemory}
 use Rattle.ubik_store.specs.declared.stores.Store.{Store}
 use Rattle.ubik_store.specs.Commit.{CommitsFiles, IsDurableOver}
-use Rattle.ubik_store.specs.DurableCall.{IsDurable, Refuses}
+use Rattle.ubik_store.specs.DurableCall.{IsDurable}
 use Rattle.ubik_store.specs.Files.{StandsForEither}
 use Rattle.ubik_store.specs.Gaps.{IsPlain}
 use Rattle.ubik_store.specs.Moments.{ended}
 use Rattle.ubik_store.specs.Redo.{len_after}
 use Rattle.ubik_store.specs.Rest.{IsAtRest, RestsAs}
-use Rattle.ubik_store.specs.Store.{IsReady, IsSound, IsForbidden, image_in, taken_over}
+use Rattle.ubik_store.specs.Store.{IsReady, IsSound, IsForbidden, taken_over}
 use Rattle.ubik_store.proofs.Applied.{no_calls, calls_as}
 use Rattle.ubik_store.proofs.Committing.{settled_at, settled_narrow, stands_at_rest, unmoved}
 use Rattle.ubik_store.proofs.Gaps.{discarded_is_plain}
@@ -39,60 +39,18 @@ labelled : (files : Option Files) (own : Version) (P : Version → Files → Typ
 labelled None own P rests says = tt
 labelled (Some fs) own P rests says = says own rests.label
 
--- what a durable call leaves where the disk tells its files
-RestsAfter : Version → List Change → Option Files → Files → Type 0
-RestsAfter v changes new fs = RestsAs v (effect (image_of fs.database) changes) new
-
 module _ (v : Version) (changes : List Change) (change : Files → Files) where
   rests_after : (old new : Option Files) → new ≡ option_map change old
       → IfSome old (λ fs. RestsAs v (effect (image_of fs.database) changes) new) → AllAtRest v new
   rests_after None new is rests = subst (AllAtRest v) (sym is) tt
   rests_after (Some fs) new is rests = rests_here new v (effect (image_of fs.database) changes) rests
 
-  image_after : (old new : Option Files) → new ≡ option_map change old
-      → IfSome old (λ fs. RestsAs v (effect (image_of fs.database) changes) new) → image_in new ≡ option_map (λ image. effect image changes) (image_in old)
-  image_after None new is rests = ap image_in is
-  image_after (Some fs) new is rests = ap image_in rests.1 ∙ ap (λ (image : List ℕ). Some image) rests.2.content
-
 -- files at rest are plain
 plain_at_rest : (fs : Files) → fs.log ≡ [] → IsPlain fs
 plain_at_rest fs empty = discarded_is_plain fs (short_log_is_discarded fs.log (omega (arith, ap length empty)))
 
-nothing_left : {D : Type 0} (g : Ghosts D) (disk : D) → LeavesSame (g.may_leave disk) (g.may_leave disk) (g.left_since disk) (g.left_since disk)
-nothing_left g disk = record { no_more = λ c is. is; no_less = λ c is. is; since_no_more = λ t c is. is; since_no_less = λ t c is. is }
-
 module _ {D : Type 0} (g : Ghosts D) where
-  -- a store that was not touched refuses
-  pub refuses_itself : (s : Store D) → Refuses g s s
-  refuses_itself s = record {
-    store = record { version = refl; len = refl; begun = refl; failed = refl };
-    disk = record {
-      files = λ _. refl;
-      kept = λ _. refl;
-      room = λ f. omega arith;
-      steps = refl;
-      crash = nothing_left g s.disk;
-      stop = refl;
-      pending = refl;
-      tells = refl;
-      cause = record { never_falls = omega arith; rose = λ failed. absurd failed };
-    };
-  }
-
-  only_reads : {old new : D} → OnlyReserves g old new → OnlyReads g old new ⊥
-  only_reads {old} {new} made = record {
-    files = λ _. made.files;
-    kept = λ _. made.files;
-    room = made.room;
-    steps = made.steps;
-    crash = made.crash;
-    stop = made.stop;
-    pending = made.pending;
-    tells = made.tells;
-    cause = record { never_falls = omega (arith, made.faults); rose = λ failed. absurd failed };
-  }
-
-  -- nor does a crash find it otherwise
+  -- where no call was made, a crash finds what stood there
   pub durable_itself : (changes : List Change) (v : Version) (s : Store D) (F : Type 0) → IsReady g s → ¬ F → IsDurable g changes v s s F
   durable_itself changes v s F ready not = record {
     moments = told (g.files s.disk) _ (λ fs is.
