@@ -1,5 +1,5 @@
 -- What a scan found is what the registry has.
-use Rattle.std.proofs.Common.{◌≡◌, ◌≢◌, ℕ, ℤ, ◌+◌, ◌<◌, Bool, true, false, ◌&&◌, eqb, List, Option, Some, None, IsSome, IfSome, refl, sym, ap, subst, ◌∙◌, arith}
+use Rattle.std.proofs.Common.{◌≡◌, ℕ, ℤ, ◌+◌, ◌<◌, Bool, true, false, eqb, List, Option, Some, None, IsSome, IfSome, refl, sym, ap, subst, ◌∙◌, arith}
 use Rattle.std.specs.Prelude.{◌<ℤ◌, ◌≤ℤ◌}
 use Rattle.std.specs.Ordering.{int_eq}
 use Rattle.std.specs.Str.{bytes_eq}
@@ -8,7 +8,7 @@ use Rattle.std.proofs.lemmas.Bool.Decides.{Decides-int_eq}
 use Rattle.std.proofs.lemmas.Slice.Eq.{bytes_eq-Decides}
 use Rattle.prdb_entries.specs.Blocks.{block_count, block_name}
 use Rattle.prdb_entries.specs.RecordEnds.{IsFirst}
-use Rattle.prdb_entries.specs.Records.{Holds, IsLaidOut, IsAbove, IsLeastAbove, block_in, entry_in, first_block, first_from, has_id, has_name, kind_of, signed_at, whole}
+use Rattle.prdb_entries.specs.Records.{Holds, IsLaidOut, IsAbove, IsLeastAbove, block_in, entry_in, first_block, has_id, has_name, kind_of, signed_at, whole}
 use Rattle.prdb_entries.specs.Registry.{Registry, IsRegistry, IsNamed, IsNext}
 use Rattle.prdb_entries.specs.State.{PrEntry}
 use Rattle.prdb_entries.specs.declared.scans.Found.{Found}

@@ -1,10 +1,9 @@
 -- An image tells the registry that it holds.
-use Rattle.std.proofs.Common.{◌≡◌, ℕ, ℤ, ◌+◌, ◌<◌, ◌≤◌, Bool, true, false, cond, eqb, List, Option, Some, None, refl, sym, ap, ◌∙◌, ⊎_elim, arith}
+use Rattle.std.proofs.Common.{◌≡◌, ℕ, ℤ, ◌+◌, ◌<◌, ◌≤◌, Bool, cond, List, Option, Some, None, sym, ap, ◌∙◌, ⊎_elim, arith}
 use mathlib.Core.Path.{fun_ext}
 use Rattle.std.proofs.lemmas.Bool.{cases_eq, eq-eqb, ne_eqb}
 use Rattle.prdb_entries.specs.Blocks.{block_count}
-use Rattle.prdb_entries.specs.RecordEnds.{IsFirst}
-use Rattle.prdb_entries.specs.Records.{Holds, IsLaidOut, block_in, entry_at, entry_in, first_block, has_id, kind_of, maxima_in, registry_in, whole}
+use Rattle.prdb_entries.specs.Records.{Holds, IsLaidOut, block_in, entry_at, entry_in, first_block, has_id, registry_in, whole}
 use Rattle.prdb_entries.specs.Registry.{Registry, IsRegistry}
 use Rattle.prdb_entries.specs.State.{PrEntry}
 use Rattle.prdb_entries.proofs.FirstBlocks.{first_met, first_within}
