@@ -209,7 +209,8 @@ pub fn find_next<I: ImageRead>(
     after: i32,
 ) -> Result<Option<Block>, RecordFault>
     requires { d.old.len < 2 ^ 31 }
-    ensures found { IfOk result (λ found. IfSome d.old.bytes (λ image. IsLeastAbove after (whole image) (block_count (whole image)) found)) }
+    ensures found { IfOk result (λ found. IfSome d.old.bytes (λ image.
+        IsLeastAbove after (whole image) (block_count (whole image)) found)) }
     ensures fault { IfErr result (HasCause d.old.bytes Holds) }
     ensures frame { OnlyLooks I.ImageRead d.old d.new (IsErrOf result RecordFault.DiskFault) }
 {
