@@ -1,14 +1,13 @@
 -- An image in which one block, or the head, is another holds the registry that is changed so.
-use Rattle.std.proofs.Common.{◌≡◌, ◌≢◌, ℕ, ℤ, pos, negsuc, ◌+◌, ◌<◌, ◌≤◌, Bool, true, false, cond, List, Option, Some, None, IsSome, IsSomeAnd, length, take, drop, refl, sym, ap, subst, ◌∙◌, ⊎_elim, inl, inr, arith}
-use Rattle.std.specs.List.{All, Contains}
+use Rattle.std.proofs.Common.{◌≡◌, ◌≢◌, ℕ, ℤ, ◌<◌, ◌≤◌, Bool, true, false, cond, List, Option, Some, None, length, take, sym, ap, subst, ◌∙◌, ⊎_elim, arith}
 use Rattle.std.specs.Ordering.{int_eq}
 use Rattle.std.proofs.lemmas.Bool.{cases_eq, cases_Bool}
 use Rattle.std.proofs.lemmas.Bool.Decides.{Decides-int_eq}
 use Rattle.prdb_entries.specs.Blocks.{block_count}
 use Rattle.prdb_entries.specs.Records.{IsBlock, IsLaidOut, block_in, block_place, entry_in, head_with, kind_of}
-use Rattle.prdb_entries.specs.Registry.{Registry, IsRegistry, IsRecord, IsAmong, IsOwner, IsFixedId, AreMaxima, MayBeRemoved, with_entry, without_entry, with_maxima}
-use Rattle.prdb_entries.specs.State.{PrEntry, fixed_entries}
-use Rattle.prdb_entries.proofs.BlockPlaces.{IsPut, IsHeadPut}
+use Rattle.prdb_entries.specs.Registry.{Registry, IsRegistry}
+use Rattle.prdb_entries.specs.State.{PrEntry}
+use Rattle.prdb_entries.proofs.BlockPlaces.{IsPut}
 use Rattle.prdb_entries.proofs.LaidOut.{count_is}
 
 -- ---- an id under which something else stands

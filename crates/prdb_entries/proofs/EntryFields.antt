@@ -1,14 +1,14 @@
 -- What is read of a block is what was written into it.
-use Rattle.std.proofs.Common.{◌≡◌, ℕ, ℤ, ◌+◌, ◌-◌, ◌^◌, ◌<◌, ◌≤◌, eqb, List, [], ◌∷◌, ◌++◌, length, take, drop, refl, sym, ap, ◌∙◌, append_assoc, inr, arith}
+use Rattle.std.proofs.Common.{◌≡◌, ℕ, ℤ, ◌-◌, ◌^◌, ◌<◌, ◌≤◌, eqb, List, ◌++◌, length, take, drop, refl, sym, ap, ◌∙◌, append_assoc, inr, arith}
 use Rattle.std.specs.Prelude.{FitsSigned}
 use Rattle.std.specs.Int.{w32, cast_signed}
-use Rattle.std.specs.List.{before_first, position_or_len}
+use Rattle.std.specs.List.{before_first}
 use Rattle.std.proofs.lemmas.Int.{to_z-of_z}
 use Rattle.std.proofs.lemmas.List.{take_at, drop_at, drop-drop, length-append, length-take-le, length-drop}
 use Rattle.std.proofs.lemmas.Nat.{from_be_bytes-to_be_bytes_4}
 use Rattle.prdb_entries.specs.Blocks.{block_name}
 use Rattle.prdb_entries.specs.Bytes.{bits, words, zeros, filled, word_at}
-use Rattle.prdb_entries.specs.Records.{IsBlock, IsEntryBlock, entry_in, field_numbers, kind_of, signed_at, with_fields, new_block}
+use Rattle.prdb_entries.specs.Records.{IsBlock, entry_in, field_numbers, kind_of, signed_at, with_fields, new_block}
 use Rattle.prdb_entries.specs.State.{PrEntry, IsPrEntry}
 use Rattle.prdb_entries.proofs.Fields.{length-zeros}
 use Rattle.prdb_entries.proofs.LayoutRead.{text_end, fits_id, bits_below}
@@ -49,8 +49,14 @@ behind_name e block len short =
 pub length-with_fields : (e : PrEntry) (block : List ℕ) → length block ≡ 192 → length e.name ≤ 63 → length (with_fields e block) ≡ 192
 length-with_fields e block len short =
     ap length (split e block)
-    ∙ omega (arith, length-append (front e block) (filled 64 e.name ++ drop 96 block), length-append (filled 64 e.name) (drop 96 block),
-    length-front e block len, length-filled e.name short, length-drop 96 block)
+    ∙ omega (
+      arith,
+      length-append (front e block) (filled 64 e.name ++ drop 96 block),
+      length-append (filled 64 e.name) (drop 96 block),
+      length-front e block len,
+      length-filled e.name short,
+      length-drop 96 block,
+    )
 
 pub kind_with : (e : PrEntry) (block : List ℕ) → kind_of (with_fields e block) ≡ 1
 unfolding with_fields words field_numbers

@@ -14,7 +14,7 @@ use Rattle.ubik_types.specs.Image.{changed}
 use Rattle.ubik_types.specs.declared.images.Change.TheVariants.{Put}
 use Rattle.prdb_entries.specs.Blocks.{block_count}
 use Rattle.prdb_entries.specs.Bytes.{bits, word, words, zeros}
-use Rattle.prdb_entries.specs.Records.{Holds, IsBlock, IsEntryBlock, IsLaidOut, after_insert, after_remove, after_replace, after_set_maxima, block_in, block_place, entry_in, first_block, has_id, head_with, is_free, kind_of, maxima_in, new_block, next_block, signed_at, whole, with_block, with_count, with_fields}
+use Rattle.prdb_entries.specs.Records.{Holds, IsBlock, IsEntryBlock, IsLaidOut, after_insert, after_remove, after_replace, after_set_maxima, block_in, entry_in, first_block, has_id, head_with, is_free, kind_of, maxima_in, new_block, next_block, signed_at, whole, with_block, with_count, with_fields}
 use Rattle.prdb_entries.specs.Registry.{Registry, IsRegistry, IsRecord, AreMaxima, MayBeAdded, MayReplace, MayBeRemoved, with_entry, without_entry, with_maxima}
 use Rattle.prdb_entries.specs.State.{PrEntry}
 use Rattle.prdb_entries.proofs.BlockPlaces.{IsPut, put_block, add_block, block_len, put_count, put_maxima}
@@ -209,9 +209,9 @@ maxima_of image r laid max =
     let split : image ≡ head_with r.max_user r.max_group (block_count image) ++ drop 2112 image =
     sym (take-append-drop 2112 image) ∙ ap (λ (h : List ℕ). h ++ drop 2112 image) laid.head in
     let user : signed_at image 8 ≡ r.max_user = ap (λ (i : List ℕ). signed_at i 8) split
-        ∙ max_user_at r.max_user r.max_group (block_count image) (drop 2112 image) (fits_max r.max_user (omega (arith, ints, max.user_low)) max.user_high) in
+    ∙ max_user_at r.max_user r.max_group (block_count image) (drop 2112 image) (fits_max r.max_user (omega (arith, ints, max.user_low)) max.user_high) in
     let group : signed_at image 12 ≡ r.max_group = ap (λ (i : List ℕ). signed_at i 12) split
-        ∙ max_group_at r.max_user r.max_group (block_count image) (drop 2112 image) (fits_max r.max_group max.group_low (omega (arith, ints, max.group_high))) in
+    ∙ max_group_at r.max_user r.max_group (block_count image) (drop 2112 image) (fits_max r.max_group max.group_low (omega (arith, ints, max.group_high))) in
     ap (λ (u : ℤ). (u, signed_at image 12)) user ∙ ap (λ (g : ℤ). (r.max_user, g)) group
 
 maxima_set : (image : List ℕ) (r : Registry) (user group : ℤ) → IsLaidOut image r

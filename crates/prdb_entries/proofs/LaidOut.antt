@@ -7,7 +7,6 @@ use Rattle.prdb_entries.specs.Bytes.{zeros}
 use Rattle.prdb_entries.specs.RecordEnds.{HasCause, HoldNone}
 use Rattle.prdb_entries.specs.Records.{IsLaidOut, IsBlock, Holds, block_in, block_place, kind_of, whole}
 use Rattle.prdb_entries.specs.Layout.{layout}
-use Rattle.prdb_entries.specs.Registry.{Registry}
 use Rattle.prdb_entries.specs.State.{initial_state}
 
 pub count_is : (image : List ℕ) (k : ℕ) → length image ≡ block_place k → block_count image ≡ k

@@ -28,3 +28,4 @@ pub mod Held
 pub mod MaximaRead
 pub mod Becoming
 pub mod FirstImage
+pub mod Told

@@ -1,5 +1,5 @@
 -- What a scan found is what the registry has.
-use Rattle.std.proofs.Common.{◌≡◌, ◌≢◌, ℕ, ℤ, ◌+◌, ◌<◌, Bool, true, false, ◌&&◌, eqb, List, Option, Some, None, IsSome, IfSome, refl, sym, ap, subst, ◌∙◌, arith}
+use Rattle.std.proofs.Common.{◌≡◌, ℕ, ℤ, ◌+◌, ◌<◌, Bool, true, false, eqb, List, Option, Some, None, IsSome, IfSome, refl, sym, ap, subst, ◌∙◌, arith}
 use Rattle.std.specs.Prelude.{◌<ℤ◌, ◌≤ℤ◌}
 use Rattle.std.specs.Ordering.{int_eq}
 use Rattle.std.specs.Str.{bytes_eq}
@@ -8,8 +8,8 @@ use Rattle.std.proofs.lemmas.Bool.Decides.{Decides-int_eq}
 use Rattle.std.proofs.lemmas.Slice.Eq.{bytes_eq-Decides}
 use Rattle.prdb_entries.specs.Blocks.{block_count, block_name}
 use Rattle.prdb_entries.specs.RecordEnds.{IsFirst}
-use Rattle.prdb_entries.specs.Records.{Holds, IsLaidOut, IsAbove, IsLeastAbove, block_in, entry_in, first_block, first_from, has_id, has_name, kind_of, signed_at, whole}
-use Rattle.prdb_entries.specs.Registry.{Registry, IsNamed, IsNext}
+use Rattle.prdb_entries.specs.Records.{Holds, IsLaidOut, IsAbove, IsLeastAbove, block_in, entry_in, first_block, has_id, has_name, kind_of, signed_at, whole}
+use Rattle.prdb_entries.specs.Registry.{Registry, IsRegistry, IsNamed, IsNext}
 use Rattle.prdb_entries.specs.State.{PrEntry}
 use Rattle.prdb_entries.specs.declared.scans.Found.{Found}
 use Rattle.prdb_entries.proofs.FirstBlocks.{first_met, first_not}
@@ -80,14 +80,19 @@ none_if : {X : Type 0} (o : Option X) → ((x : X) → o ≡ Some x → ⊥) →
 none_if None never = refl
 none_if (Some x) never = absurd (never x refl)
 
+-- no block has an id that is no entry's
+pub id_absent : (image : List ℕ) (r : Registry) (id : ℤ) → IsLaidOut image r → IsRegistry r → first_block (has_id id) image ≡ block_count image
+    → None ≡ r.entry id
+id_absent image r id laid valid is = none_if (r.entry id) (λ e at.
+    let o = laid.only id e at in
+    is_false (has_id id (block_in image o.0))
+    (id_from id (block_in image o.0) o.2 (ap (λ (x : PrEntry). x.id) o.3 ∙ valid.ids id e at))
+    (none_meets (has_id id) image o.0 is o.1))
+
 pub id_none : (bytes : Option (List ℕ)) (id : ℤ) → IfSome bytes (λ image. IsFirst (has_id id) (whole image) None)
     → IfSome bytes (λ image. (r : Registry) → Holds image r → None ≡ r.entry id)
 id_none None id is = tt
-id_none (Some image) id is = λ r holds. none_if (r.entry id) (λ e at.
-    let o = holds.laid.only id e at in
-    is_false (has_id id (block_in (whole image) o.0))
-    (id_from id (block_in (whole image) o.0) o.2 (ap (λ (x : PrEntry). x.id) o.3 ∙ holds.valid.ids id e at))
-    (none_meets (has_id id) (whole image) o.0 is o.1))
+id_none (Some image) id is = λ r holds. id_absent (whole image) r id holds.laid holds.valid is
 
 -- ---- the next id
 

@@ -1,15 +1,15 @@
 -- A registry that is changed as it may be is valid.
-use Rattle.std.proofs.Common.{◌≡◌, ◌≢◌, ℕ, ℤ, Bool, true, false, cond, List, Option, Some, None, IsSome, IsSomeAnd, ◌<◌, ◌^◌, pos, negsuc, length, get_or, refl, sym, ap, subst, ◌∙◌, ⊎_elim, inl, inr, arith}
+use Rattle.std.proofs.Common.{◌≡◌, ◌≢◌, ℕ, ℤ, true, List, Option, Some, None, IsSome, IsSomeAnd, ◌<◌, ◌^◌, pos, negsuc, length, get_or, refl, sym, ap, subst, ◌∙◌, ⊎_elim, inl, inr, arith}
 use Rattle.std.specs.Prelude.{FitsSigned, ◌<ℤ◌, ◌≤ℤ◌}
 use Rattle.std.specs.Int.{w32}
 use Rattle.std.specs.List.{All}
 use Rattle.std.proofs.lemmas.Int.{ints}
 use Rattle.prdb_entries.specs.Names.{is_user_name}
 use Rattle.std.proofs.lemmas.List.{length-map, get_or-map}
-use Rattle.prdb_entries.specs.Registry.{Registry, is_name_for, IsRegistry, IsRecord, IsAmong, IsOwner, IsFixedId, AreMaxima, MayBeAdded, MayReplace, MayBeRemoved, with_entry, without_entry, with_maxima}
+use Rattle.prdb_entries.specs.Registry.{Registry, is_name_for, IsRegistry, IsRecord, IsAmong, IsFixedId, AreMaxima, MayBeAdded, MayReplace, MayBeRemoved, with_entry, without_entry, with_maxima}
 use Rattle.prdb_entries.specs.State.{PrEntry, IsId, fixed_entries}
 use Rattle.prdb_entries.proofs.UserAdded.{form}
-use Rattle.prdb_entries.proofs.Changed.{set_under, under_same, under_other, by_id, some_same}
+use Rattle.prdb_entries.proofs.Changed.{under_same, under_other, by_id, some_same}
 
 -- a fact on each entry of the old ones, and on this one, is one on each of the new ones
 each_with : (r : Registry) (e : PrEntry) (P : ℤ → PrEntry → Type 0) → P e.id e → ((id : ℤ) (f : PrEntry) → r.entry id ≡ Some f → P id f)
@@ -88,8 +88,11 @@ among_without r gone f is other = record {
 }
 
 fixed_other : (gone : ℤ) (i : ℕ) (d : PrEntry) → (below : i < length fixed_entries) → ¬ IsFixedId gone → (get_or fixed_entries i d).id ≢ gone
-fixed_other gone i d below not = λ same. not (i, omega (arith, below, length-map fixed_entries (λ (e : PrEntry). e.id)),
-    get_or-map (λ (e : PrEntry). e.id) fixed_entries i d gone below ∙ same)
+fixed_other gone i d below not = λ same. not (
+  i,
+  omega (arith, below, length-map fixed_entries (λ (e : PrEntry). e.id)),
+  get_or-map (λ (e : PrEntry). e.id) fixed_entries i d gone below ∙ same,
+)
 
 pub registry_removed : (r : Registry) (gone : ℤ) → IsRegistry r → MayBeRemoved gone r → IsRegistry (without_entry gone r)
 registry_removed r gone valid may = record {
@@ -106,7 +109,12 @@ registry_removed r gone valid may = record {
 
 pub registry_maxima : (r : Registry) (user group : ℤ) → IsRegistry r → AreMaxima user group → IsRegistry (with_maxima user group r)
 registry_maxima r user group valid is = record {
-  ids = valid.ids; records = valid.records; among = valid.among; names = valid.names; fixed = valid.fixed; maxima = is;
+  ids = valid.ids;
+  records = valid.records;
+  among = valid.among;
+  names = valid.names;
+  fixed = valid.fixed;
+  maxima = is;
 }
 
 -- ---- what a user's entry is by itself
@@ -125,8 +133,14 @@ user_is_record e is more low flags owner creator quota =
     let f = form e.name is in
     record {
       fields = record {
-        name_bytes = f.bytes; name_len = f.len; name_text = f.text; flags = flags; id = user_id e.id more low;
-        owner = owner; creator = creator; quota = quota;
+        name_bytes = f.bytes;
+        name_len = f.len;
+        name_text = f.text;
+        flags = flags;
+        id = user_id e.id more low;
+        owner = owner;
+        creator = creator;
+        quota = quota;
       };
       name = user_name_for e.id e.name more is;
     }

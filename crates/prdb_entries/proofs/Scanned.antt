@@ -1,15 +1,13 @@
 -- How far a scan of the blocks of a draft has come.
-use Rattle.std.proofs.Common.{◌≡◌, ◌≢◌, ℕ, ℤ, ◌+◌, ◌*◌, ◌<◌, ◌≤◌, Bool, true, false, ◌&&◌, eqb, List, Option, Some, None, IfSome, IsErrOf, Result, Ok, length, refl, sym, ap, subst, ◌∙◌, ⊎_elim, arith}
+use Rattle.std.proofs.Common.{◌≡◌, ◌≢◌, ℕ, ℤ, ◌+◌, ◌<◌, true, false, ◌&&◌, eqb, List, Option, Some, None, IfSome, length, refl, sym, ap, subst, ◌∙◌, ⊎_elim, arith}
 use Rattle.std.specs.Prelude.{int_lt, ◌<ℤ◌, ◌≤ℤ◌}
-use Rattle.std.proofs.lemmas.Bool.{cases_eq, cases_lt, cases_Bool, and_parts, and_from, eqb-true, eq-eqb}
+use Rattle.std.proofs.lemmas.Bool.{cases_eq, cases_Bool, and_parts, and_from, eqb-true, eq-eqb}
 use Rattle.std.proofs.lemmas.Int.{ints}
-use Rattle.db_image.specs.Draft.{Drafted, StaysAsItWas}
-use Rattle.db_image.specs.Images.{OnlyReads}
+use Rattle.db_image.specs.Draft.{Drafted}
 use Rattle.db_image.specs.declared.images.ImageRead.{Ghosts}
 use Rattle.prdb_entries.specs.Blocks.{block_count}
 use Rattle.prdb_entries.specs.RecordEnds.{OnlyDrafts, OnlyLooks, IsFirst, is_met}
-use Rattle.prdb_entries.specs.Records.{block_in, block_place, first_block, kind_of, signed_at, is_below, is_nearer, IsAbove, IsLeastAbove}
-use Rattle.prdb_entries.specs.declared.scans.Found.{Found}
+use Rattle.prdb_entries.specs.Records.{block_in, block_place, kind_of, signed_at, is_below, is_nearer, IsAbove, IsLeastAbove}
 use Rattle.prdb_entries.specs.declared.scans.Wanted.{Wanted}
 use Rattle.prdb_entries.proofs.FirstBlocks.{first_at, first_none}
 use Rattle.prdb_entries.proofs.LaidOut.{count_is}
@@ -91,8 +89,7 @@ first_so : (bytes : Option (List ℕ)) (w : Wanted) (count done : ℕ) (block : 
     → IfSome bytes (λ image. IsFirst (is_met w) image (Some (record { number = done; block = block })))
 first_so None w count done block told before below is met = tt
 first_so (Some image) w count done block told before below is met =
-    let n : block_count image ≡ count = count_is image count told in
-    (
+    let n : block_count image ≡ count = count_is image count told in (
       omega arith,
       sym (first_at (λ k. is_met w (block_in image k)) 0 (block_count image) done (omega arith) (omega arith) (λ j from less. before j less) (rw (← is) met)),
       is,
@@ -174,20 +171,28 @@ chosen_above after image n block best is near = record {
 least_taken : (after : ℤ) (image : List ℕ) (n : ℕ) (best : Option (List ℕ)) (block : List ℕ) → block ≡ block_in image n
     → IsLeastAbove after image n best → is_nearer after block best ≡ true → IsLeastAbove after image (n + 1) (Some block)
 least_taken after image n None block is least meets =
-    let near = nearer_parts after block None meets in
-    (n, chosen_above after image n block None is near, is, λ j a.
-    ⊎_elim
-    (λ (same : j ≡ n). rw (same, ← is) (omega (arith, ints)))
-    (λ (other : j ≡ n → ⊥). absurd (least j (above_less after image n j a other)))
-    (cases_eq j n))
+    let near = nearer_parts after block None meets in (
+      n,
+      chosen_above after image n block None is near,
+      is,
+      λ j a.
+          ⊎_elim
+          (λ (same : j ≡ n). rw (same, ← is) (omega (arith, ints)))
+          (λ (other : j ≡ n → ⊥). absurd (least j (above_less after image n j a other)))
+          (cases_eq j n),
+    )
 least_taken after image n (Some best) block is least meets =
     let near = nearer_parts after block (Some best) meets in
-    let below : signed_at block 8 <ℤ signed_at best 8 = lt_from (signed_at block 8) (signed_at best 8) near.below in
-    (n, chosen_above after image n block (Some best) is near, is, λ j a.
-    ⊎_elim
-    (λ (same : j ≡ n). rw (same, ← is) (omega (arith, ints)))
-    (λ (other : j ≡ n → ⊥). let old = least.3 j (above_less after image n j a other) in omega (arith, ints, old, below))
-    (cases_eq j n))
+    let below : signed_at block 8 <ℤ signed_at best 8 = lt_from (signed_at block 8) (signed_at best 8) near.below in (
+      n,
+      chosen_above after image n block (Some best) is near,
+      is,
+      λ j a.
+          ⊎_elim
+          (λ (same : j ≡ n). rw (same, ← is) (omega (arith, ints)))
+          (λ (other : j ≡ n → ⊥). let old = least.3 j (above_less after image n j a other) in omega (arith, ints, old, below))
+          (cases_eq j n),
+    )
 
 least_left : (after : ℤ) (image : List ℕ) (n : ℕ) (best : Option (List ℕ)) (block : List ℕ) → block ≡ block_in image n
     → IsLeastAbove after image n best → is_nearer after block best ≡ false → IsLeastAbove after image (n + 1) best
@@ -199,20 +204,24 @@ least_left after image n None block is least fails = λ k a.
     absurd cc)
     (λ (other : k ≡ n → ⊥). least k (above_less after image n k a other))
     (cases_eq k n)
-least_left after image n (Some best) block is least fails =
-    (least.0, above_more after image n least.0 least.1, least.2, λ j a.
-    ⊎_elim
-    (λ (same : j ≡ n).
-    let here : block_in image j ≡ block = ap (block_in image) same ∙ sym is in
-    let kind : kind_of block ≡ 1 = ap kind_of (sym here) ∙ a.kind in
-    let above : after <ℤ signed_at block 8 = subst (λ (b : List ℕ). after <ℤ signed_at b 8) here a.above in
-    subst (λ (b : List ℕ). signed_at best 8 ≤ℤ signed_at b 8) (sym here)
-    (⊎_elim
-    (λ (meets : int_lt (signed_at block 8) (signed_at best 8) ≡ true). let near = nearer_from after block (Some best) record { kind = kind; above = above; below = meets } in absurd cc)
-    (λ (no : int_lt (signed_at block 8) (signed_at best 8) ≡ false). ge_from (signed_at block 8) (signed_at best 8) no)
-    (cases_Bool (int_lt (signed_at block 8) (signed_at best 8)))))
-    (λ (other : j ≡ n → ⊥). least.3 j (above_less after image n j a other))
-    (cases_eq j n))
+least_left after image n (Some best) block is least fails = (
+  least.0,
+  above_more after image n least.0 least.1,
+  least.2,
+  λ j a.
+      ⊎_elim
+      (λ (same : j ≡ n).
+      let here : block_in image j ≡ block = ap (block_in image) same ∙ sym is in
+      let kind : kind_of block ≡ 1 = ap kind_of (sym here) ∙ a.kind in
+      let above : after <ℤ signed_at block 8 = subst (λ (b : List ℕ). after <ℤ signed_at b 8) here a.above in
+      subst (λ (b : List ℕ). signed_at best 8 ≤ℤ signed_at b 8) (sym here)
+      (⊎_elim
+      (λ (meets : int_lt (signed_at block 8) (signed_at best 8) ≡ true). let near = nearer_from after block (Some best) record { kind = kind; above = above; below = meets } in absurd cc)
+      (λ (no : int_lt (signed_at block 8) (signed_at best 8) ≡ false). ge_from (signed_at block 8) (signed_at best 8) no)
+      (cases_Bool (int_lt (signed_at block 8) (signed_at best 8)))))
+      (λ (other : j ≡ n → ⊥). least.3 j (above_less after image n j a other))
+      (cases_eq j n),
+)
 
 taken_so : (bytes : Option (List ℕ)) (after : ℤ) (n : ℕ) (best : Option (List ℕ)) (block : List ℕ)
     → IfSome bytes (λ image. block ≡ block_in image n) → is_nearer after block best ≡ true

@@ -1,5 +1,5 @@
 -- What the bytes of a call mean in a state of the protection database.
-use Rattle.std.specs.Prelude.{ℕ, List, Option, Some, None}
+use Rattle.std.specs.Prelude.{ℕ, Option, Some, None}
 use Rattle.db_image.specs.Meaning.{Meant, Meaning}
 use Rattle.db_image.specs.declared.services.CallReply.TheVariants.{Malformed}
 use Rattle.prdb_entries.specs.Call.{PrCall}

@@ -57,7 +57,8 @@ Becomes after old new = new.bytes ≡ option_map after old.bytes
 
 -- where the old bytes hold a registry in which the change may be made, the new ones hold the registry after it
 abbrev pub Makes : {I : Type 0} → (Registry → Type 0) → (Registry → Registry) → (old new : Drafted I) → Type 0
-Makes may change old new = IfSome old.bytes (λ image. (r : Registry) → Holds image r → may r → IsSomeAnd new.bytes (λ after. Holds after (change r)))
+Makes may change old new =
+    IfSome old.bytes (λ image. (r : Registry) → Holds image r → may r → IsSomeAnd new.bytes (λ after. Holds after (change r)))
 
 -- the bytes are as they were, or those of the first image in place of none: they hold what they held
 abbrev pub HoldsTheSame : {I : Type 0} → (old new : Drafted I) → Type 0

@@ -118,6 +118,20 @@ abbrev pub is_below : ℤ → Option (List ℕ) → Bool
 is_below id None = true
 is_below id (Some block) = int_lt id (signed_at block ID_AT)
 
+-- the entry of the first block with an id, if one has it
+abbrev pub entry_at : List ℕ → ℤ → Option PrEntry
+entry_at image id =
+    let k = first_block (has_id id) image in
+    if k == block_count image then None else Some (entry_in (block_in image k))
+
+-- the maxima that a head tells
+abbrev pub maxima_in : List ℕ → ℤ × ℤ
+maxima_in image = (signed_at image MAX_USER_AT, signed_at image (MAX_USER_AT + 4))
+
+-- the registry that an image which is not empty tells, whatever it holds
+unfoldable pub registry_in : List ℕ → Registry
+registry_in image = record { entry = entry_at image; max_user = (maxima_in image).0; max_group = (maxima_in image).1 }
+
 -- an entry's block whose id is above one, and below that of the best block so far
 abbrev pub is_nearer : ℤ → List ℕ → Option (List ℕ) → Bool
 is_nearer after block best =
@@ -168,10 +182,6 @@ after_replace id e image =
 -- one entry less: its block is free, and zero
 unfoldable pub after_remove : ℤ → List ℕ → List ℕ
 after_remove id image = with_block (first_block (has_id id) (whole image)) (zeros BLOCK_LEN) (whole image)
-
--- the maxima that a head tells
-abbrev pub maxima_in : List ℕ → ℤ × ℤ
-maxima_in image = (signed_at image MAX_USER_AT, signed_at image (MAX_USER_AT + 4))
 
 -- other maxima; an image that has them stays as it is, also the empty one
 unfoldable pub after_set_maxima : (user group : ℤ) → List ℕ → List ℕ

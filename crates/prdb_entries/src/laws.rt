@@ -7,8 +7,8 @@ ghost use Rattle.prdb_entries.specs.State.{PrState, initial_state};
 ghost use Rattle.prdb_entries.specs.Meaning.{meaning};
 ghost use Rattle.prdb_entries.specs.Layout.{StandsFor};
 ghost use Rattle.prdb_entries.specs.Agreement.{IsMeant};
-ghost use Rattle.prdb_entries.specs.Records.{Holds};
-ghost use Rattle.prdb_entries.specs.Registry.{first_registry};
+ghost use Rattle.prdb_entries.specs.Records.{Holds, registry_in, whole};
+ghost use Rattle.prdb_entries.specs.Registry.{Registry, first_registry};
 ghost use Rattle.prdb_entries.specs.Words.{call_in};
 ghost use Rattle.prdb_entries.specs.Protection.{outcome, protection};
 ghost use Rattle.prdb_entries.specs.Words.{number_words, joined, reply_in_words};
@@ -56,4 +56,9 @@ pub fn law_answers_are_words()
 /// The empty image holds the first registry, which is valid.
 pub fn law_empty_holds_the_first()
     ensures { Holds [] first_registry }
+{}
+
+/// An image holds one registry at most, which is a function of its bytes.
+pub fn law_image_tells_its_registry()
+    ensures { (image : List ℕ) (r : Registry) → Holds image r → r ≡ registry_in (whole image) }
 {}

@@ -17,8 +17,9 @@ mod words;
 pub use calls::writes;
 pub use images::call_image;
 pub use laws::{
-    law_answers_are_words, law_call_is_spelled, law_call_means, law_empty_holds_the_first, law_empty_is_initial,
-    law_images_never_shrink, law_words_name_a_call,
+    law_answers_are_words, law_call_is_spelled, law_call_means, law_empty_holds_the_first,
+    law_empty_is_initial, law_image_tells_its_registry, law_images_never_shrink,
+    law_words_name_a_call,
 };
 pub use records::{
     PrEntry, find_id, find_name, insert, maxima, next_id, remove, replace, set_maxima,

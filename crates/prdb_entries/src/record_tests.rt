@@ -4,9 +4,7 @@ ghost use Rattle.prdb_entries.specs.RecordEnds.{seen};
 ghost use Rattle.prdb_entries.specs.Registry.{IsRecord};
 
 use crate::names::is_user_name;
-use crate::{
-    PrEntry, find_id, find_name, insert, maxima, next_id, remove, replace, set_maxima,
-};
+use crate::{PrEntry, find_id, find_name, insert, maxima, next_id, remove, replace, set_maxima};
 use db_image::{Draft, ImageRead, ReadEnd, RecordFault, VecImage};
 use std::alloc::Global;
 use std::process::Abort;
@@ -76,7 +74,13 @@ fn the_empty_image_has_the_fixed_entries(rt: HostRuntime) -> Result<(), Fail> {
             None => assert_eq!(rt; id, 0),
         }
     }
-    for (after, next) in [(-2_147_483_648, -205), (-205, -204), (-102, -101), (-101, 32_766), (32_766, 0)] {
+    for (after, next) in [
+        (-2_147_483_648, -205),
+        (-205, -204),
+        (-102, -101),
+        (-101, 32_766),
+        (32_766, 0),
+    ] {
         assert!(rt; draft.len() == 0);
         assert_eq!(rt; id_of(&next_id(rt.alloc(), &mut draft, after)?), next);
     }
@@ -139,15 +143,30 @@ fn fields_and_maxima_are_set(rt: HostRuntime) -> Result<(), Fail> {
     assert!(rt; draft.len() == 3264);
     insert(rt.alloc(), &mut draft, &user(&rt, rt.alloc(), 7, b"smith")?)?;
     assert!(rt; draft.len() < 10_000);
-    replace(rt.alloc(), &mut draft, 7, &user(&rt, rt.alloc(), 7, b"jones")?)?;
+    replace(
+        rt.alloc(),
+        &mut draft,
+        7,
+        &user(&rt, rt.alloc(), 7, b"jones")?,
+    )?;
     assert!(rt; draft.len() < 10_000);
     assert!(rt; find_name(rt.alloc(), &mut draft, b"smith")?.is_none());
     assert_eq!(rt; id_of(&find_name(rt.alloc(), &mut draft, b"jones")?), 7);
     assert!(rt; draft.len() < 10_000);
-    let missing = replace(rt.alloc(), &mut draft, 8, &user(&rt, rt.alloc(), 8, b"adams")?);
+    let missing = replace(
+        rt.alloc(),
+        &mut draft,
+        8,
+        &user(&rt, rt.alloc(), 8, b"adams")?,
+    );
     assert!(rt; matches!(missing, Err(RecordFault::BadRecord { .. })));
     assert!(rt; draft.len() < 10_000);
-    assert!(rt; matches!(remove(rt.alloc(), &mut draft, 8), Err(RecordFault::BadRecord { .. })));
+    assert!(rt;
+        matches!(
+            remove(rt.alloc(), &mut draft, 8),
+            Err(RecordFault::BadRecord { .. })
+        )
+    );
     Ok(())
 }
 

@@ -93,7 +93,8 @@ pub fn next_id<I: ImageRead>(
 /// The maximum user id and the maximum group id.
 pub fn maxima<I: ImageRead>(_alloc: Global, d: &mut Draft<I>) -> Result<(i32, i32), RecordFault>
     requires { d.old.len < 2 ^ 31 }
-    ensures found { IfOk result (λ found. IfSome d.old.bytes (λ image. (r : Registry) → Holds image r → found ≡ (r.max_user, r.max_group))) }
+    ensures found { IfOk result (λ found. IfSome d.old.bytes
+        (λ image. (r : Registry) → Holds image r → found ≡ (r.max_user, r.max_group))) }
     ensures exact { IfOk result (λ found. IfSome d.old.bytes (λ image. found ≡ maxima_in (whole image))) }
     ensures fault { IfErr result (HasCause d.old.bytes Holds) }
     ensures frame { OnlyLooks I.ImageRead d.old d.new (IsErrOf result RecordFault.DiskFault) }
@@ -178,8 +179,10 @@ fn with_fields(alloc: Global, e: &PrEntry, block: &[u8]) -> Result<Vec<u8>, Allo
 fn add_block<I: ImageRead>(d: &mut Draft<I>, block: &[u8]) -> Result<(), RecordFault>
     requires len { d.old.len < 2 ^ 31 }
     requires block { length block.now ≡ BLOCK_LEN }
-    ensures bytes { OnOk result (Becomes (λ image. with_count (block_count image + 1) (with_block (block_count image) block.now image)) d.old d.new) }
-    ensures left { OnErr result ((d.new.bytes ≡ d.old.bytes) ⊎ Becomes (λ image. with_block (block_count image) block.now image) d.old d.new) }
+    ensures bytes { OnOk result (Becomes (λ image. with_count (block_count image + 1) (with_block (block_count image) block.now image))
+        d.old d.new) }
+    ensures left { OnErr result ((d.new.bytes ≡ d.old.bytes)
+        ⊎ Becomes (λ image. with_block (block_count image) block.now image) d.old d.new) }
     ensures len { OnOk result (d.new.len ≡ d.old.len + BLOCK_LEN) }
     ensures fault { IfErr result (HasCause d.old.bytes IsLaidOut) }
     ensures frame { OnlyDrafts I.ImageRead d.old d.new (IsErrOf result RecordFault.DiskFault) }

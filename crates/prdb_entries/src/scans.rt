@@ -8,7 +8,8 @@ ghost use Rattle.prdb_entries.specs.Records.{Holds, IsLaidOut, IsLeastAbove, blo
 ghost use Rattle.prdb_entries.specs.State.{initial_state};
 
 use crate::blocks::{
-    BLOCK_LEN, Block, CREATOR_AT, FIRST_LEN, FLAGS_AT, HEAD_LEN, ID_AT, OWNER_AT, QUOTA_AT, block_name, word_at,
+    BLOCK_LEN, Block, CREATOR_AT, FIRST_LEN, FLAGS_AT, HEAD_LEN, ID_AT, OWNER_AT, QUOTA_AT,
+    block_name, word_at,
 };
 use crate::entries::{ENTRY, initial_image};
 use crate::records::PrEntry;
@@ -120,10 +121,7 @@ fn read_block<I: ImageRead>(d: &mut Draft<I>, number: u32) -> Result<Block, Reco
 }
 
 /// The first block of a draft that is not empty which is what is looked for.
-fn scan<I: ImageRead>(
-    d: &mut Draft<I>,
-    wanted: Wanted<'_>,
-) -> Result<Option<Found>, RecordFault>
+fn scan<I: ImageRead>(d: &mut Draft<I>, wanted: Wanted<'_>) -> Result<Option<Found>, RecordFault>
     requires { d.old.len < 2 ^ 31 }
     ensures found { IfOk result (λ found. IfSome d.old.bytes (λ image. IsFirst (is_met wanted.entry) image found)) }
     ensures within { IfOk result (λ found. IfSome found (λ f. block_place f.number + BLOCK_LEN ≤ d.old.len)) }
@@ -211,7 +209,8 @@ pub fn find_next<I: ImageRead>(
     after: i32,
 ) -> Result<Option<Block>, RecordFault>
     requires { d.old.len < 2 ^ 31 }
-    ensures found { IfOk result (λ found. IfSome d.old.bytes (λ image. IsLeastAbove after (whole image) (block_count (whole image)) found)) }
+    ensures found { IfOk result (λ found. IfSome d.old.bytes (λ image.
+        IsLeastAbove after (whole image) (block_count (whole image)) found)) }
     ensures fault { IfErr result (HasCause d.old.bytes Holds) }
     ensures frame { OnlyLooks I.ImageRead d.old d.new (IsErrOf result RecordFault.DiskFault) }
 {

@@ -1,4 +1,4 @@
-use Rattle.std.proofs.Common.{◌≡◌, true, sym, ◌∙◌, rules, arith}
+use Rattle.std.proofs.Common.{◌≡◌, true, rules, arith}
 use Rattle.std.proofs.lemmas.Int.{ints}
 use Rattle.prdb_entries.specs.Names.{is_user_name}
 use Rattle.prdb_entries.proofs.Registries.{user_is_record}

@@ -1,7 +1,7 @@
-use Rattle.std.proofs.Common.{◌≡◌, ◌+◌, ◌≤◌, length, sym, ap, refl, ◌∙◌, rules, arith}
+use Rattle.std.proofs.Common.{◌≡◌, length, ap, refl, ◌∙◌, arith}
 use Rattle.std.specs.Option.{option_map}
 use Rattle.prdb_entries.specs.Bytes.{zeros}
-use Rattle.prdb_entries.specs.Records.{block_place, new_block, whole, with_fields}
+use Rattle.prdb_entries.specs.Records.{whole}
 use Rattle.prdb_entries.specs.RecordEnds.{seen}
 use Rattle.prdb_entries.proofs.Becoming.{inserted_ok, inserted_last_ok, inserted_left_err, insert_makes_ok, fault_of_whole_err}
 use Rattle.prdb_entries.proofs.EntryFields.{length-with_fields}

@@ -1,11 +1,10 @@
-use Rattle.std.proofs.Common.{◌≡◌, ◌+◌, ◌≤◌, false, true, length, sym, ap, ◌∙◌, rules, arith}
-use Rattle.std.specs.Prelude.{max}
+use Rattle.std.proofs.Common.{◌≡◌, false, true, length, ap, ◌∙◌, rules, arith}
 use Rattle.std.specs.Str.{bytes_eq}
 use Rattle.std.proofs.lemmas.Int.{to_z-of_z}
 use Rattle.prdb_entries.proofs.Becoming.{replaced_ok, replaced_same, replace_makes_ok, replace_makes, fault_of_none, wants_entry}
 use Rattle.prdb_entries.proofs.EntryFields.{length-with_fields}
 use Rattle.prdb_entries.proofs.Lookups.{id_none}
-use Rattle.prdb_entries.specs.Records.{block_place, with_fields}
+use Rattle.prdb_entries.specs.Records.{with_fields}
 use Rattle.prdb_entries.specs.Registry.{MayReplace}
 use Rattle.prdb_entries.specs.RecordEnds.{seen}
 use Rattle.prdb_entries.proofs.records.replace.Goals as goal

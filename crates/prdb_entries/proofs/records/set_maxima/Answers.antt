@@ -1,7 +1,5 @@
-use Rattle.std.proofs.Common.{◌≡◌, ℤ, false, true, ◌&&◌, ◌++◌, length, sym, ap, refl, ◌∙◌, rules, arith}
-use Rattle.std.specs.Ordering.{int_eq}
+use Rattle.std.proofs.Common.{◌≡◌, length, sym, ap, ◌∙◌, arith}
 use Rattle.std.proofs.lemmas.Int.{to_z-of_z}
-use Rattle.prdb_entries.specs.Bytes.{bits, word}
 use Rattle.prdb_entries.proofs.Becoming.{maxima_ok, maxima_same, maxima_make_ok, maxima_make}
 use Rattle.prdb_entries.proofs.Scanned.{drafts_after}
 use Rattle.prdb_entries.proofs.records.set_maxima.Goals as goal

@@ -1,10 +1,9 @@
-use Rattle.std.proofs.Common.{ℕ, ◌≡◌, ◌≤◌, List, Option, Some, sym, ◌∙◌, ap, subst, arith}
-use Rattle.std.specs.Option.{option_copied}
+use Rattle.std.proofs.Common.{ℕ, ◌≤◌, List, Option, subst, arith}
 use Rattle.std.proofs.lemmas.Result.{err_from_is_err_and}
 use Rattle.prdb_entries.specs.RecordEnds.{HasCause}
-use Rattle.prdb_entries.specs.Records.{block_in, kind_of, is_nearer}
+use Rattle.prdb_entries.specs.Records.{block_in, kind_of}
 use Rattle.prdb_entries.proofs.LaidOut.{bad_size, bad_block}
-use Rattle.prdb_entries.proofs.Scanned.{Compared, compared_none, compared_taken, compared_left}
+use Rattle.prdb_entries.proofs.Scanned.{compared_none, compared_taken, compared_left}
 use Rattle.prdb_entries.proofs.scans.scan_next.Goals as goal
 use Rattle.prdb_entries.proofs.scans.scan_next.Goals.{then-is_nearer, else-is_nearer}
 
@@ -22,11 +21,11 @@ pub loop-number-preserved : goal.loop-number-preserved
 loop-number-preserved g c =
     elim c.if-is_nearer.branch [
       | then-is_nearer w ↦
-        rw w.best-is (compared_taken g.I.ImageRead c.args.d.now c.loop-number.d c.read_block.new.d _ c.loop-number.best c.in_ok-count.count c.loop-number.number c.in_ok-block.block _
-        c.loop-number.invariant c.read_block.ensures.frame c.in_ok-block.ensures.block (cc (c.as_ref.ensures.value, c.is_nearer.ensures, w.if-is_nearer.true)))
+          rw w.best-is (compared_taken g.I.ImageRead c.args.d.now c.loop-number.d c.read_block.new.d _ c.loop-number.best c.in_ok-count.count c.loop-number.number c.in_ok-block.block _
+          c.loop-number.invariant c.read_block.ensures.frame c.in_ok-block.ensures.block (cc (c.as_ref.ensures.value, c.is_nearer.ensures, w.if-is_nearer.true)))
       | else-is_nearer w ↦
-        rw w.best-is (compared_left g.I.ImageRead c.args.d.now c.loop-number.d c.read_block.new.d _ c.loop-number.best c.in_ok-count.count c.loop-number.number c.in_ok-block.block _
-        c.loop-number.invariant c.read_block.ensures.frame c.in_ok-block.ensures.block (cc (c.as_ref.ensures.value, c.is_nearer.ensures, w.if-is_nearer.false)))
+          rw w.best-is (compared_left g.I.ImageRead c.args.d.now c.loop-number.d c.read_block.new.d _ c.loop-number.best c.in_ok-count.count c.loop-number.number c.in_ok-block.block _
+          c.loop-number.invariant c.read_block.ensures.frame c.in_ok-block.ensures.block (cc (c.as_ref.ensures.value, c.is_nearer.ensures, w.if-is_nearer.false)))
     ]
 
 pub returns-in_err-block-clause-fault : goal.returns-in_err-block-clause-fault

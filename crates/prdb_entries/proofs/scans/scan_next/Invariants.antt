@@ -1,4 +1,3 @@
-use Rattle.std.specs.Option.{option_copied}
 use Rattle.prdb_entries.proofs.Scanned.{Compared}
 use Rattle.prdb_entries.proofs.scans.scan_next.Given as goal
 
