@@ -1,1 +1,4 @@
+pub mod Again
+pub mod ItemsTaken
 pub mod Loop
+pub mod Taken

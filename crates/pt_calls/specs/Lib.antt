@@ -1,3 +1,5 @@
 pub mod Calls
+pub mod Laws
 pub mod Reading
 pub mod Shapes
+pub mod Writing

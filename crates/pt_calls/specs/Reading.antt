@@ -24,6 +24,11 @@ abbrev pub Gives : {A V S : Type 0} → (A → V) → S → Result A NotRead →
 Gives view new (Ok x) there = there ≡ Some (view x, new)
 Gives view new (Err e) there = Fails e there
 
+-- What a function gave is what stands there.
+abbrev pub Shows : {A : Type 0} → Result A NotRead → Option A → Type 0
+Shows (Ok x) there = there ≡ Some x
+Shows (Err e) there = Fails e there
+
 -- so many items
 abbrev pub items_at : {A S : Type 0} → (S → Option (A × S)) → ℕ → S → Option (List A × S)
 items_at at zero s = Some ([], s)
@@ -72,9 +77,13 @@ abbrev pub whole : {A : Type 0} → Option (A × Reading) → Option A
 whole None = None
 whole (Some x) = if length x.1.rest == 0 then Some x.0 else None
 
--- the call that bytes spell
-unfoldable pub call_of : List ℕ → Option PtCall
-call_of bytes = do
-  number ← result_ok (word_at (at_start bytes))
+-- a call at the front: its number, and then its fields
+unfoldable pub front_call : Reading → Option (PtCall × Reading)
+front_call from = do
+  number ← result_ok (word_at from)
   kind ← kind_numbered number.0
-  whole (call_at xdr_at kind number.1)
+  call_at xdr_at kind number.1
+
+-- the call that bytes spell, all of them
+unfoldable pub call_of : List ℕ → Option PtCall
+call_of bytes = whole (front_call (at_start bytes))

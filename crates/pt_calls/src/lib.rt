@@ -4,13 +4,18 @@
 mod by_kind;
 mod calls;
 mod kinds;
+mod laws;
 mod limits;
 mod lists;
 mod reading;
 mod sources;
+mod writing;
 mod xdr_source;
 
 pub use calls::PtCall;
 pub use kinds::CallKind;
+pub use laws::{a_call_is_read_from_its_spelling, no_call_begins_another};
 pub use limits::{MAX_LIST, MAX_NAME};
-pub use lists::{Ids, Names};
+pub use lists::{Ids, Items, Names};
+pub use reading::read_call;
+pub use writing::spell_call;

@@ -1,5 +1,5 @@
 //! The values of a call from its bytes.
-ghost use Rattle.std.specs.Prelude.{◌≡◌};
+ghost use Rattle.std.specs.Prelude.{◌≡◌, ◌==◌, length, if◌then◌else◌};
 ghost use Rattle.pt_calls.specs.Reading.{Gives, name_at, id_at, list_at, xdr_at};
 
 use crate::limits::{MAX_LIST, MAX_NAME};
@@ -26,6 +26,13 @@ impl<'a> Model for XdrSource<'a> {
 }
 
 impl<'a> XdrSource<'a> {
+    /// That nothing is left.
+    pub fn end(&self) -> Result<(), NotRead>
+        ensures { result ≡ (if length self.now.rest == 0 then Ok tt else Err NotRead.None) }
+    {
+        Ok(self.reader.end()?)
+    }
+
     #[tactic(auto, unfolding(crate::specs::Reading::name_at))]
     fn next_name(&mut self) -> Result<Bytes, NotRead>
         ensures { Gives (λ text. text) self.new result (name_at self.old) }
