@@ -14,7 +14,6 @@ use Rattle.pt_calls.specs.declared.calls.PtCall.{PtCall}
 use Rattle.pt_calls.specs.declared.calls.PtCall.TheVariants as call
 use Rattle.pt_calls.specs.declared.kinds.CallKind.{CallKind}
 use Rattle.pt_calls.specs.declared.kinds.CallKind.TheVariants as kinds
-use Rattle.pt_calls.specs.declared.limits.TheConstants.{MAX_LIST}
 use Rattle.pt_calls.specs.Shapes.{Shape, Number, Id, Truth, Name, Names, Ids, value, values, listed, value_spelling, spelled, IsName, IsBounded, IsOfItsBits, AllValues}
 use Rattle.pt_calls.specs.Calls.{kind_number, kind_numbered, shapes_of, call_from, call_kind, call_values, spelling, IsCall}
 use Rattle.pt_calls.specs.Reading.{◌>>=◌, items_at, values_at, call_at, name_at, id_at, list_at, xdr_at, whole, front_call, call_of}
@@ -28,11 +27,11 @@ pub record Again {A : Type 0} (there : Option (A × Reading)) (x : A) (after : L
 number_again : (n : ℕ) (from : Reading) (after : List ℕ) → n < 2 ^ 32 → from.rest ≡ word n ++ after → Again (result_ok (xdr.word_at from)) n after
 number_again n from after lt e = record { behind = past 4 from; is = rw (word_again from n after lt e) refl; rest = word_left from n after e }
 
-id_again : (z : ℤ) (from : Reading) (after : List ℕ) → FitsSigned w32 z → from.rest ≡ signed z ++ after → Again (id_at from) z after
+pub id_again : (z : ℤ) (from : Reading) (after : List ℕ) → FitsSigned w32 z → from.rest ≡ signed z ++ after → Again (id_at from) z after
 unfolding id_at
 id_again z from after fits e = record { behind = past 4 from; is = rw (signed_again from z after fits e) refl; rest = word_left from (cast_unsigned w32 z) after e }
 
-name_again : (text : List ℕ) (from : Reading) (after : List ℕ) → IsName text → from.rest ≡ opaque text ++ after → Again (name_at from) text after
+pub name_again : (text : List ℕ) (from : Reading) (after : List ℕ) → IsName text → from.rest ≡ opaque text ++ after → Again (name_at from) text after
 unfolding name_at
 name_again text from after le e =
     record { behind = past (opaque_len (length text)) from; is = rw (opaque_again 255 from text after (omega arith) le e) refl; rest = opaque_left from text after e }
@@ -47,24 +46,24 @@ items_again at spell P each (x ∷ xs) from after fits e =
     let others = items_again at spell P each xs first.behind after fits.1 first.rest in
     record { behind = others.behind; is = rw (first.is, others.is) refl; rest = others.rest }
 
-list_again : {A : Type 0} (at : Reading → Option (A × Reading)) (spell : A → List ℕ) (P : A → Type 0)
+pub list_again : {A : Type 0} (most : ℕ) → most < 2 ^ 32 → (at : Reading → Option (A × Reading)) (spell : A → List ℕ) (P : A → Type 0)
     → ((x : A) (from : Reading) (after : List ℕ) → P x → from.rest ≡ spell x ++ after → Again (at from) x after)
-    → (xs : List A) (from : Reading) (after : List ℕ) → length xs ≤ MAX_LIST → AllByRecursion P xs → from.rest ≡ listed spell xs ++ after → Again (list_at at from) xs after
+    → (xs : List A) (from : Reading) (after : List ℕ) → length xs ≤ most → AllByRecursion P xs → from.rest ≡ listed spell xs ++ after → Again (list_at most at from) xs after
 unfolding list_at
-list_again at spell P each xs from after le fits e =
+list_again most small at spell P each xs from after le fits e =
     let grouped : from.rest ≡ word (length xs) ++ (flat_map spell xs ++ after) = e ∙ append_assoc (word (length xs)) (flat_map spell xs) after in
     let items = items_again at spell P each xs (past 4 from) after fits (word_left from (length xs) (flat_map spell xs ++ after) grouped) in
-    record { behind = items.behind; is = rw (count_again 5000 from (length xs) (flat_map spell xs ++ after) (omega arith) le grouped, items.is) refl; rest = items.rest }
+    record { behind = items.behind; is = rw (count_again most from (length xs) (flat_map spell xs ++ after) small le grouped, items.is) refl; rest = items.rest }
 
 value_again : (shape : Shape) (v : value shape) (from : Reading) (after : List ℕ) → IsBounded shape v → IsOfItsBits shape v → from.rest ≡ value_spelling shape v ++ after → Again (xdr_at shape from) v after
 value_again Number n from after bounded bits e = number_again n from after bits e
 value_again Id z from after bounded bits e = id_again z from after bits e
 value_again Truth b from after bounded bits e = record { behind = past 4 from; is = rw (truth_again from b after e) refl; rest = word_left from _ after e }
 value_again Name text from after bounded bits e = name_again text from after bounded e
-value_again Names texts from after bounded bits e = list_again name_at opaque IsName name_again texts from after bounded.0 bounded.1 e
-value_again Ids ids from after bounded bits e = list_again id_at signed (FitsSigned w32) id_again ids from after bounded bits e
+value_again Names texts from after bounded bits e = list_again 5000 (omega arith) name_at opaque IsName name_again texts from after bounded.0 bounded.1 e
+value_again Ids ids from after bounded bits e = list_again 5000 (omega arith) id_at signed (FitsSigned w32) id_again ids from after bounded bits e
 
-values_again : (shapes : List Shape) (v : values shapes) (from : Reading) (after : List ℕ) → AllValues IsBounded shapes v → AllValues IsOfItsBits shapes v → from.rest ≡ spelled shapes v ++ after
+pub values_again : (shapes : List Shape) (v : values shapes) (from : Reading) (after : List ℕ) → AllValues IsBounded shapes v → AllValues IsOfItsBits shapes v → from.rest ≡ spelled shapes v ++ after
     → Again (values_at xdr_at shapes from) v after
 values_again [] v from after bounded bits e = record { behind = from; is = refl; rest = e }
 values_again (shape ∷ shapes) v from after bounded bits e =
@@ -138,14 +137,14 @@ call_again c from after fits e =
     let v = values_again (shapes_of k) (call_values c) number.behind after fits.0 fits.1 number.rest in
     record { behind = v.behind; is = rw (number.is, numbered_again k, v.is, made_again c) refl; rest = v.rest }
 
-ended : {A : Type 0} (there : Option (A × Reading)) (x : A) → Again there x [] → whole there ≡ Some x
+pub ended : {A : Type 0} (there : Option (A × Reading)) (x : A) → Again there x [] → whole there ≡ Some x
 ended there x again = rw (again.is, again.rest) refl
 
 pub spelling_again : (c : PtCall) → IsCall c → call_of (spelling c) ≡ Some c
 unfolding call_of
 spelling_again c fits = ended (front_call (at_start (spelling c))) c (call_again c (at_start (spelling c)) [] fits (sym (append-nil (spelling c))))
 
-some_is : {A : Type 0} (x y : A) (there : Option A) → there ≡ Some x → there ≡ Some y → x ≡ y
+pub some_is : {A : Type 0} (x y : A) (there : Option A) → there ≡ Some x → there ≡ Some y → x ≡ y
 some_is {A = A} x y there e f =
     let both : ◌≡◌ {A = Option A} (Some x) (Some y) = sym e ∙ f in cc
 

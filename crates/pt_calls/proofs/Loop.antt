@@ -1,8 +1,8 @@
 -- Reading items one after the other, as a loop does.
 use Rattle.std.proofs.Common.{◌≡◌, ℕ, suc, ◌-◌, ◌+◌, ◌≤◌, ◌<◌, List, [], ◌∷◌, ◌++◌, Option, Some, None, Ok, refl, sym, ap, ◌∙◌, append_assoc, arith}
+use Rattle.std.specs.Result.{result_ok}
 use Rattle.std.proofs.lemmas.List.{append-nil}
 use Rattle.xdr_base.specs.Reading.{Reading, count_at}
-use Rattle.pt_calls.specs.declared.limits.TheConstants.{MAX_LIST}
 use Rattle.pt_calls.specs.Reading.{◌>>=◌, Fails, items_at, list_at}
 use Rattle.pt_calls.specs.declared.sources.NotRead.{NotRead}
 use Rattle.pt_calls.specs.declared.sources.NotRead.TheVariants as fault
@@ -41,10 +41,10 @@ nothing_before (Some x) = refl
 nothing_before None = refl
 
 -- before the first item the whole list is still read
-pub begins : {A : Type 0} (at : Reading → Option (A × Reading)) (front : List A) (from s : Reading) (count : ℕ) → front ≡ [] → count_at MAX_LIST from ≡ Ok (count, s)
-    → with_front front (items_at at (count - 0) s) ≡ list_at at from
+pub begins : {A : Type 0} (most : ℕ) (at : Reading → Option (A × Reading)) (front : List A) (from s : Reading) (count : ℕ) → front ≡ [] → count_at most from ≡ Ok (count, s)
+    → with_front front (items_at at (count - 0) s) ≡ list_at most at from
 unfolding list_at
-begins at front from s count nothing e =
+begins most at front from s count nothing e =
     let k : count - 0 ≡ count = omega arith in
     rw (nothing, k, e) (nothing_before (items_at at count s))
 
@@ -53,3 +53,17 @@ pub ends_by : {A S : Type 0} (at : S → Option (A × S)) (e : NotRead) (front :
     → Fails e (at s) → with_front front (items_at at (count - i) s) ≡ total → Fails e total
 ends_by at fault.None front count i s total lt h so_far = ends at front count i s total lt h so_far
 ends_by at fault.NoMemory front count i s total lt h so_far = tt
+
+-- the same where the count was read as an option
+pub counted : {A : Type 0} (most : ℕ) (at : Reading → Option (A × Reading)) (front : List A) (from s : Reading) (count : ℕ) → front ≡ [] → result_ok (count_at most from) ≡ Some (count, s)
+    → with_front front (items_at at (count - 0) s) ≡ list_at most at from
+unfolding list_at
+counted most at front from s count nothing e =
+    let k : count - 0 ≡ count = omega arith in
+    rw (nothing, k, e) (nothing_before (items_at at count s))
+
+-- a count that was not read ends the list
+pub uncounted : {A : Type 0} (most : ℕ) (at : Reading → Option (A × Reading)) (e : NotRead) (from : Reading) → Fails e (result_ok (count_at most from)) → Fails e (list_at most at from)
+unfolding list_at
+uncounted most at fault.None from h = rw h refl
+uncounted most at fault.NoMemory from h = tt

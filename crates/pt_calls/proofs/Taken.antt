@@ -12,7 +12,6 @@ use Rattle.xdr_base.specs.Reading.{Reading, at_start, word_at, truth_at, count_a
 use Rattle.pt_calls.specs.declared.calls.PtCall.{PtCall}
 use Rattle.pt_calls.specs.declared.kinds.CallKind.{CallKind}
 use Rattle.pt_calls.specs.declared.kinds.CallKind.TheVariants as kinds
-use Rattle.pt_calls.specs.declared.limits.TheConstants.{MAX_LIST}
 use Rattle.pt_calls.specs.Laws.{IsBytes}
 use Rattle.pt_calls.specs.Shapes.{Shape, Number, Id, Truth, Name, Names, Ids, value, values, listed, value_spelling, spelled, IsName, IsBounded, IsOfItsBits, AllValues}
 use Rattle.pt_calls.specs.Calls.{kind_number, kind_numbered, shapes_of, call_from, spelling, IsCall}
@@ -20,14 +19,14 @@ use Rattle.pt_calls.specs.Reading.{◌>>=◌, items_at, values_at, call_at, name
 use Rattle.pt_calls.proofs.ItemsTaken.{Takes, ok_of, then_takes, word_takes, id_takes, truth_takes, count_takes, name_takes}
 
 -- the value of a step that gave one
-bind_some : {A B : Type 0} (o : Option A) (f : A → Option B) (y : B) → (o >>= f) ≡ Some y → (x : A) × (o ≡ Some x) × (f x ≡ Some y)
+pub bind_some : {A B : Type 0} (o : Option A) (f : A → Option B) (y : B) → (o >>= f) ≡ Some y → (x : A) × (o ≡ Some x) × (f x ≡ Some y)
 bind_some (Some x) f y e = (x, refl, e)
 bind_some None f y e = absurd cc
 
-abbrev given : {A : Type 0} → A → Option A
+abbrev pub given : {A : Type 0} → A → Option A
 given x = Some x
 
-given_is : {A : Type 0} (x y : A) → given x ≡ given y → x ≡ y
+pub given_is : {A : Type 0} (x y : A) → given x ≡ given y → x ≡ y
 given_is x y e = cc
 
 items_take : {A : Type 0} (at : Reading → Option (A × Reading)) (spell : A → List ℕ) (P : A → Type 0)
@@ -46,14 +45,14 @@ items_take {A = A} at spell P each (suc n) from x fits e =
     subst (λ (y : List A × Reading). Takes from (flat_map spell y.0) y.1 × (length y.0 ≡ suc n) × AllByRecursion P y.0) (given_is (a.0.0 ∷ b.0.0, b.0.1) x b.2)
     (rw (flat_map-cons spell a.0.0 b.0.0) both, size, (first.1, others.2))
 
-list_takes : {A : Type 0} (at : Reading → Option (A × Reading)) (spell : A → List ℕ) (P : A → Type 0)
+pub list_takes : {A : Type 0} (most : ℕ) (at : Reading → Option (A × Reading)) (spell : A → List ℕ) (P : A → Type 0)
     → ((from : Reading) (x : A × Reading) → IsBytes from.rest → at from ≡ Some x → Takes from (spell x.0) x.1 × P x.0)
-    → (from : Reading) (x : List A × Reading) → IsBytes from.rest → list_at at from ≡ Some x
-    → Takes from (listed spell x.0) x.1 × (length x.0 ≤ MAX_LIST) × AllByRecursion P x.0
+    → (from : Reading) (x : List A × Reading) → IsBytes from.rest → list_at most at from ≡ Some x
+    → Takes from (listed spell x.0) x.1 × (length x.0 ≤ most) × AllByRecursion P x.0
 unfolding list_at
-list_takes at spell P each from x fits e =
-    let a = bind_some (result_ok (count_at MAX_LIST from)) (λ count. items_at at count.0 count.1) x e in
-    let count = count_takes 5000 from a.0 fits (ok_of (count_at 5000 from) a.0 a.1) in
+list_takes most at spell P each from x fits e =
+    let a = bind_some (result_ok (count_at most from)) (λ count. items_at at count.0 count.1) x e in
+    let count = count_takes most from a.0 fits (ok_of (count_at most from) a.0 a.1) in
     let items = items_take at spell P each a.0.0 a.0.1 x count.0.left a.2 in
     let both = then_takes from a.0.1 x.1 (word a.0.0) (flat_map spell x.0) count.0 items.0 in
     (rw items.1 both, omega (arith, items.1, count.1), items.2)
@@ -68,9 +67,9 @@ value_takes Truth from x fits e = (truth_takes from x fits (ok_of (truth_at from
 value_takes Name from x fits e =
     let t = name_takes from x fits e in (t.0, t.1, tt)
 value_takes Names from x fits e =
-    let t = list_takes name_at opaque IsName name_takes from x fits e in (t.0, (t.1, t.2), tt)
+    let t = list_takes 5000 name_at opaque IsName name_takes from x fits e in (t.0, (t.1, t.2), tt)
 value_takes Ids from x fits e =
-    let t = list_takes id_at signed (FitsSigned w32) id_takes from x fits e in (t.0, t.1, t.2)
+    let t = list_takes 5000 id_at signed (FitsSigned w32) id_takes from x fits e in (t.0, t.1, t.2)
 
 -- these values were read, one after the other
 pub record TakesAll (old : Reading) (shapes : List Shape) (v : values shapes) (new : Reading) : Type 0 where
@@ -78,7 +77,7 @@ pub record TakesAll (old : Reading) (shapes : List Shape) (v : values shapes) (n
   pub bounded : AllValues IsBounded shapes v
   pub bits : AllValues IsOfItsBits shapes v
 
-values_take : (shapes : List Shape) (from : Reading) (x : values shapes × Reading) → IsBytes from.rest → values_at xdr_at shapes from ≡ Some x → TakesAll from shapes x.0 x.1
+pub values_take : (shapes : List Shape) (from : Reading) (x : values shapes × Reading) → IsBytes from.rest → values_at xdr_at shapes from ≡ Some x → TakesAll from shapes x.0 x.1
 values_take [] from x fits e =
     subst (λ (y : values [] × Reading). TakesAll from [] y.0 y.1) (given_is (tt, from) x e) (record { takes = record { parts = refl; left = fits }; bounded = tt; bits = tt })
 values_take (shape ∷ shapes) from x fits e =
@@ -154,7 +153,7 @@ end_is : {A : Type 0} (b : Bool) (y : A × Reading) (x : A) → eqb (length y.1.
 end_is true y x is e = (given_is y.0 x e, nil_from_length y.1.rest (eqb-true _ _ is))
 end_is false y x is e = absurd cc
 
-whole_is : {A : Type 0} (there : Option (A × Reading)) (x : A) → whole there ≡ Some x → (behind : Reading) × (there ≡ Some (x, behind)) × (behind.rest ≡ [])
+pub whole_is : {A : Type 0} (there : Option (A × Reading)) (x : A) → whole there ≡ Some x → (behind : Reading) × (there ≡ Some (x, behind)) × (behind.rest ≡ [])
 whole_is None x e = absurd cc
 whole_is {A = A} (Some y) x e =
     let ended = end_is (eqb (length y.1.rest) 0) y x refl e in

@@ -51,16 +51,16 @@ call_at at kind s = do
   found ← values_at at (shapes_of kind) s
   Some (call_from kind found.0, found.1)
 
--- a name, and a list of at most MAX_LIST items
+-- a name, an id, and a list of at most so many items
 unfoldable pub name_at : Reading → Option (List ℕ × Reading)
 name_at from = result_ok (opaque_at MAX_NAME from)
 
 unfoldable pub id_at : Reading → Option (ℤ × Reading)
 id_at from = result_ok (signed_at from)
 
-unfoldable pub list_at : {A : Type 0} → (Reading → Option (A × Reading)) → Reading → Option (List A × Reading)
-list_at at from = do
-  count ← result_ok (count_at MAX_LIST from)
+unfoldable pub list_at : {A : Type 0} → (most : ℕ) → (Reading → Option (A × Reading)) → Reading → Option (List A × Reading)
+list_at most at from = do
+  count ← result_ok (count_at most from)
   items_at at count.0 count.1
 
 -- the value of a shape
@@ -69,8 +69,8 @@ xdr_at Number from = result_ok (word_at from)
 xdr_at Id from = id_at from
 xdr_at Truth from = result_ok (truth_at from)
 xdr_at Name from = name_at from
-xdr_at Names from = list_at name_at from
-xdr_at Ids from = list_at id_at from
+xdr_at Names from = list_at MAX_LIST name_at from
+xdr_at Ids from = list_at MAX_LIST id_at from
 
 -- what stands before the end
 abbrev pub whole : {A : Type 0} → Option (A × Reading) → Option A

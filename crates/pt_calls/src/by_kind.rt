@@ -39,17 +39,13 @@ pub(crate) fn name_to_id<S: Source>(from: &mut S) -> Result<PtCall, NotRead>
 pub(crate) fn id_to_name<S: Source>(from: &mut S) -> Result<PtCall, NotRead>
     ensures { Gives (λ c. c) from.new result (call_at S.value_at kinds.IdToName from.old) }
 {
-    Ok(PtCall::IdToName {
-        ids: from.ids()?,
-    })
+    Ok(PtCall::IdToName { ids: from.ids()? })
 }
 
 pub(crate) fn delete<S: Source>(from: &mut S) -> Result<PtCall, NotRead>
     ensures { Gives (λ c. c) from.new result (call_at S.value_at kinds.Delete from.old) }
 {
-    Ok(PtCall::Delete {
-        id: from.id()?,
-    })
+    Ok(PtCall::Delete { id: from.id()? })
 }
 
 pub(crate) fn add_to_group<S: Source>(from: &mut S) -> Result<PtCall, NotRead>
@@ -73,9 +69,7 @@ pub(crate) fn remove_from_group<S: Source>(from: &mut S) -> Result<PtCall, NotRe
 pub(crate) fn get_cps<S: Source>(from: &mut S) -> Result<PtCall, NotRead>
     ensures { Gives (λ c. c) from.new result (call_at S.value_at kinds.GetCps from.old) }
 {
-    Ok(PtCall::GetCps {
-        id: from.id()?,
-    })
+    Ok(PtCall::GetCps { id: from.id()? })
 }
 
 pub(crate) fn set_max<S: Source>(from: &mut S) -> Result<PtCall, NotRead>
@@ -90,9 +84,7 @@ pub(crate) fn set_max<S: Source>(from: &mut S) -> Result<PtCall, NotRead>
 pub(crate) fn list_entry<S: Source>(from: &mut S) -> Result<PtCall, NotRead>
     ensures { Gives (λ c. c) from.new result (call_at S.value_at kinds.ListEntry from.old) }
 {
-    Ok(PtCall::ListEntry {
-        id: from.id()?,
-    })
+    Ok(PtCall::ListEntry { id: from.id()? })
 }
 
 pub(crate) fn list_entries<S: Source>(from: &mut S) -> Result<PtCall, NotRead>
@@ -129,9 +121,7 @@ pub(crate) fn set_fields<S: Source>(from: &mut S) -> Result<PtCall, NotRead>
 pub(crate) fn list_elements<S: Source>(from: &mut S) -> Result<PtCall, NotRead>
     ensures { Gives (λ c. c) from.new result (call_at S.value_at kinds.ListElements from.old) }
 {
-    Ok(PtCall::ListElements {
-        id: from.id()?,
-    })
+    Ok(PtCall::ListElements { id: from.id()? })
 }
 
 pub(crate) fn is_member_of<S: Source>(from: &mut S) -> Result<PtCall, NotRead>
@@ -146,7 +136,5 @@ pub(crate) fn is_member_of<S: Source>(from: &mut S) -> Result<PtCall, NotRead>
 pub(crate) fn list_owned<S: Source>(from: &mut S) -> Result<PtCall, NotRead>
     ensures { Gives (λ c. c) from.new result (call_at S.value_at kinds.ListOwned from.old) }
 {
-    Ok(PtCall::ListOwned {
-        id: from.id()?,
-    })
+    Ok(PtCall::ListOwned { id: from.id()? })
 }

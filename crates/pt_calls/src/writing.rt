@@ -8,11 +8,10 @@ ghost use Rattle.pt_calls.specs.Writing.{value_text, IsShort};
 
 use crate::calls::PtCall;
 use crate::lists::{Ids, Names};
+use Value::{Id, Name, Number, Truth};
 use std::alloc::Global;
 use ubik_types::{Bytes, NoMemory};
 use xdr_base::XdrWriter;
-
-use Value::{Id, Name, Number, Truth};
 
 /// A value of a call, which is lent.
 #[derive(Clone, Copy)]
@@ -54,8 +53,18 @@ fn put_fields(out: &mut XdrWriter, call: &PtCall) -> Result<(), NoMemory>
         PtCall::SetMax { id, is_group } => put(out, &[Id(id), Truth(is_group)]),
         PtCall::ListEntry { id } => put(out, &[Id(id)]),
         PtCall::ListEntries { kinds, after } => put(out, &[Number(kinds), Id(after)]),
-        PtCall::ChangeEntry { id, name, owner, new_id } => put(out, &[Id(id), Name(name), Id(owner), Id(new_id)]),
-        PtCall::SetFields { id, mask, flags, quota } => put(out, &[Id(id), Number(mask), Number(flags), Id(quota)]),
+        PtCall::ChangeEntry {
+            id,
+            name,
+            owner,
+            new_id,
+        } => put(out, &[Id(id), Name(name), Id(owner), Id(new_id)]),
+        PtCall::SetFields {
+            id,
+            mask,
+            flags,
+            quota,
+        } => put(out, &[Id(id), Number(mask), Number(flags), Id(quota)]),
         PtCall::ListElements { id } => put(out, &[Id(id)]),
         PtCall::IsMemberOf { member, group } => put(out, &[Id(member), Id(group)]),
         PtCall::ListOwned { id } => put(out, &[Id(id)]),
@@ -63,7 +72,7 @@ fn put_fields(out: &mut XdrWriter, call: &PtCall) -> Result<(), NoMemory>
 }
 
 /// Writes values one after the other.
-fn put(out: &mut XdrWriter, values: &[Value<'_>]) -> Result<(), NoMemory>
+pub(crate) fn put(out: &mut XdrWriter, values: &[Value<'_>]) -> Result<(), NoMemory>
     requires { AllByRecursion IsShort values.now }
     ensures { OnOk result (out.new ≡ out.old ++ flat_map value_text values.now) }
 {
@@ -87,7 +96,7 @@ fn put_value(out: &mut XdrWriter, value: Value<'_>) -> Result<(), NoMemory>
     }
 }
 
-fn put_names(out: &mut XdrWriter, names: &[Bytes]) -> Result<(), NoMemory>
+pub(crate) fn put_names(out: &mut XdrWriter, names: &[Bytes]) -> Result<(), NoMemory>
     requires count { length names.now ≤ 5000 }
     requires each { AllByRecursion IsName names.now }
     ensures { OnOk result (out.new ≡ out.old ++ listed opaque names.now) }
@@ -99,7 +108,7 @@ fn put_names(out: &mut XdrWriter, names: &[Bytes]) -> Result<(), NoMemory>
     Ok(())
 }
 
-fn put_ids(out: &mut XdrWriter, ids: &[i32]) -> Result<(), NoMemory>
+pub(crate) fn put_ids(out: &mut XdrWriter, ids: &[i32]) -> Result<(), NoMemory>
     requires { length ids.now < 2 ^ 32 }
     ensures { OnOk result (out.new ≡ out.old ++ listed signed ids.now) }
 {

@@ -1,5 +1,7 @@
 //! The values of a call from its bytes.
 ghost use Rattle.std.specs.Prelude.{◌≡◌, ◌==◌, length, if◌then◌else◌};
+ghost use Rattle.std.specs.Result.{result_ok};
+ghost use Rattle.xdr_base.specs.Reading.{count_at};
 ghost use Rattle.pt_calls.specs.Reading.{Gives, name_at, id_at, list_at, xdr_at};
 
 use crate::limits::{MAX_LIST, MAX_NAME};
@@ -33,6 +35,13 @@ impl<'a> XdrSource<'a> {
         Ok(self.reader.end()?)
     }
 
+    /// How many items follow, at most so many.
+    pub fn count(&mut self, most: u32) -> Result<u32, NotRead>
+        ensures { Gives (λ n. n) self.new result (result_ok (count_at most self.old)) }
+    {
+        Ok(self.reader.get_count(most)?)
+    }
+
     #[tactic(auto, unfolding(crate::specs::Reading::name_at))]
     fn next_name(&mut self) -> Result<Bytes, NotRead>
         ensures { Gives (λ text. text) self.new result (name_at self.old) }
@@ -49,10 +58,10 @@ impl<'a> XdrSource<'a> {
     }
 
     #[tactic(auto, unfolding(crate::specs::Reading::list_at))]
-    fn next_names(&mut self) -> Result<Names, NotRead>
-        ensures { Gives (λ texts. texts) self.new result (list_at name_at self.old) }
+    pub fn next_names(&mut self, most: u32) -> Result<Names, NotRead>
+        ensures { Gives (λ texts. texts) self.new result (list_at most name_at self.old) }
     {
-        let count = self.reader.get_count(MAX_LIST)?;
+        let count = self.reader.get_count(most)?;
         let mut names = Vec::new(self.alloc);
         for _ in 0..count {
             let name = self.next_name()?;
@@ -62,10 +71,10 @@ impl<'a> XdrSource<'a> {
     }
 
     #[tactic(auto, unfolding(crate::specs::Reading::list_at))]
-    fn next_ids(&mut self) -> Result<Ids, NotRead>
-        ensures { Gives (λ ids. ids) self.new result (list_at id_at self.old) }
+    pub fn next_ids(&mut self, most: u32) -> Result<Ids, NotRead>
+        ensures { Gives (λ ids. ids) self.new result (list_at most id_at self.old) }
     {
-        let count = self.reader.get_count(MAX_LIST)?;
+        let count = self.reader.get_count(most)?;
         let mut ids = Vec::new(self.alloc);
         for _ in 0..count {
             let id = self.next_id()?;
@@ -95,10 +104,10 @@ impl<'a> Source for XdrSource<'a> {
     }
 
     fn names(&mut self) -> Result<Names, NotRead> {
-        self.next_names()
+        self.next_names(MAX_LIST)
     }
 
     fn ids(&mut self) -> Result<Ids, NotRead> {
-        self.next_ids()
+        self.next_ids(MAX_LIST)
     }
 }
