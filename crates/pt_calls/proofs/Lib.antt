@@ -3,3 +3,4 @@ pub mod Again
 pub mod ItemsTaken
 pub mod Loop
 pub mod Taken
+pub mod WordLoop

@@ -36,7 +36,7 @@ is_done {A = A} at front count i s total le so_far =
     let one : with_front front (items_at at (count - i) s) ≡ Some (front, s) = rw k (ap (λ (ns : List A). Some (ns, s)) (append-nil front)) in
     sym so_far ∙ one
 
-nothing_before : {A S : Type 0} (read : Option (List A × S)) → with_front [] read ≡ read
+pub nothing_before : {A S : Type 0} (read : Option (List A × S)) → with_front [] read ≡ read
 nothing_before (Some x) = refl
 nothing_before None = refl
 

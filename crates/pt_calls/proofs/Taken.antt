@@ -14,7 +14,7 @@ use Rattle.pt_calls.specs.declared.kinds.CallKind.{CallKind}
 use Rattle.pt_calls.specs.declared.kinds.CallKind.TheVariants as kinds
 use Rattle.pt_calls.specs.Laws.{IsBytes}
 use Rattle.pt_calls.specs.Shapes.{Shape, Number, Id, Truth, Name, Names, Ids, value, values, listed, value_spelling, spelled, IsName, IsBounded, IsOfItsBits, AllValues}
-use Rattle.pt_calls.specs.Calls.{kind_number, kind_numbered, shapes_of, call_from, spelling, IsCall}
+use Rattle.pt_calls.specs.Calls.{kind_number, kind_numbered, shapes_of, call_from, spelling, HasSpelling, HasItsBits, IsCall}
 use Rattle.pt_calls.specs.Reading.{◌>>=◌, items_at, values_at, call_at, name_at, id_at, list_at, xdr_at, whole, front_call, call_of}
 use Rattle.pt_calls.proofs.ItemsTaken.{Takes, ok_of, then_takes, word_takes, id_takes, truth_takes, count_takes, name_takes}
 
@@ -90,28 +90,29 @@ values_take (shape ∷ shapes) from x fits e =
     (record { takes = both; bounded = (first.1, others.bounded); bits = (first.2, others.bits) })
 
 -- the call of a kind with these values is that call
-record Made (k : CallKind) (v : values (shapes_of k)) : Type 0 where
-  spell : spelling (call_from k v) ≡ word (kind_number k) ++ spelled (shapes_of k) v
-  fits : AllValues IsBounded (shapes_of k) v → AllValues IsOfItsBits (shapes_of k) v → IsCall (call_from k v)
+pub record Made (k : CallKind) (v : values (shapes_of k)) : Type 0 where
+  pub spell : spelling (call_from k v) ≡ word (kind_number k) ++ spelled (shapes_of k) v
+  pub bounded : AllValues IsBounded (shapes_of k) v → HasSpelling (call_from k v)
+  pub bits : AllValues IsOfItsBits (shapes_of k) v → HasItsBits (call_from k v)
 
-made : (k : CallKind) (v : values (shapes_of k)) → Made k v
-made kinds.NewEntry v = record { spell = refl; fits = λ p q. (p, q) }
-made kinds.INewEntry v = record { spell = refl; fits = λ p q. (p, q) }
-made kinds.NameToId v = record { spell = refl; fits = λ p q. (p, q) }
-made kinds.IdToName v = record { spell = refl; fits = λ p q. (p, q) }
-made kinds.Delete v = record { spell = refl; fits = λ p q. (p, q) }
-made kinds.AddToGroup v = record { spell = refl; fits = λ p q. (p, q) }
-made kinds.RemoveFromGroup v = record { spell = refl; fits = λ p q. (p, q) }
-made kinds.GetCps v = record { spell = refl; fits = λ p q. (p, q) }
-made kinds.ListMax v = record { spell = refl; fits = λ p q. (p, q) }
-made kinds.SetMax v = record { spell = refl; fits = λ p q. (p, q) }
-made kinds.ListEntry v = record { spell = refl; fits = λ p q. (p, q) }
-made kinds.ListEntries v = record { spell = refl; fits = λ p q. (p, q) }
-made kinds.ChangeEntry v = record { spell = refl; fits = λ p q. (p, q) }
-made kinds.SetFields v = record { spell = refl; fits = λ p q. (p, q) }
-made kinds.ListElements v = record { spell = refl; fits = λ p q. (p, q) }
-made kinds.IsMemberOf v = record { spell = refl; fits = λ p q. (p, q) }
-made kinds.ListOwned v = record { spell = refl; fits = λ p q. (p, q) }
+pub made : (k : CallKind) (v : values (shapes_of k)) → Made k v
+made kinds.NewEntry v = record { spell = refl; bounded = λ p. p; bits = λ p. p }
+made kinds.INewEntry v = record { spell = refl; bounded = λ p. p; bits = λ p. p }
+made kinds.NameToId v = record { spell = refl; bounded = λ p. p; bits = λ p. p }
+made kinds.IdToName v = record { spell = refl; bounded = λ p. p; bits = λ p. p }
+made kinds.Delete v = record { spell = refl; bounded = λ p. p; bits = λ p. p }
+made kinds.AddToGroup v = record { spell = refl; bounded = λ p. p; bits = λ p. p }
+made kinds.RemoveFromGroup v = record { spell = refl; bounded = λ p. p; bits = λ p. p }
+made kinds.GetCps v = record { spell = refl; bounded = λ p. p; bits = λ p. p }
+made kinds.ListMax v = record { spell = refl; bounded = λ p. p; bits = λ p. p }
+made kinds.SetMax v = record { spell = refl; bounded = λ p. p; bits = λ p. p }
+made kinds.ListEntry v = record { spell = refl; bounded = λ p. p; bits = λ p. p }
+made kinds.ListEntries v = record { spell = refl; bounded = λ p. p; bits = λ p. p }
+made kinds.ChangeEntry v = record { spell = refl; bounded = λ p. p; bits = λ p. p }
+made kinds.SetFields v = record { spell = refl; bounded = λ p. p; bits = λ p. p }
+made kinds.ListElements v = record { spell = refl; bounded = λ p. p; bits = λ p. p }
+made kinds.IsMemberOf v = record { spell = refl; bounded = λ p. p; bits = λ p. p }
+made kinds.ListOwned v = record { spell = refl; bounded = λ p. p; bits = λ p. p }
 
 -- one of these tests holds, or none
 test_by : {A : Type 0} (n k : ℕ) (b : Bool) (x y : A) (others : Option A) (P : ℕ → A → Type 0) → eqb n k ≡ b → cond b (Some x) others ≡ Some y → P k x → (others ≡ Some y → P n y) → P n y
@@ -147,7 +148,7 @@ call_taken from x fits e =
     let of_kind = made k.0 v.0.0 in
     let text : word n.0.0 ++ spelled (shapes_of k.0) v.0.0 ≡ spelling (call_from k.0 v.0.0) =
     ap (λ (m : ℕ). word m ++ spelled (shapes_of k.0) v.0.0) (sym (numbered n.0.0 k.0 k.1)) ∙ sym of_kind.spell in
-    subst (λ (y : PtCall × Reading). Takes from (spelling y.0) y.1 × IsCall y.0) (given_is (call_from k.0 v.0.0, v.0.1) x v.2) (rw (← text) both, of_kind.fits all.bounded all.bits)
+    subst (λ (y : PtCall × Reading). Takes from (spelling y.0) y.1 × IsCall y.0) (given_is (call_from k.0 v.0.0, v.0.1) x v.2) (rw (← text) both, (of_kind.bounded all.bounded, of_kind.bits all.bits))
 
 end_is : {A : Type 0} (b : Bool) (y : A × Reading) (x : A) → eqb (length y.1.rest) 0 ≡ b → cond b (Some y.0) None ≡ Some x → (y.0 ≡ x) × (y.1.rest ≡ [])
 end_is true y x is e = (given_is y.0 x e, nil_from_length y.1.rest (eqb-true _ _ is))

@@ -3,4 +3,5 @@ pub mod Calls
 pub mod Laws
 pub mod Reading
 pub mod Shapes
+pub mod Words
 pub mod Writing

@@ -29,6 +29,11 @@ abbrev pub Shows : {A : Type 0} → Result A NotRead → Option A → Type 0
 Shows (Ok x) there = there ≡ Some x
 Shows (Err e) there = Fails e there
 
+-- What a function found, seen by view, is what stands there.
+abbrev pub Stands : {A V : Type 0} → (A → V) → Option A → Option V → Type 0
+Stands view (Some x) there = there ≡ Some (view x)
+Stands view None there = there ≡ None
+
 -- so many items
 abbrev pub items_at : {A S : Type 0} → (S → Option (A × S)) → ℕ → S → Option (List A × S)
 items_at at zero s = Some ([], s)

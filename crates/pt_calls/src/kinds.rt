@@ -1,6 +1,28 @@
 //! The kinds of calls.
 ghost use Rattle.std.specs.Prelude.{◌≡◌, IfSome};
 ghost use Rattle.pt_calls.specs.Calls.{kind_number, kind_numbered};
+ghost use Rattle.pt_calls.specs.Words.{kind_named, kind_word};
+
+/// All kinds, in the order of their numbers.
+pub const KINDS: [CallKind; 17] = [
+    CallKind::NewEntry,
+    CallKind::INewEntry,
+    CallKind::NameToId,
+    CallKind::IdToName,
+    CallKind::Delete,
+    CallKind::AddToGroup,
+    CallKind::RemoveFromGroup,
+    CallKind::GetCps,
+    CallKind::ListMax,
+    CallKind::SetMax,
+    CallKind::ListEntry,
+    CallKind::ListEntries,
+    CallKind::ChangeEntry,
+    CallKind::SetFields,
+    CallKind::ListElements,
+    CallKind::IsMemberOf,
+    CallKind::ListOwned,
+];
 
 /// What a call asks for.
 #[derive(Clone, Copy, Debug, PartialEq, Eq)]
@@ -74,5 +96,38 @@ impl CallKind {
             17 => CallKind::ListOwned,
             _ => return None,
         })
+    }
+
+    /// The name of the kind, which is the first word of a call.
+    pub fn word(self) -> &'static [u8]
+        ensures { result.now ≡ kind_word self }
+    {
+        match self {
+            CallKind::NewEntry => b"newentry",
+            CallKind::INewEntry => b"inewentry",
+            CallKind::NameToId => b"nametoid",
+            CallKind::IdToName => b"idtoname",
+            CallKind::Delete => b"delete",
+            CallKind::AddToGroup => b"addtogroup",
+            CallKind::RemoveFromGroup => b"removefromgroup",
+            CallKind::GetCps => b"getcps",
+            CallKind::ListMax => b"listmax",
+            CallKind::SetMax => b"setmax",
+            CallKind::ListEntry => b"listentry",
+            CallKind::ListEntries => b"listentries",
+            CallKind::ChangeEntry => b"changeentry",
+            CallKind::SetFields => b"setfields",
+            CallKind::ListElements => b"listelements",
+            CallKind::IsMemberOf => b"ismemberof",
+            CallKind::ListOwned => b"listowned",
+        }
+    }
+
+    /// The kind of this name.
+    #[tactic(auto, unfolding(crate::specs::Words::kind_named))]
+    pub fn named(word: &[u8]) -> Option<CallKind>
+        ensures { result ≡ kind_named word.now }
+    {
+        KINDS.iter().copied().find(|kind| kind.word() == word)
     }
 }

@@ -12,6 +12,8 @@ mod limits;
 mod lists;
 mod reading;
 mod sources;
+mod word_source;
+mod words;
 mod writing;
 mod xdr_source;
 
@@ -19,11 +21,12 @@ pub use answer_reading::read_answer;
 pub use answer_writing::spell_answer;
 pub use answers::{AnswerKind, Entries, PtAnswer, PtEntry};
 pub use calls::PtCall;
-pub use kinds::CallKind;
+pub use kinds::{CallKind, KINDS};
 pub use laws::{a_call_is_read_from_its_spelling, no_call_begins_another};
 pub use limits::{MAX_ANSWER_IDS, MAX_LIST, MAX_NAME, MAX_PAGE};
 pub use lists::{Ids, Items, Names};
 pub use reading::read_call;
+pub use words::call_words;
 pub use writing::spell_call;
 
 #[cfg(test)]

@@ -2,6 +2,7 @@
 use super::*;
 use std::alloc::Global;
 use std::test::Fail;
+use ubik_types::{Bytes, bytes_of};
 
 /// `nametoid` of `smith`: the number, the count, and the name with its padding.
 const NAME_TO_ID: &[u8] = b"\0\0\0\x03\0\0\0\x01\0\0\0\x05smith\0\0\0";
@@ -212,6 +213,69 @@ fn the_fields_of_an_entry(rt: HostRuntime) -> Result<(), Fail> {
             assert_eq!(rt; name.as_slice(), b"smith".as_slice());
         }
         _ => panic!(rt; "another answer"),
+    }
+    Ok(())
+}
+
+/// Words of scripts, and the calls that they name.
+const WORDS: [(&[&[u8]], &[u8]); 8] = [
+    (
+        &[b"newentry", b"ab", b"2", b"-204"],
+        b"\0\0\0\x01\0\0\0\x02ab\0\0\0\0\0\x02\xff\xff\xff\x34",
+    ),
+    (&[b"nametoid", b"1", b"smith"], NAME_TO_ID),
+    (
+        &[b"idtoname", b"2", b"1", b"-1"],
+        b"\0\0\0\x04\0\0\0\x02\0\0\0\x01\xff\xff\xff\xff",
+    ),
+    (&[b"delete", b"-2147483648"], b"\0\0\0\x05\x80\0\0\0"),
+    (&[b"listmax"], b"\0\0\0\x09"),
+    (&[b"setmax", b"1", b"1"], b"\0\0\0\x0a\0\0\0\x01\0\0\0\x01"),
+    (
+        &[b"changeentry", b"1", b"\"\"", b"0", b"2"],
+        b"\0\0\0\x0d\0\0\0\x01\0\0\0\0\0\0\0\0\0\0\0\x02",
+    ),
+    (
+        &[b"setfields", b"1", b"3", b"131072", b"20"],
+        b"\0\0\0\x0e\0\0\0\x01\0\0\0\x03\0\x02\0\0\0\0\0\x14",
+    ),
+];
+
+fn list_of(alloc: Global, words: &[&[u8]]) -> Result<Vec<Bytes>, Fail> {
+    let mut list = Vec::new(alloc);
+    for word in words {
+        list.push(bytes_of(alloc, word)?)?;
+    }
+    Ok(list)
+}
+
+#[test]
+fn words_name_calls(rt: HostRuntime) -> Result<(), Fail> {
+    for (words, bytes) in WORDS {
+        let list = list_of(rt.alloc(), words)?;
+        let call = call_words(rt.alloc(), &list)?.ok_or("no call")?;
+        assert_eq!(rt; call.as_slice(), bytes);
+        // One word less names no call.
+        let (_, fewer) = list.split_first().ok_or("no words")?;
+        assert!(rt; call_words(rt.alloc(), fewer)?.is_none());
+    }
+    Ok(())
+}
+
+#[test]
+fn words_that_name_no_call(rt: HostRuntime) -> Result<(), Fail> {
+    let lists: [&[&[u8]]; 7] = [
+        &[b"nametoid", b"2", b"smith"],
+        &[b"nametoid", b"01", b"smith"],
+        &[b"setmax", b"1", b"2"],
+        &[b"delete", b"2147483648"],
+        &[b"listmax", b"0"],
+        &[b"Listmax"],
+        &[b"newentry", b"a\x20b", b"0", b"0"],
+    ];
+    for words in lists {
+        let list = list_of(rt.alloc(), words)?;
+        assert!(rt; call_words(rt.alloc(), &list)?.is_none());
     }
     Ok(())
 }
