@@ -14,7 +14,9 @@ use Rattle.pt_calls.specs.declared.calls.PtCall.{PtCall}
 use Rattle.pt_calls.specs.declared.calls.PtCall.TheVariants as call
 use Rattle.pt_calls.specs.declared.kinds.CallKind.{CallKind}
 use Rattle.pt_calls.specs.declared.kinds.CallKind.TheVariants as kinds
-use Rattle.pt_calls.specs.Shapes.{Shape, Number, Id, Truth, Name, Names, Ids, value, values, listed, value_spelling, spelled, IsName, IsBounded, IsOfItsBits, AllValues}
+use Rattle.pt_calls.specs.declared.shapes.Shape.{Shape}
+use Rattle.pt_calls.specs.declared.shapes.Shape.TheVariants.{Number, Id, Truth, Name, Names, Ids}
+use Rattle.pt_calls.specs.Shapes.{value, values, listed, value_spelling, spelled, IsName, IsBounded, IsOfItsBits, AllValues}
 use Rattle.pt_calls.specs.Calls.{kind_number, kind_numbered, shapes_of, call_from, call_kind, call_values, spelling, IsCall}
 use Rattle.pt_calls.specs.Reading.{◌>>=◌, items_at, values_at, call_at, name_at, id_at, list_at, xdr_at, whole, front_call, call_of}
 

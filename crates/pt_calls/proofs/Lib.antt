@@ -4,3 +4,4 @@ pub mod ItemsTaken
 pub mod Loop
 pub mod Taken
 pub mod WordLoop
+pub mod Skipped

@@ -13,8 +13,10 @@ use Rattle.pt_calls.specs.declared.calls.PtCall.{PtCall}
 use Rattle.pt_calls.specs.declared.kinds.CallKind.{CallKind}
 use Rattle.pt_calls.specs.declared.kinds.CallKind.TheVariants as kinds
 use Rattle.pt_calls.specs.Laws.{IsBytes}
-use Rattle.pt_calls.specs.Shapes.{Shape, Number, Id, Truth, Name, Names, Ids, value, values, listed, value_spelling, spelled, IsName, IsBounded, IsOfItsBits, AllValues}
-use Rattle.pt_calls.specs.Calls.{kind_number, kind_numbered, shapes_of, call_from, spelling, HasSpelling, HasItsBits, IsCall}
+use Rattle.pt_calls.specs.declared.shapes.Shape.{Shape}
+use Rattle.pt_calls.specs.declared.shapes.Shape.TheVariants.{Number, Id, Truth, Name, Names, Ids}
+use Rattle.pt_calls.specs.Shapes.{value, values, listed, value_spelling, spelled, IsName, IsBounded, IsOfItsBits, AllValues}
+use Rattle.pt_calls.specs.Calls.{kind_number, kind_numbered, shapes_of, call_from, call_kind, spelling, HasSpelling, HasItsBits, IsCall}
 use Rattle.pt_calls.specs.Reading.{◌>>=◌, items_at, values_at, call_at, name_at, id_at, list_at, xdr_at, whole, front_call, call_of}
 use Rattle.pt_calls.proofs.ItemsTaken.{Takes, ok_of, then_takes, word_takes, id_takes, truth_takes, count_takes, name_takes}
 
@@ -94,25 +96,26 @@ pub record Made (k : CallKind) (v : values (shapes_of k)) : Type 0 where
   pub spell : spelling (call_from k v) ≡ word (kind_number k) ++ spelled (shapes_of k) v
   pub bounded : AllValues IsBounded (shapes_of k) v → HasSpelling (call_from k v)
   pub bits : AllValues IsOfItsBits (shapes_of k) v → HasItsBits (call_from k v)
+  pub kind : call_kind (call_from k v) ≡ k
 
 pub made : (k : CallKind) (v : values (shapes_of k)) → Made k v
-made kinds.NewEntry v = record { spell = refl; bounded = λ p. p; bits = λ p. p }
-made kinds.INewEntry v = record { spell = refl; bounded = λ p. p; bits = λ p. p }
-made kinds.NameToId v = record { spell = refl; bounded = λ p. p; bits = λ p. p }
-made kinds.IdToName v = record { spell = refl; bounded = λ p. p; bits = λ p. p }
-made kinds.Delete v = record { spell = refl; bounded = λ p. p; bits = λ p. p }
-made kinds.AddToGroup v = record { spell = refl; bounded = λ p. p; bits = λ p. p }
-made kinds.RemoveFromGroup v = record { spell = refl; bounded = λ p. p; bits = λ p. p }
-made kinds.GetCps v = record { spell = refl; bounded = λ p. p; bits = λ p. p }
-made kinds.ListMax v = record { spell = refl; bounded = λ p. p; bits = λ p. p }
-made kinds.SetMax v = record { spell = refl; bounded = λ p. p; bits = λ p. p }
-made kinds.ListEntry v = record { spell = refl; bounded = λ p. p; bits = λ p. p }
-made kinds.ListEntries v = record { spell = refl; bounded = λ p. p; bits = λ p. p }
-made kinds.ChangeEntry v = record { spell = refl; bounded = λ p. p; bits = λ p. p }
-made kinds.SetFields v = record { spell = refl; bounded = λ p. p; bits = λ p. p }
-made kinds.ListElements v = record { spell = refl; bounded = λ p. p; bits = λ p. p }
-made kinds.IsMemberOf v = record { spell = refl; bounded = λ p. p; bits = λ p. p }
-made kinds.ListOwned v = record { spell = refl; bounded = λ p. p; bits = λ p. p }
+made kinds.NewEntry v = record { spell = refl; bounded = λ p. p; bits = λ p. p; kind = refl }
+made kinds.INewEntry v = record { spell = refl; bounded = λ p. p; bits = λ p. p; kind = refl }
+made kinds.NameToId v = record { spell = refl; bounded = λ p. p; bits = λ p. p; kind = refl }
+made kinds.IdToName v = record { spell = refl; bounded = λ p. p; bits = λ p. p; kind = refl }
+made kinds.Delete v = record { spell = refl; bounded = λ p. p; bits = λ p. p; kind = refl }
+made kinds.AddToGroup v = record { spell = refl; bounded = λ p. p; bits = λ p. p; kind = refl }
+made kinds.RemoveFromGroup v = record { spell = refl; bounded = λ p. p; bits = λ p. p; kind = refl }
+made kinds.GetCps v = record { spell = refl; bounded = λ p. p; bits = λ p. p; kind = refl }
+made kinds.ListMax v = record { spell = refl; bounded = λ p. p; bits = λ p. p; kind = refl }
+made kinds.SetMax v = record { spell = refl; bounded = λ p. p; bits = λ p. p; kind = refl }
+made kinds.ListEntry v = record { spell = refl; bounded = λ p. p; bits = λ p. p; kind = refl }
+made kinds.ListEntries v = record { spell = refl; bounded = λ p. p; bits = λ p. p; kind = refl }
+made kinds.ChangeEntry v = record { spell = refl; bounded = λ p. p; bits = λ p. p; kind = refl }
+made kinds.SetFields v = record { spell = refl; bounded = λ p. p; bits = λ p. p; kind = refl }
+made kinds.ListElements v = record { spell = refl; bounded = λ p. p; bits = λ p. p; kind = refl }
+made kinds.IsMemberOf v = record { spell = refl; bounded = λ p. p; bits = λ p. p; kind = refl }
+made kinds.ListOwned v = record { spell = refl; bounded = λ p. p; bits = λ p. p; kind = refl }
 
 -- one of these tests holds, or none
 test_by : {A : Type 0} (n k : ℕ) (b : Bool) (x y : A) (others : Option A) (P : ℕ → A → Type 0) → eqb n k ≡ b → cond b (Some x) others ≡ Some y → P k x → (others ≡ Some y → P n y) → P n y

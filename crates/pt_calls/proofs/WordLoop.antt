@@ -9,7 +9,9 @@ use Rattle.pt_calls.specs.declared.sources.NotRead.{NotRead}
 use Rattle.pt_calls.specs.declared.sources.NotRead.TheVariants as fault
 use Rattle.pt_calls.specs.Calls.{shapes_of, call_from, HasSpelling}
 use Rattle.pt_calls.specs.Reading.{◌>>=◌, Fails, items_at, values_at, call_at}
-use Rattle.pt_calls.specs.Shapes.{Shape, Number, Id, Truth, Name, Names, Ids, value, values, IsName, IsBounded, AllValues}
+use Rattle.pt_calls.specs.declared.shapes.Shape.{Shape}
+use Rattle.pt_calls.specs.declared.shapes.Shape.TheVariants.{Number, Id, Truth, Name, Names, Ids}
+use Rattle.pt_calls.specs.Shapes.{value, values, IsName, IsBounded, AllValues}
 use Rattle.pt_calls.specs.Words.{unquoted, name_of_word, first_word, one_at, some_at, words_at, kind_named, last_of, call_in_words}
 use Rattle.pt_calls.proofs.Loop.{with_front, nothing_before}
 use Rattle.pt_calls.proofs.Taken.{bind_some, given, given_is, made}

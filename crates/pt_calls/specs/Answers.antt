@@ -14,7 +14,9 @@ use Rattle.pt_calls.specs.declared.kinds.CallKind.{CallKind}
 use Rattle.pt_calls.specs.declared.kinds.CallKind.TheVariants as kinds
 use Rattle.pt_calls.specs.declared.limits.TheConstants.{MAX_LIST, MAX_ANSWER_IDS, MAX_PAGE}
 use Rattle.pt_calls.specs.Reading.{◌>>=◌, values_at, name_at, id_at, list_at, xdr_at, whole}
-use Rattle.pt_calls.specs.Shapes.{Shape, Number, Id, Name, values, listed, spelled, IsName, IsBounded, IsOfItsBits, AllValues}
+use Rattle.pt_calls.specs.declared.shapes.Shape.{Shape}
+use Rattle.pt_calls.specs.declared.shapes.Shape.TheVariants.{Number, Id, Name}
+use Rattle.pt_calls.specs.Shapes.{values, listed, spelled, IsName, IsBounded, IsOfItsBits, AllValues}
 
 -- what the answer to a call of each kind tells
 abbrev pub asked_for : CallKind → AnswerKind

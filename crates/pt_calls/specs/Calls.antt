@@ -5,7 +5,9 @@ use Rattle.pt_calls.specs.declared.calls.PtCall.{PtCall}
 use Rattle.pt_calls.specs.declared.calls.PtCall.TheVariants as call
 use Rattle.pt_calls.specs.declared.kinds.CallKind.{CallKind}
 use Rattle.pt_calls.specs.declared.kinds.CallKind.TheVariants as kinds
-use Rattle.pt_calls.specs.Shapes.{Shape, Number, Id, Truth, Name, Names, Ids, values, spelled, AllValues, IsBounded, IsOfItsBits}
+use Rattle.pt_calls.specs.declared.shapes.Shape.{Shape}
+use Rattle.pt_calls.specs.declared.shapes.Shape.TheVariants.{Number, Id, Truth, Name, Names, Ids}
+use Rattle.pt_calls.specs.Shapes.{values, spelled, AllValues, IsBounded, IsOfItsBits}
 
 -- the number of a kind, and the kind of a number
 abbrev pub kind_number : CallKind → ℕ

@@ -1,6 +1,7 @@
 -- Reading from left to right: the values of shapes, one after the other, and a call from its bytes.
 use Rattle.std.specs.Prelude.{◌≡◌, ℕ, ℤ, zero, suc, List, [], ◌∷◌, length, Option, Some, None, option_and_then, Result, Ok, Err, ◌==◌, if◌then◌else◌}
 use Rattle.std.specs.Result.{result_ok}
+use Rattle.xdr_base.specs.declared.faults.XdrFault.{XdrFault}
 use Rattle.xdr_base.specs.Reading.{Reading, at_start, word_at, signed_at, truth_at, count_at, opaque_at}
 use Rattle.pt_calls.specs.declared.calls.PtCall.{PtCall}
 use Rattle.pt_calls.specs.declared.kinds.CallKind.{CallKind}
@@ -8,7 +9,9 @@ use Rattle.pt_calls.specs.declared.limits.TheConstants.{MAX_NAME, MAX_LIST}
 use Rattle.pt_calls.specs.declared.sources.NotRead.{NotRead}
 use Rattle.pt_calls.specs.declared.sources.NotRead.TheVariants as fault
 use Rattle.pt_calls.specs.Calls.{kind_numbered, shapes_of, call_from}
-use Rattle.pt_calls.specs.Shapes.{Shape, Number, Id, Truth, Name, Names, Ids, value, values}
+use Rattle.pt_calls.specs.declared.shapes.Shape.{Shape}
+use Rattle.pt_calls.specs.declared.shapes.Shape.TheVariants.{Number, Id, Truth, Name, Names, Ids}
+use Rattle.pt_calls.specs.Shapes.{value, values}
 
 infixl 10 ◌>>=◌
 abbrev pub ◌>>=◌ : {A B : Type 0} → Option A → (A → Option B) → Option B
@@ -33,6 +36,16 @@ Shows (Err e) there = Fails e there
 abbrev pub Stands : {A V : Type 0} → (A → V) → Option A → Option V → Type 0
 Stands view (Some x) there = there ≡ Some (view x)
 Stands view None there = there ≡ None
+
+-- what is left behind what was read
+abbrev pub rest_of : {V S : Type 0} → Option (V × S) → Option S
+rest_of None = None
+rest_of (Some x) = Some x.1
+
+-- What stands there was skipped, or nothing stands there.
+abbrev pub Skips : {S : Type 0} → (new : S) → Result (Unit {0}) XdrFault → Option S → Type 0
+Skips new (Ok u) there = there ≡ Some new
+Skips new (Err e) there = there ≡ None
 
 -- so many items
 abbrev pub items_at : {A S : Type 0} → (S → Option (A × S)) → ℕ → S → Option (List A × S)

@@ -3,20 +3,11 @@ use Rattle.std.specs.Prelude.{ℕ, ℤ, ◌<◌, ◌≤◌, ◌^◌, Bool, List,
 use Rattle.std.specs.Int.{w32}
 use Rattle.std.specs.List.{flat_map, AllByRecursion}
 use Rattle.pt_calls.specs.declared.limits.TheConstants.{MAX_NAME, MAX_LIST}
+use Rattle.pt_calls.specs.declared.shapes.Shape.{Shape}
+use Rattle.pt_calls.specs.declared.shapes.Shape.TheVariants.{Number, Id, Truth, Name, Names, Ids}
 use Rattle.xdr_base.specs.Spelling.{word, signed, truth, opaque}
 
-pub data Shape : Type 0 where
-  -- a number of 32 bits
-  Number : Shape
-  -- one with a sign: an id, an owner or a quota
-  Id : Shape
-  Truth : Shape
-  -- a name, and a list of names
-  Name : Shape
-  Names : Shape
-  -- a list of ids
-  Ids : Shape
-
+-- the values of a shape
 abbrev pub value : Shape → Type 0
 value Number = ℕ
 value Id = ℤ

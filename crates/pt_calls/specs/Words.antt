@@ -11,7 +11,9 @@ use Rattle.pt_calls.specs.declared.kinds.TheConstants.{KINDS}
 use Rattle.pt_calls.specs.declared.limits.TheConstants.{MAX_NAME, MAX_LIST}
 use Rattle.pt_calls.specs.Calls.{spelling}
 use Rattle.pt_calls.specs.Reading.{◌>>=◌, items_at, call_at}
-use Rattle.pt_calls.specs.Shapes.{Shape, Number, Id, Truth, Name, Names, Ids, value}
+use Rattle.pt_calls.specs.declared.shapes.Shape.{Shape}
+use Rattle.pt_calls.specs.declared.shapes.Shape.TheVariants.{Number, Id, Truth, Name, Names, Ids}
+use Rattle.pt_calls.specs.Shapes.{value}
 
 -- one mark or more, and nothing else
 abbrev pub is_quotes : List ℕ → Bool

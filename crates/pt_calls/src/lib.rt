@@ -11,6 +11,8 @@ mod laws;
 mod limits;
 mod lists;
 mod reading;
+mod shapes;
+mod skipping;
 mod sources;
 mod word_source;
 mod words;
@@ -26,6 +28,8 @@ pub use laws::{a_call_is_read_from_its_spelling, no_call_begins_another};
 pub use limits::{MAX_ANSWER_IDS, MAX_LIST, MAX_NAME, MAX_PAGE};
 pub use lists::{Ids, Items, Names};
 pub use reading::read_call;
+pub use shapes::Shape;
+pub use skipping::kind_of;
 pub use words::call_words;
 pub use writing::spell_call;
 

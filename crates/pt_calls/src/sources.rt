@@ -1,8 +1,9 @@
 //! Where the values of a call come from: its bytes, or its words.
 ghost use Rattle.std.specs.Prelude.{Option};
 ghost use Rattle.pt_calls.specs.Reading.{Gives};
-ghost use Rattle.pt_calls.specs.Shapes.{Shape, value};
-ghost use Rattle.pt_calls.specs.Shapes as shape;
+ghost use Rattle.pt_calls.specs.declared.shapes.Shape.{Shape};
+ghost use Rattle.pt_calls.specs.declared.shapes.Shape.TheVariants as shape;
+ghost use Rattle.pt_calls.specs.Shapes.{value};
 
 use crate::lists::{Ids, Names};
 use std::alloc::{AllocError, AllocFailed};
