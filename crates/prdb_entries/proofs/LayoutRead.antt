@@ -77,7 +77,7 @@ not_zero b h = grind (arith, nat_tests)
 is_zero : (b : ℕ) → b ≡ 0 → eqb b 0 ≡ true
 is_zero b h = grind (arith, nat_tests)
 
-text_end : (name : List ℕ) (k : ℕ) → 0 < k → All (λ b. 0 < b) name → position_or_len (λ b. eqb b 0) (name ++ zeros k) ≡ length name
+pub text_end : (name : List ℕ) (k : ℕ) → 0 < k → All (λ b. 0 < b) name → position_or_len (λ b. eqb b 0) (name ++ zeros k) ≡ length name
 text_end name k more text =
     position_or_len_is (λ b. eqb b 0) (name ++ zeros k) (length name) 0 (omega (arith, length-append name (zeros k)))
     (λ i lt. rw (get_or_append_left name (zeros k) 0 i lt) (not_zero (get_or name i 0) (text i 0 lt)))

@@ -16,3 +16,14 @@ pub mod Means
 pub mod UserAdded
 pub mod WordCalls
 pub mod InitialState
+pub mod FirstBlocks
+pub mod LaidOut
+pub mod Scanned
+pub mod Lookups
+pub mod BlockPlaces
+pub mod EntryFields
+pub mod Changed
+pub mod Registries
+pub mod Held
+pub mod MaximaRead
+pub mod Becoming

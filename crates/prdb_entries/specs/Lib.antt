@@ -11,3 +11,6 @@ pub mod Words
 pub mod Agreement
 pub mod CallWords
 pub mod ByteMeaning
+pub mod Registry
+pub mod Records
+pub mod RecordEnds

@@ -18,14 +18,41 @@ pub const BLOCK_COUNT_AT: usize = 16;
 /// The length of a block, in bytes.
 pub const BLOCK_LEN: usize = 192;
 
+/// Where the flags stand in an entry's block.
+pub const FLAGS_AT: usize = 4;
+
+/// The length of the first image, in bytes.
+pub const FIRST_LEN: usize = 3264;
+
 /// Where the id stands in an entry's block.
 pub const ID_AT: usize = 8;
+
+/// Where the owner's id stands in an entry's block.
+pub const OWNER_AT: usize = 12;
+
+/// Where the creator's id stands in an entry's block.
+pub const CREATOR_AT: usize = 16;
+
+/// Where the quota stands in an entry's block.
+pub const QUOTA_AT: usize = 20;
+
+/// Where the number of pairs stands in an entry's block, and behind it the first continuation block.
+pub const PAIR_COUNT_AT: usize = 24;
 
 /// Where the name's field begins in an entry's block, which has zero bytes behind it.
 pub const NAME_AT: usize = 32;
 
 /// The length of a name's field in a block, in bytes.
 pub const NAME_FIELD: usize = 64;
+
+/// Where the words of chains stand in an entry's block, which are zero as yet.
+pub const CHAINS_AT: usize = 96;
+
+/// The length of these words, in bytes.
+pub const CHAINS_LEN: usize = 16;
+
+/// Where the ids of the first pairs end in an entry's block, which has zero bytes behind them.
+pub const END_AT: usize = 188;
 
 /// The id of the entry `anonymous`, which a name has that is no entry's, and for which a call is made
 /// that is not signed in.
@@ -72,7 +99,7 @@ fn text_len(field: &[u8]) -> usize
 }
 
 #[tactic(auto, unfolding(crate::specs::Blocks::block_name))]
-fn block_name(block: &Block) -> &[u8]
+pub fn block_name(block: &Block) -> &[u8]
     ensures { result.now ≡ block_name block.now }
 {
     let field = &block[NAME_AT..NAME_AT + NAME_FIELD];

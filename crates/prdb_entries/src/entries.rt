@@ -11,7 +11,7 @@ use std::alloc::{AllocError, Global};
 use ubik_types::WORD_LEN;
 
 /// A block of an entry begins with this word.
-const ENTRY: u32 = 1;
+pub const ENTRY: u32 = 1;
 
 /// The word with which an image begins.
 const DATABASE: u32 = 0x5052_4442;
@@ -20,7 +20,7 @@ const DATABASE: u32 = 0x5052_4442;
 const FORMAT: u32 = 1;
 
 /// The least group id of the first entries.
-const MAX_GROUP: i32 = -205;
+pub const MAX_GROUP: i32 = -205;
 
 const USER_FLAGS: u32 = 131_072;
 
@@ -94,7 +94,7 @@ pub fn push_words(out: &mut Vec<u8>, numbers: &[u32]) -> Result<(), AllocError>
     Ok(())
 }
 
-fn push_name(out: &mut Vec<u8>, name: &[u8]) -> Result<(), AllocError>
+pub fn push_name(out: &mut Vec<u8>, name: &[u8]) -> Result<(), AllocError>
     ensures { OnOk result (out.new.items ≡ out.old.items ++ filled NAME_FIELD name.now) }
 {
     out.extend_from_slice(name)?;
