@@ -11,6 +11,7 @@ mod laws;
 mod limits;
 mod lists;
 mod reading;
+mod service;
 mod shapes;
 mod skipping;
 mod sources;
