@@ -1,12 +1,12 @@
 -- What is spelled at a reader's place is what stands there.
-use Rattle.std.proofs.Common.{◌≡◌, ℕ, ℤ, ◌^◌, ◌<◌, ◌≤◌, Bool, List, [], ◌∷◌, ◌++◌, length, Option, Some, None, Ok, refl, sym, ap, ◌∙◌, append_assoc, arith}
+use Rattle.std.proofs.Common.{◌≡◌, ℕ, ℤ, ◌^◌, ◌<◌, ◌≤◌, List, [], ◌∷◌, ◌++◌, length, Option, Some, refl, sym, ap, ◌∙◌, append_assoc, arith}
 use Rattle.std.specs.Prelude.{FitsSigned}
 use Rattle.std.specs.Int.{w32, cast_unsigned}
 use Rattle.std.specs.List.{flat_map, AllByRecursion}
 use Rattle.std.specs.Result.{result_ok}
 use Rattle.std.proofs.lemmas.List.{append-nil}
 use Rattle.std.proofs.lemmas.List.Concat.{flat_map-cons}
-use Rattle.xdr_base.specs.Spelling.{word, signed, truth, opaque, opaque_len}
+use Rattle.xdr_base.specs.Spelling.{word, signed, opaque, opaque_len}
 use Rattle.xdr_base.specs.Reading.{Reading, at_start, past}
 use Rattle.xdr_base.specs.Reading as xdr
 use Rattle.xdr_base.proofs.ReadBack.{word_again, word_left, signed_again, truth_again, count_again, opaque_again, opaque_left}
@@ -18,7 +18,7 @@ use Rattle.pt_calls.specs.declared.shapes.Shape.{Shape}
 use Rattle.pt_calls.specs.declared.shapes.Shape.TheVariants.{Number, Id, Truth, Name, Names, Ids}
 use Rattle.pt_calls.specs.Shapes.{value, values, listed, value_spelling, spelled, IsName, IsBounded, IsOfItsBits, AllValues}
 use Rattle.pt_calls.specs.Calls.{kind_number, kind_numbered, shapes_of, call_from, call_kind, call_values, spelling, IsCall}
-use Rattle.pt_calls.specs.Reading.{◌>>=◌, items_at, values_at, call_at, name_at, id_at, list_at, xdr_at, whole, front_call, call_of}
+use Rattle.pt_calls.specs.Reading.{items_at, values_at, call_at, name_at, id_at, list_at, xdr_at, whole, front_call, call_of}
 
 -- this stands there, and behind it this
 pub record Again {A : Type 0} (there : Option (A × Reading)) (x : A) (after : List ℕ) : Type 0 where

@@ -1,11 +1,11 @@
 -- An answer is read from its spelling, and from no other bytes.
-use Rattle.std.proofs.Common.{◌≡◌, ℕ, ℤ, ◌^◌, ◌<◌, ◌≤◌, List, [], ◌∷◌, ◌++◌, length, Option, Some, None, refl, sym, ap, subst, ◌∙◌, append_assoc, arith}
+use Rattle.std.proofs.Common.{◌≡◌, ℕ, List, [], ◌∷◌, ◌++◌, Some, refl, sym, ap, subst, ◌∙◌, append_assoc, arith}
 use Rattle.std.specs.Prelude.{FitsSigned}
-use Rattle.std.specs.Int.{w32, cast_unsigned}
-use Rattle.std.specs.List.{flat_map, AllByRecursion}
+use Rattle.std.specs.Int.{w32}
+use Rattle.std.specs.List.{AllByRecursion}
 use Rattle.std.specs.Result.{result_ok}
 use Rattle.std.proofs.lemmas.List.{append-nil}
-use Rattle.xdr_base.specs.Spelling.{word, signed, truth, opaque}
+use Rattle.xdr_base.specs.Spelling.{signed, opaque}
 use Rattle.xdr_base.specs.Reading.{Reading, at_start, past, truth_at}
 use Rattle.xdr_base.proofs.ReadBack.{truth_again, word_left}
 use Rattle.pt_calls.specs.declared.answers.AnswerKind.{AnswerKind}
@@ -15,11 +15,11 @@ use Rattle.pt_calls.specs.declared.answers.PtAnswer.TheVariants as answer
 use Rattle.pt_calls.specs.declared.answers.PtEntry.{PtEntry}
 use Rattle.pt_calls.specs.Answers.{entry_shapes, entry_values, entry_from, entry_spelling, IsEntryText, HasEntryBits, answer_kind, answer_spelling, IsAnswer, entry_at, answer_at, answer_of}
 use Rattle.pt_calls.specs.Laws.{IsBytes}
-use Rattle.pt_calls.specs.Reading.{◌>>=◌, values_at, name_at, id_at, list_at, xdr_at, whole}
-use Rattle.pt_calls.specs.Shapes.{values, listed, spelled, IsName}
+use Rattle.pt_calls.specs.Reading.{◌>>=◌, values_at, name_at, id_at, list_at, xdr_at}
+use Rattle.pt_calls.specs.Shapes.{spelled, IsName}
 use Rattle.pt_calls.proofs.Again.{Again, ended, id_again, name_again, list_again, values_again}
 use Rattle.pt_calls.proofs.ItemsTaken.{Takes, ok_of, then_takes, id_takes, name_takes, truth_takes}
-use Rattle.pt_calls.proofs.Taken.{bind_some, given, given_is, list_takes, values_take, whole_is}
+use Rattle.pt_calls.proofs.Taken.{bind_some, given_is, list_takes, values_take, whole_is}
 
 both_all : {A : Type 0} (P Q : A → Type 0) (xs : List A) → AllByRecursion P xs → AllByRecursion Q xs → AllByRecursion (λ x. P x × Q x) xs
 both_all P Q [] p q = tt

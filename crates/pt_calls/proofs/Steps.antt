@@ -1,5 +1,5 @@
 -- Steps of the calls over a draft.
-use Rattle.std.proofs.Common.{◌≡◌, ℕ, ℤ, zero, suc, ◌+◌, ◌-◌, ◌*◌, ◌^◌, ◌<◌, ◌≤◌, Bool, true, false, cond, List, [], ◌∷◌, ◌++◌, length, map, take, get_or, add-one, Option, Some, None, IfSome, refl, sym, ap, subst, ◌∙◌, arith}
+use Rattle.std.proofs.Common.{◌≡◌, ℕ, ℤ, suc, ◌+◌, ◌-◌, ◌*◌, ◌<◌, ◌≤◌, Bool, true, false, cond, List, [], ◌∷◌, ◌++◌, length, map, take, get_or, add-one, Option, Some, None, IfSome, refl, sym, ap, subst, ◌∙◌, arith}
 use Rattle.std.specs.Prelude.{pos, is_none}
 use Rattle.std.specs.List.{find, flat_map, range_with_len}
 use Rattle.xdr_base.specs.Spelling.{word, signed}
@@ -14,7 +14,6 @@ use Rattle.prdb_entries.specs.Registry.{Registry}
 use Rattle.prdb_entries.proofs.Scanned.{looks_none, looks_then, looks_so}
 use Rattle.pt_calls.specs.Shapes.{listed}
 use Rattle.pt_calls.specs.Meaning.{unused_above, id_or_anonymous}
-
 
 -- what is said of the registry that bytes hold
 abbrev pub Held : Option (List ℕ) → (Registry → Type 0) → Type 0
@@ -66,7 +65,7 @@ pub passed_more : {I : Type 0} (g : Ghosts I) (old now next : Drafted I) (max id
 passed_more g old now next max id failed lt p looks used = record {
   frame = looks_then g old now next ⊥ ⊥ p.frame (looks_so g now next failed ⊥ looks (λ h. absurd h));
   rest = held_both old.bytes (λ r. false ≡ free r id) (λ r. free_from r id ≡ unused_above r max) (λ r. free_from r (id + 1) ≡ unused_above r max) (λ r u s. used_step r id (unused_above r max) lt u s)
-  (subst (λ (b : Option (List ℕ)). Held b (λ r. false ≡ free r id)) p.frame.same.bytes used) p.rest;
+      (subst (λ (b : Option (List ℕ)). Held b (λ r. false ≡ free r id)) p.frame.same.bytes used) p.rest;
 }
 
 pub passed_free : {I : Type 0} (g : Ghosts I) (old now : Drafted I) (max id : ℕ) → id < 2147483648 → Passed g old now max id → Held now.bytes (λ r. true ≡ free r id)
@@ -109,8 +108,8 @@ pub translated_more : {I : Type 0} (g : Ghosts I) (old now next : Drafted I) (na
 translated_more g old now next names name ids z done failed lt is t looks found = record {
   frame = looks_then g old now next ⊥ ⊥ t.frame (looks_so g now next failed ⊥ looks (λ h. absurd h));
   ids_are = held_both old.bytes (λ r. z ≡ id_or_anonymous r name) (λ r. ids ≡ map (id_or_anonymous r) (take done names)) (λ r. ids ++ z ∷ [] ≡ map (id_or_anonymous r) (take (done + 1) names))
-  (λ r f s. more_ids r names name ids z done lt is f s)
-  (subst (λ (b : Option (List ℕ)). Held b (λ r. z ≡ id_or_anonymous r name)) t.frame.same.bytes found) t.ids_are;
+      (λ r f s. more_ids r names name ids z done lt is f s)
+      (subst (λ (b : Option (List ℕ)). Held b (λ r. z ≡ id_or_anonymous r name)) t.frame.same.bytes found) t.ids_are;
   count = omega (arith, length-append ids (z ∷ []), t.count);
 }
 

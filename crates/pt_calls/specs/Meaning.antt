@@ -1,10 +1,10 @@
 -- What the calls mean (ptserver): what is decided of a call in a state, and by it the reply and the state after.
-use Rattle.std.specs.Prelude.{ℕ, ℤ, pos, negsuc, ◌+◌, ◌-◌, Bool, false, not, is_some, is_none, unsigned_abs, unwrap_or, List, ◌++◌, map, Option, Some, None, if◌then◌else◌}
+use Rattle.std.specs.Prelude.{ℕ, ℤ, pos, negsuc, Bool, false, not, is_some, is_none, unsigned_abs, unwrap_or, List, ◌++◌, map, Option, Some, None, if◌then◌else◌}
 use Rattle.std.specs.List.{find, range_with_len}
 use Rattle.std.specs.Str.{bytes_eq}
 use Rattle.db_image.specs.declared.services.CallReply.{CallReply}
 use Rattle.db_image.specs.declared.services.CallReply.TheVariants as reply
-use Rattle.db_image.specs.Meaning.{Meaning, Meant}
+use Rattle.db_image.specs.Meaning.{Meaning}
 use Rattle.prdb_entries.specs.Meaning.{name_exists, no_ids, bad_name, ids_above, new_user}
 use Rattle.prdb_entries.specs.Names.{lowered, is_user_name}
 use Rattle.prdb_entries.specs.Registry.{Registry, first_registry, with_entry, with_maxima}

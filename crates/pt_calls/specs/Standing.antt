@@ -10,7 +10,7 @@ use Rattle.prdb_entries.specs.Registry.{Registry}
 use Rattle.prdb_entries.specs.State.{PrEntry, IsNamedAfter}
 use Rattle.prdb_entries.specs.declared.blocks.TheConstants.{HEAD_LEN, BLOCK_LEN}
 use Rattle.pt_calls.specs.Built.{built_call, is_write}
-use Rattle.pt_calls.specs.Meaning.{Verdict, NoCall, Refuses, Answers, Makes, verdict, reply_by, pt_meaning}
+use Rattle.pt_calls.specs.Meaning.{Verdict, Makes, verdict, reply_by, pt_meaning}
 
 -- groups with a `:` are named after their owners
 abbrev pub AreNamedAfterOwners : Registry → Type 0

@@ -1,6 +1,6 @@
 -- Values as they are written, one after the other.
-use Rattle.std.specs.Prelude.{ℕ, ◌≤◌, ◌<◌, ◌^◌, List, [], ◌∷◌, ◌++◌, length}
-use Rattle.std.specs.List.{flat_map, AllByRecursion}
+use Rattle.std.specs.Prelude.{ℕ, ◌≤◌, List, length}
+use Rattle.std.specs.List.{AllByRecursion}
 use Rattle.xdr_base.specs.Spelling.{word, signed, truth, opaque}
 use Rattle.pt_calls.specs.declared.limits.TheConstants.{MAX_LIST}
 use Rattle.pt_calls.specs.declared.writing.Value.{Value}

@@ -51,7 +51,11 @@ fn is_unused<I: ImageRead>(alloc: Global, d: &mut Draft<I>, id: u32) -> Result<b
 }
 
 /// The least unused user id above one.
-fn unused_above<I: ImageRead>(alloc: Global, d: &mut Draft<I>, max: u32) -> Result<Option<u32>, RecordFault>
+fn unused_above<I: ImageRead>(
+    alloc: Global,
+    d: &mut Draft<I>,
+    max: u32,
+) -> Result<Option<u32>, RecordFault>
     requires len { d.old.len < 2 ^ 31 }
     requires max { max ≤ 2147483648 }
     ensures found { IfOk result (λ found. IfSome d.old.bytes (λ image. (r : Registry) → Holds image r → found ≡ unused_above r max)) }
@@ -89,7 +93,11 @@ fn lowered(alloc: Global, name: &[u8]) -> Result<Vec<u8>, NoMemory>
 }
 
 /// Translates names to ids.
-fn name_to_id<I: ImageRead>(alloc: Global, d: &mut Draft<I>, names: &[Bytes]) -> Result<CallEnd, RecordFault>
+fn name_to_id<I: ImageRead>(
+    alloc: Global,
+    d: &mut Draft<I>,
+    names: &[Bytes],
+) -> Result<CallEnd, RecordFault>
     requires len { d.old.len < 2 ^ 31 }
     requires count { length names.now ≤ MAX_LIST }
     ensures meant { IfOk result (λ end. IfSome d.old.bytes (λ image. (r : Registry) → Holds image r
@@ -104,7 +112,11 @@ fn name_to_id<I: ImageRead>(alloc: Global, d: &mut Draft<I>, names: &[Bytes]) ->
 }
 
 /// The ids that names are translated to, in their order.
-fn ids_of<I: ImageRead>(alloc: Global, d: &mut Draft<I>, names: &[Bytes]) -> Result<Ids, RecordFault>
+fn ids_of<I: ImageRead>(
+    alloc: Global,
+    d: &mut Draft<I>,
+    names: &[Bytes],
+) -> Result<Ids, RecordFault>
     requires { d.old.len < 2 ^ 31 }
     ensures found { IfOk result (λ ids. IfSome d.old.bytes (λ image. (r : Registry) → Holds image r → ids ≡ map (id_or_anonymous r) names.now)) }
     ensures count { IfOk result (λ ids. length ids ≡ length names.now) }

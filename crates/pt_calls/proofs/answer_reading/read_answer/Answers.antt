@@ -1,6 +1,6 @@
 use Rattle.std.proofs.Common.{◌≡◌, None, sym, ap, ◌∙◌, arith}
 use Rattle.pt_calls.specs.declared.answers.AnswerKind.{AnswerKind}
-use Rattle.pt_calls.specs.Answers.{answer_kind, answer_of, answer_spelling, asked_for}
+use Rattle.pt_calls.specs.Answers.{answer_of, answer_spelling, asked_for}
 use Rattle.pt_calls.proofs.AnswerLaws.{spelling_again, read_alone}
 use Rattle.pt_calls.proofs.answer_reading.read_answer.Goals as goal
 

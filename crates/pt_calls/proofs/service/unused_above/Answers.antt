@@ -1,4 +1,4 @@
-use Rattle.std.proofs.Common.{◌≡◌, false, true, arith}
+use Rattle.std.proofs.Common.{arith}
 use Rattle.pt_calls.proofs.Steps.{passed_none, passed_more, passed_free, passed_end}
 use Rattle.pt_calls.proofs.service.unused_above.Goals as goal
 

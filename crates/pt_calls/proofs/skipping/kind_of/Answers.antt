@@ -1,5 +1,5 @@
-use Rattle.std.proofs.Common.{◌≡◌, Bool, true, false, List, Option, Some, None, Ok, refl, sym, ap, subst, ◌∙◌}
-use Rattle.xdr_base.specs.Reading.{Reading, word_at}
+use Rattle.std.proofs.Common.{◌≡◌, Bool, true, false, List, Some, None, refl, sym, ap, subst, ◌∙◌}
+use Rattle.xdr_base.specs.Reading.{word_at}
 use Rattle.pt_calls.specs.declared.shapes.Shape.{Shape}
 use Rattle.pt_calls.specs.Reading.{values_at, xdr_at, rest_of}
 use Rattle.pt_calls.proofs.Skipped.{no_number, no_kind, no_values, ended, not_ended}

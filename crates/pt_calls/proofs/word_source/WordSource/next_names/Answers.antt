@@ -1,7 +1,4 @@
-use Rattle.std.proofs.Common.{ℕ, ℤ, List, Some, ap, sym, ◌∙◌, rules}
-use Rattle.std.specs.Prelude.{FitsSigned}
-use Rattle.std.specs.Int.{w32}
-use Rattle.std.proofs.lemmas.Int.{to_z-of_z}
+use Rattle.std.proofs.Common.{ℕ, List, Some, ap, sym, ◌∙◌}
 use Rattle.std.proofs.lemmas.Result.{err_from_is_err_and}
 use Rattle.pt_calls.specs.Words.{name_of_word, one_at, some_at}
 use Rattle.pt_calls.proofs.Loop.{goes_on, ends_by, is_done}
