@@ -1,0 +1,9 @@
+pub mod AnswerLaws
+pub mod Again
+pub mod ItemsTaken
+pub mod Loop
+pub mod Named
+pub mod Taken
+pub mod WordLoop
+pub mod Skipped
+pub mod Steps

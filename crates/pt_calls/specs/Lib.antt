@@ -1,0 +1,10 @@
+pub mod Answers
+pub mod Built
+pub mod Calls
+pub mod Laws
+pub mod Meaning
+pub mod Reading
+pub mod Shapes
+pub mod Standing
+pub mod Words
+pub mod Writing

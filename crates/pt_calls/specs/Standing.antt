@@ -1,0 +1,53 @@
+-- The protection database over images (layout of format 1).
+use Rattle.std.specs.Prelude.{ℕ, ℤ, pos, ◌≡◌, ◌==◌, List, Option, Some, None, if◌then◌else◌}
+use Rattle.std.specs.Option.{option_map}
+use Rattle.db_image.specs.Database.{Database}
+use Rattle.db_image.specs.Standing.{Standing}
+use Rattle.prdb_entries.specs.Blocks.{block_count}
+use Rattle.prdb_entries.specs.Meaning.{new_user}
+use Rattle.prdb_entries.specs.Records.{Holds, after_insert, after_set_maxima, block_in, entry_in, first_block, has_id, maxima_in, whole}
+use Rattle.prdb_entries.specs.Registry.{Registry}
+use Rattle.prdb_entries.specs.State.{PrEntry, IsNamedAfter}
+use Rattle.prdb_entries.specs.declared.blocks.TheConstants.{HEAD_LEN, BLOCK_LEN}
+use Rattle.pt_calls.specs.Built.{built_call, is_write}
+use Rattle.pt_calls.specs.Meaning.{Verdict, Makes, verdict, reply_by, pt_meaning}
+
+-- groups with a `:` are named after their owners
+abbrev pub AreNamedAfterOwners : Registry → Type 0
+AreNamedAfterOwners r = (a b : ℤ) (e f : PrEntry) → r.entry a ≡ Some e → r.entry b ≡ Some f → IsNamedAfter e f
+
+-- an image stands for a state
+pub record StandsFor (image : List ℕ) (r : Registry) : Type 0 where
+  pub holds : Holds image r
+  pub named : AreNamedAfterOwners r
+
+-- what stands in the first block that meets a test, if one does
+abbrev pub entry_at : List ℕ → ℤ → Option PrEntry
+entry_at image id =
+    let k = first_block (has_id id) image in
+    if k == block_count image then None else Some (entry_in (block_in image k))
+
+-- the registry that an image which is not empty tells, whatever it holds
+unfoldable pub registry_in : List ℕ → Registry
+registry_in image = record { entry = entry_at image; max_user = (maxima_in image).0; max_group = (maxima_in image).1 }
+
+-- the image after what was decided
+abbrev pub image_by : Verdict → Registry → List ℕ → List ℕ
+image_by (Makes name id) r image = after_set_maxima (pos id) r.max_group (after_insert (new_user name id) image)
+image_by _ r image = image
+
+abbrev pub pt_database : Database
+pt_database = record {
+  writes = λ bytes. option_map is_write (built_call bytes);
+  call = λ image now bytes. let r = registry_in (whole image) in let v = verdict r (built_call bytes) in record { reply = reply_by v; image = image_by v r image };
+  head = HEAD_LEN;
+  block = BLOCK_LEN;
+}
+
+abbrev pub pt_standing : Standing
+pt_standing = record {
+  State = Registry;
+  meaning = pt_meaning;
+  StandsFor = StandsFor;
+  database = pt_database;
+}
