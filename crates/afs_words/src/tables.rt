@@ -219,13 +219,11 @@ const LIST_VLDB: [Parameter; 6] = [
 ];
 
 /// Switches of `lock`, `unlock`.
-const VOLUME: [Parameter; 1] = [
-    Parameter {
-        switch: Switch::Id,
-        need: Need::Required,
-        takes: Takes::One(Form::Volume),
-    },
-];
+const VOLUME: [Parameter; 1] = [Parameter {
+    switch: Switch::Id,
+    need: Need::Required,
+    takes: Takes::One(Form::Volume),
+}];
 
 /// Switches of `unlockvldb`.
 const UNLOCK_VLDB: [Parameter; 2] = [
@@ -242,13 +240,11 @@ const UNLOCK_VLDB: [Parameter; 2] = [
 ];
 
 /// Switches of `delentry`.
-const DEL_ENTRY: [Parameter; 1] = [
-    Parameter {
-        switch: Switch::Id,
-        need: Need::Required,
-        takes: Takes::Many(Form::Volume),
-    },
-];
+const DEL_ENTRY: [Parameter; 1] = [Parameter {
+    switch: Switch::Id,
+    need: Need::Required,
+    takes: Takes::Many(Form::Volume),
+}];
 
 /// Switches of `addsite`, `remsite`, `changeloc`.
 const SITE: [Parameter; 3] = [
@@ -322,13 +318,11 @@ const CREATE_GROUP: [Parameter; 3] = [
 ];
 
 /// Switches of `delete`, `membership`, `examine`, `listowned`.
-const ENTRIES: [Parameter; 1] = [
-    Parameter {
-        switch: Switch::NameOrId,
-        need: Need::Required,
-        takes: Takes::Many(Form::Entry),
-    },
-];
+const ENTRIES: [Parameter; 1] = [Parameter {
+    switch: Switch::NameOrId,
+    need: Need::Required,
+    takes: Takes::Many(Form::Entry),
+}];
 
 /// Switches of `rename`.
 const RENAME: [Parameter; 2] = [
@@ -494,7 +488,8 @@ impl Operation {
             Operation::ChangeAddr => &CHANGE_ADDR,
             Operation::CreateUser => &CREATE_USER,
             Operation::CreateGroup => &CREATE_GROUP,
-            Operation::Delete | Operation::Membership | Operation::Examine | Operation::ListOwned => &ENTRIES,
+            Operation::Delete | Operation::Membership | Operation::Examine | Operation::ListOwned =>
+                &ENTRIES,
             Operation::Rename => &RENAME,
             Operation::Chown => &CHOWN,
             Operation::AddUser | Operation::RemoveUser => &MEMBERS,
