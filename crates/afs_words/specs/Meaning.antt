@@ -22,6 +22,11 @@ use Rattle.afs_words.specs.declared.faults.WordsFault.TheVariants.{UnknownOperat
 abbrev pub Means : {A : Type 0} → Result A WordsFault → Result A WordsFault → Type 0
 Means meaning answer = answer ≢ Err NoMemory → answer ≡ meaning
 
+-- what a call answers that leaves this behind
+abbrev pub left : {A : Type 0} → Result (Unit {0}) WordsFault → A → Result A WordsFault
+left (Ok _) x = Ok x
+left (Err fault) x = Err fault
+
 -- what follows where there is no fault
 abbrev pub then_ok : {A B : Type 0} → Result A WordsFault → (A → Result B WordsFault) → Result B WordsFault
 then_ok (Ok x) next = next x
@@ -46,9 +51,12 @@ share (Many f) count = count
 share (EachOfFirst f) count = count
 
 -- a value that is left is extra
+abbrev pub refused_extra : List (List ℕ) → Result (Unit {0}) WordsFault
+refused_extra [] = Ok tt
+refused_extra (word ∷ words) = Err (Extra word)
+
 abbrev pub unless_extra : {A : Type 0} → A → List (List ℕ) → Result A WordsFault
-unless_extra x [] = Ok x
-unless_extra x (word ∷ words) = Err (Extra word)
+unless_extra x words = left (refused_extra words) x
 
 -- the values before the first switch go to the switches of the table in its order, behind these that have theirs
 abbrev pub filled : List Slot → List Parameter → List (List ℕ) → Result (List Slot) WordsFault
