@@ -1,5 +1,5 @@
 //! The words of a command, understood.
-ghost use Rattle.std.specs.Prelude.{◌≡◌, ◌<◌, ◌++◌, length, map, take, string_bytes, slice_get, count_by, option_map, Some};
+ghost use Rattle.std.specs.Prelude.{◌≡◌, ◌<◌, ◌++◌, length, map, take, string_bytes, slice_get, count_by, option_map, Some, IfSome};
 ghost use Rattle.std.specs.List.{find};
 ghost use Rattle.std.specs.Option.{option_copied};
 ghost use Rattle.afs_words.specs.Slots.{is_chosen, is_missing};
@@ -44,12 +44,29 @@ impl Words {
         self.switches.as_slice()
     }
 
-    /// How many values the switch at this place of the table has.
-    pub fn count(&self, switch: usize) -> usize
+    /// How many values the switch at this place of the operation's table has.
+    pub fn count(&self, switch: u32) -> usize
         requires { switch < length self.now.switches }
         ensures { option_map (λ slot. length slot.values) (slice_get self.now.switches switch) ≡ Some result }
     {
-        self.switches()[switch].values.as_slice().len()
+        self.values(switch).len()
+    }
+
+    /// A value of the switch at this place of the operation's table.
+    pub fn value(&self, switch: u32, i: usize) -> &[u8]
+        requires place { switch < length self.now.switches }
+        requires value { IfSome (slice_get self.now.switches switch) (λ slot. i < length slot.values) }
+        ensures { IfSome (slice_get self.now.switches switch) (λ slot. slice_get slot.values i ≡ Some result.now) }
+    {
+        self.values(switch)[i].as_bytes()
+    }
+
+    /// The values of the switch at this place of the operation's table.
+    pub fn values(&self, switch: u32) -> &[Word]
+        requires { switch < length self.now.switches }
+        ensures { option_map (λ slot. slot.values) (slice_get self.now.switches switch) ≡ Some result.now }
+    {
+        self.switches()[switch as usize].values.as_slice()
     }
 }
 
@@ -86,11 +103,7 @@ pub fn read_words(alloc: Global, tool: Tool, words: &[String]) -> Result<Words, 
 }
 
 /// What the words behind an operation mean.
-fn read_command(
-    alloc: Global,
-    operation: Operation,
-    words: &[String],
-) -> Result<Words, WordsFault>
+fn read_command(alloc: Global, operation: Operation, words: &[String]) -> Result<Words, WordsFault>
     ensures { Means (command_of operation (map string_bytes words.now)) result }
 {
     let own = operation.parameters();
