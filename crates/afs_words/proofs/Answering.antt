@@ -1,6 +1,6 @@
 -- Answers that are a meaning unless memory ran out.
 use Rattle.std.proofs.Common.{◌≡◌, Result, Ok, Err, sym, ap, ◌∙◌}
-use Rattle.afs_words.specs.Meaning.{Means, then_ok, left}
+use Rattle.afs_words.specs.Meaning.{Means, then_ok}
 use Rattle.afs_words.specs.declared.faults.WordsFault.{WordsFault}
 use Rattle.afs_words.specs.declared.faults.WordsFault.TheVariants.{NoMemory}
 

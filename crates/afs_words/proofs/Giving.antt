@@ -1,5 +1,5 @@
 -- The values before the first switch, and those behind each.
-use Rattle.std.proofs.Common.{◌≡◌, ℕ, ◌+◌, ◌<◌, Bool, true, false, not, suc, Option, Some, None, ltb, ◌≤◌, ◌-◌, count_by, cond, List, [], ◌∷◌, ◌++◌, length, map, take, drop, get_or, Result, Ok, Err, refl, sym, ap, ◌∙◌, arith}
+use Rattle.std.proofs.Common.{◌≡◌, ℕ, ◌+◌, ◌<◌, Bool, true, false, not, Option, Some, None, ltb, ◌≤◌, ◌-◌, count_by, cond, List, [], ◌∷◌, length, map, take, drop, get_or, Result, Ok, Err, refl, sym, ap, ◌∙◌, arith}
 use Rattle.std.specs.List.{prefix_len}
 use Rattle.std.specs.List.{find}
 use Rattle.std.proofs.Math.Seq.{take-length}
@@ -91,7 +91,8 @@ pub given_well : (slots items inside : List Slot) (word name : List ℕ) (words 
     Means (given slots word words) (Ok (slice_set inside place (slot_of slot.parameter some)))
 given_well slots items inside word name words some place slot all within_is behind meant within is means = λ other.
     ap (λ xs. Ok (slice_set xs place (slot_of slot.parameter some))) within_is
-    ∙ ap (λ r. then_ok r (λ xs. Ok (slice_set slots place (slot_of slot.parameter xs)))) (sym (means_ok (given_values slot words) some means))
+    ∙ ap (λ r. then_ok r (λ xs. Ok (slice_set slots place (slot_of slot.parameter xs))))
+    (sym (means_ok (given_values slot words) some means))
     ∙ given_item slots items word name words place slot all behind meant within is
 
 -- the first of some words, and the others
@@ -108,7 +109,8 @@ read_part : {X : Type 0} (f : X → List ℕ) (slots : List Slot) (rest after : 
     read_switches slots (map f rest) ≡ then_ok (given slots (f word) (front (map f after))) (λ some. read_switches some (map f after))
 read_part f slots rest after word same switch =
     ap (λ xs. read_switches slots (map f xs)) same
-    ∙ ap (λ b. cond b (then_ok (given slots (f word) (front (map f after))) (λ some. read_switches some (map f after))) (read_switches slots (map f after))) switch
+    ∙ ap (λ b. cond b (then_ok (given slots (f word) (front (map f after))) (λ some. read_switches some (map f after)))
+    (read_switches slots (map f after))) switch
 
 -- a switch is refused
 pub read_fault : {X : Type 0} (f : X → List ℕ) (m : Result (List Slot) WordsFault) (slots : List Slot) (rest after : List X) (word : X)
@@ -131,8 +133,8 @@ read_well f m slots next rest after word text values same switch texts fronts pa
     ∙ sym (read_part f slots rest after word same switch) ∙ passed
 
 -- a word that names an operation
-pub command_item : {X : Type 0} (f : X → List ℕ) (tool : Tool) (items : List Operation) (all rest : List X) (word : X) (text : List ℕ) (place : ℕ)
-    (o : Operation) (r : Result Command WordsFault) → all ≡ word ∷ rest → items ≡ operations_of tool → text ≡ f word →
+pub command_item : {X : Type 0} (f : X → List ℕ) (tool : Tool) (items : List Operation) (all rest : List X) (word : X)
+    (text : List ℕ) (place : ℕ) (o : Operation) (r : Result Command WordsFault) → all ≡ word ∷ rest → items ≡ operations_of tool → text ≡ f word →
     Item place ≡ meant_in operation_name items text → slice_get items place ≡ Some o → Means (command_of o (map f rest)) r →
     Means (meaning_of tool (map f all)) r
 command_item f tool items all rest word text place o r same ops texts meant found means = λ other.

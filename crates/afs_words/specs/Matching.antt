@@ -1,5 +1,5 @@
 -- Which of several names a word means.
-use Rattle.std.specs.Prelude.{ℕ, ◌==◌, nat_eq, if◌then◌else◌, Bool, List, Option, Some, None, position, count_by}
+use Rattle.std.specs.Prelude.{ℕ, ◌==◌, nat_eq, if◌then◌else◌, List, Option, Some, None, position, count_by}
 use Rattle.std.specs.List.{starts_with}
 use Rattle.std.specs.Str.{bytes_eq}
 use Rattle.afs_words.specs.declared.matching.Meant.{Meant}

@@ -1,5 +1,5 @@
 -- The operations of `vos` and `pts` with their switches (the manual pages of both commands, as far as they are built here).
-use Rattle.std.specs.Prelude.{ℕ, List, [], ◌∷◌, ◌++◌, codes}
+use Rattle.std.specs.Prelude.{ℕ, List, [], ◌∷◌, codes}
 use Rattle.afs_words.specs.declared.tables.Tool.{Tool}
 use Rattle.afs_words.specs.declared.tables.Tool.TheVariants.{Vos, Pts}
 use Rattle.afs_words.specs.declared.tables.Operation.{Operation}
@@ -71,7 +71,8 @@ abbrev pub operations_of : Tool → List Operation
 operations_of Vos =
     AddEntry ∷ ListVldb ∷ Lock ∷ Unlock ∷ UnlockVldb ∷ DelEntry ∷ AddSite ∷ RemSite ∷ ChangeLoc ∷ ListAddrs ∷ ChangeAddr ∷ []
 operations_of Pts =
-    CreateUser ∷ CreateGroup ∷ Delete ∷ Rename ∷ Chown ∷ AddUser ∷ RemoveUser ∷ Membership ∷ Examine ∷ ListOwned ∷ ListEntries ∷ ListMax ∷ SetMax ∷ SetFields ∷ []
+    CreateUser ∷ CreateGroup ∷ Delete ∷ Rename ∷ Chown ∷ AddUser ∷ RemoveUser
+    ∷ Membership ∷ Examine ∷ ListOwned ∷ ListEntries ∷ ListMax ∷ SetMax ∷ SetFields ∷ []
 
 -- a switch with whether it has to be given and what it takes
 abbrev pub row : Switch → Need → Takes → Parameter
