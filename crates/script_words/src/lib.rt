@@ -5,4 +5,4 @@ mod laws;
 mod numbers;
 
 pub use laws::decimal_text_is_its_number;
-pub use numbers::{number, number_within, signed_number};
+pub use numbers::{is_numeral, number, number_within, signed_number};

@@ -47,7 +47,7 @@ fn negated(digits: &[u8]) -> Option<i32>
 }
 
 /// Whether a word is decimal digits with no needless zero.
-fn is_numeral(word: &[u8]) -> bool
+pub fn is_numeral(word: &[u8]) -> bool
     ensures { result ≡ is_numeral word.now }
 {
     match word {
