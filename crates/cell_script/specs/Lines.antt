@@ -18,7 +18,7 @@ IsFirstLine true text line rest = (text ≡ line) × (rest ≡ []) × (0 < lengt
 pub record TakesLine (text : List ℕ) (after : Option (List ℕ)) (line : List ℕ) (ended : Bool) : Type 0 where
   pub rest : List ℕ
   pub no_lf : HasNoLf line
-  pub short : length line ≤ MAX_LINE
+  pub bound : length line ≤ MAX_LINE
   pub read : IsFirstLine ended text line rest
   pub left : after ≡ Some rest
 

@@ -63,7 +63,7 @@ impl LineReader {
     /// [`LineEnd::Line`].
     pub fn line(&self) -> &[u8]
         ensures line { result.now ≡ self.now.line }
-        ensures short { length result.now ≤ MAX_LINE }
+        ensures bound { length result.now ≤ MAX_LINE }
     {
         self.line.as_slice()
     }
@@ -112,12 +112,12 @@ fn next_byte<S: Source>(source: &mut S) -> Next
 /// was added to it.
 fn extend_line<S: Source>(line: &mut Vec<u8>, ended: &mut bool, source: &mut S) -> Option<LineEnd>
     requires room { MAX_LINE ≤ vec_capacity line.old }
-    requires short { length line.old.items ≤ MAX_LINE }
+    requires bound { length line.old.items ≤ MAX_LINE }
     requires going { ended.old ≡ false }
     ensures told { IfSome (S.left source.old)
         (λ text. Extends result text (S.left source.new) line.old.items line.new.items ended.new) }
     ensures room { MAX_LINE ≤ vec_capacity line.new }
-    ensures short { length line.new.items ≤ MAX_LINE }
+    ensures bound { length line.new.items ≤ MAX_LINE }
     ensures longer { result ≡ None → length line.new.items ≡ length line.old.items + 1 }
     ensures going { result ≡ None → ended.new ≡ false }
     ensures cause { HasCause (S.faults source.old) (S.faults source.new) (result ≡ Some LineEnd.Failed) }

@@ -67,7 +67,7 @@ pub trait ImageRead: Drop {
 pub struct VecImage {
     bytes: Vec<u8>,
     asked: u64,
-    ghost short: { length bytes.items < 2 ^ 32 },
+    ghost bound: { length bytes.items < 2 ^ 32 },
 }
 
 impl VecImage {

@@ -15,7 +15,7 @@ unfolding spelled field_spelling
 length-long_ask len = simp length-append (omega (arith, length-replicate {A = ℕ} len 120))
 
 pub has_spelling : (len : ℕ) → len ≤ 2097140 → HasSpelling (long_ask len)
-has_spelling len fits = record { bounded = (tt, (tt, (tt, tt))); short = omega (arith, fits, length-long_ask len) }
+has_spelling len fits = record { bounded = (tt, (tt, (tt, tt))); bound = omega (arith, fits, length-long_ask len) }
 
 pub is_frame : (len : ℕ) → len ≤ 2097140 → IsFrame (long_ask len)
 is_frame len fits = (has_spelling len fits, (omega arith, (omega arith, (tt, tt))))

@@ -266,8 +266,8 @@ length_again f has =
     let size : length (spelling f) ≡ 4 + len = length-append (word len) (behind_length f) in
     let long : nat_lt (length (spelling f)) 4 ≡ false = le-ltb _ _ (omega arith) in
     let less : length (spelling f) - 4 ≡ len = omega arith in
-    let short : nat_lt len 2097149 ≡ true = lt-ltb _ _ (omega (arith, has.short)) in
-    rw (long, word_reads len (behind_length f) (at_start (spelling f)) (omega (arith, has.short)) refl, less, eq-eqb len len refl, short) refl
+    let short : nat_lt len 2097149 ≡ true = lt-ltb _ _ (omega (arith, has.bound)) in
+    rw (long, word_reads len (behind_length f) (at_start (spelling f)) (omega (arith, has.bound)) refl, less, eq-eqb len len refl, short) refl
 
 pub frame_again : (f : Frame) → IsFrame f → frame_of (spelling f) ≡ Ok f
 unfolding frame_of

@@ -11,7 +11,7 @@ use Rattle.ubik_calls.specs.Reading.{frame_of}
 use Rattle.ubik_calls.proofs.FrameBack.{frame_again}
 
 fits : (f : Frame) → IsFrame f → length (behind_length f) < 2 ^ 32
-fits f p = omega (arith, p.0.short)
+fits f p = omega (arith, p.0.bound)
 
 abbrev found : Frame → Result Frame FrameFault
 found f = Ok f

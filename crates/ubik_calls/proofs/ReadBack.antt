@@ -10,6 +10,7 @@ use Rattle.xdr_base.specs.Spelling.{word, opaque_len}
 use Rattle.xdr_base.specs.Reading.{Reading, past}
 use Rattle.xdr_base.proofs.ReadBack.{word_again, word_left, truth_again, opaque_again, opaque_left}
 use Rattle.ubik_calls.specs.declared.frames.FrameFault.{FrameFault}
+use Rattle.ubik_calls.specs.declared.packets.TheConstants.{MAX_PIECE}
 use Rattle.ubik_calls.specs.Fields.{Field, Number, Long, Truth, VersionOf, PhaseOf, Piece, spelled, field_spelling, phase_number}
 use Rattle.ubik_calls.specs.Reading.{number_at, long_at, flag_at, piece_at, version_word_at, version_at, phase_at, host_at}
 
@@ -38,10 +39,10 @@ unfolding spelled field_spelling flag_at
 flag_reads true fields from e = record { behind = past 4 from; is = rw (truth_again from true (spelled fields) e) refl; rest = word_left from 1 (spelled fields) e }
 flag_reads false fields from e = record { behind = past 4 from; is = rw (truth_again from false (spelled fields) e) refl; rest = word_left from 0 (spelled fields) e }
 
-pub piece_reads : (bytes : List ℕ) (fields : List Field) (from : Reading) → length bytes ≤ 8192 → from.rest ≡ spelled (Piece bytes ∷ fields) → Reads (piece_at from) bytes fields
+pub piece_reads : (bytes : List ℕ) (fields : List Field) (from : Reading) → length bytes ≤ MAX_PIECE → from.rest ≡ spelled (Piece bytes ∷ fields) → Reads (piece_at from) bytes fields
 unfolding spelled field_spelling piece_at
 piece_reads bytes fields from le e =
-    record { behind = past (opaque_len (length bytes)) from; is = rw (opaque_again 8192 from bytes (spelled fields) (omega arith) le e) refl; rest = opaque_left from bytes (spelled fields) e }
+    record { behind = past (opaque_len (length bytes)) from; is = rw (opaque_again MAX_PIECE from bytes (spelled fields) (omega arith) le e) refl; rest = opaque_left from bytes (spelled fields) e }
 
 version_word_reads : (n : ℕ) (after : List ℕ) (from : Reading) → n < 2 ^ 31 → from.rest ≡ word n ++ after → version_word_at from ≡ Ok (n, past 4 from)
 unfolding version_word_at

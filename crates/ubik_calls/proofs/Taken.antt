@@ -64,7 +64,7 @@ tag_first (reply.BadRecord place) tag e = ap (λ (n : ℕ). Number n ∷ behind_
 pub whole : (bytes rest : List ℕ) (from : Reading) (kind : ℕ) (f : Frame) → bytes ≡ word (length rest) ++ rest → length rest ≤ 2097148 → rest ≡ spelled (Number kind ∷ []) ++ from.rest → IsBehind from kind f → HasSpelling f × (bytes ≡ spelling f)
 whole bytes rest from kind f said short e behind =
     let all : rest ≡ behind_length f = e ∙ behind.text_is in
-    (record { bounded = behind.bounded; short = subst (λ (t : List ℕ). length t ≤ 2097148) all short }, said ∙ ap (λ (t : List ℕ). word (length t) ++ t) all)
+    (record { bounded = behind.bounded; bound = subst (λ (t : List ℕ). length t ≤ 2097148) all short }, said ∙ ap (λ (t : List ℕ). word (length t) ++ t) all)
 
 -- a reply behind its tag
 pub reply_all : (from to : Reading) (number tag : ℕ) (r : Reply) → Took from (behind_tag r) to → to.rest ≡ [] → reply_tag r ≡ tag → IsReplyBehind from number tag (frame.Reply number r)

@@ -7,6 +7,7 @@ use Rattle.ubik_types.specs.declared.versions.Version.{Version}
 use Rattle.ubik_types.specs.Version.{IsVersion}
 use Rattle.xdr_base.specs.Reading.{Reading}
 use Rattle.xdr_base.specs.Spelling.{word, truth, opaque}
+use Rattle.ubik_calls.specs.declared.packets.TheConstants.{MAX_PIECE}
 
 pub data Field : Type 0 where
   -- a number of 32 bits
@@ -47,7 +48,7 @@ spelled (field ∷ fields) = field_spelling field ++ spelled fields
 -- the versions and the pieces that may be sent
 abbrev pub IsBounded : Field → Type 0
 IsBounded (VersionOf v) = IsVersion v
-IsBounded (Piece bytes) = length bytes ≤ 8192
+IsBounded (Piece bytes) = length bytes ≤ MAX_PIECE
 IsBounded _ = Unit {0}
 
 -- numbers have the bits that their fields have; each number in code has them

@@ -16,6 +16,7 @@ use Rattle.ubik_calls.specs.declared.frames.FrameFault.{FrameFault}
 use Rattle.ubik_calls.specs.declared.frames.FrameFault.TheVariants as fault
 use Rattle.ubik_calls.specs.declared.packets.Body.{Body}
 use Rattle.ubik_calls.specs.declared.packets.Body.TheVariants as body
+use Rattle.ubik_calls.specs.declared.packets.TheConstants.{MAX_PIECE}
 use Rattle.ubik_calls.specs.declared.packets.Packet.{Packet}
 use Rattle.ubik_calls.specs.declared.kinds.PacketKind.{PacketKind}
 use Rattle.ubik_calls.specs.declared.kinds.PacketKind.TheVariants as kind
@@ -49,7 +50,7 @@ unfoldable pub flag_at : Reading → Result (Bool × Reading) FrameFault
 flag_at from = item (truth_at from)
 
 unfoldable pub piece_at : Reading → Result (List ℕ × Reading) FrameFault
-piece_at from = item (opaque_at 8192 from)
+piece_at from = item (opaque_at MAX_PIECE from)
 
 -- each word of a version is tried as it is read
 unfoldable pub version_word_at : Reading → Result (ℕ × Reading) FrameFault

@@ -86,7 +86,7 @@ spelling f = word (length (behind_length f)) ++ behind_length f
 -- The frame has a spelling: its versions and pieces are bounded, and it has at most 2,097,152 bytes.
 pub record HasSpelling (f : Frame) : Type 0 where
   pub bounded : AllByRecursion IsBounded (frame_fields f)
-  pub short : length (behind_length f) ≤ 2097148
+  pub bound : length (behind_length f) ≤ 2097148
 
 abbrev pub HasItsBits : Frame → Type 0
 HasItsBits f = AllByRecursion IsOfItsBits (frame_fields f)

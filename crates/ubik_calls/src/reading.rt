@@ -56,7 +56,7 @@ fn whole(alloc: Global, frame: &[u8]) -> Result<Frame, FrameFault>
 fn behind_length<'a>(frame: &'a [u8]) -> Result<XdrReader<'a>, FrameFault>
     ensures exact { Gives result (length_at frame.now) }
     ensures found { IfOk result (λ reader. frame.now ≡ word (length reader.rest) ++ reader.rest) }
-    ensures short { IfOk result (λ reader. length reader.rest ≤ MAX_BEHIND) }
+    ensures bound { IfOk result (λ reader. length reader.rest ≤ MAX_BEHIND) }
     ensures rest { IfOk result (λ reader. reader.rest ≡ drop 4 frame.now) }
 {
     if frame.len() < 4 {

@@ -5,6 +5,7 @@ ghost use Rattle.ubik_calls.specs.Fields.{Number, Long, Truth, VersionOf, PhaseO
 ghost use Rattle.ubik_calls.specs.Fields as fields;
 ghost use Rattle.ubik_calls.specs.WireGrammar.{packet_kind, body_fields, reply_fields, frame_fields, spelling, HasSpelling};
 ghost use Rattle.ubik_calls.specs.WireGrammar as grammar;
+ghost use Rattle.ubik_calls.specs.declared.packets.TheConstants.{MAX_PIECE};
 
 use crate::frames::Frame;
 use crate::lengths::behind_len;
@@ -206,7 +207,7 @@ fn put_image_piece(
     offset: u32,
     bytes: &Bytes,
 ) -> Result<(), NoMemory>
-    requires { length bytes.now ≤ 8192 }
+    requires { length bytes.now ≤ MAX_PIECE }
     ensures { OnOk result (Wrote writer.old (Number poll ∷ VersionOf version ∷ Number total
         ∷ Number offset ∷ Piece bytes.now ∷ []) writer.new) }
 {
@@ -216,7 +217,7 @@ fn put_image_piece(
 
 /// Writes a piece behind its place or its number.
 fn put_numbered(writer: &mut XdrWriter, number: u32, bytes: &Bytes) -> Result<(), NoMemory>
-    requires { length bytes.now ≤ 8192 }
+    requires { length bytes.now ≤ MAX_PIECE }
     ensures { OnOk result (Wrote writer.old (Number number ∷ Piece bytes.now ∷ []) writer.new) }
 {
     put_number(writer, number)?;
@@ -338,7 +339,7 @@ fn put_truth(writer: &mut XdrWriter, value: bool) -> Result<(), NoMemory>
 
 #[tactic(auto, unfolding(crate::specs::Fields::spelled, crate::specs::Fields::field_spelling))]
 fn put_piece(writer: &mut XdrWriter, bytes: &Bytes) -> Result<(), NoMemory>
-    requires { length bytes.now ≤ 8192 }
+    requires { length bytes.now ≤ MAX_PIECE }
     ensures { OnOk result (Wrote writer.old (Piece bytes.now ∷ []) writer.new) }
 {
     writer.put_bytes(bytes.as_slice())?;

@@ -200,7 +200,7 @@ module _ {D V : Type 0} (files : D → Option Files) (faults : D → ℕ) (dbs :
   pub record AtWhole (text : List ℕ) (ended : Bool) (left : Option (List ℕ)) (before : List ℕ) (after : Option (List ℕ))
       (run : CellRun D V) (line : List ℕ) : Type 0 where
     pub at : AtLine files faults dbs text left before after run line
-    pub short : take 1025 line ≡ line
+    pub bound : take 1025 line ≡ line
     pub rest : List ℕ
     pub remains : left ≡ Some rest
     pub consumed : IsConsumed ended text rest (read_lines at.readings ++ line ∷ [])
@@ -240,7 +240,7 @@ module _ {D V : Type 0} (files : D → Option Files) (faults : D → ℕ) (dbs :
         let taken = of_left (λ (text : List ℕ). TakesLine text later line now) left so.rest so.remains takes in
         let more = consumed-push now script so.rest line taken.rest lines taken.no_lf taken.read (going was_false) in
         let is = read_so_far now script taken.rest (lines ++ line ∷ []) more in
-        let whole : take 1025 line ≡ line = take_all 1025 line (omega (arith, taken.short)) in
+        let whole : take 1025 line ≡ line = take_all 1025 line (omega (arith, taken.bound)) in
         let behind = later_lines now script taken.rest (lines ++ line ∷ []) more in
         record {
           at = record {
@@ -253,7 +253,7 @@ module _ {D V : Type 0} (files : D → Option Files) (faults : D → ℕ) (dbs :
             at = so.at;
             wrote = so.wrote;
           };
-          short = whole;
+          bound = whole;
           rest = taken.rest;
           remains = taken.left;
           consumed = more;

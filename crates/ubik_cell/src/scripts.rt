@@ -57,7 +57,7 @@ impl<D: StopDisk, V: WordForms> CellRun<D, V> {
         requires empty { All (λ disk. D.files disk ≡ Some no_files) disks.old.items }
         ensures at { IfOk result (λ run. IsAt D.files D.faults run first_told) }
         ensures sound { IfOk result (λ run. IsSoundRun D.files D.faults run) }
-        ensures taken { IfOk result (λ run. (disks.new.items ≡ []) × (vec_capacity disks.new ≡ vec_capacity disks.old)) }
+        ensures emptied { IfOk result (λ run. (disks.new.items ≡ []) × (vec_capacity disks.new ≡ vec_capacity disks.old)) }
         ensures spare { IfOk result (λ run. (run.spare.items ≡ disks.old.items) × (sites_in run.cell ≡ 0)) }
         ensures kept { OnErr result (disks.new ≡ disks.old) }
     {

@@ -42,8 +42,8 @@ loop-kind-init g c =
           c.in-Ok-new.ensures.at);
       sound = c.in-Ok-new.ensures.sound;
       spare = spare.0 ∙ ap (λ (n : ℕ). drop n c.args.disks.now.items) (sym spare.1);
-      empty = c.in-Ok-new.ensures.taken.0;
-      room = omega (arith, c.in-Ok-new.ensures.taken.1, c.requires.twenty, c.args.disks.now.ok);
+      empty = c.in-Ok-new.ensures.emptied.0;
+      room = omega (arith, c.in-Ok-new.ensures.emptied.1, c.requires.twenty, c.args.disks.now.ok);
       read = omega arith;
       wrote = omega arith;
     }

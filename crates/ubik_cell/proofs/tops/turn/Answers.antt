@@ -152,6 +152,6 @@ returns-in-Line-clause-ends g c =
       line_told = λ goes. retold files faults dbs left after run next c.line.result.now (told dbs at.at.readings) _ _ _ _
           c.clear.ensures.bytes c.deref-in-Line.ensures
           (c.line-told.ensures.told goes (told dbs at.at.readings) at.at.at at.at.good);
-      short = λ none. subst (λ (l : List ℕ). LineShort files faults dbs l (told dbs at.at.readings) next) (sym at.short)
+      short = λ none. subst (λ (l : List ℕ). LineShort files faults dbs l (told dbs at.at.readings) next) (sym at.bound)
           (c.line-told.ensures.short none (told dbs at.at.readings) at.at.at at.at.good);
     })

@@ -8,7 +8,7 @@ invariant-loop-end g l = record {
       (λ text. HasRead text (g.S.Source.left l.source) l.self-inside.line.items);
   going : l.self-inside.ended ≡ false;
   room : 1024 ≤ vec_capacity l.self-inside.line;
-  short : length l.self-inside.line.items ≤ 1024;
+  bound : length l.self-inside.line.items ≤ 1024;
   faults : g.S.Source.faults l.fn.source ≤ g.S.Source.faults l.source;
 }
 
