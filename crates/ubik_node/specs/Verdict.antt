@@ -1,6 +1,8 @@
 -- What a verdict on a writing call comes to, at a server that is alone in its cell.
 use Rattle.std.specs.Prelude.{◌≡◌, ◌<◌, ◌≤◌, ℕ, List, [], ◌∷◌, length}
 use Rattle.ubik_types.specs.declared.hosts.Host.{Host}
+use Rattle.ubik_types.specs.declared.limits.TheConstants.{MAX_IMAGE}
+use Rattle.ubik_types.specs.declared.versions.TheConstants.{MAX_COUNTER}
 use Rattle.ubik_types.specs.declared.phases.Phase.TheVariants as phases
 use Rattle.ubik_types.specs.declared.phases.Applied.TheVariants as applied
 use Rattle.ubik_calls.specs.declared.replies.Reply.TheVariants as reply
@@ -34,5 +36,5 @@ Judges h s p now id verdict.NewPoll t =
     Leads t (record s { phase = phase_record s.version (progress.Poll now) })
     (output.Reply id (no_quorum (alone h) s now phases.Poll applied.No) ∷ []) 0
 Judges h s p now id (verdict.Commit answer image) t =
-    (length image ≤ 16777216) × (s.version.counter < 2147483647)
+    (length image ≤ MAX_IMAGE) × (s.version.counter < MAX_COUNTER)
     × Leads t (committed s p image) (output.Announce (next_version s.version) ∷ output.Reply id (reply.Ok answer) ∷ []) 1

@@ -1,6 +1,9 @@
 //! The database file of a server: its label, and the image behind it.
 ghost use Rattle.std.specs.Prelude.{Some, ◌-◌, replicate, ◌≡◌, ◌+◌, ◌<◌, ◌≤◌, ◌++◌, length, drop, OnOk, IfOk, IfErr, IfSome, IsErrOf};
 ghost use Rattle.std.specs.Option.{option_map};
+ghost use Rattle.ubik_types.specs.declared.limits.TheConstants.{MAX_IMAGE};
+ghost use Rattle.ubik_types.specs.declared.versions.TheConstants.{MAX_COUNTER};
+ghost use Rattle.page_file.specs.declared.label.TheConstants.{MAX_DATABASE_LEN};
 ghost use Rattle.page_file.specs.Label.{label, IsHeadOf};
 ghost use Rattle.disk_base.specs.Crash.{IsSettled};
 ghost use Rattle.ubik_node.specs.Database.{with_database, durable_of};
@@ -42,7 +45,7 @@ pub fn write_database<D: Disk>(
     version: Version,
     image: &[u8],
 ) -> Result<(), WriteFault>
-    requires { length image.now ≤ 16777216 }
+    requires { length image.now ≤ MAX_IMAGE }
     ensures written { OnOk result (D.files disk.new ≡ option_map (with_database (label version ++ image.now)) (D.files disk.old)) }
     ensures settled { OnOk result (IsSettled (D.files disk.old) (D.may_leave disk.old) → IsSettled (D.files disk.new) (D.may_leave disk.new)) }
     ensures still { IsErrOf result WriteFault.NoMemory → IsSettled (D.files disk.old) (D.may_leave disk.old) → IsSettled (D.files disk.new) (D.may_leave disk.new) }
@@ -106,11 +109,11 @@ fn read_head<D: Disk>(alloc: Global, disk: &mut D, len: u64) -> Result<[u8; 64],
 
 /// The image behind the label.
 fn read_image<D: Disk>(alloc: Global, disk: &mut D, len: u64) -> Result<Bytes, StoreFault>
-    requires told { IfSome (D.files disk.old) (λ fs. len ≡ length fs.database) }
-    requires labelled { 64 ≤ len }
-    requires fits { len ≤ 16777280 }
-    ensures image { IfOk result (λ image. IfSome (D.files disk.old) (λ fs. image ≡ drop 64 fs.database)) }
-    ensures len { IfOk result (λ image. length image + 64 ≡ len) }
+    requires len { IfSome (D.files disk.old) (λ fs. len ≡ length fs.database) }
+    requires labelled { LABEL_LEN ≤ len }
+    requires fits { len ≤ MAX_DATABASE_LEN }
+    ensures image { IfOk result (λ image. IfSome (D.files disk.old) (λ fs. image ≡ drop LABEL_LEN fs.database)) }
+    ensures len { IfOk result (λ image. length image + LABEL_LEN ≡ len) }
     ensures files { OnOk result (D.files disk.new ≡ D.files disk.old) }
     ensures no_memory { IsErrOf result StoreFault.NoMemory → D.files disk.new ≡ D.files disk.old }
     ensures steps { D.steps disk.new ≡ D.steps disk.old }
@@ -131,8 +134,8 @@ fn read_image<D: Disk>(alloc: Global, disk: &mut D, len: u64) -> Result<Bytes, S
 /// Reads the version and the image of the database file.
 pub fn read_database<D: Disk>(alloc: Global, disk: &mut D) -> Result<(Version, Bytes), StoreFault>
     ensures found { IfOk result (λ found. IfSome (D.files disk.old) (λ fs. durable_of fs.database ≡ Some (durable found.0 found.1))) }
-    ensures version { IfOk result (λ found. (found.0.epoch ≤ 2147483647) × (found.0.counter ≤ 2147483647)) }
-    ensures image { IfOk result (λ found. length found.1 ≤ 16777216) }
+    ensures version { IfOk result (λ found. (found.0.epoch ≤ MAX_COUNTER) × (found.0.counter ≤ MAX_COUNTER)) }
+    ensures image { IfOk result (λ found. length found.1 ≤ MAX_IMAGE) }
     ensures refused { IfErr result (λ fault. IfSome (D.files disk.old) (λ fs. IsFaultOf fs.database fault)) }
     ensures files { OnOk result (D.files disk.new ≡ D.files disk.old) }
     ensures same { IfErr result (λ fault. (fault ≡ StoreFault.DiskFault → ⊥) → D.files disk.new ≡ D.files disk.old) }

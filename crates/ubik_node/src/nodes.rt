@@ -1,6 +1,8 @@
 //! A server of a cell, one step at a time.
 ghost use Rattle.std.specs.Prelude.{◌≡◌, ◌≢◌, ◌+◌, ◌*◌, ◌<◌, ◌≤◌, ℕ, [], ◌∷◌, length, IfOk, IfErr, IfSome, IsErrOf, OnOk, OnErr, MatchResult, Some, true, false};
 ghost use Rattle.ubik_types.specs.declared.hosts.Host.{Host};
+ghost use Rattle.ubik_types.specs.declared.limits.TheConstants.{MAX_IMAGE};
+ghost use Rattle.ubik_types.specs.declared.versions.TheConstants.{MAX_COUNTER};
 ghost use Rattle.ubik_types.specs.Moment.{IsMoment};
 ghost use Rattle.cell_model.specs.Node as model;
 ghost use Rattle.cell_model.specs.NodeRule.{refusals};
@@ -242,7 +244,7 @@ impl<D: Disk, V: Service> Node<D, V> {
     /// A step of a server that is not halted.
     fn step_up(&mut self, now: u32, event: &NodeEvent, out: &mut Outputs) -> StepEnd
         requires moment { IsMoment now }
-        requires whole { self.old.halted ≡ false }
+        requires not_halted { self.old.halted ≡ false }
         requires built { IsBuilt (own_member self.old) event.now }
         requires empty { out.old ≡ [] }
         ensures step { Steps V.database (own_member self.old) result event.now now (node_of self.old) (node_of self.new) out.new
@@ -280,7 +282,7 @@ impl<D: Disk, V: Service> Node<D, V> {
     /// The recovery turn of a server that is not halted.
     fn recover(&mut self, now: u32, out: &mut Outputs) -> StepEnd
         requires moment { IsMoment now }
-        requires whole { self.old.halted ≡ false }
+        requires not_halted { self.old.halted ≡ false }
         requires alone { cell_size (own_member self.old) ≡ 1 }
         requires empty { out.old ≡ [] }
         ensures step { Steps V.database (own_member self.old) result events.RecoverTurn now (node_of self.old) (node_of self.new) out.new
@@ -324,14 +326,14 @@ impl<D: Disk, V: Service> Node<D, V> {
 
     /// A call at a server that is not halted, after the lapse.
     fn ask(&mut self, now: u32, id: u32, call: &[u8], out: &mut Outputs) -> StepEnd
-        requires whole { self.old.halted ≡ false }
+        requires not_halted { self.old.halted ≡ false }
         requires empty { out.old ≡ [] }
         ensures done { result ≡ StepEnd.Done → Answers V.database (own_member self.old) (up_server self.old) now id call.now
             (node_of self.new) out.new (D.steps self.old.disk) (D.steps self.new.disk) }
         ensures halted { result ≡ StepEnd.Halted → (node_of self.new ≡ model.Halted (model.halted_from (up_server self.old)))
             × (out.new ≡ outputs.Reply id Reply.DiskFault ∷ []) }
         ensures serving { result ≡ StepEnd.Halted → IsServing self.old.state.progress }
-        ensures told { result ≢ StepEnd.NoMemory }
+        ensures memory { result ≢ StepEnd.NoMemory }
         ensures member { own_member self.new ≡ own_member self.old }
         ensures fewer { D.steps self.new.disk ≤ D.steps self.old.disk + 4 }
         ensures stored { IsStored D.files self.old → IsStored D.files self.new }
@@ -366,14 +368,14 @@ impl<D: Disk, V: Service> Node<D, V> {
 
     /// The turn of a writing call at a server that serves, which is alone in its cell.
     fn write(&mut self, now: u32, id: u32, call: &[u8], out: &mut Outputs) -> StepEnd
-        requires whole { self.old.halted ≡ false }
+        requires not_halted { self.old.halted ≡ false }
         requires empty { out.old ≡ [] }
         requires serving { IsServing self.old.state.progress }
         ensures done { result ≡ StepEnd.Done → (h : Host) → Writes V.database h (up_server self.old) now id call.now
             (node_of self.new) out.new (D.steps self.old.disk) (D.steps self.new.disk) }
         ensures halted { result ≡ StepEnd.Halted → (node_of self.new ≡ model.Halted (model.halted_from (up_server self.old)))
             × (out.new ≡ outputs.Reply id Reply.DiskFault ∷ []) }
-        ensures told { result ≢ StepEnd.NoMemory }
+        ensures memory { result ≢ StepEnd.NoMemory }
         ensures member { own_member self.new ≡ own_member self.old }
         ensures fewer { D.steps self.new.disk ≤ D.steps self.old.disk + 4 }
         ensures stored { IsStored D.files self.old → IsStored D.files self.new }
@@ -424,10 +426,10 @@ impl<D: Disk, V: Service> Node<D, V> {
         image: Bytes,
         out: &mut Outputs,
     ) -> Result<(), WriteFault>
-        requires whole { self.old.halted ≡ false }
+        requires not_halted { self.old.halted ≡ false }
         requires empty { out.old ≡ [] }
-        requires image { length image ≤ 16777216 }
-        requires counter { self.old.state.version.counter < 2147483647 }
+        requires image { length image ≤ MAX_IMAGE }
+        requires counter { self.old.state.version.counter < MAX_COUNTER }
         ensures made { OnOk result (node_of self.new ≡ model.Up (committed (up_server self.old) self.old.state.progress image)) }
         ensures put { OnOk result (out.new ≡ outputs.Announce (next_version self.old.state.version) ∷ outputs.Reply id (Reply.Ok answer) ∷ []) }
         ensures steps { OnOk result (D.steps self.new.disk ≡ D.steps self.old.disk + 4) }

@@ -40,7 +40,7 @@ impl Outputs {
 
     /// Takes the first output; none where the list is empty.
     pub fn take(&mut self) -> Option<Output>
-        ensures taken { self.old ≡ option_to_list result ++ self.new }
+        ensures first { self.old ≡ option_to_list result ++ self.new }
         ensures none { IsNone result → self.old ≡ [] }
     {
         self.list.pop_front()

@@ -1,5 +1,7 @@
 //! What a server keeps between two steps, apart from its disk, and the rules of votes, which change it alone.
 ghost use Rattle.std.specs.Prelude.{◌≡◌, ◌≤◌, ◌<◌, Bool, List, length, IsTrue, Some, []};
+ghost use Rattle.ubik_types.specs.declared.limits.TheConstants.{MAX_IMAGE};
+ghost use Rattle.ubik_types.specs.declared.versions.TheConstants.{MAX_COUNTER};
 ghost use Rattle.ubik_types.specs.Moment.{IsMoment};
 ghost use Rattle.db_image.specs.Database.{Database};
 ghost use Rattle.cell_model.specs.Lapse.{lapsed, no_quorum};
@@ -31,9 +33,9 @@ pub struct State {
     ghost place: { me < length cell },
     ghost voters: { votes.servers ≡ length cell },
     ghost voter: { votes.me ≡ me },
-    ghost epoch_fits: { version.epoch ≤ 2147483647 },
-    ghost counter_fits: { version.counter ≤ 2147483647 },
-    ghost image_fits: { length image ≤ 16777216 },
+    ghost epoch_fits: { version.epoch ≤ MAX_COUNTER },
+    ghost counter_fits: { version.counter ≤ MAX_COUNTER },
+    ghost image_fits: { length image ≤ MAX_IMAGE },
     // Recovery is built for a cell of one.
     ghost alone: { IsTrue (is_held progress) → length cell ≡ 1 },
 }

@@ -6,7 +6,7 @@ use Rattle.ubik_node.proofs.nodes.Node.ask.Goals as goal
 pub returns-in-Read-clause-done : goal.returns-in-Read-clause-done
 returns-in-Read-clause-done g c = λ ended.
     let db = g.V.Service.database in
-    answers_at db _ _ c.args.now c.args.id c.args.call.now _ _ _ _ _ _ (up_if _ _ _ c.requires.whole) c.put_reply-in-Read.ensures.out
+    answers_at db _ _ c.args.now c.args.id c.args.call.now _ _ _ _ _ _ (up_if _ _ _ c.requires.not_halted) c.put_reply-in-Read.ensures.out
     (answered_read db _ _ c.args.now c.args.id c.args.call.now c.in-Some.writes c.read-reply.result (g.D.Disk.steps c.args.self.now.disk) (sym c.in-Some.ensures)
     (λ short. c.in-Read.ensures.turn db c.args.id c.args.call.now short) c.read-reply.ensures)
 

@@ -20,14 +20,14 @@ pub returns-in-Rest-clause-step : goal.returns-in-Rest-clause-step
 returns-in-Rest-clause-step g c =
     let st = c.args.self.now.state in
     let db = g.V.Service.database in
-    steps_at db (member_of st) Done RecoverTurn RecoverTurn (server_of st) c.args.now _ _ _ _ _ _ (up_if _ _ _ c.requires.whole) (up_if _ _ _ c.requires.whole) refl
+    steps_at db (member_of st) Done RecoverTurn RecoverTurn (server_of st) c.args.now _ _ _ _ _ _ (up_if _ _ _ c.requires.not_halted) (up_if _ _ _ c.requires.not_halted) refl
     ([], rest_made (step_of db (member_of st) (server_of st) c.args.now RecoverTurn []) (server_of st) c.in-Rest.progress _ _ (planned_step db st c.args.now (plan.Rest c.in-Rest.progress) c.requires.alone st.place c.in-Rest.ensures) c.requires.empty)
 
 pub returns-in-Ok-clause-step : goal.returns-in-Ok-clause-step
 returns-in-Ok-clause-step g c =
     let st = c.args.self.now.state in
     let db = g.V.Service.database in
-    steps_at db (member_of st) Done RecoverTurn RecoverTurn (server_of st) c.args.now _ _ _ _ _ _ (up_if _ _ _ c.requires.whole) (up_if _ _ _ c.requires.whole) refl (
+    steps_at db (member_of st) Done RecoverTurn RecoverTurn (server_of st) c.args.now _ _ _ _ _ _ (up_if _ _ _ c.requires.not_halted) (up_if _ _ _ c.requires.not_halted) refl (
       [],
       relabel_made (step_of db (member_of st) (server_of st) c.args.now RecoverTurn []) (server_of st) c.in-Relabel.poll c.args.now _ _ _ (planned_step db st c.args.now (plan.Relabel c.in-Relabel.poll) c.requires.alone st.place c.in-Relabel.ensures)
           (c.put.ensures ∙ ap (λ (o : List Output). o ++ output.Announce (first_of_epoch c.args.now) ∷ []) c.requires.empty) c.in-Ok.ensures.steps,

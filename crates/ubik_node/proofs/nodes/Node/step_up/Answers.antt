@@ -10,14 +10,14 @@ pub returns-in-Packet-clause-step : goal.returns-in-Packet-clause-step
 returns-in-Packet-clause-step g c =
     let st = c.args.self.now.state in
     let db = g.V.Service.database in
-    steps_at db (member_of st) Done c.args.event.now (Packet c.in-Packet.packet) (server_of st) c.args.now _ _ _ _ _ _ (up_if _ _ _ c.requires.whole) (up_if _ _ _ c.requires.whole) c.in-Packet.is
+    steps_at db (member_of st) Done c.args.event.now (Packet c.in-Packet.packet) (server_of st) c.args.now _ _ _ _ _ _ (up_if _ _ _ c.requires.not_halted) (up_if _ _ _ c.requires.not_halted) c.in-Packet.is
     ([], packet_step db st c.lapse.new.self (server_of c.receive.new.self) c.args.now c.in-Packet.packet c.receive.new.out _ c.lapse.ensures.rests c.lapse.ensures.kept.member (c.receive.ensures.shows db []))
 
 pub returns-in-BeaconTurn-clause-step : goal.returns-in-BeaconTurn-clause-step
 returns-in-BeaconTurn-clause-step g c =
     let st = c.args.self.now.state in
     let db = g.V.Service.database in
-    steps_at db (member_of st) Done c.args.event.now BeaconTurn (server_of st) c.args.now _ _ _ _ _ _ (up_if _ _ _ c.requires.whole) (up_if _ _ _ c.requires.whole) c.in-BeaconTurn.is
+    steps_at db (member_of st) Done c.args.event.now BeaconTurn (server_of st) c.args.now _ _ _ _ _ _ (up_if _ _ _ c.requires.not_halted) (up_if _ _ _ c.requires.not_halted) c.in-BeaconTurn.is
     ([], beacon_step db st c.lapse-in-BeaconTurn.new.self (server_of c.beacon_turn.new.self) c.args.now c.beacon_turn.new.out _ c.lapse-in-BeaconTurn.ensures.rests c.lapse-in-BeaconTurn.ensures.kept.member c.beacon_turn.ensures.shows)
 
 pub returns-in-Ask-clause-step : goal.returns-in-Ask-clause-step
@@ -27,7 +27,7 @@ returns-in-Ask-clause-step g c =
     let before = g.D.Disk.steps c.args.self.now.disk in
     let after = g.D.Disk.steps c.ask.new.self.disk in
     let then = node_of c.ask.new.self in
-    steps_at db (member_of st) c.ask.result c.args.event.now (Ask c.in-Ask.id c.as_slice.result.now) (server_of st) c.args.now _ then then c.ask.new.out before after (up_if _ _ _ c.requires.whole) refl
+    steps_at db (member_of st) c.ask.result c.args.event.now (Ask c.in-Ask.id c.as_slice.result.now) (server_of st) c.args.now _ then then c.ask.new.out before after (up_if _ _ _ c.requires.not_halted) refl
     (c.in-Ask.is ∙ ap (λ (call : List ℕ). Ask c.in-Ask.id call) (sym c.as_slice.ensures))
     (asked_step db c.ask.result st c.lapse-in-Ask.new.self c.args.now c.in-Ask.id c.as_slice.result.now then c.ask.new.out before after c.lapse-in-Ask.ensures.rests c.lapse-in-Ask.ensures.kept.member c.lapse-in-Ask.ensures.serving
-    c.ask.ensures.done c.ask.ensures.halted c.ask.ensures.serving c.ask.ensures.told)
+    c.ask.ensures.done c.ask.ensures.halted c.ask.ensures.serving c.ask.ensures.memory)
