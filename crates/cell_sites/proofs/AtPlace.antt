@@ -15,7 +15,7 @@ use Rattle.cell_sites.specs.declared.sites.Server.{Server}
 use Rattle.cell_sites.specs.declared.sites.Server.TheVariants as server
 use Rattle.cell_sites.specs.Disks.{Held, AreRises}
 use Rattle.cell_sites.specs.Places.{ticked_on}
-use Rattle.cell_sites.specs.Sites.{AreSitesOf, IsSiteOf, StandsFor, server_node}
+use Rattle.cell_sites.specs.Sites.{AreSitesOf, IsSiteOf, IsModelledBy, server_node}
 use Rattle.cell_sites.specs.Sound.{AreSound, IsSound, IsSoundSite, clocks_in}
 use Rattle.cell_sites.specs.declared.sites.Site.{Site}
 
@@ -128,7 +128,7 @@ rises_same before after same = subst (λ (l : List Held). AreRises 0 [] before l
 pub site_there : {X : Type 0} (xs : List X) (k : ℕ) (x : X) → k < length xs → x ≡ get_or xs k x → slice_get xs k ≡ Some x
 site_there xs k x less is = slice_get_read xs (length xs) k x refl less is
 
-pub down_at : {D V : Type 0} (running : OpenCell D V) (c : Cell) (k : ℕ) (site : Site D V) (disk : D) → StandsFor running c → slice_get running.sites.items k ≡ Some site → site.server ≡ server.Down disk → is_down_at c k ≡ true
+pub down_at : {D V : Type 0} (running : OpenCell D V) (c : Cell) (k : ℕ) (site : Site D V) (disk : D) → IsModelledBy running c → slice_get running.sites.items k ≡ Some site → site.server ≡ server.Down disk → is_down_at c k ≡ true
 down_at {D} {V} running c k site disk stands there is =
     let at = site_at running.sites.items c.run.world.sites k site stands.sites there in
     ap (λ (o : Option ModelSite). is_down (node_in o)) at.there ∙ ap is_down (at.is.node ∙ ap (λ (s : Server D V). server_node s) is)
@@ -137,13 +137,13 @@ is_up : (halted : Bool) (u : model.Server) → is_down (if halted then model.Hal
 is_up true u = refl
 is_up false u = refl
 
-pub up_at : {D V : Type 0} (running : OpenCell D V) (c : Cell) (k : ℕ) (site : Site D V) (n : Node D V) → StandsFor running c → slice_get running.sites.items k ≡ Some site → site.server ≡ server.Up n → is_down_at c k ≡ false
+pub up_at : {D V : Type 0} (running : OpenCell D V) (c : Cell) (k : ℕ) (site : Site D V) (n : Node D V) → IsModelledBy running c → slice_get running.sites.items k ≡ Some site → site.server ≡ server.Up n → is_down_at c k ≡ false
 up_at {D} {V} running c k site n stands there is =
     let at = site_at running.sites.items c.run.world.sites k site stands.sites there in
     ap (λ (o : Option ModelSite). is_down (node_in o)) at.there ∙ ap is_down (at.is.node ∙ ap (λ (s : Server D V). server_node s) is)
     ∙ is_up n.halted (up_server n)
 
-pub cell_size : {D V : Type 0} (files : D → Option Files) (faults : D → ℕ) (bound : ℕ) (running : OpenCell D V) (c : Cell) → IsSound files faults bound running → StandsFor running c → cell_size_of c ≡ length running.sites.items
+pub cell_size : {D V : Type 0} (files : D → Option Files) (faults : D → ℕ) (bound : ℕ) (running : OpenCell D V) (c : Cell) → IsSound files faults bound running → IsModelledBy running c → cell_size_of c ≡ length running.sites.items
 cell_size files faults bound running c sound stands =
     ap (λ (l : List Host). length l) (stands.hosts ∙ sound.hosts) ∙ length-hosts_of (length running.sites.items)
 

@@ -25,7 +25,7 @@ use Rattle.cell_sites.specs.declared.sites.Server.TheVariants.{Down}
 use Rattle.cell_sites.specs.declared.sites.Site.{Site}
 use Rattle.cell_sites.specs.Disks.{Held, AreReadBy, AreRises}
 use Rattle.cell_sites.specs.Places.{IsDownAt}
-use Rattle.cell_sites.specs.Sites.{StandsFor, helds}
+use Rattle.cell_sites.specs.Sites.{IsModelledBy, helds}
 use Rattle.cell_sites.specs.Sound.{IsSound}
 use Rattle.cell_sites.specs.Told.{CellTold, IsShort, IsShortAfter}
 use Rattle.cell_sites.specs.Traffic.{Traffic, dropped_all, handed_over, sent_all}
@@ -43,7 +43,7 @@ with_packets running p = record running { packets = p }
 abbrev pub with_handed : Cell → List Bool → Cell
 with_handed c handed = record c { handed = handed }
 
-pub stands_with : {D V : Type 0} (running : OpenCell D V) (c : Cell) (p : Traffic) (handed : List Bool) → StandsFor running c → p.sent ≡ running.packets.sent → handed ≡ p.handed → StandsFor (with_packets running p) (with_handed c handed)
+pub stands_with : {D V : Type 0} (running : OpenCell D V) (c : Cell) (p : Traffic) (handed : List Bool) → IsModelledBy running c → p.sent ≡ running.packets.sent → handed ≡ p.handed → IsModelledBy (with_packets running p) (with_handed c handed)
 stands_with running c p handed stands sent is =
     record { hosts = stands.hosts; sites = stands.sites; sent = stands.sent ∙ sym sent; handed = is; unarmed = stands.unarmed }
 
@@ -89,7 +89,7 @@ set_same {X} (y ∷ xs) (suc k) x there = ap (λ (l : List X). y ∷ l) (set_sam
 
 -- ---- a server that is down loses the packet
 
-pub lost : {D V : Type 0} (files : D → Option Files) (faults : D → ℕ) (script_db : ScriptDatabase) (running : OpenCell D V) (c : Cell) (number k : ℕ) (p : Packet) (text_before text_after : List ℕ) → StandsFor running c → (down : IsDownAt running k)
+pub lost : {D V : Type 0} (files : D → Option Files) (faults : D → ℕ) (script_db : ScriptDatabase) (running : OpenCell D V) (c : Cell) (number k : ℕ) (p : Packet) (text_before text_after : List ℕ) → IsModelledBy running c → (down : IsDownAt running k)
     → occasion c.run.world (Delivery number) ≡ Some (k, event.Packet p) → text_after ≡ text_before ++ item_text script_db running.hosts.items (Tells (Lost number))
     → CellTold files faults script_db (λ choices. Ok (stepped script_db c (first_choice choices) (Delivery number))) None running running text_before text_after
 lost {D} {V} files faults script_db running c number k p tb ta stands down o told =
@@ -111,10 +111,10 @@ lost {D} {V} files faults script_db running c number k p tb ta stands down o tol
 
 -- the cell from which a packet is handed over, and where it goes
 pub record HandedOver {D V : Type 0} (running : OpenCell D V) (c : Cell) (p : Traffic) (number k : ℕ) (packet : Packet) : Type 0 where
-  pub stands : StandsFor (with_packets running p) (with_handed c (set c.handed (number - 1) true))
+  pub stands : IsModelledBy (with_packets running p) (with_handed c (set c.handed (number - 1) true))
   pub goes : occasion c.run.world (Delivery number) ≡ Some (k, event.Packet packet)
 
-pub handed_cell : {D V : Type 0} (running : OpenCell D V) (c : Cell) (p : Traffic) (number k : ℕ) (packet sent : Packet) → StandsFor running c → p ≡ handed_over running.packets number → 0 < number → slice_get p.sent (number - 1) ≡ Some sent → packet ≡ sent → place_of running.hosts.items packet.to ≡ Some k
+pub handed_cell : {D V : Type 0} (running : OpenCell D V) (c : Cell) (p : Traffic) (number k : ℕ) (packet sent : Packet) → IsModelledBy running c → p ≡ handed_over running.packets number → 0 < number → slice_get p.sent (number - 1) ≡ Some sent → packet ≡ sent → place_of running.hosts.items packet.to ≡ Some k
     → HandedOver running c p number k packet
 handed_cell running c p number k packet sent stands is some there same place =
     record {

@@ -10,7 +10,7 @@ use Rattle.cell_model.specs.Step.{host_at}
 use Rattle.cell_runs.specs.Script.{Cell, Choice, Run_or_why, dropped_of, resting}
 use Rattle.cell_runs.specs.ScriptDatabase.{ScriptDatabase}
 use Rattle.cell_sites.specs.Places.{IsUpAt}
-use Rattle.cell_sites.specs.Sites.{StandsFor, helds}
+use Rattle.cell_sites.specs.Sites.{IsModelledBy, helds}
 use Rattle.cell_sites.specs.Sound.{IsSound}
 use Rattle.cell_sites.specs.Told.{CellTold}
 use Rattle.cell_sites.specs.Traffic.{Traffic, dropped_all, handed_over}
@@ -22,7 +22,7 @@ use Rattle.cell_sites.proofs.Soundly.{host_count}
 abbrev pub with_packets : {D V : Type 0} → OpenCell D V → Traffic → OpenCell D V
 with_packets running packets = record running { packets = packets }
 
-pub packets_told : {D V : Type 0} (files : D → Option Files) (faults : D → ℕ) (db : ScriptDatabase) (running : OpenCell D V) (c : Cell) (packets : Traffic) (handed : List Bool) (run : List Choice → Run_or_why) (text : List ℕ) → ((choices : List Choice) → run choices ≡ Ok (resting (record c { handed = handed }))) → packets.sent ≡ running.packets.sent → packets.handed ≡ handed → StandsFor running c → CellTold files faults db run None running (with_packets running packets) text text
+pub packets_told : {D V : Type 0} (files : D → Option Files) (faults : D → ℕ) (db : ScriptDatabase) (running : OpenCell D V) (c : Cell) (packets : Traffic) (handed : List Bool) (run : List Choice → Run_or_why) (text : List ℕ) → ((choices : List Choice) → run choices ≡ Ok (resting (record c { handed = handed }))) → packets.sent ≡ running.packets.sent → packets.handed ≡ handed → IsModelledBy running c → CellTold files faults db run None running (with_packets running packets) text text
 packets_told files faults db running c packets handed run text does sent same stands =
     record {
       choices = [];
@@ -41,14 +41,14 @@ packets_told files faults db running c packets handed run text does sent same st
     }
 
 -- one packet
-pub one_handed : {D V : Type 0} (running : OpenCell D V) (c : Cell) (packets : Traffic) (n number : ℕ) → packets ≡ handed_over running.packets n → n ≡ number → StandsFor running c → packets.handed ≡ set c.handed (number - 1) true
+pub one_handed : {D V : Type 0} (running : OpenCell D V) (c : Cell) (packets : Traffic) (n number : ℕ) → packets ≡ handed_over running.packets n → n ≡ number → IsModelledBy running c → packets.handed ≡ set c.handed (number - 1) true
 one_handed running c packets n number is same stands =
     ap (λ (t : Traffic). t.handed) is
     ∙ ap (λ (m : ℕ). set running.packets.handed (m - 1) true) same
     ∙ ap (λ (l : List Bool). set l (number - 1) true) (sym stands.handed)
 
 -- the packets of one host
-pub host_handed : {D V : Type 0} (running : OpenCell D V) (c : Cell) (packets : Traffic) (k : ℕ) (host : Host) → packets ≡ dropped_all running.packets host → slice_get running.hosts.items k ≡ Some host → StandsFor running c → packets.handed ≡ dropped_of (host_at c.run.world.hosts k) c.run.world.packets c.handed
+pub host_handed : {D V : Type 0} (running : OpenCell D V) (c : Cell) (packets : Traffic) (k : ℕ) (host : Host) → packets ≡ dropped_all running.packets host → slice_get running.hosts.items k ≡ Some host → IsModelledBy running c → packets.handed ≡ dropped_of (host_at c.run.world.hosts k) c.run.world.packets c.handed
 host_handed running c packets k host is there stands =
     let at : host_at c.run.world.hosts k ≡ host =
     ap (λ (l : List Host). host_at l k) stands.hosts ∙ ap (λ (o : Option Host). unwrap_or o (record { 0 = 0 })) there in

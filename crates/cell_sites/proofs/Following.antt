@@ -11,7 +11,7 @@ use Rattle.cell_runs.specs.Script.{Cell, Cell_run, Choice, Run_or_why, all_deliv
 use Rattle.cell_runs.specs.Trace.{TraceItem, trace, item_text, fault_count}
 use Rattle.cell_sites.specs.declared.cells.OpenCell.{OpenCell}
 use Rattle.cell_sites.specs.Disks.{Held, AreReadBy, AreRises}
-use Rattle.cell_sites.specs.Sites.{StandsFor, helds}
+use Rattle.cell_sites.specs.Sites.{IsModelledBy, helds}
 use Rattle.cell_sites.specs.Sound.{IsSound}
 use Rattle.cell_sites.specs.Told.{CellTold, IsShort}
 use Rattle.cell_sites.proofs.Opening.{count_append}
@@ -42,7 +42,7 @@ joined items more r = ap (λ (l : List TraceItem). record r { items = l }) (sym 
 -- what was delivered so far, with some choices: what it comes to in all is that, and then what it comes to from here with so much fuel
 pub record SoFar {D V : Type 0} (files : D → Option Files) (faults : D → ℕ) (script_db : ScriptDatabase) (most fuel : ℕ) (c : Cell) (start now : OpenCell D V) (text_before text : List ℕ) : Type 0 where
   pub cell : Cell
-  pub stands : StandsFor now cell
+  pub stands : IsModelledBy now cell
   pub items : List TraceItem
   pub done : List Choice
   pub is : (more : List Choice) → all_delivered script_db most c (done ++ more) (first_waiting 1 c.handed) ≡ joined_run items (all_delivered script_db fuel cell more (first_waiting 1 cell.handed))
@@ -51,7 +51,7 @@ pub record SoFar {D V : Type 0} (files : D → Option Files) (faults : D → ℕ
   pub hosts : now.hosts.items ≡ start.hosts.items
 
 pub record Follows {D V : Type 0} (files : D → Option Files) (faults : D → ℕ) (script_db : ScriptDatabase) (most fuel : ℕ) (start now : OpenCell D V) (text_before text : List ℕ) : Type 0 where
-  pub runs : (c : Cell) → StandsFor start c → SoFar files faults script_db most fuel c start now text_before text
+  pub runs : (c : Cell) → IsModelledBy start c → SoFar files faults script_db most fuel c start now text_before text
   pub sound : (bound : ℕ) → IsSound files faults bound start → IsSound files faults bound now
   pub rises : AreRises 0 [] (helds files faults start) (helds files faults now)
   pub same : length now.sites.items ≡ length start.sites.items
@@ -100,7 +100,7 @@ module _ {D V : Type 0} (files : D → Option Files) (faults : D → ℕ) (scrip
       ∙ ap (λ (l : List ℕ). tb ++ l) (sym (trace-append script_db start.hosts.items so.items told.ran.items))
 
   -- the script goes on
-  pub goes_on : ended ≡ None → StandsFor later told.ran.cell → later.hosts.items ≡ now.hosts.items → SoFar files faults script_db most fuel c start later tb after
+  pub goes_on : ended ≡ None → IsModelledBy later told.ran.cell → later.hosts.items ≡ now.hosts.items → SoFar files faults script_db most fuel c start later tb after
   goes_on none stands hosts =
       record {
         cell = told.ran.cell;
@@ -169,11 +169,11 @@ pub same_hosts : {D V : Type 0} (files : D → Option Files) (faults : D → ℕ
 same_hosts files faults bound other now later sound sounds same = sounds.hosts ∙ ap hosts_of same ∙ sym sound.hosts
 
 module _ {D V : Type 0} (files : D → Option Files) (faults : D → ℕ) (script_db : ScriptDatabase) (most n fuel bound : ℕ) (start now later : OpenCell D V) (tb text after : List ℕ) (follows : Follows files faults script_db most n start now tb text) (less : n ≡ suc fuel) (sound : IsSound files faults bound start) (number : ℕ) (waits : first_waiting 1 now.packets.handed ≡ Some number) where
-  before : (c : Cell) → StandsFor start c → SoFar files faults script_db most (suc fuel) c start now tb text
+  before : (c : Cell) → IsModelledBy start c → SoFar files faults script_db most (suc fuel) c start now tb text
   before c stands = subst (λ (m : ℕ). SoFar files faults script_db most m c start now tb text) less (follows.runs c stands)
 
   -- one more packet was handed over
-  pub follows_more : ((c : Cell) → StandsFor now c → CellTold files faults script_db (λ choices. Ok (delivered script_db c (first_choice choices) number)) None now later text after)
+  pub follows_more : ((c : Cell) → IsModelledBy now c → CellTold files faults script_db (λ choices. Ok (delivered script_db c (first_choice choices) number)) None now later text after)
       → ((b : ℕ) → IsSound files faults b now → IsSound files faults b later) → AreRises 0 [] (helds files faults now) (helds files faults later) → length later.sites.items ≡ length now.sites.items
       → ((sites : List ModelSite) → AreReadBy sites (helds files faults now) → AreReadBy sites (helds files faults later))
       → Follows files faults script_db most fuel start later tb after
@@ -191,7 +191,7 @@ module _ {D V : Type 0} (files : D → Option Files) (faults : D → ℕ) (scrip
       }
 
   -- the next one passes a limit
-  pub limit_there : (c : Cell) → StandsFor start c → (ending : Ending) → ((d : Cell) → StandsFor now d → CellTold files faults script_db (λ choices. Ok (delivered script_db d (first_choice choices) number)) (Some ending) now later text after)
+  pub limit_there : (c : Cell) → IsModelledBy start c → (ending : Ending) → ((d : Cell) → IsModelledBy now d → CellTold files faults script_db (λ choices. Ok (delivered script_db d (first_choice choices) number)) (Some ending) now later text after)
       → CellTold files faults script_db (λ choices. Ok (all_delivered script_db most c choices (first_waiting 1 c.handed))) (Some ending) start later tb after
   limit_there c stands ending told =
       let so = before c stands in
@@ -200,7 +200,7 @@ module _ {D V : Type 0} (files : D → Option Files) (faults : D → ℕ) (scrip
 
 -- none waits any more
 pub all_followed : {D V : Type 0} (files : D → Option Files) (faults : D → ℕ) (script_db : ScriptDatabase) (most fuel : ℕ) (start now : OpenCell D V) (tb text : List ℕ) → Follows files faults script_db most fuel start now tb text
-    → first_waiting 1 now.packets.handed ≡ None → (c : Cell) → StandsFor start c
+    → first_waiting 1 now.packets.handed ≡ None → (c : Cell) → IsModelledBy start c
     → CellTold files faults script_db (λ choices. Ok (all_delivered script_db most c choices (first_waiting 1 c.handed))) None start now tb text
 all_followed files faults script_db most fuel start now tb text follows none c stands =
     let so = follows.runs c stands in
@@ -208,7 +208,7 @@ all_followed files faults script_db most fuel start now tb text follows none c s
 
 -- as many were handed over as a script may send
 pub fuel_followed : {D V : Type 0} (files : D → Option Files) (faults : D → ℕ) (script_db : ScriptDatabase) (most fuel : ℕ) (start now : OpenCell D V) (tb text : List ℕ) → Follows files faults script_db most fuel start now tb text
-    → fuel ≡ zero → (c : Cell) → StandsFor start c
+    → fuel ≡ zero → (c : Cell) → IsModelledBy start c
     → CellTold files faults script_db (λ choices. Ok (all_delivered script_db most c choices (first_waiting 1 c.handed))) None start now tb text
 fuel_followed files faults script_db most fuel start now tb text follows none c stands =
     let so = follows.runs c stands in
@@ -217,6 +217,6 @@ fuel_followed files faults script_db most fuel start now tb text follows none c 
 -- memory ran out in the next one
 pub short_there : {D V : Type 0} (files : D → Option Files) (faults : D → ℕ) (script_db : ScriptDatabase) (most fuel bound : ℕ) (start now later : OpenCell D V) (tb text : List ℕ) → Follows files faults script_db most fuel start now tb text
     → IsSound files faults bound start → ((sites : List ModelSite) → AreReadBy sites (helds files faults now) → AreReadBy sites (helds files faults later))
-    → (run : List Choice → Run_or_why) (c : Cell) → StandsFor start c → IsShort files faults run c start later
+    → (run : List Choice → Run_or_why) (c : Cell) → IsModelledBy start c → IsShort files faults run c start later
 short_there files faults script_db most fuel bound start now later tb text follows sound keeps run c stands =
     inl (keeps c.run.world.sites (follows.keeps c.run.world.sites (cell_reads files faults bound start c sound stands)))

@@ -32,7 +32,7 @@ use Rattle.cell_sites.specs.declared.cells.OpenCell.{OpenCell}
 use Rattle.cell_sites.specs.declared.sites.Server.TheVariants.{Up}
 use Rattle.cell_sites.specs.declared.sites.Site.{Site}
 use Rattle.cell_sites.specs.Disks.{IsReadBy, AreReadBy, AreRises, ReadsNode, held}
-use Rattle.cell_sites.specs.Sites.{AreSitesOf, IsSiteOf, StandsFor, helds, server_node, site_disk}
+use Rattle.cell_sites.specs.Sites.{AreSitesOf, IsSiteOf, IsModelledBy, helds, server_node, site_disk}
 use Rattle.cell_sites.specs.Sound.{IsSound}
 use Rattle.cell_sites.specs.Stepped.{NodeStepped, SiteStepped, member_at, up_site}
 use Rattle.cell_sites.specs.Telling.{IsNotShort, MayBeTold, Telling, TellingRun, WholeTold, halt_marks, told_of}
@@ -149,7 +149,7 @@ module _ {D V : Type 0} (files : D → Option Files) (faults : D → ℕ) (scrip
       sound_after files faults other before after k ss.clock ss.node ss.later (filter_map packet_in mid.outputs) still ss.there ss.step.sound all_sites (hosts ∙ ss.hosts)
       (packets ∙ ap (λ (t : Traffic). sent_all t (filter_map packet_in mid.outputs)) ss.packets) votes empty
 
-  module _ (c : Cell) (stands : StandsFor before c) (trigger : Trigger) (o : occasion c.run.world trigger ≡ Some (k, e)) where
+  module _ (c : Cell) (stands : IsModelledBy before c) (trigger : Trigger) (o : occasion c.run.world trigger ≡ Some (k, e)) where
     -- the step as a line
     abbrev steps_so : List Choice → Run_or_why
     steps_so choices = Ok (stepped script_db c (first_choice choices) trigger)

@@ -5,13 +5,13 @@ use Rattle.cell_runs.specs.declared.endings.Ending.{Ending}
 use Rattle.cell_runs.specs.ScriptDatabase.{ScriptDatabase}
 use Rattle.cell_runs.specs.Script.{Cell, Choice, Run_or_why, cell_size_of}
 use Rattle.cell_sites.specs.declared.cells.OpenCell.{OpenCell}
-use Rattle.cell_sites.specs.Sites.{StandsFor}
+use Rattle.cell_sites.specs.Sites.{IsModelledBy}
 use Rattle.cell_sites.specs.Sound.{IsSound}
 use Rattle.cell_sites.specs.Told.{CellTold, IsShort, IsShortAfter}
 use Rattle.cell_sites.proofs.Soundly.{host_count}
 
 -- how many servers the cell has that it stands for
-pub size_of : {D V : Type 0} (files : D → Option Files) (faults : D → ℕ) (bound : ℕ) (running : OpenCell D V) (c : Cell) → IsSound files faults bound running → StandsFor running c → cell_size_of c ≡ length running.sites.items
+pub size_of : {D V : Type 0} (files : D → Option Files) (faults : D → ℕ) (bound : ℕ) (running : OpenCell D V) (c : Cell) → IsSound files faults bound running → IsModelledBy running c → cell_size_of c ≡ length running.sites.items
 size_of files faults bound running c sound stands = ap length stands.hosts ∙ host_count files faults bound running sound
 
 module _ {D V : Type 0} (files : D → Option Files) (faults : D → ℕ) (line run : List Choice → Run_or_why) (is : (choices : List Choice) → line choices ≡ run choices) where

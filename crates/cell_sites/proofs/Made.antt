@@ -26,7 +26,7 @@ use Rattle.ubik_node.specs.declared.nodes.StepEnd.{StepEnd}
 use Rattle.ubik_node.specs.declared.nodes.StepEnd.TheVariants.{Done, Halted, NoMemory}
 use Rattle.ubik_node.specs.Node.{Makes, Steps, node_of, up_server}
 use Rattle.cell_sites.specs.declared.cells.OpenCell.{OpenCell}
-use Rattle.cell_sites.specs.Sites.{IsSiteOf, StandsFor}
+use Rattle.cell_sites.specs.Sites.{IsSiteOf, IsModelledBy}
 use Rattle.cell_sites.specs.Sound.{IsSoundNode}
 use Rattle.cell_sites.specs.Stepped.{NodeStepped, member_at, up_site}
 use Rattle.cell_sites.proofs.Agreeing.{AreMarks}
@@ -82,7 +82,7 @@ refusals_rest event.BeaconTurn hosts = All-nil _
 refusals_rest event.RecoverTurn hosts = All-nil _
 refusals_rest (event.Ask id call) hosts = All-nil _
 
-module _ {D V : Type 0} (files : D → Option Files) (faults : D → ℕ) (script_db : ScriptDatabase) (before : OpenCell D V) (c : Cell) (stands : StandsFor before c) (law : VotersVote) (k : ℕ) (e : NodeEvent) (trigger : Trigger) (o : occasion c.run.world trigger ≡ Some (k, e)) (site : ModelSite) (there : slice_get c.run.world.sites k ≡ Some site) (call : List ℕ) (clock : ℕ) (node later : Node D V) (clocks : site.clock ≡ clock) (stood : site.node ≡ node_of node) (me : k < length before.hosts.items) (taken : IsTaken (member_at before k) e) (asks : AsksNoOther e call) (was : IsSoundNode files faults (member_at before k) clock node) where
+module _ {D V : Type 0} (files : D → Option Files) (faults : D → ℕ) (script_db : ScriptDatabase) (before : OpenCell D V) (c : Cell) (stands : IsModelledBy before c) (law : VotersVote) (k : ℕ) (e : NodeEvent) (trigger : Trigger) (o : occasion c.run.world trigger ≡ Some (k, e)) (site : ModelSite) (there : slice_get c.run.world.sites k ≡ Some site) (call : List ℕ) (clock : ℕ) (node later : Node D V) (clocks : site.clock ≡ clock) (stood : site.node ≡ node_of node) (me : k < length before.hosts.items) (taken : IsTaken (member_at before k) e) (asks : AsksNoOther e call) (was : IsSoundNode files faults (member_at before k) clock node) where
   -- the server in its cell, as the model has it
   same_member : member c.run.world k ≡ member_at before k
   same_member = ap (λ (hosts : List Host). record { hosts = hosts; me = k }) stands.hosts

@@ -21,7 +21,7 @@ use Rattle.cell_runs.specs.declared.traces.Mark.TheVariants as mark
 use Rattle.cell_sites.specs.Disks.{Held, AreRises, all_held, held}
 use Rattle.cell_sites.specs.Opened.{ArePartOpened, HasRoom, IsAdded, IsOpened, opening_items}
 use Rattle.cell_sites.specs.OpenedServer.{IsEmptied, ServerOpened}
-use Rattle.cell_sites.specs.Sites.{AreSitesOf, StandsFor, helds, server_disk, site_disk}
+use Rattle.cell_sites.specs.Sites.{AreSitesOf, IsModelledBy, helds, server_disk, site_disk}
 use Rattle.cell_sites.specs.Sound.{AreSound, IsSoundNode, IsSoundServer, IsSoundSite}
 use Rattle.cell_sites.specs.Traffic.{Traffic}
 use Rattle.cell_sites.specs.declared.cells.OpenCell.{OpenCell}
@@ -115,7 +115,7 @@ all_opened {D} {V} files faults db clock k given running before after room same 
     let near : are_near (clocks_of ss) ≡ true = near_make (clocks_of ss) (near_same (clocks_of ss) clock (first_clock (length hosts) clock failed)) in
     record {
       choices = choices;
-      stands = subst (λ (f : List Bool). StandsFor running (opened_cell n clock k f)) (sym is) (record {
+      stands = subst (λ (f : List Bool). IsModelledBy running (opened_cell n clock k f)) (sym is) (record {
         hosts = ap hosts_of same ∙ sym room.hosts;
         sites = subst (λ (m : ℕ). AreSitesOf items (map (first_site m clock) failed)) (sym size) p.sites;
         sent = ap (λ (t : Traffic). t.sent) (sym p.packets);

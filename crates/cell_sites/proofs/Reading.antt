@@ -10,7 +10,7 @@ use Rattle.cell_runs.specs.Script.{Cell}
 use Rattle.ubik_node.specs.Database.{durable_of}
 use Rattle.ubik_node.specs.Node.{up_server}
 use Rattle.cell_sites.specs.Disks.{AreReadBy, IsReadBy, ReadsNode, held}
-use Rattle.cell_sites.specs.Sites.{AreSitesOf, StandsFor, helds, server_disk, server_node, site_disk}
+use Rattle.cell_sites.specs.Sites.{AreSitesOf, IsModelledBy, helds, server_disk, server_node, site_disk}
 use Rattle.cell_sites.specs.Sound.{AreSound, IsSound, IsSoundServer}
 use Rattle.cell_sites.specs.declared.cells.OpenCell.{OpenCell}
 use Rattle.cell_sites.specs.declared.sites.Server.{Server}
@@ -45,6 +45,6 @@ sites_read files faults hosts place bound (site ∷ sites) (s ∷ ss) sound are 
 )
 
 -- between two lines
-pub cell_reads : {D V : Type 0} (files : D → Option Files) (faults : D → ℕ) (bound : ℕ) (running : OpenCell D V) (c : Cell) → IsSound files faults bound running → StandsFor running c → AreReadBy c.run.world.sites (helds files faults running)
+pub cell_reads : {D V : Type 0} (files : D → Option Files) (faults : D → ℕ) (bound : ℕ) (running : OpenCell D V) (c : Cell) → IsSound files faults bound running → IsModelledBy running c → AreReadBy c.run.world.sites (helds files faults running)
 cell_reads files faults bound running c sound stands =
     sites_read files faults running.hosts.items 0 bound running.sites.items c.run.world.sites sound.sites stands.sites

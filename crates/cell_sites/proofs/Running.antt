@@ -13,7 +13,7 @@ use Rattle.cell_runs.specs.Trace.{TraceItem, Tells, trace, fault_count}
 use Rattle.cell_sites.specs.declared.cells.OpenCell.{OpenCell}
 use Rattle.cell_sites.specs.declared.sites.Site.{Site}
 use Rattle.cell_sites.specs.Disks.{Held, held, IsReadBy, AreReadBy, AreRises}
-use Rattle.cell_sites.specs.Sites.{site_disk, helds, AreSitesOf, IsSiteOf, StandsFor}
+use Rattle.cell_sites.specs.Sites.{site_disk, helds, AreSitesOf, IsSiteOf, IsModelledBy}
 use Rattle.cell_sites.specs.Telling.{Telling, TellingRun, told_of}
 use Rattle.cell_sites.specs.Told.{CellTold, IsShort, IsShortAfter}
 use Rattle.cell_sites.specs.Traffic.{Traffic, sent_all}
@@ -65,7 +65,7 @@ module _ {D V : Type 0} (files : D → Option Files) (faults : D → ℕ) where
 
 -- ---- a step
 
-module _ {D V : Type 0} (files : D → Option Files) (faults : D → ℕ) (script_db : ScriptDatabase) (before after : OpenCell D V) (c : Cell) (stands : StandsFor before c) (k : ℕ) (ev : Event) (h : SiteHappened) (run : List Choice → Run_or_why) (choices : List Choice) (is : run choices ≡ Ok (happened c ev (happened_at c.run.world k h))) (marks : AreMarks h.marks) (site later : Site D V) (there : slice_get before.sites.items k ≡ Some site) (sites : after.sites.items ≡ set before.sites.items k later) (rises : faults (site_disk site) + fault_count k (map Tells h.marks) ≤ faults (site_disk later)) (others : (j : ℕ) → j ≢ k → fault_count j (map Tells h.marks) ≡ 0) where
+module _ {D V : Type 0} (files : D → Option Files) (faults : D → ℕ) (script_db : ScriptDatabase) (before after : OpenCell D V) (c : Cell) (stands : IsModelledBy before c) (k : ℕ) (ev : Event) (h : SiteHappened) (run : List Choice → Run_or_why) (choices : List Choice) (is : run choices ≡ Ok (happened c ev (happened_at c.run.world k h))) (marks : AreMarks h.marks) (site later : Site D V) (there : slice_get before.sites.items k ≡ Some site) (sites : after.sites.items ≡ set before.sites.items k later) (rises : faults (site_disk site) + fault_count k (map Tells h.marks) ≤ faults (site_disk later)) (others : (j : ℕ) → j ≢ k → fault_count j (map Tells h.marks) ≡ 0) where
   -- what is seen
   abbrev told_in : Within
   told_in = within (bytes_of c.run.world.packets) (happened_at c.run.world k h).seen

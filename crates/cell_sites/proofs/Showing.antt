@@ -17,7 +17,7 @@ use Rattle.cell_script.specs.declared.lines.Why.{Why}
 use Rattle.cell_sites.specs.declared.faults.LineFault.{LineFault}
 use Rattle.cell_sites.specs.declared.faults.LineFault.TheVariants as fault
 use Rattle.cell_sites.specs.Disks.{Held, AreRises}
-use Rattle.cell_sites.specs.Sites.{StandsFor, helds, server_node}
+use Rattle.cell_sites.specs.Sites.{IsModelledBy, helds, server_node}
 use Rattle.cell_sites.specs.Sound.{IsSound, IsSoundServer}
 use Rattle.cell_sites.specs.Told.{CellTold}
 use Rattle.cell_sites.specs.declared.cells.OpenCell.{OpenCell}
@@ -32,7 +32,7 @@ shows_none : (k j clock : ℕ) (showing : Option Showing) (disks : List Held) �
 shows_none k j clock showing [] = tt
 shows_none k j clock showing (disk ∷ disks) = (omega arith, shows_none (k + 1) j clock showing disks)
 
-shown_is : {D V : Type 0} (running : OpenCell D V) (c : Cell) (k : ℕ) (site : Site D V) (showing : Option Showing) → StandsFor running c → slice_get running.sites.items k ≡ Some site → showing ≡ showing_of (cell_size_of c) (server_node site.server) → shown_site (cell_size_of c) k (site_of c.run.world k) ≡ Shows k site.clock showing ∷ []
+shown_is : {D V : Type 0} (running : OpenCell D V) (c : Cell) (k : ℕ) (site : Site D V) (showing : Option Showing) → IsModelledBy running c → slice_get running.sites.items k ≡ Some site → showing ≡ showing_of (cell_size_of c) (server_node site.server) → shown_site (cell_size_of c) k (site_of c.run.world k) ≡ Shows k site.clock showing ∷ []
 shown_is running c k site showing stands there is =
     let at = site_at running.sites.items c.run.world.sites k site stands.sites there in
     ap (shown_site (cell_size_of c) k) at.there
@@ -40,7 +40,7 @@ shown_is running c k site showing stands there is =
     ∙ ap (λ (n : model.Node). Shows k site.clock (showing_of (cell_size_of c) n) ∷ []) at.is.node
     ∙ ap (λ (o : Option Showing). Shows k site.clock o ∷ []) (sym is)
 
-pub show_told : {D V : Type 0} (files : D → Option Files) (faults : D → ℕ) (db : ScriptDatabase) (running : OpenCell D V) (c : Cell) (k : ℕ) (site : Site D V) (showing : Option Showing) (run : Run_or_why) (hosts : List Host) (before after : List ℕ) → StandsFor running c → slice_get running.sites.items k ≡ Some site → hosts ≡ running.hosts.items → showing ≡ showing_of (cell_size_of c) (server_node site.server) → run ≡ Ok (record { cell = c; items = shown_site (cell_size_of c) k (site_of c.run.world k); ending = None }) → after ≡ before ++ item_text db hosts (Shows k site.clock showing) → CellTold files faults db (λ choices. run) None running running before after
+pub show_told : {D V : Type 0} (files : D → Option Files) (faults : D → ℕ) (db : ScriptDatabase) (running : OpenCell D V) (c : Cell) (k : ℕ) (site : Site D V) (showing : Option Showing) (run : Run_or_why) (hosts : List Host) (before after : List ℕ) → IsModelledBy running c → slice_get running.sites.items k ≡ Some site → hosts ≡ running.hosts.items → showing ≡ showing_of (cell_size_of c) (server_node site.server) → run ≡ Ok (record { cell = c; items = shown_site (cell_size_of c) k (site_of c.run.world k); ending = None }) → after ≡ before ++ item_text db hosts (Shows k site.clock showing) → CellTold files faults db (λ choices. run) None running running before after
 show_told files faults db running c k site showing run hosts before after stands there same is does told =
     let items = shown_is running c k site showing stands there is in
     record {
@@ -67,7 +67,7 @@ showing_up false n u = refl
 mine : {D V : Type 0} (files : D → Option Files) (faults : D → ℕ) (m : Member) (clock : ℕ) (s : Server D V) (n : Node D V) → s ≡ server.Up n → IsSoundServer files faults m clock s → own_member n ≡ m
 mine {D} {V} files faults m clock s n is sound = (subst (λ (t : Server D V). IsSoundServer files faults m clock t) is sound).member
 
-pub shown_up : {D V : Type 0} (files : D → Option Files) (faults : D → ℕ) (bound : ℕ) (running : OpenCell D V) (c : Cell) (k : ℕ) (site : Site D V) (n : Node D V) (showing : Option Showing) → IsSound files faults bound running → StandsFor running c → slice_get running.sites.items k ≡ Some site → site.server ≡ server.Up n → showing ≡ Some (record { version = (up_server n).version; phase = phase_of (up_server n).phase; until = lease_end (member_size (own_member n)) (up_server n).starts; len = length (up_server n).image }) → showing ≡ showing_of (cell_size_of c) (server_node site.server)
+pub shown_up : {D V : Type 0} (files : D → Option Files) (faults : D → ℕ) (bound : ℕ) (running : OpenCell D V) (c : Cell) (k : ℕ) (site : Site D V) (n : Node D V) (showing : Option Showing) → IsSound files faults bound running → IsModelledBy running c → slice_get running.sites.items k ≡ Some site → site.server ≡ server.Up n → showing ≡ Some (record { version = (up_server n).version; phase = phase_of (up_server n).phase; until = lease_end (member_size (own_member n)) (up_server n).starts; len = length (up_server n).image }) → showing ≡ showing_of (cell_size_of c) (server_node site.server)
 shown_up {D} {V} files faults bound running c k site n showing sound stands there is told =
     let u = up_server n in
     let at = sound_at files faults running.hosts.items 0 bound running.sites.items k site sound.sites there in

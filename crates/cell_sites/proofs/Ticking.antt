@@ -16,7 +16,7 @@ use Rattle.cell_runs.specs.Script.{Cell, Run_or_why, hosts_of, unless_skewed, wi
 use Rattle.cell_runs.specs.ScriptDatabase.{ScriptDatabase}
 use Rattle.cell_sites.specs.Disks.{Held, held}
 use Rattle.cell_sites.specs.Places.{IsNearAt, ticked_on}
-use Rattle.cell_sites.specs.Sites.{AreSitesOf, StandsFor, helds, site_disk}
+use Rattle.cell_sites.specs.Sites.{AreSitesOf, IsModelledBy, helds, site_disk}
 use Rattle.cell_sites.specs.Sound.{AreSound, IsSound, IsSoundServer, IsSoundSite, clocks_in}
 use Rattle.cell_sites.specs.Told.{CellTold}
 use Rattle.cell_sites.specs.declared.cells.OpenCell.{OpenCell}
@@ -142,13 +142,13 @@ none_more xs handed =
     let none : length xs - length xs ≡ 0 = omega arith in
     ap (λ (n : ℕ). handed ++ replicate n false) none ∙ append-nil handed
 
-pub tick_sites_of : {D V : Type 0} (running : OpenCell D V) (c : Cell) (k seconds : ℕ) (site : Site D V) → StandsFor running c → slice_get running.sites.items k ≡ Some site → AreSitesOf (ticked_at running k seconds site).sites.items (tick_at c.run.world.sites k seconds)
+pub tick_sites_of : {D V : Type 0} (running : OpenCell D V) (c : Cell) (k seconds : ℕ) (site : Site D V) → IsModelledBy running c → slice_get running.sites.items k ≡ Some site → AreSitesOf (ticked_at running k seconds site).sites.items (tick_at c.run.world.sites k seconds)
 tick_sites_of {D} {V} running c k seconds site stands there =
     let same : get_or running.sites.items k site ≡ site = get_or_from_slice_get running.sites.items k site site there in
     subst (λ (s : Site D V). AreSitesOf (set running.sites.items k (ticked_on seconds s)) (tick_at c.run.world.sites k seconds)) same
     (sites_ticked running.sites.items c.run.world.sites k seconds site stands.sites)
 
-pub tick_stands : {D V : Type 0} (db : ScriptDatabase) (running : OpenCell D V) (c : Cell) (k seconds : ℕ) (site : Site D V) → StandsFor running c → slice_get running.sites.items k ≡ Some site → StandsFor (ticked_at running k seconds site) (with_event db c (Tick k seconds)).cell
+pub tick_stands : {D V : Type 0} (db : ScriptDatabase) (running : OpenCell D V) (c : Cell) (k seconds : ℕ) (site : Site D V) → IsModelledBy running c → slice_get running.sites.items k ≡ Some site → IsModelledBy (ticked_at running k seconds site) (with_event db c (Tick k seconds)).cell
 tick_stands db running c k seconds site stands there =
     record {
       hosts = stands.hosts;
@@ -164,7 +164,7 @@ helds_ticked {D} {V} files faults running k seconds site there =
     map-set_same (λ (s : Site D V). held files faults (site_disk s)) running.sites.items k (ticked_on seconds site) site
     (ap (λ (s : Site D V). held files faults (site_disk s)) (sym same))
 
-pub tick_told : {D V : Type 0} (files : D → Option Files) (faults : D → ℕ) (db : ScriptDatabase) (bound : ℕ) (running : OpenCell D V) (c : Cell) (k seconds : ℕ) (site : Site D V) (run : Run_or_why) (text : List ℕ) → IsSound files faults bound running → bound + seconds ≤ MAX_MOMENT → StandsFor running c → slice_get running.sites.items k ≡ Some site → IsNearAt running.sites.items k (site.clock + seconds) → run ≡ unless_skewed db c (tick_at c.run.world.sites k seconds) (Tick k seconds) → CellTold files faults db (λ choices. run) None running (ticked_at running k seconds site) text text
+pub tick_told : {D V : Type 0} (files : D → Option Files) (faults : D → ℕ) (db : ScriptDatabase) (bound : ℕ) (running : OpenCell D V) (c : Cell) (k seconds : ℕ) (site : Site D V) (run : Run_or_why) (text : List ℕ) → IsSound files faults bound running → bound + seconds ≤ MAX_MOMENT → IsModelledBy running c → slice_get running.sites.items k ≡ Some site → IsNearAt running.sites.items k (site.clock + seconds) → run ≡ unless_skewed db c (tick_at c.run.world.sites k seconds) (Tick k seconds) → CellTold files faults db (λ choices. run) None running (ticked_at running k seconds site) text text
 tick_told files faults db bound running c k seconds site run text sound fits stands there near is =
     let at = sound_at files faults running.hosts.items 0 bound running.sites.items k site sound.sites there in
     let within = at.within in
@@ -181,7 +181,7 @@ tick_told files faults db bound running c k seconds site run text sound fits sta
     }
 
 -- one that would part the clocks
-pub tick_skews : {D V : Type 0} (db : ScriptDatabase) (running : OpenCell D V) (c : Cell) (k seconds : ℕ) (site : Site D V) → StandsFor running c → slice_get running.sites.items k ≡ Some site → (IsNearAt running.sites.items k (site.clock + seconds) → ⊥) → unless_skewed db c (tick_at c.run.world.sites k seconds) (Tick k seconds) ≡ Err why.Skew
+pub tick_skews : {D V : Type 0} (db : ScriptDatabase) (running : OpenCell D V) (c : Cell) (k seconds : ℕ) (site : Site D V) → IsModelledBy running c → slice_get running.sites.items k ≡ Some site → (IsNearAt running.sites.items k (site.clock + seconds) → ⊥) → unless_skewed db c (tick_at c.run.world.sites k seconds) (Tick k seconds) ≡ Err why.Skew
 tick_skews {D} {V} db running c k seconds site stands there parted = by (may_tick ss) refl
   where
     ss : List ModelSite
@@ -249,7 +249,7 @@ all_sound {D} {V} files faults bound bound' running sites seconds are sound fits
       told = sound.told;
     }
 
-pub all_told : {D V : Type 0} (files : D → Option Files) (faults : D → ℕ) (db : ScriptDatabase) (bound : ℕ) (running : OpenCell D V) (sites : List (Site D V)) (c : Cell) (seconds : ℕ) (text : List ℕ) → sites ≡ map (ticked_on seconds) running.sites.items → IsSound files faults bound running → bound + seconds ≤ MAX_MOMENT → StandsFor running c → CellTold files faults db (λ choices. unless_skewed db c (map (ticked seconds) c.run.world.sites) (Tick_all seconds)) None running (all_ticked running sites) text text
+pub all_told : {D V : Type 0} (files : D → Option Files) (faults : D → ℕ) (db : ScriptDatabase) (bound : ℕ) (running : OpenCell D V) (sites : List (Site D V)) (c : Cell) (seconds : ℕ) (text : List ℕ) → sites ≡ map (ticked_on seconds) running.sites.items → IsSound files faults bound running → bound + seconds ≤ MAX_MOMENT → IsModelledBy running c → CellTold files faults db (λ choices. unless_skewed db c (map (ticked seconds) c.run.world.sites) (Tick_all seconds)) None running (all_ticked running sites) text text
 all_told {D} {V} files faults db bound running sites c seconds text are sound fits stands =
     let is = all_items running sites seconds are in
     let ss = subst (λ (l : List (Site D V)). AreSitesOf l (map (ticked seconds) c.run.world.sites)) (sym is) (sites_all_ticked running.sites.items c.run.world.sites seconds stands.sites) in

@@ -8,7 +8,7 @@ use Rattle.cell_runs.specs.Script.{Choice, fails_at, hosts_of, opened_cell}
 use Rattle.cell_runs.specs.ScriptDatabase.{ScriptDatabase}
 use Rattle.cell_runs.specs.Trace.{TraceItem, Tells, trace}
 use Rattle.cell_sites.specs.Disks.{AreRises, all_held}
-use Rattle.cell_sites.specs.Sites.{AreSitesOf, StandsFor, disks_of, helds}
+use Rattle.cell_sites.specs.Sites.{AreSitesOf, IsModelledBy, disks_of, helds}
 use Rattle.cell_sites.specs.Sound.{AreSound, IsSound}
 use Rattle.cell_sites.specs.Traffic.{no_traffic}
 use Rattle.cell_sites.specs.declared.cells.OpenCell.{OpenCell}
@@ -46,7 +46,7 @@ pub record IsAdded {D V : Type 0} (files : D → Option Files) (faults : D → �
 -- A cell was opened, whose servers have these disks: it is that of some choices of where a disk fails.
 pub record IsOpened {D V : Type 0} (files : D → Option Files) (faults : D → ℕ) (db : ScriptDatabase) (clock : ℕ) (k : Kind) (given : List D) (running : OpenCell D V) (text_before text_after : List ℕ) : Type 0 where
   pub choices : List Choice
-  pub stands : StandsFor running (opened_cell (length given) clock k (fails_at (length given) choices))
+  pub stands : IsModelledBy running (opened_cell (length given) clock k (fails_at (length given) choices))
   pub sound : IsSound files faults clock running
   pub told : text_after ≡ text_before ++ trace db running.hosts.items (opening_items (fails_at (length given) choices))
   pub causes : AreRises 0 (opening_items (fails_at (length given) choices)) (all_held files faults given) (helds files faults running)

@@ -42,7 +42,7 @@ AreSitesOf (site ∷ sites) (s ∷ others) = IsSiteOf site s × AreSitesOf sites
 AreSitesOf _ _ = ⊥
 
 -- a running cell whose packets are these, and no disk of which is to stop
-pub record StandsFor {D V : Type 0} (running : OpenCell D V) (c : Cell) : Type 0 where
+pub record IsModelledBy {D V : Type 0} (running : OpenCell D V) (c : Cell) : Type 0 where
   pub hosts : c.run.world.hosts ≡ running.hosts.items
   pub sites : AreSitesOf running.sites.items c.run.world.sites
   pub sent : c.run.world.packets ≡ running.packets.sent

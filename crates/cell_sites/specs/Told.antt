@@ -7,12 +7,12 @@ use Rattle.cell_runs.specs.Script.{Cell, Cell_run, Choice, Run_or_why}
 use Rattle.cell_runs.specs.ScriptDatabase.{ScriptDatabase}
 use Rattle.cell_runs.specs.Trace.{trace}
 use Rattle.cell_sites.specs.Disks.{AreReadBy, AreRises}
-use Rattle.cell_sites.specs.Sites.{StandsFor, helds}
+use Rattle.cell_sites.specs.Sites.{IsModelledBy, helds}
 use Rattle.cell_sites.specs.declared.cells.OpenCell.{OpenCell}
 
 -- where a script goes on, the cell stands for what the line left; where it ends in the line, its disks read so
 abbrev pub IsAfter : {D V : Type 0} → (D → Option Files) → (D → ℕ) → Option Ending → OpenCell D V → Cell → Type 0
-IsAfter files faults None running c = StandsFor running c
+IsAfter files faults None running c = IsModelledBy running c
 IsAfter files faults (Some ending) running c = AreReadBy c.run.world.sites (helds files faults running)
 
 -- A line was run with some choices: it ended so, what it told was added to a text, and each fault that it told is one of that disk.

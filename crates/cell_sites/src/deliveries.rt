@@ -12,7 +12,7 @@ ghost use Rattle.cell_script.specs.declared.lines.Line.TheVariants as line;
 ghost use Rattle.cell_script.specs.declared.lines.Why.{Why as AWhy};
 ghost use Rattle.cell_sites.specs.Disks.{AreReadBy, AreRises};
 ghost use Rattle.cell_sites.specs.Places.{IsDownAt, IsUpAt};
-ghost use Rattle.cell_sites.specs.Sites.{StandsFor, helds};
+ghost use Rattle.cell_sites.specs.Sites.{IsModelledBy, helds};
 ghost use Rattle.cell_sites.specs.Sound.{IsSound};
 ghost use Rattle.cell_sites.specs.Told.{CellTold, IsRefused, IsShort};
 
@@ -31,14 +31,14 @@ impl<D: StopDisk, V: WordForms> OpenCell<D, V> {
     /// Hands the packet of a number to its receiver, whether it waits or not. A server that is down loses it.
     pub fn deliver(&mut self, number: u64, text: &mut String) -> Result<(), LineFault>
         requires { (bound : ℕ) × IsSound D.files D.faults bound self.old }
-        ensures told { result ≡ Ok tt → (c : Cell) → StandsFor self.old c →
+        ensures told { result ≡ Ok tt → (c : Cell) → IsModelledBy self.old c →
             CellTold D.files D.faults (script_database V.database V.words) (λ choices. run_in (script_database V.database V.words) c choices (line.Deliver number)) None self.old self.new (string_bytes text.old) (string_bytes text.new) }
-        ensures limit { (which : AWhich) → result ≡ Err (LineFault.Limit which) → (c : Cell) → StandsFor self.old c →
+        ensures limit { (which : AWhich) → result ≡ Err (LineFault.Limit which) → (c : Cell) → IsModelledBy self.old c →
             CellTold D.files D.faults (script_database V.database V.words) (λ choices. run_in (script_database V.database V.words) c choices (line.Deliver number)) (Some (ending.Limit which)) self.old self.new (string_bytes text.old) (string_bytes text.new) }
         ensures refused { (why : AWhy) → result ≡ Err (LineFault.Refused why) → (self.new ≡ self.old)
-            × ((c : Cell) → StandsFor self.old c → IsRefused why (λ choices. run_in (script_database V.database V.words) c choices (line.Deliver number))) }
+            × ((c : Cell) → IsModelledBy self.old c → IsRefused why (λ choices. run_in (script_database V.database V.words) c choices (line.Deliver number))) }
         ensures quiet { (why : AWhy) → result ≡ Err (LineFault.Refused why) → string_bytes text.new ≡ string_bytes text.old }
-        ensures short { result ≡ Err LineFault.NoMemory → (c : Cell) → StandsFor self.old c →
+        ensures short { result ≡ Err LineFault.NoMemory → (c : Cell) → IsModelledBy self.old c →
             IsShort D.files D.faults (λ choices. run_in (script_database V.database V.words) c choices (line.Deliver number)) c self.old self.new }
         ensures sound { result ≡ Ok tt → (bound : ℕ) → IsSound D.files D.faults bound self.old → IsSound D.files D.faults bound self.new }
         ensures never_falls { AreRises 0 [] (helds D.files D.faults self.old) (helds D.files D.faults self.new) }
@@ -52,12 +52,12 @@ impl<D: StopDisk, V: WordForms> OpenCell<D, V> {
     /// more of them than a script may send.
     pub fn deliver_all(&mut self, text: &mut String) -> Result<(), LineFault>
         requires { (bound : ℕ) × IsSound D.files D.faults bound self.old }
-        ensures told { result ≡ Ok tt → (c : Cell) → StandsFor self.old c →
+        ensures told { result ≡ Ok tt → (c : Cell) → IsModelledBy self.old c →
             CellTold D.files D.faults (script_database V.database V.words) (λ choices. run_in (script_database V.database V.words) c choices line.DeliverAll) None self.old self.new (string_bytes text.old) (string_bytes text.new) }
-        ensures limit { (which : AWhich) → result ≡ Err (LineFault.Limit which) → (c : Cell) → StandsFor self.old c →
+        ensures limit { (which : AWhich) → result ≡ Err (LineFault.Limit which) → (c : Cell) → IsModelledBy self.old c →
             CellTold D.files D.faults (script_database V.database V.words) (λ choices. run_in (script_database V.database V.words) c choices line.DeliverAll) (Some (ending.Limit which)) self.old self.new (string_bytes text.old) (string_bytes text.new) }
         ensures refused { (why : AWhy) → result ≢ Err (LineFault.Refused why) }
-        ensures short { result ≡ Err LineFault.NoMemory → (c : Cell) → StandsFor self.old c →
+        ensures short { result ≡ Err LineFault.NoMemory → (c : Cell) → IsModelledBy self.old c →
             IsShort D.files D.faults (λ choices. run_in (script_database V.database V.words) c choices line.DeliverAll) c self.old self.new }
         ensures sound { result ≡ Ok tt → (bound : ℕ) → IsSound D.files D.faults bound self.old → IsSound D.files D.faults bound self.new }
         ensures never_falls { AreRises 0 [] (helds D.files D.faults self.old) (helds D.files D.faults self.new) }
@@ -77,12 +77,12 @@ impl<D: StopDisk, V: WordForms> OpenCell<D, V> {
         requires sound { (bound : ℕ) × IsSound D.files D.faults bound self.old }
         requires some { 0 < number }
         requires sent { number ≤ length self.old.packets.sent }
-        ensures told { result ≡ Ok tt → (c : Cell) → StandsFor self.old c →
+        ensures told { result ≡ Ok tt → (c : Cell) → IsModelledBy self.old c →
             CellTold D.files D.faults (script_database V.database V.words) (λ choices. Ok (delivered (script_database V.database V.words) c (first_choice choices) number)) None self.old self.new (string_bytes text.old) (string_bytes text.new) }
-        ensures limit { (which : AWhich) → result ≡ Err (LineFault.Limit which) → (c : Cell) → StandsFor self.old c →
+        ensures limit { (which : AWhich) → result ≡ Err (LineFault.Limit which) → (c : Cell) → IsModelledBy self.old c →
             CellTold D.files D.faults (script_database V.database V.words) (λ choices. Ok (delivered (script_database V.database V.words) c (first_choice choices) number)) (Some (ending.Limit which)) self.old self.new (string_bytes text.old) (string_bytes text.new) }
         ensures refused { (why : AWhy) → result ≢ Err (LineFault.Refused why) }
-        ensures short { result ≡ Err LineFault.NoMemory → (c : Cell) → StandsFor self.old c →
+        ensures short { result ≡ Err LineFault.NoMemory → (c : Cell) → IsModelledBy self.old c →
             IsShort D.files D.faults (λ choices. Ok (delivered (script_database V.database V.words) c (first_choice choices) number)) c self.old self.new }
         ensures sound { result ≡ Ok tt → (bound : ℕ) → IsSound D.files D.faults bound self.old → IsSound D.files D.faults bound self.new }
         ensures never_falls { AreRises 0 [] (helds D.files D.faults self.old) (helds D.files D.faults self.new) }

@@ -5,7 +5,7 @@ ghost use Rattle.cell_runs.specs.Script.{Cell, Cell_run, at_packet, run_in};
 ghost use Rattle.cell_script.specs.declared.lines.Line.TheVariants as line;
 ghost use Rattle.cell_script.specs.declared.lines.Why.{Why as AWhy};
 ghost use Rattle.cell_sites.specs.Disks.{AreRises};
-ghost use Rattle.cell_sites.specs.Sites.{StandsFor, helds};
+ghost use Rattle.cell_sites.specs.Sites.{IsModelledBy, helds};
 ghost use Rattle.cell_sites.specs.Sound.{IsSound};
 ghost use Rattle.cell_sites.specs.Told.{CellTold, IsRefused};
 
@@ -30,12 +30,12 @@ impl<D: StopDisk, V: WordForms> OpenCell<D, V> {
     /// The packet of a number waits no longer.
     pub fn drop_packet(&mut self, number: u64) -> Result<(), Why>
         requires { (bound : ℕ) × IsSound D.files D.faults bound self.old }
-        ensures told { result ≡ Ok tt → (c : Cell) (text : List ℕ) → StandsFor self.old c →
+        ensures told { result ≡ Ok tt → (c : Cell) (text : List ℕ) → IsModelledBy self.old c →
             CellTold D.files D.faults (script_database V.database V.words)
             (λ choices. run_in (script_database V.database V.words) c choices (line.Drop number))
             None self.old self.new text text }
         ensures refused { (why : AWhy) → result ≡ Err why → (self.new ≡ self.old)
-            × ((c : Cell) → StandsFor self.old c → IsRefused why
+            × ((c : Cell) → IsModelledBy self.old c → IsRefused why
             (λ choices. run_in (script_database V.database V.words) c choices (line.Drop number))) }
         ensures sound { (bound : ℕ) → IsSound D.files D.faults bound self.old → IsSound D.files D.faults bound self.new }
         ensures never_falls { AreRises 0 [] (helds D.files D.faults self.old) (helds D.files D.faults self.new) }
@@ -49,12 +49,12 @@ impl<D: StopDisk, V: WordForms> OpenCell<D, V> {
     /// The packets to and from a server that is up wait no longer.
     pub fn drop_all(&mut self, server: u64) -> Result<(), Why>
         requires { (bound : ℕ) × IsSound D.files D.faults bound self.old }
-        ensures told { result ≡ Ok tt → (c : Cell) (text : List ℕ) → StandsFor self.old c →
+        ensures told { result ≡ Ok tt → (c : Cell) (text : List ℕ) → IsModelledBy self.old c →
             CellTold D.files D.faults (script_database V.database V.words)
             (λ choices. run_in (script_database V.database V.words) c choices (line.DropAll server))
             None self.old self.new text text }
         ensures refused { (why : AWhy) → result ≡ Err why → (self.new ≡ self.old)
-            × ((c : Cell) → StandsFor self.old c → IsRefused why
+            × ((c : Cell) → IsModelledBy self.old c → IsRefused why
             (λ choices. run_in (script_database V.database V.words) c choices (line.DropAll server))) }
         ensures sound { (bound : ℕ) → IsSound D.files D.faults bound self.old → IsSound D.files D.faults bound self.new }
         ensures never_falls { AreRises 0 [] (helds D.files D.faults self.old) (helds D.files D.faults self.new) }

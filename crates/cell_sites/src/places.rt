@@ -2,7 +2,7 @@
 ghost use Rattle.std.specs.Prelude.{◌≡◌, ◌-◌, ◌<◌, ℕ, IfOk, MatchResult, Ok, Err, length};
 ghost use Rattle.cell_runs.specs.Script.{Cell, Cell_run, Run_or_why, at_server, at_up, cell_size_of};
 ghost use Rattle.cell_sites.specs.Places.{IsUpAt};
-ghost use Rattle.cell_sites.specs.Sites.{StandsFor};
+ghost use Rattle.cell_sites.specs.Sites.{IsModelledBy};
 
 use crate::cells::OpenCell;
 use crate::sites::Server;
@@ -26,7 +26,7 @@ impl<D: StopDisk, V: WordForms> OpenCell<D, V> {
     /// The same of a server that is up.
     pub(crate) fn place_up(&self, server: u64) -> Result<usize, Why>
         ensures place { IfOk result (λ k. (k ≡ server - 1) × IsUpAt self.now k) }
-        ensures up { (c : Cell) (does : ℕ → Cell_run) → cell_size_of c ≡ length self.now.sites.items → StandsFor self.now c →
+        ensures up { (c : Cell) (does : ℕ → Cell_run) → cell_size_of c ≡ length self.now.sites.items → IsModelledBy self.now c →
             MatchResult result (λ k. at_up c server does ≡ Ok (does k)) (λ why. at_up c server does ≡ Err why) }
     {
         let k = self.place(server)?;

@@ -6,7 +6,7 @@ ghost use Rattle.cell_runs.specs.Script.{Cell, run_in};
 ghost use Rattle.cell_runs.specs.declared.endings.Which.{Which};
 ghost use Rattle.cell_script.specs.declared.lines.Line.TheVariants as line;
 ghost use Rattle.cell_script.specs.declared.lines.Why.{Why};
-ghost use Rattle.cell_sites.specs.Sites.{StandsFor};
+ghost use Rattle.cell_sites.specs.Sites.{IsModelledBy};
 ghost use Rattle.cell_sites.specs.Sound.{IsSound};
 ghost use Rattle.cell_sites.specs.Told.{CellTold, IsRefused, IsShort};
 
@@ -21,16 +21,16 @@ impl<D: StopDisk, V: WordForms> OpenCell<D, V> {
     /// Tells the state of a server: of a halted one what it kept.
     pub fn show(&self, server: u64, text: &mut String) -> Result<(), LineFault>
         requires { (bound : ℕ) × IsSound D.files D.faults bound self.now }
-        ensures told { result ≡ Ok tt → (c : Cell) → StandsFor self.now c →
+        ensures told { result ≡ Ok tt → (c : Cell) → IsModelledBy self.now c →
             CellTold D.files D.faults (script_database V.database V.words)
             (λ choices. run_in (script_database V.database V.words) c choices (line.Show server)) None self.now self.now
             (string_bytes text.old) (string_bytes text.new) }
         ensures limit { (which : Which) → result ≢ Err (LineFault.Limit which) }
         ensures refused { (why : Why) → result ≡ Err (LineFault.Refused why) →
-            (c : Cell) → StandsFor self.now c → IsRefused why
+            (c : Cell) → IsModelledBy self.now c → IsRefused why
             (λ choices. run_in (script_database V.database V.words) c choices (line.Show server)) }
         ensures quiet { (why : Why) → result ≡ Err (LineFault.Refused why) → string_bytes text.new ≡ string_bytes text.old }
-        ensures short { result ≡ Err LineFault.NoMemory → (c : Cell) → StandsFor self.now c →
+        ensures short { result ≡ Err LineFault.NoMemory → (c : Cell) → IsModelledBy self.now c →
             IsShort D.files D.faults
             (λ choices. run_in (script_database V.database V.words) c choices (line.Show server)) c self.now self.now }
     {

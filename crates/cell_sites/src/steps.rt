@@ -15,7 +15,7 @@ ghost use Rattle.cell_script.specs.declared.lines.Line.TheVariants as line;
 ghost use Rattle.cell_script.specs.declared.lines.Why.{Why as AWhy};
 ghost use Rattle.cell_sites.specs.Disks.{AreReadBy, AreRises};
 ghost use Rattle.cell_sites.specs.Places.{IsUpAt};
-ghost use Rattle.cell_sites.specs.Sites.{StandsFor, helds};
+ghost use Rattle.cell_sites.specs.Sites.{IsModelledBy, helds};
 ghost use Rattle.cell_sites.specs.Sound.{IsSound, IsSoundNode};
 ghost use Rattle.cell_sites.specs.Stepped.{NodeStepped, SiteStepped, member_at};
 ghost use Rattle.cell_sites.specs.Told.{CellTold, IsRefused, IsShort};
@@ -37,14 +37,14 @@ impl<D: StopDisk, V: WordForms> OpenCell<D, V> {
     /// A beacon turn of a server, which is counted from 1.
     pub fn beacon(&mut self, server: u64, text: &mut String) -> Result<(), LineFault>
         requires { (bound : ℕ) × IsSound D.files D.faults bound self.old }
-        ensures told { result ≡ Ok tt → (c : Cell) → StandsFor self.old c →
+        ensures told { result ≡ Ok tt → (c : Cell) → IsModelledBy self.old c →
             CellTold D.files D.faults (script_database V.database V.words) (λ choices. run_in (script_database V.database V.words) c choices (line.Beacon server)) None self.old self.new (string_bytes text.old) (string_bytes text.new) }
-        ensures limit { (which : AWhich) → result ≡ Err (LineFault.Limit which) → (c : Cell) → StandsFor self.old c →
+        ensures limit { (which : AWhich) → result ≡ Err (LineFault.Limit which) → (c : Cell) → IsModelledBy self.old c →
             CellTold D.files D.faults (script_database V.database V.words) (λ choices. run_in (script_database V.database V.words) c choices (line.Beacon server)) (Some (ending.Limit which)) self.old self.new (string_bytes text.old) (string_bytes text.new) }
         ensures refused { (why : AWhy) → result ≡ Err (LineFault.Refused why) → (self.new ≡ self.old)
-            × ((c : Cell) → StandsFor self.old c → IsRefused why (λ choices. run_in (script_database V.database V.words) c choices (line.Beacon server))) }
+            × ((c : Cell) → IsModelledBy self.old c → IsRefused why (λ choices. run_in (script_database V.database V.words) c choices (line.Beacon server))) }
         ensures quiet { (why : AWhy) → result ≡ Err (LineFault.Refused why) → string_bytes text.new ≡ string_bytes text.old }
-        ensures short { result ≡ Err LineFault.NoMemory → (c : Cell) → StandsFor self.old c →
+        ensures short { result ≡ Err LineFault.NoMemory → (c : Cell) → IsModelledBy self.old c →
             IsShort D.files D.faults (λ choices. run_in (script_database V.database V.words) c choices (line.Beacon server)) c self.old self.new }
         ensures sound { result ≡ Ok tt → (bound : ℕ) → IsSound D.files D.faults bound self.old → IsSound D.files D.faults bound self.new }
         ensures never_falls { AreRises 0 [] (helds D.files D.faults self.old) (helds D.files D.faults self.new) }
@@ -58,14 +58,14 @@ impl<D: StopDisk, V: WordForms> OpenCell<D, V> {
     pub fn recover(&mut self, server: u64, text: &mut String) -> Result<(), LineFault>
         requires sound { (bound : ℕ) × IsSound D.files D.faults bound self.old }
         requires alone { length self.old.sites.items ≡ 1 }
-        ensures told { result ≡ Ok tt → (c : Cell) → StandsFor self.old c →
+        ensures told { result ≡ Ok tt → (c : Cell) → IsModelledBy self.old c →
             CellTold D.files D.faults (script_database V.database V.words) (λ choices. run_in (script_database V.database V.words) c choices (line.Recover server)) None self.old self.new (string_bytes text.old) (string_bytes text.new) }
-        ensures limit { (which : AWhich) → result ≡ Err (LineFault.Limit which) → (c : Cell) → StandsFor self.old c →
+        ensures limit { (which : AWhich) → result ≡ Err (LineFault.Limit which) → (c : Cell) → IsModelledBy self.old c →
             CellTold D.files D.faults (script_database V.database V.words) (λ choices. run_in (script_database V.database V.words) c choices (line.Recover server)) (Some (ending.Limit which)) self.old self.new (string_bytes text.old) (string_bytes text.new) }
         ensures refused { (why : AWhy) → result ≡ Err (LineFault.Refused why) → (self.new ≡ self.old)
-            × ((c : Cell) → StandsFor self.old c → IsRefused why (λ choices. run_in (script_database V.database V.words) c choices (line.Recover server))) }
+            × ((c : Cell) → IsModelledBy self.old c → IsRefused why (λ choices. run_in (script_database V.database V.words) c choices (line.Recover server))) }
         ensures quiet { (why : AWhy) → result ≡ Err (LineFault.Refused why) → string_bytes text.new ≡ string_bytes text.old }
-        ensures short { result ≡ Err LineFault.NoMemory → (c : Cell) → StandsFor self.old c →
+        ensures short { result ≡ Err LineFault.NoMemory → (c : Cell) → IsModelledBy self.old c →
             IsShort D.files D.faults (λ choices. run_in (script_database V.database V.words) c choices (line.Recover server)) c self.old self.new }
         ensures sound { result ≡ Ok tt → (bound : ℕ) → IsSound D.files D.faults bound self.old → IsSound D.files D.faults bound self.new }
         ensures never_falls { AreRises 0 [] (helds D.files D.faults self.old) (helds D.files D.faults self.new) }
@@ -84,14 +84,14 @@ impl<D: StopDisk, V: WordForms> OpenCell<D, V> {
         text: &mut String,
     ) -> Result<(), LineFault>
         requires { (bound : ℕ) × IsSound D.files D.faults bound self.old }
-        ensures told { result ≡ Ok tt → (c : Cell) → StandsFor self.old c →
+        ensures told { result ≡ Ok tt → (c : Cell) → IsModelledBy self.old c →
             CellTold D.files D.faults (script_database V.database V.words) (λ choices. asked_at (script_database V.database V.words) c (first_choice choices) id call (Some server)) None self.old self.new (string_bytes text.old) (string_bytes text.new) }
-        ensures limit { (which : AWhich) → result ≡ Err (LineFault.Limit which) → (c : Cell) → StandsFor self.old c →
+        ensures limit { (which : AWhich) → result ≡ Err (LineFault.Limit which) → (c : Cell) → IsModelledBy self.old c →
             CellTold D.files D.faults (script_database V.database V.words) (λ choices. asked_at (script_database V.database V.words) c (first_choice choices) id call (Some server)) (Some (ending.Limit which)) self.old self.new (string_bytes text.old) (string_bytes text.new) }
         ensures refused { (why : AWhy) → result ≡ Err (LineFault.Refused why) → (self.new ≡ self.old)
-            × ((c : Cell) → StandsFor self.old c → IsRefused why (λ choices. asked_at (script_database V.database V.words) c (first_choice choices) id call (Some server))) }
+            × ((c : Cell) → IsModelledBy self.old c → IsRefused why (λ choices. asked_at (script_database V.database V.words) c (first_choice choices) id call (Some server))) }
         ensures quiet { (why : AWhy) → result ≡ Err (LineFault.Refused why) → string_bytes text.new ≡ string_bytes text.old }
-        ensures short { result ≡ Err LineFault.NoMemory → (c : Cell) → StandsFor self.old c →
+        ensures short { result ≡ Err LineFault.NoMemory → (c : Cell) → IsModelledBy self.old c →
             IsShort D.files D.faults (λ choices. asked_at (script_database V.database V.words) c (first_choice choices) id call (Some server)) c self.old self.new }
         ensures sound { result ≡ Ok tt → (bound : ℕ) → IsSound D.files D.faults bound self.old → IsSound D.files D.faults bound self.new }
         ensures never_falls { AreRises 0 [] (helds D.files D.faults self.old) (helds D.files D.faults self.new) }
@@ -114,12 +114,12 @@ impl<D: StopDisk, V: WordForms> OpenCell<D, V> {
         requires up { IsUpAt self.old k }
         requires taken { IsTaken (member_at self.old k) event }
         requires asks { AsksNoOther event call.now }
-        ensures told { result ≡ Ok tt → (c : Cell) (trigger : Trigger) → StandsFor self.old c → occasion c.run.world trigger ≡ Some (k, event) →
+        ensures told { result ≡ Ok tt → (c : Cell) (trigger : Trigger) → IsModelledBy self.old c → occasion c.run.world trigger ≡ Some (k, event) →
             CellTold D.files D.faults (script_database V.database V.words) (λ choices. Ok (stepped (script_database V.database V.words) c (first_choice choices) trigger)) None self.old self.new (string_bytes text.old) (string_bytes text.new) }
-        ensures limit { (which : AWhich) → result ≡ Err (LineFault.Limit which) → (c : Cell) (trigger : Trigger) → StandsFor self.old c → occasion c.run.world trigger ≡ Some (k, event) →
+        ensures limit { (which : AWhich) → result ≡ Err (LineFault.Limit which) → (c : Cell) (trigger : Trigger) → IsModelledBy self.old c → occasion c.run.world trigger ≡ Some (k, event) →
             CellTold D.files D.faults (script_database V.database V.words) (λ choices. Ok (stepped (script_database V.database V.words) c (first_choice choices) trigger)) (Some (ending.Limit which)) self.old self.new (string_bytes text.old) (string_bytes text.new) }
         ensures refused { (why : AWhy) → result ≢ Err (LineFault.Refused why) }
-        ensures short { result ≡ Err LineFault.NoMemory → (c : Cell) (trigger : Trigger) → StandsFor self.old c → occasion c.run.world trigger ≡ Some (k, event) →
+        ensures short { result ≡ Err LineFault.NoMemory → (c : Cell) (trigger : Trigger) → IsModelledBy self.old c → occasion c.run.world trigger ≡ Some (k, event) →
             IsShort D.files D.faults (λ choices. Ok (stepped (script_database V.database V.words) c (first_choice choices) trigger)) c self.old self.new }
         ensures sound { result ≡ Ok tt → (bound : ℕ) → IsSound D.files D.faults bound self.old → IsSound D.files D.faults bound self.new }
         ensures never_falls { AreRises 0 [] (helds D.files D.faults self.old) (helds D.files D.faults self.new) }

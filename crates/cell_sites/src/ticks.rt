@@ -7,7 +7,7 @@ ghost use Rattle.cell_script.specs.declared.lines.Line.TheVariants as line;
 ghost use Rattle.cell_script.specs.declared.lines.Why.{Why as AWhy};
 ghost use Rattle.cell_sites.specs.Disks.{AreRises};
 ghost use Rattle.cell_sites.specs.Places.{IsNearAt, ticked_on};
-ghost use Rattle.cell_sites.specs.Sites.{StandsFor, helds};
+ghost use Rattle.cell_sites.specs.Sites.{IsModelledBy, helds};
 ghost use Rattle.cell_sites.specs.Sound.{IsSound};
 ghost use Rattle.cell_sites.specs.Told.{CellTold, IsRefused};
 ghost use Rattle.cell_sites.specs.declared.sites.Site.{Site as ASite};
@@ -23,12 +23,12 @@ impl<D: StopDisk, V: WordForms> OpenCell<D, V> {
     /// The clock of a server goes forward. That is refused where it would be more than 7 seconds past another one.
     pub fn tick(&mut self, server: u64, seconds: u32) -> Result<(), Why>
         requires { (bound : ℕ) × IsSound D.files D.faults bound self.old × (bound + seconds ≤ MAX_MOMENT) }
-        ensures told { result ≡ Ok tt → (c : Cell) (text : List ℕ) → StandsFor self.old c →
+        ensures told { result ≡ Ok tt → (c : Cell) (text : List ℕ) → IsModelledBy self.old c →
             CellTold D.files D.faults (script_database V.database V.words)
             (λ choices. run_in (script_database V.database V.words) c choices (line.Tick server seconds))
             None self.old self.new text text }
         ensures refused { (why : AWhy) → result ≡ Err why → (self.new ≡ self.old)
-            × ((c : Cell) → StandsFor self.old c → IsRefused why
+            × ((c : Cell) → IsModelledBy self.old c → IsRefused why
             (λ choices. run_in (script_database V.database V.words) c choices (line.Tick server seconds))) }
         ensures sound { result ≡ Ok tt → (bound : ℕ) → IsSound D.files D.faults bound self.old
             → IsSound D.files D.faults (bound + seconds) self.new }
@@ -47,7 +47,7 @@ impl<D: StopDisk, V: WordForms> OpenCell<D, V> {
     /// All clocks go forward.
     pub fn tick_all(&mut self, seconds: u32)
         requires { (bound : ℕ) × IsSound D.files D.faults bound self.old × (bound + seconds ≤ MAX_MOMENT) }
-        ensures told { (c : Cell) (text : List ℕ) → StandsFor self.old c →
+        ensures told { (c : Cell) (text : List ℕ) → IsModelledBy self.old c →
             CellTold D.files D.faults (script_database V.database V.words)
             (λ choices. run_in (script_database V.database V.words) c choices (line.TickAll seconds))
             None self.old self.new text text }

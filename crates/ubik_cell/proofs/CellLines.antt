@@ -18,7 +18,7 @@ use Rattle.cell_sites.specs.declared.faults.LineFault.{LineFault}
 use Rattle.cell_sites.specs.declared.faults.LineFault.TheVariants.{Refused, Limit, NoMemory}
 use Rattle.cell_sites.specs.declared.sites.Site.{Site}
 use Rattle.cell_sites.specs.Disks.{Held, AreRises}
-use Rattle.cell_sites.specs.Sites.{StandsFor, helds}
+use Rattle.cell_sites.specs.Sites.{IsModelledBy, helds}
 use Rattle.cell_sites.specs.Sound.{AreSound, IsSound}
 use Rattle.cell_sites.specs.Told.{CellTold, IsRefused, IsShort}
 use Rattle.ubik_cell.specs.LineRuns.{CellDone, KeepsCell}
@@ -63,12 +63,12 @@ module _ {D V : Type 0} (files : D → Option Files) (faults : D → ℕ) (befor
 
   -- what became of it, by its result
   pub cell_done : (db : ScriptDatabase) (run : Cell → List Choice → Run_or_why) (result : Result (Unit {0}) LineFault) (text_before text_after : List ℕ)
-      → (result ≡ Ok tt → (c : Cell) → StandsFor before c → CellTold files faults db (run c) None before after text_before text_after)
-      → ((which : Which) → result ≡ Err (Limit which) → (c : Cell) → StandsFor before c
+      → (result ≡ Ok tt → (c : Cell) → IsModelledBy before c → CellTold files faults db (run c) None before after text_before text_after)
+      → ((which : Which) → result ≡ Err (Limit which) → (c : Cell) → IsModelledBy before c
       → CellTold files faults db (run c) (Some (ending.Limit which)) before after text_before text_after)
-      → ((why : Why) → result ≡ Err (Refused why) → (after ≡ before) × ((c : Cell) → StandsFor before c → IsRefused why (run c)))
+      → ((why : Why) → result ≡ Err (Refused why) → (after ≡ before) × ((c : Cell) → IsModelledBy before c → IsRefused why (run c)))
       → ((why : Why) → result ≡ Err (Refused why) → text_after ≡ text_before)
-      → (result ≡ Err NoMemory → (c : Cell) → StandsFor before c → IsShort files faults (run c) c before after)
+      → (result ≡ Err NoMemory → (c : Cell) → IsModelledBy before c → IsShort files faults (run c) c before after)
       → CellDone files faults db run result before after text_before text_after
   cell_done db run (Ok done) text_before text_after told limit refused quiet short = told refl
   cell_done db run (Err (Limit which)) text_before text_after told limit refused quiet short = limit which refl
@@ -78,27 +78,27 @@ module _ {D V : Type 0} (files : D → Option Files) (faults : D → ℕ) (befor
   module _ (db : ScriptDatabase) (l k : Line) (is : l ≡ k) where
     -- a line that may refuse alone, and tells nothing
     pub refused_of : (result : Result (Unit {0}) LineFault) (why : Why) (text : List ℕ) → IsErrAnd result (λ e. e ≡ Refused why)
-        → (after ≡ before) × ((c : Cell) → StandsFor before c → IsRefused why (λ choices. run_in db c choices k))
+        → (after ≡ before) × ((c : Cell) → IsModelledBy before c → IsRefused why (λ choices. run_in db c choices k))
         → CellDone files faults db (λ c choices. run_in db c choices l) result before after text text
     refused_of (Ok done) why text err refused = absurd err
     refused_of (Err e) why text err refused =
         let P : LineFault → Type 0 = λ e. CellDone files faults db (λ c choices. run_in db c choices l) (Err e) before after text text in
-        let Q : Line → Type 0 = λ l. (after ≡ before) × (text ≡ text) × ((c : Cell) → StandsFor before c → IsRefused why (λ choices. run_in db c choices l)) in
+        let Q : Line → Type 0 = λ l. (after ≡ before) × (text ≡ text) × ((c : Cell) → IsModelledBy before c → IsRefused why (λ choices. run_in db c choices l)) in
         subst P (sym err) (subst Q (sym is) (refused.0, refl, refused.1))
 
     pub told_of : (text_before text_after : List ℕ)
-        → ((c : Cell) → StandsFor before c → CellTold files faults db (λ choices. run_in db c choices k) None before after text_before text_after)
+        → ((c : Cell) → IsModelledBy before c → CellTold files faults db (λ choices. run_in db c choices k) None before after text_before text_after)
         → CellDone files faults db (λ c choices. run_in db c choices l) (Ok tt) before after text_before text_after
     told_of text_before text_after told =
-        let P : Line → Type 0 = λ l. (c : Cell) → StandsFor before c → CellTold files faults db (λ choices. run_in db c choices l) None before after text_before text_after in
+        let P : Line → Type 0 = λ l. (c : Cell) → IsModelledBy before c → CellTold files faults db (λ choices. run_in db c choices l) None before after text_before text_after in
         subst P (sym is) told
 
     pub done_of : (result : Result (Unit {0}) LineFault) (text_before text_after : List ℕ)
-        → (result ≡ Ok tt → (c : Cell) → StandsFor before c → CellTold files faults db (λ choices. run_in db c choices k) None before after text_before text_after)
-        → ((which : Which) → result ≡ Err (Limit which) → (c : Cell) → StandsFor before c → CellTold files faults db (λ choices. run_in db c choices k) (Some (ending.Limit which)) before after text_before text_after)
-        → ((why : Why) → result ≡ Err (Refused why) → (after ≡ before) × ((c : Cell) → StandsFor before c → IsRefused why (λ choices. run_in db c choices k)))
+        → (result ≡ Ok tt → (c : Cell) → IsModelledBy before c → CellTold files faults db (λ choices. run_in db c choices k) None before after text_before text_after)
+        → ((which : Which) → result ≡ Err (Limit which) → (c : Cell) → IsModelledBy before c → CellTold files faults db (λ choices. run_in db c choices k) (Some (ending.Limit which)) before after text_before text_after)
+        → ((why : Why) → result ≡ Err (Refused why) → (after ≡ before) × ((c : Cell) → IsModelledBy before c → IsRefused why (λ choices. run_in db c choices k)))
         → ((why : Why) → result ≡ Err (Refused why) → text_after ≡ text_before)
-        → (result ≡ Err NoMemory → (c : Cell) → StandsFor before c → IsShort files faults (λ choices. run_in db c choices k) c before after)
+        → (result ≡ Err NoMemory → (c : Cell) → IsModelledBy before c → IsShort files faults (λ choices. run_in db c choices k) c before after)
         → CellDone files faults db (λ c choices. run_in db c choices l) result before after text_before text_after
     done_of result text_before text_after told limit refused quiet short =
         let P : Line → Type 0 = λ l. CellDone files faults db (λ c choices. run_in db c choices l) result before after text_before text_after in
@@ -111,7 +111,7 @@ kept_same files faults result running =
     (no_rises 0 (helds files faults running)) refl
 
 pub nothing_told : {D V : Type 0} (files : D → Option Files) (faults : D → ℕ) (db : ScriptDatabase) (running : OpenCell D V) (text : List ℕ) (c : Cell)
-    → StandsFor running c → CellTold files faults db (λ choices. run_in db c choices line.Nothing) None running running text text
+    → IsModelledBy running c → CellTold files faults db (λ choices. run_in db c choices line.Nothing) None running running text text
 nothing_told files faults db running text c stands = record {
   choices = [];
   ran = resting c;

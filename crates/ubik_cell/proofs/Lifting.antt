@@ -18,7 +18,7 @@ use Rattle.cell_sites.specs.declared.cells.OpenCell.{OpenCell}
 use Rattle.cell_sites.specs.declared.faults.LineFault.{LineFault}
 use Rattle.cell_sites.specs.declared.faults.LineFault.TheVariants.{Refused, Limit, NoMemory}
 use Rattle.cell_sites.specs.Disks.{Held, all_held, AreReadBy, AreCauses, AreRises}
-use Rattle.cell_sites.specs.Sites.{StandsFor, helds}
+use Rattle.cell_sites.specs.Sites.{IsModelledBy, helds}
 use Rattle.cell_sites.specs.Sound.{IsSound}
 use Rattle.cell_sites.specs.Told.{CellTold, IsAfter, IsRefused, IsShort, IsShortAfter}
 use Rattle.cell_sites.proofs.Reading.{cell_reads}
@@ -29,7 +29,7 @@ use Rattle.ubik_cell.proofs.KeptHosts.{ask_stays, line_stays}
 use Rattle.ubik_cell.proofs.LineDisks.{counted_causes, fewer_rises, first_causes, hosts_count, length-helds, length-read, more_causes, read_first, same_causes, unwritten}
 
 -- the cell of a stage at which a run stands
-pub cell_of : {D V : Type 0} (running : OpenCell D V) (cell : Option Cell) → CellStandsFor (Some running) cell → (c : Cell) × (cell ≡ Some c) × StandsFor running c
+pub cell_of : {D V : Type 0} (running : OpenCell D V) (cell : Option Cell) → CellStandsFor (Some running) cell → (c : Cell) × (cell ≡ Some c) × IsModelledBy running c
 cell_of running None stands = absurd stands
 cell_of running (Some c) stands = (c, refl, stands)
 
@@ -48,11 +48,11 @@ module _ {D V : Type 0} (files : D → Option Files) (faults : D → ℕ) (db : 
     (run_is : (st : Stage) (c : Cell) (choices : List Choice) → st.cell ≡ Some c → run_of_line db l st choices ≡ in_stage (later st) (run st c choices))
     (hosts : (st : Stage) (c : Cell) (choices : List Choice) → IfOk (run st c choices) (λ r. r.cell.run.world.hosts ≡ c.run.world.hosts))
     (before : CellRun D V) (running : OpenCell D V) (here : before.cell ≡ Some running) (sound : IsSoundRun files faults before) (st : Stage) (near : IsNear 0 before st) where
-  stands : (c : Cell) × (st.cell ≡ Some c) × StandsFor running c
+  stands : (c : Cell) × (st.cell ≡ Some c) × IsModelledBy running c
   stands = cell_of running st.cell (subst (λ (o : Option (OpenCell D V)). CellStandsFor o st.cell) here near.cell)
 
   abbrev Told : Option Ending → OpenCell D V → List ℕ → List ℕ → Type 0
-  Told ended after text_before text_after = (c : Cell) → StandsFor running c → CellTold files faults db (run st c) ended running after text_before text_after
+  Told ended after text_before text_after = (c : Cell) → IsModelledBy running c → CellTold files faults db (run st c) ended running after text_before text_after
 
   causes_before : (items : List TraceItem) → HasCauses files faults before.cell items → AreCauses 0 items (helds files faults running)
   causes_before items causes = subst (λ (o : Option (OpenCell D V)). HasCauses files faults o items) here causes
@@ -109,7 +109,7 @@ module _ {D V : Type 0} (files : D → Option Files) (faults : D → ℕ) (db : 
             (more_causes 0 items t.ran.items (helds files faults running) (helds files faults after) (causes_before items causes) t.causes);
       }
 
-  refused_line : (why : Why) → ((c : Cell) → StandsFor running c → IsRefused why (run st c)) → IsRefusedLine why (run_of_line db l st)
+  refused_line : (why : Why) → ((c : Cell) → IsModelledBy running c → IsRefused why (run st c)) → IsRefusedLine why (run_of_line db l st)
   refused_line why refused = λ choices. run_is st stands.0 choices stands.1 ∙ ap (in_stage (later st)) (refused stands.0 stands.2 choices)
 
   abbrev others : List Held
@@ -130,7 +130,7 @@ module _ {D V : Type 0} (files : D → Option Files) (faults : D → ℕ) (db : 
   })
 
   short_line : (after : OpenCell D V) → length after.sites.items ≡ length running.sites.items → AreRises 0 [] (helds files faults running) (helds files faults after)
-      → ((c : Cell) → StandsFor running c → IsShort files faults (run st c) c running after)
+      → ((c : Cell) → IsModelledBy running c → IsShort files faults (run st c) c running after)
       → StageShort files faults (run_of_line db l st) st before (record before { cell = Some after })
   short_line after same rises short = record {
     causes = λ items causes. kept_causes after [] st.cell same rises near.cell items causes;
@@ -246,7 +246,7 @@ module _ {D V : Type 0} (files : D → Option Files) (faults : D → ℕ) (db : 
 
   -- what is told of it, where the run counts so many asks
   ask_told : (bound : ℕ) (ended : Option Ending) (text_before text_after : List ℕ) (st : Stage) (near : IsNear 0 before st)
-      → ((c : Cell) → StandsFor running c → CellTold files faults db (asked_so c) ended running after text_before text_after)
+      → ((c : Cell) → IsModelledBy running c → CellTold files faults db (asked_so c) ended running after text_before text_after)
       → length after.sites.items ≡ length running.sites.items → (ended ≡ None → IsSound files faults bound after)
       → StageTold files faults (only db) (run_of_line db ask st) ended before (record before { cell = Some after; asks = before.asks + 1 }) text_before text_after
   ask_told bound ended text_before text_after st near told same is_sound =
@@ -256,7 +256,7 @@ module _ {D V : Type 0} (files : D → Option Files) (faults : D → ℕ) (db : 
       same is_sound (λ _. (omega (arith, near.lines), ap (λ (n : ℕ). n + 1) near.asks))
 
   pub asked_ok : (bound : ℕ) (text_before text_after : List ℕ)
-      → ((c : Cell) → StandsFor running c → CellTold files faults db (asked_so c) None running after text_before text_after) → length after.sites.items ≡ length running.sites.items
+      → ((c : Cell) → IsModelledBy running c → CellTold files faults db (asked_so c) None running after text_before text_after) → length after.sites.items ≡ length running.sites.items
       → IsSound files faults bound after → LineDone files faults db ask (Ok tt) before (record before { cell = Some after; asks = before.asks + 1 }) text_before text_after
   asked_ok bound text_before text_after told same is_sound = λ st near. ask_told bound None text_before text_after st near told same (λ _. is_sound)
 

@@ -20,7 +20,7 @@ use Rattle.cell_sites.specs.declared.faults.LineFault.{LineFault}
 use Rattle.cell_sites.specs.declared.faults.LineFault.TheVariants.{NoMemory}
 use Rattle.cell_sites.specs.Disks.{Held, all_held, AreCauses, AreRises}
 use Rattle.cell_sites.specs.Opened.{IsOpened, opening_items}
-use Rattle.cell_sites.specs.Sites.{StandsFor, helds}
+use Rattle.cell_sites.specs.Sites.{IsModelledBy, helds}
 use Rattle.cell_sites.specs.Sound.{IsSound}
 use Rattle.cell_sites.proofs.Reading.{cell_reads}
 use Rattle.ubik_cell.specs.declared.scripts.CellRun.{CellRun}
@@ -71,8 +71,8 @@ module _ {D V : Type 0} (files : D → Option Files) (faults : D → ℕ) (db : 
   opened_line given text_before text_after count is hosts empty = λ st near.
       let choices = is.choices in
       let failed = fails_at servers choices in
-      let stands : StandsFor running (opened_cell servers clock k failed) =
-      subst (λ n. StandsFor running (opened_cell n clock k (fails_at n choices))) count is.stands in
+      let stands : IsModelledBy running (opened_cell servers clock k failed) =
+      subst (λ n. IsModelledBy running (opened_cell n clock k (fails_at n choices))) count is.stands in
       record {
         choices = choices;
         ran = opened (next_line st) choices servers clock k;

@@ -14,7 +14,7 @@ use Rattle.cell_sites.specs.declared.cells.OpenCell.{OpenCell}
 use Rattle.cell_sites.specs.declared.faults.LineFault.{LineFault}
 use Rattle.cell_sites.specs.declared.faults.LineFault.TheVariants.{Refused, Limit, NoMemory}
 use Rattle.cell_sites.specs.Disks.{AreRises}
-use Rattle.cell_sites.specs.Sites.{StandsFor, helds}
+use Rattle.cell_sites.specs.Sites.{IsModelledBy, helds}
 use Rattle.cell_sites.specs.Sound.{IsSound}
 use Rattle.cell_sites.specs.Told.{CellTold, IsRefused, IsShort}
 use Rattle.ubik_cell.specs.declared.scripts.CellRun.{CellRun}
@@ -98,13 +98,13 @@ pub record KeepsPlaces {D V : Type 0} (files : D → Option Files) (faults : D �
 abbrev pub CellDone : {D V : Type 0} → (D → Option Files) → (D → ℕ) → ScriptDatabase → (Cell → List Choice → Run_or_why)
     → Result (Unit {0}) LineFault → (before after : OpenCell D V) → (text_before text_after : List ℕ) → Type 0
 CellDone files faults db run (Ok done) before after text_before text_after =
-    (c : Cell) → StandsFor before c → CellTold files faults db (run c) None before after text_before text_after
+    (c : Cell) → IsModelledBy before c → CellTold files faults db (run c) None before after text_before text_after
 CellDone files faults db run (Err (Limit which)) before after text_before text_after =
-    (c : Cell) → StandsFor before c → CellTold files faults db (run c) (Some (ending.Limit which)) before after text_before text_after
+    (c : Cell) → IsModelledBy before c → CellTold files faults db (run c) (Some (ending.Limit which)) before after text_before text_after
 CellDone files faults db run (Err (Refused why)) before after text_before text_after =
-    (after ≡ before) × (text_after ≡ text_before) × ((c : Cell) → StandsFor before c → IsRefused why (run c))
+    (after ≡ before) × (text_after ≡ text_before) × ((c : Cell) → IsModelledBy before c → IsRefused why (run c))
 CellDone files faults db run (Err NoMemory) before after text_before text_after =
-    (c : Cell) → StandsFor before c → IsShort files faults (run c) c before after
+    (c : Cell) → IsModelledBy before c → IsShort files faults (run c) c before after
 
 pub record KeepsCell {D V : Type 0} (files : D → Option Files) (faults : D → ℕ) (result : Result (Unit {0}) LineFault) (before after : OpenCell D V) : Type 0 where
   pub sound : result ≡ Ok tt → (bound : ℕ) → IsSound files faults bound before → IsSound files faults (bound + MAX_TICK) after

@@ -12,7 +12,7 @@ use Rattle.cell_runs.specs.Trace.{TraceItem}
 use Rattle.cell_script.specs.declared.lines.Why.{Why}
 use Rattle.cell_sites.specs.declared.cells.OpenCell.{OpenCell}
 use Rattle.cell_sites.specs.Disks.{Held, all_held, IsReadBy, AreCauses}
-use Rattle.cell_sites.specs.Sites.{StandsFor, helds}
+use Rattle.cell_sites.specs.Sites.{IsModelledBy, helds}
 use Rattle.cell_sites.specs.Sound.{IsSound}
 use Rattle.ubik_cell.specs.declared.scripts.CellRun.{CellRun}
 use Rattle.ubik_cell.specs.declared.scripts.RunEnd.{RunEnd}
@@ -51,7 +51,7 @@ IsSoundRun files faults run = IsSoundBy files faults run.lines run
 -- the cell that stands is that of the stage
 abbrev pub CellStandsFor : {D V : Type 0} → Option (OpenCell D V) → Option Cell → Type 0
 CellStandsFor None None = Unit {0}
-CellStandsFor (Some running) (Some c) = StandsFor running c
+CellStandsFor (Some running) (Some c) = IsModelledBy running c
 CellStandsFor _ _ = ⊥
 
 -- what the disks of a run read as: those of the cell in their order, and then the others
