@@ -124,7 +124,6 @@ impl<D: Disk> Store<D> {
     /// nothing is added.
     pub fn put(&mut self, at: u32, bytes: &[u8]) -> Result<(), StoreFault>
         requires sound { IsSound D.Disk self.old }
-        requires end { at + length bytes.now < 2 ^ 32 }
         requires begun { IsSome self.old.begun }
         ensures sound { IsSound D.Disk self.new }
         ensures added { OnOk result (Adds (change.Put at bytes.now) self.old.begun self.new.begun) }

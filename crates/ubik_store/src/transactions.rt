@@ -96,7 +96,6 @@ impl Transaction {
     /// Adds the put of bytes at a position, after one of zero bytes for a gap before it. After a fault nothing is added.
     pub(crate) fn put(&mut self, at: u32, bytes: &[u8]) -> Result<(), StoreFault>
         requires begun { IsBegunOver self.old.start self.old }
-        requires end { at + length bytes.now < 2 ^ 32 }
         ensures begun { IsBegunOver self.old.start self.new }
         ensures changes { OnOk result (self.new.changes ≡ self.old.changes ++ logged self.old.len (change.Put at bytes.now ∷ [])) }
         ensures fits { OnOk result (too_large self.old.sum self.old.len (change.Put at bytes.now ∷ []) ≡ None) }
@@ -106,13 +105,13 @@ impl Transaction {
         let gap_end = self.len.max(at);
         let sum = u64::from(self.sum) + u64::from(gap_end - self.len);
         allow(sum, u64::from(gap_end))?;
-        let end = self.len.max(at + bytes.len() as u32);
+        let end = u64::from(self.len).max(u64::from(at) + bytes.len() as u64);
         let sum = sum + bytes.len() as u64;
-        allow(sum, u64::from(end))?;
+        allow(sum, end)?;
         let put = kept_put(self.alloc, self.len, at, bytes)?;
         append(self.alloc, &mut self.changes, put)?;
         self.sum = sum as u32;
-        self.len = end;
+        self.len = end as u32;
         Ok(())
     }
 
