@@ -1,11 +1,10 @@
 -- The protection database over images (layout of format 1).
-use Rattle.std.specs.Prelude.{ℕ, ℤ, pos, ◌≡◌, ◌==◌, List, Option, Some, None, if◌then◌else◌}
+use Rattle.std.specs.Prelude.{ℕ, ℤ, pos, ◌≡◌, List, Some}
 use Rattle.std.specs.Option.{option_map}
 use Rattle.db_image.specs.Database.{Database}
 use Rattle.db_image.specs.Standing.{Standing}
-use Rattle.prdb_entries.specs.Blocks.{block_count}
 use Rattle.prdb_entries.specs.Meaning.{new_user}
-use Rattle.prdb_entries.specs.Records.{Holds, after_insert, after_set_maxima, block_in, entry_in, first_block, has_id, maxima_in, whole}
+use Rattle.prdb_entries.specs.Records.{Holds, after_insert, after_set_maxima, registry_in, whole}
 use Rattle.prdb_entries.specs.Registry.{Registry}
 use Rattle.prdb_entries.specs.State.{PrEntry, IsNamedAfter}
 use Rattle.prdb_entries.specs.declared.blocks.TheConstants.{HEAD_LEN, BLOCK_LEN}
@@ -20,16 +19,6 @@ AreNamedAfterOwners r = (a b : ℤ) (e f : PrEntry) → r.entry a ≡ Some e →
 pub record StandsFor (image : List ℕ) (r : Registry) : Type 0 where
   pub holds : Holds image r
   pub named : AreNamedAfterOwners r
-
--- what stands in the first block that meets a test, if one does
-abbrev pub entry_at : List ℕ → ℤ → Option PrEntry
-entry_at image id =
-    let k = first_block (has_id id) image in
-    if k == block_count image then None else Some (entry_in (block_in image k))
-
--- the registry that an image which is not empty tells, whatever it holds
-unfoldable pub registry_in : List ℕ → Registry
-registry_in image = record { entry = entry_at image; max_user = (maxima_in image).0; max_group = (maxima_in image).1 }
 
 -- the image after what was decided
 abbrev pub image_by : Verdict → Registry → List ℕ → List ℕ
