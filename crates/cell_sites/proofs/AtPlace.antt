@@ -4,6 +4,7 @@ use Rattle.std.specs.Prelude.{slice_get}
 use Rattle.disk_base.specs.Files.{Files}
 use Rattle.ubik_types.specs.declared.hosts.Host.{Host}
 use Rattle.std.proofs.lemmas.Option.{slice_get_read}
+use Rattle.disk_base.specs.declared.disks.Disk.{Ghosts}
 use Rattle.cell_model.specs.Node as model
 use Rattle.cell_model.specs.World.{Site as ModelSite, clocks_of, is_down, tick_at, ticked}
 use Rattle.cell_runs.specs.Script.{Cell, cell_size_of, is_down_at, node_in}
@@ -78,39 +79,39 @@ sites_all_ticked (x ∷ sites) (s ∷ ss) seconds are = (is_ticked x s seconds a
 
 -- ---- sound sites
 
-pub sound_at : {D V : Type 0} (files : D → Option Files) (faults : D → ℕ) (hosts : List Host) (place bound : ℕ) (sites : List (Site D V)) (k : ℕ) (site : Site D V) → AreSound files faults hosts place bound sites → slice_get sites k ≡ Some site → IsSoundSite files faults (record { hosts = hosts; me = place + k }) bound site
-sound_at files faults hosts place bound [] k site are there = cc
-sound_at {D} {V} files faults hosts place bound (x ∷ sites) zero site are there =
+pub sound_at : {D V : Type 0} (g : Ghosts D) (hosts : List Host) (place bound : ℕ) (sites : List (Site D V)) (k : ℕ) (site : Site D V) → AreSound g hosts place bound sites → slice_get sites k ≡ Some site → IsSoundSite g (record { hosts = hosts; me = place + k }) bound site
+sound_at g hosts place bound [] k site are there = cc
+sound_at {D} {V} g hosts place bound (x ∷ sites) zero site are there =
     let same : x ≡ site = cc in
     let me : place ≡ place + 0 = omega arith in
-    subst (λ (n : ℕ). IsSoundSite files faults (record { hosts = hosts; me = n }) bound site) me
-    (subst (λ (y : Site D V). IsSoundSite files faults (record { hosts = hosts; me = place }) bound y) same are.0)
-sound_at files faults hosts place bound (x ∷ sites) (suc k) site are there =
+    subst (λ (n : ℕ). IsSoundSite g (record { hosts = hosts; me = n }) bound site) me
+    (subst (λ (y : Site D V). IsSoundSite g (record { hosts = hosts; me = place }) bound y) same are.0)
+sound_at g hosts place bound (x ∷ sites) (suc k) site are there =
     let me : place + 1 + k ≡ place + suc k = omega arith in
-    subst (λ (n : ℕ). IsSoundSite files faults (record { hosts = hosts; me = n }) bound site) me
-    (sound_at files faults hosts (place + 1) bound sites k site are.1 there)
+    subst (λ (n : ℕ). IsSoundSite g (record { hosts = hosts; me = n }) bound site) me
+    (sound_at g hosts (place + 1) bound sites k site are.1 there)
 
-pub sound_set : {D V : Type 0} (files : D → Option Files) (faults : D → ℕ) (hosts : List Host) (place bound : ℕ) (sites : List (Site D V)) (k : ℕ) (site : Site D V) → AreSound files faults hosts place bound sites → IsSoundSite files faults (record { hosts = hosts; me = place + k }) bound site → AreSound files faults hosts place bound (set sites k site)
-sound_set files faults hosts place bound [] k site are is = tt
-sound_set files faults hosts place bound (x ∷ sites) zero site are is =
+pub sound_set : {D V : Type 0} (g : Ghosts D) (hosts : List Host) (place bound : ℕ) (sites : List (Site D V)) (k : ℕ) (site : Site D V) → AreSound g hosts place bound sites → IsSoundSite g (record { hosts = hosts; me = place + k }) bound site → AreSound g hosts place bound (set sites k site)
+sound_set g hosts place bound [] k site are is = tt
+sound_set g hosts place bound (x ∷ sites) zero site are is =
     let me : place + 0 ≡ place = omega arith in
-    (subst (λ (n : ℕ). IsSoundSite files faults (record { hosts = hosts; me = n }) bound site) me is, are.1)
-sound_set files faults hosts place bound (x ∷ sites) (suc k) site are is =
+    (subst (λ (n : ℕ). IsSoundSite g (record { hosts = hosts; me = n }) bound site) me is, are.1)
+sound_set g hosts place bound (x ∷ sites) (suc k) site are is =
     let me : place + suc k ≡ place + 1 + k = omega arith in (
       are.0,
-      sound_set files faults hosts (place + 1) bound sites k site are.1
-          (subst (λ (n : ℕ). IsSoundSite files faults (record { hosts = hosts; me = n }) bound site) me is),
+      sound_set g hosts (place + 1) bound sites k site are.1
+          (subst (λ (n : ℕ). IsSoundSite g (record { hosts = hosts; me = n }) bound site) me is),
     )
 
-pub sound_push : {D V : Type 0} (files : D → Option Files) (faults : D → ℕ) (hosts : List Host) (place bound : ℕ) (sites : List (Site D V)) (site : Site D V) → AreSound files faults hosts place bound sites → IsSoundSite files faults (record { hosts = hosts; me = place + length sites }) bound site → AreSound files faults hosts place bound (sites ++ site ∷ [])
-sound_push files faults hosts place bound [] site are is =
+pub sound_push : {D V : Type 0} (g : Ghosts D) (hosts : List Host) (place bound : ℕ) (sites : List (Site D V)) (site : Site D V) → AreSound g hosts place bound sites → IsSoundSite g (record { hosts = hosts; me = place + length sites }) bound site → AreSound g hosts place bound (sites ++ site ∷ [])
+sound_push g hosts place bound [] site are is =
     let me : place + 0 ≡ place = omega arith in
-    (subst (λ (n : ℕ). IsSoundSite files faults (record { hosts = hosts; me = n }) bound site) me is, tt)
-sound_push files faults hosts place bound (x ∷ sites) site are is =
+    (subst (λ (n : ℕ). IsSoundSite g (record { hosts = hosts; me = n }) bound site) me is, tt)
+sound_push g hosts place bound (x ∷ sites) site are is =
     let me : place + length (x ∷ sites) ≡ place + 1 + length sites = omega arith in (
       are.0,
-      sound_push files faults hosts (place + 1) bound sites site are.1
-          (subst (λ (n : ℕ). IsSoundSite files faults (record { hosts = hosts; me = n }) bound site) me is),
+      sound_push g hosts (place + 1) bound sites site are.1
+          (subst (λ (n : ℕ). IsSoundSite g (record { hosts = hosts; me = n }) bound site) me is),
     )
 
 -- ---- disks
@@ -143,8 +144,8 @@ up_at {D} {V} running c k site n stands there is =
     ap (λ (o : Option ModelSite). is_down (node_in o)) at.there ∙ ap is_down (at.is.node ∙ ap (λ (s : Server D V). server_node s) is)
     ∙ is_up n.halted (up_server n)
 
-pub cell_size : {D V : Type 0} (files : D → Option Files) (faults : D → ℕ) (bound : ℕ) (running : OpenCell D V) (c : Cell) → IsSound files faults bound running → IsModelledBy running c → cell_size_of c ≡ length running.sites.items
-cell_size files faults bound running c sound stands =
+pub cell_size : {D V : Type 0} (g : Ghosts D) (bound : ℕ) (running : OpenCell D V) (c : Cell) → IsSound g bound running → IsModelledBy running c → cell_size_of c ≡ length running.sites.items
+cell_size g bound running c sound stands =
     ap (λ (l : List Host). length l) (stands.hosts ∙ sound.hosts) ∙ length-hosts_of (length running.sites.items)
 
 pub get_set_before : {X : Type 0} (xs : List X) (i k : ℕ) (y : X) → i < k → slice_get (set xs i y) k ≡ slice_get xs k

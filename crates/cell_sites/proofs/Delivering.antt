@@ -4,6 +4,7 @@ use Rattle.std.specs.Prelude.{All, slice_get, unwrap_or}
 use Rattle.std.specs.Option.{option_and_then, option_map}
 use Rattle.std.proofs.lemmas.List.{append-nil}
 use Rattle.std.proofs.lemmas.Option.{get_or_from_slice_get, slice_get_read, slice_get_within}
+use Rattle.disk_base.specs.declared.disks.Disk.{Ghosts}
 use Rattle.disk_base.specs.Files.{Files}
 use Rattle.ubik_types.specs.declared.hosts.Host.{Host}
 use Rattle.ubik_calls.specs.declared.packets.Packet.{Packet}
@@ -47,8 +48,8 @@ pub stands_with : {D V : Type 0} (running : OpenCell D V) (c : Cell) (p : Traffi
 stands_with running c p handed stands sent is =
     record { hosts = stands.hosts; sites = stands.sites; sent = stands.sent ∙ sym sent; handed = is; unarmed = stands.unarmed }
 
-pub sound_with : {D V : Type 0} (files : D → Option Files) (faults : D → ℕ) (bound : ℕ) (running : OpenCell D V) (p : Traffic) → IsSound files faults bound running → p.sent ≡ running.packets.sent → IsSound files faults bound (with_packets running p)
-sound_with files faults bound running p sound sent =
+pub sound_with : {D V : Type 0} (g : Ghosts D) (bound : ℕ) (running : OpenCell D V) (p : Traffic) → IsSound g bound running → p.sent ≡ running.packets.sent → IsSound g bound (with_packets running p)
+sound_with g bound running p sound sent =
     record {
       some = sound.some;
       few = sound.few;
@@ -60,13 +61,13 @@ sound_with files faults bound running p sound sent =
     }
 
 -- what is told of the cell with other packets is told of the cell
-pub told_before : {D V : Type 0} (files : D → Option Files) (faults : D → ℕ) (script_db : ScriptDatabase) (running after : OpenCell D V) (p : Traffic) (run : List Choice → Run_or_why) (ended : Option Ending) (tb ta : List ℕ) → CellTold files faults script_db run ended (with_packets running p) after tb ta → CellTold files faults script_db run ended running after tb ta
-told_before files faults script_db running after p run ended tb ta told =
+pub told_before : {D V : Type 0} (g : Ghosts D) (script_db : ScriptDatabase) (running after : OpenCell D V) (p : Traffic) (run : List Choice → Run_or_why) (ended : Option Ending) (tb ta : List ℕ) → CellTold g script_db run ended (with_packets running p) after tb ta → CellTold g script_db run ended running after tb ta
+told_before g script_db running after p run ended tb ta told =
     record { choices = told.choices; ran = told.ran; is = told.is; ends = told.ends; cell = told.cell; told = told.told; causes = told.causes }
 
-pub short_before : {D V : Type 0} (files : D → Option Files) (faults : D → ℕ) (running after : OpenCell D V) (p : Traffic) (run : List Choice → Run_or_why) (c : Cell) (handed : List Bool) → IsShort files faults run (with_handed c handed) (with_packets running p) after → IsShort files faults run c running after
-short_before files faults running after p run c handed (inl read) = inl read
-short_before files faults running after p run c handed (inr later) = inr (record { choices = later.choices; ran = later.ran; is = later.is; read = later.read; causes = later.causes })
+pub short_before : {D V : Type 0} (g : Ghosts D) (running after : OpenCell D V) (p : Traffic) (run : List Choice → Run_or_why) (c : Cell) (handed : List Bool) → IsShort g run (with_handed c handed) (with_packets running p) after → IsShort g run c running after
+short_before g running after p run c handed (inl read) = inl read
+short_before g running after p run c handed (inr later) = inr (record { choices = later.choices; ran = later.ran; is = later.is; read = later.read; causes = later.causes })
 
 -- ---- where a packet goes
 
@@ -89,14 +90,14 @@ set_same {X} (y ∷ xs) (suc k) x there = ap (λ (l : List X). y ∷ l) (set_sam
 
 -- ---- a server that is down loses the packet
 
-pub lost : {D V : Type 0} (files : D → Option Files) (faults : D → ℕ) (script_db : ScriptDatabase) (running : OpenCell D V) (c : Cell) (number k : ℕ) (p : Packet) (text_before text_after : List ℕ) → IsModelledBy running c → (down : IsDownAt running k)
+pub lost : {D V : Type 0} (g : Ghosts D) (script_db : ScriptDatabase) (running : OpenCell D V) (c : Cell) (number k : ℕ) (p : Packet) (text_before text_after : List ℕ) → IsModelledBy running c → (down : IsDownAt running k)
     → occasion c.run.world (Delivery number) ≡ Some (k, event.Packet p) → text_after ≡ text_before ++ item_text script_db running.hosts.items (Tells (Lost number))
-    → CellTold files faults script_db (λ choices. Ok (stepped script_db c (first_choice choices) (Delivery number))) None running running text_before text_after
-lost {D} {V} files faults script_db running c number k p tb ta stands down o told =
+    → CellTold g script_db (λ choices. Ok (stepped script_db c (first_choice choices) (Delivery number))) None running running text_before text_after
+lost {D} {V} g script_db running c number k p tb ta stands down o told =
     let m = site_at running.sites.items c.run.world.sites k (record { clock = down.clock; server = Down down.disk }) stands.sites down.there in
     let h : SiteHappened = only_marks m.s (Lost number ∷ []) in
     let site : Site D V = record { clock = down.clock; server = Down down.disk } in
-    whole files faults script_db running running c stands k (Step (Delivery number) []) h (λ choices. Ok (stepped script_db c (first_choice choices) (Delivery number))) []
+    whole g script_db running running c stands k (Step (Delivery number) []) h (λ choices. Ok (stepped script_db c (first_choice choices) (Delivery number))) []
     (ap Ok (stepped_sound script_db c (length running.hosts.items) stands.unarmed (Delivery number) k (event.Packet p) m.s o m.there
     ∙ ap (happened c (Step (Delivery number) [])) (down_happens script_db.database c.run.world (Delivery number) k (event.Packet p) m.s o m.there m.is.node)))
     tt site site down.there (sym (set_same running.sites.items k site down.there)) (omega arith) (λ j other. refl)

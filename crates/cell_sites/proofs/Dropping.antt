@@ -3,6 +3,7 @@ use Rattle.std.proofs.Common.{◌≡◌, ◌<◌, ◌-◌, ℕ, Bool, true, List
 use Rattle.std.specs.Prelude.{slice_get, unwrap_or}
 use Rattle.std.proofs.lemmas.List.{append-nil}
 use Rattle.std.proofs.lemmas.Option.{slice_get_within}
+use Rattle.disk_base.specs.declared.disks.Disk.{Ghosts}
 use Rattle.disk_base.specs.Files.{Files}
 use Rattle.ubik_calls.specs.declared.packets.Packet.{Packet}
 use Rattle.ubik_types.specs.declared.hosts.Host.{Host}
@@ -22,8 +23,8 @@ use Rattle.cell_sites.proofs.Soundly.{host_count}
 abbrev pub with_packets : {D V : Type 0} → OpenCell D V → Traffic → OpenCell D V
 with_packets running packets = record running { packets = packets }
 
-pub packets_told : {D V : Type 0} (files : D → Option Files) (faults : D → ℕ) (db : ScriptDatabase) (running : OpenCell D V) (c : Cell) (packets : Traffic) (handed : List Bool) (run : List Choice → Run_or_why) (text : List ℕ) → ((choices : List Choice) → run choices ≡ Ok (resting (record c { handed = handed }))) → packets.sent ≡ running.packets.sent → packets.handed ≡ handed → IsModelledBy running c → CellTold files faults db run None running (with_packets running packets) text text
-packets_told files faults db running c packets handed run text does sent same stands =
+pub packets_told : {D V : Type 0} (g : Ghosts D) (db : ScriptDatabase) (running : OpenCell D V) (c : Cell) (packets : Traffic) (handed : List Bool) (run : List Choice → Run_or_why) (text : List ℕ) → ((choices : List Choice) → run choices ≡ Ok (resting (record c { handed = handed }))) → packets.sent ≡ running.packets.sent → packets.handed ≡ handed → IsModelledBy running c → CellTold g db run None running (with_packets running packets) text text
+packets_told g db running c packets handed run text does sent same stands =
     record {
       choices = [];
       ran = resting (record c { handed = handed });
@@ -37,7 +38,7 @@ packets_told files faults db running c packets handed run text does sent same st
         unarmed = stands.unarmed;
       };
       told = sym (append-nil text);
-      causes = rises_none 0 (helds files faults running);
+      causes = rises_none 0 (helds g.files g.faults running);
     }
 
 -- one packet
@@ -58,8 +59,8 @@ host_handed running c packets k host is there stands =
     ∙ ap (λ (l : List Bool). dropped_of (host_at c.run.world.hosts k) c.run.world.packets l) (sym stands.handed)
 
 -- a server that is up has a host
-pub host_within : {D V : Type 0} (files : D → Option Files) (faults : D → ℕ) (bound : ℕ) (running : OpenCell D V) (k : ℕ) → IsSound files faults bound running → IsUpAt running k → k < length running.hosts.items
-host_within files faults bound running k sound up =
+pub host_within : {D V : Type 0} (g : Ghosts D) (bound : ℕ) (running : OpenCell D V) (k : ℕ) → IsSound g bound running → IsUpAt running k → k < length running.hosts.items
+host_within g bound running k sound up =
     let within = slice_get_within running.sites.items k _ up.there in
-    let count = host_count files faults bound running sound in
+    let count = host_count g bound running sound in
     omega (arith, within, count)

@@ -2,6 +2,7 @@
 use Rattle.std.proofs.Common.{◌≡◌, ◌≢◌, ◌⊎◌, inl, inr, ◌<◌, ◌≤◌, ◌+◌, ◌-◌, ℕ, zero, suc, Bool, true, false, Option, Some, None, Result, Ok, Err, List, [], ◌∷◌, ◌++◌, drop, length, refl, sym, ap, subst, ◌∙◌, arith, append_assoc}
 use Rattle.std.specs.List.{flat_map}
 use Rattle.std.proofs.lemmas.List.{append-nil}
+use Rattle.disk_base.specs.declared.disks.Disk.{Ghosts}
 use Rattle.disk_base.specs.Files.{Files}
 use Rattle.ubik_types.specs.declared.hosts.Host.{Host}
 use Rattle.cell_model.specs.World.{Site as ModelSite}
@@ -40,29 +41,29 @@ joined items more r = ap (λ (l : List TraceItem). record r { items = l }) (sym 
 -- ---- the loop
 
 -- what was delivered so far, with some choices: what it comes to in all is that, and then what it comes to from here with so much fuel
-pub record SoFar {D V : Type 0} (files : D → Option Files) (faults : D → ℕ) (script_db : ScriptDatabase) (most fuel : ℕ) (c : Cell) (start now : OpenCell D V) (text_before text : List ℕ) : Type 0 where
+pub record SoFar {D V : Type 0} (g : Ghosts D) (script_db : ScriptDatabase) (most fuel : ℕ) (c : Cell) (start now : OpenCell D V) (text_before text : List ℕ) : Type 0 where
   pub cell : Cell
   pub stands : IsModelledBy now cell
   pub items : List TraceItem
   pub done : List Choice
   pub is : (more : List Choice) → all_delivered script_db most c (done ++ more) (first_waiting 1 c.handed) ≡ joined_run items (all_delivered script_db fuel cell more (first_waiting 1 cell.handed))
   pub told : text ≡ text_before ++ trace script_db start.hosts.items items
-  pub causes : AreRises 0 items (helds files faults start) (helds files faults now)
+  pub causes : AreRises 0 items (helds g.files g.faults start) (helds g.files g.faults now)
   pub hosts : now.hosts.items ≡ start.hosts.items
 
-pub record Follows {D V : Type 0} (files : D → Option Files) (faults : D → ℕ) (script_db : ScriptDatabase) (most fuel : ℕ) (start now : OpenCell D V) (text_before text : List ℕ) : Type 0 where
-  pub runs : (c : Cell) → IsModelledBy start c → SoFar files faults script_db most fuel c start now text_before text
-  pub sound : (bound : ℕ) → IsSound files faults bound start → IsSound files faults bound now
-  pub rises : AreRises 0 [] (helds files faults start) (helds files faults now)
+pub record Follows {D V : Type 0} (g : Ghosts D) (script_db : ScriptDatabase) (most fuel : ℕ) (start now : OpenCell D V) (text_before text : List ℕ) : Type 0 where
+  pub runs : (c : Cell) → IsModelledBy start c → SoFar g script_db most fuel c start now text_before text
+  pub sound : (bound : ℕ) → IsSound g bound start → IsSound g bound now
+  pub rises : AreRises 0 [] (helds g.files g.faults start) (helds g.files g.faults now)
   pub same : length now.sites.items ≡ length start.sites.items
-  pub keeps : (sites : List ModelSite) → AreReadBy sites (helds files faults start) → AreReadBy sites (helds files faults now)
+  pub keeps : (sites : List ModelSite) → AreReadBy sites (helds g.files g.faults start) → AreReadBy sites (helds g.files g.faults now)
 
 no_rise : (k : ℕ) (disks : List Held) → AreRises k [] disks disks
 no_rise k [] = tt
 no_rise k (disk ∷ disks) = (omega arith, no_rise (k + 1) disks)
 
-pub follows_none : {D V : Type 0} (files : D → Option Files) (faults : D → ℕ) (script_db : ScriptDatabase) (most fuel : ℕ) (start : OpenCell D V) (text : List ℕ) → fuel ≡ most → Follows files faults script_db most fuel start start text text
-follows_none files faults script_db most fuel start text same =
+pub follows_none : {D V : Type 0} (g : Ghosts D) (script_db : ScriptDatabase) (most fuel : ℕ) (start : OpenCell D V) (text : List ℕ) → fuel ≡ most → Follows g script_db most fuel start start text text
+follows_none g script_db most fuel start text same =
     record {
       runs = λ c stands. record {
         cell = c;
@@ -71,16 +72,16 @@ follows_none files faults script_db most fuel start text same =
         done = [];
         is = λ more. ap (λ (n : ℕ). joined_run [] (all_delivered script_db n c more (first_waiting 1 c.handed))) (sym same);
         told = sym (append-nil text);
-        causes = no_rise 0 (helds files faults start);
+        causes = no_rise 0 (helds g.files g.faults start);
         hosts = refl;
       };
       sound = λ bound sound. sound;
-      rises = no_rise 0 (helds files faults start);
+      rises = no_rise 0 (helds g.files g.faults start);
       same = refl;
       keeps = λ sites read. read;
     }
 
-module _ {D V : Type 0} (files : D → Option Files) (faults : D → ℕ) (script_db : ScriptDatabase) (most fuel : ℕ) (c : Cell) (start now later : OpenCell D V) (tb text after : List ℕ) (so : SoFar files faults script_db most (suc fuel) c start now tb text) (number : ℕ) (waits : first_waiting 1 so.cell.handed ≡ Some number) (ended : Option Ending) (told : CellTold files faults script_db (λ choices. Ok (delivered script_db so.cell (first_choice choices) number)) ended now later text after) where
+module _ {D V : Type 0} (g : Ghosts D) (script_db : ScriptDatabase) (most fuel : ℕ) (c : Cell) (start now later : OpenCell D V) (tb text after : List ℕ) (so : SoFar g script_db most (suc fuel) c start now tb text) (number : ℕ) (waits : first_waiting 1 so.cell.handed ≡ Some number) (ended : Option Ending) (told : CellTold g script_db (λ choices. Ok (delivered script_db so.cell (first_choice choices) number)) ended now later text after) where
   -- what one more packet comes to
   one_more : (more : List Choice) → all_delivered script_db most c ((so.done ++ first_choice told.choices ∷ []) ++ more) (first_waiting 1 c.handed)
       ≡ joined_run so.items (unless_ended told.ran told.ran.ending (all_delivered script_db fuel told.ran.cell more (first_waiting 1 told.ran.cell.handed)))
@@ -100,7 +101,7 @@ module _ {D V : Type 0} (files : D → Option Files) (faults : D → ℕ) (scrip
       ∙ ap (λ (l : List ℕ). tb ++ l) (sym (trace-append script_db start.hosts.items so.items told.ran.items))
 
   -- the script goes on
-  pub goes_on : ended ≡ None → IsModelledBy later told.ran.cell → later.hosts.items ≡ now.hosts.items → SoFar files faults script_db most fuel c start later tb after
+  pub goes_on : ended ≡ None → IsModelledBy later told.ran.cell → later.hosts.items ≡ now.hosts.items → SoFar g script_db most fuel c start later tb after
   goes_on none stands hosts =
       record {
         cell = told.ran.cell;
@@ -112,13 +113,13 @@ module _ {D V : Type 0} (files : D → Option Files) (faults : D → ℕ) (scrip
             ∙ ap (λ (e : Option Ending). joined_run so.items (unless_ended told.ran e (all_delivered script_db fuel told.ran.cell more (first_waiting 1 told.ran.cell.handed)))) (told.ends ∙ none)
             ∙ joined so.items told.ran.items (all_delivered script_db fuel told.ran.cell more (first_waiting 1 told.ran.cell.handed));
         told = all_told;
-        causes = rises_both 0 so.items told.ran.items (helds files faults start) (helds files faults now) (helds files faults later) so.causes told.causes;
+        causes = rises_both 0 so.items told.ran.items (helds g.files g.faults start) (helds g.files g.faults now) (helds g.files g.faults later) so.causes told.causes;
         hosts = hosts ∙ so.hosts;
       }
 
   -- the script ends in it
-  pub ends_there : (ending : Ending) → ended ≡ Some ending → AreReadBy told.ran.cell.run.world.sites (helds files faults later)
-      → CellTold files faults script_db (λ choices. Ok (all_delivered script_db most c choices (first_waiting 1 c.handed))) (Some ending) start later tb after
+  pub ends_there : (ending : Ending) → ended ≡ Some ending → AreReadBy told.ran.cell.run.world.sites (helds g.files g.faults later)
+      → CellTold g script_db (λ choices. Ok (all_delivered script_db most c choices (first_waiting 1 c.handed))) (Some ending) start later tb after
   ends_there ending some read =
       record {
         choices = (so.done ++ first_choice told.choices ∷ []) ++ [];
@@ -127,14 +128,14 @@ module _ {D V : Type 0} (files : D → Option Files) (faults : D → ℕ) (scrip
         ends = told.ends ∙ some;
         cell = read;
         told = all_told;
-        causes = rises_both 0 so.items told.ran.items (helds files faults start) (helds files faults now) (helds files faults later) so.causes told.causes;
+        causes = rises_both 0 so.items told.ran.items (helds g.files g.faults start) (helds g.files g.faults now) (helds g.files g.faults later) so.causes told.causes;
       }
 
 -- no packet waits any more, or there is no fuel left
-pub followed : {D V : Type 0} (files : D → Option Files) (faults : D → ℕ) (script_db : ScriptDatabase) (most fuel : ℕ) (c : Cell) (start now : OpenCell D V) (tb text : List ℕ) (so : SoFar files faults script_db most fuel c start now tb text)
+pub followed : {D V : Type 0} (g : Ghosts D) (script_db : ScriptDatabase) (most fuel : ℕ) (c : Cell) (start now : OpenCell D V) (tb text : List ℕ) (so : SoFar g script_db most fuel c start now tb text)
     → all_delivered script_db fuel so.cell [] (first_waiting 1 so.cell.handed) ≡ resting so.cell
-    → CellTold files faults script_db (λ choices. Ok (all_delivered script_db most c choices (first_waiting 1 c.handed))) None start now tb text
-followed files faults script_db most fuel c start now tb text so rests =
+    → CellTold g script_db (λ choices. Ok (all_delivered script_db most c choices (first_waiting 1 c.handed))) None start now tb text
+followed g script_db most fuel c start now tb text so rests =
     record {
       choices = so.done ++ [];
       ran = joined_run so.items (resting so.cell);
@@ -142,7 +143,7 @@ followed files faults script_db most fuel c start now tb text so rests =
       ends = refl;
       cell = so.stands;
       told = so.told ∙ ap (λ (l : List TraceItem). tb ++ trace script_db start.hosts.items l) (sym (append-nil so.items));
-      causes = subst (λ (l : List TraceItem). AreRises 0 l (helds files faults start) (helds files faults now)) (sym (append-nil so.items)) so.causes;
+      causes = subst (λ (l : List TraceItem). AreRises 0 l (helds g.files g.faults start) (helds g.files g.faults now)) (sym (append-nil so.items)) so.causes;
     }
 
 pub none_left : (script_db : ScriptDatabase) (fuel : ℕ) (c : Cell) → first_waiting 1 c.handed ≡ None → all_delivered script_db fuel c [] (first_waiting 1 c.handed) ≡ resting c
@@ -165,58 +166,58 @@ is_waiting k (true ∷ handed) number waits =
     let later = is_waiting (k + 1) handed number waits in (omega (arith, later.0), omega (arith, later.1))
 
 -- sound cells of as many servers have the same hosts
-pub same_hosts : {D V : Type 0} (files : D → Option Files) (faults : D → ℕ) (bound other : ℕ) (now later : OpenCell D V) → IsSound files faults bound now → IsSound files faults other later → length later.sites.items ≡ length now.sites.items → later.hosts.items ≡ now.hosts.items
-same_hosts files faults bound other now later sound sounds same = sounds.hosts ∙ ap hosts_of same ∙ sym sound.hosts
+pub same_hosts : {D V : Type 0} (g : Ghosts D) (bound other : ℕ) (now later : OpenCell D V) → IsSound g bound now → IsSound g other later → length later.sites.items ≡ length now.sites.items → later.hosts.items ≡ now.hosts.items
+same_hosts g bound other now later sound sounds same = sounds.hosts ∙ ap hosts_of same ∙ sym sound.hosts
 
-module _ {D V : Type 0} (files : D → Option Files) (faults : D → ℕ) (script_db : ScriptDatabase) (most n fuel bound : ℕ) (start now later : OpenCell D V) (tb text after : List ℕ) (follows : Follows files faults script_db most n start now tb text) (less : n ≡ suc fuel) (sound : IsSound files faults bound start) (number : ℕ) (waits : first_waiting 1 now.packets.handed ≡ Some number) where
-  before : (c : Cell) → IsModelledBy start c → SoFar files faults script_db most (suc fuel) c start now tb text
-  before c stands = subst (λ (m : ℕ). SoFar files faults script_db most m c start now tb text) less (follows.runs c stands)
+module _ {D V : Type 0} (g : Ghosts D) (script_db : ScriptDatabase) (most n fuel bound : ℕ) (start now later : OpenCell D V) (tb text after : List ℕ) (follows : Follows g script_db most n start now tb text) (less : n ≡ suc fuel) (sound : IsSound g bound start) (number : ℕ) (waits : first_waiting 1 now.packets.handed ≡ Some number) where
+  before : (c : Cell) → IsModelledBy start c → SoFar g script_db most (suc fuel) c start now tb text
+  before c stands = subst (λ (m : ℕ). SoFar g script_db most m c start now tb text) less (follows.runs c stands)
 
   -- one more packet was handed over
-  pub follows_more : ((c : Cell) → IsModelledBy now c → CellTold files faults script_db (λ choices. Ok (delivered script_db c (first_choice choices) number)) None now later text after)
-      → ((b : ℕ) → IsSound files faults b now → IsSound files faults b later) → AreRises 0 [] (helds files faults now) (helds files faults later) → length later.sites.items ≡ length now.sites.items
-      → ((sites : List ModelSite) → AreReadBy sites (helds files faults now) → AreReadBy sites (helds files faults later))
-      → Follows files faults script_db most fuel start later tb after
+  pub follows_more : ((c : Cell) → IsModelledBy now c → CellTold g script_db (λ choices. Ok (delivered script_db c (first_choice choices) number)) None now later text after)
+      → ((b : ℕ) → IsSound g b now → IsSound g b later) → AreRises 0 [] (helds g.files g.faults now) (helds g.files g.faults later) → length later.sites.items ≡ length now.sites.items
+      → ((sites : List ModelSite) → AreReadBy sites (helds g.files g.faults now) → AreReadBy sites (helds g.files g.faults later))
+      → Follows g script_db most fuel start later tb after
   follows_more told sounds rises same keeps =
       record {
         runs = λ c stands.
             let so = before c stands in
             let t = told so.cell so.stands in
-            goes_on files faults script_db most fuel c start now later tb text after so number (ap (first_waiting 1) so.stands.handed ∙ waits) None t refl t.cell
-            (same_hosts files faults bound bound now later (follows.sound bound sound) (sounds bound (follows.sound bound sound)) same);
+            goes_on g script_db most fuel c start now later tb text after so number (ap (first_waiting 1) so.stands.handed ∙ waits) None t refl t.cell
+            (same_hosts g bound bound now later (follows.sound bound sound) (sounds bound (follows.sound bound sound)) same);
         sound = λ b s. sounds b (follows.sound b s);
-        rises = rises_both 0 [] [] (helds files faults start) (helds files faults now) (helds files faults later) follows.rises rises;
+        rises = rises_both 0 [] [] (helds g.files g.faults start) (helds g.files g.faults now) (helds g.files g.faults later) follows.rises rises;
         same = same ∙ follows.same;
         keeps = λ sites read. keeps sites (follows.keeps sites read);
       }
 
   -- the next one passes a limit
-  pub limit_there : (c : Cell) → IsModelledBy start c → (ending : Ending) → ((d : Cell) → IsModelledBy now d → CellTold files faults script_db (λ choices. Ok (delivered script_db d (first_choice choices) number)) (Some ending) now later text after)
-      → CellTold files faults script_db (λ choices. Ok (all_delivered script_db most c choices (first_waiting 1 c.handed))) (Some ending) start later tb after
+  pub limit_there : (c : Cell) → IsModelledBy start c → (ending : Ending) → ((d : Cell) → IsModelledBy now d → CellTold g script_db (λ choices. Ok (delivered script_db d (first_choice choices) number)) (Some ending) now later text after)
+      → CellTold g script_db (λ choices. Ok (all_delivered script_db most c choices (first_waiting 1 c.handed))) (Some ending) start later tb after
   limit_there c stands ending told =
       let so = before c stands in
       let t = told so.cell so.stands in
-      ends_there files faults script_db most fuel c start now later tb text after so number (ap (first_waiting 1) so.stands.handed ∙ waits) (Some ending) t ending refl t.cell
+      ends_there g script_db most fuel c start now later tb text after so number (ap (first_waiting 1) so.stands.handed ∙ waits) (Some ending) t ending refl t.cell
 
 -- none waits any more
-pub all_followed : {D V : Type 0} (files : D → Option Files) (faults : D → ℕ) (script_db : ScriptDatabase) (most fuel : ℕ) (start now : OpenCell D V) (tb text : List ℕ) → Follows files faults script_db most fuel start now tb text
+pub all_followed : {D V : Type 0} (g : Ghosts D) (script_db : ScriptDatabase) (most fuel : ℕ) (start now : OpenCell D V) (tb text : List ℕ) → Follows g script_db most fuel start now tb text
     → first_waiting 1 now.packets.handed ≡ None → (c : Cell) → IsModelledBy start c
-    → CellTold files faults script_db (λ choices. Ok (all_delivered script_db most c choices (first_waiting 1 c.handed))) None start now tb text
-all_followed files faults script_db most fuel start now tb text follows none c stands =
+    → CellTold g script_db (λ choices. Ok (all_delivered script_db most c choices (first_waiting 1 c.handed))) None start now tb text
+all_followed g script_db most fuel start now tb text follows none c stands =
     let so = follows.runs c stands in
-    followed files faults script_db most fuel c start now tb text so (none_left script_db fuel so.cell (ap (first_waiting 1) so.stands.handed ∙ none))
+    followed g script_db most fuel c start now tb text so (none_left script_db fuel so.cell (ap (first_waiting 1) so.stands.handed ∙ none))
 
 -- as many were handed over as a script may send
-pub fuel_followed : {D V : Type 0} (files : D → Option Files) (faults : D → ℕ) (script_db : ScriptDatabase) (most fuel : ℕ) (start now : OpenCell D V) (tb text : List ℕ) → Follows files faults script_db most fuel start now tb text
+pub fuel_followed : {D V : Type 0} (g : Ghosts D) (script_db : ScriptDatabase) (most fuel : ℕ) (start now : OpenCell D V) (tb text : List ℕ) → Follows g script_db most fuel start now tb text
     → fuel ≡ zero → (c : Cell) → IsModelledBy start c
-    → CellTold files faults script_db (λ choices. Ok (all_delivered script_db most c choices (first_waiting 1 c.handed))) None start now tb text
-fuel_followed files faults script_db most fuel start now tb text follows none c stands =
+    → CellTold g script_db (λ choices. Ok (all_delivered script_db most c choices (first_waiting 1 c.handed))) None start now tb text
+fuel_followed g script_db most fuel start now tb text follows none c stands =
     let so = follows.runs c stands in
-    followed files faults script_db most fuel c start now tb text so (ap (λ (m : ℕ). all_delivered script_db m so.cell [] (first_waiting 1 so.cell.handed)) none ∙ no_fuel script_db so.cell (first_waiting 1 so.cell.handed))
+    followed g script_db most fuel c start now tb text so (ap (λ (m : ℕ). all_delivered script_db m so.cell [] (first_waiting 1 so.cell.handed)) none ∙ no_fuel script_db so.cell (first_waiting 1 so.cell.handed))
 
 -- memory ran out in the next one
-pub short_there : {D V : Type 0} (files : D → Option Files) (faults : D → ℕ) (script_db : ScriptDatabase) (most fuel bound : ℕ) (start now later : OpenCell D V) (tb text : List ℕ) → Follows files faults script_db most fuel start now tb text
-    → IsSound files faults bound start → ((sites : List ModelSite) → AreReadBy sites (helds files faults now) → AreReadBy sites (helds files faults later))
-    → (run : List Choice → Run_or_why) (c : Cell) → IsModelledBy start c → IsShort files faults run c start later
-short_there files faults script_db most fuel bound start now later tb text follows sound keeps run c stands =
-    inl (keeps c.run.world.sites (follows.keeps c.run.world.sites (cell_reads files faults bound start c sound stands)))
+pub short_there : {D V : Type 0} (g : Ghosts D) (script_db : ScriptDatabase) (most fuel bound : ℕ) (start now later : OpenCell D V) (tb text : List ℕ) → Follows g script_db most fuel start now tb text
+    → IsSound g bound start → ((sites : List ModelSite) → AreReadBy sites (helds g.files g.faults now) → AreReadBy sites (helds g.files g.faults later))
+    → (run : List Choice → Run_or_why) (c : Cell) → IsModelledBy start c → IsShort g run c start later
+short_there g script_db most fuel bound start now later tb text follows sound keeps run c stands =
+    inl (keeps c.run.world.sites (follows.keeps c.run.world.sites (cell_reads g bound start c sound stands)))

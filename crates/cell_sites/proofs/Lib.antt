@@ -17,6 +17,7 @@ pub mod Running
 pub mod Shortage
 pub mod Showing
 pub mod Soundly
+pub mod Standing
 pub mod Sweeping
 pub mod TellingOn
 pub mod Ticking

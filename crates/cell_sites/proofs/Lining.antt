@@ -1,5 +1,6 @@
 -- A line that comes to a step, or is refused.
 use Rattle.std.proofs.Common.{◌≡◌, ◌⊎◌, inl, inr, ◌-◌, ℕ, Option, Some, Result, Ok, Err, List, [], length, sym, ap, subst, ◌∙◌}
+use Rattle.disk_base.specs.declared.disks.Disk.{Ghosts}
 use Rattle.disk_base.specs.Files.{Files}
 use Rattle.cell_runs.specs.declared.endings.Ending.{Ending}
 use Rattle.cell_runs.specs.ScriptDatabase.{ScriptDatabase}
@@ -11,11 +12,11 @@ use Rattle.cell_sites.specs.Told.{CellTold, IsShort, IsShortAfter}
 use Rattle.cell_sites.proofs.Soundly.{host_count}
 
 -- how many servers the cell has that it stands for
-pub size_of : {D V : Type 0} (files : D → Option Files) (faults : D → ℕ) (bound : ℕ) (running : OpenCell D V) (c : Cell) → IsSound files faults bound running → IsModelledBy running c → cell_size_of c ≡ length running.sites.items
-size_of files faults bound running c sound stands = ap length stands.hosts ∙ host_count files faults bound running sound
+pub size_of : {D V : Type 0} (g : Ghosts D) (bound : ℕ) (running : OpenCell D V) (c : Cell) → IsSound g bound running → IsModelledBy running c → cell_size_of c ≡ length running.sites.items
+size_of g bound running c sound stands = ap length stands.hosts ∙ host_count g bound running sound
 
-module _ {D V : Type 0} (files : D → Option Files) (faults : D → ℕ) (line run : List Choice → Run_or_why) (is : (choices : List Choice) → line choices ≡ run choices) where
-  pub told_as : (script_db : ScriptDatabase) (ended : Option Ending) (before after : OpenCell D V) (tb ta : List ℕ) → CellTold files faults script_db run ended before after tb ta → CellTold files faults script_db line ended before after tb ta
+module _ {D V : Type 0} (g : Ghosts D) (line run : List Choice → Run_or_why) (is : (choices : List Choice) → line choices ≡ run choices) where
+  pub told_as : (script_db : ScriptDatabase) (ended : Option Ending) (before after : OpenCell D V) (tb ta : List ℕ) → CellTold g script_db run ended before after tb ta → CellTold g script_db line ended before after tb ta
   told_as script_db ended before after tb ta told =
       record {
         choices = told.choices;
@@ -27,7 +28,7 @@ module _ {D V : Type 0} (files : D → Option Files) (faults : D → ℕ) (line 
         causes = told.causes;
       }
 
-  pub short_as : (c : Cell) (before after : OpenCell D V) → IsShort files faults run c before after → IsShort files faults line c before after
+  pub short_as : (c : Cell) (before after : OpenCell D V) → IsShort g run c before after → IsShort g line c before after
   short_as c before after (inl read) = inl read
   short_as c before after (inr after_it) =
       inr (record { choices = after_it.choices; ran = after_it.ran; is = is after_it.choices ∙ after_it.is; read = after_it.read; causes = after_it.causes })

@@ -3,6 +3,7 @@ use Rattle.std.proofs.Common.{if◌then◌else◌, ◌≡◌, ◌≢◌, ◌⊎�
 use Rattle.std.specs.Prelude.{All, filter_map, slice_get}
 use Rattle.std.proofs.lemmas.Bool.{eq-eqb, ne_eqb}
 use Rattle.std.proofs.lemmas.List.Elements.{All-nil, All-head}
+use Rattle.disk_base.specs.declared.disks.Disk.{Ghosts}
 use Rattle.disk_base.specs.Files.{Files}
 use Rattle.ubik_types.specs.declared.hosts.Host.{Host}
 use Rattle.ubik_calls.specs.declared.packets.Packet.{Packet}
@@ -24,7 +25,8 @@ use Rattle.cell_runs.specs.Trace.{Tells, fault_count}
 use Rattle.ubik_node.specs.declared.nodes.Node.{Node}
 use Rattle.ubik_node.specs.declared.nodes.StepEnd.{StepEnd}
 use Rattle.ubik_node.specs.declared.nodes.StepEnd.TheVariants.{Done, Halted, NoMemory}
-use Rattle.ubik_node.specs.Node.{Makes, Steps, node_of, up_server}
+use Rattle.ubik_node.specs.Disk.{Serves}
+use Rattle.ubik_node.specs.Node.{Makes, Steps, durable_in, node_of, up_server}
 use Rattle.cell_sites.specs.declared.cells.OpenCell.{OpenCell}
 use Rattle.cell_sites.specs.Sites.{IsSiteOf, IsModelledBy}
 use Rattle.cell_sites.specs.Sound.{IsSoundNode}
@@ -37,10 +39,10 @@ use Rattle.cell_sites.proofs.Shortage.{IsEither, step_either}
 -- a server is halted in a step, and nothing else is seen beside outputs
 pub record MarksHalt {D V : Type 0} (faults : D → ℕ) (k : ℕ) (halts : Bool) (h : SiteHappened) (node later : Node D V) : Type 0 where
   pub marks : h.marks ≡ (if halts then Halts k ∷ [] else [])
-  pub rises : faults node.disk + fault_count k (map Tells h.marks) ≤ faults later.disk
+  pub rises : faults node.store.disk + fault_count k (map Tells h.marks) ≤ faults later.store.disk
   pub others : (j : ℕ) → j ≢ k → fault_count j (map Tells h.marks) ≡ 0
 
-marked : {D V : Type 0} (faults : D → ℕ) (k : ℕ) (halts : Bool) (h : SiteHappened) (node later : Node D V) → h.marks ≡ (if halts then Halts k ∷ [] else []) → (halts ≡ true → faults node.disk < faults later.disk) → faults node.disk ≤ faults later.disk → MarksHalt faults k halts h node later
+marked : {D V : Type 0} (faults : D → ℕ) (k : ℕ) (halts : Bool) (h : SiteHappened) (node later : Node D V) → h.marks ≡ (if halts then Halts k ∷ [] else []) → (halts ≡ true → faults node.store.disk < faults later.store.disk) → faults node.store.disk ≤ faults later.store.disk → MarksHalt faults k halts h node later
 marked {D} {V} faults k true h node later is rose kept =
     let one : fault_count k (map Tells h.marks) ≡ 1 = ap (λ seen. fault_count k (map Tells seen)) is ∙ ap (λ (b : Bool). (if b then 1 else 0) + 0) (eq-eqb k k refl) in
     let more = rose refl in
@@ -82,7 +84,7 @@ refusals_rest event.BeaconTurn hosts = All-nil _
 refusals_rest event.RecoverTurn hosts = All-nil _
 refusals_rest (event.Ask id call) hosts = All-nil _
 
-module _ {D V : Type 0} (files : D → Option Files) (faults : D → ℕ) (script_db : ScriptDatabase) (before : OpenCell D V) (c : Cell) (stands : IsModelledBy before c) (law : VotersVote) (k : ℕ) (e : NodeEvent) (trigger : Trigger) (o : occasion c.run.world trigger ≡ Some (k, e)) (site : ModelSite) (there : slice_get c.run.world.sites k ≡ Some site) (call : List ℕ) (clock : ℕ) (node later : Node D V) (clocks : site.clock ≡ clock) (stood : site.node ≡ node_of node) (me : k < length before.hosts.items) (taken : IsTaken (member_at before k) e) (asks : AsksNoOther e call) (was : IsSoundNode files faults (member_at before k) clock node) where
+module _ {D V : Type 0} (g : Ghosts D) (script_db : ScriptDatabase) (before : OpenCell D V) (c : Cell) (stands : IsModelledBy before c) (law : VotersVote) (k : ℕ) (e : NodeEvent) (trigger : Trigger) (o : occasion c.run.world trigger ≡ Some (k, e)) (site : ModelSite) (there : slice_get c.run.world.sites k ≡ Some site) (call : List ℕ) (clock : ℕ) (node later : Node D V) (clocks : site.clock ≡ clock) (stood : site.node ≡ node_of node) (me : k < length before.hosts.items) (taken : IsTaken (member_at before k) e) (asks : AsksNoOther e call) (was : IsSoundNode g (member_at before k) clock node) where
   -- the server in its cell, as the model has it
   same_member : member c.run.world k ≡ member_at before k
   same_member = ap (λ (hosts : List Host). record { hosts = hosts; me = k }) stands.hosts
@@ -99,17 +101,17 @@ module _ {D V : Type 0} (files : D → Option Files) (faults : D → ℕ) (scrip
   voter s is = subst (IsVoter (member_at before k)) is was.voter
 
   -- a server that was up, and the step that it made, which is the one for which all memory was found, or came short
-  pub record DoneBy (out : List Output) (b a : ℕ) : Type 0 where
+  pub record DoneBy (out : List Output) (b a : D) : Type 0 where
     pub s : model.Server
     pub short : List Bool
     pub up : node_of node ≡ model.Up s
-    pub makes : Makes (made_of s short) (node_of later) out b a
+    pub makes : Makes (made_of s short) (node_of later) out (Serves g (durable_in s) b a)
     pub either : IsEither s (made_of s short) (made_of s [])
 
-  pub done_by : (out : List Output) (b a : ℕ) → Steps script_db.database (member_at before k) Done e clock (node_of node) (node_of later) out b a → DoneBy out b a
+  pub done_by : (out : List Output) (b a : D) → Steps g script_db.database (member_at before k) Done e clock (node_of node) (node_of later) out b a → DoneBy out b a
   done_by out b a steps = by (node_of node) refl steps
     where
-      by : (x : model.Node) → node_of node ≡ x → Steps script_db.database (member_at before k) Done e clock x (node_of later) out b a → DoneBy out b a
+      by : (x : model.Node) → node_of node ≡ x → Steps g script_db.database (member_at before k) Done e clock x (node_of later) out b a → DoneBy out b a
       by model.Down is steps = absurd steps
       by (model.Halted h) is steps = absurd steps
       by (model.Up s) is (short, makes) =
@@ -117,8 +119,8 @@ module _ {D V : Type 0} (files : D → Option Files) (faults : D → ℕ) (scrip
           record { s = s; short = short; up = is; makes = makes; either = step_either script_db.database (member_at before k) s clock e short taken takes.flight takes.waiting }
 
   -- a step for which memory was found
-  pub made_whole : (out : List Output) (b a : ℕ) (done : DoneBy out b a) → made_of done.s done.short ≡ made_of done.s [] → faults node.disk ≤ faults later.disk
-      → StepMade faults script_db c before.hosts.items k trigger call false clock node later out
+  pub made_whole : (out : List Output) (b a : D) (done : DoneBy out b a) → made_of done.s done.short ≡ made_of done.s [] → g.faults node.store.disk ≤ g.faults later.store.disk
+      → StepMade g.faults script_db c before.hosts.items k trigger call false clock node later out
   made_whole out b a done same kept =
       let s = done.s in
       let u = made_of s [] in
@@ -137,17 +139,17 @@ module _ {D V : Type 0} (files : D → Option Files) (faults : D → ℕ) (scrip
         answers = law.answers script_db.database (member_at before k) s clock e [] call me takes taken asks;
         votes = steps.packets;
         stood = record { clock = clocks; node = sym (done.makes.server ∙ ap (λ (t : Stepped). model.Up t.server) same) };
-        marks = marked faults k false h node later refl (λ never. cc) kept;
+        marks = marked g.faults k false h node later refl (λ never. cc) kept;
       }
 
   -- a step of a halted server, and one that halts it
-  pub made_halted : (halts : Bool) (out : List Output) (b a : ℕ) → Steps script_db.database (member_at before k) Halted e clock (node_of node) (node_of later) out b a
-      → (halts ≡ true → (node.halted ≡ false) × (faults node.disk < faults later.disk)) → (halts ≡ false → node.halted ≡ true) → faults node.disk ≤ faults later.disk
-      → StepMade faults script_db c before.hosts.items k trigger call halts clock node later out
+  pub made_halted : (halts : Bool) (out : List Output) (b a : D) → Steps g script_db.database (member_at before k) Halted e clock (node_of node) (node_of later) out b a
+      → (halts ≡ true → (node.halted ≡ false) × (g.faults node.store.disk < g.faults later.store.disk)) → (halts ≡ false → node.halted ≡ true) → g.faults node.store.disk ≤ g.faults later.store.disk
+      → StepMade g.faults script_db c before.hosts.items k trigger call halts clock node later out
   made_halted true out b a steps now before_it kept =
       let s = up_server node in
       let up : node_of node ≡ model.Up s = ap (λ (b : Bool). if b then model.Halted (model.halted_from s) else model.Up s) (now refl).0 in
-      let is = subst (λ (x : model.Node). Steps script_db.database (member_at before k) Halted e clock x (node_of later) out b a) up steps in
+      let is = subst (λ (x : model.Node). Steps g script_db.database (member_at before k) Halted e clock x (node_of later) out b a) up steps in
       let h : SiteHappened = fault_up k site e s (step_of script_db.database (member c.run.world k) s site.clock e []) 0 in
       record {
         ev = Fault trigger [] 0;
@@ -160,12 +162,12 @@ module _ {D V : Type 0} (files : D → Option Files) (faults : D → ℕ) (scrip
         answers = refusals_answer e call;
         votes = refusals_rest e before.hosts.items;
         stood = record { clock = clocks; node = sym is.0 };
-        marks = marked faults k true h node later refl (λ yes. (now refl).1) kept;
+        marks = marked g.faults k true h node later refl (λ yes. (now refl).1) kept;
       }
   made_halted false out b a steps now before_it kept =
       let u = up_server node in
       let halted : node_of node ≡ model.Halted (model.halted_from u) = ap (λ (b : Bool). if b then model.Halted (model.halted_from u) else model.Up u) (before_it refl) in
-      let is = subst (λ (x : model.Node). Steps script_db.database (member_at before k) Halted e clock x (node_of later) out b a) halted steps in
+      let is = subst (λ (x : model.Node). Steps g script_db.database (member_at before k) Halted e clock x (node_of later) out b a) halted steps in
       let h : SiteHappened = halted_step site e in
       record {
         ev = Step trigger [];
@@ -178,5 +180,5 @@ module _ {D V : Type 0} (files : D → Option Files) (faults : D → ℕ) (scrip
         answers = refusals_answer e call;
         votes = refusals_rest e before.hosts.items;
         stood = record { clock = clocks; node = stood ∙ halted ∙ sym is.0 };
-        marks = marked faults k false h node later refl (λ never. cc) kept;
+        marks = marked g.faults k false h node later refl (λ never. cc) kept;
       }

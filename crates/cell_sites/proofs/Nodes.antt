@@ -1,6 +1,7 @@
 -- The server that is up, after a step.
-use Rattle.std.proofs.Common.{if◌then◌else◌, ◌≡◌, ◌≢◌, ◌⊎◌, inl, inr, ◌<◌, ◌≤◌, ◌+◌, ℕ, Bool, true, false, not, List, [], ◌∷◌, map, Option, Some, None, IfSome, IsSomeAnd, refl, sym, ap, subst, ◌∙◌, arith}
+use Rattle.std.proofs.Common.{if◌then◌else◌, ◌≡◌, ◌≢◌, ◌⊎◌, inl, inr, ◌<◌, ◌≤◌, ◌+◌, ℕ, Bool, true, false, not, List, [], ◌∷◌, map, Option, Some, None, IfSome, IsSome, refl, sym, ap, subst, ◌∙◌, arith}
 use Rattle.std.specs.Option.{option_map}
+use Rattle.disk_base.specs.declared.disks.Disk.{Ghosts}
 use Rattle.disk_base.specs.Files.{Files}
 use Rattle.db_image.specs.Database.{Database}
 use Rattle.ubik_types.specs.declared.versions.Version.{Version}
@@ -15,10 +16,9 @@ use Rattle.ubik_node.specs.declared.nodes.StepEnd.{StepEnd}
 use Rattle.ubik_node.specs.declared.nodes.StepEnd.TheVariants.{Done, Halted, NoMemory}
 use Rattle.ubik_node.specs.declared.progress.Progress.{Progress}
 use Rattle.ubik_node.specs.declared.progress.Progress.TheVariants as progress
-use Rattle.ubik_node.specs.Database.{with_database}
-use Rattle.ubik_node.specs.Node.{IsStored, KeepsDisk, OnlyDatabase, Steps, last_after, node_of, own_member, up_server}
+use Rattle.ubik_node.specs.Node.{IsStored, Steps, last_after, node_of, own_member, up_server}
 use Rattle.ubik_node.specs.Progress.{is_held, phase_record}
-use Rattle.cell_sites.specs.Sound.{HasOnlyDatabase, IsSoundNode}
+use Rattle.cell_sites.specs.Sound.{IsSoundNode}
 use Rattle.cell_sites.specs.Stepped.{NodeStepped}
 
 -- ---- whether it is halted
@@ -55,28 +55,22 @@ node_votes n = record { phase = phase_of_voter n.state.version (cell_size (own_m
 -- ---- a step
 
 -- where a step was made the server was up, and is
-pub made_up : (db : Database) (m : Member) (e : NodeEvent) (now : ℕ) (x after : model.Node) (out : List Output) (b a : ℕ) → Steps db m Done e now x after out b a → ((s : model.Server) × (x ≡ model.Up s)) × ((t : model.Server) × (after ≡ model.Up t))
-made_up db m e now model.Down after out b a steps = absurd steps
-made_up db m e now (model.Halted h) after out b a steps = absurd steps
-made_up db m e now (model.Up s) after out b a (short, makes) = ((s, refl), (_, makes.server))
+pub made_up : {D : Type 0} (g : Ghosts D) (db : Database) (m : Member) (e : NodeEvent) (now : ℕ) (x after : model.Node) (out : List Output) (old new : D) → Steps g db m Done e now x after out old new → ((s : model.Server) × (x ≡ model.Up s)) × ((t : model.Server) × (after ≡ model.Up t))
+made_up g db m e now model.Down after out old new steps = absurd steps
+made_up g db m e now (model.Halted h) after out old new steps = absurd steps
+made_up g db m e now (model.Up s) after out old new (short, makes) = ((s, refl), (_, makes.server))
 
-pub halts_after : (db : Database) (m : Member) (e : NodeEvent) (now : ℕ) (x after : model.Node) (out : List Output) (b a : ℕ) → Steps db m Halted e now x after out b a → (h : model.HaltedServer) × (after ≡ model.Halted h)
-halts_after db m e now model.Down after out b a steps = absurd steps
-halts_after db m e now (model.Halted h) after out b a steps = (h, steps.0)
-halts_after db m e now (model.Up s) after out b a steps = (model.halted_from s, steps.0)
+pub halts_after : {D : Type 0} (g : Ghosts D) (db : Database) (m : Member) (e : NodeEvent) (now : ℕ) (x after : model.Node) (out : List Output) (old new : D) → Steps g db m Halted e now x after out old new → (h : model.HaltedServer) × (after ≡ model.Halted h)
+halts_after g db m e now model.Down after out old new steps = absurd steps
+halts_after g db m e now (model.Halted h) after out old new steps = (h, steps.0)
+halts_after g db m e now (model.Up s) after out old new steps = (model.halted_from s, steps.0)
 
--- the files of a disk of which the database file alone changed
-only_database : (old new : Option Files) → (new ≡ old) ⊎ ((bytes : List ℕ) × (new ≡ option_map (with_database bytes) old)) → IsSomeAnd old (λ fs. (fs.log ≡ []) × (fs.incoming ≡ [])) → IsSomeAnd new (λ fs. (fs.log ≡ []) × (fs.incoming ≡ []))
-only_database old new (inl same) has = subst (λ (o : Option Files). IsSomeAnd o (λ fs. (fs.log ≡ []) × (fs.incoming ≡ []))) (sym same) has
-only_database None new (inr (bytes, is)) has = absurd has
-only_database (Some fs) new (inr (bytes, is)) has = subst (λ (o : Option Files). IsSomeAnd o (λ fs. (fs.log ≡ []) × (fs.incoming ≡ []))) (sym is) has
-
-module _ {D V : Type 0} (files : D → Option Files) (faults : D → ℕ) (db : Database) (m : Member) (clock : ℕ) (e : NodeEvent) (node later : Node D V) (out : List Output) (b a : ℕ) (sound : IsSoundNode files faults m clock node) where
+module _ {D V : Type 0} (g : Ghosts D) (db : Database) (m : Member) (clock : ℕ) (e : NodeEvent) (node later : Node D V) (out : List Output) (sound : IsSoundNode g m clock node) where
   -- a server that is not halted after a step was not halted before
-  was_up : (end : StepEnd) → Steps db m end e clock (node_of node) (node_of later) out b a → later.halted ≡ false → (end ≢ Halted) × (node.halted ≡ false)
-  was_up Done steps up = let made = made_up db m e clock (node_of node) (node_of later) out b a steps in ((λ is. cc), (is_up node made.0.0 made.0.1).0)
+  was_up : (end : StepEnd) → Steps g db m end e clock (node_of node) (node_of later) out node.store.disk later.store.disk → later.halted ≡ false → (end ≢ Halted) × (node.halted ≡ false)
+  was_up Done steps up = let made = made_up g db m e clock (node_of node) (node_of later) out node.store.disk later.store.disk steps in ((λ is. cc), (is_up node made.0.0 made.0.1).0)
   was_up Halted steps up =
-      let made = halts_after db m e clock (node_of node) (node_of later) out b a steps in
+      let made = halts_after g db m e clock (node_of node) (node_of later) out node.store.disk later.store.disk steps in
       let halted = is_halted later made.0 made.1 in absurd (false_true (sym up ∙ halted))
     where
       false_true : false ≡ true → ⊥
@@ -86,16 +80,16 @@ module _ {D V : Type 0} (files : D → Option Files) (faults : D → ℕ) (db : 
       ((λ is. cc), (by_up node.halted (up_server node) (up_server later) same).0)
 
   -- it is halted since its disk failed
-  caused : (end : StepEnd) → Steps db m end e clock (node_of node) (node_of later) out b a → (end ≡ Halted → node.halted ≡ false → faults node.disk < faults later.disk) → faults node.disk ≤ faults later.disk → later.halted ≡ true → 0 < faults later.disk
+  caused : (end : StepEnd) → Steps g db m end e clock (node_of node) (node_of later) out node.store.disk later.store.disk → (end ≡ Halted → node.halted ≡ false → g.faults node.store.disk < g.faults later.store.disk) → g.faults node.store.disk ≤ g.faults later.store.disk → later.halted ≡ true → 0 < g.faults later.store.disk
   caused Done steps fault kept halted =
-      let made = made_up db m e clock (node_of node) (node_of later) out b a steps in
+      let made = made_up g db m e clock (node_of node) (node_of later) out node.store.disk later.store.disk steps in
       let up = (is_up later made.1.0 made.1.1).0 in absurd (true_false (sym halted ∙ up))
     where
       true_false : true ≡ false → ⊥
       true_false is = cc
   caused Halted steps fault kept halted = by node.halted refl
     where
-      by : (h : Bool) → node.halted ≡ h → 0 < faults later.disk
+      by : (h : Bool) → node.halted ≡ h → 0 < g.faults later.store.disk
       by true is = let old = sound.cause is in omega (arith, old, kept)
       by false is = let rose = fault refl is in omega (arith, rose)
   caused NoMemory steps fault kept halted =
@@ -107,27 +101,25 @@ module _ {D V : Type 0} (files : D → Option Files) (faults : D → ℕ) (db : 
   lasts Halted last within = omega arith
   lasts NoMemory last within = within
 
-  pub sound_later : (end : StepEnd) → Steps db m end e clock (node_of node) (node_of later) out b a
-      → own_member later ≡ own_member node → (IsStored files node → IsStored files later) → (end ≢ Halted → OnlyDatabase files node later)
-      → (end ≡ Halted → node.halted ≡ false → faults node.disk < faults later.disk) → faults node.disk ≤ faults later.disk → later.last ≡ last_after end node.last clock
-      → IsSoundNode files faults m clock later
+  pub sound_later : (end : StepEnd) → Steps g db m end e clock (node_of node) (node_of later) out node.store.disk later.store.disk
+      → own_member later ≡ own_member node → IsStored g later → (end ≢ Halted → IsSome (g.files node.store.disk) → IsSome (g.files later.store.disk))
+      → (end ≡ Halted → node.halted ≡ false → g.faults node.store.disk < g.faults later.store.disk) → g.faults node.store.disk ≤ g.faults later.store.disk → later.last ≡ last_after end node.last clock
+      → IsSoundNode g m clock later
   sound_later end steps member stored others fault kept last =
       record {
         last = let within = lasts end node.last sound.last in omega (arith, within, last);
         member = member ∙ sound.member;
         voter = subst (λ (n : Member). IsVoter n (up_server later)) (member ∙ sound.member) (node_votes later);
-        stored = stored sound.stored;
-        alone = λ up. let was = was_up end steps up in only_database (files node.disk) (files later.disk) (others was.0) (sound.alone was.1);
+        stored = stored;
+        told = λ up. let was = was_up end steps up in others was.0 (sound.told was.1);
         cause = caused end steps fault kept;
       }
 
-  pub halted_now : (was : Bool) → was ≡ node.halted → Steps db m Halted e clock (node_of node) (node_of later) out b a
-      → own_member later ≡ own_member node → (IsStored files node → IsStored files later) → (node.halted ≡ false → faults node.disk < faults later.disk) → faults node.disk ≤ faults later.disk → later.last ≡ last_after Halted node.last clock
-      → NodeStepped files faults db m clock e Halted (not was) node later out
+  pub halted_now : (was : Bool) → was ≡ node.halted → Steps g db m Halted e clock (node_of node) (node_of later) out node.store.disk later.store.disk
+      → own_member later ≡ own_member node → IsStored g later → (node.halted ≡ false → g.faults node.store.disk < g.faults later.store.disk) → g.faults node.store.disk ≤ g.faults later.store.disk → later.last ≡ last_after Halted node.last clock
+      → NodeStepped g db m clock e Halted (not was) node later out
   halted_now was is steps member stored fault kept last =
       record {
-        calls = b;
-        calls_after = a;
         steps = steps;
         halted = λ halts. let up = sym is ∙ not_true was halts in (refl, up, fault up);
         rests = λ halts end. sym is ∙ not_false was halts;
@@ -143,13 +135,11 @@ module _ {D V : Type 0} (files : D → Option Files) (faults : D → ℕ) (db : 
       not_false true is = refl
       not_false false is = cc
 
-  pub not_halted_now : (end : StepEnd) → end ≢ Halted → Steps db m end e clock (node_of node) (node_of later) out b a
-      → own_member later ≡ own_member node → (IsStored files node → IsStored files later) → OnlyDatabase files node later → faults node.disk ≤ faults later.disk → later.last ≡ last_after end node.last clock
-      → NodeStepped files faults db m clock e end false node later out
+  pub not_halted_now : (end : StepEnd) → end ≢ Halted → Steps g db m end e clock (node_of node) (node_of later) out node.store.disk later.store.disk
+      → own_member later ≡ own_member node → IsStored g later → (IsSome (g.files node.store.disk) → IsSome (g.files later.store.disk)) → g.faults node.store.disk ≤ g.faults later.store.disk → later.last ≡ last_after end node.last clock
+      → NodeStepped g db m clock e end false node later out
   not_halted_now end other steps member stored others kept last =
       record {
-        calls = b;
-        calls_after = a;
         steps = steps;
         halted = λ never. cc;
         rests = λ never is. absurd (other is);

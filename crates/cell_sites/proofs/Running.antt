@@ -2,6 +2,7 @@
 use Rattle.std.proofs.Common.{◌≡◌, ◌≢◌, ◌⊎◌, inl, inr, ◌<◌, ◌≤◌, ◌+◌, ◌-◌, ℕ, zero, suc, Bool, true, false, Option, Some, None, Result, Ok, Err, List, [], ◌∷◌, ◌++◌, length, replicate, map, set, refl, sym, ap, subst, ◌∙◌, arith}
 use Rattle.std.specs.Prelude.{slice_get}
 use Rattle.std.proofs.lemmas.List.{append-nil, length-append}
+use Rattle.disk_base.specs.declared.disks.Disk.{Ghosts}
 use Rattle.disk_base.specs.Files.{Files}
 use Rattle.ubik_types.specs.declared.hosts.Host.{Host}
 use Rattle.ubik_calls.specs.declared.packets.Packet.{Packet}
@@ -22,10 +23,10 @@ use Rattle.cell_sites.proofs.Agreeing.{AreMarks, Agrees, agrees, few_faults, see
 
 -- ---- disks
 
-module _ {D V : Type 0} (files : D → Option Files) (faults : D → ℕ) where
+module _ {D V : Type 0} (g : Ghosts D) where
   -- what the disk of a site reads as
   abbrev pub held_at : Site D V → Held
-  held_at site = held files faults (site_disk site)
+  held_at site = held g.files g.faults (site_disk site)
 
   pub rises_set : (items : List TraceItem) (p k : ℕ) (sites : List (Site D V)) (site later : Site D V) → slice_get sites k ≡ Some site
       → (held_at site).faults + fault_count (p + k) items ≤ (held_at later).faults → ((j : ℕ) → j ≢ p + k → fault_count j items ≡ 0)
@@ -65,7 +66,7 @@ module _ {D V : Type 0} (files : D → Option Files) (faults : D → ℕ) where
 
 -- ---- a step
 
-module _ {D V : Type 0} (files : D → Option Files) (faults : D → ℕ) (script_db : ScriptDatabase) (before after : OpenCell D V) (c : Cell) (stands : IsModelledBy before c) (k : ℕ) (ev : Event) (h : SiteHappened) (run : List Choice → Run_or_why) (choices : List Choice) (is : run choices ≡ Ok (happened c ev (happened_at c.run.world k h))) (marks : AreMarks h.marks) (site later : Site D V) (there : slice_get before.sites.items k ≡ Some site) (sites : after.sites.items ≡ set before.sites.items k later) (rises : faults (site_disk site) + fault_count k (map Tells h.marks) ≤ faults (site_disk later)) (others : (j : ℕ) → j ≢ k → fault_count j (map Tells h.marks) ≡ 0) where
+module _ {D V : Type 0} (g : Ghosts D) (script_db : ScriptDatabase) (before after : OpenCell D V) (c : Cell) (stands : IsModelledBy before c) (k : ℕ) (ev : Event) (h : SiteHappened) (run : List Choice → Run_or_why) (choices : List Choice) (is : run choices ≡ Ok (happened c ev (happened_at c.run.world k h))) (marks : AreMarks h.marks) (site later : Site D V) (there : slice_get before.sites.items k ≡ Some site) (sites : after.sites.items ≡ set before.sites.items k later) (rises : g.faults (site_disk site) + fault_count k (map Tells h.marks) ≤ g.faults (site_disk later)) (others : (j : ℕ) → j ≢ k → fault_count j (map Tells h.marks) ≡ 0) where
   -- what is seen
   abbrev told_in : Within
   told_in = within (bytes_of c.run.world.packets) (happened_at c.run.world k h).seen
@@ -79,11 +80,11 @@ module _ {D V : Type 0} (files : D → Option Files) (faults : D → ℕ) (scrip
   few : (j : ℕ) → fault_count j told_in.items ≤ fault_count j (map Tells h.marks)
   few j = few_faults k j (bytes_of c.run.world.packets) (length c.run.world.packets + 1) h.shown h.marks marks
 
-  pub causes : AreRises 0 told_in.items (helds files faults before) (helds files faults after)
+  pub causes : AreRises 0 told_in.items (helds g.files g.faults before) (helds g.files g.faults after)
   causes =
       let here = few k in
-      subst (λ (l : List (Site D V)). AreRises 0 told_in.items (helds files faults before) (map (held_at {V = V} files faults) l)) (sym sites)
-      (rises_set files faults told_in.items 0 k before.sites.items site later there
+      subst (λ (l : List (Site D V)). AreRises 0 told_in.items (helds g.files g.faults before) (map (held_at {V = V} g) l)) (sym sites)
+      (rises_set g told_in.items 0 k before.sites.items site later there
       (let first : fault_count (0 + k) told_in.items ≡ fault_count k told_in.items = ap (λ (n : ℕ). fault_count n told_in.items) (zero_add k) in omega (arith, rises, here, first))
       (λ j other. let none = others j (λ e. other (e ∙ sym (zero_add k))) in let less = few j in omega (arith, none, less)))
     where
@@ -95,7 +96,7 @@ module _ {D V : Type 0} (files : D → Option Files) (faults : D → ℕ) (scrip
       → told_of script_db before.hosts.items k (record { text = text_before; sent = before.packets.sent }) h.shown ≡ record { after = record { text = text; sent = after.packets.sent }; ending = None }
       → text_after ≡ text ++ trace script_db before.hosts.items (map Tells h.marks)
       → after.hosts.items ≡ before.hosts.items → after.packets ≡ sent_all before.packets (packets_of h.shown) → IsSiteOf later h.site
-      → CellTold files faults script_db run None before after text_before text_after
+      → CellTold g script_db run None before after text_before text_after
   whole tb text ta told marked hosts packets stood =
       let agree = agrees script_db before.hosts.items k (record { text = tb; sent = before.packets.sent }) h.shown h.marks marks in
       let ended : (told_of script_db before.hosts.items k (record { text = tb; sent = before.packets.sent }) h.shown).ending ≡ None = ap (λ (r : TellingRun). r.ending) told in
@@ -123,8 +124,8 @@ module _ {D V : Type 0} (files : D → Option Files) (faults : D → ℕ) (scrip
   -- a packet passed a limit
   pub part : (ending : Ending) (text_before text_after : List ℕ) (sent : List Packet)
       → told_of script_db before.hosts.items k (record { text = text_before; sent = before.packets.sent }) h.shown ≡ record { after = record { text = text_after; sent = sent }; ending = Some ending }
-      → AreReadBy (set c.run.world.sites k h.site) (helds files faults after)
-      → CellTold files faults script_db run (Some ending) before after text_before text_after
+      → AreReadBy (set c.run.world.sites k h.site) (helds g.files g.faults after)
+      → CellTold g script_db run (Some ending) before after text_before text_after
   part ending tb ta sent told read =
       let agree = agrees script_db before.hosts.items k (record { text = tb; sent = before.packets.sent }) h.shown h.marks marks in
       let ended : (told_of script_db before.hosts.items k (record { text = tb; sent = before.packets.sent }) h.shown).ending ≡ Some ending = ap (λ (r : TellingRun). r.ending) told in
@@ -139,6 +140,6 @@ module _ {D V : Type 0} (files : D → Option Files) (faults : D → ℕ) (scrip
       }
 
   -- memory ran out once the step was made
-  pub short_after : AreReadBy (set c.run.world.sites k h.site) (helds files faults after) → IsShort files faults run c before after
+  pub short_after : AreReadBy (set c.run.world.sites k h.site) (helds g.files g.faults after) → IsShort g run c before after
   short_after read =
       inr (record { choices = choices; ran = happened c ev (happened_at c.run.world k h); is = is; read = read; causes = causes })

@@ -4,6 +4,7 @@ use Rattle.std.specs.Prelude.{All, slice_get}
 use Rattle.std.proofs.lemmas.List.{length-set}
 use Rattle.std.proofs.lemmas.List.Elements.{All-append}
 use Rattle.std.proofs.lemmas.Option.{slice_get_read, slice_get_within}
+use Rattle.disk_base.specs.declared.disks.Disk.{Ghosts}
 use Rattle.disk_base.specs.Files.{Files}
 use Rattle.ubik_types.specs.declared.hosts.Host.{Host}
 use Rattle.ubik_types.specs.Moment.{IsMoment}
@@ -24,26 +25,26 @@ use Rattle.cell_sites.proofs.AtPlace.{sound_at, sound_set}
 use Rattle.cell_sites.proofs.Hosts.{length-hosts_of}
 
 -- as many hosts as sites
-pub host_count : {D V : Type 0} (files : D → Option Files) (faults : D → ℕ) (bound : ℕ) (running : OpenCell D V) → IsSound files faults bound running → length running.hosts.items ≡ length running.sites.items
-host_count files faults bound running sound = ap length sound.hosts ∙ length-hosts_of (length running.sites.items)
+pub host_count : {D V : Type 0} (g : Ghosts D) (bound : ℕ) (running : OpenCell D V) → IsSound g bound running → length running.hosts.items ≡ length running.sites.items
+host_count g bound running sound = ap length sound.hosts ∙ length-hosts_of (length running.sites.items)
 
 -- what is known of the server at a place that is up
-pub record IsHere {D V : Type 0} (files : D → Option Files) (faults : D → ℕ) (bound : ℕ) (running : OpenCell D V) (k clock : ℕ) (node : Node D V) : Type 0 where
+pub record IsHere {D V : Type 0} (g : Ghosts D) (bound : ℕ) (running : OpenCell D V) (k clock : ℕ) (node : Node D V) : Type 0 where
   pub moment : IsMoment clock
   pub within : clock ≤ bound
-  pub sound : IsSoundNode files faults (member_at running k) clock node
+  pub sound : IsSoundNode g (member_at running k) clock node
   pub me : k < length running.hosts.items
 
-pub here : {D V : Type 0} (files : D → Option Files) (faults : D → ℕ) (bound : ℕ) (running : OpenCell D V) (k clock : ℕ) (node : Node D V) → IsSound files faults bound running → slice_get running.sites.items k ≡ Some (up_site clock node) → IsHere files faults bound running k clock node
-here files faults bound running k clock node sound there =
-    let site = sound_at files faults running.hosts.items 0 bound running.sites.items k (up_site clock node) sound.sites there in
+pub here : {D V : Type 0} (g : Ghosts D) (bound : ℕ) (running : OpenCell D V) (k clock : ℕ) (node : Node D V) → IsSound g bound running → slice_get running.sites.items k ≡ Some (up_site clock node) → IsHere g bound running k clock node
+here g bound running k clock node sound there =
+    let site = sound_at g running.hosts.items 0 bound running.sites.items k (up_site clock node) sound.sites there in
     let lt = slice_get_within running.sites.items k (up_site clock node) there in
-    let count = host_count files faults bound running sound in
+    let count = host_count g bound running sound in
     let me : 0 + k ≡ k = omega arith in
     record {
       moment = site.moment;
       within = site.within;
-      sound = subst (λ (n : ℕ). IsSoundNode files faults (record { hosts = running.hosts.items; me = n }) clock node) me site.server;
+      sound = subst (λ (n : ℕ). IsSoundNode g (record { hosts = running.hosts.items; me = n }) clock node) me site.server;
       me = omega (arith, lt, count);
     }
 
@@ -55,24 +56,24 @@ clocks_set {D} {V} (x ∷ sites) zero site later there same =
 clocks_set (x ∷ sites) (suc k) site later there same = ap (λ (l : List ℕ). x.clock ∷ l) (clocks_set sites k site later there same)
 
 -- the cell stays sound
-pub sound_after : {D V : Type 0} (files : D → Option Files) (faults : D → ℕ) (bound : ℕ) (before after : OpenCell D V) (k clock : ℕ) (node later : Node D V) (packets : List Packet)
-    → IsSound files faults bound before → slice_get before.sites.items k ≡ Some (up_site clock node) → IsSoundNode files faults (member_at before k) clock later
+pub sound_after : {D V : Type 0} (g : Ghosts D) (bound : ℕ) (before after : OpenCell D V) (k clock : ℕ) (node later : Node D V) (packets : List Packet)
+    → IsSound g bound before → slice_get before.sites.items k ≡ Some (up_site clock node) → IsSoundNode g (member_at before k) clock later
     → after.sites.items ≡ set before.sites.items k (up_site clock later) → after.hosts.items ≡ before.hosts.items → after.packets ≡ sent_all before.packets packets
-    → All (IsVotePacket before.hosts.items) packets → after.outputs ≡ [] → IsSound files faults bound after
-sound_after {D} {V} files faults bound before after k clock node later packets sound there is sites hosts sent votes empty =
-    let at = here files faults bound before k clock node sound there in
+    → All (IsVotePacket before.hosts.items) packets → after.outputs ≡ [] → IsSound g bound after
+sound_after {D} {V} g bound before after k clock node later packets sound there is sites hosts sent votes empty =
+    let at = here g bound before k clock node sound there in
     let many : length after.sites.items ≡ length before.sites.items = ap length sites ∙ length-set before.sites.items k (up_site clock later) in
     let me : 0 + k ≡ k = omega arith in
-    let site : IsSoundSite files faults (record { hosts = before.hosts.items; me = 0 + k }) bound (up_site clock later) =
-    subst (λ (n : ℕ). IsSoundSite files faults (record { hosts = before.hosts.items; me = n }) bound (up_site clock later)) (sym me) (record { moment = at.moment; within = at.within; server = is }) in
+    let site : IsSoundSite g (record { hosts = before.hosts.items; me = 0 + k }) bound (up_site clock later) =
+    subst (λ (n : ℕ). IsSoundSite g (record { hosts = before.hosts.items; me = n }) bound (up_site clock later)) (sym me) (record { moment = at.moment; within = at.within; server = is }) in
     record {
       some = let some = sound.some in omega (arith, some, many);
       few = let few = sound.few in omega (arith, few, many);
       hosts = hosts ∙ sound.hosts ∙ ap hosts_of (sym many);
       sites =
-          subst (λ (h : List Host). AreSound files faults h 0 bound after.sites.items) (sym hosts)
-          (subst (λ (l : List (Site D V)). AreSound files faults before.hosts.items 0 bound l) (sym sites)
-          (sound_set files faults before.hosts.items 0 bound before.sites.items k (up_site clock later) sound.sites site));
+          subst (λ (h : List Host). AreSound g h 0 bound after.sites.items) (sym hosts)
+          (subst (λ (l : List (Site D V)). AreSound g before.hosts.items 0 bound l) (sym sites)
+          (sound_set g before.hosts.items 0 bound before.sites.items k (up_site clock later) sound.sites site));
       near = ap (λ (l : List (Site D V)). are_near (clocks_in l)) sites ∙ ap are_near (clocks_set before.sites.items k (up_site clock node) (up_site clock later) there refl) ∙ sound.near;
       packets =
           subst (λ (h : List Host). All (IsVotePacket h) after.packets.sent) (sym hosts)

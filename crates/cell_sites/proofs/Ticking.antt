@@ -5,6 +5,7 @@ use Rattle.std.specs.Vec.{with_item, with_items}
 use Rattle.std.proofs.lemmas.List.{append-nil, length-set, length-map, map-set}
 use Rattle.std.proofs.Math.Seq.{map-set_same}
 use Rattle.std.proofs.lemmas.Option.{get_or_from_slice_get, slice_get_within}
+use Rattle.disk_base.specs.declared.disks.Disk.{Ghosts}
 use Rattle.disk_base.specs.Files.{Files}
 use Rattle.ubik_types.specs.declared.hosts.Host.{Host}
 use Rattle.ubik_types.specs.declared.limits.TheConstants.{MAX_MOMENT}
@@ -29,48 +30,48 @@ use Rattle.cell_sites.proofs.Waiting.{items_with}
 
 -- ---- one site
 
-pub server_later : {D V : Type 0} (files : D → Option Files) (faults : D → ℕ) (m : Member) (clock later : ℕ) (s : Server D V) → clock ≤ later → IsSoundServer files faults m clock s → IsSoundServer files faults m later s
-server_later files faults m clock later (server.Down disk) le sound = sound
-server_later files faults m clock later (server.Up n) le sound =
+pub server_later : {D V : Type 0} (g : Ghosts D) (m : Member) (clock later : ℕ) (s : Server D V) → clock ≤ later → IsSoundServer g m clock s → IsSoundServer g m later s
+server_later g m clock later (server.Down disk) le sound = sound
+server_later g m clock later (server.Up n) le sound =
     let last = sound.last in
-    record { last = omega (arith, last, le); member = sound.member; voter = sound.voter; stored = sound.stored; alone = sound.alone; cause = sound.cause }
+    record { last = omega (arith, last, le); member = sound.member; voter = sound.voter; stored = sound.stored; told = sound.told; cause = sound.cause }
 
-pub site_later : {D V : Type 0} (files : D → Option Files) (faults : D → ℕ) (m : Member) (bound seconds : ℕ) (site : Site D V) → site.clock + seconds ≤ MAX_MOMENT → IsSoundSite files faults m bound site → IsSoundSite files faults m (bound + seconds) (ticked_on seconds site)
-site_later files faults m bound seconds site fits sound =
+pub site_later : {D V : Type 0} (g : Ghosts D) (m : Member) (bound seconds : ℕ) (site : Site D V) → site.clock + seconds ≤ MAX_MOMENT → IsSoundSite g m bound site → IsSoundSite g m (bound + seconds) (ticked_on seconds site)
+site_later g m bound seconds site fits sound =
     let some = sound.moment.some in
     let within = sound.within in
     let end : 2 ^ 31 ≡ 2147483648 = refl in
     record {
       moment = record { some = omega (arith, some); fits = omega (arith, fits, end) };
       within = omega (arith, within);
-      server = server_later files faults m site.clock (site.clock + seconds) site.server (omega arith) sound.server;
+      server = server_later g m site.clock (site.clock + seconds) site.server (omega arith) sound.server;
     }
 
-pub sound_weaker : {D V : Type 0} (files : D → Option Files) (faults : D → ℕ) (hosts : List Host) (place bound more : ℕ) (sites : List (Site D V)) → bound ≤ more → AreSound files faults hosts place bound sites → AreSound files faults hosts place more sites
-sound_weaker files faults hosts place bound more [] le sound = tt
-sound_weaker files faults hosts place bound more (site ∷ sites) le sound =
+pub sound_weaker : {D V : Type 0} (g : Ghosts D) (hosts : List Host) (place bound more : ℕ) (sites : List (Site D V)) → bound ≤ more → AreSound g hosts place bound sites → AreSound g hosts place more sites
+sound_weaker g hosts place bound more [] le sound = tt
+sound_weaker g hosts place bound more (site ∷ sites) le sound =
     let within = sound.0.within in (
       record { moment = sound.0.moment; within = omega (arith, within, le); server = sound.0.server },
-      sound_weaker files faults hosts (place + 1) bound more sites le sound.1,
+      sound_weaker g hosts (place + 1) bound more sites le sound.1,
     )
 
-sound_ticked : {D V : Type 0} (files : D → Option Files) (faults : D → ℕ) (hosts : List Host) (place bound bound' seconds : ℕ) (sites : List (Site D V)) → bound + seconds ≤ MAX_MOMENT → AreSound files faults hosts place bound sites → AreSound files faults hosts place bound' sites → AreSound files faults hosts place (bound' + seconds) (map (ticked_on seconds) sites)
-sound_ticked files faults hosts place bound bound' seconds [] fits sound sound' = tt
-sound_ticked files faults hosts place bound bound' seconds (site ∷ sites) fits sound sound' =
+sound_ticked : {D V : Type 0} (g : Ghosts D) (hosts : List Host) (place bound bound' seconds : ℕ) (sites : List (Site D V)) → bound + seconds ≤ MAX_MOMENT → AreSound g hosts place bound sites → AreSound g hosts place bound' sites → AreSound g hosts place (bound' + seconds) (map (ticked_on seconds) sites)
+sound_ticked g hosts place bound bound' seconds [] fits sound sound' = tt
+sound_ticked g hosts place bound bound' seconds (site ∷ sites) fits sound sound' =
     let within = sound.0.within in (
-      site_later files faults (record { hosts = hosts; me = place }) bound' seconds site (omega (arith, fits, within)) sound'.0,
-      sound_ticked files faults hosts (place + 1) bound bound' seconds sites fits sound.1 sound'.1,
+      site_later g (record { hosts = hosts; me = place }) bound' seconds site (omega (arith, fits, within)) sound'.0,
+      sound_ticked g hosts (place + 1) bound bound' seconds sites fits sound.1 sound'.1,
     )
 
 -- ---- clocks
 
-moments_in : {D V : Type 0} (files : D → Option Files) (faults : D → ℕ) (hosts : List Host) (place bound : ℕ) (sites : List (Site D V)) → AreSound files faults hosts place bound sites → (k : ℕ) → k < length (clocks_in sites) → (0 < get_or (clocks_in sites) k 0) × (get_or (clocks_in sites) k 0 ≤ MAX_MOMENT)
-moments_in files faults hosts place bound [] sound k less = absurd (omega arith)
-moments_in files faults hosts place bound (site ∷ sites) sound zero less =
+moments_in : {D V : Type 0} (g : Ghosts D) (hosts : List Host) (place bound : ℕ) (sites : List (Site D V)) → AreSound g hosts place bound sites → (k : ℕ) → k < length (clocks_in sites) → (0 < get_or (clocks_in sites) k 0) × (get_or (clocks_in sites) k 0 ≤ MAX_MOMENT)
+moments_in g hosts place bound [] sound k less = absurd (omega arith)
+moments_in g hosts place bound (site ∷ sites) sound zero less =
     let fits = sound.0.moment.fits in
     let end : 2 ^ 31 ≡ 2147483648 = refl in
     (sound.0.moment.some, omega (arith, fits, end))
-moments_in files faults hosts place bound (site ∷ sites) sound (suc k) less = moments_in files faults hosts (place + 1) bound sites sound.1 k (omega arith)
+moments_in g hosts place bound (site ∷ sites) sound (suc k) less = moments_in g hosts (place + 1) bound sites sound.1 k (omega arith)
 
 clock_there : {D V : Type 0} (sites : List (Site D V)) (k : ℕ) (site : Site D V) → slice_get sites k ≡ Some site → get_or (clocks_in sites) k 0 ≡ site.clock
 clock_there [] k site there = cc
@@ -96,20 +97,20 @@ left_of true b is = refl
 left_of false b is = is
 
 -- clocks of a sound cell may be those after a tick
-pub may : {D V : Type 0} (files : D → Option Files) (faults : D → ℕ) (bound : ℕ) (after : OpenCell D V) (ss : List ModelSite) → IsSound files faults bound after → AreSitesOf after.sites.items ss → may_tick ss ≡ true
-may files faults bound after ss sound are =
+pub may : {D V : Type 0} (g : Ghosts D) (bound : ℕ) (after : OpenCell D V) (ss : List ModelSite) → IsSound g bound after → AreSitesOf after.sites.items ss → may_tick ss ≡ true
+may g bound after ss sound are =
     let clocks = sites_clocks after.sites.items ss are in
     subst (λ (l : List ℕ). (are_near l && are_moments l) ≡ true) (sym clocks)
     (both (are_near (clocks_in after.sites.items)) (are_moments (clocks_in after.sites.items)) sound.near
-    (moments_make (clocks_in after.sites.items) (moments_in files faults after.hosts.items 0 bound after.sites.items sound.sites)))
+    (moments_make (clocks_in after.sites.items) (moments_in g after.hosts.items 0 bound after.sites.items sound.sites)))
 
 -- ---- one clock
 
 abbrev pub ticked_at : {D V : Type 0} → OpenCell D V → ℕ → ℕ → Site D V → OpenCell D V
 ticked_at running k seconds site = record running { sites = with_item running.sites k (ticked_on seconds site) }
 
-pub tick_sound : {D V : Type 0} (files : D → Option Files) (faults : D → ℕ) (bound most : ℕ) (running : OpenCell D V) (k seconds : ℕ) (site : Site D V) → IsSound files faults bound running → site.clock + seconds ≤ MAX_MOMENT → slice_get running.sites.items k ≡ Some site → IsNearAt running.sites.items k (site.clock + seconds) → IsSound files faults (bound + seconds) (ticked_at running k seconds site)
-tick_sound {D} {V} files faults bound most running k seconds site sound fits there near =
+pub tick_sound : {D V : Type 0} (g : Ghosts D) (bound most : ℕ) (running : OpenCell D V) (k seconds : ℕ) (site : Site D V) → IsSound g bound running → site.clock + seconds ≤ MAX_MOMENT → slice_get running.sites.items k ≡ Some site → IsNearAt running.sites.items k (site.clock + seconds) → IsSound g (bound + seconds) (ticked_at running k seconds site)
+tick_sound {D} {V} g bound most running k seconds site sound fits there near =
     let items = running.sites.items in
     let x = ticked_on seconds site in
     let same : length (set items k x) ≡ length items = length-set items k x in
@@ -123,9 +124,9 @@ tick_sound {D} {V} files faults bound most running k seconds site sound fits the
       some = omega (arith, some, same);
       few = omega (arith, few, same);
       hosts = sound.hosts ∙ ap hosts_of (sym same);
-      sites = sound_set files faults running.hosts.items 0 (bound + seconds) items k x
-          (sound_weaker files faults running.hosts.items 0 bound (bound + seconds) items (omega arith) sound.sites)
-          (site_later files faults (record { hosts = running.hosts.items; me = 0 + k }) bound seconds site fits (sound_at files faults running.hosts.items 0 bound items k site sound.sites there));
+      sites = sound_set g running.hosts.items 0 (bound + seconds) items k x
+          (sound_weaker g running.hosts.items 0 bound (bound + seconds) items (omega arith) sound.sites)
+          (site_later g (record { hosts = running.hosts.items; me = 0 + k }) bound seconds site fits (sound_at g running.hosts.items 0 bound items k site sound.sites there));
       near = ap are_near clocks ∙ near_make (set (clocks_in items) k x.clock)
           (near_set (clocks_in items) k x.clock (near_read (clocks_in items) sound.near) (omega (arith, within, as_many)) (omega (arith, old))
           (λ j less other.
@@ -158,26 +159,26 @@ tick_stands db running c k seconds site stands there =
       unarmed = stands.unarmed;
     }
 
-pub helds_ticked : {D V : Type 0} (files : D → Option Files) (faults : D → ℕ) (running : OpenCell D V) (k seconds : ℕ) (site : Site D V) → slice_get running.sites.items k ≡ Some site → helds files faults (ticked_at running k seconds site) ≡ helds files faults running
-helds_ticked {D} {V} files faults running k seconds site there =
+pub helds_ticked : {D V : Type 0} (g : Ghosts D) (running : OpenCell D V) (k seconds : ℕ) (site : Site D V) → slice_get running.sites.items k ≡ Some site → helds g.files g.faults (ticked_at running k seconds site) ≡ helds g.files g.faults running
+helds_ticked {D} {V} g running k seconds site there =
     let same : get_or running.sites.items k site ≡ site = get_or_from_slice_get running.sites.items k site site there in
-    map-set_same (λ (s : Site D V). held files faults (site_disk s)) running.sites.items k (ticked_on seconds site) site
-    (ap (λ (s : Site D V). held files faults (site_disk s)) (sym same))
+    map-set_same (λ (s : Site D V). held g.files g.faults (site_disk s)) running.sites.items k (ticked_on seconds site) site
+    (ap (λ (s : Site D V). held g.files g.faults (site_disk s)) (sym same))
 
-pub tick_told : {D V : Type 0} (files : D → Option Files) (faults : D → ℕ) (db : ScriptDatabase) (bound : ℕ) (running : OpenCell D V) (c : Cell) (k seconds : ℕ) (site : Site D V) (run : Run_or_why) (text : List ℕ) → IsSound files faults bound running → bound + seconds ≤ MAX_MOMENT → IsModelledBy running c → slice_get running.sites.items k ≡ Some site → IsNearAt running.sites.items k (site.clock + seconds) → run ≡ unless_skewed db c (tick_at c.run.world.sites k seconds) (Tick k seconds) → CellTold files faults db (λ choices. run) None running (ticked_at running k seconds site) text text
-tick_told files faults db bound running c k seconds site run text sound fits stands there near is =
-    let at = sound_at files faults running.hosts.items 0 bound running.sites.items k site sound.sites there in
+pub tick_told : {D V : Type 0} (g : Ghosts D) (db : ScriptDatabase) (bound : ℕ) (running : OpenCell D V) (c : Cell) (k seconds : ℕ) (site : Site D V) (run : Run_or_why) (text : List ℕ) → IsSound g bound running → bound + seconds ≤ MAX_MOMENT → IsModelledBy running c → slice_get running.sites.items k ≡ Some site → IsNearAt running.sites.items k (site.clock + seconds) → run ≡ unless_skewed db c (tick_at c.run.world.sites k seconds) (Tick k seconds) → CellTold g db (λ choices. run) None running (ticked_at running k seconds site) text text
+tick_told g db bound running c k seconds site run text sound fits stands there near is =
+    let at = sound_at g running.hosts.items 0 bound running.sites.items k site sound.sites there in
     let within = at.within in
-    let after = tick_sound files faults bound bound running k seconds site sound (omega (arith, within, fits)) there near in
+    let after = tick_sound g bound bound running k seconds site sound (omega (arith, within, fits)) there near in
     record {
       choices = [];
       ran = with_event db c (Tick k seconds);
       is = is ∙ ap (λ (b : Bool). if b then Ok (with_event db c (Tick k seconds)) else Err why.Skew)
-          (may files faults (bound + seconds) (ticked_at running k seconds site) (tick_at c.run.world.sites k seconds) after (tick_sites_of running c k seconds site stands there));
+          (may g (bound + seconds) (ticked_at running k seconds site) (tick_at c.run.world.sites k seconds) after (tick_sites_of running c k seconds site stands there));
       ends = refl;
       cell = tick_stands db running c k seconds site stands there;
       told = sym (append-nil text);
-      causes = rises_same (helds files faults running) (helds files faults (ticked_at running k seconds site)) (helds_ticked files faults running k seconds site there);
+      causes = rises_same (helds g.files g.faults running) (helds g.files g.faults (ticked_at running k seconds site)) (helds_ticked g running k seconds site there);
     }
 
 -- one that would part the clocks
@@ -220,17 +221,17 @@ clocks_ticked : {D V : Type 0} (sites : List (Site D V)) (seconds : ℕ) → clo
 clocks_ticked [] seconds = refl
 clocks_ticked (site ∷ sites) seconds = ap (λ (l : List ℕ). (site.clock + seconds) ∷ l) (clocks_ticked sites seconds)
 
-helds_of_ticked : {D V : Type 0} (files : D → Option Files) (faults : D → ℕ) (sites : List (Site D V)) (seconds : ℕ) → map (λ (s : Site D V). held files faults (site_disk s)) (map (ticked_on seconds) sites) ≡ map (λ (s : Site D V). held files faults (site_disk s)) sites
-helds_of_ticked files faults [] seconds = refl
-helds_of_ticked files faults (site ∷ sites) seconds = ap (λ (l : List Held). held files faults (site_disk site) ∷ l) (helds_of_ticked files faults sites seconds)
+helds_of_ticked : {D V : Type 0} (g : Ghosts D) (sites : List (Site D V)) (seconds : ℕ) → map (λ (s : Site D V). held g.files g.faults (site_disk s)) (map (ticked_on seconds) sites) ≡ map (λ (s : Site D V). held g.files g.faults (site_disk s)) sites
+helds_of_ticked g [] seconds = refl
+helds_of_ticked g (site ∷ sites) seconds = ap (λ (l : List Held). held g.files g.faults (site_disk site) ∷ l) (helds_of_ticked g sites seconds)
 
-pub helds_all : {D V : Type 0} (files : D → Option Files) (faults : D → ℕ) (running : OpenCell D V) (sites : List (Site D V)) (seconds : ℕ) → sites ≡ map (ticked_on seconds) running.sites.items → helds files faults (all_ticked running sites) ≡ helds files faults running
-helds_all {D} {V} files faults running sites seconds are =
-    ap (map (λ (s : Site D V). held files faults (site_disk s))) (all_items running sites seconds are)
-    ∙ helds_of_ticked files faults running.sites.items seconds
+pub helds_all : {D V : Type 0} (g : Ghosts D) (running : OpenCell D V) (sites : List (Site D V)) (seconds : ℕ) → sites ≡ map (ticked_on seconds) running.sites.items → helds g.files g.faults (all_ticked running sites) ≡ helds g.files g.faults running
+helds_all {D} {V} g running sites seconds are =
+    ap (map (λ (s : Site D V). held g.files g.faults (site_disk s))) (all_items running sites seconds are)
+    ∙ helds_of_ticked g running.sites.items seconds
 
-pub all_sound : {D V : Type 0} (files : D → Option Files) (faults : D → ℕ) (bound bound' : ℕ) (running : OpenCell D V) (sites : List (Site D V)) (seconds : ℕ) → sites ≡ map (ticked_on seconds) running.sites.items → IsSound files faults bound running → bound + seconds ≤ MAX_MOMENT → IsSound files faults bound' running → IsSound files faults (bound' + seconds) (all_ticked running sites)
-all_sound {D} {V} files faults bound bound' running sites seconds are sound fits sound' =
+pub all_sound : {D V : Type 0} (g : Ghosts D) (bound bound' : ℕ) (running : OpenCell D V) (sites : List (Site D V)) (seconds : ℕ) → sites ≡ map (ticked_on seconds) running.sites.items → IsSound g bound running → bound + seconds ≤ MAX_MOMENT → IsSound g bound' running → IsSound g (bound' + seconds) (all_ticked running sites)
+all_sound {D} {V} g bound bound' running sites seconds are sound fits sound' =
     let items = running.sites.items in
     let after = map (ticked_on seconds) items in
     let is = all_items running sites seconds are in
@@ -241,23 +242,23 @@ all_sound {D} {V} files faults bound bound' running sites seconds are sound fits
       some = omega (arith, some, same);
       few = omega (arith, few, same);
       hosts = sound.hosts ∙ ap hosts_of (sym same);
-      sites = subst (λ (l : List (Site D V)). AreSound files faults running.hosts.items 0 (bound' + seconds) l) (sym is)
-          (sound_ticked files faults running.hosts.items 0 bound bound' seconds items fits sound.sites sound'.sites);
+      sites = subst (λ (l : List (Site D V)). AreSound g running.hosts.items 0 (bound' + seconds) l) (sym is)
+          (sound_ticked g running.hosts.items 0 bound bound' seconds items fits sound.sites sound'.sites);
       near = ap (λ (l : List (Site D V)). are_near (clocks_in l)) is ∙ ap are_near (clocks_ticked items seconds)
           ∙ near_make (map (λ (n : ℕ). n + seconds) (clocks_in items)) (near_all (clocks_in items) seconds (near_read (clocks_in items) sound.near));
       packets = sound.packets;
       told = sound.told;
     }
 
-pub all_told : {D V : Type 0} (files : D → Option Files) (faults : D → ℕ) (db : ScriptDatabase) (bound : ℕ) (running : OpenCell D V) (sites : List (Site D V)) (c : Cell) (seconds : ℕ) (text : List ℕ) → sites ≡ map (ticked_on seconds) running.sites.items → IsSound files faults bound running → bound + seconds ≤ MAX_MOMENT → IsModelledBy running c → CellTold files faults db (λ choices. unless_skewed db c (map (ticked seconds) c.run.world.sites) (Tick_all seconds)) None running (all_ticked running sites) text text
-all_told {D} {V} files faults db bound running sites c seconds text are sound fits stands =
+pub all_told : {D V : Type 0} (g : Ghosts D) (db : ScriptDatabase) (bound : ℕ) (running : OpenCell D V) (sites : List (Site D V)) (c : Cell) (seconds : ℕ) (text : List ℕ) → sites ≡ map (ticked_on seconds) running.sites.items → IsSound g bound running → bound + seconds ≤ MAX_MOMENT → IsModelledBy running c → CellTold g db (λ choices. unless_skewed db c (map (ticked seconds) c.run.world.sites) (Tick_all seconds)) None running (all_ticked running sites) text text
+all_told {D} {V} g db bound running sites c seconds text are sound fits stands =
     let is = all_items running sites seconds are in
     let ss = subst (λ (l : List (Site D V)). AreSitesOf l (map (ticked seconds) c.run.world.sites)) (sym is) (sites_all_ticked running.sites.items c.run.world.sites seconds stands.sites) in
     record {
       choices = [];
       ran = with_event db c (Tick_all seconds);
       is = ap (λ (b : Bool). if b then Ok (with_event db c (Tick_all seconds)) else Err why.Skew)
-          (may files faults (bound + seconds) (all_ticked running sites) (map (ticked seconds) c.run.world.sites) (all_sound files faults bound bound running sites seconds are sound fits sound) ss);
+          (may g (bound + seconds) (all_ticked running sites) (map (ticked seconds) c.run.world.sites) (all_sound g bound bound running sites seconds are sound fits sound) ss);
       ends = refl;
       cell = record {
         hosts = stands.hosts;
@@ -267,12 +268,12 @@ all_told {D} {V} files faults db bound running sites c seconds text are sound fi
         unarmed = stands.unarmed;
       };
       told = sym (append-nil text);
-      causes = rises_same (helds files faults running) (helds files faults (all_ticked running sites)) (helds_all files faults running sites seconds are);
+      causes = rises_same (helds g.files g.faults running) (helds g.files g.faults (all_ticked running sites)) (helds_all g running sites seconds are);
     }
 
-pub fits_at : {D V : Type 0} (files : D → Option Files) (faults : D → ℕ) (bound seconds : ℕ) (running : OpenCell D V) (k : ℕ) (site : Site D V) → IsSound files faults bound running → bound + seconds ≤ MAX_MOMENT → slice_get running.sites.items k ≡ Some site → site.clock + seconds ≤ MAX_MOMENT
-fits_at files faults bound seconds running k site sound fits there =
-    let at = sound_at files faults running.hosts.items 0 bound running.sites.items k site sound.sites there in
+pub fits_at : {D V : Type 0} (g : Ghosts D) (bound seconds : ℕ) (running : OpenCell D V) (k : ℕ) (site : Site D V) → IsSound g bound running → bound + seconds ≤ MAX_MOMENT → slice_get running.sites.items k ≡ Some site → site.clock + seconds ≤ MAX_MOMENT
+fits_at g bound seconds running k site sound fits there =
+    let at = sound_at g running.hosts.items 0 bound running.sites.items k site sound.sites there in
     let within = at.within in
     omega (arith, within, fits)
 

@@ -1,11 +1,11 @@
 -- What the disks of a running cell read as, and how often they failed.
 use Rattle.std.specs.Prelude.{◌≡◌, ◌≤◌, ℕ, ◌+◌, Option, Some, None, IsSomeAnd, List, [], ◌∷◌, map}
 use Rattle.disk_base.specs.Files.{Files}
-use Rattle.cell_model.specs.Durable.{durable}
+use Rattle.cell_model.specs.Durable.{durable, no_database}
 use Rattle.cell_model.specs.Node.{Node, Down, Halted, Up}
 use Rattle.cell_model.specs.World.{Site}
 use Rattle.cell_runs.specs.Trace.{TraceItem, fault_count}
-use Rattle.ubik_node.specs.Database.{durable_of}
+use Rattle.ubik_node.specs.Disk.{StandsAs}
 
 -- what a disk reads as, where it tells it, and how often it has failed
 pub record Held : Type 0 where
@@ -18,11 +18,15 @@ held files faults disk = record { files = files disk; faults = faults disk }
 abbrev pub all_held : {D : Type 0} → (D → Option Files) → (D → ℕ) → List D → List Held
 all_held files faults disks = map (held files faults) disks
 
--- a server that is up: the database file is its version and its image, and there is no log and no incoming file
+-- a server that is up: the files stand for its version and its image
 abbrev pub ReadsNode : Node → Files → Type 0
 ReadsNode Down fs = ⊥
 ReadsNode (Halted h) fs = ⊥
-ReadsNode (Up s) fs = (durable_of fs.database ≡ Some (durable s.version s.image)) × (fs.log ≡ []) × (fs.incoming ≡ [])
+ReadsNode (Up s) fs = StandsAs (durable s.version s.image) fs
+
+-- the files stand for no database
+abbrev pub IsFresh : Option Files → Type 0
+IsFresh files = IsSomeAnd files (StandsAs no_database)
 
 -- a disk that never failed reads as its server
 abbrev pub IsReadBy : Node → Held → Type 0

@@ -19,7 +19,7 @@ server_node (server.Up node) = node_of node
 -- its disk
 abbrev pub server_disk : {D V : Type 0} → Server D V → D
 server_disk (server.Down disk) = disk
-server_disk (server.Up node) = node.disk
+server_disk (server.Up node) = node.store.disk
 
 abbrev pub site_disk : {D V : Type 0} → Site D V → D
 site_disk site = server_disk site.server

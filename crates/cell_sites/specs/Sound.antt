@@ -1,6 +1,6 @@
 -- What is kept true of a running cell.
-use Rattle.std.specs.Prelude.{◌≡◌, ◌+◌, ◌<◌, ◌≤◌, ℕ, true, false, Option, IsSomeAnd, All, List, [], ◌∷◌, length, map}
-use Rattle.disk_base.specs.Files.{Files}
+use Rattle.std.specs.Prelude.{◌≡◌, ◌+◌, ◌<◌, ◌≤◌, ℕ, true, false, Option, IsSome, All, List, [], ◌∷◌, length, map}
+use Rattle.disk_base.specs.declared.disks.Disk.{Ghosts}
 use Rattle.ubik_types.specs.declared.hosts.Host.{Host}
 use Rattle.ubik_types.specs.declared.limits.TheConstants.{MAXSERVERS}
 use Rattle.ubik_types.specs.Moment.{IsMoment}
@@ -15,44 +15,40 @@ use Rattle.cell_sites.specs.declared.sites.Site.{Site}
 use Rattle.ubik_node.specs.declared.nodes.Node.{Node}
 use Rattle.ubik_node.specs.Node.{own_member, up_server, IsStored}
 
--- the disk of a server that is not halted tells its files, and the log and the incoming file are empty
-abbrev pub HasOnlyDatabase : {D V : Type 0} → (D → Option Files) → Node D V → Type 0
-HasOnlyDatabase files n = n.halted ≡ false → IsSomeAnd (files n.disk) (λ fs. (fs.log ≡ []) × (fs.incoming ≡ []))
-
--- A server that is up: the disk has its database and nothing else, or the server is halted, since the disk failed.
-pub record IsSoundNode {D V : Type 0} (files : D → Option Files) (faults : D → ℕ) (m : Member) (clock : ℕ) (n : Node D V) : Type 0 where
+-- A server that is up: its disk tells its files, and its store has its version and its image; or it is halted, since the disk failed.
+pub record IsSoundNode {D V : Type 0} (g : Ghosts D) (m : Member) (clock : ℕ) (n : Node D V) : Type 0 where
   pub last : n.last ≤ clock
   pub member : own_member n ≡ m
   pub voter : IsVoter m (up_server n)
-  pub stored : IsStored files n
-  pub alone : HasOnlyDatabase files n
-  pub cause : n.halted ≡ true → 0 < faults n.disk
+  pub stored : IsStored g n
+  pub told : n.halted ≡ false → IsSome (g.files n.store.disk)
+  pub cause : n.halted ≡ true → 0 < g.faults n.store.disk
 
 -- a server that is down is so since its disk failed
-abbrev pub IsSoundServer : {D V : Type 0} → (D → Option Files) → (D → ℕ) → Member → (clock : ℕ) → Server D V → Type 0
-IsSoundServer files faults m clock (server.Down disk) = 0 < faults disk
-IsSoundServer files faults m clock (server.Up node) = IsSoundNode files faults m clock node
+abbrev pub IsSoundServer : {D V : Type 0} → Ghosts D → Member → (clock : ℕ) → Server D V → Type 0
+IsSoundServer g m clock (server.Down disk) = 0 < g.faults disk
+IsSoundServer g m clock (server.Up node) = IsSoundNode g m clock node
 
-pub record IsSoundSite {D V : Type 0} (files : D → Option Files) (faults : D → ℕ) (m : Member) (bound : ℕ) (site : Site D V) : Type 0 where
+pub record IsSoundSite {D V : Type 0} (g : Ghosts D) (m : Member) (bound : ℕ) (site : Site D V) : Type 0 where
   pub moment : IsMoment site.clock
   pub within : site.clock ≤ bound
-  pub server : IsSoundServer files faults m site.clock site.server
+  pub server : IsSoundServer g m site.clock site.server
 
 -- so each of these sites, the first of which has this place among the hosts
-abbrev pub AreSound : {D V : Type 0} → (D → Option Files) → (D → ℕ) → List Host → (place bound : ℕ) → List (Site D V) → Type 0
-AreSound files faults hosts place bound [] = Unit {0}
-AreSound files faults hosts place bound (site ∷ sites) =
-    IsSoundSite files faults (record { hosts = hosts; me = place }) bound site × AreSound files faults hosts (place + 1) bound sites
+abbrev pub AreSound : {D V : Type 0} → Ghosts D → List Host → (place bound : ℕ) → List (Site D V) → Type 0
+AreSound g hosts place bound [] = Unit {0}
+AreSound g hosts place bound (site ∷ sites) =
+    IsSoundSite g (record { hosts = hosts; me = place }) bound site × AreSound g hosts (place + 1) bound sites
 
 abbrev pub clocks_in : {D V : Type 0} → List (Site D V) → List ℕ
 clocks_in sites = map (λ site. site.clock) sites
 
 -- A running cell of 1 to 20 servers, whose clocks are near and at most this bound, and whose packets are all of votes.
-pub record IsSound {D V : Type 0} (files : D → Option Files) (faults : D → ℕ) (bound : ℕ) (running : OpenCell D V) : Type 0 where
+pub record IsSound {D V : Type 0} (g : Ghosts D) (bound : ℕ) (running : OpenCell D V) : Type 0 where
   pub some : 1 ≤ length running.sites.items
   pub few : length running.sites.items ≤ MAXSERVERS
   pub hosts : running.hosts.items ≡ hosts_of (length running.sites.items)
-  pub sites : AreSound files faults running.hosts.items 0 bound running.sites.items
+  pub sites : AreSound g running.hosts.items 0 bound running.sites.items
   pub near : are_near (clocks_in running.sites.items) ≡ true
   pub packets : All (IsVotePacket running.hosts.items) running.packets.sent
   pub told : running.outputs ≡ []

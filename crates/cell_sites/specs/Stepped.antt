@@ -1,6 +1,6 @@
 -- The step of one server of a running cell.
 use Rattle.std.specs.Prelude.{◌≡◌, ◌<◌, ◌≤◌, ℕ, Bool, true, false, Option, Some, List, set, slice_get}
-use Rattle.disk_base.specs.Files.{Files}
+use Rattle.disk_base.specs.declared.disks.Disk.{Ghosts}
 use Rattle.db_image.specs.Database.{Database}
 use Rattle.cell_model.specs.declared.events.NodeEvent.{NodeEvent}
 use Rattle.cell_model.specs.declared.events.Output.{Output}
@@ -24,18 +24,15 @@ up_site clock node = record { clock = clock; server = Up node }
 
 -- A server made a step of the rules at its clock, which ended so and put these outputs out: it stays sound, and where it was halted
 -- in the step, its disk failed.
-pub record NodeStepped {D V : Type 0} (files : D → Option Files) (faults : D → ℕ) (db : Database) (m : Member) (clock : ℕ) (event : NodeEvent) (end : StepEnd) (halts : Bool) (node later : Node D V) (out : List Output) : Type 0 where
-  -- the changing calls of its disk, before and after
-  pub calls : ℕ
-  pub calls_after : ℕ
-  pub steps : Steps db m end event clock (node_of node) (node_of later) out calls calls_after
-  pub halted : halts ≡ true → (end ≡ Halted) × (node.halted ≡ false) × (faults node.disk < faults later.disk)
+pub record NodeStepped {D V : Type 0} (g : Ghosts D) (db : Database) (m : Member) (clock : ℕ) (event : NodeEvent) (end : StepEnd) (halts : Bool) (node later : Node D V) (out : List Output) : Type 0 where
+  pub steps : Steps g db m end event clock (node_of node) (node_of later) out node.store.disk later.store.disk
+  pub halted : halts ≡ true → (end ≡ Halted) × (node.halted ≡ false) × (g.faults node.store.disk < g.faults later.store.disk)
   pub rests : halts ≡ false → end ≡ Halted → node.halted ≡ true
-  pub never_falls : faults node.disk ≤ faults later.disk
-  pub sound : IsSoundNode files faults m clock later
+  pub never_falls : g.faults node.store.disk ≤ g.faults later.store.disk
+  pub sound : IsSoundNode g m clock later
 
 -- The server at a place made such a step; nothing else of the cell changed.
-pub record SiteStepped {D V : Type 0} (files : D → Option Files) (faults : D → ℕ) (db : Database) (k : ℕ) (event : NodeEvent) (end : StepEnd) (halts : Bool) (before after : OpenCell D V) : Type 0 where
+pub record SiteStepped {D V : Type 0} (g : Ghosts D) (db : Database) (k : ℕ) (event : NodeEvent) (end : StepEnd) (halts : Bool) (before after : OpenCell D V) : Type 0 where
   pub clock : ℕ
   pub node : Node D V
   pub later : Node D V
@@ -43,4 +40,4 @@ pub record SiteStepped {D V : Type 0} (files : D → Option Files) (faults : D �
   pub sites : after.sites.items ≡ set before.sites.items k (up_site clock later)
   pub hosts : after.hosts.items ≡ before.hosts.items
   pub packets : after.packets ≡ before.packets
-  pub step : NodeStepped files faults db (member_at before k) clock event end halts node later after.outputs
+  pub step : NodeStepped g db (member_at before k) clock event end halts node later after.outputs

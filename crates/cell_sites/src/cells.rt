@@ -3,7 +3,8 @@ ghost use Rattle.std.specs.Prelude.{◌≡◌, ◌≢◌, ◌++◌, ◌≤◌, �
 ghost use Rattle.std.specs.Prelude.{[], length, map, IfOk, OnOk, Option, Some, vec_capacity, vec_len};
 ghost use Rattle.std.specs.String.{string_bytes};
 ghost use Rattle.disk_base.specs.Stops.DiskStop.{Unarmed};
-ghost use Rattle.disk_base.specs.Files.{Files, no_files};
+ghost use Rattle.disk_base.specs.Crash.{IsSettled};
+ghost use Rattle.disk_base.specs.Files.{no_files};
 ghost use Rattle.ubik_types.specs.declared.hosts.Host.{Host};
 ghost use Rattle.ubik_types.specs.declared.limits.TheConstants.{MAXSERVERS};
 ghost use Rattle.ubik_types.specs.Moment.{IsMoment};
@@ -50,7 +51,7 @@ impl<D: StopDisk, V: WordForms> OpenCell<D, V> {
         ensures hosts { IfOk result (λ running. running.hosts.items ≡ hosts_of servers) }
         ensures none { IfOk result (λ running. running.sites.items ≡ []) }
         ensures opened { IfOk result (λ running. (clock : ℕ) (text : List ℕ) →
-            ArePartOpened D.files D.faults (script_database V.database V.words) clock [] running text text) }
+            ArePartOpened D.Disk (script_database V.database V.words) clock [] running text text) }
     {
         let hosts = first_hosts(alloc, servers)?;
         let packets = Packets::new(alloc, &hosts)?;
@@ -79,11 +80,12 @@ impl<D: StopDisk, V: WordForms> OpenCell<D, V> {
         requires room { HasRoom self.old }
         requires next { length self.old.sites.items < length self.old.hosts.items }
         requires empty { D.files disk ≡ Some no_files }
+        requires settled { IsSettled (D.files disk) (D.may_leave disk) }
         ensures opened { OnOk result ((given : List D) (text_before : List ℕ) →
-            ArePartOpened D.files D.faults (script_database V.database V.words) clock given self.old text_before (string_bytes text.old) →
-            ArePartOpened D.files D.faults (script_database V.database V.words) clock (given ++ disk ∷ []) self.new
+            ArePartOpened D.Disk (script_database V.database V.words) clock given self.old text_before (string_bytes text.old) →
+            ArePartOpened D.Disk (script_database V.database V.words) clock (given ++ disk ∷ []) self.new
             text_before (string_bytes text.new)) }
-        ensures added { IsAdded D.files D.faults disk self.old self.new }
+        ensures added { IsAdded D.Disk disk self.old self.new }
         ensures room { HasRoom self.new }
         ensures hosts { self.new.hosts.items ≡ self.old.hosts.items }
         ensures count { length self.new.sites.items ≡ length self.old.sites.items + 1 }
@@ -141,10 +143,11 @@ fn open_server<D: StopDisk, V: WordForms>(
     requires me { me < length hosts.now }
     requires moment { IsMoment clock }
     requires empty { D.files disk ≡ Some no_files }
+    requires settled { IsSettled (D.files disk) (D.may_leave disk) }
     ensures told { OnOk result.1 (ServerOpened D.faults (script_database V.database V.words) hosts.now me clock disk result.0
         (string_bytes text.old) (string_bytes text.new)) }
-    ensures sound { OnOk result.1 (IsSoundServer D.files D.faults (record { hosts = hosts.now; me = me }) clock result.0) }
-    ensures kept { IsEmptied D.files D.faults disk (server_disk result.0) }
+    ensures sound { OnOk result.1 (IsSoundServer D.Disk (record { hosts = hosts.now; me = me }) clock result.0) }
+    ensures kept { IsEmptied D.Disk disk (server_disk result.0) }
 {
     law_voters_vote();
     let Ok(cell) = Cell::new(alloc, hosts) else {
@@ -184,6 +187,6 @@ fn keep_down<D: StopDisk, V: WordForms>(
 pub fn law_cell_opened<D: StopDisk, V: WordForms>()
     ensures { (db : ScriptDatabase) (clock : ℕ) (k : Kind) (given : List D) (running : AnOpenCell D V) (text_before text_after : List ℕ) →
         IsMoment clock → HasRoom running → length given ≡ length running.hosts.items →
-        ArePartOpened D.files D.faults db clock given running text_before text_after →
-        IsOpened D.files D.faults db clock k given running text_before text_after }
+        ArePartOpened D.Disk db clock given running text_before text_after →
+        IsOpened D.Disk db clock k given running text_before text_after }
 {}

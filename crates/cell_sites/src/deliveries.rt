@@ -30,17 +30,17 @@ use ubik_types::Host;
 impl<D: StopDisk, V: WordForms> OpenCell<D, V> {
     /// Hands the packet of a number to its receiver, whether it waits or not. A server that is down loses it.
     pub fn deliver(&mut self, number: u64, text: &mut String) -> Result<(), LineFault>
-        requires { (bound : ℕ) × IsSound D.files D.faults bound self.old }
+        requires { (bound : ℕ) × IsSound D.Disk bound self.old }
         ensures told { result ≡ Ok tt → (c : Cell) → IsModelledBy self.old c →
-            CellTold D.files D.faults (script_database V.database V.words) (λ choices. run_in (script_database V.database V.words) c choices (line.Deliver number)) None self.old self.new (string_bytes text.old) (string_bytes text.new) }
+            CellTold D.Disk (script_database V.database V.words) (λ choices. run_in (script_database V.database V.words) c choices (line.Deliver number)) None self.old self.new (string_bytes text.old) (string_bytes text.new) }
         ensures limit { (which : AWhich) → result ≡ Err (LineFault.Limit which) → (c : Cell) → IsModelledBy self.old c →
-            CellTold D.files D.faults (script_database V.database V.words) (λ choices. run_in (script_database V.database V.words) c choices (line.Deliver number)) (Some (ending.Limit which)) self.old self.new (string_bytes text.old) (string_bytes text.new) }
+            CellTold D.Disk (script_database V.database V.words) (λ choices. run_in (script_database V.database V.words) c choices (line.Deliver number)) (Some (ending.Limit which)) self.old self.new (string_bytes text.old) (string_bytes text.new) }
         ensures refused { (why : AWhy) → result ≡ Err (LineFault.Refused why) → (self.new ≡ self.old)
             × ((c : Cell) → IsModelledBy self.old c → IsRefused why (λ choices. run_in (script_database V.database V.words) c choices (line.Deliver number))) }
         ensures quiet { (why : AWhy) → result ≡ Err (LineFault.Refused why) → string_bytes text.new ≡ string_bytes text.old }
         ensures short { result ≡ Err LineFault.NoMemory → (c : Cell) → IsModelledBy self.old c →
-            IsShort D.files D.faults (λ choices. run_in (script_database V.database V.words) c choices (line.Deliver number)) c self.old self.new }
-        ensures sound { result ≡ Ok tt → (bound : ℕ) → IsSound D.files D.faults bound self.old → IsSound D.files D.faults bound self.new }
+            IsShort D.Disk (λ choices. run_in (script_database V.database V.words) c choices (line.Deliver number)) c self.old self.new }
+        ensures sound { result ≡ Ok tt → (bound : ℕ) → IsSound D.Disk bound self.old → IsSound D.Disk bound self.new }
         ensures never_falls { AreRises 0 [] (helds D.files D.faults self.old) (helds D.files D.faults self.new) }
         ensures same { length self.new.sites.items ≡ length self.old.sites.items }
     {
@@ -51,15 +51,15 @@ impl<D: StopDisk, V: WordForms> OpenCell<D, V> {
     /// Hands all packets that wait to their receivers, the lowest number first, those among them that are sent meanwhile. There are no
     /// more of them than a script may send.
     pub fn deliver_all(&mut self, text: &mut String) -> Result<(), LineFault>
-        requires { (bound : ℕ) × IsSound D.files D.faults bound self.old }
+        requires { (bound : ℕ) × IsSound D.Disk bound self.old }
         ensures told { result ≡ Ok tt → (c : Cell) → IsModelledBy self.old c →
-            CellTold D.files D.faults (script_database V.database V.words) (λ choices. run_in (script_database V.database V.words) c choices line.DeliverAll) None self.old self.new (string_bytes text.old) (string_bytes text.new) }
+            CellTold D.Disk (script_database V.database V.words) (λ choices. run_in (script_database V.database V.words) c choices line.DeliverAll) None self.old self.new (string_bytes text.old) (string_bytes text.new) }
         ensures limit { (which : AWhich) → result ≡ Err (LineFault.Limit which) → (c : Cell) → IsModelledBy self.old c →
-            CellTold D.files D.faults (script_database V.database V.words) (λ choices. run_in (script_database V.database V.words) c choices line.DeliverAll) (Some (ending.Limit which)) self.old self.new (string_bytes text.old) (string_bytes text.new) }
+            CellTold D.Disk (script_database V.database V.words) (λ choices. run_in (script_database V.database V.words) c choices line.DeliverAll) (Some (ending.Limit which)) self.old self.new (string_bytes text.old) (string_bytes text.new) }
         ensures refused { (why : AWhy) → result ≢ Err (LineFault.Refused why) }
         ensures short { result ≡ Err LineFault.NoMemory → (c : Cell) → IsModelledBy self.old c →
-            IsShort D.files D.faults (λ choices. run_in (script_database V.database V.words) c choices line.DeliverAll) c self.old self.new }
-        ensures sound { result ≡ Ok tt → (bound : ℕ) → IsSound D.files D.faults bound self.old → IsSound D.files D.faults bound self.new }
+            IsShort D.Disk (λ choices. run_in (script_database V.database V.words) c choices line.DeliverAll) c self.old self.new }
+        ensures sound { result ≡ Ok tt → (bound : ℕ) → IsSound D.Disk bound self.old → IsSound D.Disk bound self.new }
         ensures never_falls { AreRises 0 [] (helds D.files D.faults self.old) (helds D.files D.faults self.new) }
         ensures same { length self.new.sites.items ≡ length self.old.sites.items }
     {
@@ -74,17 +74,17 @@ impl<D: StopDisk, V: WordForms> OpenCell<D, V> {
 
     /// Hands over a packet that was sent.
     fn deliver_sent(&mut self, number: u32, text: &mut String) -> Result<(), LineFault>
-        requires sound { (bound : ℕ) × IsSound D.files D.faults bound self.old }
+        requires sound { (bound : ℕ) × IsSound D.Disk bound self.old }
         requires some { 0 < number }
         requires sent { number ≤ length self.old.packets.sent }
         ensures told { result ≡ Ok tt → (c : Cell) → IsModelledBy self.old c →
-            CellTold D.files D.faults (script_database V.database V.words) (λ choices. Ok (delivered (script_database V.database V.words) c (first_choice choices) number)) None self.old self.new (string_bytes text.old) (string_bytes text.new) }
+            CellTold D.Disk (script_database V.database V.words) (λ choices. Ok (delivered (script_database V.database V.words) c (first_choice choices) number)) None self.old self.new (string_bytes text.old) (string_bytes text.new) }
         ensures limit { (which : AWhich) → result ≡ Err (LineFault.Limit which) → (c : Cell) → IsModelledBy self.old c →
-            CellTold D.files D.faults (script_database V.database V.words) (λ choices. Ok (delivered (script_database V.database V.words) c (first_choice choices) number)) (Some (ending.Limit which)) self.old self.new (string_bytes text.old) (string_bytes text.new) }
+            CellTold D.Disk (script_database V.database V.words) (λ choices. Ok (delivered (script_database V.database V.words) c (first_choice choices) number)) (Some (ending.Limit which)) self.old self.new (string_bytes text.old) (string_bytes text.new) }
         ensures refused { (why : AWhy) → result ≢ Err (LineFault.Refused why) }
         ensures short { result ≡ Err LineFault.NoMemory → (c : Cell) → IsModelledBy self.old c →
-            IsShort D.files D.faults (λ choices. Ok (delivered (script_database V.database V.words) c (first_choice choices) number)) c self.old self.new }
-        ensures sound { result ≡ Ok tt → (bound : ℕ) → IsSound D.files D.faults bound self.old → IsSound D.files D.faults bound self.new }
+            IsShort D.Disk (λ choices. Ok (delivered (script_database V.database V.words) c (first_choice choices) number)) c self.old self.new }
+        ensures sound { result ≡ Ok tt → (bound : ℕ) → IsSound D.Disk bound self.old → IsSound D.Disk bound self.new }
         ensures never_falls { AreRises 0 [] (helds D.files D.faults self.old) (helds D.files D.faults self.new) }
         ensures same { length self.new.sites.items ≡ length self.old.sites.items }
         // A packet of votes leaves what disks read as.

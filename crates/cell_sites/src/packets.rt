@@ -90,7 +90,7 @@ impl Packets {
 
     /// One more packet, which waits.
     pub fn push(&mut self, packet: Packet) -> Result<(), NoMemory>
-        requires bound { HasShortBytes packet.body }
+        requires short { HasShortBytes packet.body }
         requires room { passed_by (length self.old.sent + 1) (bytes_of self.old.sent + packet_length packet) ≡ None }
         ensures ok { OnOk result (self.new ≡ sent_more self.old packet) }
         ensures err { OnErr result (self.new ≡ self.old) }

@@ -20,9 +20,9 @@ use disk_base::StopDisk;
 impl<D: StopDisk, V: WordForms> OpenCell<D, V> {
     /// Tells the state of a server: of a halted one what it kept.
     pub fn show(&self, server: u64, text: &mut String) -> Result<(), LineFault>
-        requires { (bound : ℕ) × IsSound D.files D.faults bound self.now }
+        requires { (bound : ℕ) × IsSound D.Disk bound self.now }
         ensures told { result ≡ Ok tt → (c : Cell) → IsModelledBy self.now c →
-            CellTold D.files D.faults (script_database V.database V.words)
+            CellTold D.Disk (script_database V.database V.words)
             (λ choices. run_in (script_database V.database V.words) c choices (line.Show server)) None self.now self.now
             (string_bytes text.old) (string_bytes text.new) }
         ensures limit { (which : Which) → result ≢ Err (LineFault.Limit which) }
@@ -31,7 +31,7 @@ impl<D: StopDisk, V: WordForms> OpenCell<D, V> {
             (λ choices. run_in (script_database V.database V.words) c choices (line.Show server)) }
         ensures quiet { (why : Why) → result ≡ Err (LineFault.Refused why) → string_bytes text.new ≡ string_bytes text.old }
         ensures short { result ≡ Err LineFault.NoMemory → (c : Cell) → IsModelledBy self.now c →
-            IsShort D.files D.faults
+            IsShort D.Disk
             (λ choices. run_in (script_database V.database V.words) c choices (line.Show server)) c self.now self.now }
     {
         let k = self.place(server)?;

@@ -36,17 +36,17 @@ use ubik_types::{Bytes, bytes_of};
 impl<D: StopDisk, V: WordForms> OpenCell<D, V> {
     /// A beacon turn of a server, which is counted from 1.
     pub fn beacon(&mut self, server: u64, text: &mut String) -> Result<(), LineFault>
-        requires { (bound : ℕ) × IsSound D.files D.faults bound self.old }
+        requires { (bound : ℕ) × IsSound D.Disk bound self.old }
         ensures told { result ≡ Ok tt → (c : Cell) → IsModelledBy self.old c →
-            CellTold D.files D.faults (script_database V.database V.words) (λ choices. run_in (script_database V.database V.words) c choices (line.Beacon server)) None self.old self.new (string_bytes text.old) (string_bytes text.new) }
+            CellTold D.Disk (script_database V.database V.words) (λ choices. run_in (script_database V.database V.words) c choices (line.Beacon server)) None self.old self.new (string_bytes text.old) (string_bytes text.new) }
         ensures limit { (which : AWhich) → result ≡ Err (LineFault.Limit which) → (c : Cell) → IsModelledBy self.old c →
-            CellTold D.files D.faults (script_database V.database V.words) (λ choices. run_in (script_database V.database V.words) c choices (line.Beacon server)) (Some (ending.Limit which)) self.old self.new (string_bytes text.old) (string_bytes text.new) }
+            CellTold D.Disk (script_database V.database V.words) (λ choices. run_in (script_database V.database V.words) c choices (line.Beacon server)) (Some (ending.Limit which)) self.old self.new (string_bytes text.old) (string_bytes text.new) }
         ensures refused { (why : AWhy) → result ≡ Err (LineFault.Refused why) → (self.new ≡ self.old)
             × ((c : Cell) → IsModelledBy self.old c → IsRefused why (λ choices. run_in (script_database V.database V.words) c choices (line.Beacon server))) }
         ensures quiet { (why : AWhy) → result ≡ Err (LineFault.Refused why) → string_bytes text.new ≡ string_bytes text.old }
         ensures short { result ≡ Err LineFault.NoMemory → (c : Cell) → IsModelledBy self.old c →
-            IsShort D.files D.faults (λ choices. run_in (script_database V.database V.words) c choices (line.Beacon server)) c self.old self.new }
-        ensures sound { result ≡ Ok tt → (bound : ℕ) → IsSound D.files D.faults bound self.old → IsSound D.files D.faults bound self.new }
+            IsShort D.Disk (λ choices. run_in (script_database V.database V.words) c choices (line.Beacon server)) c self.old self.new }
+        ensures sound { result ≡ Ok tt → (bound : ℕ) → IsSound D.Disk bound self.old → IsSound D.Disk bound self.new }
         ensures never_falls { AreRises 0 [] (helds D.files D.faults self.old) (helds D.files D.faults self.new) }
         ensures same { length self.new.sites.items ≡ length self.old.sites.items }
     {
@@ -56,18 +56,18 @@ impl<D: StopDisk, V: WordForms> OpenCell<D, V> {
 
     /// A recovery turn of the server of a cell of one.
     pub fn recover(&mut self, server: u64, text: &mut String) -> Result<(), LineFault>
-        requires sound { (bound : ℕ) × IsSound D.files D.faults bound self.old }
+        requires sound { (bound : ℕ) × IsSound D.Disk bound self.old }
         requires alone { length self.old.sites.items ≡ 1 }
         ensures told { result ≡ Ok tt → (c : Cell) → IsModelledBy self.old c →
-            CellTold D.files D.faults (script_database V.database V.words) (λ choices. run_in (script_database V.database V.words) c choices (line.Recover server)) None self.old self.new (string_bytes text.old) (string_bytes text.new) }
+            CellTold D.Disk (script_database V.database V.words) (λ choices. run_in (script_database V.database V.words) c choices (line.Recover server)) None self.old self.new (string_bytes text.old) (string_bytes text.new) }
         ensures limit { (which : AWhich) → result ≡ Err (LineFault.Limit which) → (c : Cell) → IsModelledBy self.old c →
-            CellTold D.files D.faults (script_database V.database V.words) (λ choices. run_in (script_database V.database V.words) c choices (line.Recover server)) (Some (ending.Limit which)) self.old self.new (string_bytes text.old) (string_bytes text.new) }
+            CellTold D.Disk (script_database V.database V.words) (λ choices. run_in (script_database V.database V.words) c choices (line.Recover server)) (Some (ending.Limit which)) self.old self.new (string_bytes text.old) (string_bytes text.new) }
         ensures refused { (why : AWhy) → result ≡ Err (LineFault.Refused why) → (self.new ≡ self.old)
             × ((c : Cell) → IsModelledBy self.old c → IsRefused why (λ choices. run_in (script_database V.database V.words) c choices (line.Recover server))) }
         ensures quiet { (why : AWhy) → result ≡ Err (LineFault.Refused why) → string_bytes text.new ≡ string_bytes text.old }
         ensures short { result ≡ Err LineFault.NoMemory → (c : Cell) → IsModelledBy self.old c →
-            IsShort D.files D.faults (λ choices. run_in (script_database V.database V.words) c choices (line.Recover server)) c self.old self.new }
-        ensures sound { result ≡ Ok tt → (bound : ℕ) → IsSound D.files D.faults bound self.old → IsSound D.files D.faults bound self.new }
+            IsShort D.Disk (λ choices. run_in (script_database V.database V.words) c choices (line.Recover server)) c self.old self.new }
+        ensures sound { result ≡ Ok tt → (bound : ℕ) → IsSound D.Disk bound self.old → IsSound D.Disk bound self.new }
         ensures never_falls { AreRises 0 [] (helds D.files D.faults self.old) (helds D.files D.faults self.new) }
         ensures same { length self.new.sites.items ≡ length self.old.sites.items }
     {
@@ -83,17 +83,17 @@ impl<D: StopDisk, V: WordForms> OpenCell<D, V> {
         call: Bytes,
         text: &mut String,
     ) -> Result<(), LineFault>
-        requires { (bound : ℕ) × IsSound D.files D.faults bound self.old }
+        requires { (bound : ℕ) × IsSound D.Disk bound self.old }
         ensures told { result ≡ Ok tt → (c : Cell) → IsModelledBy self.old c →
-            CellTold D.files D.faults (script_database V.database V.words) (λ choices. asked_at (script_database V.database V.words) c (first_choice choices) id call (Some server)) None self.old self.new (string_bytes text.old) (string_bytes text.new) }
+            CellTold D.Disk (script_database V.database V.words) (λ choices. asked_at (script_database V.database V.words) c (first_choice choices) id call (Some server)) None self.old self.new (string_bytes text.old) (string_bytes text.new) }
         ensures limit { (which : AWhich) → result ≡ Err (LineFault.Limit which) → (c : Cell) → IsModelledBy self.old c →
-            CellTold D.files D.faults (script_database V.database V.words) (λ choices. asked_at (script_database V.database V.words) c (first_choice choices) id call (Some server)) (Some (ending.Limit which)) self.old self.new (string_bytes text.old) (string_bytes text.new) }
+            CellTold D.Disk (script_database V.database V.words) (λ choices. asked_at (script_database V.database V.words) c (first_choice choices) id call (Some server)) (Some (ending.Limit which)) self.old self.new (string_bytes text.old) (string_bytes text.new) }
         ensures refused { (why : AWhy) → result ≡ Err (LineFault.Refused why) → (self.new ≡ self.old)
             × ((c : Cell) → IsModelledBy self.old c → IsRefused why (λ choices. asked_at (script_database V.database V.words) c (first_choice choices) id call (Some server))) }
         ensures quiet { (why : AWhy) → result ≡ Err (LineFault.Refused why) → string_bytes text.new ≡ string_bytes text.old }
         ensures short { result ≡ Err LineFault.NoMemory → (c : Cell) → IsModelledBy self.old c →
-            IsShort D.files D.faults (λ choices. asked_at (script_database V.database V.words) c (first_choice choices) id call (Some server)) c self.old self.new }
-        ensures sound { result ≡ Ok tt → (bound : ℕ) → IsSound D.files D.faults bound self.old → IsSound D.files D.faults bound self.new }
+            IsShort D.Disk (λ choices. asked_at (script_database V.database V.words) c (first_choice choices) id call (Some server)) c self.old self.new }
+        ensures sound { result ≡ Ok tt → (bound : ℕ) → IsSound D.Disk bound self.old → IsSound D.Disk bound self.new }
         ensures never_falls { AreRises 0 [] (helds D.files D.faults self.old) (helds D.files D.faults self.new) }
         ensures same { length self.new.sites.items ≡ length self.old.sites.items }
     {
@@ -110,18 +110,18 @@ impl<D: StopDisk, V: WordForms> OpenCell<D, V> {
         call: &[u8],
         text: &mut String,
     ) -> Result<(), LineFault>
-        requires sound { (bound : ℕ) × IsSound D.files D.faults bound self.old }
+        requires sound { (bound : ℕ) × IsSound D.Disk bound self.old }
         requires up { IsUpAt self.old k }
         requires taken { IsTaken (member_at self.old k) event }
         requires asks { AsksNoOther event call.now }
         ensures told { result ≡ Ok tt → (c : Cell) (trigger : Trigger) → IsModelledBy self.old c → occasion c.run.world trigger ≡ Some (k, event) →
-            CellTold D.files D.faults (script_database V.database V.words) (λ choices. Ok (stepped (script_database V.database V.words) c (first_choice choices) trigger)) None self.old self.new (string_bytes text.old) (string_bytes text.new) }
+            CellTold D.Disk (script_database V.database V.words) (λ choices. Ok (stepped (script_database V.database V.words) c (first_choice choices) trigger)) None self.old self.new (string_bytes text.old) (string_bytes text.new) }
         ensures limit { (which : AWhich) → result ≡ Err (LineFault.Limit which) → (c : Cell) (trigger : Trigger) → IsModelledBy self.old c → occasion c.run.world trigger ≡ Some (k, event) →
-            CellTold D.files D.faults (script_database V.database V.words) (λ choices. Ok (stepped (script_database V.database V.words) c (first_choice choices) trigger)) (Some (ending.Limit which)) self.old self.new (string_bytes text.old) (string_bytes text.new) }
+            CellTold D.Disk (script_database V.database V.words) (λ choices. Ok (stepped (script_database V.database V.words) c (first_choice choices) trigger)) (Some (ending.Limit which)) self.old self.new (string_bytes text.old) (string_bytes text.new) }
         ensures refused { (why : AWhy) → result ≢ Err (LineFault.Refused why) }
         ensures short { result ≡ Err LineFault.NoMemory → (c : Cell) (trigger : Trigger) → IsModelledBy self.old c → occasion c.run.world trigger ≡ Some (k, event) →
-            IsShort D.files D.faults (λ choices. Ok (stepped (script_database V.database V.words) c (first_choice choices) trigger)) c self.old self.new }
-        ensures sound { result ≡ Ok tt → (bound : ℕ) → IsSound D.files D.faults bound self.old → IsSound D.files D.faults bound self.new }
+            IsShort D.Disk (λ choices. Ok (stepped (script_database V.database V.words) c (first_choice choices) trigger)) c self.old self.new }
+        ensures sound { result ≡ Ok tt → (bound : ℕ) → IsSound D.Disk bound self.old → IsSound D.Disk bound self.new }
         ensures never_falls { AreRises 0 [] (helds D.files D.faults self.old) (helds D.files D.faults self.new) }
         // A packet of votes leaves what disks read as.
         ensures keeps { (packet : APacket) → event ≡ NodeEvent.Packet packet → (sites : List ModelSite) → AreReadBy sites (helds D.files D.faults self.old) → AreReadBy sites (helds D.files D.faults self.new) }
@@ -174,10 +174,10 @@ impl<D: StopDisk, V: WordForms> OpenCell<D, V> {
 
     /// A step of a server that is up, at its clock, which leaves what it put out; and whether the server was halted in it.
     fn step_site(&mut self, k: usize, event: NodeEvent) -> (StepEnd, bool)
-        requires sound { (bound : ℕ) × IsSound D.files D.faults bound self.old }
+        requires sound { (bound : ℕ) × IsSound D.Disk bound self.old }
         requires up { IsUpAt self.old k }
         requires taken { IsTaken (member_at self.old k) event }
-        ensures { SiteStepped D.files D.faults V.database k event result.0 result.1 self.old self.new }
+        ensures { SiteStepped D.Disk V.database k event result.0 result.1 self.old self.new }
     {
         let site = &mut self.sites[k];
         let clock = site.clock;
@@ -196,10 +196,10 @@ fn step_node<D: StopDisk, V: WordForms>(
     out: &mut Outputs,
 ) -> (StepEnd, bool)
     requires moment { IsMoment clock }
-    requires sound { IsSoundNode D.files D.faults (own_member node.old) clock node.old }
+    requires sound { IsSoundNode D.Disk (own_member node.old) clock node.old }
     requires taken { IsTaken (own_member node.old) event }
     requires empty { out.old ≡ [] }
-    ensures { NodeStepped D.files D.faults V.database (own_member node.old) clock event result.0 result.1 node.old node.new out.new }
+    ensures { NodeStepped D.Disk V.database (own_member node.old) clock event result.0 result.1 node.old node.new out.new }
 {
     let was_halted = node.halted();
     match node.step(clock, event, out) {

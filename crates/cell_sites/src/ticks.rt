@@ -22,16 +22,16 @@ use ubik_types::SKEW;
 impl<D: StopDisk, V: WordForms> OpenCell<D, V> {
     /// The clock of a server goes forward. That is refused where it would be more than 7 seconds past another one.
     pub fn tick(&mut self, server: u64, seconds: u32) -> Result<(), Why>
-        requires { (bound : ℕ) × IsSound D.files D.faults bound self.old × (bound + seconds ≤ MAX_MOMENT) }
+        requires { (bound : ℕ) × IsSound D.Disk bound self.old × (bound + seconds ≤ MAX_MOMENT) }
         ensures told { result ≡ Ok tt → (c : Cell) (text : List ℕ) → IsModelledBy self.old c →
-            CellTold D.files D.faults (script_database V.database V.words)
+            CellTold D.Disk (script_database V.database V.words)
             (λ choices. run_in (script_database V.database V.words) c choices (line.Tick server seconds))
             None self.old self.new text text }
         ensures refused { (why : AWhy) → result ≡ Err why → (self.new ≡ self.old)
             × ((c : Cell) → IsModelledBy self.old c → IsRefused why
             (λ choices. run_in (script_database V.database V.words) c choices (line.Tick server seconds))) }
-        ensures sound { result ≡ Ok tt → (bound : ℕ) → IsSound D.files D.faults bound self.old
-            → IsSound D.files D.faults (bound + seconds) self.new }
+        ensures sound { result ≡ Ok tt → (bound : ℕ) → IsSound D.Disk bound self.old
+            → IsSound D.Disk (bound + seconds) self.new }
         ensures never_falls { AreRises 0 [] (helds D.files D.faults self.old) (helds D.files D.faults self.new) }
         ensures same { length self.new.sites.items ≡ length self.old.sites.items }
     {
@@ -46,12 +46,12 @@ impl<D: StopDisk, V: WordForms> OpenCell<D, V> {
 
     /// All clocks go forward.
     pub fn tick_all(&mut self, seconds: u32)
-        requires { (bound : ℕ) × IsSound D.files D.faults bound self.old × (bound + seconds ≤ MAX_MOMENT) }
+        requires { (bound : ℕ) × IsSound D.Disk bound self.old × (bound + seconds ≤ MAX_MOMENT) }
         ensures told { (c : Cell) (text : List ℕ) → IsModelledBy self.old c →
-            CellTold D.files D.faults (script_database V.database V.words)
+            CellTold D.Disk (script_database V.database V.words)
             (λ choices. run_in (script_database V.database V.words) c choices (line.TickAll seconds))
             None self.old self.new text text }
-        ensures sound { (bound : ℕ) → IsSound D.files D.faults bound self.old → IsSound D.files D.faults (bound + seconds) self.new }
+        ensures sound { (bound : ℕ) → IsSound D.Disk bound self.old → IsSound D.Disk (bound + seconds) self.new }
         ensures never_falls { AreRises 0 [] (helds D.files D.faults self.old) (helds D.files D.faults self.new) }
         ensures same { length self.new.sites.items ≡ length self.old.sites.items }
     {

@@ -1,5 +1,5 @@
 //! A database as a server sees it.
-ghost use Rattle.std.specs.Prelude.{◌≡◌, ◌<◌, ◌≤◌, length, unwrap_or, IfOk};
+ghost use Rattle.std.specs.Prelude.{◌≡◌, ◌<◌, ◌≤◌, ℕ, List, length, unwrap_or, IfOk};
 ghost use Rattle.db_image.specs.Database.{Database};
 
 use std::alloc::Global;
@@ -53,4 +53,8 @@ pub trait Service {
         requires { length image.now ≤ MAX_IMAGE }
         ensures { IfOk result (λ made. let o = database.call image.now now call.now in
             (made.0 ≡ o.reply) × (unwrap_or made.1 image.now ≡ o.image)) };
+
+    /// A law, by a call that does nothing: no call leaves a shorter image.
+    fn never_shrinks()
+        ensures { (image : List ℕ) (now : ℕ) (call : List ℕ) → length image ≤ length (database.call image now call).image };
 }

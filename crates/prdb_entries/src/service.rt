@@ -5,7 +5,7 @@ ghost use Rattle.prdb_entries.specs.Protection.{protection};
 use crate::answers::tell_fields;
 use crate::blocks::{BLOCK_LEN, HEAD_LEN};
 use crate::words::{call_words, is_unbuilt};
-use crate::{call_image, writes};
+use crate::{call_image, law_images_never_shrink, writes};
 use db_image::{CallReply, Layout, Service, WordForms};
 use std::alloc::Global;
 use ubik_types::{Bytes, NoMemory};
@@ -35,6 +35,10 @@ impl Service for PrService {
         call: &[u8],
     ) -> Result<(CallReply, Option<Bytes>), NoMemory> {
         call_image(alloc, image, now, call)
+    }
+
+    fn never_shrinks() {
+        law_images_never_shrink();
     }
 }
 

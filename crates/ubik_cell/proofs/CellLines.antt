@@ -1,9 +1,9 @@
 -- A line in a cell that stands, by what each method of the cell says.
-use Rattle.std.proofs.Common.{◌≡◌, ◌⊎◌, ℕ, zero, suc, ◌+◌, ◌≤◌, List, [], ◌∷◌, ◌++◌, length, refl, sym, ap, subst, ◌∙◌, arith}
+use Rattle.std.proofs.Common.{◌≡◌, ℕ, ◌+◌, ◌≤◌, List, [], ◌∷◌, length, refl, sym, subst, arith}
 use Rattle.std.proofs.lemmas.List.{append-nil}
-use Rattle.std.specs.Prelude.{Option, Some, None, Result, Ok, Err}
+use Rattle.std.specs.Prelude.{Some, None, Result, Ok, Err}
 use Rattle.std.specs.Result.{IsErrAnd}
-use Rattle.disk_base.specs.Files.{Files}
+use Rattle.disk_base.specs.declared.disks.Disk.{Ghosts}
 use Rattle.ubik_types.specs.declared.hosts.Host.{Host}
 use Rattle.cell_script.specs.declared.lines.Line.{Line}
 use Rattle.cell_script.specs.declared.lines.Line.TheVariants as line
@@ -25,20 +25,20 @@ use Rattle.ubik_cell.specs.LineRuns.{CellDone, KeepsCell}
 
 -- ---- what stays sound
 
-sites_raised : {D V : Type 0} (files : D → Option Files) (faults : D → ℕ) (hosts : List Host) (place bound later : ℕ) (sites : List (Site D V)) → bound ≤ later
-    → AreSound files faults hosts place bound sites → AreSound files faults hosts place later sites
-sites_raised files faults hosts place bound later [] more sound = tt
-sites_raised files faults hosts place bound later (site ∷ sites) more sound = (
+sites_raised : {D V : Type 0} (g : Ghosts D) (hosts : List Host) (place bound later : ℕ) (sites : List (Site D V)) → bound ≤ later
+    → AreSound g hosts place bound sites → AreSound g hosts place later sites
+sites_raised g hosts place bound later [] more sound = tt
+sites_raised g hosts place bound later (site ∷ sites) more sound = (
   record { moment = sound.0.moment; within = omega (arith, sound.0.within); server = sound.0.server },
-  sites_raised files faults hosts (place + 1) bound later sites more sound.1,
+  sites_raised g hosts (place + 1) bound later sites more sound.1,
 )
 
-pub raised : {D V : Type 0} (files : D → Option Files) (faults : D → ℕ) (bound later : ℕ) (running : OpenCell D V) → bound ≤ later → IsSound files faults bound running → IsSound files faults later running
-raised files faults bound later running more sound = record {
+pub raised : {D V : Type 0} (g : Ghosts D) (bound later : ℕ) (running : OpenCell D V) → bound ≤ later → IsSound g bound running → IsSound g later running
+raised g bound later running more sound = record {
   some = sound.some;
   few = sound.few;
   hosts = sound.hosts;
-  sites = sites_raised files faults running.hosts.items 0 bound later running.sites.items more sound.sites;
+  sites = sites_raised g running.hosts.items 0 bound later running.sites.items more sound.sites;
   near = sound.near;
   packets = sound.packets;
   told = sound.told;
@@ -50,26 +50,26 @@ no_rises k (disk ∷ disks) = (omega arith, no_rises (k + 1) disks)
 
 -- ---- what a line does
 
-module _ {D V : Type 0} (files : D → Option Files) (faults : D → ℕ) (before after : OpenCell D V) where
+module _ {D V : Type 0} (g : Ghosts D) (before after : OpenCell D V) where
   pub kept_of : (result : Result (Unit {0}) LineFault) (seconds : ℕ) → seconds ≤ MAX_TICK
-      → (result ≡ Ok tt → (bound : ℕ) → IsSound files faults bound before → IsSound files faults (bound + seconds) after)
-      → AreRises 0 [] (helds files faults before) (helds files faults after) → length after.sites.items ≡ length before.sites.items
-      → KeepsCell files faults result before after
+      → (result ≡ Ok tt → (bound : ℕ) → IsSound g bound before → IsSound g (bound + seconds) after)
+      → AreRises 0 [] (helds g.files g.faults before) (helds g.files g.faults after) → length after.sites.items ≡ length before.sites.items
+      → KeepsCell g result before after
   kept_of result seconds few sound rises same = record {
-    sound = λ done bound is. raised files faults (bound + seconds) (bound + MAX_TICK) after (omega (arith, few)) (sound done bound is);
+    sound = λ done bound is. raised g (bound + seconds) (bound + MAX_TICK) after (omega (arith, few)) (sound done bound is);
     never_falls = rises;
     same = same;
   }
 
   -- what became of it, by its result
   pub cell_done : (db : ScriptDatabase) (run : Cell → List Choice → Run_or_why) (result : Result (Unit {0}) LineFault) (text_before text_after : List ℕ)
-      → (result ≡ Ok tt → (c : Cell) → IsModelledBy before c → CellTold files faults db (run c) None before after text_before text_after)
+      → (result ≡ Ok tt → (c : Cell) → IsModelledBy before c → CellTold g db (run c) None before after text_before text_after)
       → ((which : Which) → result ≡ Err (Limit which) → (c : Cell) → IsModelledBy before c
-      → CellTold files faults db (run c) (Some (ending.Limit which)) before after text_before text_after)
+      → CellTold g db (run c) (Some (ending.Limit which)) before after text_before text_after)
       → ((why : Why) → result ≡ Err (Refused why) → (after ≡ before) × ((c : Cell) → IsModelledBy before c → IsRefused why (run c)))
       → ((why : Why) → result ≡ Err (Refused why) → text_after ≡ text_before)
-      → (result ≡ Err NoMemory → (c : Cell) → IsModelledBy before c → IsShort files faults (run c) c before after)
-      → CellDone files faults db run result before after text_before text_after
+      → (result ≡ Err NoMemory → (c : Cell) → IsModelledBy before c → IsShort g (run c) c before after)
+      → CellDone g db run result before after text_before text_after
   cell_done db run (Ok done) text_before text_after told limit refused quiet short = told refl
   cell_done db run (Err (Limit which)) text_before text_after told limit refused quiet short = limit which refl
   cell_done db run (Err (Refused why)) text_before text_after told limit refused quiet short = ((refused why refl).0, quiet why refl, (refused why refl).1)
@@ -79,47 +79,47 @@ module _ {D V : Type 0} (files : D → Option Files) (faults : D → ℕ) (befor
     -- a line that may refuse alone, and tells nothing
     pub refused_of : (result : Result (Unit {0}) LineFault) (why : Why) (text : List ℕ) → IsErrAnd result (λ e. e ≡ Refused why)
         → (after ≡ before) × ((c : Cell) → IsModelledBy before c → IsRefused why (λ choices. run_in db c choices k))
-        → CellDone files faults db (λ c choices. run_in db c choices l) result before after text text
+        → CellDone g db (λ c choices. run_in db c choices l) result before after text text
     refused_of (Ok done) why text err refused = absurd err
     refused_of (Err e) why text err refused =
-        let P : LineFault → Type 0 = λ e. CellDone files faults db (λ c choices. run_in db c choices l) (Err e) before after text text in
+        let P : LineFault → Type 0 = λ e. CellDone g db (λ c choices. run_in db c choices l) (Err e) before after text text in
         let Q : Line → Type 0 = λ l. (after ≡ before) × (text ≡ text) × ((c : Cell) → IsModelledBy before c → IsRefused why (λ choices. run_in db c choices l)) in
         subst P (sym err) (subst Q (sym is) (refused.0, refl, refused.1))
 
     pub told_of : (text_before text_after : List ℕ)
-        → ((c : Cell) → IsModelledBy before c → CellTold files faults db (λ choices. run_in db c choices k) None before after text_before text_after)
-        → CellDone files faults db (λ c choices. run_in db c choices l) (Ok tt) before after text_before text_after
+        → ((c : Cell) → IsModelledBy before c → CellTold g db (λ choices. run_in db c choices k) None before after text_before text_after)
+        → CellDone g db (λ c choices. run_in db c choices l) (Ok tt) before after text_before text_after
     told_of text_before text_after told =
-        let P : Line → Type 0 = λ l. (c : Cell) → IsModelledBy before c → CellTold files faults db (λ choices. run_in db c choices l) None before after text_before text_after in
+        let P : Line → Type 0 = λ l. (c : Cell) → IsModelledBy before c → CellTold g db (λ choices. run_in db c choices l) None before after text_before text_after in
         subst P (sym is) told
 
     pub done_of : (result : Result (Unit {0}) LineFault) (text_before text_after : List ℕ)
-        → (result ≡ Ok tt → (c : Cell) → IsModelledBy before c → CellTold files faults db (λ choices. run_in db c choices k) None before after text_before text_after)
-        → ((which : Which) → result ≡ Err (Limit which) → (c : Cell) → IsModelledBy before c → CellTold files faults db (λ choices. run_in db c choices k) (Some (ending.Limit which)) before after text_before text_after)
+        → (result ≡ Ok tt → (c : Cell) → IsModelledBy before c → CellTold g db (λ choices. run_in db c choices k) None before after text_before text_after)
+        → ((which : Which) → result ≡ Err (Limit which) → (c : Cell) → IsModelledBy before c → CellTold g db (λ choices. run_in db c choices k) (Some (ending.Limit which)) before after text_before text_after)
         → ((why : Why) → result ≡ Err (Refused why) → (after ≡ before) × ((c : Cell) → IsModelledBy before c → IsRefused why (λ choices. run_in db c choices k)))
         → ((why : Why) → result ≡ Err (Refused why) → text_after ≡ text_before)
-        → (result ≡ Err NoMemory → (c : Cell) → IsModelledBy before c → IsShort files faults (λ choices. run_in db c choices k) c before after)
-        → CellDone files faults db (λ c choices. run_in db c choices l) result before after text_before text_after
+        → (result ≡ Err NoMemory → (c : Cell) → IsModelledBy before c → IsShort g (λ choices. run_in db c choices k) c before after)
+        → CellDone g db (λ c choices. run_in db c choices l) result before after text_before text_after
     done_of result text_before text_after told limit refused quiet short =
-        let P : Line → Type 0 = λ l. CellDone files faults db (λ c choices. run_in db c choices l) result before after text_before text_after in
+        let P : Line → Type 0 = λ l. CellDone g db (λ c choices. run_in db c choices l) result before after text_before text_after in
         subst P (sym is) (cell_done db (λ c choices. run_in db c choices k) result text_before text_after told limit refused quiet short)
 
 -- a line that does nothing
-pub kept_same : {D V : Type 0} (files : D → Option Files) (faults : D → ℕ) (result : Result (Unit {0}) LineFault) (running : OpenCell D V) → KeepsCell files faults result running running
-kept_same files faults result running =
-    kept_of files faults running running result 0 (omega arith) (λ done bound is. raised files faults bound (bound + 0) running (omega arith) is)
-    (no_rises 0 (helds files faults running)) refl
+pub kept_same : {D V : Type 0} (g : Ghosts D) (result : Result (Unit {0}) LineFault) (running : OpenCell D V) → KeepsCell g result running running
+kept_same g result running =
+    kept_of g running running result 0 (omega arith) (λ done bound is. raised g bound (bound + 0) running (omega arith) is)
+    (no_rises 0 (helds g.files g.faults running)) refl
 
-pub nothing_told : {D V : Type 0} (files : D → Option Files) (faults : D → ℕ) (db : ScriptDatabase) (running : OpenCell D V) (text : List ℕ) (c : Cell)
-    → IsModelledBy running c → CellTold files faults db (λ choices. run_in db c choices line.Nothing) None running running text text
-nothing_told files faults db running text c stands = record {
+pub nothing_told : {D V : Type 0} (g : Ghosts D) (db : ScriptDatabase) (running : OpenCell D V) (text : List ℕ) (c : Cell)
+    → IsModelledBy running c → CellTold g db (λ choices. run_in db c choices line.Nothing) None running running text text
+nothing_told g db running text c stands = record {
   choices = [];
   ran = resting c;
   is = refl;
   ends = refl;
   cell = stands;
   told = sym (append-nil text);
-  causes = no_rises 0 (helds files faults running);
+  causes = no_rises 0 (helds g.files g.faults running);
 }
 
 -- what is handed on by `?`

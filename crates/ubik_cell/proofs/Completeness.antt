@@ -4,7 +4,7 @@ use Rattle.std.proofs.lemmas.List.{append-nil}
 use Rattle.std.proofs.lemmas.List.Elements.{All-head, All-tail}
 use Rattle.std.proofs.lemmas.Bool.Decides.{nat_tests}
 use Rattle.std.specs.Prelude.{All, Bool, true, false, nat_lt}
-use Rattle.disk_base.specs.Files.{Files}
+use Rattle.disk_base.specs.declared.disks.Disk.{Ghosts}
 use Rattle.cell_model.specs.World.{Site}
 use Rattle.cell_script.specs.Lines.{lines_of}
 use Rattle.cell_runs.specs.Script.{Cell, LineRead, told}
@@ -35,11 +35,11 @@ abbrev NoneFailed : List Held → Type 0
 NoneFailed [] = Unit {0}
 NoneFailed (disk ∷ disks) = (disk.faults ≡ 0) × NoneFailed disks
 
-none_failed : {D : Type 0} (files : D → Option Files) (faults : D → ℕ) (disks : List D) → All (λ disk. faults disk ≡ 0) disks
-    → NoneFailed (all_held files faults disks)
-none_failed files faults [] sound = tt
-none_failed files faults (disk ∷ disks) sound =
-    (All-head (λ d. faults d ≡ 0) disk disks sound, none_failed files faults disks (All-tail (λ d. faults d ≡ 0) disk disks sound))
+none_failed : {D : Type 0} (g : Ghosts D) (disks : List D) → All (λ disk. g.faults disk ≡ 0) disks
+    → NoneFailed (all_held g.files g.faults disks)
+none_failed g [] sound = tt
+none_failed g (disk ∷ disks) sound =
+    (All-head (λ d. g.faults d ≡ 0) disk disks sound, none_failed g disks (All-tail (λ d. g.faults d ≡ 0) disk disks sound))
 
 -- each server has a disk
 enough : (sites : List Site) (disks : List Held) → AreReadFirst sites disks → length sites ≤ length disks
@@ -125,10 +125,10 @@ module _ (fronts : SoundFronts) (law : FaultsHaveServers) (names : NamesCalls da
     is_complete (kind.Words place) ran inside read wrote words = words place refl
 
 pub complete : SoundFronts → FaultsHaveServers → NamesCalls databases
-    → {D : Type 0} (files : D → Option Files) (faults : D → ℕ) (k : CellKind)
+    → {D : Type 0} (g : Ghosts D) (k : CellKind)
     (script : List ℕ) (left : Option (List ℕ)) (before : List ℕ) (after : Option (List ℕ)) (disks_before disks_after : List D)
-    → RanOver files faults k databases script left before after disks_before disks_after → All (λ disk. faults disk ≡ 0) disks_after
+    → RanOver g k databases script left before after disks_before disks_after → All (λ disk. g.faults disk ≡ 0) disks_after
     → IsInside databases script → k ≢ kind.ReadFault → k ≢ kind.WriteFault → ((place : ℕ) → k ≢ kind.Words place) → IsDoneOrShort k
-complete fronts law names files faults k script left before after disks_before disks_after over sound inside =
-    is_complete fronts law names script left before after over.reached (all_held files faults disks_after)
-    (none_failed files faults disks_after sound) k over.ran inside
+complete fronts law names g k script left before after disks_before disks_after over sound inside =
+    is_complete fronts law names script left before after over.reached (all_held g.files g.faults disks_after)
+    (none_failed g disks_after sound) k over.ran inside

@@ -1,6 +1,6 @@
 -- What is written of a line, and how a run goes on, or ends, there.
 use Rattle.std.proofs.Common.{take, ◌≡◌, ◌≢◌, ◌+◌, ◌⊎◌, inl, inr, ℕ, List, [], ◌++◌, Bool, Option, Some, None, IfSome, Result, Ok, Err, refl, sym, subst, ◌∙◌}
-use Rattle.disk_base.specs.Files.{Files}
+use Rattle.disk_base.specs.declared.disks.Disk.{Ghosts}
 use Rattle.cell_script.specs.Write.{AppendsPart}
 use Rattle.cell_runs.specs.Script.{Told, told}
 use Rattle.cell_runs.specs.ScriptDatabase.{Databases}
@@ -38,25 +38,25 @@ pub as_written : (P : List ℕ → Option (List ℕ) → Type 0) (w : Option (Li
 as_written P None all = tt
 as_written P (Some written) all = all written
 
-module _ {D V : Type 0} (files : D → Option Files) (faults : D → ℕ) (dbs : Databases) (left : Option (List ℕ)) (after : Option (List ℕ))
+module _ {D V : Type 0} (g : Ghosts D) (dbs : Databases) (left : Option (List ℕ)) (after : Option (List ℕ))
     (run next : CellRun D V) where
   -- what a line did to a run before it
   pub record ReadyAt (result : Result (Unit {0}) RunEnd) (bytes script before written : List ℕ) : Type 0 where
     pub line : List ℕ
-    pub at : AtLine files faults dbs script left before (Some written) run line
-    pub line_told : result ≢ Err NoMemory → LineTold files faults dbs line (told dbs at.readings) result next [] bytes
-    pub short : result ≡ Err NoMemory → LineShort files faults dbs (take 1025 line) (told dbs at.readings) next
+    pub at : AtLine g dbs script left before (Some written) run line
+    pub line_told : result ≢ Err NoMemory → LineTold g dbs line (told dbs at.readings) result next [] bytes
+    pub short : result ≡ Err NoMemory → LineShort g dbs (take 1025 line) (told dbs at.readings) next
 
   -- what was told, of a text that was cleared before
   pub retold : (line : List ℕ) (t : Told) (result : Result (Unit {0}) RunEnd) (text_before text_after bytes : List ℕ) → text_before ≡ []
-      → bytes ≡ text_after → LineTold files faults dbs line t result next text_before text_after
-      → LineTold files faults dbs line t result next [] bytes
+      → bytes ≡ text_after → LineTold g dbs line t result next text_before text_after
+      → LineTold g dbs line t result next [] bytes
   retold line t result text_before text_after bytes none same of =
-      subst (λ (b : List ℕ). LineTold files faults dbs line t result next [] b) (sym same)
-      (subst (λ (b : List ℕ). LineTold files faults dbs line t result next b text_after) none of)
+      subst (λ (b : List ℕ). LineTold g dbs line t result next [] b) (sym same)
+      (subst (λ (b : List ℕ). LineTold g dbs line t result next b text_after) none of)
 
   abbrev RanSo : (script before : List ℕ) → CellKind → Type 0
-  RanSo script before k = Ran k dbs script left before after (sites_in next.cell) (run_helds files faults next)
+  RanSo script before k = Ran k dbs script left before after (sites_in next.cell) (run_helds g next)
 
   module _ (number : ℕ) (next_number : number ≡ run.lines + 1) (bytes : List ℕ) (P : (script before written : List ℕ) → Type 0) where
     abbrev AllRan : List ℕ → CellKind → Type 0
@@ -66,26 +66,26 @@ module _ {D V : Type 0} (files : D → Option Files) (faults : D → ℕ) (dbs :
     AreReady result written = (script before : List ℕ) → P script before written → ReadyAt result bytes script before written
 
     part_ends : (result : Result (Unit {0}) RunEnd) (written : List ℕ) → result ≢ Err NoMemory
-        → (result ≡ Ok tt → IsSoundRun files faults next) → AreReady result written → AppendsPart written after bytes
+        → (result ≡ Ok tt → IsSoundRun g next) → AreReady result written → AppendsPart written after bytes
         → AllRan written kind.WriteFault
     part_ends result written goes sound ready wrote = λ script before p.
         let r = ready script before p in
-        part_told files faults dbs script left before written after run next r.line r.at result bytes (r.line_told goes) sound wrote
+        part_told g dbs script left before written after run next r.line r.at result bytes (r.line_told goes) sound wrote
 
     by_part : (result : Result (Unit {0}) RunEnd) (written : List ℕ) → result ≢ Err NoMemory
-        → (result ≡ Ok tt → IsSoundRun files faults next) → AreReady result written → (o : Option CellKind) → o ≡ Some kind.WriteFault
+        → (result ≡ Ok tt → IsSoundRun g next) → AreReady result written → (o : Option CellKind) → o ≡ Some kind.WriteFault
         → AppendsPart written after bytes → IfSome o (AllRan written)
     by_part result written goes sound ready o is wrote =
         subst (λ (x : Option CellKind). IfSome x (AllRan written)) (sym is) (part_ends result written goes sound ready wrote)
 
     by_result : (result : Result (Unit {0}) RunEnd) (o : Option CellKind) (written : List ℕ)
-        → IsWritten result number bytes o (Some written) after → (result ≡ Ok tt → IsSoundRun files faults next) → AreReady result written
+        → IsWritten result number bytes o (Some written) after → (result ≡ Ok tt → IsSoundRun g next) → AreReady result written
         → (o ≡ Some kind.WriteFault) ⊎ (o ≢ Some kind.WriteFault) → IfSome o (AllRan written)
     by_result (Err NoMemory) o written is sound ready fault =
         let none = is.unwritten refl in
         subst (λ (x : Option CellKind). IfSome x (AllRan written)) (sym none.0) (λ script before p.
         let r = ready script before p in
-        short_told files faults dbs script left before written after run next r.line r.at (r.short refl) none.1)
+        short_told g dbs script left before written after run next r.line r.at (r.short refl) none.1)
     by_result (Ok done) o written is sound ready (inl fault) =
         let part = is.part fault in by_part (Ok done) written part.0 sound ready o fault part.1
     by_result (Ok done) o written is sound ready (inr whole) =
@@ -100,7 +100,7 @@ module _ {D V : Type 0} (files : D → Option Files) (faults : D → ℕ) (dbs :
         let wrote = is.whole other whole in
         subst (λ (x : Option CellKind). IfSome x (AllRan written)) (sym wrote.0) (λ script before p.
         let r = ready script before p in
-        ended_told files faults dbs script left before written after run next r.line r.at ending bytes (r.line_told other) number
+        ended_told g dbs script left before written after run next r.line r.at ending bytes (r.line_told other) number
         next_number wrote.1)
 
     none_written : (o : Option CellKind) → IfSome o (λ k. Unit {0})
@@ -109,7 +109,7 @@ module _ {D V : Type 0} (files : D → Option Files) (faults : D → ℕ) (dbs :
 
     pub ends_line : (result : Result (Unit {0}) RunEnd) (o : Option CellKind) (w : Option (List ℕ))
         → IsWritten result number bytes o w after
-        → (result ≡ Ok tt → IsSoundRun files faults next) → ((written : List ℕ) → AreReady result written)
+        → (result ≡ Ok tt → IsSoundRun g next) → ((written : List ℕ) → AreReady result written)
         → IfSome o (λ k. IfSome w (λ written. AllRan written k))
     ends_line result o None is sound ready = none_written o
     ends_line result o (Some written) is sound ready = by_result result o written is sound (ready written) (is_fault o)
@@ -120,8 +120,8 @@ module _ {D V : Type 0} (files : D → Option Files) (faults : D → ℕ) (dbs :
       -- what a line that was read whole did
       pub record GoesAt (result : Result (Unit {0}) RunEnd) (script before written : List ℕ) : Type 0 where
         pub line : List ℕ
-        pub at : AtWhole files faults dbs script ended left before (Some written) run line
-        pub line_told : LineTold files faults dbs line (told dbs at.at.readings) result next [] bytes
+        pub at : AtWhole g dbs script ended left before (Some written) run line
+        pub line_told : LineTold g dbs line (told dbs at.at.readings) result next [] bytes
 
       goes_by : (result : Result (Unit {0}) RunEnd) (o : Option CellKind) (w : Option (List ℕ)) → o ≡ None
           → IsWritten result number bytes o w after
@@ -137,12 +137,12 @@ module _ {D V : Type 0} (files : D → Option Files) (faults : D → ℕ) (dbs :
       pub goes_line : (result : Result (Unit {0}) RunEnd) (o : Option CellKind) (w : Option (List ℕ)) → o ≡ None
           → IsWritten result number bytes o w after
           → (result ≡ Ok tt → (script before written : List ℕ) → P script before written → GoesAt result script before written)
-          → IfSome w (λ written. (script before : List ℕ) → P script before written → SoFar files faults dbs script ended left before
+          → IfSome w (λ written. (script before : List ℕ) → P script before written → SoFar g dbs script ended left before
           after next)
       goes_line result o None none is ready = tt
       goes_line result o (Some written) none is ready = λ script before p.
           let by = goes_by result o (Some written) none is in
           let r = ready by.0 script before written p in
-          going_on files faults dbs script ended left before written after run next r.line bytes r.at
-          (subst (λ (x : Result (Unit {0}) RunEnd). LineTold files faults dbs r.line (told dbs r.at.at.readings) x next [] bytes) by.0
+          going_on g dbs script ended left before written after run next r.line bytes r.at
+          (subst (λ (x : Result (Unit {0}) RunEnd). LineTold g dbs r.line (told dbs r.at.at.readings) x next [] bytes) by.0
           r.line_told) by.1

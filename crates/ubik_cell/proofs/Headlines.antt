@@ -14,13 +14,15 @@ use Rattle.script_promises.specs.Kept.{IsKept}
 use Rattle.script_promises.specs.Order.{HasOneOrder}
 use Rattle.script_promises.specs.Promises.{HasPromises, KeepsPromises, ScriptsKeepPromises}
 use Rattle.script_promises.specs.Replies.{HasSingleReplies}
+use Rattle.disk_base.specs.declared.disks.Disk.{Ghosts}
 use Rattle.ubik_cell.specs.declared.cells.CellKind.{CellKind}
 use Rattle.ubik_cell.specs.declared.cells.CellKind.TheVariants as kind
-use Rattle.ubik_cell.specs.Disks.{AreReadAs, IsReadAs, ReadAsCell, ReadsDurable}
+use Rattle.ubik_cell.specs.Disks.{AreReadAs, IsReadAs, ReadAsCell}
 use Rattle.ubik_cell.specs.Headline.{Headline, OfOne, untold_of}
 use Rattle.ubik_cell.specs.Lines.{AreReadFirst, sites_of}
 use Rattle.ubik_cell.specs.Runs.{Runs, read_lines}
 use Rattle.ubik_cell.specs.Turns.{RanOver, more_of}
+use Rattle.ubik_node.specs.Disk.{StandsAs}
 
 -- ---- a cell of one server
 
@@ -34,14 +36,14 @@ there_so : {X : Type 0} (P Q : X → Type 0) (o : Option X) → IsSomeAnd o P �
 there_so P Q None there so = absurd there
 there_so P Q (Some x) there so = so x there
 
-node_durable : (site : Site) (node : Node) (fs : Files) → IsOf site.durable node → ReadsNode node fs → ReadsDurable site fs
+node_durable : (site : Site) (node : Node) (fs : Files) → IsOf site.durable node → ReadsNode node fs → StandsAs site.durable fs
 node_durable site Down fs is reads = absurd reads
 node_durable site (Halted h) fs is reads = absurd reads
-node_durable site (Up s) fs is reads = record { database = reads.0 ∙ ap Some (sym is); log = reads.1; incoming = reads.2 }
+node_durable site (Up s) fs is reads = subst (λ d. StandsAs d fs) (sym is) reads
 
 site_durable : (site : Site) (disk : Held) → IsOf site.durable site.node → IsReadBy site.node disk → IsReadAs site disk
 site_durable site disk is reads = λ none.
-    there_so (ReadsNode site.node) (ReadsDurable site) disk.files (reads none) (λ fs. node_durable site site.node fs is)
+    there_so (ReadsNode site.node) (StandsAs site.durable) disk.files (reads none) (λ fs. node_durable site site.node fs is)
 
 sites_durable : (sites : List Site) (disks : List Held) → AllDurable sites → AreReadFirst sites disks → AreReadAs sites disks
 sites_durable [] disks all read = read
@@ -77,11 +79,10 @@ untold_more (kind.Words place) readings script left before after run = refl
 
 -- ---- the headline
 
-pub headline : ScriptsAreRuns → NamesCalls databases → ScriptsKeepPromises → DatabaseIsDurable → {D : Type 0} (files : D → Option Files)
-    (faults : D → ℕ) (k : CellKind) (script : List ℕ) (left : Option (List ℕ)) (before : List ℕ) (after : Option (List ℕ))
-    (disks_before disks_after : List D) → RanOver files faults k databases script left before after disks_before disks_after
-    → Headline files faults k script left before after disks_before disks_after
-headline runs names promises law files faults k script left before after disks_before disks_after over =
+pub headline : ScriptsAreRuns → NamesCalls databases → ScriptsKeepPromises → DatabaseIsDurable → {D : Type 0} (g : Ghosts D) (k : CellKind) (script : List ℕ) (left : Option (List ℕ)) (before : List ℕ) (after : Option (List ℕ))
+    (disks_before disks_after : List D) → RanOver g k databases script left before after disks_before disks_after
+    → Headline g k script left before after disks_before disks_after
+headline runs names promises law g k script left before after disks_before disks_after over =
     let ran = over.ran in
     let readings : List LineRead = ran.readings in
     let with_more : List LineRead = readings ++ ran.more in
@@ -100,7 +101,7 @@ headline runs names promises law files faults k script left before after disks_b
         run_or_not = subst (λ (l : List (List ℕ)). (ran.more ≡ []) ⊎ (read_lines ran.more ≡ l))
             (untold_more k readings script left before after ran.run) ran.run_or_not;
         causes = ran.held.causes;
-        read = read_as law (told databases with_more) (told databases with_more).stage.cell (all_held files faults disks_after)
+        read = read_as law (told databases with_more) (told databases with_more).stage.cell (all_held g.files g.faults disks_after)
             (runs databases names with_more) ran.held.read;
         kept = of_one IsKept (λ c has. has.kept) (told databases with_more).stage.cell (promises with_more);
       };

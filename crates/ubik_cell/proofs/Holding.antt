@@ -1,8 +1,7 @@
 -- Between two lines the disks hold what the lines have left.
 use Rattle.std.proofs.Common.{◌≡◌, ◌+◌, ℕ, zero, suc, List, [], ◌∷◌, ◌++◌, length, map, take, Option, Some, None, refl, sym, ap, subst, ◌∙◌}
-use Rattle.std.proofs.lemmas.List.Elements.{All-nil, All-cons, All-head, All-tail}
 use Rattle.std.specs.Prelude.{All}
-use Rattle.disk_base.specs.Files.{Files, no_files}
+use Rattle.disk_base.specs.declared.disks.Disk.{Ghosts}
 use Rattle.cell_model.specs.World.{Site as ModelSite}
 use Rattle.cell_runs.specs.Script.{Cell, Told, hosts_from, servers_of}
 use Rattle.cell_runs.specs.Trace.{TraceItem}
@@ -13,17 +12,9 @@ use Rattle.cell_sites.specs.Sites.{AreSitesOf, helds, site_disk}
 use Rattle.cell_sites.proofs.Reading.{cell_reads}
 use Rattle.ubik_cell.specs.declared.scripts.CellRun.{CellRun}
 use Rattle.ubik_cell.specs.Lines.{AreHeld, AreReadFirst, CellIsSound, CellStandsFor, HasCauses, HeldCauses, IsAt, IsSoundRun, IsUnwritten, cell_helds, clock_bound, run_helds, sites_in, sites_of}
+use Rattle.ubik_cell.proofs.LineDisks.{unwritten}
 
 -- ---- lists of disks
-
--- disks that no cell has are empty
-pub unwritten : {D : Type 0} (files : D → Option Files) (faults : D → ℕ) (disks : List D) → All (λ disk. files disk ≡ Some no_files) disks
-    → All IsUnwritten (all_held files faults disks)
-unwritten files faults [] empty = All-nil IsUnwritten
-unwritten files faults (disk ∷ disks) empty =
-    All-cons IsUnwritten (held files faults disk) (all_held files faults disks)
-    (λ none. All-head (λ d. files d ≡ Some no_files) disk disks empty)
-    (unwritten files faults disks (All-tail (λ d. files d ≡ Some no_files) disk disks empty))
 
 read_first : (sites : List ModelSite) (disks more : List Held) → AreReadBy sites disks → All IsUnwritten more
     → AreReadFirst sites (disks ++ more)
@@ -48,36 +39,36 @@ take-front {X} {Y} f (x ∷ xs) more = ap (λ (ys : List Y). f x ∷ ys) (take-f
 
 -- ---- a run between two lines
 
-module _ {D V : Type 0} (files : D → Option Files) (faults : D → ℕ) where
-  cell_read : (bound : ℕ) (cell : Option (OpenCell D V)) (c : Option Cell) (more : List Held) → CellIsSound files faults bound cell
-      → CellStandsFor cell c → All IsUnwritten more → AreReadFirst (sites_of c) (cell_helds files faults cell ++ more)
+module _ {D V : Type 0} (g : Ghosts D) where
+  cell_read : (bound : ℕ) (cell : Option (OpenCell D V)) (c : Option Cell) (more : List Held) → CellIsSound g bound cell
+      → CellStandsFor cell c → All IsUnwritten more → AreReadFirst (sites_of c) (cell_helds g cell ++ more)
   cell_read bound None None more sound stands empty = empty
   cell_read bound None (Some c) more sound stands empty = absurd stands
   cell_read bound (Some running) None more sound stands empty = absurd stands
   cell_read bound (Some running) (Some c) more sound stands empty =
-      read_first c.run.world.sites (helds files faults running) more (cell_reads files faults bound running c sound stands) empty
+      read_first c.run.world.sites (helds g.files g.faults running) more (cell_reads g bound running c sound stands) empty
 
   cell_causes : (cell : Option (OpenCell D V)) (c : Option Cell) (items : List TraceItem) (more : List Held) → CellStandsFor cell c
-      → HasCauses files faults cell items → HeldCauses c items (cell_helds files faults cell ++ more)
+      → HasCauses g cell items → HeldCauses c items (cell_helds g cell ++ more)
   cell_causes None None items more stands causes = causes
   cell_causes None (Some c) items more stands causes = absurd stands
   cell_causes (Some running) None items more stands causes = absurd stands
   cell_causes (Some running) (Some c) items more stands causes =
-      let site_held : Site D V → Held = λ site. held files faults (site_disk site) in
+      let site_held : Site D V → Held = λ site. held g.files g.faults (site_disk site) in
       subst (AreCauses 0 items)
-      (sym (ap (λ (n : ℕ). take n (helds files faults running ++ more)) (as_many running.sites.items c.run.world.sites stands.sites)
+      (sym (ap (λ (n : ℕ). take n (helds g.files g.faults running ++ more)) (as_many running.sites.items c.run.world.sites stands.sites)
       ∙ take-front site_held running.sites.items more)) causes
 
-  pub held_at : (run : CellRun D V) (t : Told) → IsSoundRun files faults run → IsAt files faults run t
-      → AreHeld t (run_helds files faults run)
+  pub held_at : (run : CellRun D V) (t : Told) → IsSoundRun g run → IsAt g run t
+      → AreHeld t (run_helds g run)
   held_at run t sound at = record {
-    read = cell_read (clock_bound run.lines) run.cell t.stage.cell (all_held files faults run.spare.items) sound.cell at.stage.cell
-        (unwritten files faults run.spare.items sound.spare);
-    causes = cell_causes run.cell t.stage.cell t.items (all_held files faults run.spare.items) at.stage.cell at.causes;
+    read = cell_read (clock_bound run.lines) run.cell t.stage.cell (all_held g.files g.faults run.spare.items) sound.cell at.stage.cell
+        (unwritten g run.spare.items sound.spare);
+    causes = cell_causes run.cell t.stage.cell t.items (all_held g.files g.faults run.spare.items) at.stage.cell at.causes;
   }
 
   -- as many sites as the cell has servers
-  cell_count : (bound : ℕ) (cell : Option (OpenCell D V)) (c : Option Cell) → CellIsSound files faults bound cell → CellStandsFor cell c
+  cell_count : (bound : ℕ) (cell : Option (OpenCell D V)) (c : Option Cell) → CellIsSound g bound cell → CellStandsFor cell c
       → sites_in cell ≡ servers_of c
   cell_count bound None None sound stands = refl
   cell_count bound None (Some c) sound stands = absurd stands
@@ -85,6 +76,6 @@ module _ {D V : Type 0} (files : D → Option Files) (faults : D → ℕ) where
   cell_count bound (Some running) (Some c) sound stands =
       sym (ap length stands.hosts ∙ ap length sound.hosts ∙ length-hosts 0 (length running.sites.items))
 
-  pub count_at : (run : CellRun D V) (t : Told) → IsSoundRun files faults run → IsAt files faults run t
+  pub count_at : (run : CellRun D V) (t : Told) → IsSoundRun g run → IsAt g run t
       → sites_in run.cell ≡ servers_of t.stage.cell
   count_at run t sound at = cell_count (clock_bound run.lines) run.cell t.stage.cell sound.cell at.stage.cell

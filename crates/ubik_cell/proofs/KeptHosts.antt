@@ -1,18 +1,17 @@
 -- The hosts of a cell stay in each line.
-use Rattle.std.proofs.Common.{Bool, true, false, cond, ◌≡◌, ℕ, zero, suc, ◌-◌, ◌&&◌, nat_lt, nat_le, List, [], ◌∷◌, length, refl, ap, ◌∙◌}
-use Rattle.std.specs.Prelude.{Option, Some, None, Result, Ok, Err, IfOk, set, drop, map}
+use Rattle.std.proofs.Common.{Bool, true, false, cond, ◌≡◌, ℕ, zero, suc, ◌-◌, ◌&&◌, nat_lt, nat_le, List, [], length, refl, ◌∙◌}
+use Rattle.std.specs.Prelude.{Option, Some, None, Ok, Err, IfOk, set, drop, map}
 use Rattle.ubik_types.specs.declared.hosts.Host.{Host}
 use Rattle.db_image.specs.Database.{Database}
 use Rattle.cell_model.specs.declared.events.NodeEvent.{NodeEvent}
 use Rattle.cell_model.specs.Step.{Member, host_at}
-use Rattle.cell_model.specs.World.{Site, World, Trigger, Delivery, Beacon_turn, Recover_turn, Asking, Event, Tick, Tick_all, Step, Stop, Fault, Crash, Restart, Happened, SiteHappened, happens_at, triggered, happens, step_at, stop_at, fault_at, crash_at, restart_at, occasion, member, site_of, tick_at, ticked, may_tick}
+use Rattle.cell_model.specs.World.{Site, World, Trigger, Delivery, Beacon_turn, Recover_turn, Asking, Event, Tick, Tick_all, Step, Stop, Fault, Crash, Restart, SiteHappened, happens_at, triggered, happens, step_at, stop_at, fault_at, crash_at, restart_at, occasion, member, site_of, tick_at, ticked, may_tick}
 use Rattle.cell_script.specs.declared.lines.Line.{Line}
 use Rattle.cell_script.specs.declared.lines.Line.TheVariants as line
-use Rattle.cell_script.specs.declared.lines.Why.{Why}
 use Rattle.cell_script.specs.declared.lines.Why.TheVariants as why
 use Rattle.cell_runs.specs.declared.endings.Ending.{Ending}
 use Rattle.cell_runs.specs.declared.limits.TheConstants.{MAX_PACKETS}
-use Rattle.cell_runs.specs.Script.{Choice, Cell, Cell_run, Run_or_why, DiskOutcome, Serves, Fails_after, Stops_after, outcome_of, place_in, stepped_so, stepped, delivered, all_delivered, unless_ended, first_choice, first_waiting, at_server, at_up, at_down, at_packet, is_down_at, unless_skewed, run_in, asked, asked_in, asked_at, with_event, cell_size_of, dropped_of, shown_site}
+use Rattle.cell_runs.specs.Script.{Choice, Cell, Cell_run, Run_or_why, DiskOutcome, Serves, Fails_after, Stops_after, outcome_of, place_in, stepped_so, stepped, delivered, all_delivered, unless_ended, first_choice, first_waiting, at_server, at_up, at_down, at_packet, is_down_at, unless_skewed, run_in, asked, asked_in, with_event, cell_size_of, dropped_of, shown_site}
 use Rattle.cell_runs.specs.ScriptDatabase.{ScriptDatabase}
 
 -- ---- events

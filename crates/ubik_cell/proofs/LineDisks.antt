@@ -1,14 +1,16 @@
 -- What the disks of a run hold, those of its cell first.
-use Rattle.std.proofs.Common.{Bool, ◌≡◌, ℕ, zero, suc, ◌+◌, ◌≤◌, List, [], ◌∷◌, ◌++◌, length, map, refl, sym, ap, subst, ◌∙◌, cond, arith}
+use Rattle.std.proofs.Common.{◌≡◌, ℕ, zero, suc, ◌+◌, List, [], ◌∷◌, ◌++◌, length, map, refl, sym, ap, subst, ◌∙◌, cond, arith}
 use Rattle.std.proofs.lemmas.List.{append-nil}
-use Rattle.std.proofs.lemmas.List.Elements.{All-nil, All-cons, All-head, All-tail, All-map, All-weaker}
-use Rattle.std.specs.Prelude.{Option, Some, None, All, take}
-use Rattle.disk_base.specs.Files.{Files, no_files}
+use Rattle.std.proofs.lemmas.List.Elements.{All-nil, All-cons, All-head, All-tail}
+use Rattle.std.specs.Prelude.{Some, All, take}
+use Rattle.disk_base.specs.declared.disks.Disk.{Ghosts}
+use Rattle.disk_base.specs.Files.{no_files}
 use Rattle.cell_model.specs.World.{Site}
 use Rattle.cell_runs.specs.Trace.{TraceItem, Tells, Shows, fault_count, is_fault_of}
 use Rattle.cell_runs.specs.Script.{hosts_from, hosts_of}
 use Rattle.cell_sites.specs.declared.sites.Site.{Site as RunningSite}
-use Rattle.cell_sites.specs.Disks.{Held, all_held, held, AreReadBy, AreCauses, AreRises}
+use Rattle.cell_sites.specs.Disks.{Held, all_held, held, AreReadBy, AreCauses, AreRises, IsFresh}
+use Rattle.cell_sites.proofs.Standing.{fresh_stands}
 use Rattle.cell_sites.specs.Sites.{site_disk}
 use Rattle.ubik_cell.specs.Lines.{IsUnwritten, AreReadFirst}
 
@@ -40,12 +42,13 @@ read_first [] (disk ∷ disks) others read empty = absurd read
 read_first (site ∷ sites) [] others read empty = absurd read
 read_first (site ∷ sites) (disk ∷ disks) others read empty = (read.0, read_first sites disks others read.1 empty)
 
-pub unwritten : {D : Type 0} (files : D → Option Files) (faults : D → ℕ) (disks : List D) → All (λ disk. files disk ≡ Some no_files) disks → All IsUnwritten (all_held files faults disks)
-unwritten files faults [] empty = All-nil IsUnwritten
-unwritten files faults (disk ∷ disks) empty =
-    All-cons IsUnwritten (record { files = files disk; faults = faults disk }) (all_held files faults disks)
-    (λ none. All-head (λ disk. files disk ≡ Some no_files) disk disks empty)
-    (unwritten files faults disks (All-tail (λ disk. files disk ≡ Some no_files) disk disks empty))
+-- disks that are empty stand for no database
+pub unwritten : {D : Type 0} (g : Ghosts D) (disks : List D) → All (λ disk. g.files disk ≡ Some no_files) disks → All IsUnwritten (all_held g.files g.faults disks)
+unwritten g [] empty = All-nil IsUnwritten
+unwritten g (disk ∷ disks) empty =
+    All-cons IsUnwritten (record { files = g.files disk; faults = g.faults disk }) (all_held g.files g.faults disks)
+    (λ none. subst IsFresh (sym (All-head (λ disk. g.files disk ≡ Some no_files) disk disks empty)) fresh_stands)
+    (unwritten g disks (All-tail (λ disk. g.files disk ≡ Some no_files) disk disks empty))
 
 -- as many disks as servers
 pub length-read : (sites : List Site) (disks : List Held) → AreReadBy sites disks → length sites ≡ length disks
@@ -77,9 +80,9 @@ counted_causes n items disks others count causes =
     subst (λ n. AreCauses 0 items (take n (disks ++ others))) (sym count) (subst (λ (l : List Held). AreCauses 0 items l) (sym (take-first disks others)) causes)
 
 -- as many disks as sites
-pub length-helds : {D V : Type 0} (files : D → Option Files) (faults : D → ℕ) (sites : List (RunningSite D V)) → length (map (λ (site : RunningSite D V). held files faults (site_disk site)) sites) ≡ length sites
-length-helds files faults [] = refl
-length-helds files faults (site ∷ sites) = ap suc (length-helds files faults sites)
+pub length-helds : {D V : Type 0} (g : Ghosts D) (sites : List (RunningSite D V)) → length (map (λ (site : RunningSite D V). held g.files g.faults (site_disk site)) sites) ≡ length sites
+length-helds g [] = refl
+length-helds g (site ∷ sites) = ap suc (length-helds g sites)
 
 hosts_counted : (k n : ℕ) → length (hosts_from k n) ≡ n
 hosts_counted k zero = refl

@@ -1,9 +1,9 @@
 -- From a line that was understood to its bytes, and to the end of the script in it.
-use Rattle.std.proofs.Common.{Bool, true, false, cond, ◌≡◌, ◌≢◌, ◌⊎◌, inl, inr, ℕ, zero, suc, ◌+◌, ◌*◌, ◌<◌, ◌≤◌, nat_le, nat_lt, List, [], ◌∷◌, ◌++◌, length, refl, sym, ap, subst, ◌∙◌, append_assoc, arith}
+use Rattle.std.proofs.Common.{Bool, true, false, cond, ◌≡◌, ◌≢◌, ◌⊎◌, inl, inr, ℕ, ◌+◌, ◌<◌, ◌≤◌, nat_le, nat_lt, List, [], ◌++◌, length, refl, sym, ap, subst, ◌∙◌, append_assoc, arith}
 use Rattle.std.proofs.lemmas.Bool.Decides.{nat_tests}
 use Rattle.std.proofs.lemmas.List.{append-nil}
-use Rattle.std.specs.Prelude.{Option, Some, None, Result, Ok, Err, IfOk}
-use Rattle.disk_base.specs.Files.{Files}
+use Rattle.std.specs.Prelude.{Option, Some, None, Result, Ok, Err}
+use Rattle.disk_base.specs.declared.disks.Disk.{Ghosts}
 use Rattle.cell_script.specs.Meaning.{line_of}
 use Rattle.cell_script.specs.declared.lines.Line.{Line}
 use Rattle.cell_script.specs.declared.lines.Why.{Why}
@@ -13,10 +13,9 @@ use Rattle.cell_runs.specs.declared.endings.Ending.{Ending}
 use Rattle.cell_runs.specs.declared.endings.Ending.TheVariants as ending
 use Rattle.cell_runs.specs.declared.endings.Which.TheVariants.{Lines}
 use Rattle.cell_runs.specs.declared.limits.TheConstants.{MAX_LINES}
-use Rattle.cell_runs.specs.Script.{Cell, Choice, Line_run, Stage, Told, ScriptEnd, end_text, ended_at, line_result, meaning_run, next_line, or_refused, servers_of, text_in, told_with}
+use Rattle.cell_runs.specs.Script.{Choice, Line_run, Stage, Told, end_text, ended_at, meaning_run, next_line, or_refused, servers_of, text_in, told_with}
 use Rattle.cell_runs.specs.ScriptDatabase.{ScriptDatabase}
-use Rattle.cell_runs.specs.Trace.{TraceItem, ending_text}
-use Rattle.cell_sites.specs.declared.cells.OpenCell.{OpenCell}
+use Rattle.cell_runs.specs.Trace.{ending_text}
 use Rattle.cell_sites.specs.declared.faults.LineFault.{LineFault}
 use Rattle.cell_sites.specs.declared.faults.LineFault.TheVariants.{Refused, Limit, NoMemory}
 use Rattle.cell_sites.specs.Disks.{all_held}
@@ -24,8 +23,7 @@ use Rattle.ubik_cell.specs.declared.scripts.CellRun.{CellRun}
 use Rattle.ubik_cell.specs.declared.scripts.RunEnd.{RunEnd}
 use Rattle.ubik_cell.specs.declared.scripts.RunEnd.TheVariants as run_end
 use Rattle.ubik_cell.specs.LineRuns.{EndTold, IsEnded, KeepsPlaces, KeepsRun, LineDone, LineEnds, ReadDone, result_of, run_of_line}
-use Rattle.ubik_cell.specs.Lines.{AreHeld, AreReadFirst, HeldAfter, CellIsSound, CellStandsFor, IsAt, IsNear, IsSoundBy, IsSoundRun, LineShort, LineTold, ShortAfter, StageShort, StageTold, clock_bound, ended_of, only, run_helds, sites_in, sites_of}
-use Rattle.ubik_cell.proofs.CellLines.{raised}
+use Rattle.ubik_cell.specs.Lines.{AreHeld, AreReadFirst, HeldAfter, IsAt, IsNear, IsSoundBy, IsSoundRun, LineShort, LineTold, ShortAfter, StageTold, clock_bound, only, run_helds, sites_in, sites_of}
 use Rattle.ubik_cell.proofs.LineDisks.{unwritten}
 use Rattle.ubik_cell.proofs.Lifting.{run_causes, run_reads, servers_match}
 
@@ -43,13 +41,13 @@ over_long : (b : Bool) (x y : Result Line Why) → b ≡ true → cond b x y ≡
 over_long true x y is = refl
 over_long false x y is = absurd (cc)
 
-module _ {D V : Type 0} (files : D → Option Files) (faults : D → ℕ) (db : ScriptDatabase) (bytes : List ℕ) (before : CellRun D V) (sound : IsSoundRun files faults before) where
+module _ {D V : Type 0} (g : Ghosts D) (db : ScriptDatabase) (bytes : List ℕ) (before : CellRun D V) (sound : IsSoundRun g before) where
   -- the bytes of a line that stands for this, where lines are left
   result_is : (st : Stage) → IsNear 0 before st → before.lines < MAX_LINES → (m : Result Line Why) → line_of (sites_in before.cell) bytes ≡ m → (choices : List Choice)
       → result_of db bytes st choices ≡ or_refused (meaning_run (only db) (next_line st) choices m)
   result_is st near room m is choices =
       let more : nat_le MAX_LINES st.lines ≡ false = grind (arith, nat_tests, near.lines) in
-      let servers : servers_of st.cell ≡ sites_in before.cell = servers_match files faults (clock_bound before.lines) before.cell st.cell sound.cell near.cell in
+      let servers : servers_of st.cell ≡ sites_in before.cell = servers_match g (clock_bound before.lines) before.cell st.cell sound.cell near.cell in
       few_lines (nat_le MAX_LINES st.lines) _ _ more
       ∙ ap (λ n. or_refused (meaning_run (only db) (next_line st) choices (line_of n bytes))) servers
       ∙ ap (λ x. or_refused (meaning_run (only db) (next_line st) choices x)) is
@@ -74,17 +72,17 @@ module _ {D V : Type 0} (files : D → Option Files) (faults : D → ℕ) (db : 
         all_lines (nat_le MAX_LINES st.lines) _ _ all,
   )
 
-  pub short_read : (text : List ℕ) → ReadDone files faults db bytes (Err NoMemory) before before text text
+  pub short_read : (text : List ℕ) → ReadDone g db bytes (Err NoMemory) before before text text
   short_read text = λ st near.
-      let behind = all_held files faults before.spare.items in
+      let behind = all_held g.files g.faults before.spare.items in
       record {
-        causes = λ items causes. run_causes files faults (clock_bound before.lines) before.cell st.cell items behind sound.cell near.cell causes;
-        held = inl (run_reads files faults (clock_bound before.lines) before.cell st.cell behind sound.cell near.cell (unwritten files faults before.spare.items sound.spare));
+        causes = λ items causes. run_causes g (clock_bound before.lines) before.cell st.cell items behind sound.cell near.cell causes;
+        held = inl (run_reads g (clock_bound before.lines) before.cell st.cell behind sound.cell near.cell (unwritten g before.spare.items sound.spare));
       }
 
   module _ (l : Line) (room : before.lines < MAX_LINES) (is : line_of (sites_in before.cell) bytes ≡ Ok l) (after : CellRun D V) (text_before text_after : List ℕ) where
-    stage_told : (ended : Option Ending) (st : Stage) → IsNear 0 before st → StageTold files faults (only db) (run_of_line db l st) ended before after text_before text_after
-        → StageTold files faults (only db) (result_of db bytes st) ended before after text_before text_after
+    stage_told : (ended : Option Ending) (st : Stage) → IsNear 0 before st → StageTold g (only db) (run_of_line db l st) ended before after text_before text_after
+        → StageTold g (only db) (result_of db bytes st) ended before after text_before text_after
     stage_told ended st near t = record {
       choices = t.choices;
       ran = t.ran;
@@ -99,16 +97,16 @@ module _ {D V : Type 0} (files : D → Option Files) (faults : D → ℕ) (db : 
       held = t.held;
     }
 
-    pub read_done : (result : Result (Unit {0}) LineFault) → LineDone files faults db l result before after text_before text_after
-        → ReadDone files faults db bytes result before after text_before text_after
+    pub read_done : (result : Result (Unit {0}) LineFault) → LineDone g db l result before after text_before text_after
+        → ReadDone g db bytes result before after text_before text_after
     read_done (Ok done) line_done = λ st near. stage_told None st near (line_done st near)
     read_done (Err (Limit which)) line_done = inr (λ st near. stage_told (Some (ending.Limit which)) st near (line_done st near))
     read_done (Err (Refused reason)) line_done =
         (line_done.0, line_done.1, λ st near choices. result_is st near room (Ok l) is choices ∙ ap or_refused (line_done.2 st near choices))
     read_done (Err NoMemory) line_done = λ st near. let short = line_done st near in record { causes = short.causes; held = by st near short.held }
       where
-        by : (st : Stage) → IsNear 0 before st → AreReadFirst (sites_of st.cell) (run_helds files faults after) ⊎ ShortAfter files faults (run_of_line db l st) before after
-            → AreReadFirst (sites_of st.cell) (run_helds files faults after) ⊎ ShortAfter files faults (result_of db bytes st) before after
+        by : (st : Stage) → IsNear 0 before st → AreReadFirst (sites_of st.cell) (run_helds g after) ⊎ ShortAfter g (run_of_line db l st) before after
+            → AreReadFirst (sites_of st.cell) (run_helds g after) ⊎ ShortAfter g (result_of db bytes st) before after
         by st near (inl held) = inl held
         by st near (inr ran) = inr (record {
           choices = ran.choices;
@@ -121,21 +119,21 @@ module _ {D V : Type 0} (files : D → Option Files) (faults : D → ℕ) (db : 
 -- ---- what is told of it
 
 -- the disks of a run that stays hold what was told
-held_still : {D V : Type 0} (files : D → Option Files) (faults : D → ℕ) (run : CellRun D V) → IsSoundRun files faults run → (t : Told) → IsAt files faults run t
-    → AreHeld t (run_helds files faults run)
-held_still files faults run sound t at = record {
-  read = run_reads files faults (clock_bound run.lines) run.cell t.stage.cell (all_held files faults run.spare.items) sound.cell at.stage.cell
-      (unwritten files faults run.spare.items sound.spare);
-  causes = run_causes files faults (clock_bound run.lines) run.cell t.stage.cell t.items (all_held files faults run.spare.items) sound.cell at.stage.cell at.causes;
+held_still : {D V : Type 0} (g : Ghosts D) (run : CellRun D V) → IsSoundRun g run → (t : Told) → IsAt g run t
+    → AreHeld t (run_helds g run)
+held_still g run sound t at = record {
+  read = run_reads g (clock_bound run.lines) run.cell t.stage.cell (all_held g.files g.faults run.spare.items) sound.cell at.stage.cell
+      (unwritten g run.spare.items sound.spare);
+  causes = run_causes g (clock_bound run.lines) run.cell t.stage.cell t.items (all_held g.files g.faults run.spare.items) sound.cell at.stage.cell at.causes;
 }
 
 no_end : (line : ℕ) (e : Option Ending) → e ≡ None → end_text (ended_at line e) ≡ []
 no_end line e is = ap (λ x. end_text (ended_at line x)) is
 
-module _ {D V : Type 0} (files : D → Option Files) (faults : D → ℕ) (db : ScriptDatabase) (bytes : List ℕ) (before : CellRun D V) where
+module _ {D V : Type 0} (g : Ghosts D) (db : ScriptDatabase) (bytes : List ℕ) (before : CellRun D V) where
   -- a line after which the script goes on
-  pub line_ok : (after : CellRun D V) (text_before text_after : List ℕ) → ReadDone files faults db bytes (Ok tt) before after text_before text_after
-      → LineEnds files faults db bytes (Ok tt) before (record after { lines = after.lines + 1 }) text_before text_after
+  pub line_ok : (after : CellRun D V) (text_before text_after : List ℕ) → ReadDone g db bytes (Ok tt) before after text_before text_after
+      → LineEnds g db bytes (Ok tt) before (record after { lines = after.lines + 1 }) text_before text_after
   line_ok after text_before text_after done = λ t at good.
       let s = done t.stage at.stage in
       let near = s.near refl in
@@ -162,11 +160,11 @@ module _ {D V : Type 0} (files : D → Option Files) (faults : D → ℕ) (db : 
   line_number t near = omega (arith, near.lines)
 
   -- a line at which it ends before it does anything
-  ended_told : (e : Ending) (after : CellRun D V) (text_before middle text_after : List ℕ) → IsSoundRun files faults before → IsEnded db bytes e before after text_before middle
-      → text_after ≡ middle ++ ending_text (before.lines + 1) e → (t : Told) → IsAt files faults before t → t.ended ≡ None
-      → LineTold files faults (only db) bytes t (Err (run_end.Ended e)) after text_before text_after
+  ended_told : (e : Ending) (after : CellRun D V) (text_before middle text_after : List ℕ) → IsSoundRun g before → IsEnded db bytes e before after text_before middle
+      → text_after ≡ middle ++ ending_text (before.lines + 1) e → (t : Told) → IsAt g before t → t.ended ≡ None
+      → LineTold g (only db) bytes t (Err (run_end.Ended e)) after text_before text_after
   ended_told e after text_before middle text_after sound ends told t at good =
-      let held = held_still files faults before sound t at in
+      let held = held_still g before sound t at in
       record {
         choices = [];
         later = told_with (only db) t (Err e);
@@ -175,15 +173,15 @@ module _ {D V : Type 0} (files : D → Option Files) (faults : D → ℕ) (db : 
         added = ending_text (t.stage.lines + 1) e;
         told = told ∙ ap (λ l. l ++ ending_text (before.lines + 1) e) ends.1 ∙ ap (λ n. text_before ++ ending_text n e) (sym (line_number t at.stage));
         text = refl;
-        servers = ap (λ (r : CellRun D V). sites_in r.cell) ends.0 ∙ sym (servers_match files faults (clock_bound before.lines) before.cell t.stage.cell sound.cell at.stage.cell);
-        leaves = subst (λ (r : CellRun D V). AreHeld (told_with (only db) t (Err e)) (run_helds files faults r)) (sym ends.0) (record { read = held.read; causes = held.causes });
+        servers = ap (λ (r : CellRun D V). sites_in r.cell) ends.0 ∙ sym (servers_match g (clock_bound before.lines) before.cell t.stage.cell sound.cell at.stage.cell);
+        leaves = subst (λ (r : CellRun D V). AreHeld (told_with (only db) t (Err e)) (run_helds g r)) (sym ends.0) (record { read = held.read; causes = held.causes });
       }
 
   -- a line in which packets pass a limit
   limit_told : (e : Ending) (after : CellRun D V) (text_before middle text_after : List ℕ)
-      → ((st : Stage) → IsNear 0 before st → StageTold files faults (only db) (result_of db bytes st) (Some e) before after text_before middle)
-      → text_after ≡ middle ++ ending_text (before.lines + 1) e → (t : Told) → IsAt files faults before t → t.ended ≡ None
-      → LineTold files faults (only db) bytes t (Err (run_end.Ended e)) after text_before text_after
+      → ((st : Stage) → IsNear 0 before st → StageTold g (only db) (result_of db bytes st) (Some e) before after text_before middle)
+      → text_after ≡ middle ++ ending_text (before.lines + 1) e → (t : Told) → IsAt g before t → t.ended ≡ None
+      → LineTold g (only db) bytes t (Err (run_end.Ended e)) after text_before text_after
   limit_told e after text_before middle text_after done told t at good =
       let s = done t.stage at.stage in
       let items = text_in (only db) s.ran.stage.cell s.ran.items in
@@ -202,23 +200,23 @@ module _ {D V : Type 0} (files : D → Option Files) (faults : D → ℕ) (db : 
         leaves = record { read = s.read; causes = s.held t.items at.causes };
       }
 
-  pub line_ended : (e : Ending) (result : Result (Unit {0}) RunEnd) (after : CellRun D V) (text_before middle text_after : List ℕ) → IsSoundRun files faults before
+  pub line_ended : (e : Ending) (result : Result (Unit {0}) RunEnd) (after : CellRun D V) (text_before middle text_after : List ℕ) → IsSoundRun g before
       → IsEnded db bytes e before after text_before middle → EndTold (before.lines + 1) e result middle text_after
-      → LineEnds files faults db bytes result before after text_before text_after
+      → LineEnds g db bytes result before after text_before text_after
   line_ended e (Ok done) after text_before middle text_after sound ends told = absurd told
   line_ended e (Err (run_end.Ended other)) after text_before middle text_after sound ends told = λ t at good.
-      subst (λ x. LineTold files faults (only db) bytes t (Err (run_end.Ended x)) after text_before text_after) (sym told.0)
+      subst (λ x. LineTold g (only db) bytes t (Err (run_end.Ended x)) after text_before text_after) (sym told.0)
       (ended_told e after text_before middle text_after sound ends told.1 t at good)
   line_ended e (Err run_end.NoMemory) after text_before middle text_after sound ends told = λ t at good.
-      let held = subst (λ (r : CellRun D V). AreHeld t (run_helds files faults r)) (sym ends.0) (held_still files faults before sound t at) in
+      let held = subst (λ (r : CellRun D V). AreHeld t (run_helds g r)) (sym ends.0) (held_still g before sound t at) in
       record { causes = held.causes; held = inl held.read }
 
   pub line_limited : (e : Ending) (result : Result (Unit {0}) RunEnd) (after : CellRun D V) (text_before middle text_after : List ℕ)
-      → ((st : Stage) → IsNear 0 before st → StageTold files faults (only db) (result_of db bytes st) (Some e) before after text_before middle)
-      → EndTold (before.lines + 1) e result middle text_after → LineEnds files faults db bytes result before after text_before text_after
+      → ((st : Stage) → IsNear 0 before st → StageTold g (only db) (result_of db bytes st) (Some e) before after text_before middle)
+      → EndTold (before.lines + 1) e result middle text_after → LineEnds g db bytes result before after text_before text_after
   line_limited e (Ok done) after text_before middle text_after ends told = absurd told
   line_limited e (Err (run_end.Ended other)) after text_before middle text_after ends told = λ t at good.
-      subst (λ x. LineTold files faults (only db) bytes t (Err (run_end.Ended x)) after text_before text_after) (sym told.0)
+      subst (λ x. LineTold g (only db) bytes t (Err (run_end.Ended x)) after text_before text_after) (sym told.0)
       (limit_told e after text_before middle text_after ends told.1 t at good)
   line_limited e (Err run_end.NoMemory) after text_before middle text_after ends told = λ t at good.
       let s = ends t.stage at.stage in
@@ -226,46 +224,46 @@ module _ {D V : Type 0} (files : D → Option Files) (faults : D → ℕ) (db : 
         causes = s.kept t.stage.cell t.items at.stage.cell at.causes;
         held = inr (record {
           choices = s.choices;
-          held = subst (λ r. AreHeld (told_with (only db) t r) (run_helds files faults after)) (sym s.is) (record { read = s.read; causes = s.held t.items at.causes });
+          held = subst (λ r. AreHeld (told_with (only db) t r) (run_helds g after)) (sym s.is) (record { read = s.read; causes = s.held t.items at.causes });
         });
       }
 
   -- memory ran out in it
-  pub line_short : (after : CellRun D V) (text_before text_after : List ℕ) → ReadDone files faults db bytes (Err NoMemory) before after text_before text_after
-      → LineEnds files faults db bytes (Err run_end.NoMemory) before after text_before text_after
+  pub line_short : (after : CellRun D V) (text_before text_after : List ℕ) → ReadDone g db bytes (Err NoMemory) before after text_before text_after
+      → LineEnds g db bytes (Err run_end.NoMemory) before after text_before text_after
   line_short after text_before text_after short = λ t at good.
       let is = short t.stage at.stage in
       record { causes = is.causes t.items at.causes; held = by t at is.held }
     where
-      by : (t : Told) → IsAt files faults before t
-          → AreReadFirst (sites_of t.stage.cell) (run_helds files faults after) ⊎ ShortAfter files faults (result_of db bytes t.stage) before after
-          → AreReadFirst (sites_of t.stage.cell) (run_helds files faults after) ⊎ HeldAfter (only db) bytes t (run_helds files faults after)
+      by : (t : Told) → IsAt g before t
+          → AreReadFirst (sites_of t.stage.cell) (run_helds g after) ⊎ ShortAfter g (result_of db bytes t.stage) before after
+          → AreReadFirst (sites_of t.stage.cell) (run_helds g after) ⊎ HeldAfter (only db) bytes t (run_helds g after)
       by t at (inl read) = inl read
       by t at (inr ran) = inr (record {
         choices = ran.choices;
-        held = subst (λ r. AreHeld (told_with (only db) t r) (run_helds files faults after)) (sym ran.is) (record { read = ran.read; causes = ran.causes t.items at.causes });
+        held = subst (λ r. AreHeld (told_with (only db) t r) (run_helds g after)) (sym ran.is) (record { read = ran.read; causes = ran.causes t.items at.causes });
       })
 
 -- ---- what stays
 
-pub places_of : {D V : Type 0} (files : D → Option Files) (faults : D → ℕ) (fault : LineFault) (result : Result (Unit {0}) RunEnd) (before after : CellRun D V)
-    → KeepsRun files faults (Err fault) before after → (result ≡ Ok tt → ⊥) → KeepsPlaces files faults result before after
-places_of files faults fault result before after keeps never = record {
+pub places_of : {D V : Type 0} (g : Ghosts D) (fault : LineFault) (result : Result (Unit {0}) RunEnd) (before after : CellRun D V)
+    → KeepsRun g (Err fault) before after → (result ≡ Ok tt → ⊥) → KeepsPlaces g result before after
+places_of g fault result before after keeps never = record {
   disks = keeps.disks;
   spare = keeps.spare;
   sound = λ done. absurd (never done);
   lines = λ done. absurd (never done);
 }
 
-pub places_ok : {D V : Type 0} (files : D → Option Files) (faults : D → ℕ) (before after : CellRun D V) → KeepsRun files faults (Ok tt) before after
-    → KeepsPlaces files faults (Ok tt) before (record after { lines = after.lines + 1 })
-places_ok files faults before after keeps =
+pub places_ok : {D V : Type 0} (g : Ghosts D) (before after : CellRun D V) → KeepsRun g (Ok tt) before after
+    → KeepsPlaces g (Ok tt) before (record after { lines = after.lines + 1 })
+places_ok g before after keeps =
     let sound = keeps.sound refl in
     record {
       disks = keeps.disks;
       spare = keeps.spare;
-      sound = λ done. subst (λ n. IsSoundBy files faults n (record after { lines = after.lines + 1 })) (ap (λ n. n + 1) (sym keeps.lines))
-          (record { cell = sound.cell; spare = sound.spare; disks = sound.disks; asks = sound.asks; few = sound.few });
+      sound = λ done. subst (λ n. IsSoundBy g n (record after { lines = after.lines + 1 })) (ap (λ n. n + 1) (sym keeps.lines))
+          (record { cell = sound.cell; spare = sound.spare; settled = sound.settled; disks = sound.disks; asks = sound.asks; few = sound.few });
       lines = λ done. ap (λ n. n + 1) keeps.lines;
     }
 
@@ -288,15 +286,15 @@ end_told_of line e (Err (run_end.Ended other)) text_before text_after told ends 
     let is = told (λ never. cc) in (same_end other e is.0, is.1)
 end_told_of line e (Err run_end.NoMemory) text_before text_after told ends = tt
 
-module _ {D V : Type 0} (files : D → Option Files) (faults : D → ℕ) (db : ScriptDatabase) (bytes : List ℕ) (before after : CellRun D V) (text_before text_after : List ℕ) where
-  pub ends_told : (result : Result (Unit {0}) RunEnd) → LineEnds files faults db bytes result before after text_before text_after → result ≢ Err run_end.NoMemory
-      → (t : Told) → IsAt files faults before t → t.ended ≡ None → LineTold files faults (only db) bytes t result after text_before text_after
+module _ {D V : Type 0} (g : Ghosts D) (db : ScriptDatabase) (bytes : List ℕ) (before after : CellRun D V) (text_before text_after : List ℕ) where
+  pub ends_told : (result : Result (Unit {0}) RunEnd) → LineEnds g db bytes result before after text_before text_after → result ≢ Err run_end.NoMemory
+      → (t : Told) → IsAt g before t → t.ended ≡ None → LineTold g (only db) bytes t result after text_before text_after
   ends_told (Ok done) ends other = ends
   ends_told (Err (run_end.Ended e)) ends other = ends
   ends_told (Err run_end.NoMemory) ends other = absurd (other refl)
 
-  pub ends_short : (result : Result (Unit {0}) RunEnd) → LineEnds files faults db bytes result before after text_before text_after → result ≡ Err run_end.NoMemory
-      → (t : Told) → IsAt files faults before t → t.ended ≡ None → LineShort files faults (only db) bytes t after
+  pub ends_short : (result : Result (Unit {0}) RunEnd) → LineEnds g db bytes result before after text_before text_after → result ≡ Err run_end.NoMemory
+      → (t : Told) → IsAt g before t → t.ended ≡ None → LineShort g (only db) bytes t after
   ends_short (Ok done) ends is = absurd (cc)
   ends_short (Err (run_end.Ended e)) ends is = absurd (cc)
   ends_short (Err run_end.NoMemory) ends is = ends

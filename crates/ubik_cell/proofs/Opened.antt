@@ -1,20 +1,21 @@
 -- A line that opens the cell, and one that does nothing.
-use Rattle.std.proofs.Common.{◌≡◌, ◌⊎◌, inl, inr, ℕ, zero, suc, ◌+◌, ◌-◌, ◌*◌, ◌<◌, ◌≤◌, List, [], ◌∷◌, ◌++◌, length, refl, sym, ap, subst, ◌∙◌, arith}
-use Rattle.std.proofs.lemmas.List.{append-nil, length-take, length-drop}
-use Rattle.std.proofs.lemmas.List.Elements.{All-append, All-drop, All-nil}
-use Rattle.std.specs.Prelude.{Option, Some, None, Result, Ok, Err, All, take, drop, map}
+use Rattle.std.proofs.Common.{◌≡◌, inl, ℕ, zero, suc, ◌+◌, ◌-◌, ◌<◌, ◌≤◌, List, [], ◌∷◌, ◌++◌, length, refl, sym, ap, subst, ◌∙◌, arith}
+use Rattle.std.proofs.lemmas.List.{append-nil, length-drop}
+use Rattle.std.proofs.lemmas.List.Elements.{All-append, All-drop}
+use Rattle.std.specs.Prelude.{Option, Some, None, Result, Ok, Err, All, take, drop}
+use Rattle.disk_base.specs.declared.disks.Disk.{Ghosts}
+use Rattle.disk_base.specs.Crash.{IsSettled}
 use Rattle.disk_base.specs.Files.{Files, no_files}
 use Rattle.ubik_types.specs.declared.hosts.Host.{Host}
 use Rattle.ubik_types.specs.declared.limits.TheConstants.{MAXSERVERS}
-use Rattle.cell_model.specs.World.{first_seen}
 use Rattle.cell_script.specs.declared.lines.Kind.{Kind}
 use Rattle.cell_script.specs.declared.lines.Line.{Line}
 use Rattle.cell_script.specs.declared.lines.Line.TheVariants as line
-use Rattle.cell_script.specs.declared.lines.TheConstants.{MAX_CLOCK, MAX_TICK}
+use Rattle.cell_script.specs.declared.lines.TheConstants.{MAX_CLOCK}
 use Rattle.cell_runs.specs.declared.limits.TheConstants.{MAX_LINES}
-use Rattle.cell_runs.specs.Script.{Cell, Choice, Line_run, Stage, fails_at, hosts_of, line_run, next_line, opened, opened_cell, text_in}
+use Rattle.cell_runs.specs.Script.{Cell, Choice, Stage, fails_at, hosts_of, line_run, next_line, opened, opened_cell, text_in}
 use Rattle.cell_runs.specs.ScriptDatabase.{ScriptDatabase}
-use Rattle.cell_runs.specs.Trace.{TraceItem, Tells, trace}
+use Rattle.cell_runs.specs.Trace.{TraceItem, trace}
 use Rattle.cell_sites.specs.declared.cells.OpenCell.{OpenCell}
 use Rattle.cell_sites.specs.declared.faults.LineFault.{LineFault}
 use Rattle.cell_sites.specs.declared.faults.LineFault.TheVariants.{NoMemory}
@@ -22,30 +23,29 @@ use Rattle.cell_sites.specs.Disks.{Held, all_held, AreCauses, AreRises}
 use Rattle.cell_sites.specs.Opened.{IsOpened, opening_items}
 use Rattle.cell_sites.specs.Sites.{IsModelledBy, helds}
 use Rattle.cell_sites.specs.Sound.{IsSound}
-use Rattle.cell_sites.proofs.Reading.{cell_reads}
 use Rattle.ubik_cell.specs.declared.scripts.CellRun.{CellRun}
 use Rattle.ubik_cell.specs.LineRuns.{KeepsRun, LineDone, run_of_line}
 use Rattle.ubik_cell.specs.Lines.{AreReadFirst, CellIsSound, CellStandsFor, HasCauses, HeldCauses, IsNear, IsSoundRun, IsUnwritten, cell_helds, clock_bound, only, sites_in, sites_of}
 use Rattle.ubik_cell.proofs.CellLines.{raised}
-use Rattle.ubik_cell.proofs.LineDisks.{hosts_count, more_causes, read_first, unwritten}
-use Rattle.ubik_cell.proofs.Lifting.{cell_of, run_causes, run_reads, servers_match}
+use Rattle.ubik_cell.proofs.LineDisks.{hosts_count, more_causes, unwritten}
+use Rattle.ubik_cell.proofs.Lifting.{run_causes, run_reads, servers_match}
 
 -- the cell of a stage at which a run stands that has none
-none_of : {D V : Type 0} (files : D → Option Files) (faults : D → ℕ) (cell : Option (OpenCell D V)) (c : Option Cell) → cell ≡ None → CellStandsFor cell c → c ≡ None
-none_of files faults None None is stands = refl
-none_of files faults None (Some c) is stands = absurd stands
-none_of files faults (Some running) c is stands = absurd (cc)
+none_of : {D V : Type 0} (g : Ghosts D) (cell : Option (OpenCell D V)) (c : Option Cell) → cell ≡ None → CellStandsFor cell c → c ≡ None
+none_of g None None is stands = refl
+none_of g None (Some c) is stands = absurd stands
+none_of g (Some running) c is stands = absurd (cc)
 
 no_causes : (k : ℕ) (disks : List Held) → AreCauses k [] disks
 no_causes k [] = tt
 no_causes k (disk ∷ disks) = (omega arith, no_causes (k + 1) disks)
 
 -- before a cell stands nothing is told
-nothing_before : {D V : Type 0} (files : D → Option Files) (faults : D → ℕ) (cell : Option (OpenCell D V)) (items : List TraceItem) → cell ≡ None → HasCauses files faults cell items → items ≡ []
-nothing_before files faults None items is none = none
-nothing_before files faults (Some running) items is none = absurd (cc)
+nothing_before : {D V : Type 0} (g : Ghosts D) (cell : Option (OpenCell D V)) (items : List TraceItem) → cell ≡ None → HasCauses g cell items → items ≡ []
+nothing_before g None items is none = none
+nothing_before g (Some running) items is none = absurd (cc)
 
-module _ {D V : Type 0} (files : D → Option Files) (faults : D → ℕ) (db : ScriptDatabase) (servers clock : ℕ) (k : Kind) (before : CellRun D V) (running : OpenCell D V)
+module _ {D V : Type 0} (g : Ghosts D) (db : ScriptDatabase) (servers clock : ℕ) (k : Kind) (before : CellRun D V) (running : OpenCell D V)
     (after : CellRun D V) (here : after.cell ≡ Some running) (none : before.cell ≡ None) (lines : after.lines ≡ before.lines) (asks : after.asks ≡ before.asks) where
   abbrev opens : Line
   opens = line.Cell servers clock k
@@ -54,20 +54,20 @@ module _ {D V : Type 0} (files : D → Option Files) (faults : D → ℕ) (db : 
   opens_is st is choices = ap (λ (o : Option Cell). line_run (only db) (next_line st) choices opens o) is
 
   -- each failed opening is a fault of its disk
-  told_causes : {text_before text_after : List ℕ} (given : List D) (items : List TraceItem) (is : IsOpened files faults db clock k given running text_before text_after)
-      → length given ≡ servers → HasCauses files faults before.cell items → HasCauses files faults after.cell (items ++ opening_items (fails_at servers is.choices))
+  told_causes : {text_before text_after : List ℕ} (given : List D) (items : List TraceItem) (is : IsOpened g db clock k given running text_before text_after)
+      → length given ≡ servers → HasCauses g before.cell items → HasCauses g after.cell (items ++ opening_items (fails_at servers is.choices))
   told_causes given items is count causes =
       let failed = fails_at servers is.choices in
-      let told : AreCauses 0 (opening_items failed) (helds files faults running) =
-      more_causes 0 [] (opening_items failed) (all_held files faults given) (helds files faults running) (no_causes 0 (all_held files faults given))
-      (subst (λ n. AreRises 0 (opening_items (fails_at n is.choices)) (all_held files faults given) (helds files faults running)) count is.causes) in
-      subst (λ (o : Option (OpenCell D V)). HasCauses files faults o (items ++ opening_items failed)) (sym here)
-      (subst (λ (l : List TraceItem). AreCauses 0 (l ++ opening_items failed) (helds files faults running)) (sym (nothing_before files faults before.cell items none causes)) told)
+      let told : AreCauses 0 (opening_items failed) (helds g.files g.faults running) =
+      more_causes 0 [] (opening_items failed) (all_held g.files g.faults given) (helds g.files g.faults running) (no_causes 0 (all_held g.files g.faults given))
+      (subst (λ n. AreRises 0 (opening_items (fails_at n is.choices)) (all_held g.files g.faults given) (helds g.files g.faults running)) count is.causes) in
+      subst (λ (o : Option (OpenCell D V)). HasCauses g o (items ++ opening_items failed)) (sym here)
+      (subst (λ (l : List TraceItem). AreCauses 0 (l ++ opening_items failed) (helds g.files g.faults running)) (sym (nothing_before g before.cell items none causes)) told)
 
   -- all servers were opened
-  pub opened_line : (given : List D) (text_before text_after : List ℕ) → length given ≡ servers → IsOpened files faults db clock k given running text_before text_after
-      → running.hosts.items ≡ hosts_of servers → All (λ disk. files disk ≡ Some no_files) after.spare.items
-      → LineDone files faults db opens (Ok tt) before after text_before text_after
+  pub opened_line : (given : List D) (text_before text_after : List ℕ) → length given ≡ servers → IsOpened g db clock k given running text_before text_after
+      → running.hosts.items ≡ hosts_of servers → All (λ disk. g.files disk ≡ Some no_files) after.spare.items
+      → LineDone g db opens (Ok tt) before after text_before text_after
   opened_line given text_before text_after count is hosts empty = λ st near.
       let choices = is.choices in
       let failed = fails_at servers choices in
@@ -76,7 +76,7 @@ module _ {D V : Type 0} (files : D → Option Files) (faults : D → ℕ) (db : 
       record {
         choices = choices;
         ran = opened (next_line st) choices servers clock k;
-        is = opens_is st (none_of files faults before.cell st.cell none near.cell) choices;
+        is = opens_is st (none_of g before.cell st.cell none near.cell) choices;
         ends = refl;
         near = λ _. record {
           lines = omega (arith, near.lines, lines);
@@ -87,42 +87,42 @@ module _ {D V : Type 0} (files : D → Option Files) (faults : D → ℕ) (db : 
             let hosts_are : length running.hosts.items ≡ length running.sites.items = ap length is.sound.hosts ∙ hosts_count (length running.sites.items) in
             ap sites_in here ∙ sym hosts_are ∙ ap length hosts;
         kept = λ o items at causes.
-            let no_cell : o ≡ None = none_of files faults before.cell o none at in
-            subst (λ (o : Option Cell). HeldCauses o items (cell_helds files faults after.cell ++ all_held files faults after.spare.items)) (sym no_cell)
-            (nothing_before files faults before.cell items none causes);
-        read = run_reads files faults clock after.cell (Some (opened_cell servers clock k failed)) (all_held files faults after.spare.items)
-            (subst (CellIsSound files faults clock) (sym here) is.sound)
+            let no_cell : o ≡ None = none_of g before.cell o none at in
+            subst (λ (o : Option Cell). HeldCauses o items (cell_helds g after.cell ++ all_held g.files g.faults after.spare.items)) (sym no_cell)
+            (nothing_before g before.cell items none causes);
+        read = run_reads g clock after.cell (Some (opened_cell servers clock k failed)) (all_held g.files g.faults after.spare.items)
+            (subst (CellIsSound g clock) (sym here) is.sound)
             (subst (λ (o : Option (OpenCell D V)). CellStandsFor o (Some (opened_cell servers clock k failed))) (sym here) stands)
-            (unwritten files faults after.spare.items empty);
+            (unwritten g after.spare.items empty);
         told =
             is.told ∙ ap (λ n. text_before ++ trace db running.hosts.items (opening_items (fails_at n choices))) count
             ∙ ap (λ (l : List Host). text_before ++ trace db l (opening_items failed)) hosts;
         causes = λ items causes. told_causes given items is count causes;
         held = λ items causes.
-            run_causes files faults clock after.cell (Some (opened_cell servers clock k failed)) (items ++ opening_items failed) (all_held files faults after.spare.items)
-            (subst (CellIsSound files faults clock) (sym here) is.sound)
+            run_causes g clock after.cell (Some (opened_cell servers clock k failed)) (items ++ opening_items failed) (all_held g.files g.faults after.spare.items)
+            (subst (CellIsSound g clock) (sym here) is.sound)
             (subst (λ (o : Option (OpenCell D V)). CellStandsFor o (Some (opened_cell servers clock k failed))) (sym here) stands)
             (told_causes given items is count causes);
       }
 
   -- memory ran out in the opening
-  pub opened_short : (text_before text_after : List ℕ) → All IsUnwritten (helds files faults running) → All (λ disk. files disk ≡ Some no_files) after.spare.items
-      → LineDone files faults db opens (Err NoMemory) before after text_before text_after
+  pub opened_short : (text_before text_after : List ℕ) → All IsUnwritten (helds g.files g.faults running) → All (λ disk. g.files disk ≡ Some no_files) after.spare.items
+      → LineDone g db opens (Err NoMemory) before after text_before text_after
   opened_short text_before text_after cell empty = λ st near.
-      let held : All IsUnwritten (cell_helds files faults after.cell ++ all_held files faults after.spare.items) =
-      subst (λ (o : Option (OpenCell D V)). All IsUnwritten (cell_helds files faults o ++ all_held files faults after.spare.items)) (sym here)
-      (All-append IsUnwritten (helds files faults running) (all_held files faults after.spare.items) cell (unwritten files faults after.spare.items empty)) in
-      let no_cell : st.cell ≡ None = none_of files faults before.cell st.cell none near.cell in
+      let held : All IsUnwritten (cell_helds g after.cell ++ all_held g.files g.faults after.spare.items) =
+      subst (λ (o : Option (OpenCell D V)). All IsUnwritten (cell_helds g o ++ all_held g.files g.faults after.spare.items)) (sym here)
+      (All-append IsUnwritten (helds g.files g.faults running) (all_held g.files g.faults after.spare.items) cell (unwritten g after.spare.items empty)) in
+      let no_cell : st.cell ≡ None = none_of g before.cell st.cell none near.cell in
       record {
-        causes = λ items causes. subst (λ (o : Option Cell). HeldCauses o items (cell_helds files faults after.cell ++ all_held files faults after.spare.items)) (sym no_cell)
-            (nothing_before files faults before.cell items none causes);
-        held = inl (subst (λ (o : Option Cell). AreReadFirst (sites_of o) (cell_helds files faults after.cell ++ all_held files faults after.spare.items)) (sym no_cell) held);
+        causes = λ items causes. subst (λ (o : Option Cell). HeldCauses o items (cell_helds g after.cell ++ all_held g.files g.faults after.spare.items)) (sym no_cell)
+            (nothing_before g before.cell items none causes);
+        held = inl (subst (λ (o : Option Cell). AreReadFirst (sites_of o) (cell_helds g after.cell ++ all_held g.files g.faults after.spare.items)) (sym no_cell) held);
       }
 
   -- what stays
-  pub opened_keeps : (result : Result (Unit {0}) LineFault) → IsSoundRun files faults before → before.lines < MAX_LINES → length running.sites.items ≤ MAXSERVERS
-      → after.spare.items ≡ drop (length running.sites.items) before.spare.items → (result ≡ Ok tt → IsSound files faults clock running) → clock ≤ MAX_CLOCK
-      → KeepsRun files faults result before after
+  pub opened_keeps : (result : Result (Unit {0}) LineFault) → IsSoundRun g before → before.lines < MAX_LINES → length running.sites.items ≤ MAXSERVERS
+      → after.spare.items ≡ drop (length running.sites.items) before.spare.items → (result ≡ Ok tt → IsSound g clock running) → clock ≤ MAX_CLOCK
+      → KeepsRun g result before after
   opened_keeps result sound room few spare is_sound early =
       let count : sites_in after.cell ≡ length running.sites.items = ap sites_in here in
       let no_sites : sites_in before.cell ≡ 0 = ap sites_in none in
@@ -135,9 +135,11 @@ module _ {D V : Type 0} (files : D → Option Files) (faults : D → ℕ) (db : 
             let all : sites_in after.cell - sites_in before.cell ≡ length running.sites.items = omega (arith, count, no_sites) in
             spare ∙ sym (ap (λ n. drop n before.spare.items) all);
         sound = λ done. record {
-          cell = subst (CellIsSound files faults (clock_bound (before.lines + 1))) (sym here)
-              (raised files faults clock (clock_bound (before.lines + 1)) running (omega (arith, early)) (is_sound done));
-          spare = subst (All (λ disk. files disk ≡ Some no_files)) (sym spare) (All-drop (λ disk. files disk ≡ Some no_files) (length running.sites.items) before.spare.items sound.spare);
+          cell = subst (CellIsSound g (clock_bound (before.lines + 1))) (sym here)
+              (raised g clock (clock_bound (before.lines + 1)) running (omega (arith, early)) (is_sound done));
+          spare = subst (All (λ disk. g.files disk ≡ Some no_files)) (sym spare) (All-drop (λ disk. g.files disk ≡ Some no_files) (length running.sites.items) before.spare.items sound.spare);
+          settled = subst (All (λ disk. IsSettled (g.files disk) (g.may_leave disk))) (sym spare)
+              (All-drop (λ disk. IsSettled (g.files disk) (g.may_leave disk)) (length running.sites.items) before.spare.items sound.settled);
           disks = whole;
           asks = omega (arith, asks, sound.asks);
           few = omega (arith, room);
@@ -146,7 +148,7 @@ module _ {D V : Type 0} (files : D → Option Files) (faults : D → ℕ) (db : 
 
 -- ---- an empty line
 
-module _ {D V : Type 0} (files : D → Option Files) (faults : D → ℕ) (db : ScriptDatabase) (before : CellRun D V) (sound : IsSoundRun files faults before) where
+module _ {D V : Type 0} (g : Ghosts D) (db : ScriptDatabase) (before : CellRun D V) (sound : IsSoundRun g before) where
   nothing_in : (st : Stage) (cell : Option Cell) → st.cell ≡ cell → IsNear 0 before st → (choices : List Choice)
       → run_of_line db line.Nothing st choices ≡ Ok (record { stage = record (next_line st) { cell = cell }; items = []; ending = None })
   nothing_in st None is near choices =
@@ -158,26 +160,26 @@ module _ {D V : Type 0} (files : D → Option Files) (faults : D → ℕ) (db : 
   no_text None = refl
   no_text (Some c) = refl
 
-  pub nothing_line : (text : List ℕ) → LineDone files faults db line.Nothing (Ok tt) before before text text
+  pub nothing_line : (text : List ℕ) → LineDone g db line.Nothing (Ok tt) before before text text
   nothing_line text = λ st near. record {
     choices = [];
     ran = record { stage = next_line st; items = []; ending = None };
     is = nothing_in st st.cell refl near [];
     ends = refl;
     near = λ _. record { lines = omega (arith, near.lines); asks = near.asks; cell = near.cell };
-    servers = sym (servers_match files faults (clock_bound before.lines) before.cell st.cell sound.cell near.cell);
+    servers = sym (servers_match g (clock_bound before.lines) before.cell st.cell sound.cell near.cell);
     kept = λ o items at causes.
-        run_causes files faults (clock_bound before.lines) before.cell o items (all_held files faults before.spare.items) sound.cell at causes;
-    read = run_reads files faults (clock_bound before.lines) before.cell st.cell (all_held files faults before.spare.items) sound.cell near.cell
-        (unwritten files faults before.spare.items sound.spare);
+        run_causes g (clock_bound before.lines) before.cell o items (all_held g.files g.faults before.spare.items) sound.cell at causes;
+    read = run_reads g (clock_bound before.lines) before.cell st.cell (all_held g.files g.faults before.spare.items) sound.cell near.cell
+        (unwritten g before.spare.items sound.spare);
     told = sym (ap (λ (l : List ℕ). text ++ l) (no_text st.cell) ∙ append-nil text);
-    causes = λ items causes. subst (λ (l : List TraceItem). HasCauses files faults before.cell l) (sym (append-nil items)) causes;
+    causes = λ items causes. subst (λ (l : List TraceItem). HasCauses g before.cell l) (sym (append-nil items)) causes;
     held = λ items causes.
-        subst (λ (l : List TraceItem). HeldCauses st.cell l (cell_helds files faults before.cell ++ all_held files faults before.spare.items)) (sym (append-nil items))
-        (run_causes files faults (clock_bound before.lines) before.cell st.cell items (all_held files faults before.spare.items) sound.cell near.cell causes);
+        subst (λ (l : List TraceItem). HeldCauses st.cell l (cell_helds g before.cell ++ all_held g.files g.faults before.spare.items)) (sym (append-nil items))
+        (run_causes g (clock_bound before.lines) before.cell st.cell items (all_held g.files g.faults before.spare.items) sound.cell near.cell causes);
   }
 
-  pub nothing_keeps : before.lines < MAX_LINES → KeepsRun files faults (Ok tt) before before
+  pub nothing_keeps : before.lines < MAX_LINES → KeepsRun g (Ok tt) before before
   nothing_keeps room = record {
     lines = refl;
     disks = sound.disks;
@@ -185,15 +187,16 @@ module _ {D V : Type 0} (files : D → Option Files) (faults : D → ℕ) (db : 
     sound = λ done. record {
       cell = by before.cell sound.cell;
       spare = sound.spare;
+      settled = sound.settled;
       disks = sound.disks;
       asks = omega (arith, sound.asks);
       few = omega (arith, room);
     };
   }
     where
-      by : (cell : Option (OpenCell D V)) → CellIsSound files faults (clock_bound before.lines) cell → CellIsSound files faults (clock_bound (before.lines + 1)) cell
+      by : (cell : Option (OpenCell D V)) → CellIsSound g (clock_bound before.lines) cell → CellIsSound g (clock_bound (before.lines + 1)) cell
       by None is = tt
-      by (Some running) is = raised files faults (clock_bound before.lines) (clock_bound (before.lines + 1)) running (omega arith) is
+      by (Some running) is = raised g (clock_bound before.lines) (clock_bound (before.lines + 1)) running (omega arith) is
 
 -- ---- the disks that are left
 

@@ -1,9 +1,9 @@
 -- The opening of a cell over the disks of a run.
-use Rattle.std.proofs.Common.{◌≡◌, ℕ, zero, suc, ◌+◌, ◌-◌, ◌<◌, ◌≤◌, List, [], ◌∷◌, ◌++◌, length, get_or, map, refl, sym, ap, subst, ◌∙◌, add-one, arith}
+use Rattle.std.proofs.Common.{◌≡◌, ℕ, zero, suc, ◌+◌, ◌<◌, List, [], ◌∷◌, ◌++◌, length, get_or, map, refl, sym, ap, subst, ◌∙◌, add-one, arith}
 use Rattle.std.proofs.lemmas.List.{get_or-drop, take_more}
 use Rattle.std.proofs.lemmas.List.Elements.{All-append, All-cons, All-nil}
-use Rattle.std.specs.Prelude.{Option, Some, None, All, take, drop}
-use Rattle.disk_base.specs.Files.{Files, no_files}
+use Rattle.std.specs.Prelude.{All, take, drop}
+use Rattle.disk_base.specs.declared.disks.Disk.{Ghosts}
 use Rattle.cell_sites.specs.declared.cells.OpenCell.{OpenCell}
 use Rattle.cell_sites.specs.declared.sites.Site.{Site}
 use Rattle.cell_sites.specs.Disks.{Held, all_held, held}
@@ -12,28 +12,28 @@ use Rattle.cell_sites.specs.Sites.{disks_of, helds, site_disk}
 use Rattle.ubik_cell.specs.Lines.{IsUnwritten}
 
 -- what the disks of a cell read as
-sites_held : {D V : Type 0} (files : D → Option Files) (faults : D → ℕ) (sites : List (Site D V)) → map (λ (site : Site D V). held files faults (site_disk site)) sites ≡ all_held files faults (map site_disk sites)
-sites_held files faults [] = refl
-sites_held files faults (site ∷ sites) = ap (λ (l : List Held). held files faults (site_disk site) ∷ l) (sites_held files faults sites)
+sites_held : {D V : Type 0} (g : Ghosts D) (sites : List (Site D V)) → map (λ (site : Site D V). held g.files g.faults (site_disk site)) sites ≡ all_held g.files g.faults (map site_disk sites)
+sites_held g [] = refl
+sites_held g (site ∷ sites) = ap (λ (l : List Held). held g.files g.faults (site_disk site) ∷ l) (sites_held g sites)
 
-held-append : {D : Type 0} (files : D → Option Files) (faults : D → ℕ) (a b : List D) → all_held files faults (a ++ b) ≡ all_held files faults a ++ all_held files faults b
-held-append files faults [] b = refl
-held-append files faults (disk ∷ a) b = ap (λ (l : List Held). held files faults disk ∷ l) (held-append files faults a b)
+held-append : {D : Type 0} (g : Ghosts D) (a b : List D) → all_held g.files g.faults (a ++ b) ≡ all_held g.files g.faults a ++ all_held g.files g.faults b
+held-append g [] b = refl
+held-append g (disk ∷ a) b = ap (λ (l : List Held). held g.files g.faults disk ∷ l) (held-append g a b)
 
 -- one more disk is empty, or failed
-pub added_unwritten : {D V : Type 0} (files : D → Option Files) (faults : D → ℕ) (disk : D) (before after : OpenCell D V) → IsAdded files faults disk before after
-    → All IsUnwritten (helds files faults before) → All IsUnwritten (helds files faults after)
-added_unwritten files faults disk before after added empty =
-    let disks : helds files faults after ≡ helds files faults before ++ held files faults added.kept ∷ [] =
-    sites_held files faults after.sites.items ∙ ap (all_held files faults) added.disks ∙ held-append files faults (disks_of before) (added.kept ∷ [])
-    ∙ ap (λ (l : List Held). l ++ held files faults added.kept ∷ []) (sym (sites_held files faults before.sites.items)) in
+pub added_unwritten : {D V : Type 0} (g : Ghosts D) (disk : D) (before after : OpenCell D V) → IsAdded g disk before after
+    → All IsUnwritten (helds g.files g.faults before) → All IsUnwritten (helds g.files g.faults after)
+added_unwritten g disk before after added empty =
+    let disks : helds g.files g.faults after ≡ helds g.files g.faults before ++ held g.files g.faults added.kept ∷ [] =
+    sites_held g after.sites.items ∙ ap (all_held g.files g.faults) added.disks ∙ held-append g (disks_of before) (added.kept ∷ [])
+    ∙ ap (λ (l : List Held). l ++ held g.files g.faults added.kept ∷ []) (sym (sites_held g before.sites.items)) in
     subst (All IsUnwritten) (sym disks)
-    (All-append IsUnwritten (helds files faults before) (held files faults added.kept ∷ []) empty
-    (All-cons IsUnwritten (held files faults added.kept) [] added.empty (All-nil IsUnwritten)))
+    (All-append IsUnwritten (helds g.files g.faults before) (held g.files g.faults added.kept ∷ []) empty
+    (All-cons IsUnwritten (held g.files g.faults added.kept) [] added.empty (All-nil IsUnwritten)))
 
-pub none_unwritten : {D V : Type 0} (files : D → Option Files) (faults : D → ℕ) (running : OpenCell D V) → running.sites.items ≡ [] → All IsUnwritten (helds files faults running)
-none_unwritten {D} {V} files faults running none =
-    subst (λ (sites : List (Site D V)). All IsUnwritten (map (λ site. held files faults (site_disk site)) sites)) (sym none) (All-nil IsUnwritten)
+pub none_unwritten : {D V : Type 0} (g : Ghosts D) (running : OpenCell D V) → running.sites.items ≡ [] → All IsUnwritten (helds g.files g.faults running)
+none_unwritten {D} {V} g running none =
+    subst (λ (sites : List (Site D V)). All IsUnwritten (map (λ site. held g.files g.faults (site_disk site)) sites)) (sym none) (All-nil IsUnwritten)
 
 -- ---- the disks that are taken, one after the other
 
@@ -60,8 +60,8 @@ pub next_left : {D : Type 0} (given left after : List D) (i : ℕ) → left ≡ 
 next_left given left after i is removed = removed ∙ ap (λ l. take 0 l ++ drop 1 l) is ∙ drop-next given i
 
 -- the disks of a closed run
-pub closed_held : {D V : Type 0} (files : D → Option Files) (faults : D → ℕ) (running : OpenCell D V) (all spare : List D) → all ≡ disks_of running ++ spare
-    → all_held files faults all ≡ helds files faults running ++ all_held files faults spare
-closed_held files faults running all spare is =
-    ap (all_held files faults) is ∙ held-append files faults (disks_of running) spare
-    ∙ ap (λ (l : List Held). l ++ all_held files faults spare) (sym (sites_held files faults running.sites.items))
+pub closed_held : {D V : Type 0} (g : Ghosts D) (running : OpenCell D V) (all spare : List D) → all ≡ disks_of running ++ spare
+    → all_held g.files g.faults all ≡ helds g.files g.faults running ++ all_held g.files g.faults spare
+closed_held g running all spare is =
+    ap (all_held g.files g.faults) is ∙ held-append g (disks_of running) spare
+    ∙ ap (λ (l : List Held). l ++ all_held g.files g.faults spare) (sym (sites_held g running.sites.items))

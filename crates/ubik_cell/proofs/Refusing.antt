@@ -1,8 +1,8 @@
 -- The line at which a script ends, told by its reason alone.
-use Rattle.std.proofs.Common.{◌≡◌, ◌+◌, ◌<◌, ◌≤◌, ℕ, Bool, true, false, List, [], ◌∷◌, ◌++◌, length, Option, Result, Ok, Err, inl, refl, sym, ap, subst, ◌∙◌, arith}
+use Rattle.std.proofs.Common.{◌≡◌, ◌+◌, ◌<◌, ◌≤◌, ℕ, Bool, true, false, List, ◌++◌, length, Result, Ok, Err, inl, refl, sym, ap, ◌∙◌, arith}
 use Rattle.std.specs.Prelude.{nat_le, nat_lt, cond}
 use Rattle.std.proofs.lemmas.Bool.Decides.{nat_tests}
-use Rattle.disk_base.specs.Files.{Files}
+use Rattle.disk_base.specs.declared.disks.Disk.{Ghosts}
 use Rattle.cell_script.specs.Meaning.{is_idle, line_of, line_of_split}
 use Rattle.cell_script.specs.Words.{words_of}
 use Rattle.cell_script.specs.declared.lines.Line.{Line}
@@ -14,23 +14,23 @@ use Rattle.cell_runs.specs.declared.endings.Ending.{Ending}
 use Rattle.cell_runs.specs.declared.endings.Ending.TheVariants.{Refused, Limit}
 use Rattle.cell_runs.specs.declared.endings.Which.TheVariants.{Lines}
 use Rattle.cell_runs.specs.declared.limits.TheConstants.{MAX_LINES}
-use Rattle.cell_runs.specs.Script.{Choice, LineRead, Line_run, Stage, Told, line_result, meaning_run, next_line, or_refused, servers_of, told_with}
+use Rattle.cell_runs.specs.Script.{Choice, LineRead, Stage, Told, line_result, meaning_run, next_line, or_refused, servers_of, told_with}
 use Rattle.cell_runs.specs.ScriptDatabase.{Databases}
 use Rattle.cell_runs.specs.Trace.{ending_text}
 use Rattle.ubik_cell.specs.declared.scripts.CellRun.{CellRun}
-use Rattle.ubik_cell.specs.declared.scripts.RunEnd.TheVariants.{Ended, NoMemory}
+use Rattle.ubik_cell.specs.declared.scripts.RunEnd.TheVariants.{Ended}
 use Rattle.ubik_cell.specs.Lines.{IsAt, IsSoundRun, LineShort, LineTold}
 use Rattle.ubik_cell.proofs.Holding.{count_at, held_at}
 
-module _ {D V : Type 0} (files : D → Option Files) (faults : D → ℕ) (dbs : Databases) (run : CellRun D V) (t : Told)
-    (sound : IsSoundRun files faults run) (at : IsAt files faults run t) where
+module _ {D V : Type 0} (g : Ghosts D) (dbs : Databases) (run : CellRun D V) (t : Told)
+    (sound : IsSoundRun g run) (at : IsAt g run t) where
   -- the end was told
   pub end_told : (line : List ℕ) (choices : List Choice) (ending : Ending) (text_before text_after : List ℕ)
       → line_result dbs t.stage (record { line = line; choices = choices }) ≡ Err ending
       → text_after ≡ text_before ++ ending_text (run.lines + 1) ending
-      → LineTold files faults dbs line t (Err (Ended ending)) run text_before text_after
+      → LineTold g dbs line t (Err (Ended ending)) run text_before text_after
   end_told line choices ending text_before text_after ends told =
-      let held = held_at files faults run t sound at in
+      let held = held_at g run t sound at in
       let place : run.lines + 1 ≡ t.stage.lines + 1 = omega (arith, at.stage.lines) in
       record {
         choices = choices;
@@ -41,12 +41,12 @@ module _ {D V : Type 0} (files : D → Option Files) (faults : D → ℕ) (dbs :
         told = told ∙ ap (λ (n : ℕ). text_before ++ ending_text n ending) place;
         text = refl;
         leaves = record { read = held.read; causes = held.causes };
-        servers = count_at files faults run t sound at;
+        servers = count_at g run t sound at;
       }
 
   -- memory ran out before anything was done
-  pub end_short : (line : List ℕ) → LineShort files faults dbs line t run
-  end_short line = let held = held_at files faults run t sound at in record { causes = held.causes; held = inl held.read }
+  pub end_short : (line : List ℕ) → LineShort g dbs line t run
+  end_short line = let held = held_at g run t sound at in record { causes = held.causes; held = inl held.read }
 
 -- ---- a line that is too long
 

@@ -3,7 +3,8 @@ use Rattle.std.proofs.Common.{drop, ◌≡◌, ◌+◌, ◌-◌, ℕ, Bool, fals
 use Rattle.std.proofs.lemmas.List.{append-nil, drop-drop, length-drop}
 use Rattle.std.proofs.lemmas.List.Elements.{All-nil}
 use Rattle.std.specs.Prelude.{All}
-use Rattle.disk_base.specs.Files.{Files, no_files}
+use Rattle.disk_base.specs.declared.disks.Disk.{Ghosts}
+use Rattle.disk_base.specs.Files.{no_files}
 use Rattle.ubik_types.specs.declared.limits.TheConstants.{MAXSERVERS}
 use Rattle.cell_runs.specs.Script.{first_told}
 use Rattle.cell_runs.specs.ScriptDatabase.{Databases}
@@ -14,7 +15,7 @@ use Rattle.ubik_cell.specs.declared.scripts.CellRun.{CellRun}
 use Rattle.ubik_cell.specs.Lines.{IsAt, run_helds, sites_in}
 use Rattle.ubik_cell.specs.Runs.{IsConsumed, Runs}
 use Rattle.ubik_cell.specs.Turns.{Ran, RanOver, SoFar}
-use Rattle.ubik_cell.proofs.Holding.{unwritten}
+use Rattle.ubik_cell.proofs.LineDisks.{unwritten}
 
 -- a fact of a source and of a sink of which nothing was taken, and to which nothing was given
 pub of_both : (Q : List ℕ → Option (List ℕ) → List ℕ → Option (List ℕ) → Type 0) (left written : Option (List ℕ))
@@ -32,11 +33,11 @@ over_both A B None written is goes = tt
 over_both A B (Some script) None is goes = tt
 over_both A B (Some script) (Some before) is goes = goes script before is
 
-module _ {D : Type 0} (files : D → Option Files) (faults : D → ℕ) (dbs : Databases) where
+module _ {D : Type 0} (g : Ghosts D) (dbs : Databases) where
   -- nothing was run
   pub at_once : (k : CellKind) (script : List ℕ) (left : Option (List ℕ)) (before : List ℕ) (after : Option (List ℕ)) (disks : List D)
-      → All (λ disk. files disk ≡ Some no_files) disks → Runs k dbs [] script left before after
-      → RanOver files faults k dbs script left before after disks disks
+      → All (λ disk. g.files disk ≡ Some no_files) disks → Runs k dbs [] script left before after
+      → RanOver g k dbs script left before after disks disks
   at_once k script left before after disks empty run = record {
     reached = 0;
     ran = record {
@@ -45,15 +46,15 @@ module _ {D : Type 0} (files : D → Option Files) (faults : D → ℕ) (dbs : D
       more = [];
       run_or_not = inl refl;
       causes = refl;
-      held = record { read = unwritten files faults disks empty; causes = refl };
+      held = record { read = unwritten g disks empty; causes = refl };
       servers = λ other. refl;
     };
     stay = refl;
   }
 
   -- memory ran out before the first line
-  pub short_at_once : (disks : List D) → All (λ disk. files disk ≡ Some no_files) disks → (script before : List ℕ)
-      → RanOver files faults kind.NoMemory dbs script (Some script) before (Some before) disks disks
+  pub short_at_once : (disks : List D) → All (λ disk. g.files disk ≡ Some no_files) disks → (script before : List ℕ)
+      → RanOver g kind.NoMemory dbs script (Some script) before (Some before) disks disks
   short_at_once disks empty script before =
       at_once kind.NoMemory script (Some script) before (Some before) disks empty (record {
         part = record { read = []; rest = script; split = refl; remains = refl };
@@ -64,10 +65,10 @@ module _ {D : Type 0} (files : D → Option Files) (faults : D → ℕ) (dbs : D
         wrote = ap Some (sym (append-nil before));
       })
 
-module _ {D V : Type 0} (files : D → Option Files) (faults : D → ℕ) (dbs : Databases) where
+module _ {D V : Type 0} (g : Ghosts D) (dbs : Databases) where
   -- before the first line
-  pub first_so_far : (ended : Bool) (run : CellRun D V) → ended ≡ false → IsAt files faults run first_told → (script before : List ℕ)
-      → SoFar files faults dbs script ended (Some script) before (Some before) run
+  pub first_so_far : (ended : Bool) (run : CellRun D V) → ended ≡ false → IsAt g run first_told → (script before : List ℕ)
+      → SoFar g dbs script ended (Some script) before (Some before) run
   first_so_far ended run going at script before =
       let P : Bool → Type 0 = λ b. IsConsumed b script script [] in
       record {
@@ -83,21 +84,21 @@ module _ {D V : Type 0} (files : D → Option Files) (faults : D → ℕ) (dbs :
   -- what is told of what a sink holds, where it holds something
   from_sink : (script : List ℕ) (ended : Bool) (left : Option (List ℕ)) (before : List ℕ) (w : Option (List ℕ)) (run : CellRun D V)
       (Q : List ℕ → List ℕ → Type 0)
-      → IfSome w (λ written. (script before : List ℕ) → SoFar files faults dbs script ended left before (Some written) run → Q script
+      → IfSome w (λ written. (script before : List ℕ) → SoFar g dbs script ended left before (Some written) run → Q script
       before)
-      → SoFar files faults dbs script ended left before w run → Q script before
+      → SoFar g dbs script ended left before w run → Q script before
   from_sink script ended left before None run Q goes so = let never = so.wrote in absurd (cc)
   from_sink script ended left before (Some written) run Q goes so = goes script before so
 
   -- one more turn
   pub so_far_on : (ended : Bool) (left : Option (List ℕ)) (w : Option (List ℕ)) (run : CellRun D V) (Q : List ℕ → List ℕ → Type 0)
       (input out : Option (List ℕ))
-      → IfSome input (λ script. IfSome out (λ before. SoFar files faults dbs script ended left before w run))
-      → IfSome w (λ written. (script before : List ℕ) → SoFar files faults dbs script ended left before (Some written) run → Q script
+      → IfSome input (λ script. IfSome out (λ before. SoFar g dbs script ended left before w run))
+      → IfSome w (λ written. (script before : List ℕ) → SoFar g dbs script ended left before (Some written) run → Q script
       before)
       → IfSome input (λ script. IfSome out (λ before. Q script before))
   so_far_on ended left w run Q input out so goes =
-      over_both (λ script before. SoFar files faults dbs script ended left before w run) Q input out so
+      over_both (λ script before. SoFar g dbs script ended left before w run) Q input out so
       (λ script before is. from_sink script ended left before w run Q goes is)
 
   -- how the disks lie that were not reached
@@ -113,10 +114,10 @@ module _ {D V : Type 0} (files : D → Option Files) (faults : D → ℕ) (dbs :
 
   -- the disks in their places again
   pub closed : (k : CellKind) (script : List ℕ) (left : Option (List ℕ)) (before : List ℕ) (after : Option (List ℕ)) (next : CellRun D V)
-      (disks disks_after : List D) → all_held files faults disks_after ≡ run_helds files faults next
+      (disks disks_after : List D) → all_held g.files g.faults disks_after ≡ run_helds g next
       → drop (sites_in next.cell) disks_after ≡ next.spare.items → next.spare.items ≡ drop (sites_in next.cell) disks
-      → Ran k dbs script left before after (sites_in next.cell) (run_helds files faults next)
-      → RanOver files faults k dbs script left before after disks disks_after
+      → Ran k dbs script left before after (sites_in next.cell) (run_helds g next)
+      → RanOver g k dbs script left before after disks disks_after
   closed k script left before after next disks disks_after held others spare ran = record {
     reached = sites_in next.cell;
     ran = subst (λ (h : List Held). Ran k dbs script left before after (sites_in next.cell) h) (sym held) ran;

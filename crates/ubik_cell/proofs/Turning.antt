@@ -2,7 +2,7 @@
 use Rattle.std.proofs.Common.{◌<◌, take, drop, ◌≡◌, ◌≢◌, ◌≤◌, ◌+◌, ◌⊎◌, inl, inr, ℕ, List, [], ◌∷◌, ◌++◌, length, Bool, true, false, Option, Some, None, IfSome, Result, Ok, Err, refl, sym, ap, subst, ◌∙◌, arith, append_assoc, length-append}
 use Rattle.std.proofs.Math.Seq.{take-append_seam}
 use Rattle.std.proofs.lemmas.List.{append-nil, take-append-drop, take_all}
-use Rattle.disk_base.specs.Files.{Files}
+use Rattle.disk_base.specs.declared.disks.Disk.{Ghosts}
 use Rattle.cell_script.specs.Lines.{TakesLine, TakesPart, lines_of}
 use Rattle.cell_script.specs.Write.{AppendsPart}
 use Rattle.cell_script.specs.declared.readers.LineEnd.{LineEnd}
@@ -26,7 +26,7 @@ use Rattle.ubik_cell.proofs.Holding.{count_at, held_at}
 use Rattle.ubik_cell.proofs.Telling.{read_lines-push, same_some, told-push}
 
 -- a run before a line of which at most 1025 bytes were read
-pub record AtLine {D V : Type 0} (files : D → Option Files) (faults : D → ℕ) (dbs : Databases) (text : List ℕ) (left : Option (List ℕ))
+pub record AtLine {D V : Type 0} (g : Ghosts D) (dbs : Databases) (text : List ℕ) (left : Option (List ℕ))
     (before : List ℕ) (after : Option (List ℕ)) (run : CellRun D V) (line : List ℕ) : Type 0 where
   pub readings : List LineRead
   pub part : ReadSome text left
@@ -34,7 +34,7 @@ pub record AtLine {D V : Type 0} (files : D → Option Files) (faults : D → �
   pub later : List (List ℕ)
   pub all : lines_of text ≡ read_lines readings ++ line ∷ later
   pub good : (told dbs readings).ended ≡ None
-  pub at : IsAt files faults run (told dbs readings)
+  pub at : IsAt g run (told dbs readings)
   pub wrote : Wrote before after (told dbs readings).text
 
 -- ---- the end of a run
@@ -65,18 +65,18 @@ of_left P left rest is h = let Q : Option (List ℕ) → Type 0 = λ l. IfSome l
 
 -- ---- after a line
 
-module _ {D V : Type 0} (files : D → Option Files) (faults : D → ℕ) (dbs : Databases) where
-  leaves_held : (result : Result (Unit {0}) RunEnd) (next : CellRun D V) (later : Told) → (result ≡ Ok tt → IsSoundRun files faults next)
-      → Leaves files faults result next later → AreHeld later (run_helds files faults next)
-  leaves_held (Ok done) next later sound leaves = held_at files faults next later (sound refl) leaves
+module _ {D V : Type 0} (g : Ghosts D) (dbs : Databases) where
+  leaves_held : (result : Result (Unit {0}) RunEnd) (next : CellRun D V) (later : Told) → (result ≡ Ok tt → IsSoundRun g next)
+      → Leaves g result next later → AreHeld later (run_helds g next)
+  leaves_held (Ok done) next later sound leaves = held_at g next later (sound refl) leaves
   leaves_held (Err e) next later sound leaves = leaves
 
   module _ (text : List ℕ) (left : Option (List ℕ)) (before written : List ℕ) (after : Option (List ℕ)) (run next : CellRun D V)
-      (line : List ℕ) (at : AtLine files faults dbs text left before (Some written) run line) where
+      (line : List ℕ) (at : AtLine g dbs text left before (Some written) run line) where
     abbrev t : Told
     t = told dbs at.readings
 
-    module _ (result : Result (Unit {0}) RunEnd) (bytes : List ℕ) (of : LineTold files faults dbs line t result next [] bytes) where
+    module _ (result : Result (Unit {0}) RunEnd) (bytes : List ℕ) (of : LineTold g dbs line t result next [] bytes) where
       abbrev last : LineRead
       last = record { line = line; choices = of.choices }
 
@@ -100,20 +100,20 @@ module _ {D V : Type 0} (files : D → Option Files) (faults : D → ℕ) (dbs :
           wrote ∙ ap (λ (w : List ℕ). Some (w ++ bytes)) (same_some at.wrote) ∙ ap Some (append_assoc before t.text bytes)
           ∙ ap (λ (b : List ℕ). Some (before ++ b)) (sym all_text)
 
-      held_later : (result ≡ Ok tt → IsSoundRun files faults next) → AreHeld (told dbs readings) (run_helds files faults next)
+      held_later : (result ≡ Ok tt → IsSoundRun g next) → AreHeld (told dbs readings) (run_helds g next)
       held_later sound =
-          later_has (λ d. AreHeld d (run_helds files faults next)) (leaves_held result next of.later sound of.leaves)
+          later_has (λ d. AreHeld d (run_helds g next)) (leaves_held result next of.later sound of.leaves)
 
       servers_later : sites_in next.cell ≡ servers_of (told dbs readings).stage.cell
       servers_later = later_has (λ d. sites_in next.cell ≡ servers_of d.stage.cell) of.servers
 
       abbrev RanSo : CellKind → Type 0
-      RanSo k = Ran k dbs text left before after (sites_in next.cell) (run_helds files faults next)
+      RanSo k = Ran k dbs text left before after (sites_in next.cell) (run_helds g next)
 
       -- the sink failed in what the line tells
-      pub part_told : (result ≡ Ok tt → IsSoundRun files faults next) → AppendsPart written after bytes → RanSo kind.WriteFault
+      pub part_told : (result ≡ Ok tt → IsSoundRun g next) → AppendsPart written after bytes → RanSo kind.WriteFault
       part_told sound wrote =
-          ran_all dbs text left before after (sites_in next.cell) (run_helds files faults next) kind.WriteFault readings (record {
+          ran_all dbs text left before after (sites_in next.cell) (run_helds g next) kind.WriteFault readings (record {
             earlier = at.readings;
             last = last;
             is = refl;
@@ -129,16 +129,16 @@ module _ {D V : Type 0} (files : D → Option Files) (faults : D → ℕ) (dbs :
           }) (held_later sound) servers_later
 
     -- the script ends in the line, which was told
-    pub ended_told : (ending : Ending) (bytes : List ℕ) (of : LineTold files faults dbs line t (Err (Ended ending)) next [] bytes)
+    pub ended_told : (ending : Ending) (bytes : List ℕ) (of : LineTold g dbs line t (Err (Ended ending)) next [] bytes)
         (number : ℕ)
         → number ≡ run.lines + 1 → after ≡ Some (written ++ bytes)
-        → Ran (kind_at number ending) dbs text left before after (sites_in next.cell) (run_helds files faults next)
+        → Ran (kind_at number ending) dbs text left before after (sites_in next.cell) (run_helds g next)
     ended_told ending bytes of number is wrote =
         let result : Result (Unit {0}) RunEnd = Err (Ended ending) in
         let all : List LineRead = readings result bytes of in
         let place : t.stage.lines + 1 ≡ number = omega (arith, at.at.stage.lines, is) in
-        ran_all dbs text left before after (sites_in next.cell) (run_helds files faults next) (kind_at number ending) all
-        (until_kind dbs text left before after (sites_in next.cell) (run_helds files faults next) number ending all (record {
+        ran_all dbs text left before after (sites_in next.cell) (run_helds g next) (kind_at number ending) all
+        (until_kind dbs text left before after (sites_in next.cell) (run_helds g next) number ending all (record {
           earlier = at.readings;
           last = last result bytes of;
           later = at.later;
@@ -153,7 +153,7 @@ module _ {D V : Type 0} (files : D → Option Files) (faults : D → ℕ) (dbs :
 
     -- memory ran out in the line
     abbrev disks : List Held
-    disks = run_helds files faults next
+    disks = run_helds g next
 
     abbrev ran_short : after ≡ Some written → RanShort dbs at.readings text left before after
     ran_short same = record {
@@ -190,7 +190,7 @@ module _ {D V : Type 0} (files : D → Option Files) (faults : D → ℕ) (dbs :
           servers = λ other. absurd (other refl);
         }
 
-    pub short_told : LineShort files faults dbs (take 1025 line) t next → after ≡ Some written
+    pub short_told : LineShort g dbs (take 1025 line) t next → after ≡ Some written
         → Ran kind.NoMemory dbs text left before after (sites_in next.cell) disks
     short_told short same = short_by same short.causes short.held
 
@@ -199,7 +199,7 @@ module _ {D V : Type 0} (files : D → Option Files) (faults : D → ℕ) (dbs :
   -- a run before a line that was read whole, with which the source has ended or not
   pub record AtWhole (text : List ℕ) (ended : Bool) (left : Option (List ℕ)) (before : List ℕ) (after : Option (List ℕ))
       (run : CellRun D V) (line : List ℕ) : Type 0 where
-    pub at : AtLine files faults dbs text left before after run line
+    pub at : AtLine g dbs text left before after run line
     pub bound : take 1025 line ≡ line
     pub rest : List ℕ
     pub remains : left ≡ Some rest
@@ -209,8 +209,8 @@ module _ {D V : Type 0} (files : D → Option Files) (faults : D → ℕ) (dbs :
   pub going_on : (text : List ℕ) (ended : Bool) (left : Option (List ℕ)) (before written : List ℕ) (after : Option (List ℕ))
       (run next : CellRun D V)
       (line bytes : List ℕ) (at : AtWhole text ended left before (Some written) run line)
-      → LineTold files faults dbs line (told dbs at.at.readings) (Ok tt) next [] bytes → after ≡ Some (written ++ bytes)
-      → SoFar files faults dbs text ended left before after next
+      → LineTold g dbs line (told dbs at.at.readings) (Ok tt) next [] bytes → after ≡ Some (written ++ bytes)
+      → SoFar g dbs text ended left before after next
   going_on text ended left before written after run next line bytes at of wrote =
       let all : List LineRead = readings text left before written after run next line at.at (Ok tt) bytes of in
       let same : told dbs all ≡ of.later = more text left before written after run next line at.at (Ok tt) bytes of in
@@ -221,12 +221,12 @@ module _ {D V : Type 0} (files : D → Option Files) (faults : D → ℕ) (dbs :
         remains = at.remains;
         consumed = subst (IsConsumed ended text at.rest) (sym (read_lines-push at.at.readings r)) at.consumed;
         good = ap (λ (d : Told). d.ended) same ∙ of.ended;
-        at = subst (λ (d : Told). IsAt files faults next d) (sym same) of.leaves;
+        at = subst (λ (d : Told). IsAt g next d) (sym same) of.leaves;
         wrote = whole_wrote text left before written after run next line at.at (Ok tt) bytes of wrote;
       }
 
   module _ (script : List ℕ) (was now : Bool) (left later : Option (List ℕ)) (before : List ℕ) (after : Option (List ℕ)) (run : CellRun D V)
-      (so : SoFar files faults dbs script was left before after run) where
+      (so : SoFar g dbs script was left before after run) where
     abbrev lines : List (List ℕ)
     lines = read_lines so.readings
 
@@ -264,7 +264,7 @@ module _ {D V : Type 0} (files : D → Option Files) (faults : D → ℕ) (dbs :
       pub line : List ℕ
       pub long : MAX_LINE < length line
       pub long_part : MAX_LINE < length (take 1025 line)
-      pub at : AtLine files faults dbs script later before after run line
+      pub at : AtLine g dbs script later before after run line
 
     abbrev TakesLong : List ℕ → Type 0
     TakesLong text = (now ≡ false) × (taken : TakesPart text later) × (length taken.part ≡ MAX_LINE + 1)
@@ -298,10 +298,10 @@ module _ {D V : Type 0} (files : D → Option Files) (faults : D → ℕ) (dbs :
     -- ---- no line more
 
     abbrev disks_now : List Held
-    disks_now = run_helds files faults run
+    disks_now = run_helds g run
 
-    held_now : IsSoundRun files faults run → AreHeld (told dbs so.readings) disks_now
-    held_now sound = held_at files faults run (told dbs so.readings) sound so.at
+    held_now : IsSoundRun g run → AreHeld (told dbs so.readings) disks_now
+    held_now sound = held_at g run (told dbs so.readings) sound so.at
 
     -- the script was read to its end, just now or before
     abbrev MeetsEnd : List ℕ → Type 0
@@ -312,7 +312,7 @@ module _ {D V : Type 0} (files : D → Option Files) (faults : D → ℕ) (dbs :
     end_of false ends ended consumed = let end = of_left MeetsEnd left so.rest so.remains (ends refl) in (end.1, end.2)
     end_of true ends ended consumed = (consumed.0, ended refl ∙ so.remains ∙ ap Some consumed.0)
 
-    pub ran_to_the_end : IsSoundRun files faults run → (was ≡ false → IfSome left MeetsEnd) → (was ≡ true → later ≡ left)
+    pub ran_to_the_end : IsSoundRun g run → (was ≡ false → IfSome left MeetsEnd) → (was ≡ true → later ≡ left)
         → Ran kind.Done dbs script later before after (sites_in run.cell) disks_now
     ran_to_the_end sound ends ended =
         let end = end_of was ends ended so.consumed in
@@ -321,13 +321,13 @@ module _ {D V : Type 0} (files : D → Option Files) (faults : D → ℕ) (dbs :
           end = end.1;
           good = so.good;
           wrote = so.wrote;
-        }) (held_now sound) (count_at files faults run (told dbs so.readings) sound so.at)
+        }) (held_now sound) (count_at g run (told dbs so.readings) sound so.at)
 
     -- the source failed
     abbrev Fails : List ℕ → Type 0
     Fails text = (now ≡ false) × (taken : TakesPart text later) × (length taken.part ≤ MAX_LINE)
 
-    pub ran_to_fault : IsSoundRun files faults run → was ≡ false → IfSome left Fails
+    pub ran_to_fault : IsSoundRun g run → was ≡ false → IfSome left Fails
         → Ran kind.ReadFault dbs script later before after (sites_in run.cell) disks_now
     ran_to_fault sound was_false fails =
         let taken = (of_left Fails left so.rest so.remains fails).1 in
@@ -337,7 +337,7 @@ module _ {D V : Type 0} (files : D → Option Files) (faults : D → ℕ) (dbs :
           all = whole.2;
           good = so.good;
           wrote = so.wrote;
-        }) (held_now sound) (count_at files faults run (told dbs so.readings) sound so.at)
+        }) (held_now sound) (count_at g run (told dbs so.readings) sound so.at)
 
 -- a source that did not end just now had not ended before
 pub was_going : (was : Bool) (end : LineEnd) → end ≢ line_end.End → (was ≡ true → end ≡ line_end.End) → was ≡ false

@@ -1,6 +1,6 @@
 -- The headline: what was read and written is the trace of one run of the world, and that run keeps what it promises.
 use Rattle.std.specs.Prelude.{◌≡◌, ◌≢◌, ◌⊎◌, ℕ, Option, Some, None, List, [], ◌++◌, drop}
-use Rattle.disk_base.specs.Files.{Files}
+use Rattle.disk_base.specs.declared.disks.Disk.{Ghosts}
 use Rattle.cell_runs.specs.Script.{Cell, LineRead, cell_size_of, servers_of, told}
 use Rattle.script_laws.specs.Runs.{IsRunOfTold}
 use Rattle.script_promises.specs.Databases.{databases}
@@ -46,7 +46,7 @@ pub record OthersStay {D : Type 0} (k : CellKind) (servers : ℕ) (before after 
 -- One run: its bytes are those that were written, it is a run of the world, and in a cell of one server its committed transactions
 -- have one order, what was acknowledged is kept, its replies are those of the single copy; each stop, halt and failed opening that it
 -- tells is a fault of that server's disk; and the disks hold the durable states.
-pub record Headline {D : Type 0} (files : D → Option Files) (faults : D → ℕ) (k : CellKind) (script : List ℕ) (left : Option (List ℕ))
+pub record Headline {D : Type 0} (g : Ghosts D) (k : CellKind) (script : List ℕ) (left : Option (List ℕ))
     (before : List ℕ) (after : Option (List ℕ)) (disks_before disks_after : List D) : Type 0 where
   pub readings : List LineRead
   pub run : Runs k databases readings script left before after
@@ -54,6 +54,6 @@ pub record Headline {D : Type 0} (files : D → Option Files) (faults : D → �
   pub one_order : OfOneAfter HasOneOrder readings
   pub kept : OfOneAfter IsKept readings
   pub single_copy : OfOneAfter HasSingleReplies readings
-  pub causes : HeldCauses (told databases readings).stage.cell (told databases readings).items (all_held files faults disks_after)
-  pub disks : DisksHold readings (untold_of k readings script left before after run) (all_held files faults disks_after)
+  pub causes : HeldCauses (told databases readings).stage.cell (told databases readings).items (all_held g.files g.faults disks_after)
+  pub disks : DisksHold readings (untold_of k readings script left before after run) (all_held g.files g.faults disks_after)
   pub others : OthersStay k (servers_of (told databases readings).stage.cell) disks_before disks_after

@@ -1,6 +1,6 @@
 -- What a line that was understood does in a run.
-use Rattle.std.specs.Prelude.{◌≡◌, ◌⊎◌, ◌+◌, ◌-◌, ◌++◌, ◌≤◌, ℕ, Option, Some, None, Result, Ok, Err, List, [], drop, length}
-use Rattle.disk_base.specs.Files.{Files}
+use Rattle.std.specs.Prelude.{◌≡◌, ◌⊎◌, ◌+◌, ◌-◌, ◌++◌, ℕ, Some, None, Result, Ok, Err, List, [], drop, length}
+use Rattle.disk_base.specs.declared.disks.Disk.{Ghosts}
 use Rattle.ubik_types.specs.declared.limits.TheConstants.{MAXSERVERS}
 use Rattle.cell_script.specs.declared.lines.Line.{Line}
 use Rattle.cell_script.specs.declared.lines.TheConstants.{MAX_TICK}
@@ -27,24 +27,24 @@ abbrev pub run_of_line : ScriptDatabase → Line → Stage → List Choice → R
 run_of_line db l st choices = line_run (only db) (next_line st) choices l st.cell
 
 -- What became of a line in a run: it was run and told; it passed a limit, or was refused, and nothing was done; or memory ran out.
-abbrev pub LineDone : {D V : Type 0} → (D → Option Files) → (D → ℕ) → ScriptDatabase → Line → Result (Unit {0}) LineFault
+abbrev pub LineDone : {D V : Type 0} → Ghosts D → ScriptDatabase → Line → Result (Unit {0}) LineFault
     → (before after : CellRun D V) → (text_before text_after : List ℕ) → Type 0
-LineDone files faults db l (Ok done) before after text_before text_after =
-    (st : Stage) → IsNear 0 before st → StageTold files faults (only db) (run_of_line db l st) None before after text_before text_after
-LineDone files faults db l (Err (Limit which)) before after text_before text_after =
+LineDone g db l (Ok done) before after text_before text_after =
+    (st : Stage) → IsNear 0 before st → StageTold g (only db) (run_of_line db l st) None before after text_before text_after
+LineDone g db l (Err (Limit which)) before after text_before text_after =
     (st : Stage) → IsNear 0 before st →
-    StageTold files faults (only db) (run_of_line db l st) (Some (ending.Limit which)) before after text_before text_after
-LineDone files faults db l (Err (Refused why)) before after text_before text_after =
+    StageTold g (only db) (run_of_line db l st) (Some (ending.Limit which)) before after text_before text_after
+LineDone g db l (Err (Refused why)) before after text_before text_after =
     (after ≡ before) × (text_after ≡ text_before) × ((st : Stage) → IsNear 0 before st → IsRefusedLine why (run_of_line db l st))
-LineDone files faults db l (Err NoMemory) before after text_before text_after =
-    (st : Stage) → IsNear 0 before st → StageShort files faults (run_of_line db l st) st before after
+LineDone g db l (Err NoMemory) before after text_before text_after =
+    (st : Stage) → IsNear 0 before st → StageShort g (run_of_line db l st) st before after
 
 -- what a line keeps of a run: how many lines there were, and each disk in its place
-pub record KeepsRun {D V : Type 0} (files : D → Option Files) (faults : D → ℕ) (result : Result (Unit {0}) LineFault) (before after : CellRun D V) : Type 0 where
+pub record KeepsRun {D V : Type 0} (g : Ghosts D) (result : Result (Unit {0}) LineFault) (before after : CellRun D V) : Type 0 where
   pub lines : after.lines ≡ before.lines
   pub disks : sites_in after.cell + length after.spare.items ≡ MAXSERVERS
   pub spare : after.spare.items ≡ drop (sites_in after.cell - sites_in before.cell) before.spare.items
-  pub sound : result ≡ Ok tt → IsSoundBy files faults (before.lines + 1) after
+  pub sound : result ≡ Ok tt → IsSoundBy g (before.lines + 1) after
 
 -- what the bytes of a line do to a stage, by its choices
 abbrev pub result_of : ScriptDatabase → List ℕ → Stage → List Choice → Result Line_run Ending
@@ -57,29 +57,29 @@ IsEnded db bytes e before after text_before text_after =
     × ((st : Stage) → IsNear 0 before st → (choices : List Choice) → result_of db bytes st choices ≡ Err e)
 
 -- What became of the bytes of a line in a run.
-abbrev pub ReadDone : {D V : Type 0} → (D → Option Files) → (D → ℕ) → ScriptDatabase → List ℕ → Result (Unit {0}) LineFault
+abbrev pub ReadDone : {D V : Type 0} → Ghosts D → ScriptDatabase → List ℕ → Result (Unit {0}) LineFault
     → (before after : CellRun D V) → (text_before text_after : List ℕ) → Type 0
-ReadDone files faults db bytes (Ok done) before after text_before text_after =
-    (st : Stage) → IsNear 0 before st → StageTold files faults (only db) (result_of db bytes st) None before after text_before text_after
-ReadDone files faults db bytes (Err (Limit which)) before after text_before text_after =
+ReadDone g db bytes (Ok done) before after text_before text_after =
+    (st : Stage) → IsNear 0 before st → StageTold g (only db) (result_of db bytes st) None before after text_before text_after
+ReadDone g db bytes (Err (Limit which)) before after text_before text_after =
     IsEnded db bytes (ending.Limit which) before after text_before text_after
     ⊎ ((st : Stage) → IsNear 0 before st →
-    StageTold files faults (only db) (result_of db bytes st) (Some (ending.Limit which)) before after text_before text_after)
-ReadDone files faults db bytes (Err (Refused why)) before after text_before text_after =
+    StageTold g (only db) (result_of db bytes st) (Some (ending.Limit which)) before after text_before text_after)
+ReadDone g db bytes (Err (Refused why)) before after text_before text_after =
     IsEnded db bytes (ending.Refused why) before after text_before text_after
-ReadDone files faults db bytes (Err NoMemory) before after text_before text_after =
-    (st : Stage) → IsNear 0 before st → StageShort files faults (result_of db bytes st) st before after
+ReadDone g db bytes (Err NoMemory) before after text_before text_after =
+    (st : Stage) → IsNear 0 before st → StageShort g (result_of db bytes st) st before after
 
 -- What the bytes of a line left of a run: it was told, with its end where the script ends in it; or memory ran out.
-abbrev pub LineEnds : {D V : Type 0} → (D → Option Files) → (D → ℕ) → ScriptDatabase → List ℕ → Result (Unit {0}) RunEnd
+abbrev pub LineEnds : {D V : Type 0} → Ghosts D → ScriptDatabase → List ℕ → Result (Unit {0}) RunEnd
     → (before after : CellRun D V) → (text_before text_after : List ℕ) → Type 0
-LineEnds files faults db bytes (Ok done) before after text_before text_after =
-    (t : Told) → IsAt files faults before t → t.ended ≡ None → LineTold files faults (only db) bytes t (Ok done) after text_before text_after
-LineEnds files faults db bytes (Err (run_end.Ended e)) before after text_before text_after =
-    (t : Told) → IsAt files faults before t → t.ended ≡ None
-    → LineTold files faults (only db) bytes t (Err (run_end.Ended e)) after text_before text_after
-LineEnds files faults db bytes (Err run_end.NoMemory) before after text_before text_after =
-    (t : Told) → IsAt files faults before t → t.ended ≡ None → LineShort files faults (only db) bytes t after
+LineEnds g db bytes (Ok done) before after text_before text_after =
+    (t : Told) → IsAt g before t → t.ended ≡ None → LineTold g (only db) bytes t (Ok done) after text_before text_after
+LineEnds g db bytes (Err (run_end.Ended e)) before after text_before text_after =
+    (t : Told) → IsAt g before t → t.ended ≡ None
+    → LineTold g (only db) bytes t (Err (run_end.Ended e)) after text_before text_after
+LineEnds g db bytes (Err run_end.NoMemory) before after text_before text_after =
+    (t : Told) → IsAt g before t → t.ended ≡ None → LineShort g (only db) bytes t after
 
 -- how a script ends in a line: that was told, or memory ran out in the telling
 abbrev pub EndTold : (line : ℕ) → Ending → Result (Unit {0}) RunEnd → (text_before text_after : List ℕ) → Type 0
@@ -88,25 +88,25 @@ EndTold line e (Err (run_end.Ended other)) text_before text_after = (other ≡ e
 EndTold line e (Err run_end.NoMemory) text_before text_after = Unit {0}
 
 -- what the bytes of a line keep of a run
-pub record KeepsPlaces {D V : Type 0} (files : D → Option Files) (faults : D → ℕ) (result : Result (Unit {0}) RunEnd) (before after : CellRun D V) : Type 0 where
+pub record KeepsPlaces {D V : Type 0} (g : Ghosts D) (result : Result (Unit {0}) RunEnd) (before after : CellRun D V) : Type 0 where
   pub disks : sites_in after.cell + length after.spare.items ≡ MAXSERVERS
   pub spare : after.spare.items ≡ drop (sites_in after.cell - sites_in before.cell) before.spare.items
-  pub sound : result ≡ Ok tt → IsSoundRun files faults after
+  pub sound : result ≡ Ok tt → IsSoundRun g after
   pub lines : result ≡ Ok tt → after.lines ≡ before.lines + 1
 
 -- the same of a line in a cell that stands
-abbrev pub CellDone : {D V : Type 0} → (D → Option Files) → (D → ℕ) → ScriptDatabase → (Cell → List Choice → Run_or_why)
+abbrev pub CellDone : {D V : Type 0} → Ghosts D → ScriptDatabase → (Cell → List Choice → Run_or_why)
     → Result (Unit {0}) LineFault → (before after : OpenCell D V) → (text_before text_after : List ℕ) → Type 0
-CellDone files faults db run (Ok done) before after text_before text_after =
-    (c : Cell) → IsModelledBy before c → CellTold files faults db (run c) None before after text_before text_after
-CellDone files faults db run (Err (Limit which)) before after text_before text_after =
-    (c : Cell) → IsModelledBy before c → CellTold files faults db (run c) (Some (ending.Limit which)) before after text_before text_after
-CellDone files faults db run (Err (Refused why)) before after text_before text_after =
+CellDone g db run (Ok done) before after text_before text_after =
+    (c : Cell) → IsModelledBy before c → CellTold g db (run c) None before after text_before text_after
+CellDone g db run (Err (Limit which)) before after text_before text_after =
+    (c : Cell) → IsModelledBy before c → CellTold g db (run c) (Some (ending.Limit which)) before after text_before text_after
+CellDone g db run (Err (Refused why)) before after text_before text_after =
     (after ≡ before) × (text_after ≡ text_before) × ((c : Cell) → IsModelledBy before c → IsRefused why (run c))
-CellDone files faults db run (Err NoMemory) before after text_before text_after =
-    (c : Cell) → IsModelledBy before c → IsShort files faults (run c) c before after
+CellDone g db run (Err NoMemory) before after text_before text_after =
+    (c : Cell) → IsModelledBy before c → IsShort g (run c) c before after
 
-pub record KeepsCell {D V : Type 0} (files : D → Option Files) (faults : D → ℕ) (result : Result (Unit {0}) LineFault) (before after : OpenCell D V) : Type 0 where
-  pub sound : result ≡ Ok tt → (bound : ℕ) → IsSound files faults bound before → IsSound files faults (bound + MAX_TICK) after
-  pub never_falls : AreRises 0 [] (helds files faults before) (helds files faults after)
+pub record KeepsCell {D V : Type 0} (g : Ghosts D) (result : Result (Unit {0}) LineFault) (before after : OpenCell D V) : Type 0 where
+  pub sound : result ≡ Ok tt → (bound : ℕ) → IsSound g bound before → IsSound g (bound + MAX_TICK) after
+  pub never_falls : AreRises 0 [] (helds g.files g.faults before) (helds g.files g.faults after)
   pub same : length after.sites.items ≡ length before.sites.items

@@ -1,6 +1,8 @@
 -- What a run of a script's lines stands for.
 use Rattle.std.specs.Prelude.{◌≡◌, ◌⊎◌, ◌+◌, ◌*◌, ◌≤◌, ℕ, Option, Some, None, Result, Ok, Err, All, List, [], ◌∷◌, ◌++◌, length, take}
-use Rattle.disk_base.specs.Files.{Files, no_files}
+use Rattle.disk_base.specs.declared.disks.Disk.{Ghosts}
+use Rattle.disk_base.specs.Crash.{IsSettled}
+use Rattle.disk_base.specs.Files.{no_files}
 use Rattle.ubik_types.specs.declared.limits.TheConstants.{MAXSERVERS}
 use Rattle.cell_model.specs.World.{Site}
 use Rattle.cell_script.specs.declared.lines.TheConstants.{MAX_CLOCK, MAX_TICK}
@@ -11,7 +13,7 @@ use Rattle.cell_runs.specs.ScriptDatabase.{ScriptDatabase, Databases}
 use Rattle.cell_runs.specs.Trace.{TraceItem}
 use Rattle.cell_script.specs.declared.lines.Why.{Why}
 use Rattle.cell_sites.specs.declared.cells.OpenCell.{OpenCell}
-use Rattle.cell_sites.specs.Disks.{Held, all_held, IsReadBy, AreCauses}
+use Rattle.cell_sites.specs.Disks.{IsFresh, Held, all_held, IsReadBy, AreCauses}
 use Rattle.cell_sites.specs.Sites.{IsModelledBy, helds}
 use Rattle.cell_sites.specs.Sound.{IsSound}
 use Rattle.ubik_cell.specs.declared.scripts.CellRun.{CellRun}
@@ -27,26 +29,27 @@ abbrev pub clock_bound : ℕ → ℕ
 clock_bound lines = MAX_CLOCK + MAX_TICK * lines
 
 -- a cell stands, and is sound
-abbrev pub CellIsSound : {D V : Type 0} → (D → Option Files) → (D → ℕ) → (bound : ℕ) → Option (OpenCell D V) → Type 0
-CellIsSound files faults bound None = Unit {0}
-CellIsSound files faults bound (Some running) = IsSound files faults bound running
+abbrev pub CellIsSound : {D V : Type 0} → Ghosts D → (bound : ℕ) → Option (OpenCell D V) → Type 0
+CellIsSound g bound None = Unit {0}
+CellIsSound g bound (Some running) = IsSound g bound running
 
 abbrev pub sites_in : {D V : Type 0} → Option (OpenCell D V) → ℕ
 sites_in None = 0
 sites_in (Some running) = length running.sites.items
 
--- A run that was sound after so many lines: its cell is sound, the disks that no cell has are empty, there are 20 in all, no more
--- calls were asked than there were lines, and these are within their limit.
-pub record IsSoundBy {D V : Type 0} (files : D → Option Files) (faults : D → ℕ) (lines : ℕ) (run : CellRun D V) : Type 0 where
-  pub cell : CellIsSound files faults (clock_bound lines) run.cell
-  pub spare : All (λ disk. files disk ≡ Some no_files) run.spare.items
+-- A run that was sound after so many lines: its cell is sound, the disks that no cell has are empty, with nothing pending, there are
+-- 20 in all, no more calls were asked than there were lines, and these are within their limit.
+pub record IsSoundBy {D V : Type 0} (g : Ghosts D) (lines : ℕ) (run : CellRun D V) : Type 0 where
+  pub cell : CellIsSound g (clock_bound lines) run.cell
+  pub spare : All (λ disk. g.files disk ≡ Some no_files) run.spare.items
+  pub settled : All (λ disk. IsSettled (g.files disk) (g.may_leave disk)) run.spare.items
   pub disks : sites_in run.cell + length run.spare.items ≡ MAXSERVERS
   pub asks : run.asks ≤ lines
   pub few : lines ≤ MAX_LINES
 
 -- a run between two lines
-abbrev pub IsSoundRun : {D V : Type 0} → (D → Option Files) → (D → ℕ) → CellRun D V → Type 0
-IsSoundRun files faults run = IsSoundBy files faults run.lines run
+abbrev pub IsSoundRun : {D V : Type 0} → Ghosts D → CellRun D V → Type 0
+IsSoundRun g run = IsSoundBy g run.lines run
 
 -- the cell that stands is that of the stage
 abbrev pub CellStandsFor : {D V : Type 0} → Option (OpenCell D V) → Option Cell → Type 0
@@ -55,17 +58,17 @@ CellStandsFor (Some running) (Some c) = IsModelledBy running c
 CellStandsFor _ _ = ⊥
 
 -- what the disks of a run read as: those of the cell in their order, and then the others
-abbrev pub cell_helds : {D V : Type 0} → (D → Option Files) → (D → ℕ) → Option (OpenCell D V) → List Held
-cell_helds files faults None = []
-cell_helds files faults (Some running) = helds files faults running
+abbrev pub cell_helds : {D V : Type 0} → Ghosts D → Option (OpenCell D V) → List Held
+cell_helds g None = []
+cell_helds g (Some running) = helds g.files g.faults running
 
-abbrev pub run_helds : {D V : Type 0} → (D → Option Files) → (D → ℕ) → CellRun D V → List Held
-run_helds files faults run = cell_helds files faults run.cell ++ all_held files faults run.spare.items
+abbrev pub run_helds : {D V : Type 0} → Ghosts D → CellRun D V → List Held
+run_helds g run = cell_helds g run.cell ++ all_held g.files g.faults run.spare.items
 
 -- each disk of the cell failed at least as often as is told of its server; before a cell stands nothing is told
-abbrev pub HasCauses : {D V : Type 0} → (D → Option Files) → (D → ℕ) → Option (OpenCell D V) → List TraceItem → Type 0
-HasCauses files faults None items = items ≡ []
-HasCauses files faults (Some running) items = AreCauses 0 items (helds files faults running)
+abbrev pub HasCauses : {D V : Type 0} → Ghosts D → Option (OpenCell D V) → List TraceItem → Type 0
+HasCauses g None items = items ≡ []
+HasCauses g (Some running) items = AreCauses 0 items (helds g.files g.faults running)
 
 -- a run stands at a stage, some lines before it
 pub record IsNear {D V : Type 0} (ahead : ℕ) (run : CellRun D V) (st : Stage) : Type 0 where
@@ -74,15 +77,15 @@ pub record IsNear {D V : Type 0} (ahead : ℕ) (run : CellRun D V) (st : Stage) 
   pub cell : CellStandsFor run.cell st.cell
 
 -- a run stands where the lines that were told left it
-pub record IsAt {D V : Type 0} (files : D → Option Files) (faults : D → ℕ) (run : CellRun D V) (t : Told) : Type 0 where
+pub record IsAt {D V : Type 0} (g : Ghosts D) (run : CellRun D V) (t : Told) : Type 0 where
   pub stage : IsNear 0 run t.stage
-  pub causes : HasCauses files faults run.cell t.items
+  pub causes : HasCauses g run.cell t.items
 
--- a disk that never failed is empty
+-- a disk that never failed stands for no database
 abbrev pub IsUnwritten : Held → Type 0
-IsUnwritten disk = disk.faults ≡ 0 → disk.files ≡ Some no_files
+IsUnwritten disk = disk.faults ≡ 0 → IsFresh disk.files
 
--- each disk that never failed reads as its server; those behind the servers are empty
+-- each disk that never failed reads as its server; those behind the servers stand for no database
 abbrev pub AreReadFirst : List Site → List Held → Type 0
 AreReadFirst [] disks = All IsUnwritten disks
 AreReadFirst (site ∷ sites) [] = ⊥
@@ -108,12 +111,12 @@ ended_of t (Err (Ended ending)) = Some (record { line = t.stage.lines + 1; endin
 ended_of t _ = None
 
 -- what a line leaves: the run goes on from there, or its disks hold it
-abbrev pub Leaves : {D V : Type 0} → (D → Option Files) → (D → ℕ) → Result (Unit {0}) RunEnd → CellRun D V → Told → Type 0
-Leaves files faults (Ok done) run t = IsAt files faults run t
-Leaves files faults (Err e) run t = AreHeld t (run_helds files faults run)
+abbrev pub Leaves : {D V : Type 0} → Ghosts D → Result (Unit {0}) RunEnd → CellRun D V → Told → Type 0
+Leaves g (Ok done) run t = IsAt g run t
+Leaves g (Err e) run t = AreHeld t (run_helds g run)
 
 -- A line was run with some choices, or ended the script: what is told of it was added to a text.
-pub record LineTold {D V : Type 0} (files : D → Option Files) (faults : D → ℕ) (dbs : Databases) (line : List ℕ) (t : Told)
+pub record LineTold {D V : Type 0} (g : Ghosts D) (dbs : Databases) (line : List ℕ) (t : Told)
     (result : Result (Unit {0}) RunEnd) (after : CellRun D V) (text_before text_after : List ℕ) : Type 0 where
   pub choices : List Choice
   pub later : Told
@@ -122,7 +125,7 @@ pub record LineTold {D V : Type 0} (files : D → Option Files) (faults : D → 
   pub added : List ℕ
   pub told : text_after ≡ text_before ++ added
   pub text : later.text ≡ t.text ++ added
-  pub leaves : Leaves files faults result after later
+  pub leaves : Leaves g result after later
   pub servers : sites_in after.cell ≡ servers_of later.stage.cell
 
 -- disks hold what a line leaves with some choices
@@ -132,13 +135,13 @@ pub record HeldAfter (dbs : Databases) (line : List ℕ) (t : Told) (disks : Lis
 
 -- Memory ran out in a line: each fault that was told before it has its cause, and the disks hold what the lines before it left, or
 -- what it left with some choices.
-pub record LineShort {D V : Type 0} (files : D → Option Files) (faults : D → ℕ) (dbs : Databases) (line : List ℕ) (t : Told)
+pub record LineShort {D V : Type 0} (g : Ghosts D) (dbs : Databases) (line : List ℕ) (t : Told)
     (after : CellRun D V) : Type 0 where
-  pub causes : HeldCauses t.stage.cell t.items (run_helds files faults after)
-  pub held : AreReadFirst (sites_of t.stage.cell) (run_helds files faults after) ⊎ HeldAfter dbs line t (run_helds files faults after)
+  pub causes : HeldCauses t.stage.cell t.items (run_helds g after)
+  pub held : AreReadFirst (sites_of t.stage.cell) (run_helds g after) ⊎ HeldAfter dbs line t (run_helds g after)
 
 -- A line was run in a stage with some choices: it ended so, and what it told was added to a text. Each fault that was told has its cause.
-pub record StageTold {D V : Type 0} (files : D → Option Files) (faults : D → ℕ) {E : Type 0} (dbs : Databases)
+pub record StageTold {D V : Type 0} (g : Ghosts D) {E : Type 0} (dbs : Databases)
     (run : List Choice → Result Line_run E) (ended : Option Ending) (before after : CellRun D V)
     (text_before text_after : List ℕ) : Type 0 where
   pub choices : List Choice
@@ -147,30 +150,30 @@ pub record StageTold {D V : Type 0} (files : D → Option Files) (faults : D →
   pub ends : ran.ending ≡ ended
   pub near : ended ≡ None → IsNear 1 after ran.stage
   pub servers : sites_in after.cell ≡ servers_of ran.stage.cell
-  pub read : AreReadFirst (sites_of ran.stage.cell) (run_helds files faults after)
+  pub read : AreReadFirst (sites_of ran.stage.cell) (run_helds g after)
   pub told : text_after ≡ text_before ++ text_in dbs ran.stage.cell ran.items
-  pub causes : (items : List TraceItem) → HasCauses files faults before.cell items → HasCauses files faults after.cell (items ++ ran.items)
-  pub held : (items : List TraceItem) → HasCauses files faults before.cell items
-      → HeldCauses ran.stage.cell (items ++ ran.items) (run_helds files faults after)
-  pub kept : (c : Option Cell) (items : List TraceItem) → CellStandsFor before.cell c → HasCauses files faults before.cell items
-      → HeldCauses c items (run_helds files faults after)
+  pub causes : (items : List TraceItem) → HasCauses g before.cell items → HasCauses g after.cell (items ++ ran.items)
+  pub held : (items : List TraceItem) → HasCauses g before.cell items
+      → HeldCauses ran.stage.cell (items ++ ran.items) (run_helds g after)
+  pub kept : (c : Option Cell) (items : List TraceItem) → CellStandsFor before.cell c → HasCauses g before.cell items
+      → HeldCauses c items (run_helds g after)
 
 -- a line is refused for this reason, whatever its choices
 abbrev pub IsRefusedLine : Why → (List Choice → Result Line_run Why) → Type 0
 IsRefusedLine why run = (choices : List Choice) → run choices ≡ Err why
 
 -- what a line in which memory ran out left on the disks, with some choices
-pub record ShortAfter {D V : Type 0} (files : D → Option Files) (faults : D → ℕ) {E : Type 0} (run : List Choice → Result Line_run E)
+pub record ShortAfter {D V : Type 0} (g : Ghosts D) {E : Type 0} (run : List Choice → Result Line_run E)
     (before after : CellRun D V) : Type 0 where
   pub choices : List Choice
   pub ran : Line_run
   pub is : run choices ≡ Ok ran
-  pub read : AreReadFirst (sites_of ran.stage.cell) (run_helds files faults after)
-  pub causes : (items : List TraceItem) → HasCauses files faults before.cell items
-      → HeldCauses ran.stage.cell (items ++ ran.items) (run_helds files faults after)
+  pub read : AreReadFirst (sites_of ran.stage.cell) (run_helds g after)
+  pub causes : (items : List TraceItem) → HasCauses g before.cell items
+      → HeldCauses ran.stage.cell (items ++ ran.items) (run_helds g after)
 
 -- Memory ran out in a line: each fault that was told before it has its cause, and the disks read as before it, or as after it.
-pub record StageShort {D V : Type 0} (files : D → Option Files) (faults : D → ℕ) {E : Type 0} (run : List Choice → Result Line_run E)
+pub record StageShort {D V : Type 0} (g : Ghosts D) {E : Type 0} (run : List Choice → Result Line_run E)
     (st : Stage) (before after : CellRun D V) : Type 0 where
-  pub causes : (items : List TraceItem) → HasCauses files faults before.cell items → HeldCauses st.cell items (run_helds files faults after)
-  pub held : AreReadFirst (sites_of st.cell) (run_helds files faults after) ⊎ ShortAfter files faults run before after
+  pub causes : (items : List TraceItem) → HasCauses g before.cell items → HeldCauses st.cell items (run_helds g after)
+  pub held : AreReadFirst (sites_of st.cell) (run_helds g after) ⊎ ShortAfter g run before after

@@ -1,6 +1,6 @@
 -- A script that is read line by line: between two lines, and at its end.
 use Rattle.std.specs.Prelude.{◌≡◌, ◌≢◌, ◌⊎◌, ℕ, Bool, Option, Some, None, Result, Ok, Err, List, [], ◌++◌, drop}
-use Rattle.disk_base.specs.Files.{Files}
+use Rattle.disk_base.specs.declared.disks.Disk.{Ghosts}
 use Rattle.cell_runs.specs.Script.{LineRead, servers_of, told}
 use Rattle.cell_runs.specs.ScriptDatabase.{Databases}
 use Rattle.cell_sites.specs.Disks.{Held, all_held}
@@ -13,14 +13,14 @@ use Rattle.ubik_cell.specs.Lines.{AreHeld, HeldCauses, IsAt}
 use Rattle.ubik_cell.specs.Runs.{IsConsumed, Runs, Wrote, kind_at, read_lines}
 
 -- a run between two lines, where the source has ended or not
-pub record SoFar {D V : Type 0} (files : D → Option Files) (faults : D → ℕ) (dbs : Databases) (text : List ℕ) (ended : Bool)
+pub record SoFar {D V : Type 0} (g : Ghosts D) (dbs : Databases) (text : List ℕ) (ended : Bool)
     (left : Option (List ℕ)) (before : List ℕ) (after : Option (List ℕ)) (run : CellRun D V) : Type 0 where
   pub readings : List LineRead
   pub rest : List ℕ
   pub remains : left ≡ Some rest
   pub consumed : IsConsumed ended text rest (read_lines readings)
   pub good : (told dbs readings).ended ≡ None
-  pub at : IsAt files faults run (told dbs readings)
+  pub at : IsAt g run (told dbs readings)
   pub wrote : Wrote before after (told dbs readings).text
 
 -- how a script ends at a line of this number, if it does, where all that the line told was written
@@ -47,8 +47,8 @@ pub record Ran (k : CellKind) (dbs : Databases) (text : List ℕ) (left : Option
   pub servers : k ≢ kind.NoMemory → reached ≡ servers_of (told dbs readings).stage.cell
 
 -- the same over these disks: those that were not reached stay as they were
-pub record RanOver {D : Type 0} (files : D → Option Files) (faults : D → ℕ) (k : CellKind) (dbs : Databases) (text : List ℕ)
+pub record RanOver {D : Type 0} (g : Ghosts D) (k : CellKind) (dbs : Databases) (text : List ℕ)
     (left : Option (List ℕ)) (before : List ℕ) (after : Option (List ℕ)) (disks_before disks_after : List D) : Type 0 where
   pub reached : ℕ
-  pub ran : Ran k dbs text left before after reached (all_held files faults disks_after)
+  pub ran : Ran k dbs text left before after reached (all_held g.files g.faults disks_after)
   pub stay : drop reached disks_after ≡ drop reached disks_before

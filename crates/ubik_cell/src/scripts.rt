@@ -1,6 +1,7 @@
 //! The lines of a script, run one after the other.
 ghost use Rattle.std.specs.Prelude.{◌≡◌, ◌≢◌, ◌+◌, ◌-◌, ◌<◌, ◌≤◌, ◌++◌, ℕ, List, [], length, Some, None, Ok, Err, All, IfOk, OnErr, OnOk, Option, take, vec_len, vec_capacity, drop, if◌then◌else◌};
 ghost use Rattle.std.specs.String.{string_bytes};
+ghost use Rattle.disk_base.specs.Crash.{IsSettled};
 ghost use Rattle.disk_base.specs.Files.{no_files};
 ghost use Rattle.ubik_types.specs.declared.limits.TheConstants.{MAXSERVERS, MAX_MOMENT};
 ghost use Rattle.ubik_types.specs.Moment.{IsMoment};
@@ -55,9 +56,10 @@ impl<D: StopDisk, V: WordForms> CellRun<D, V> {
     pub fn new(alloc: Global, disks: &mut Vec<D>) -> Result<CellRun<D, V>, NoMemory>
         requires twenty { vec_len disks.old ≡ MAXSERVERS }
         requires empty { All (λ disk. D.files disk ≡ Some no_files) disks.old.items }
-        ensures at { IfOk result (λ run. IsAt D.files D.faults run first_told) }
-        ensures sound { IfOk result (λ run. IsSoundRun D.files D.faults run) }
-        ensures emptied { IfOk result (λ run. (disks.new.items ≡ []) × (vec_capacity disks.new ≡ vec_capacity disks.old)) }
+        requires settled { All (λ disk. IsSettled (D.files disk) (D.may_leave disk)) disks.old.items }
+        ensures at { IfOk result (λ run. IsAt D.Disk run first_told) }
+        ensures sound { IfOk result (λ run. IsSoundRun D.Disk run) }
+        ensures taken { IfOk result (λ run. (disks.new.items ≡ []) × (vec_capacity disks.new ≡ vec_capacity disks.old)) }
         ensures spare { IfOk result (λ run. (run.spare.items ≡ disks.old.items) × (sites_in run.cell ≡ 0)) }
         ensures kept { OnErr result (disks.new ≡ disks.old) }
     {
@@ -84,7 +86,7 @@ impl<D: StopDisk, V: WordForms> CellRun<D, V> {
         requires count { sites_in self.cell + length self.spare.items ≡ MAXSERVERS }
         requires empty { disks.old.items ≡ [] }
         requires room { MAXSERVERS ≤ vec_capacity disks.old }
-        ensures held { all_held D.files D.faults disks.new.items ≡ run_helds D.files D.faults self }
+        ensures held { all_held D.files D.faults disks.new.items ≡ run_helds D.Disk self }
         ensures others { drop (sites_in self.cell) disks.new.items ≡ self.spare.items }
         ensures twenty { vec_len disks.new ≡ MAXSERVERS }
     {
@@ -117,10 +119,10 @@ impl<D: StopDisk, V: WordForms> CellRun<D, V> {
         requires moment { IsMoment clock }
         requires early { clock ≤ MAX_CLOCK }
         requires room { self.old.lines < MAX_LINES }
-        requires sound { IsSoundRun D.files D.faults self.old }
-        ensures done { (k : Kind) → LineDone D.files D.faults (script_database V.database V.words) (line.Cell servers clock k) result
+        requires sound { IsSoundRun D.Disk self.old }
+        ensures done { (k : Kind) → LineDone D.Disk (script_database V.database V.words) (line.Cell servers clock k) result
             self.old self.new (string_bytes text.old) (string_bytes text.new) }
-        ensures kept { KeepsRun D.files D.faults result self.old self.new }
+        ensures kept { KeepsRun D.Disk result self.old self.new }
     {
         if self.cell.is_some() {
             return Err(Why::Cell.into());
@@ -142,10 +144,10 @@ impl<D: StopDisk, V: WordForms> CellRun<D, V> {
         text: &mut String,
     ) -> Result<(), LineFault>
         requires room { self.old.lines < MAX_LINES }
-        requires sound { IsSoundRun D.files D.faults self.old }
-        ensures done { LineDone D.files D.faults (script_database V.database V.words) (line.Ask server words.now) result
+        requires sound { IsSoundRun D.Disk self.old }
+        ensures done { LineDone D.Disk (script_database V.database V.words) (line.Ask server words.now) result
             self.old self.new (string_bytes text.old) (string_bytes text.new) }
-        ensures kept { KeepsRun D.files D.faults result self.old self.new }
+        ensures kept { KeepsRun D.Disk result self.old self.new }
     {
         let Some(cell) = &mut self.cell else {
             return Err(server.map_or(Why::Number, |_| Why::Cell).into());
@@ -165,10 +167,10 @@ impl<D: StopDisk, V: WordForms> CellRun<D, V> {
         requires bounds { HasBounds line.now }
         requires built { IsBuiltLine (sites_in self.old.cell) line.now }
         requires room { self.old.lines < MAX_LINES }
-        requires sound { IsSoundRun D.files D.faults self.old }
-        ensures done { LineDone D.files D.faults (script_database V.database V.words) line.now result
+        requires sound { IsSoundRun D.Disk self.old }
+        ensures done { LineDone D.Disk (script_database V.database V.words) line.now result
             self.old self.new (string_bytes text.old) (string_bytes text.new) }
-        ensures kept { KeepsRun D.files D.faults result self.old self.new }
+        ensures kept { KeepsRun D.Disk result self.old self.new }
     {
         match line {
             Line::Nothing => Ok(()),
@@ -194,10 +196,10 @@ impl<D: StopDisk, V: WordForms> CellRun<D, V> {
 
     /// A line as it was read. A script has 20,000 of them at most.
     fn read_line(&mut self, line: &[u8], text: &mut String) -> Result<(), LineFault>
-        requires sound { IsSoundRun D.files D.faults self.old }
-        ensures done { ReadDone D.files D.faults (script_database V.database V.words) line.now result
+        requires sound { IsSoundRun D.Disk self.old }
+        ensures done { ReadDone D.Disk (script_database V.database V.words) line.now result
             self.old self.new (string_bytes text.old) (string_bytes text.new) }
-        ensures kept { KeepsRun D.files D.faults result self.old self.new }
+        ensures kept { KeepsRun D.Disk result self.old self.new }
     {
         if self.lines >= MAX_LINES {
             return Err(LineFault::Limit(Which::Lines));
@@ -210,12 +212,12 @@ impl<D: StopDisk, V: WordForms> CellRun<D, V> {
 
     /// The next line of the script, without its LF: what is told of it is added to the text, and, where the script ends in it, why.
     pub fn line(&mut self, line: &[u8], text: &mut String) -> Result<(), RunEnd>
-        requires sound { IsSoundRun D.files D.faults self.old }
-        ensures told { result ≢ Err RunEnd.NoMemory → (t : Told) → IsAt D.files D.faults self.old t → t.ended ≡ None →
-            LineTold D.files D.faults (only (script_database V.database V.words)) line.now t result self.new (string_bytes text.old) (string_bytes text.new) }
-        ensures short { result ≡ Err RunEnd.NoMemory → (t : Told) → IsAt D.files D.faults self.old t → t.ended ≡ None →
-            LineShort D.files D.faults (only (script_database V.database V.words)) line.now t self.new }
-        ensures sound { result ≡ Ok tt → IsSoundRun D.files D.faults self.new }
+        requires sound { IsSoundRun D.Disk self.old }
+        ensures told { result ≢ Err RunEnd.NoMemory → (t : Told) → IsAt D.Disk self.old t → t.ended ≡ None →
+            LineTold D.Disk (only (script_database V.database V.words)) line.now t result self.new (string_bytes text.old) (string_bytes text.new) }
+        ensures short { result ≡ Err RunEnd.NoMemory → (t : Told) → IsAt D.Disk self.old t → t.ended ≡ None →
+            LineShort D.Disk (only (script_database V.database V.words)) line.now t self.new }
+        ensures sound { result ≡ Ok tt → IsSoundRun D.Disk self.new }
         ensures longer { result ≡ Ok tt → self.new.lines ≡ self.old.lines + 1 }
         ensures disks { sites_in self.new.cell + length self.new.spare.items ≡ MAXSERVERS }
         ensures spare { self.new.spare.items ≡ drop (sites_in self.new.cell - sites_in self.old.cell) self.old.spare.items }
@@ -233,11 +235,11 @@ impl<D: StopDisk, V: WordForms> CellRun<D, V> {
 
     /// The next line of the script where it has more bytes than a line may have.
     pub fn long_line(&self, text: &mut String) -> Result<(), RunEnd>
-        requires sound { IsSoundRun D.files D.faults self.now }
-        ensures told { result ≢ Err RunEnd.NoMemory → (line : List ℕ) (t : Told) → MAX_LINE < length line → IsAt D.files D.faults self.now t → t.ended ≡ None →
-            LineTold D.files D.faults (only (script_database V.database V.words)) line t result self.now (string_bytes text.old) (string_bytes text.new) }
-        ensures short { result ≡ Err RunEnd.NoMemory → (line : List ℕ) (t : Told) → IsAt D.files D.faults self.now t →
-            LineShort D.files D.faults (only (script_database V.database V.words)) line t self.now }
+        requires sound { IsSoundRun D.Disk self.now }
+        ensures told { result ≢ Err RunEnd.NoMemory → (line : List ℕ) (t : Told) → MAX_LINE < length line → IsAt D.Disk self.now t → t.ended ≡ None →
+            LineTold D.Disk (only (script_database V.database V.words)) line t result self.now (string_bytes text.old) (string_bytes text.new) }
+        ensures short { result ≡ Err RunEnd.NoMemory → (line : List ℕ) (t : Told) → IsAt D.Disk self.now t →
+            LineShort D.Disk (only (script_database V.database V.words)) line t self.now }
         ensures ends { result ≢ Ok tt }
     {
         let ending = self.long_ending();
@@ -284,8 +286,9 @@ fn open_servers<D: StopDisk, V: WordForms>(
     requires servers { servers ≡ length cell.old.hosts.items }
     requires enough { servers ≤ vec_len spare.old }
     requires empty { All (λ disk. D.files disk ≡ Some no_files) spare.old.items }
-    requires opened { ArePartOpened D.files D.faults (script_database V.database V.words) clock [] cell.old (string_bytes text.old) (string_bytes text.old) }
-    ensures opened { OnOk result (ArePartOpened D.files D.faults (script_database V.database V.words) clock (take servers spare.old.items)
+    requires settled { All (λ disk. IsSettled (D.files disk) (D.may_leave disk)) spare.old.items }
+    requires opened { ArePartOpened D.Disk (script_database V.database V.words) clock [] cell.old (string_bytes text.old) (string_bytes text.old) }
+    ensures opened { OnOk result (ArePartOpened D.Disk (script_database V.database V.words) clock (take servers spare.old.items)
         cell.new (string_bytes text.old) (string_bytes text.new)) }
     ensures all { OnOk result (length cell.new.sites.items ≡ servers) }
     ensures spare { spare.new.items ≡ drop (length cell.new.sites.items) spare.old.items }
@@ -309,11 +312,11 @@ fn run_in_cell<D: StopDisk, V: WordForms>(
 ) -> Result<(), LineFault>
     requires bounds { HasBounds line.now }
     requires built { IsBuiltLine (length cell.old.sites.items) line.now }
-    requires sound { (bound : ℕ) × IsSound D.files D.faults bound cell.old × (bound + MAX_TICK ≤ MAX_MOMENT) }
-    ensures done { CellDone D.files D.faults (script_database V.database V.words)
+    requires sound { (bound : ℕ) × IsSound D.Disk bound cell.old × (bound + MAX_TICK ≤ MAX_MOMENT) }
+    ensures done { CellDone D.Disk (script_database V.database V.words)
         (λ c choices. run_in (script_database V.database V.words) c choices line.now) result
         cell.old cell.new (string_bytes text.old) (string_bytes text.new) }
-    ensures kept { KeepsCell D.files D.faults result cell.old cell.new }
+    ensures kept { KeepsCell D.Disk result cell.old cell.new }
 {
     match line {
         Line::Nothing => Ok(()),

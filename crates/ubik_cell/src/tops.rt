@@ -2,6 +2,7 @@
 ghost use Rattle.std.specs.Prelude.{◌≡◌, ◌≢◌, ◌+◌, ◌-◌, ◌++◌, ◌<◌, ◌≤◌, ℕ, Bool, List, Option, Some, None, Ok, Err, IsSome, IfSome, [], vec_len, vec_capacity, length, drop, All};
 ghost use Rattle.std.specs.String.{string_bytes};
 ghost use Rattle.disk_base.specs.Count.{HasCause};
+ghost use Rattle.disk_base.specs.Crash.{IsSettled};
 ghost use Rattle.disk_base.specs.Files.{no_files};
 ghost use Rattle.ubik_types.specs.declared.limits.TheConstants.{MAXSERVERS};
 ghost use Rattle.prdb_entries.specs.CallWords.{protection_words};
@@ -72,18 +73,18 @@ fn turn<S: Source, K: Sink, D: StopDisk, V: WordForms>(
     run: &mut CellRun<D, V>,
     text: &mut String,
 ) -> Option<CellKind>
-    requires sound { IsSoundRun D.files D.faults run.old }
+    requires sound { IsSoundRun D.Disk run.old }
     ensures goes { result ≡ None → IfSome (K.written out.old) (λ written. (script before : List ℕ) →
-        SoFar D.files D.faults (only (script_database V.database V.words)) script reader.old.ended (S.left input.old) before
+        SoFar D.Disk (only (script_database V.database V.words)) script reader.old.ended (S.left input.old) before
         (Some written) run.old →
-        SoFar D.files D.faults (only (script_database V.database V.words)) script reader.new.ended (S.left input.new) before
+        SoFar D.Disk (only (script_database V.database V.words)) script reader.new.ended (S.left input.new) before
         (K.written out.new) run.new) }
     ensures ends { IfSome result (λ kind. IfSome (K.written out.old) (λ written. (script before : List ℕ) →
-        SoFar D.files D.faults (only (script_database V.database V.words)) script reader.old.ended (S.left input.old) before
+        SoFar D.Disk (only (script_database V.database V.words)) script reader.old.ended (S.left input.old) before
         (Some written) run.old →
         Ran kind (only (script_database V.database V.words)) script (S.left input.new) before (K.written out.new)
-        (sites_in run.new.cell) (run_helds D.files D.faults run.new))) }
-    ensures sound { result ≡ None → IsSoundRun D.files D.faults run.new }
+        (sites_in run.new.cell) (run_helds D.Disk run.new))) }
+    ensures sound { result ≡ None → IsSoundRun D.Disk run.new }
     ensures longer { result ≡ None → run.new.lines ≡ run.old.lines + 1 }
     ensures disks { sites_in run.new.cell + length run.new.spare.items ≡ MAXSERVERS }
     ensures spare { run.new.spare.items ≡ drop (sites_in run.new.cell - sites_in run.old.cell) run.old.spare.items }
@@ -116,8 +117,9 @@ fn run_script<S: Source, K: Sink, D: StopDisk, V: WordForms>(
 ) -> CellKind
     requires twenty { vec_len disks.old ≡ MAXSERVERS }
     requires empty { All (λ disk. D.files disk ≡ Some no_files) disks.old.items }
+    requires settled { All (λ disk. IsSettled (D.files disk) (D.may_leave disk)) disks.old.items }
     ensures ran { IfSome (S.left input.old) (λ script. IfSome (K.written out.old) (λ before.
-        RanOver D.files D.faults result (only (script_database V.database V.words)) script (S.left input.new) before (K.written out.new)
+        RanOver D.Disk result (only (script_database V.database V.words)) script (S.left input.new) before (K.written out.new)
         disks.old.items disks.new.items)) }
     ensures read_cause { HasCause (S.faults input.old) (S.faults input.new) (result ≡ CellKind.ReadFault) }
     ensures write_cause { HasCause (K.faults out.old) (K.faults out.new) (result ≡ CellKind.WriteFault) }
@@ -150,9 +152,9 @@ pub fn cell_top<S: Source, K: Sink, D: StopDisk>(
     disks: &mut Vec<D>,
 ) -> CellEnd
     requires twenty { vec_len disks.old ≡ 20 }
-    requires fresh { AllFresh D.files D.stop D.faults disks.old.items }
+    requires fresh { AllFresh D.files D.may_leave D.stop D.faults disks.old.items }
     ensures headline { IfSome (S.left input.old) (λ script. IfSome (K.written out.old) (λ before.
-        Headline D.files D.faults result.kind script (S.left input.new) before (K.written out.new) disks.old.items disks.new.items)) }
+        Headline D.Disk result.kind script (S.left input.new) before (K.written out.new) disks.old.items disks.new.items)) }
     ensures complete { length words.now ≡ 0 → S.faults input.new ≡ S.faults input.old → K.faults out.new ≡ K.faults out.old →
         All (λ disk. D.faults disk ≡ 0) disks.new.items → IfSome (S.left input.old) (λ script. IfSome (K.written out.old) (λ before.
         IsInside databases script → IsDoneOrShort result.kind)) }

@@ -8,7 +8,7 @@ ghost use Rattle.std.specs.IoError.{error_kind};
 ghost use Rattle.std.specs.Vec.Iter.{into_iter_items};
 ghost use Rattle.cell_script.specs.Write.{AppendsPart};
 ghost use Rattle.disk_base.specs.Count.{HasCause};
-ghost use Rattle.disk_base.specs.MemDisk.{now_of, disk_stop, disk_faults};
+ghost use Rattle.disk_base.specs.MemDisk.{now_of, disk_may_leave, disk_stop, disk_faults};
 ghost use Rattle.ubik_cell.specs.Disks.{AllFresh};
 ghost use Rattle.ubik_cell.specs.Runs.{status_of};
 ghost use Rattle.ubik_cell_main.specs.Telling.{text_of_word, text_for, message};
@@ -61,7 +61,7 @@ struct Ended {
 /// The empty disks of a cell, in memory.
 fn fresh_disks(alloc: Global) -> Result<Vec<MemDisk>, NoMemory>
     ensures twenty { IfOk result (λ disks. vec_len disks ≡ 20) }
-    ensures fresh { IfOk result (λ disks. AllFresh (λ disk. Some (now_of disk)) disk_stop disk_faults disks.items) }
+    ensures fresh { IfOk result (λ disks. AllFresh (λ disk. Some (now_of disk)) disk_may_leave disk_stop disk_faults disks.items) }
 {
     let mut disks = Vec::with_capacity(alloc, MAXSERVERS)?;
     for _ in 0..MAXSERVERS {
@@ -79,7 +79,7 @@ fn run_buffered<R: Read + Drop, W: Write + Drop>(
     disks: &mut Vec<MemDisk>,
 ) -> (Ended, BufWriter<W>)
     requires twenty { vec_len disks.old ≡ 20 }
-    requires fresh { AllFresh (λ disk. Some (now_of disk)) disk_stop disk_faults disks.old.items }
+    requires fresh { AllFresh (λ disk. Some (now_of disk)) disk_may_leave disk_stop disk_faults disks.old.items }
     ensures words { 0 < length words.now → result.0.end.kind ≡ CellKind.Words 1 }
     ensures word_cause { (place : ℕ) → result.0.end.kind ≡ CellKind.Words place → 0 < length words.now }
     ensures status { result.0.end.status ≡ status_of result.0.end.kind }

@@ -1,14 +1,13 @@
 pub mod Alone
 pub mod Committing
+pub mod Durables
+pub mod Gapless
 pub mod Images
 pub mod Places
-pub mod Read
+pub mod Putting
 pub mod Recovered
-pub mod Relabelled
 pub mod Rested
 pub mod Sending
 pub mod Served
-pub mod Settling
 pub mod Stepping
 pub mod Voted
-pub mod Written

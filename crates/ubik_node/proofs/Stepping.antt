@@ -1,5 +1,5 @@
 -- A step of a server, from what its parts made of it.
-use Rattle.std.proofs.Common.{◌≡◌, ◌≢◌, ◌<◌, ◌+◌, ◌*◌, ℕ, Bool, false, cond, Option, Some, None, List, [], ◌∷◌, length, refl, sym, ap, subst, ◌∙◌, arith}
+use Rattle.std.proofs.Common.{◌≡◌, ◌≢◌, ◌<◌, ℕ, Bool, false, cond, Option, Some, None, List, [], ◌∷◌, length, refl, sym, ap, subst, ◌∙◌}
 use Rattle.ubik_types.specs.declared.hosts.Host.{Host}
 use Rattle.ubik_types.specs.declared.versions.Version.{Version}
 use Rattle.ubik_types.specs.Phase.{NoPhase}
@@ -12,13 +12,13 @@ use Rattle.cell_model.specs.declared.events.NodeEvent.{NodeEvent}
 use Rattle.cell_model.specs.declared.events.NodeEvent.TheVariants as event
 use Rattle.cell_model.specs.declared.events.Output.{Output}
 use Rattle.cell_model.specs.declared.events.Output.TheVariants as output
-use Rattle.cell_model.specs.Asks.{asked_as, read}
-use Rattle.cell_model.specs.Durable.{durable}
+use Rattle.cell_model.specs.Asks.{asked, asked_as, read}
+use Rattle.cell_model.specs.Durable.{Durable, Made, durable}
 use Rattle.cell_model.specs.Lapse.{lapsed}
 use Rattle.cell_model.specs.Node as model
 use Rattle.cell_model.specs.NodeRule.{handled, place_of, received_packet, step_of}
 use Rattle.cell_model.specs.Recovery.{first_of_epoch, own_relabelling, recovery_turn}
-use Rattle.cell_model.specs.Step.{Basis, Member, Stepped, announcing, leased, quiet}
+use Rattle.cell_model.specs.Step.{Basis, Member, Stepped, announcing, leased, quiet, refusing, showing}
 use Rattle.cell_model.specs.Voting.{beacon_turn}
 use Rattle.cell_model.specs.Writes.{write_turn}
 use Rattle.ubik_node.specs.declared.nodes.StepEnd.{StepEnd}
@@ -27,7 +27,9 @@ use Rattle.ubik_node.specs.declared.recovering.Plan.{Plan}
 use Rattle.ubik_node.specs.declared.recovering.Plan.TheVariants as plan
 use Rattle.ubik_node.specs.declared.progress.Progress.{Progress}
 use Rattle.ubik_node.specs.declared.state.State.{State}
-use Rattle.ubik_node.specs.Node.{Makes, Steps}
+use Rattle.disk_base.specs.declared.disks.Disk.{Ghosts}
+use Rattle.ubik_node.specs.Disk.{LeavesWithin, Serves}
+use Rattle.ubik_node.specs.Node.{Makes, Steps, durable_in}
 use Rattle.ubik_node.specs.Progress.{IsServing, alone, phase_record}
 use Rattle.ubik_node.specs.Recovering.{Recovers, relabelled_to}
 use Rattle.ubik_node.specs.Serving.{Answers, Reads, Writes}
@@ -36,94 +38,144 @@ use Rattle.ubik_node.specs.Verdict.{Leads}
 use Rattle.ubik_node.proofs.Alone.{is_alone}
 use Rattle.ubik_node.proofs.Rested.{in_phase, kept_phase, lapsed_is, step_rests}
 
-pub led : (t : Stepped) (s : model.Server) (out : List Output) (n b a : ℕ) → Leads t s out n → a ≡ b + 4 * n → Makes t (model.Up s) out b a
-led t s out n b a leads steps =
+pub led : (t : Stepped) (s : model.Server) (out : List Output) (made : List Made) (Did : List Made → Type 0) → Leads t s out made → Did made → Makes t (model.Up s) out Did
+led t s out made Did leads did =
     record {
       server = ap model.Up (sym leads.server);
       outputs = sym leads.outputs;
-      disk_calls = omega (arith, leads.calls);
+      disk = subst Did (sym leads.calls) did;
     }
 
-shown : (t : Stepped) (after : model.Server) (out : List Output) (n : ℕ) → Shows t after out → Makes t (model.Up after) out n n
-shown t after out n shows =
+-- the same at a node that has become that server, and what it put out
+pub led_at : (t : Stepped) (s : model.Server) (after : model.Node) (out put : List Output) (made : List Made) (Did : List Made → Type 0) → after ≡ model.Up s → out ≡ put
+    → Leads t s put made → Did made → Makes t after out Did
+led_at t s after out put made Did is same leads did =
+    record {
+      server = is ∙ ap model.Up (sym leads.server);
+      outputs = same ∙ sym leads.outputs;
+      disk = subst Did (sym leads.calls) did;
+    }
+
+shown : (t : Stepped) (after : model.Server) (out : List Output) (Did : List Made → Type 0) → Shows t after out → Did [] → Makes t (model.Up after) out Did
+shown t after out Did shows none =
     record {
       server = ap model.Up (sym shows.server);
       outputs = shows.outputs;
-      disk_calls = omega (arith, ap length shows.calls);
+      disk = subst Did (sym shows.calls) none;
     }
 
 -- what the event makes of the server that the lapse leaves is the step
-rested : (db : Database) (st mid : State) (now : ℕ) (e : NodeEvent) (short : List Bool) (after : model.Node) (out : List Output) (b a : ℕ) → lapsed (member_of st) (server_of st) now ≡ quiet (server_of mid)
-    → member_of mid ≡ member_of st → Makes (handled db (member_of mid) (server_of mid) now e short) after out b a → Makes (step_of db (member_of st) (server_of st) now e short) after out b a
-rested db st mid now e short after out b a rests member made =
-    let P : Member → Type 0 = λ m. Makes (handled db m (server_of mid) now e short) after out b a in
-    let T : Stepped → Type 0 = λ t. Makes t after out b a in
+rested : (db : Database) (st mid : State) (now : ℕ) (e : NodeEvent) (short : List Bool) (after : model.Node) (out : List Output) (Did : List Made → Type 0) → lapsed (member_of st) (server_of st) now ≡ quiet (server_of mid)
+    → member_of mid ≡ member_of st → Makes (handled db (member_of mid) (server_of mid) now e short) after out Did → Makes (step_of db (member_of st) (server_of st) now e short) after out Did
+rested db st mid now e short after out Did rests member made =
+    let P : Member → Type 0 = λ m. Makes (handled db m (server_of mid) now e short) after out Did in
+    let T : Stepped → Type 0 = λ t. Makes t after out Did in
     subst T (sym (step_rests db (member_of st) (server_of st) (server_of mid) now e short rests)) (subst P member made)
 
-pub beacon_step : (db : Database) (st mid : State) (last : model.Server) (now : ℕ) (out : List Output) (n : ℕ) → lapsed (member_of st) (server_of st) now ≡ quiet (server_of mid)
+pub beacon_step : (db : Database) (st mid : State) (last : model.Server) (now : ℕ) (out : List Output) (Did : List Made → Type 0) → Did [] → lapsed (member_of st) (server_of st) now ≡ quiet (server_of mid)
     → member_of mid ≡ member_of st → Shows (beacon_turn (member_of mid) (server_of mid) now) last out
-    → Makes (step_of db (member_of st) (server_of st) now event.BeaconTurn []) (model.Up last) out n n
-beacon_step db st mid last now out n rests member shows =
-    rested db st mid now event.BeaconTurn [] (model.Up last) out n n rests member (shown (beacon_turn (member_of mid) (server_of mid) now) last out n shows)
+    → Makes (step_of db (member_of st) (server_of st) now event.BeaconTurn []) (model.Up last) out Did
+beacon_step db st mid last now out Did none rests member shows =
+    rested db st mid now event.BeaconTurn [] (model.Up last) out Did rests member (shown (beacon_turn (member_of mid) (server_of mid) now) last out Did shows none)
 
-pub packet_step : (db : Database) (st mid : State) (last : model.Server) (now : ℕ) (p : Packet) (out : List Output) (n : ℕ) → lapsed (member_of st) (server_of st) now ≡ quiet (server_of mid)
+pub packet_step : (db : Database) (st mid : State) (last : model.Server) (now : ℕ) (p : Packet) (out : List Output) (Did : List Made → Type 0) → Did [] → lapsed (member_of st) (server_of st) now ≡ quiet (server_of mid)
     → member_of mid ≡ member_of st → Shows (received_packet db (member_of mid) (server_of mid) now p [] (place_of mid.cell p.from)) last out
-    → Makes (step_of db (member_of st) (server_of st) now (event.Packet p) []) (model.Up last) out n n
-packet_step db st mid last now p out n rests member shows =
-    rested db st mid now (event.Packet p) [] (model.Up last) out n n rests member (shown (received_packet db (member_of mid) (server_of mid) now p [] (place_of mid.cell p.from)) last out n shows)
+    → Makes (step_of db (member_of st) (server_of st) now (event.Packet p) []) (model.Up last) out Did
+packet_step db st mid last now p out Did none rests member shows =
+    rested db st mid now (event.Packet p) [] (model.Up last) out Did rests member (shown (received_packet db (member_of mid) (server_of mid) now p [] (place_of mid.cell p.from)) last out Did shows none)
 
 -- a call's step, by how it ended
-pub asked_step : (db : Database) (end : StepEnd) (st mid : State) (now id : ℕ) (call : List ℕ) (after : model.Node) (out : List Output) (b a : ℕ) → lapsed (member_of st) (server_of st) now ≡ quiet (server_of mid)
-    → member_of mid ≡ member_of st → (IsServing mid.progress → mid ≡ st) → (end ≡ Done → Answers db (member_of mid) (server_of mid) now id call after out b a)
-    → (end ≡ Halted → (after ≡ model.Halted (model.halted_from (server_of mid))) × (out ≡ output.Reply id reply.DiskFault ∷ [])) → (end ≡ Halted → IsServing mid.progress) → end ≢ NoMemory
-    → Steps db (member_of st) end (event.Ask id call) now (model.Up (server_of st)) after out b a
-asked_step db Done st mid now id call after out b a rests member same made halted serving told =
-    let m = made refl in (m.0 ∷ [], rested db st mid now (event.Ask id call) (m.0 ∷ []) after out b a rests member m.1)
-asked_step db Halted st mid now id call after out b a rests member same made halted serving told =
+pub asked_step : {D : Type 0} (g : Ghosts D) (db : Database) (end : StepEnd) (st mid : State) (now id : ℕ) (call : List ℕ) (after : model.Node) (out : List Output) (old new : D)
+    → lapsed (member_of st) (server_of st) now ≡ quiet (server_of mid)
+    → member_of mid ≡ member_of st → (IsServing mid.progress → mid ≡ st) → durable_in (server_of mid) ≡ durable_in (server_of st)
+    → (end ≡ Done → Answers db (member_of mid) (server_of mid) now id call after out (Serves g (durable_in (server_of mid)) old new))
+    → (end ≡ Halted → (after ≡ model.Halted (model.halted_from (server_of mid))) × (out ≡ output.Reply id reply.DiskFault ∷ []))
+    → (end ≡ Halted → LeavesWithin g (durable_in (server_of mid)) old new (asked db (member_of mid) (server_of mid) now id call false).calls)
+    → (end ≡ Halted → IsServing mid.progress) → end ≢ NoMemory
+    → Steps g db (member_of st) end (event.Ask id call) now (model.Up (server_of st)) after out old new
+asked_step g db Done st mid now id call after out old new rests member same kept made halted left serving told =
+    let m = made refl in
+    let P : Durable → Type 0 = λ d. Makes (handled db (member_of mid) (server_of mid) now (event.Ask id call) (m.0 ∷ [])) after out (Serves g d old new) in
+    (m.0 ∷ [], rested db st mid now (event.Ask id call) (m.0 ∷ []) after out (Serves g (durable_in (server_of st)) old new) rests member (subst P kept m.1))
+asked_step g db Halted st mid now id call after out old new rests member same kept made halted left serving told =
     let h = halted refl in
-    (h.0 ∙ ap (λ (s : State). model.Halted (model.halted_from (server_of s))) (same (serving refl)), h.1)
-asked_step db NoMemory st mid now id call after out b a rests member same made halted serving told = absurd (told refl)
+    let P : Durable → Type 0 = λ d. LeavesWithin g d old new (asked db (member_of mid) (server_of mid) now id call false).calls in
+    let Q : Member → Type 0 = λ m. LeavesWithin g (durable_in (server_of st)) old new (asked db m (server_of mid) now id call false).calls in
+    let T : Stepped → Type 0 = λ t. LeavesWithin g (durable_in (server_of st)) old new t.calls in (
+      h.0 ∙ ap (λ (s : State). model.Halted (model.halted_from (server_of s))) (same (serving refl)),
+      h.1,
+      (false ∷ [], subst T (sym (step_rests db (member_of st) (server_of st) (server_of mid) now (event.Ask id call) (false ∷ []) rests)) (subst Q member (subst P kept (left refl)))),
+    )
+asked_step g db NoMemory st mid now id call after out old new rests member same kept made halted left serving told = absurd (told refl)
 
 -- a node that is not halted
 pub up_if : (b : Bool) (h : model.HaltedServer) (s : model.Server) → b ≡ false → cond b (model.Halted h) (model.Up s) ≡ model.Up s
 up_if b h s is = rw is refl
 
-pub steps_at : (db : Database) (m : Member) (end : StepEnd) (e f : NodeEvent) (s : model.Server) (now : ℕ) (before after then : model.Node) (out : List Output) (b a : ℕ) → before ≡ model.Up s → after ≡ then → e ≡ f
-    → Steps db m end f now (model.Up s) then out b a → Steps db m end e now before after out b a
-steps_at db m end e f s now before after then out b a is was same steps =
-    let P : model.Node → Type 0 = λ n. Steps db m end e now n after out b a in
-    let Q : model.Node → Type 0 = λ n. Steps db m end e now (model.Up s) n out b a in
-    let R : NodeEvent → Type 0 = λ g. Steps db m end g now (model.Up s) then out b a in
+pub steps_at : {D : Type 0} (g : Ghosts D) (db : Database) (m : Member) (end : StepEnd) (e f : NodeEvent) (s : model.Server) (now : ℕ) (before after then : model.Node) (out : List Output) (old new : D)
+    → before ≡ model.Up s → after ≡ then → e ≡ f
+    → Steps g db m end f now (model.Up s) then out old new → Steps g db m end e now before after out old new
+steps_at g db m end e f s now before after then out old new is was same steps =
+    let P : model.Node → Type 0 = λ n. Steps g db m end e now n after out old new in
+    let Q : model.Node → Type 0 = λ n. Steps g db m end e now (model.Up s) n out old new in
+    let R : NodeEvent → Type 0 = λ x. Steps g db m end x now (model.Up s) then out old new in
     subst P (sym is) (subst Q (sym was) (subst R (sym same) steps))
 
-pub answers_at : (db : Database) (m : Member) (s : model.Server) (now id : ℕ) (call : List ℕ) (after then : model.Node) (out put : List Output) (b a : ℕ) → after ≡ then → out ≡ put
-    → Answers db m s now id call then put b a → Answers db m s now id call after out b a
-answers_at db m s now id call after then out put b a is same answers =
-    let P : model.Node → Type 0 = λ n. Answers db m s now id call n out b a in
-    let Q : List Output → Type 0 = λ o. Answers db m s now id call then o b a in
+pub answers_at : (db : Database) (m : Member) (s : model.Server) (now id : ℕ) (call : List ℕ) (after then : model.Node) (out put : List Output) (Did : List Made → Type 0) → after ≡ then → out ≡ put
+    → Answers db m s now id call then put Did → Answers db m s now id call after out Did
+answers_at db m s now id call after then out put Did is same answers =
+    let P : model.Node → Type 0 = λ n. Answers db m s now id call n out Did in
+    let Q : List Output → Type 0 = λ o. Answers db m s now id call then o Did in
     subst P (sym is) (subst Q (sym same) answers)
 
-pub answered_read : (db : Database) (m : Member) (s : model.Server) (now id : ℕ) (call : List ℕ) (writes : Bool) (r : Reply) (n : ℕ) → db.writes call ≡ Some writes
+pub answered_read : (db : Database) (m : Member) (s : model.Server) (now id : ℕ) (call : List ℕ) (writes : Bool) (r : Reply) (Did : List Made → Type 0) → Did [] → db.writes call ≡ Some writes
     → ((short : Bool) → (basis : Basis) × (asked_as db m s now id call short (Some writes) ≡ read db s now id call s.image basis short))
-    → Reads db s now call r → Answers db m s now id call (model.Up s) (output.Reply id r ∷ []) n n
-answered_read db m s now id call writes r n kind turn reads =
+    → Reads db s now call r → Answers db m s now id call (model.Up s) (output.Reply id r ∷ []) Did
+answered_read db m s now id call writes r Did none kind turn reads =
     let short = reads.0 in
     let at = turn short in
-    let T : Stepped → Type 0 = λ t. Makes t (model.Up s) (output.Reply id r ∷ []) n n in
-    let W : Option Bool → Type 0 = λ w. Makes (asked_as db m s now id call short w) (model.Up s) (output.Reply id r ∷ []) n n in
-    (short, subst W (sym kind) (subst T (sym at.1) (led (read db s now id call s.image at.0 short) s (output.Reply id r ∷ []) 0 n n (reads.1 id at.0) (omega arith))))
+    let T : Stepped → Type 0 = λ t. Makes t (model.Up s) (output.Reply id r ∷ []) Did in
+    let W : Option Bool → Type 0 = λ w. Makes (asked_as db m s now id call short w) (model.Up s) (output.Reply id r ∷ []) Did in
+    (short, subst W (sym kind) (subst T (sym at.1) (led (read db s now id call s.image at.0 short) s (output.Reply id r ∷ []) [] Did (reads.1 id at.0) none)))
 
-pub answered_write : (db : Database) (st : State) (now id : ℕ) (call : List ℕ) (writes : Bool) (after : model.Node) (out : List Output) (b a : ℕ) → db.writes call ≡ Some writes
+pub answered_write : (db : Database) (st : State) (now id : ℕ) (call : List ℕ) (writes : Bool) (after : model.Node) (out : List Output) (Did : List Made → Type 0) → db.writes call ≡ Some writes
     → length st.cell ≡ 1 → st.me < length st.cell
     → ((short : Bool) → asked_as db (member_of st) (server_of st) now id call short (Some writes) ≡ write_turn db (member_of st) (server_of st) now id call short)
-    → ((h : Host) → Writes db h (server_of st) now id call after out b a) → Answers db (member_of st) (server_of st) now id call after out b a
-answered_write db st now id call writes after out b a kind one inside turn written =
+    → ((h : Host) → Writes db h (server_of st) now id call after out Did) → Answers db (member_of st) (server_of st) now id call after out Did
+answered_write db st now id call writes after out Did kind one inside turn written =
     let only = is_alone st.cell st.me one inside in
     let w = written only.0 in
-    let M : Member → Type 0 = λ m. Makes (write_turn db m (server_of st) now id call w.0) after out b a in
-    let T : Stepped → Type 0 = λ t. Makes t after out b a in
-    let W : Option Bool → Type 0 = λ k. Makes (asked_as db (member_of st) (server_of st) now id call w.0 k) after out b a in
+    let M : Member → Type 0 = λ m. Makes (write_turn db m (server_of st) now id call w.0) after out Did in
+    let T : Stepped → Type 0 = λ t. Makes t after out Did in
+    let W : Option Bool → Type 0 = λ k. Makes (asked_as db (member_of st) (server_of st) now id call w.0 k) after out Did in
     (w.0, subst W (sym kind) (subst T (sym (turn w.0)) (subst M (sym only.1) w.1)))
+
+-- a call that is no call, and one that is refused
+pub answered_malformed : (db : Database) (m : Member) (s : model.Server) (now id : ℕ) (call : List ℕ) (Did : List Made → Type 0) → Did [] → db.writes call ≡ None
+    → Answers db m s now id call (model.Up s) (output.Reply id reply.Malformed ∷ []) Did
+answered_malformed db m s now id call Did none kind =
+    let W : Option Bool → Type 0 = λ w. Makes (asked_as db m s now id call false w) (model.Up s) (output.Reply id reply.Malformed ∷ []) Did in
+    (false, subst W (sym kind) (record { server = refl; outputs = refl; disk = none }))
+
+pub answered_refuse : (db : Database) (m : Member) (s : model.Server) (now id : ℕ) (call : List ℕ) (writes : Bool) (r : Reply) (Did : List Made → Type 0) → Did [] → db.writes call ≡ Some writes
+    → ((short : Bool) → asked_as db m s now id call short (Some writes) ≡ showing s (refusing id r ∷ [])) → Answers db m s now id call (model.Up s) (output.Reply id r ∷ []) Did
+answered_refuse db m s now id call writes r Did none kind turn =
+    let T : Stepped → Type 0 = λ t. Makes t (model.Up s) (output.Reply id r ∷ []) Did in
+    let W : Option Bool → Type 0 = λ w. Makes (asked_as db m s now id call false w) (model.Up s) (output.Reply id r ∷ []) Did in
+    (false, subst W (sym kind) (subst T (sym (turn false)) (record { server = refl; outputs = refl; disk = none })))
+
+-- what a crash leaves of a writing call's step
+pub left_write : {D : Type 0} (g : Ghosts D) (d : Durable) (old new : D) (db : Database) (st : State) (now id : ℕ) (call : List ℕ) (writes : Bool) → db.writes call ≡ Some writes
+    → length st.cell ≡ 1 → st.me < length st.cell
+    → ((short : Bool) → asked_as db (member_of st) (server_of st) now id call short (Some writes) ≡ write_turn db (member_of st) (server_of st) now id call short)
+    → ((h : Host) → LeavesWithin g d old new (write_turn db (alone h) (server_of st) now id call false).calls)
+    → LeavesWithin g d old new (asked db (member_of st) (server_of st) now id call false).calls
+left_write g d old new db st now id call writes kind one inside turn left =
+    let only = is_alone st.cell st.me one inside in
+    let M : Member → Type 0 = λ m. LeavesWithin g d old new (write_turn db m (server_of st) now id call false).calls in
+    let T : Stepped → Type 0 = λ t. LeavesWithin g d old new t.calls in
+    let W : Option Bool → Type 0 = λ k. LeavesWithin g d old new (asked_as db (member_of st) (server_of st) now id call false k).calls in
+    subst W (sym kind) (subst T (sym (turn false)) (subst M (sym only.1) (left only.0)))
 
 -- a plan for the server that the lapse leaves is one for the server before it, whose phase it does not read
 plan_for : (st : State) (b : Bool) (now : ℕ) (r : Plan) (t : Stepped) → Recovers (in_phase st (kept_phase b st)) now r t → Recovers (server_of st) now r t
@@ -150,18 +202,18 @@ planned_step db st now r one inside given =
     let P : Member → Type 0 = λ m. Recovers (server_of st) now r (step_of db m (server_of st) now event.RecoverTurn []) in
     subst P (sym only.1) (planned_alone db only.0 st now r (given only.0))
 
-pub rest_made : (t : Stepped) (s : model.Server) (p : Progress) (out : List Output) (n : ℕ) → t ≡ quiet (record s { phase = phase_record s.version p }) → out ≡ []
-    → Makes t (model.Up (record s { phase = phase_record s.version p })) out n n
-rest_made t s p out n is empty =
-    let P : Stepped → Type 0 = λ u. Makes u (model.Up (record s { phase = phase_record s.version p })) out n n in
-    subst P (sym is) (record { server = refl; outputs = empty; disk_calls = omega arith })
+pub rest_made : (t : Stepped) (s : model.Server) (p : Progress) (out : List Output) (Did : List Made → Type 0) → Did [] → t ≡ quiet (record s { phase = phase_record s.version p }) → out ≡ []
+    → Makes t (model.Up (record s { phase = phase_record s.version p })) out Did
+rest_made t s p out Did none is empty =
+    let P : Stepped → Type 0 = λ u. Makes u (model.Up (record s { phase = phase_record s.version p })) out Did in
+    subst P (sym is) (record { server = refl; outputs = empty; disk = none })
 
-pub relabel_made : (t : Stepped) (s : model.Server) (poll now : ℕ) (out : List Output) (b a : ℕ)
+pub relabel_made : (t : Stepped) (s : model.Server) (poll now : ℕ) (out : List Output) (Did : List Made → Type 0)
     → t ≡ record { server = relabelled_to s poll now; calls = own_relabelling (first_of_epoch now) ∷ []; shown = announcing (first_of_epoch now) ∷ [] }
-    → out ≡ output.Announce (first_of_epoch now) ∷ [] → a ≡ b + 4 → Makes t (model.Up (relabelled_to s poll now)) out b a
-relabel_made t s poll now out b a is put steps =
-    let P : Stepped → Type 0 = λ u. Makes u (model.Up (relabelled_to s poll now)) out b a in
-    subst P (sym is) (record { server = refl; outputs = put; disk_calls = steps })
+    → out ≡ output.Announce (first_of_epoch now) ∷ [] → Did (own_relabelling (first_of_epoch now) ∷ []) → Makes t (model.Up (relabelled_to s poll now)) out Did
+relabel_made t s poll now out Did is put did =
+    let P : Stepped → Type 0 = λ u. Makes u (model.Up (relabelled_to s poll now)) out Did in
+    subst P (sym is) (record { server = refl; outputs = put; disk = did })
 
 -- the server that was opened
 pub opened_is : (v : Voter) (n size me now : ℕ) (version : Version) (image : List ℕ) → v ≡ fresh_voter n me now → n ≡ size

@@ -1,14 +1,8 @@
 -- The database file of a server: among the files of its disk, and what it stands for.
 use Rattle.std.specs.Prelude.{ℕ, ◌==◌, if◌then◌else◌, Option, Some, None, List, length, take, drop}
 use Rattle.ubik_types.specs.declared.versions.Version.{Version}
-use Rattle.disk_base.specs.Files.{Files}
-use Rattle.page_file.specs.declared.label.TheConstants.{LABEL_LEN}
 use Rattle.page_file.specs.Label.{version_by}
 use Rattle.cell_model.specs.Durable.{Durable, no_database}
-
--- the files with another database file
-abbrev pub with_database : List ℕ → Files → Files
-with_database bytes fs = record fs { database = bytes }
 
 abbrev pub durable_with : List ℕ → Option Version → Option Durable
 durable_with image None = None
@@ -18,4 +12,4 @@ durable_with image (Some v) = Some (record { version = v; image = image })
 unfoldable pub durable_of : List ℕ → Option Durable
 durable_of file =
     if length file == 0 then Some no_database
-    else durable_with (drop LABEL_LEN file) (version_by (length file) (take LABEL_LEN file))
+    else durable_with (drop 64 file) (version_by (length file) (take 64 file))

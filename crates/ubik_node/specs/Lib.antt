@@ -2,7 +2,7 @@ pub mod Appending
 pub mod Built
 pub mod Database
 pub mod Debug
-pub mod Fault
+pub mod Disk
 pub mod Node
 pub mod Progress
 pub mod Recovering

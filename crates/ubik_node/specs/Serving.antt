@@ -6,6 +6,7 @@ use Rattle.db_image.specs.Database.{Database}
 use Rattle.cell_model.specs.declared.events.Output.{Output}
 use Rattle.cell_model.specs.declared.events.Output.TheVariants as output
 use Rattle.cell_model.specs.Asks.{asked, read}
+use Rattle.cell_model.specs.Durable.{Made}
 use Rattle.cell_model.specs.Node.{Server}
 use Rattle.cell_model.specs.Node as model
 use Rattle.cell_model.specs.Step.{Member, Basis, Stepped, showing, refusing}
@@ -28,16 +29,14 @@ IsWrite turn.Read = ⊥
 IsWrite turn.Write = Unit {0}
 
 -- A call at a server was made, or it found no memory. Which is free.
-abbrev pub Answers : Database → Member → Server → ℕ → ℕ → List ℕ → model.Node → List Output → ℕ → ℕ → Type 0
-Answers db m s now id call after out disk_before disk_after =
-    (short : Bool) × Makes (asked db m s now id call short) after out disk_before disk_after
+abbrev pub Answers : Database → Member → Server → ℕ → ℕ → List ℕ → model.Node → List Output → (List Made → Type 0) → Type 0
+Answers db m s now id call after out Did = (short : Bool) × Makes (asked db m s now id call short) after out Did
 
 -- the reply to a call that reads the own image
 abbrev pub Reads : Database → Server → ℕ → List ℕ → Reply → Type 0
 Reads db s now call r =
-    (short : Bool) × ((id : ℕ) (basis : Basis) → Leads (read db s now id call s.image basis short) s (output.Reply id r ∷ []) 0)
+    (short : Bool) × ((id : ℕ) (basis : Basis) → Leads (read db s now id call s.image basis short) s (output.Reply id r ∷ []) [])
 
 -- a writing call at a server that is alone in its cell was made, or it found no memory
-abbrev pub Writes : Database → Host → Server → ℕ → ℕ → List ℕ → model.Node → List Output → ℕ → ℕ → Type 0
-Writes db h s now id call after out disk_before disk_after =
-    (short : Bool) × Makes (write_turn db (alone h) s now id call short) after out disk_before disk_after
+abbrev pub Writes : Database → Host → Server → ℕ → ℕ → List ℕ → model.Node → List Output → (List Made → Type 0) → Type 0
+Writes db h s now id call after out Did = (short : Bool) × Makes (write_turn db (alone h) s now id call short) after out Did

@@ -14,10 +14,10 @@ mod state;
 mod verdicts;
 
 pub use cell_model::{NodeEvent, Output};
-pub use database::StoreFault;
 pub use nodes::{Node, StepEnd};
 pub use outputs::Outputs;
 pub use ubik_calls::{Body, DebugIs, Packet, Reply};
+pub use ubik_store::StoreFault;
 
 #[cfg(test)]
 mod tests;

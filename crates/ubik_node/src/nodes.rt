@@ -1,9 +1,9 @@
 //! A server of a cell, one step at a time.
-ghost use Rattle.std.specs.Prelude.{◌≡◌, ◌≢◌, ◌+◌, ◌*◌, ◌<◌, ◌≤◌, ℕ, [], ◌∷◌, length, IfOk, IfErr, IfSome, IsErrOf, OnOk, OnErr, MatchResult, Some, true, false};
+ghost use Rattle.std.specs.Prelude.{◌≡◌, ◌≢◌, ◌+◌, ◌*◌, ◌<◌, ◌≤◌, ℕ, [], ◌∷◌, length, IfOk, IfErr, IfSome, IsErrOf, IsSome, OnOk, OnErr, MatchResult, None, Some, true, false};
 ghost use Rattle.ubik_types.specs.declared.hosts.Host.{Host};
-ghost use Rattle.ubik_types.specs.declared.limits.TheConstants.{MAX_IMAGE};
-ghost use Rattle.ubik_types.specs.declared.versions.TheConstants.{MAX_COUNTER};
 ghost use Rattle.ubik_types.specs.Moment.{IsMoment};
+ghost use Rattle.disk_base.specs.Crash.{IsSettled};
+ghost use Rattle.disk_base.specs.Runs.{OnlyReads};
 ghost use Rattle.cell_model.specs.Node as model;
 ghost use Rattle.cell_model.specs.NodeRule.{refusals};
 ghost use Rattle.cell_model.specs.Step.{outputs_of, cell_size};
@@ -11,7 +11,7 @@ ghost use Rattle.cell_model.specs.declared.events.NodeEvent.TheVariants as event
 ghost use Rattle.cell_model.specs.declared.events.Output.TheVariants as outputs;
 ghost use Rattle.ubik_node.specs.Built.{IsBuilt, TakesNoMemory};
 
-use crate::database::{StoreFault, WriteFault, read_database, write_database};
+use crate::database::{commit_all, read_image};
 use crate::outputs::Outputs;
 use crate::progress::Progress;
 use crate::recovering::{Plan, recovery_plan};
@@ -24,7 +24,8 @@ use disk_base::{Disk, Refused};
 use std::alloc::Global;
 use std::marker::PhantomData;
 use ubik_calls::{DebugIs, Reply};
-use ubik_types::{Bytes, Cell, Host, NoMemory, Phase, Version};
+use ubik_store::{Store, StoreFault};
+use ubik_types::{Bytes, Cell, Changes, Host, MAX_COUNTER, NoMemory, Phase, Version};
 use ubik_votes::Votes;
 
 /// How a step ended.
@@ -39,10 +40,10 @@ pub enum StepEnd {
     NoMemory,
 }
 
-/// A server that is up, over its disk, and the database that it serves.
+/// A server that is up, over the store of its disk, and the database that it serves.
 pub struct Node<D: Disk, V: Service> {
     alloc: Global,
-    disk: D,
+    store: Store<D>,
     state: State,
     halted: bool,
     last: u32,
@@ -54,7 +55,7 @@ impl<D: Disk + Drop, V: Service> Drop for Node<D, V> {
     fn drop(self) {
         let Self {
             alloc: _,
-            disk: _,
+            store: _,
             state: _,
             halted: _,
             last: _,
@@ -65,20 +66,21 @@ impl<D: Disk + Drop, V: Service> Drop for Node<D, V> {
 
 impl<D: Disk, V: Service> Node<D, V> {
     ghost use Rattle.ubik_node.specs.Debug.{debug_of, host_or_none};
-    ghost use Rattle.ubik_node.specs.Fault.{IsFaultOf};
-    ghost use Rattle.ubik_node.specs.Database.{durable_of};
     ghost use Rattle.ubik_types.specs.Phase.{phase_of};
     ghost use Rattle.ubik_types.specs.Lease.{lease_end};
-    ghost use Rattle.cell_model.specs.Durable.{Durable};
-    ghost use Rattle.cell_model.specs.Writes.{write_turn, next_version};
-    ghost use Rattle.ubik_node.specs.Verdict.{Judges, committed};
+    ghost use Rattle.ubik_store.specs.Opening.{IsOpening, OpensIn, RefusesFiles};
+    ghost use Rattle.cell_model.specs.Asks.{asked};
+    ghost use Rattle.cell_model.specs.Durable.{Durable, Transaction};
+    ghost use Rattle.cell_model.specs.Writes.{write_turn, next_version, own_commit};
+    ghost use Rattle.ubik_node.specs.Disk.{Serves, LeavesWithin, StandsAs};
+    ghost use Rattle.ubik_node.specs.Verdict.{Judges, IsWritten, committed};
     ghost use Rattle.ubik_node.specs.Serving.{Answers, Reads, Writes};
     ghost use Rattle.ubik_node.specs.Progress.{alone, IsServing};
-    ghost use Rattle.ubik_node.specs.Node.{NothingPending, OnlyDatabase, node_of, up_server, own_member, IsStored, KeepsDisk, Steps, last_after};
+    ghost use Rattle.ubik_node.specs.Node.{Calls, CallsSo, IsStored, IsStoredBut, Steps, durable_in, last_after, node_of, own_member, up_server};
 
-    /// Opens a server over its disk, at a moment in seconds: the server at a place of the cell. An empty
-    /// database file is an empty database of version 0.0. No changing call of the disk is made. A refusal
-    /// hands the disk back: as it was, but after a fault of the disk.
+    /// Opens a server over its disk, on which nothing is pending, at a moment in seconds: the server at a place of the cell. An
+    /// empty disk is an empty database of version 0.0. A refusal hands the disk back: that of the store, as the store left it, or for want
+    /// of memory for the image, the files at rest.
     pub fn open(
         alloc: Global,
         cell: Cell,
@@ -88,62 +90,66 @@ impl<D: Disk, V: Service> Node<D, V> {
     ) -> Result<Node<D, V>, Refused<D, StoreFault>>
         requires me { me < length cell }
         requires moment { IsMoment now }
+        requires settled { IsSettled (D.files disk) (D.may_leave disk) }
         ensures opened { IfOk result (λ node. (d : Durable) × (node_of node ≡ model.Up (model.opened_server (length cell) d now))
-            × IfSome (D.files disk) (λ fs. durable_of fs.database ≡ Some d)) }
+            × IfSome (D.files disk) (StandsAs d)) }
         ensures member { IfOk result (λ node. own_member node ≡ record { hosts = cell; me = me }) }
-        ensures stored { IfOk result (λ node. IsStored D.files node) }
-        ensures kept { IfOk result (λ node. (D.files node.disk ≡ D.files disk) × (D.steps node.disk ≡ D.steps disk) × (node.last ≡ now)) }
-        ensures refused { IfErr result (λ refused. IfSome (D.files disk) (λ fs. IsFaultOf fs.database refused.why)) }
-        ensures fault { IfErr result (λ refused. refused.why ≡ StoreFault.DiskFault → D.faults disk < D.faults refused.disk) }
-        ensures same { IfErr result (λ refused. (refused.why ≡ StoreFault.DiskFault → ⊥) → D.files refused.disk ≡ D.files disk) }
-        ensures steps { IfErr result (λ refused. D.steps refused.disk ≡ D.steps disk) }
-        ensures never_falls { MatchResult result (λ node. D.faults disk ≤ D.faults node.disk) (λ refused. D.faults disk ≤ D.faults refused.disk) }
+        ensures stored { IfOk result (IsStored D.Disk) }
+        ensures last { IfOk result (λ node. node.last ≡ now) }
+        ensures untold { IfOk result (λ node. D.files disk ≡ None → D.files node.store.disk ≡ None) }
+        ensures told { IfOk result (λ node. IsSome (D.files disk) → IsSome (D.files node.store.disk)) }
+        ensures steps { IfOk result (λ node. IfSome (D.files disk) (λ fs.
+            (calls : ℕ) → OpensIn fs calls → D.steps node.store.disk ≡ D.steps disk + calls)) }
+        ensures refused { IfErr result (λ refused. IfSome (D.files disk) (λ fs. RefusesFiles fs refused.why)) }
+        ensures left { IfErr result (λ refused. refused.why ≢ StoreFault.DiskFault → IsSome (D.files disk) → IsSome (D.files refused.disk)) }
+        ensures opening { MatchResult result (λ node. IsOpening D.Disk disk node.store.disk ⊥)
+            (λ refused. IsOpening D.Disk disk refused.disk (refused.why ≡ StoreFault.DiskFault)) }
     {
-        let mut disk = disk;
         let servers = cell.len();
-        match read_database(alloc, &mut disk) {
-            Ok((version, image)) => Ok(Node {
-                alloc,
-                disk,
-                state: State {
-                    cell,
-                    me,
-                    version,
-                    image,
-                    votes: Votes::start(servers, me, now),
-                    beacon: None,
-                    progress: Progress::None,
-                },
-                halted: false,
-                last: now,
-                service: PhantomData,
-            }),
-            Err(why) => Err(Refused { disk, why }),
-        }
+        let mut store = Store::open(alloc, disk)?;
+        let image = match read_image(alloc, &mut store) {
+            Ok(image) => image,
+            Err(why) => {
+                let disk = store.close();
+                return Err(Refused { disk, why });
+            }
+        };
+        let state = State {
+            cell,
+            me,
+            version: store.version(),
+            image,
+            votes: Votes::start(servers, me, now),
+            beacon: None,
+            progress: Progress::None,
+        };
+        Ok(Node {
+            alloc,
+            store,
+            state,
+            halted: false,
+            last: now,
+            service: PhantomData,
+        })
     }
 
     /// One step: what an event makes of the server at a moment in seconds, not below the last one. An id of a
     /// call is new since the opening. `out` is empty before it, and has what the step put out after it. Only
-    /// a recovery turn can end for want of memory: a call that finds none is answered so. A step makes at
-    /// most four changing calls of the disk, and a halted server none. A step that does not halt the server
-    /// changes no file but the database file, and where nothing was pending on the disk, nothing is after it.
+    /// a recovery turn can end for want of memory: a call that finds none is answered so. At each moment of the step a
+    /// crash leaves the state after the first so many of its durable calls.
     pub fn step(&mut self, now: u32, event: NodeEvent, out: &mut Outputs) -> StepEnd
         requires moment { IsMoment now }
         requires order { self.old.last ≤ now }
         requires built { IsBuilt (own_member self.old) event }
         requires empty { out.old ≡ [] }
-        ensures step { Steps V.database (own_member self.old) result event now (node_of self.old) (node_of self.new) out.new
-            (D.steps self.old.disk) (D.steps self.new.disk) }
+        requires stored { IsStored D.Disk self.old }
+        ensures step { Steps D.Disk V.database (own_member self.old) result event now (node_of self.old) (node_of self.new) out.new
+            self.old.store.disk self.new.store.disk }
         ensures member { own_member self.new ≡ own_member self.old }
-        ensures stored { IsStored D.files self.old → IsStored D.files self.new }
-        ensures others { result ≢ StepEnd.Halted → OnlyDatabase D.files self.old self.new }
-        ensures settled { result ≢ StepEnd.Halted → NothingPending D.files D.may_leave self.old → NothingPending D.files D.may_leave self.new }
+        ensures stored { IsStored D.Disk self.new }
         ensures memory { TakesNoMemory event → result ≢ StepEnd.NoMemory }
-        ensures no_memory { result ≡ StepEnd.NoMemory → KeepsDisk D.files D.steps self.old self.new }
-        ensures rests { self.old.halted ≡ true → self.new.disk ≡ self.old.disk }
-        ensures fewer { D.steps self.new.disk ≤ D.steps self.old.disk + 4 }
-        ensures fault { result ≡ StepEnd.Halted → self.old.halted ≡ false → D.faults self.old.disk < D.faults self.new.disk }
-        ensures never_falls { D.faults self.old.disk ≤ D.faults self.new.disk }
+        ensures told { result ≢ StepEnd.Halted → IsSome (D.files self.old.store.disk) → IsSome (D.files self.new.store.disk) }
+        ensures calls { Calls D.Disk self.old self.new result }
         ensures last { self.new.last ≡ last_after result self.old.last now }
     {
         let end = if self.halted {
@@ -220,17 +226,17 @@ impl<D: Disk, V: Service> Node<D, V> {
 
     /// Takes the server down, and gives its disk back, which another server can be opened over.
     pub fn close(self) -> D
-        ensures { result ≡ self.disk }
+        ensures { result ≡ self.store.disk }
     {
         let Self {
             alloc: _,
-            disk,
+            store,
             state: _,
             halted: _,
             last: _,
             service: _,
         } = self;
-        disk
+        store.close()
     }
 
     /// The host of a server of the cell, 0 for none.
@@ -247,17 +253,14 @@ impl<D: Disk, V: Service> Node<D, V> {
         requires not_halted { self.old.halted ≡ false }
         requires built { IsBuilt (own_member self.old) event.now }
         requires empty { out.old ≡ [] }
-        ensures step { Steps V.database (own_member self.old) result event.now now (node_of self.old) (node_of self.new) out.new
-            (D.steps self.old.disk) (D.steps self.new.disk) }
+        requires stored { IsStored D.Disk self.old }
+        ensures step { Steps D.Disk V.database (own_member self.old) result event.now now (node_of self.old) (node_of self.new) out.new
+            self.old.store.disk self.new.store.disk }
         ensures member { own_member self.new ≡ own_member self.old }
-        ensures stored { IsStored D.files self.old → IsStored D.files self.new }
-        ensures others { result ≢ StepEnd.Halted → OnlyDatabase D.files self.old self.new }
-        ensures settled { result ≢ StepEnd.Halted → NothingPending D.files D.may_leave self.old → NothingPending D.files D.may_leave self.new }
+        ensures stored { IsStored D.Disk self.new }
         ensures memory { TakesNoMemory event.now → result ≢ StepEnd.NoMemory }
-        ensures no_memory { result ≡ StepEnd.NoMemory → KeepsDisk D.files D.steps self.old self.new }
-        ensures fewer { D.steps self.new.disk ≤ D.steps self.old.disk + 4 }
-        ensures fault { result ≡ StepEnd.Halted → D.faults self.old.disk < D.faults self.new.disk }
-        ensures never_falls { D.faults self.old.disk ≤ D.faults self.new.disk }
+        ensures told { result ≢ StepEnd.Halted → IsSome (D.files self.old.store.disk) → IsSome (D.files self.new.store.disk) }
+        ensures calls { Calls D.Disk self.old self.new result }
         ensures last { self.new.last ≡ self.old.last }
     {
         match event {
@@ -285,16 +288,13 @@ impl<D: Disk, V: Service> Node<D, V> {
         requires not_halted { self.old.halted ≡ false }
         requires alone { cell_size (own_member self.old) ≡ 1 }
         requires empty { out.old ≡ [] }
-        ensures step { Steps V.database (own_member self.old) result events.RecoverTurn now (node_of self.old) (node_of self.new) out.new
-            (D.steps self.old.disk) (D.steps self.new.disk) }
+        requires stored { IsStored D.Disk self.old }
+        ensures step { Steps D.Disk V.database (own_member self.old) result events.RecoverTurn now (node_of self.old) (node_of self.new) out.new
+            self.old.store.disk self.new.store.disk }
         ensures member { own_member self.new ≡ own_member self.old }
-        ensures stored { IsStored D.files self.old → IsStored D.files self.new }
-        ensures others { result ≢ StepEnd.Halted → OnlyDatabase D.files self.old self.new }
-        ensures settled { result ≢ StepEnd.Halted → NothingPending D.files D.may_leave self.old → NothingPending D.files D.may_leave self.new }
-        ensures no_memory { result ≡ StepEnd.NoMemory → KeepsDisk D.files D.steps self.old self.new }
-        ensures fewer { D.steps self.new.disk ≤ D.steps self.old.disk + 4 }
-        ensures fault { result ≡ StepEnd.Halted → D.faults self.old.disk < D.faults self.new.disk }
-        ensures never_falls { D.faults self.old.disk ≤ D.faults self.new.disk }
+        ensures stored { IsStored D.Disk self.new }
+        ensures told { result ≢ StepEnd.Halted → IsSome (D.files self.old.store.disk) → IsSome (D.files self.new.store.disk) }
+        ensures calls { Calls D.Disk self.old self.new result }
         ensures last { self.new.last ≡ self.old.last }
     {
         let poll = match recovery_plan(&self.state, now) {
@@ -308,7 +308,7 @@ impl<D: Disk, V: Service> Node<D, V> {
             epoch: now,
             counter: 1,
         };
-        match write_database(&mut self.disk, version, self.state.image.as_slice()) {
+        match self.store.relabel(version) {
             Ok(()) => {
                 let old = self.state.version;
                 self.state.progress = Progress::Ready { poll, old };
@@ -316,11 +316,11 @@ impl<D: Disk, V: Service> Node<D, V> {
                 out.put(Output::Announce { version });
                 StepEnd::Done
             }
-            Err(WriteFault::NoMemory) => StepEnd::NoMemory,
-            Err(WriteFault::DiskFault) => {
+            Err(StoreFault::DiskFault) => {
                 self.halted = true;
                 StepEnd::Halted
             }
+            Err(_) => StepEnd::NoMemory,
         }
     }
 
@@ -328,19 +328,19 @@ impl<D: Disk, V: Service> Node<D, V> {
     fn ask(&mut self, now: u32, id: u32, call: &[u8], out: &mut Outputs) -> StepEnd
         requires not_halted { self.old.halted ≡ false }
         requires empty { out.old ≡ [] }
+        requires stored { IsStored D.Disk self.old }
         ensures done { result ≡ StepEnd.Done → Answers V.database (own_member self.old) (up_server self.old) now id call.now
-            (node_of self.new) out.new (D.steps self.old.disk) (D.steps self.new.disk) }
+            (node_of self.new) out.new (Serves D.Disk (durable_in (up_server self.old)) self.old.store.disk self.new.store.disk) }
         ensures halted { result ≡ StepEnd.Halted → (node_of self.new ≡ model.Halted (model.halted_from (up_server self.old)))
             × (out.new ≡ outputs.Reply id Reply.DiskFault ∷ []) }
+        ensures left { result ≡ StepEnd.Halted → LeavesWithin D.Disk (durable_in (up_server self.old)) self.old.store.disk self.new.store.disk
+            (asked V.database (own_member self.old) (up_server self.old) now id call.now false).calls }
         ensures serving { result ≡ StepEnd.Halted → IsServing self.old.state.progress }
         ensures memory { result ≢ StepEnd.NoMemory }
         ensures member { own_member self.new ≡ own_member self.old }
-        ensures fewer { D.steps self.new.disk ≤ D.steps self.old.disk + 4 }
-        ensures stored { IsStored D.files self.old → IsStored D.files self.new }
-        ensures others { result ≢ StepEnd.Halted → OnlyDatabase D.files self.old self.new }
-        ensures settled { result ≢ StepEnd.Halted → NothingPending D.files D.may_leave self.old → NothingPending D.files D.may_leave self.new }
-        ensures fault { result ≡ StepEnd.Halted → D.faults self.old.disk < D.faults self.new.disk }
-        ensures never_falls { D.faults self.old.disk ≤ D.faults self.new.disk }
+        ensures stored { IsStored D.Disk self.new }
+        ensures told { result ≢ StepEnd.Halted → IsSome (D.files self.old.store.disk) → IsSome (D.files self.new.store.disk) }
+        ensures calls { Calls D.Disk self.old self.new result }
         ensures last { self.new.last ≡ self.old.last }
     {
         let Some(writes) = V::writes(call) else {
@@ -371,18 +371,18 @@ impl<D: Disk, V: Service> Node<D, V> {
         requires not_halted { self.old.halted ≡ false }
         requires empty { out.old ≡ [] }
         requires serving { IsServing self.old.state.progress }
+        requires stored { IsStored D.Disk self.old }
         ensures done { result ≡ StepEnd.Done → (h : Host) → Writes V.database h (up_server self.old) now id call.now
-            (node_of self.new) out.new (D.steps self.old.disk) (D.steps self.new.disk) }
+            (node_of self.new) out.new (Serves D.Disk (durable_in (up_server self.old)) self.old.store.disk self.new.store.disk) }
         ensures halted { result ≡ StepEnd.Halted → (node_of self.new ≡ model.Halted (model.halted_from (up_server self.old)))
             × (out.new ≡ outputs.Reply id Reply.DiskFault ∷ []) }
+        ensures left { result ≡ StepEnd.Halted → (h : Host) → LeavesWithin D.Disk (durable_in (up_server self.old)) self.old.store.disk self.new.store.disk
+            (write_turn V.database (alone h) (up_server self.old) now id call.now false).calls }
         ensures memory { result ≢ StepEnd.NoMemory }
         ensures member { own_member self.new ≡ own_member self.old }
-        ensures fewer { D.steps self.new.disk ≤ D.steps self.old.disk + 4 }
-        ensures stored { IsStored D.files self.old → IsStored D.files self.new }
-        ensures others { result ≢ StepEnd.Halted → OnlyDatabase D.files self.old self.new }
-        ensures settled { result ≢ StepEnd.Halted → NothingPending D.files D.may_leave self.old → NothingPending D.files D.may_leave self.new }
-        ensures fault { result ≡ StepEnd.Halted → D.faults self.old.disk < D.faults self.new.disk }
-        ensures never_falls { D.faults self.old.disk ≤ D.faults self.new.disk }
+        ensures stored { IsStored D.Disk self.new }
+        ensures told { result ≢ StepEnd.Halted → IsSome (D.files self.old.store.disk) → IsSome (D.files self.new.store.disk) }
+        ensures calls { Calls D.Disk self.old self.new result }
         ensures last { self.new.last ≡ self.old.last }
     {
         let Ok(verdict) = self.evaluate(now, call) else {
@@ -395,14 +395,20 @@ impl<D: Disk, V: Service> Node<D, V> {
                 self.state.progress = Progress::Poll { poll: now };
                 put_reply(out, id, reply)
             }
-            Verdict::Commit { answer, image } => match self.commit(id, answer, image, out) {
+            Verdict::Commit {
+                answer,
+                image,
+                changes,
+            } => match self.commit(id, answer, image, &changes, out) {
                 Ok(()) => StepEnd::Done,
-                Err(WriteFault::NoMemory) => put_reply(out, id, Reply::NoMemory),
-                Err(WriteFault::DiskFault) => {
-                    self.halted = true;
-                    let _ = put_reply(out, id, Reply::DiskFault);
-                    StepEnd::Halted
-                }
+                Err(fault) => match fault {
+                    StoreFault::DiskFault => {
+                        self.halted = true;
+                        let _ = put_reply(out, id, Reply::DiskFault);
+                        StepEnd::Halted
+                    }
+                    _ => put_reply(out, id, Reply::NoMemory),
+                },
             },
         }
     }
@@ -411,45 +417,48 @@ impl<D: Disk, V: Service> Node<D, V> {
     fn evaluate(&self, now: u32, call: &[u8]) -> Result<Verdict, NoMemory>
         requires { IsServing self.now.state.progress }
         ensures { IfOk result (λ verdict. (h : Host) (id : ℕ) →
-            Judges h (up_server self.now) self.now.state.progress now id verdict
+            Judges h (up_server self.now) self.now.state.progress now id call.now verdict
             (write_turn V.database (alone h) (up_server self.now) now id call.now false)) }
     {
+        V::never_shrinks();
         let (reply, image) = V::call_image(self.alloc, self.state.image.as_slice(), now, call)?;
         verdict_of::<V>(self.alloc, &self.state, reply, image)
     }
 
-    /// Commits an image under the next counter, announces it, and answers the call.
+    /// Commits changes, which lead to an image, under the next counter, announces it, and answers the call.
     fn commit(
         &mut self,
         id: u32,
         answer: Bytes,
         image: Bytes,
+        changes: &Changes,
         out: &mut Outputs,
-    ) -> Result<(), WriteFault>
+    ) -> Result<(), StoreFault>
         requires not_halted { self.old.halted ≡ false }
         requires empty { out.old ≡ [] }
-        requires image { length image ≤ MAX_IMAGE }
+        requires written { IsWritten self.old.state.image image changes.now }
         requires counter { self.old.state.version.counter < MAX_COUNTER }
+        requires stored { IsStored D.Disk self.old }
         ensures made { OnOk result (node_of self.new ≡ model.Up (committed (up_server self.old) self.old.state.progress image)) }
         ensures put { OnOk result (out.new ≡ outputs.Announce (next_version self.old.state.version) ∷ outputs.Reply id (Reply.Ok answer) ∷ []) }
-        ensures steps { OnOk result (D.steps self.new.disk ≡ D.steps self.old.disk + 4) }
-        ensures stored { OnOk result (IsStored D.files self.old → IsStored D.files self.new) }
-        ensures others { OnOk result (OnlyDatabase D.files self.old self.new) }
-        ensures settled { OnOk result (NothingPending D.files D.may_leave self.old → NothingPending D.files D.may_leave self.new) }
-        ensures still { IsErrOf result WriteFault.NoMemory → NothingPending D.files D.may_leave self.old → NothingPending D.files D.may_leave self.new }
+        ensures served { OnOk result ((t : Transaction) → Serves D.Disk (durable_in (up_server self.old)) self.old.store.disk self.new.store.disk
+            (own_commit (next_version self.old.state.version) changes.now image t ∷ [])) }
+        ensures stored { ¬ IsErrOf result StoreFault.DiskFault → IsStored D.Disk self.new }
+        ensures failed { IsErrOf result StoreFault.DiskFault → IsStoredBut D.Disk self.new }
+        ensures left { IsErrOf result StoreFault.DiskFault → (t : Transaction) → LeavesWithin D.Disk (durable_in (up_server self.old))
+            self.old.store.disk self.new.store.disk (own_commit (next_version self.old.state.version) changes.now image t ∷ []) }
         ensures member { own_member self.new ≡ own_member self.old }
         ensures same { OnErr result ((self.new.state ≡ self.old.state) × (self.new.halted ≡ self.old.halted) × (out.new ≡ [])) }
-        ensures no_memory { IsErrOf result WriteFault.NoMemory → KeepsDisk D.files D.steps self.old self.new }
-        ensures fewer { D.steps self.new.disk ≤ D.steps self.old.disk + 4 }
-        ensures fault { IsErrOf result WriteFault.DiskFault → D.faults self.old.disk < D.faults self.new.disk }
-        ensures never_falls { D.faults self.old.disk ≤ D.faults self.new.disk }
+        ensures no_memory { IfErr result (λ fault. fault ≢ StoreFault.DiskFault → OnlyReads D.Disk self.old.store.disk self.new.store.disk ⊥) }
+        ensures told { ¬ IsErrOf result StoreFault.DiskFault → IsSome (D.files self.old.store.disk) → IsSome (D.files self.new.store.disk) }
+        ensures calls { CallsSo D.Disk self.old.store.disk self.new.store.disk (IsErrOf result StoreFault.DiskFault) }
         ensures last { self.new.last ≡ self.old.last }
     {
         let next = Version {
             epoch: self.state.version.epoch,
             counter: self.state.version.counter + 1,
         };
-        write_database(&mut self.disk, next, image.as_slice())?;
+        commit_all(&mut self.store, changes.as_slice(), next)?;
         self.state.version = next;
         self.state.image = image;
         out.put(Output::Announce { version: next });

@@ -1,9 +1,10 @@
 //! A server over a disk in memory, with a small database: alone in its cell, and one of three.
 ghost use Rattle.std.specs.Prelude.{◌≡◌, ◌<◌, IfOk, MatchResult, length};
+ghost use Rattle.disk_base.specs.Crash.{IsSettled};
 ghost use Rattle.cell_model.specs.Step.{cell_size};
 ghost use Rattle.ubik_node.specs.Appending.{appending};
 ghost use Rattle.ubik_node.specs.Built.{IsBuilt, IsOfVotes};
-ghost use Rattle.ubik_node.specs.Node.{own_member};
+ghost use Rattle.ubik_node.specs.Node.{IsStored, own_member};
 
 use super::*;
 use db_image::{CallReply, Layout, Service};
@@ -39,28 +40,39 @@ impl Service for Appending {
         after.extend_from_slice(call)?;
         Ok((CallReply::Done(answer), Some(Bytes::new(after))))
     }
+
+    fn never_shrinks() {}
 }
 
-type Server = Node<MemDisk, Appending>;
+type Server<D> = Node<D, Appending>;
 
-/// A disk whose database file has these bytes.
-fn disk_with(rt: &impl Abort, alloc: Global, bytes: &[u8]) -> Result<MemDisk, Fail> {
-    let mut disk = MemDisk::new(alloc, &[])?;
+/// The disk, on which nothing is pending: it was opened anew.
+fn revived<D: StopDisk>(disk: D) -> D
+    ensures settled { IsSettled (D.files result) (D.may_leave result) }
+{
+    let mut disk = disk;
+    disk.revive();
+    disk
+}
+
+/// Writes these bytes as the database file of an empty disk.
+fn write_database<D: Disk>(rt: &impl Abort, disk: &mut D, bytes: &[u8]) {
     let file = FileNo::Database;
     let room = disk.reserve(file, bytes.len() as u64);
     assert_eq!(rt; room, RoomEnd::Done);
     assert_eq!(rt; disk.write_at(file, 0, bytes), DiskEnd::Done);
     assert_eq!(rt; disk.sync(file), DiskEnd::Done);
-    Ok(disk)
 }
 
 /// Opens the server of a cell of one at 1000.
-fn open(
+fn open<D: Disk + Drop>(
     rt: &impl Abort,
     alloc: Global,
-    disk: MemDisk,
-) -> Result<Result<Server, Refused<MemDisk, StoreFault>>, Fail>
-    ensures { IfOk result (λ opened. IfOk opened (λ node. cell_size (own_member node) ≡ 1)) }
+    disk: D,
+) -> Result<Result<Server<D>, Refused<D, StoreFault>>, Fail>
+    requires settled { IsSettled (D.files disk) (D.may_leave disk) }
+    ensures alone { IfOk result (λ opened. IfOk opened (λ node. cell_size (own_member node) ≡ 1)) }
+    ensures stored { IfOk result (λ opened. IfOk opened (IsStored D.Disk)) }
 {
     let cell = Cell::new(alloc, &[Host(1)])?;
     assert_eq!(rt; cell.len(), 1);
@@ -68,8 +80,10 @@ fn open(
 }
 
 /// Opens it over a disk on which nothing is amiss.
-fn opened(rt: &impl Abort, alloc: Global, disk: MemDisk) -> Result<Server, Fail>
-    ensures { IfOk result (λ node. cell_size (own_member node) ≡ 1) }
+fn opened<D: Disk + Drop>(rt: &impl Abort, alloc: Global, disk: D) -> Result<Server<D>, Fail>
+    requires settled { IsSettled (D.files disk) (D.may_leave disk) }
+    ensures alone { IfOk result (λ node. cell_size (own_member node) ≡ 1) }
+    ensures stored { IfOk result (IsStored D.Disk) }
 {
     match open(rt, alloc, disk)? {
         Ok(node) => Ok(node),
@@ -78,26 +92,36 @@ fn opened(rt: &impl Abort, alloc: Global, disk: MemDisk) -> Result<Server, Fail>
 }
 
 /// Opens a server of a cell of three at 1000, over a disk without a database: hosts 1, 2 and 3.
-fn one_of_three(rt: &impl Abort, alloc: Global, me: usize) -> Result<Server, Fail> {
+fn one_of_three<D: Disk + Drop>(
+    rt: &impl Abort,
+    alloc: Global,
+    disk: D,
+    me: usize,
+) -> Result<Server<D>, Fail>
+    requires settled { IsSettled (D.files disk) (D.may_leave disk) }
+    ensures stored { IfOk result (IsStored D.Disk) }
+{
     let cell = Cell::new(alloc, &[Host(3), Host(1), Host(2)])?;
     assert!(rt; me < cell.len());
-    match Node::open(alloc, cell, me, MemDisk::new(alloc, &[])?, 1000) {
+    match Node::open(alloc, cell, me, disk, 1000) {
         Ok(node) => Ok(node),
         Err(refused) => Err(refused.why)?,
     }
 }
 
 /// One step, which ends so, and what it put out.
-fn step(
+fn step<D: Disk>(
     rt: &impl Abort,
     alloc: Global,
-    node: &mut Server,
+    node: &mut Server<D>,
     now: u32,
     event: NodeEvent,
     wanted: StepEnd,
 ) -> Result<Outputs, Fail>
-    requires { IsBuilt (own_member node.old) event }
-    ensures { IfOk result (λ out. own_member node.new ≡ own_member node.old) }
+    requires built { IsBuilt (own_member node.old) event }
+    requires stored { IsStored D.Disk node.old }
+    ensures member { own_member node.new ≡ own_member node.old }
+    ensures stored { IsStored D.Disk node.new }
 {
     let mut out = Outputs::make(alloc)?;
     assert!(rt; node.last() <= now && 0 < now && now < 1 << 31);
@@ -106,14 +130,16 @@ fn step(
 }
 
 /// A beacon turn and a recovery turn of a server that is alone, and what they announced.
-fn turns(
+fn turns<D: Disk>(
     rt: &impl Abort,
     alloc: Global,
-    node: &mut Server,
+    node: &mut Server<D>,
     now: u32,
 ) -> Result<Option<Version>, Fail>
-    requires { cell_size (own_member node.old) ≡ 1 }
-    ensures { IfOk result (λ announced. own_member node.new ≡ own_member node.old) }
+    requires alone { cell_size (own_member node.old) ≡ 1 }
+    requires stored { IsStored D.Disk node.old }
+    ensures member { own_member node.new ≡ own_member node.old }
+    ensures stored { IsStored D.Disk node.new }
 {
     let mut quiet = step(rt, alloc, node, now, NodeEvent::BeaconTurn, StepEnd::Done)?;
     assert!(rt; quiet.take().is_none());
@@ -134,13 +160,16 @@ struct Heard {
 }
 
 /// Whether a beacon that a server hears gets its vote: it puts out one vote, for the beacon's start.
-fn votes(
+fn votes<D: Disk>(
     rt: &impl Abort,
     alloc: Global,
-    node: &mut Server,
+    node: &mut Server<D>,
     now: u32,
     heard: Heard,
-) -> Result<bool, Fail> {
+) -> Result<bool, Fail>
+    requires stored { IsStored D.Disk node.old }
+    ensures stored { IsStored D.Disk node.new }
+{
     let Heard {
         from,
         to,
@@ -179,13 +208,16 @@ fn votes(
 }
 
 /// A vote for the beacon of a start comes to host 1.
-fn voted(
+fn voted<D: Disk>(
     rt: &impl Abort,
     alloc: Global,
-    node: &mut Server,
+    node: &mut Server<D>,
     from: Host,
     given: (u32, u32, bool),
-) -> Result<(), Fail> {
+) -> Result<(), Fail>
+    requires stored { IsStored D.Disk node.old }
+    ensures stored { IsStored D.Disk node.new }
+{
     let (now, start, yes) = given;
     let to = Host(1);
     let body = Body::Vote { start, yes };
@@ -203,13 +235,16 @@ fn voted(
 }
 
 /// The hosts to which a beacon turn of host 1 sends its beacon, which claims so.
-fn beacons(
+fn beacons<D: Disk>(
     rt: &impl Abort,
     alloc: Global,
-    node: &mut Server,
+    node: &mut Server<D>,
     now: u32,
     wanted: bool,
-) -> Result<[Host; 2], Fail> {
+) -> Result<[Host; 2], Fail>
+    requires stored { IsStored D.Disk node.old }
+    ensures stored { IsStored D.Disk node.new }
+{
     let mut out = step(rt, alloc, node, now, NodeEvent::BeaconTurn, StepEnd::Done)?;
     let mut hosts = [Host(0); 2];
     for k in 0..2 {
@@ -236,14 +271,16 @@ fn beacons(
 }
 
 /// Asks, in a step that ends so.
-fn ask(
+fn ask<D: Disk>(
     rt: &impl Abort,
     alloc: Global,
-    node: &mut Server,
+    node: &mut Server<D>,
     asked: (u32, u32, &[u8]),
     wanted: StepEnd,
 ) -> Result<Outputs, Fail>
-    ensures { IfOk result (λ out. own_member node.new ≡ own_member node.old) }
+    requires stored { IsStored D.Disk node.old }
+    ensures member { own_member node.new ≡ own_member node.old }
+    ensures stored { IsStored D.Disk node.new }
 {
     let (now, id, bytes) = asked;
     let call = bytes_of(alloc, bytes)?;
@@ -302,7 +339,7 @@ const fn version(epoch: u32, counter: u32) -> Version
 #[test]
 fn a_call_is_committed_and_outlives_the_server(rt: HostRuntime) -> Result<(), Fail> {
     let alloc = rt.alloc();
-    let mut node = opened(&rt, alloc, MemDisk::new(alloc, &[])?)?;
+    let mut node = opened(&rt, alloc, revived(MemDisk::new(alloc, &[])?))?;
     assert_eq!(rt; node.phase(), Phase::None);
     let announced = turns(&rt, alloc, &mut node, 1076)?;
     assert_eq!(rt; announced, Some(version(1076, 1)));
@@ -315,9 +352,7 @@ fn a_call_is_committed_and_outlives_the_server(rt: HostRuntime) -> Result<(), Fa
     let mut out = ask(&rt, alloc, &mut node, (1078, 2, b""), StepEnd::Done)?;
     assert!(rt; is_answer(&out.take(), 2, b"ab"));
     assert_eq!(rt; node.last(), 1078);
-    let mut disk = node.close();
-    disk.revive();
-    let mut again = opened(&rt, alloc, disk)?;
+    let mut again = opened(&rt, alloc, revived(node.close()))?;
     assert_eq!(rt; again.version(), version(1076, 2));
     let announced = turns(&rt, alloc, &mut again, 1079)?;
     assert_eq!(rt; announced, Some(version(1079, 1)));
@@ -327,7 +362,7 @@ fn a_call_is_committed_and_outlives_the_server(rt: HostRuntime) -> Result<(), Fa
 #[test]
 fn no_beacon_is_due_at_1075(rt: HostRuntime) -> Result<(), Fail> {
     let alloc = rt.alloc();
-    let mut node = opened(&rt, alloc, MemDisk::new(alloc, &[])?)?;
+    let mut node = opened(&rt, alloc, revived(MemDisk::new(alloc, &[])?))?;
     let announced = turns(&rt, alloc, &mut node, 1075)?;
     assert_eq!(rt; announced, None);
     let mut out = ask(&rt, alloc, &mut node, (1075, 1, b"ab"), StepEnd::Done)?;
@@ -350,6 +385,24 @@ fn no_beacon_is_due_at_1075(rt: HostRuntime) -> Result<(), Fail> {
     Ok(())
 }
 
+/// The turns of a server that is alone, and whose epoch is not past: it relabels later.
+fn waits<D: Disk>(
+    rt: &impl Abort,
+    alloc: Global,
+    node: &mut Server<D>,
+    now: u32,
+) -> Result<(), Fail>
+    requires alone { cell_size (own_member node.old) ≡ 1 }
+    requires stored { IsStored D.Disk node.old }
+    ensures member { own_member node.new ≡ own_member node.old }
+    ensures stored { IsStored D.Disk node.new }
+{
+    let announced = turns(rt, alloc, node, now)?;
+    assert_eq!(rt; announced, None);
+    assert_eq!(rt; node.phase(), Phase::Relabel);
+    Ok(())
+}
+
 #[test]
 fn an_epoch_ahead_of_the_clock_is_waited_for(rt: HostRuntime) -> Result<(), Fail> {
     let alloc = rt.alloc();
@@ -357,14 +410,12 @@ fn an_epoch_ahead_of_the_clock_is_waited_for(rt: HostRuntime) -> Result<(), Fail
     label[..16].copy_from_slice(&[
         0, 0x35, 0x45, 0x45, 0, 0, 0, 0x40, 0, 0, 7, 0xd0, 0, 0, 0, 1,
     ]);
-    let disk = disk_with(&rt, alloc, &label)?;
-    let mut node = opened(&rt, alloc, disk)?;
+    let mut disk = MemDisk::new(alloc, &[])?;
+    write_database(&rt, &mut disk, &label);
+    let mut node = opened(&rt, alloc, revived(disk))?;
     assert_eq!(rt; node.version(), version(2000, 1));
-    for now in [1076, 2000] {
-        let announced = turns(&rt, alloc, &mut node, now)?;
-        assert_eq!(rt; announced, None);
-        assert_eq!(rt; node.phase(), Phase::Relabel);
-    }
+    waits(&rt, alloc, &mut node, 1076)?;
+    waits(&rt, alloc, &mut node, 2000)?;
     let announced = turns(&rt, alloc, &mut node, 2001)?;
     assert_eq!(rt; announced, Some(version(2001, 1)));
     assert_eq!(rt; node.phase(), Phase::Ready);
@@ -374,7 +425,7 @@ fn an_epoch_ahead_of_the_clock_is_waited_for(rt: HostRuntime) -> Result<(), Fail
 #[test]
 fn a_disk_that_fails_in_the_opening(rt: HostRuntime) -> Result<(), Fail> {
     let disk = MemDisk::new(rt.alloc(), &[1])?;
-    let Err(refused) = open(&rt, rt.alloc(), disk)? else {
+    let Err(refused) = open(&rt, rt.alloc(), revived(disk))? else {
         panic!(rt; "opened");
     };
     assert!(rt; matches!(refused.why, StoreFault::DiskFault));
@@ -383,8 +434,9 @@ fn a_disk_that_fails_in_the_opening(rt: HostRuntime) -> Result<(), Fail> {
 
 #[test]
 fn a_file_without_a_label(rt: HostRuntime) -> Result<(), Fail> {
-    let disk = disk_with(&rt, rt.alloc(), b"abc")?;
-    let Err(refused) = open(&rt, rt.alloc(), disk)? else {
+    let mut disk = MemDisk::new(rt.alloc(), &[])?;
+    write_database(&rt, &mut disk, b"abc");
+    let Err(refused) = open(&rt, rt.alloc(), revived(disk))? else {
         panic!(rt; "opened");
     };
     let StoreFault::BadLabel { len, head } = refused.why else {
@@ -395,18 +447,26 @@ fn a_file_without_a_label(rt: HostRuntime) -> Result<(), Fail> {
     Ok(())
 }
 
+/// A writing call at a server whose disk fails, or has failed.
+fn halts<D: Disk>(rt: &impl Abort, alloc: Global, node: &mut Server<D>, id: u32) -> Result<(), Fail>
+    requires stored { IsStored D.Disk node.old }
+    ensures stored { IsStored D.Disk node.new }
+{
+    let mut out = ask(rt, alloc, node, (1077, id, b"ab"), StepEnd::Halted)?;
+    assert!(rt; is_disk_fault(&out.take(), id));
+    assert!(rt; out.take().is_none());
+    assert!(rt; node.halted());
+    Ok(())
+}
+
 #[test]
 fn a_disk_that_fails_in_a_commit_halts_the_server(rt: HostRuntime) -> Result<(), Fail> {
     let alloc = rt.alloc();
-    let mut node = opened(&rt, alloc, MemDisk::new(alloc, &[6])?)?;
+    let mut node = opened(&rt, alloc, revived(MemDisk::new(alloc, &[30])?))?;
     let announced = turns(&rt, alloc, &mut node, 1076)?;
     assert_eq!(rt; announced, Some(version(1076, 1)));
-    for id in [1, 2] {
-        let mut out = ask(&rt, alloc, &mut node, (1077, id, b"ab"), StepEnd::Halted)?;
-        assert!(rt; is_disk_fault(&out.take(), id));
-        assert!(rt; out.take().is_none());
-        assert!(rt; node.halted());
-    }
+    halts(&rt, alloc, &mut node, 1)?;
+    halts(&rt, alloc, &mut node, 2)?;
     assert_eq!(rt; node.version(), version(1076, 1));
     Ok(())
 }
@@ -419,7 +479,7 @@ fn sevens(alloc: Global, bytes: usize) -> Result<Vec<u8>, AllocError> {
 #[test]
 fn changes_of_more_than_a_mebibyte_are_too_large(rt: HostRuntime) -> Result<(), Fail> {
     let alloc = rt.alloc();
-    let mut node = opened(&rt, alloc, MemDisk::new(alloc, &[])?)?;
+    let mut node = opened(&rt, alloc, revived(MemDisk::new(alloc, &[])?))?;
     let announced = turns(&rt, alloc, &mut node, 1076)?;
     assert_eq!(rt; announced, Some(version(1076, 1)));
     let long = sevens(alloc, 1_048_600)?;
@@ -445,7 +505,7 @@ fn changes_of_more_than_a_mebibyte_are_too_large(rt: HostRuntime) -> Result<(), 
 #[test]
 fn a_first_lease(rt: HostRuntime) -> Result<(), Fail> {
     let alloc = rt.alloc();
-    let mut node = one_of_three(&rt, alloc, 0)?;
+    let mut node = one_of_three(&rt, alloc, revived(MemDisk::new(alloc, &[])?), 0)?;
     let early = beacons(&rt, alloc, &mut node, 1075, false)?;
     assert_eq!(rt; early, [Host(0), Host(0)]);
     let first = beacons(&rt, alloc, &mut node, 1076, false)?;
@@ -477,7 +537,7 @@ fn a_first_lease(rt: HostRuntime) -> Result<(), Fail> {
 #[test]
 fn no_second_yes_within_75_seconds(rt: HostRuntime) -> Result<(), Fail> {
     let alloc = rt.alloc();
-    let mut node = one_of_three(&rt, alloc, 1)?;
+    let mut node = one_of_three(&rt, alloc, revived(MemDisk::new(alloc, &[])?), 1)?;
     let low = Heard {
         from: Host(1),
         to: Host(2),
@@ -505,10 +565,29 @@ fn no_second_yes_within_75_seconds(rt: HostRuntime) -> Result<(), Fail> {
     Ok(())
 }
 
+/// A call that the server names the sync site for, which it heard at 1076.
+fn sends_on<D: Disk>(
+    rt: &impl Abort,
+    alloc: Global,
+    node: &mut Server<D>,
+    asked: (u32, u32, &[u8]),
+) -> Result<(), Fail>
+    requires stored { IsStored D.Disk node.old }
+    ensures stored { IsStored D.Disk node.new }
+{
+    let mut out = ask(rt, alloc, node, asked, StepEnd::Done)?;
+    assert!(rt;
+        is_elsewhere(&out.take(), asked.1, (Host(1), 1076)),
+        "call {}",
+        asked.1
+    );
+    Ok(())
+}
+
 #[test]
 fn a_ready_beacon_allows_reads(rt: HostRuntime) -> Result<(), Fail> {
     let alloc = rt.alloc();
-    let mut node = one_of_three(&rt, alloc, 2)?;
+    let mut node = one_of_three(&rt, alloc, revived(MemDisk::new(alloc, &[])?), 2)?;
     let sync = Heard {
         from: Host(1),
         to: Host(3),
@@ -519,9 +598,7 @@ fn a_ready_beacon_allows_reads(rt: HostRuntime) -> Result<(), Fail> {
     assert!(rt; yes);
     let mut out = ask(&rt, alloc, &mut node, (1136, 1, b""), StepEnd::Done)?;
     assert!(rt; is_answer(&out.take(), 1, b""));
-    for (now, id, call) in [(1136, 2, b"ab".as_slice()), (1137, 3, b"".as_slice())] {
-        let mut out = ask(&rt, alloc, &mut node, (now, id, call), StepEnd::Done)?;
-        assert!(rt; is_elsewhere(&out.take(), id, (Host(1), 1076)), "call {id}");
-    }
+    sends_on(&rt, alloc, &mut node, (1136, 2, b"ab"))?;
+    sends_on(&rt, alloc, &mut node, (1137, 3, b""))?;
     Ok(())
 }

@@ -1,5 +1,5 @@
 //! What becomes of a writing call at a server that is alone in its cell, once the database has evaluated it.
-ghost use Rattle.std.specs.Prelude.{ℕ, List, ◌<◌, IfOk, unwrap_or};
+ghost use Rattle.std.specs.Prelude.{ℕ, List, ◌<◌, ◌≤◌, length, IfOk, IfSome, unwrap_or};
 ghost use Rattle.ubik_types.specs.declared.hosts.Host.{Host};
 ghost use Rattle.cell_model.specs.Writes.{turned, written};
 ghost use Rattle.ubik_node.specs.Progress.{alone, IsServing};
@@ -11,7 +11,7 @@ use crate::state::State;
 use db_image::{CallReply, Service, changes_between, too_large};
 use std::alloc::Global;
 use ubik_calls::Reply;
-use ubik_types::{Bytes, MAX_COUNTER, NoMemory};
+use ubik_types::{Bytes, Changes, MAX_COUNTER, NoMemory};
 
 /// What a sync site does about a writing call.
 #[derive(Drop)]
@@ -20,8 +20,12 @@ pub enum Verdict {
     Reply(Reply),
     /// The counter is at its end: a new poll begins, and the call is refused.
     NewPoll,
-    /// The image is committed under the next counter, and then the call is answered.
-    Commit { answer: Bytes, image: Bytes },
+    /// The changes, which lead to the image, are committed under the next counter, and then the call is answered.
+    Commit {
+        answer: Bytes,
+        image: Bytes,
+        changes: Changes,
+    },
 }
 
 /// The verdict on what the database made of a call: its reply, and the image after it where that is another one.
@@ -31,9 +35,10 @@ pub fn verdict_of<V: Service>(
     reply: CallReply,
     image: Option<Bytes>,
 ) -> Result<Verdict, NoMemory>
-    requires { IsServing state.now.progress }
+    requires serving { IsServing state.now.progress }
+    requires grows { IfSome image (λ image. length state.now.image ≤ length image) }
     ensures { IfOk result (λ verdict. (h : Host) (now id : ℕ) (call : List ℕ) →
-        Judges h (server_of state.now) state.now.progress now id verdict
+        Judges h (server_of state.now) state.now.progress now id call verdict
         (turned V.database (alone h) (server_of state.now) now id call (unwrap_or image state.now.image) reply)) }
 {
     match reply {
@@ -52,9 +57,10 @@ fn verdict_of_write<V: Service>(
     answer: Bytes,
     image: Bytes,
 ) -> Result<Verdict, NoMemory>
-    requires { IsServing state.now.progress }
+    requires serving { IsServing state.now.progress }
+    requires grows { length state.now.image ≤ length image }
     ensures { IfOk result (λ verdict. (h : Host) (now id : ℕ) (call : List ℕ) →
-        Judges h (server_of state.now) state.now.progress now id verdict
+        Judges h (server_of state.now) state.now.progress now id call verdict
         (written V.database (alone h) (server_of state.now) now id call answer image)) }
 {
     let old = state.image.as_slice();
@@ -70,6 +76,10 @@ fn verdict_of_write<V: Service>(
     } else if state.version.counter == MAX_COUNTER {
         Ok(Verdict::NewPoll)
     } else {
-        Ok(Verdict::Commit { answer, image })
+        Ok(Verdict::Commit {
+            answer,
+            image,
+            changes,
+        })
     }
 }

@@ -30,7 +30,7 @@ logged_put len at bytes changes within =
     ap (λ (gap : List Change). gap ++ Put at bytes ∷ logged (max len (at + length bytes)) changes) (gap_none len at within)
 
 -- and behind one of zero bytes where it leaves one
-logged_gap : (len at : ℕ) (bytes : List ℕ) (changes : List Change) → len < at
+pub logged_gap : (len at : ℕ) (bytes : List ℕ) (changes : List Change) → len < at
     → logged len (Put at bytes ∷ changes) ≡ Put len (replicate (at - len) 0) ∷ Put at bytes ∷ logged (max len (at + length bytes)) changes
 logged_gap len at bytes changes gap =
     ap (λ (gap : List Change). gap ++ Put at bytes ∷ logged (max len (at + length bytes)) changes) (gap_some len at gap)

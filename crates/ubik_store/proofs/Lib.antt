@@ -10,6 +10,7 @@ pub mod Ended
 pub mod Ending
 pub mod Gaps
 pub mod Heads
+pub mod Kept
 pub mod Opened
 pub mod Plain
 pub mod Redoing

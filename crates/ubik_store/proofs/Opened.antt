@@ -13,7 +13,7 @@ use Rattle.disk_base.specs.Files.{Files}
 use Rattle.disk_base.specs.Crash.{Narrows, LeavesOnly, IsSettled}
 use Rattle.disk_base.specs.Runs.{OnlyReads, ChangesAtMost}
 use Rattle.disk_base.specs.Stops.{DiskStop, IsStopped}
-use Rattle.disk_base.proofs.Runs.{widened, rested, reads_change_none}
+use Rattle.disk_base.proofs.Runs.{widened, joined, rested, reads_change_none}
 use Rattle.page_file.specs.declared.label.TheConstants.{MAX_DATABASE_LEN}
 use Rattle.page_file.specs.declared.faults.PageFault.{PageFault}
 use Rattle.page_file.specs.declared.faults.PageFault.TheVariants as pages
@@ -44,7 +44,7 @@ use Rattle.ubik_store.proofs.Ending.{LeavesEffect}
 use Rattle.ubik_store.proofs.Gaps.{discarded_is_plain}
 use Rattle.ubik_store.proofs.Plain.{LeavesPlain}
 use Rattle.ubik_store.proofs.Redone.{length-effect}
-use Rattle.ubik_store.proofs.Redoing.{rested_first}
+use Rattle.ubik_store.proofs.Redoing.{narrowed, rested_first}
 use Rattle.ubik_store.proofs.Resting.{len_of, len_after_within, rests_in}
 use Rattle.ubik_store.proofs.Telling.{told, of_told}
 
@@ -248,4 +248,24 @@ module _ {D : Type 0} (g : Ghosts D) where
         stopped = opening.stopped;
         most = opening.most;
         calls = calls_as (omega arith) (λ failed. failed) (λ failed. failed) (calls_joined (calls_of (reads_change_none {f = Log} reads)) went opening.calls);
+      }
+
+  -- and only reads behind it
+  pub opening_then : {old mid new : D} {F : Type 0} → IsOpening g old mid ⊥ → OnlyReads g mid new F → IsOpening g old new F
+  opening_then {old} {mid} {new} {F} opening reads =
+      let last : (P : Files → Type 0) → LeavesOnly g.steps g.left_since old mid P → LeavesOnly g.steps g.left_since old new P =
+      λ P run.
+      joined g.steps g.left_since old mid new P run
+      (rested g.steps g.left_since mid new P (g.may_leave mid) (g.may_leave new) reads.steps reads.crash (g.only_now mid) (narrowed g run)) in
+      record {
+        moments = told (g.files old) (λ fs. IsGapless fs → (version : Version) (image : List ℕ) → StandsFor fs version image
+            → LeavesOnly g.steps g.left_since old new (λ c. StandsFor c version image)) (λ fs is gapless version image stands.
+            last (λ c. StandsFor c version image)
+            (of_told (g.files old) fs (λ fs. IsGapless fs → (version : Version) (image : List ℕ) → StandsFor fs version image
+            → LeavesOnly g.steps g.left_since old mid (λ c. StandsFor c version image)) is opening.moments gapless version image stands));
+        plain = told (g.files old) (λ fs. IsPlain fs → LeavesOnly g.steps g.left_since old new IsPlain) (λ fs is plain.
+            last IsPlain (of_told (g.files old) fs (λ fs. IsPlain fs → LeavesOnly g.steps g.left_since old mid IsPlain) is opening.plain plain));
+        stopped = λ is. absurd (opening.stopped (subst (λ (s : DiskStop). IsStopped s) reads.stop is));
+        most = opening.most;
+        calls = calls_as (omega arith) (λ failed. failed) (λ failed. failed) (calls_joined opening.calls (λ none. none) (calls_of (reads_change_none {f = Log} reads)));
       }

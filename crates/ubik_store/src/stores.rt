@@ -43,6 +43,7 @@ impl<D: Disk> Store<D> {
             × RestsAs store.version image (D.files store.disk) × (store.len ≡ length image))) }
         ensures steps { IfOk result (λ store. IfSome (D.files disk) (λ fs.
             (calls : ℕ) → OpensIn fs calls → D.steps store.disk ≡ D.steps disk + calls)) }
+        ensures untold { IfOk result (λ store. D.files disk ≡ None → D.files store.disk ≡ None) }
         ensures refused { IfErr result (λ refused. IfSome (D.files disk) (λ fs. RefusesFiles fs refused.why)) }
         ensures unchanged { IfErr result (λ refused. refused.why ≢ StoreFault.DiskFault → OnlyReads D.Disk disk refused.disk ⊥) }
         ensures opening { MatchResult result (λ store. IsOpening D.Disk disk store.disk ⊥)

@@ -6,15 +6,16 @@ use Rattle.cell_sites.proofs.steps.step_node.Goals as goal
 pub returns-in-Halted : goal.returns-in-Halted
 returns-in-Halted g c =
     let e = c.in-Halted.ensures in
-    halted_now g.D.Disk.files g.D.Disk.faults _ _ _ _ _ _ _ _ _ c.requires.sound c.halted-was_halted.result c.halted-was_halted.ensures
-    e.step e.member e.stored (e.fault refl) e.never_falls e.last
+    let cause = e.calls.1.cause in
+    halted_now g.D.Disk _ _ _ _ _ _ _ c.requires.sound c.halted-was_halted.result c.halted-was_halted.ensures
+    e.step e.member e.stored (λ up. cause.rose (refl, up)) cause.never_falls e.last
 
 pub returns-in-Done : goal.returns-in-Done
 returns-in-Done g c =
     let e = c.in-Done.ensures in
-    not_halted_now g.D.Disk.files g.D.Disk.faults _ _ _ _ _ _ _ _ _ c.requires.sound Done (λ is. cc) e.step e.member e.stored (e.others (λ is. cc)) e.never_falls e.last
+    not_halted_now g.D.Disk _ _ _ _ _ _ _ c.requires.sound Done (λ is. cc) e.step e.member e.stored (e.told (λ is. cc)) e.calls.1.cause.never_falls e.last
 
 pub returns-in-NoMemory : goal.returns-in-NoMemory
 returns-in-NoMemory g c =
     let e = c.in-NoMemory.ensures in
-    not_halted_now g.D.Disk.files g.D.Disk.faults _ _ _ _ _ _ _ 0 0 c.requires.sound NoMemory (λ is. cc) e.step e.member e.stored (e.others (λ is. cc)) e.never_falls e.last
+    not_halted_now g.D.Disk _ _ _ _ _ _ _ c.requires.sound NoMemory (λ is. cc) e.step e.member e.stored (e.told (λ is. cc)) e.calls.1.cause.never_falls e.last

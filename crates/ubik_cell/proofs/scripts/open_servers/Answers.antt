@@ -1,5 +1,4 @@
-use Rattle.std.proofs.Common.{◌≡◌, ◌+◌, ◌<◌, ◌++◌, ◌∷◌, ℕ, List, [], length, take, drop, slice_index_or, refl, sym, ap, subst, ◌∙◌, arith}
-use Rattle.std.proofs.lemmas.List.{length-drop}
+use Rattle.std.proofs.Common.{◌+◌, ◌<◌, length, take, slice_index_or, sym, ap, subst, ◌∙◌, arith}
 use Rattle.std.specs.String.{string_bytes}
 use Rattle.cell_runs.specs.ScriptDatabase.{script_database}
 use Rattle.cell_sites.specs.Opened.{ArePartOpened}
@@ -8,7 +7,7 @@ use Rattle.ubik_cell.proofs.scripts.open_servers.Goals as goal
 
 pub returns-in_err-open_next-clause-unwritten : goal.returns-in_err-open_next-clause-unwritten
 returns-in_err-open_next-clause-unwritten g c =
-    added_unwritten g.D.Disk.files g.D.Disk.faults c.remove-disk.result c.loop.cell c.open_next.new.self c.open_next.ensures.added c.loop.invariant.unwritten
+    added_unwritten g.D.Disk c.remove-disk.result c.loop.cell c.open_next.new.self c.open_next.ensures.added c.loop.invariant.unwritten
 
 pub loop-preserved : goal.loop-preserved
 loop-preserved g c =
@@ -20,12 +19,12 @@ loop-preserved g c =
     let taken = next_taken given c.loop.counter disk inside is in
     let opened = c.in_ok-open_next.ensures.opened (take c.loop.counter given) (string_bytes c.args.text.now) c.loop.invariant.opened in
     record {
-      opened = subst (λ l. ArePartOpened g.D.Disk.files g.D.Disk.faults (script_database g.V.Service.database g.V.WordForms.words) c.args.clock l
+      opened = subst (λ l. ArePartOpened g.D.Disk (script_database g.V.Service.database g.V.WordForms.words) c.args.clock l
           c.open_next.new.self (string_bytes c.args.text.now) (string_bytes c.open_next.new.text)) (sym taken) opened;
       count = c.open_next.ensures.count ∙ ap (λ n. n + 1) c.loop.invariant.count;
       left = next_left given c.loop.spare.items c.remove-disk.new.self.items c.loop.counter left c.remove-disk.ensures.items;
       number = omega (arith, c.remove-disk.ensures.len, c.loop.invariant.number, c.loop.spare.ok.0, c.remove-disk.new.self.ok.0);
-      unwritten = added_unwritten g.D.Disk.files g.D.Disk.faults disk c.loop.cell c.open_next.new.self c.open_next.ensures.added c.loop.invariant.unwritten;
+      unwritten = added_unwritten g.D.Disk disk c.loop.cell c.open_next.new.self c.open_next.ensures.added c.loop.invariant.unwritten;
       room = c.open_next.ensures.room;
       hosts = c.open_next.ensures.hosts ∙ c.loop.invariant.hosts;
     }

@@ -1,4 +1,4 @@
-use Rattle.std.proofs.Common.{◌≡◌, ◌+◌, ◌≤◌, ℕ, List, length, take, drop}
+use Rattle.std.proofs.Common.{◌≡◌, ◌+◌, length, take, drop}
 use Rattle.std.specs.Prelude.{All}
 use Rattle.std.specs.String.{string_bytes}
 use Rattle.cell_runs.specs.ScriptDatabase.{script_database}
@@ -9,7 +9,7 @@ use Rattle.ubik_cell.proofs.scripts.open_servers.Given as goal
 
 abbrev pub invariant-loop : goal.invariant-loop
 invariant-loop g l = record {
-  opened : ArePartOpened g.D.Disk.files g.D.Disk.faults (script_database g.V.Service.database g.V.WordForms.words) l.clock (take l.counter l.fn.spare.items)
+  opened : ArePartOpened g.D.Disk (script_database g.V.Service.database g.V.WordForms.words) l.clock (take l.counter l.fn.spare.items)
       l.cell (string_bytes l.fn.text) (string_bytes l.text);
   count : length l.cell.sites.items ≡ l.counter;
   left : l.spare.items ≡ drop l.counter l.fn.spare.items;

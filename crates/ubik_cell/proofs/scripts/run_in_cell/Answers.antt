@@ -1,135 +1,133 @@
-use Rattle.std.proofs.Common.{◌≡◌, ◌+◌, ℕ, Option, Some, None, Result, Ok, Err, refl, subst, arith}
+use Rattle.std.proofs.Common.{◌+◌, refl, subst, arith}
 use Rattle.cell_script.specs.Meaning.{HasBounds}
-use Rattle.cell_script.specs.declared.lines.TheConstants.{MAX_TICK}
 use Rattle.cell_runs.specs.ScriptDatabase.{script_database}
-use Rattle.cell_sites.specs.declared.faults.LineFault.TheVariants.{Refused}
 use Rattle.ubik_cell.proofs.CellLines.{done_of, kept_of, kept_same, nothing_told, raised, refused_of, told_of}
 use Rattle.ubik_cell.proofs.scripts.run_in_cell.Goals as goal
 
 pub returns-in-Nothing-clause-done : goal.returns-in-Nothing-clause-done
 returns-in-Nothing-clause-done g c =
-    told_of g.D.Disk.files g.D.Disk.faults c.args.cell.now c.args.cell.now (script_database g.V.Service.database g.V.WordForms.words) _ _ c.in-Nothing.is _ _
-    (nothing_told g.D.Disk.files g.D.Disk.faults (script_database g.V.Service.database g.V.WordForms.words) c.args.cell.now _)
+    told_of g.D.Disk c.args.cell.now c.args.cell.now (script_database g.V.Service.database g.V.WordForms.words) _ _ c.in-Nothing.is _ _
+    (nothing_told g.D.Disk (script_database g.V.Service.database g.V.WordForms.words) c.args.cell.now _)
 
 pub returns-in-Nothing-clause-kept : goal.returns-in-Nothing-clause-kept
 returns-in-Nothing-clause-kept g c =
-    kept_same g.D.Disk.files g.D.Disk.faults _ c.args.cell.now
+    kept_same g.D.Disk _ c.args.cell.now
 
 pub returns-in-Cell-clause-kept : goal.returns-in-Cell-clause-kept
 returns-in-Cell-clause-kept g c =
-    kept_same g.D.Disk.files g.D.Disk.faults _ c.args.cell.now
+    kept_same g.D.Disk _ c.args.cell.now
 
 pub returns-in-Ask-clause-kept : goal.returns-in-Ask-clause-kept
 returns-in-Ask-clause-kept g c =
-    kept_same g.D.Disk.files g.D.Disk.faults _ c.args.cell.now
+    kept_same g.D.Disk _ c.args.cell.now
 
 pub returns-in_ok-tick-in-Tick-clause-done : goal.returns-in_ok-tick-in-Tick-clause-done
 returns-in_ok-tick-in-Tick-clause-done g c =
-    told_of g.D.Disk.files g.D.Disk.faults c.args.cell.now c.tick.new.self (script_database g.V.Service.database g.V.WordForms.words) _ _ c.in-Tick.is _ _
+    told_of g.D.Disk c.args.cell.now c.tick.new.self (script_database g.V.Service.database g.V.WordForms.words) _ _ c.in-Tick.is _ _
     (λ cell stands. c.in_ok-tick-in-Tick.ensures.told refl cell _ stands)
 
 pub returns-in_ok-tick-in-Tick-clause-kept : goal.returns-in_ok-tick-in-Tick-clause-kept
 returns-in_ok-tick-in-Tick-clause-kept g c =
-    kept_of g.D.Disk.files g.D.Disk.faults c.args.cell.now c.tick.new.self _ c.in-Tick.seconds (subst HasBounds c.in-Tick.is c.requires.bounds).1
+    kept_of g.D.Disk c.args.cell.now c.tick.new.self _ c.in-Tick.seconds (subst HasBounds c.in-Tick.is c.requires.bounds).1
     (λ done. c.in_ok-tick-in-Tick.ensures.sound refl) c.tick.ensures.never_falls c.tick.ensures.same
 
 pub returns-in_err-tick-in-Tick-clause-done : goal.returns-in_err-tick-in-Tick-clause-done
 returns-in_err-tick-in-Tick-clause-done g c =
-    refused_of g.D.Disk.files g.D.Disk.faults c.args.cell.now c.tick.new.self (script_database g.V.Service.database g.V.WordForms.words) _ _ c.in-Tick.is _ c.in_err-tick-in-Tick.field-0.0 _
+    refused_of g.D.Disk c.args.cell.now c.tick.new.self (script_database g.V.Service.database g.V.WordForms.words) _ _ c.in-Tick.is _ c.in_err-tick-in-Tick.field-0.0 _
     c.from_residual.ensures.1 (c.tick.ensures.refused _ c.in_err-tick-in-Tick.was)
 
 pub returns-in-TickAll-clause-done : goal.returns-in-TickAll-clause-done
 returns-in-TickAll-clause-done g c =
-    told_of g.D.Disk.files g.D.Disk.faults c.args.cell.now c.tick_all.new.self (script_database g.V.Service.database g.V.WordForms.words) _ _ c.in-TickAll.is _ _
+    told_of g.D.Disk c.args.cell.now c.tick_all.new.self (script_database g.V.Service.database g.V.WordForms.words) _ _ c.in-TickAll.is _ _
     (λ cell stands. c.tick_all.ensures.told cell _ stands)
 
 pub returns-in-TickAll-clause-kept : goal.returns-in-TickAll-clause-kept
 returns-in-TickAll-clause-kept g c =
-    kept_of g.D.Disk.files g.D.Disk.faults c.args.cell.now c.tick_all.new.self _ c.in-TickAll.seconds (subst HasBounds c.in-TickAll.is c.requires.bounds).1
+    kept_of g.D.Disk c.args.cell.now c.tick_all.new.self _ c.in-TickAll.seconds (subst HasBounds c.in-TickAll.is c.requires.bounds).1
     (λ done. c.tick_all.ensures.sound) c.tick_all.ensures.never_falls c.tick_all.ensures.same
 
 pub returns-in_ok-drop_packet-in-Drop-clause-done : goal.returns-in_ok-drop_packet-in-Drop-clause-done
 returns-in_ok-drop_packet-in-Drop-clause-done g c =
-    told_of g.D.Disk.files g.D.Disk.faults c.args.cell.now c.drop_packet.new.self (script_database g.V.Service.database g.V.WordForms.words) _ _ c.in-Drop.is _ _
+    told_of g.D.Disk c.args.cell.now c.drop_packet.new.self (script_database g.V.Service.database g.V.WordForms.words) _ _ c.in-Drop.is _ _
     (λ cell stands. c.in_ok-drop_packet-in-Drop.ensures.told refl cell _ stands)
 
 pub returns-in_ok-drop_packet-in-Drop-clause-kept : goal.returns-in_ok-drop_packet-in-Drop-clause-kept
 returns-in_ok-drop_packet-in-Drop-clause-kept g c =
-    kept_of g.D.Disk.files g.D.Disk.faults c.args.cell.now c.drop_packet.new.self _ 0 (omega arith)
-    (λ done bound is. raised g.D.Disk.files g.D.Disk.faults bound (bound + 0) c.drop_packet.new.self (omega arith) (c.drop_packet.ensures.sound bound is))
+    kept_of g.D.Disk c.args.cell.now c.drop_packet.new.self _ 0 (omega arith)
+    (λ done bound is. raised g.D.Disk bound (bound + 0) c.drop_packet.new.self (omega arith) (c.drop_packet.ensures.sound bound is))
     c.drop_packet.ensures.never_falls c.drop_packet.ensures.same
 
 pub returns-in_err-drop_packet-in-Drop-clause-done : goal.returns-in_err-drop_packet-in-Drop-clause-done
 returns-in_err-drop_packet-in-Drop-clause-done g c =
-    refused_of g.D.Disk.files g.D.Disk.faults c.args.cell.now c.drop_packet.new.self (script_database g.V.Service.database g.V.WordForms.words) _ _ c.in-Drop.is _ c.in_err-drop_packet-in-Drop.field-0.0 _
+    refused_of g.D.Disk c.args.cell.now c.drop_packet.new.self (script_database g.V.Service.database g.V.WordForms.words) _ _ c.in-Drop.is _ c.in_err-drop_packet-in-Drop.field-0.0 _
     c.from_residual-in_err-drop_packet-in-Drop.ensures.1 (c.drop_packet.ensures.refused _ c.in_err-drop_packet-in-Drop.was)
 
 pub returns-in_ok-drop_all-in-DropAll-clause-done : goal.returns-in_ok-drop_all-in-DropAll-clause-done
 returns-in_ok-drop_all-in-DropAll-clause-done g c =
-    told_of g.D.Disk.files g.D.Disk.faults c.args.cell.now c.drop_all.new.self (script_database g.V.Service.database g.V.WordForms.words) _ _ c.in-DropAll.is _ _
+    told_of g.D.Disk c.args.cell.now c.drop_all.new.self (script_database g.V.Service.database g.V.WordForms.words) _ _ c.in-DropAll.is _ _
     (λ cell stands. c.in_ok-drop_all-in-DropAll.ensures.told refl cell _ stands)
 
 pub returns-in_ok-drop_all-in-DropAll-clause-kept : goal.returns-in_ok-drop_all-in-DropAll-clause-kept
 returns-in_ok-drop_all-in-DropAll-clause-kept g c =
-    kept_of g.D.Disk.files g.D.Disk.faults c.args.cell.now c.drop_all.new.self _ 0 (omega arith)
-    (λ done bound is. raised g.D.Disk.files g.D.Disk.faults bound (bound + 0) c.drop_all.new.self (omega arith) (c.drop_all.ensures.sound bound is))
+    kept_of g.D.Disk c.args.cell.now c.drop_all.new.self _ 0 (omega arith)
+    (λ done bound is. raised g.D.Disk bound (bound + 0) c.drop_all.new.self (omega arith) (c.drop_all.ensures.sound bound is))
     c.drop_all.ensures.never_falls c.drop_all.ensures.same
 
 pub returns-in_err-drop_all-in-DropAll-clause-done : goal.returns-in_err-drop_all-in-DropAll-clause-done
 returns-in_err-drop_all-in-DropAll-clause-done g c =
-    refused_of g.D.Disk.files g.D.Disk.faults c.args.cell.now c.drop_all.new.self (script_database g.V.Service.database g.V.WordForms.words) _ _ c.in-DropAll.is _ c.in_err-drop_all-in-DropAll.field-0.0 _
+    refused_of g.D.Disk c.args.cell.now c.drop_all.new.self (script_database g.V.Service.database g.V.WordForms.words) _ _ c.in-DropAll.is _ c.in_err-drop_all-in-DropAll.field-0.0 _
     c.from_residual-in_err-drop_all-in-DropAll.ensures.1 (c.drop_all.ensures.refused _ c.in_err-drop_all-in-DropAll.was)
 
 pub returns-in-Beacon-clause-done : goal.returns-in-Beacon-clause-done
 returns-in-Beacon-clause-done g c =
-    done_of g.D.Disk.files g.D.Disk.faults c.args.cell.now c.beacon.new.self (script_database g.V.Service.database g.V.WordForms.words) _ _ c.in-Beacon.is c.beacon.result _ _
+    done_of g.D.Disk c.args.cell.now c.beacon.new.self (script_database g.V.Service.database g.V.WordForms.words) _ _ c.in-Beacon.is c.beacon.result _ _
     c.beacon.ensures.told c.beacon.ensures.limit c.beacon.ensures.refused c.beacon.ensures.quiet c.beacon.ensures.short
 
 pub returns-in-Beacon-clause-kept : goal.returns-in-Beacon-clause-kept
 returns-in-Beacon-clause-kept g c =
-    kept_of g.D.Disk.files g.D.Disk.faults c.args.cell.now c.beacon.new.self c.beacon.result 0 (omega arith)
-    (λ done bound is. raised g.D.Disk.files g.D.Disk.faults bound (bound + 0) c.beacon.new.self (omega arith) (c.beacon.ensures.sound done bound is))
+    kept_of g.D.Disk c.args.cell.now c.beacon.new.self c.beacon.result 0 (omega arith)
+    (λ done bound is. raised g.D.Disk bound (bound + 0) c.beacon.new.self (omega arith) (c.beacon.ensures.sound done bound is))
     c.beacon.ensures.never_falls c.beacon.ensures.same
 
 pub returns-in-Recover-clause-done : goal.returns-in-Recover-clause-done
 returns-in-Recover-clause-done g c =
-    done_of g.D.Disk.files g.D.Disk.faults c.args.cell.now c.recover.new.self (script_database g.V.Service.database g.V.WordForms.words) _ _ c.in-Recover.is c.recover.result _ _
+    done_of g.D.Disk c.args.cell.now c.recover.new.self (script_database g.V.Service.database g.V.WordForms.words) _ _ c.in-Recover.is c.recover.result _ _
     c.recover.ensures.told c.recover.ensures.limit c.recover.ensures.refused c.recover.ensures.quiet c.recover.ensures.short
 
 pub returns-in-Recover-clause-kept : goal.returns-in-Recover-clause-kept
 returns-in-Recover-clause-kept g c =
-    kept_of g.D.Disk.files g.D.Disk.faults c.args.cell.now c.recover.new.self c.recover.result 0 (omega arith)
-    (λ done bound is. raised g.D.Disk.files g.D.Disk.faults bound (bound + 0) c.recover.new.self (omega arith) (c.recover.ensures.sound done bound is))
+    kept_of g.D.Disk c.args.cell.now c.recover.new.self c.recover.result 0 (omega arith)
+    (λ done bound is. raised g.D.Disk bound (bound + 0) c.recover.new.self (omega arith) (c.recover.ensures.sound done bound is))
     c.recover.ensures.never_falls c.recover.ensures.same
 
 pub returns-in-Deliver-clause-done : goal.returns-in-Deliver-clause-done
 returns-in-Deliver-clause-done g c =
-    done_of g.D.Disk.files g.D.Disk.faults c.args.cell.now c.deliver.new.self (script_database g.V.Service.database g.V.WordForms.words) _ _ c.in-Deliver.is c.deliver.result _ _
+    done_of g.D.Disk c.args.cell.now c.deliver.new.self (script_database g.V.Service.database g.V.WordForms.words) _ _ c.in-Deliver.is c.deliver.result _ _
     c.deliver.ensures.told c.deliver.ensures.limit c.deliver.ensures.refused c.deliver.ensures.quiet c.deliver.ensures.short
 
 pub returns-in-Deliver-clause-kept : goal.returns-in-Deliver-clause-kept
 returns-in-Deliver-clause-kept g c =
-    kept_of g.D.Disk.files g.D.Disk.faults c.args.cell.now c.deliver.new.self c.deliver.result 0 (omega arith)
-    (λ done bound is. raised g.D.Disk.files g.D.Disk.faults bound (bound + 0) c.deliver.new.self (omega arith) (c.deliver.ensures.sound done bound is))
+    kept_of g.D.Disk c.args.cell.now c.deliver.new.self c.deliver.result 0 (omega arith)
+    (λ done bound is. raised g.D.Disk bound (bound + 0) c.deliver.new.self (omega arith) (c.deliver.ensures.sound done bound is))
     c.deliver.ensures.never_falls c.deliver.ensures.same
 
 pub returns-in-DeliverAll-clause-done : goal.returns-in-DeliverAll-clause-done
 returns-in-DeliverAll-clause-done g c =
-    done_of g.D.Disk.files g.D.Disk.faults c.args.cell.now c.deliver_all.new.self (script_database g.V.Service.database g.V.WordForms.words) _ _ c.in-DeliverAll.is c.deliver_all.result _ _
+    done_of g.D.Disk c.args.cell.now c.deliver_all.new.self (script_database g.V.Service.database g.V.WordForms.words) _ _ c.in-DeliverAll.is c.deliver_all.result _ _
     c.deliver_all.ensures.told c.deliver_all.ensures.limit
     (λ reason is. absurd (c.deliver_all.ensures.refused reason is)) (λ reason is. absurd (c.deliver_all.ensures.refused reason is)) c.deliver_all.ensures.short
 
 pub returns-in-DeliverAll-clause-kept : goal.returns-in-DeliverAll-clause-kept
 returns-in-DeliverAll-clause-kept g c =
-    kept_of g.D.Disk.files g.D.Disk.faults c.args.cell.now c.deliver_all.new.self c.deliver_all.result 0 (omega arith)
-    (λ done bound is. raised g.D.Disk.files g.D.Disk.faults bound (bound + 0) c.deliver_all.new.self (omega arith) (c.deliver_all.ensures.sound done bound is))
+    kept_of g.D.Disk c.args.cell.now c.deliver_all.new.self c.deliver_all.result 0 (omega arith)
+    (λ done bound is. raised g.D.Disk bound (bound + 0) c.deliver_all.new.self (omega arith) (c.deliver_all.ensures.sound done bound is))
     c.deliver_all.ensures.never_falls c.deliver_all.ensures.same
 
 pub returns-in-Show-clause-done : goal.returns-in-Show-clause-done
 returns-in-Show-clause-done g c =
-    done_of g.D.Disk.files g.D.Disk.faults c.args.cell.now c.args.cell.now (script_database g.V.Service.database g.V.WordForms.words) _ _ c.in-Show.is c.show.result _ _ c.show.ensures.told
+    done_of g.D.Disk c.args.cell.now c.args.cell.now (script_database g.V.Service.database g.V.WordForms.words) _ _ c.in-Show.is c.show.result _ _ c.show.ensures.told
     (λ which is. absurd (c.show.ensures.limit which is)) (λ why is. (refl, c.show.ensures.refused why is)) c.show.ensures.quiet c.show.ensures.short
 
 pub returns-in-Show-clause-kept : goal.returns-in-Show-clause-kept
 returns-in-Show-clause-kept g c =
-    kept_same g.D.Disk.files g.D.Disk.faults _ c.args.cell.now
+    kept_same g.D.Disk _ c.args.cell.now

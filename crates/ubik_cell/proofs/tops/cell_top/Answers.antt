@@ -1,5 +1,6 @@
 use Rattle.std.proofs.Common.{◌≡◌, Some, refl, arith}
 use Rattle.std.proofs.lemmas.List.Elements.{All-weaker}
+use Rattle.disk_base.specs.Crash.{IsSettled}
 use Rattle.disk_base.specs.Files.{no_files}
 use Rattle.script_promises.specs.Databases.{databases}
 use Rattle.ubik_cell.specs.declared.cells.CellKind.TheVariants as kind
@@ -14,44 +15,43 @@ use Rattle.ubik_cell.proofs.tops.cell_top.Goals as goal
 
 pub returns-then-not-is_empty-clause-headline : goal.returns-then-not-is_empty-clause-headline
 returns-then-not-is_empty-clause-headline g c =
-    let files = g.D.Disk.files in
-    let faults = g.D.Disk.faults in
     let disks = c.args.disks.now.items in
-    of_both (λ script left before written. Headline files faults (kind.Words 1) script left before written disks disks) _ _
+    of_both (λ script left before written. Headline g.D.Disk (kind.Words 1) script left before written disks disks) _ _
     (λ script before. headline c.law_scripts_are_runs.ensures c.law_words_are_calls.ensures c.law_scripts_keep_promises.ensures
-    c.law_database_is_durable.ensures files faults (kind.Words 1) script (Some script) before (Some before) disks disks
-    (at_once files faults databases (kind.Words 1) script (Some script) before (Some before) disks
-    (All-weaker (λ d. IsFresh g.D.Disk.files g.D.Disk.stop g.D.Disk.faults d) (λ d. g.D.Disk.files d ≡ Some no_files)
-    (λ d fresh. fresh.empty) disks c.requires.fresh)
+    c.law_database_is_durable.ensures g.D.Disk (kind.Words 1) script (Some script) before (Some before) disks disks
+    (at_once g.D.Disk databases (kind.Words 1) script (Some script) before (Some before) disks
+    (All-weaker (λ d. IsFresh g.D.Disk.files g.D.Disk.may_leave g.D.Disk.stop g.D.Disk.faults d)
+    (λ d. g.D.Disk.files d ≡ Some no_files) (λ d fresh. fresh.empty) disks c.requires.fresh)
     (record { none = refl; unread = refl; unwritten = refl })))
+
+pub run_script-kind-requires-clause-settled : goal.run_script-kind-requires-clause-settled
+run_script-kind-requires-clause-settled g c =
+    All-weaker (λ d. IsFresh g.D.Disk.files g.D.Disk.may_leave g.D.Disk.stop g.D.Disk.faults d)
+    (λ d. IsSettled (g.D.Disk.files d) (g.D.Disk.may_leave d)) (λ d fresh. fresh.settled) c.args.disks.now.items c.requires.fresh
 
 pub returns-clause-headline : goal.returns-clause-headline
 returns-clause-headline g c =
-    let files = g.D.Disk.files in
-    let faults = g.D.Disk.faults in
     let k = c.run_script-kind.result in
     let left = g.S.Source.left c.run_script-kind.new.input in
     let after = g.K.Sink.written c.run_script-kind.new.out in
     let disks = c.args.disks.now.items in
     let later = c.run_script-kind.new.disks.items in
-    over_both (λ script before. RanOver files faults k databases script left before after disks later)
-    (λ script before. Headline files faults k script left before after disks later) _ _ c.run_script-kind.ensures.ran
+    over_both (λ script before. RanOver g.D.Disk k databases script left before after disks later)
+    (λ script before. Headline g.D.Disk k script left before after disks later) _ _ c.run_script-kind.ensures.ran
     (λ script before ran. headline c.law_scripts_are_runs.ensures c.law_words_are_calls.ensures c.law_scripts_keep_promises.ensures
-    c.law_database_is_durable.ensures files faults k script left before after disks later ran)
+    c.law_database_is_durable.ensures g.D.Disk k script left before after disks later ran)
 
 pub returns-clause-complete : goal.returns-clause-complete
 returns-clause-complete g c = λ empty read wrote sound.
-    let files = g.D.Disk.files in
-    let faults = g.D.Disk.faults in
     let k = c.run_script-kind.result in
     let left = g.S.Source.left c.run_script-kind.new.input in
     let after = g.K.Sink.written c.run_script-kind.new.out in
     let disks = c.args.disks.now.items in
     let later = c.run_script-kind.new.disks.items in
-    over_both (λ script before. RanOver files faults k databases script left before after disks later)
+    over_both (λ script before. RanOver g.D.Disk k databases script left before after disks later)
     (λ script before. IsInside databases script → IsDoneOrShort k) _ _ c.run_script-kind.ensures.ran
     (λ script before ran inside. complete c.law_sound_fronts.ensures c.law_faults_have_servers.ensures c.law_words_are_calls.ensures
-    files faults k script left before after disks later ran sound inside
+    g.D.Disk k script left before after disks later ran sound inside
     (λ is. let rose = c.run_script-kind.ensures.read_cause.rose is in omega (arith, rose, read))
     (λ is. let rose = c.run_script-kind.ensures.write_cause.rose is in omega (arith, rose, wrote))
     c.run_script-kind.ensures.no_words)

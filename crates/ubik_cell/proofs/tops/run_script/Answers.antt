@@ -9,80 +9,70 @@ use Rattle.ubik_cell.proofs.tops.run_script.Goals as goal
 
 pub returns-in_default-clause-ran : goal.returns-in_default-clause-ran
 returns-in_default-clause-ran g c =
-    let files = g.D.Disk.files in
-    let faults = g.D.Disk.faults in
     let dbs : Databases = only (script_database g.V.Service.database g.V.WordForms.words) in
     let disks = c.args.disks.now.items in
-    of_both (λ script left before written. RanOver files faults kind.NoMemory dbs script left before written disks disks) _ _
-    (short_at_once files faults dbs disks c.requires.empty)
+    of_both (λ script left before written. RanOver g.D.Disk kind.NoMemory dbs script left before written disks disks) _ _
+    (short_at_once g.D.Disk dbs disks c.requires.empty)
 
 pub returns-in_default-new-clause-ran : goal.returns-in_default-new-clause-ran
 returns-in_default-new-clause-ran g c =
-    let files = g.D.Disk.files in
-    let faults = g.D.Disk.faults in
     let dbs : Databases = only (script_database g.V.Service.database g.V.WordForms.words) in
     let disks = c.args.disks.now.items in
     let kept = ap (λ d. d.items) c.in_default-new.ensures.kept in
     subst (λ (after : List _). IfSome (g.S.Source.left c.args.input.now) (λ script. IfSome (g.K.Sink.written c.args.out.now) (λ before.
-    RanOver files faults kind.NoMemory dbs script (g.S.Source.left c.args.input.now) before (g.K.Sink.written c.args.out.now) disks
+    RanOver g.D.Disk kind.NoMemory dbs script (g.S.Source.left c.args.input.now) before (g.K.Sink.written c.args.out.now) disks
     after))) (sym kept)
-    (of_both (λ script left before written. RanOver files faults kind.NoMemory dbs script left before written disks disks) _ _
-    (short_at_once files faults dbs disks c.requires.empty))
+    (of_both (λ script left before written. RanOver g.D.Disk kind.NoMemory dbs script left before written disks disks) _ _
+    (short_at_once g.D.Disk dbs disks c.requires.empty))
 
 pub loop-kind-init : goal.loop-kind-init
 loop-kind-init g c =
-    let files = g.D.Disk.files in
-    let faults = g.D.Disk.faults in
     let dbs : Databases = only (script_database g.V.Service.database g.V.WordForms.words) in
     let run = c.in-Ok-new.run' in
     let spare = c.in-Ok-new.ensures.spare in
     record {
-      so_far = of_both (λ script left before written. SoFar files faults dbs script c.in-Ok.reader.ended left before written run) _ _
-          (first_so_far files faults dbs c.in-Ok.reader.ended run (ap (λ (r : ReaderState). r.ended) c.in-Ok.ensures)
+      so_far = of_both (λ script left before written. SoFar g.D.Disk dbs script c.in-Ok.reader.ended left before written run) _ _
+          (first_so_far g.D.Disk dbs c.in-Ok.reader.ended run (ap (λ (r : ReaderState). r.ended) c.in-Ok.ensures)
           c.in-Ok-new.ensures.at);
       sound = c.in-Ok-new.ensures.sound;
       spare = spare.0 ∙ ap (λ (n : ℕ). drop n c.args.disks.now.items) (sym spare.1);
-      empty = c.in-Ok-new.ensures.emptied.0;
-      room = omega (arith, c.in-Ok-new.ensures.emptied.1, c.requires.twenty, c.args.disks.now.ok);
+      empty = c.in-Ok-new.ensures.taken.0;
+      room = omega (arith, c.in-Ok-new.ensures.taken.1, c.requires.twenty, c.args.disks.now.ok);
       read = omega arith;
       wrote = omega arith;
     }
 
 pub returns-in-Some-clause-ran : goal.returns-in-Some-clause-ran
 returns-in-Some-clause-ran g c =
-    let files = g.D.Disk.files in
-    let faults = g.D.Disk.faults in
     let dbs : Databases = only (script_database g.V.Service.database g.V.WordForms.words) in
     let l = c.loop-kind in
     let next = c.turn.new.run in
     let left = g.S.Source.left c.turn.new.input in
     let after = g.K.Sink.written c.turn.new.out in
     let disks = c.args.disks.now.items in
-    let spare = unreached files faults dbs l.run next disks c.close.new.disks.items l.invariant.sound.disks c.turn.ensures.disks
+    let spare = unreached g.D.Disk dbs l.run next disks c.close.new.disks.items l.invariant.sound.disks c.turn.ensures.disks
     l.invariant.spare c.turn.ensures.spare in
-    let ran = so_far_on files faults dbs l.reader.ended (g.S.Source.left l.input) (g.K.Sink.written l.out) l.run
-    (λ script before. Ran c.in-Some.kind dbs script left before after (sites_in next.cell) (run_helds files faults next)) _ _
+    let ran = so_far_on g.D.Disk dbs l.reader.ended (g.S.Source.left l.input) (g.K.Sink.written l.out) l.run
+    (λ script before. Ran c.in-Some.kind dbs script left before after (sites_in next.cell) (run_helds g.D.Disk next)) _ _
     l.invariant.so_far c.in-Some.ensures.ends in
-    over_both (λ script before. Ran c.in-Some.kind dbs script left before after (sites_in next.cell) (run_helds files faults next))
-    (λ script before. RanOver files faults c.in-Some.kind dbs script left before after disks c.close.new.disks.items) _ _ ran
-    (λ script before is. closed files faults dbs c.in-Some.kind script left before after next disks c.close.new.disks.items
+    over_both (λ script before. Ran c.in-Some.kind dbs script left before after (sites_in next.cell) (run_helds g.D.Disk next))
+    (λ script before. RanOver g.D.Disk c.in-Some.kind dbs script left before after disks c.close.new.disks.items) _ _ ran
+    (λ script before is. closed g.D.Disk dbs c.in-Some.kind script left before after next disks c.close.new.disks.items
     c.close.ensures.held c.close.ensures.others spare is)
 
 pub loop-kind-preserved : goal.loop-kind-preserved
 loop-kind-preserved g c =
-    let files = g.D.Disk.files in
-    let faults = g.D.Disk.faults in
     let dbs : Databases = only (script_database g.V.Service.database g.V.WordForms.words) in
     let l = c.loop-kind in
     let next = c.turn.new.run in
     let none = c.in_default-turn.is in
     record {
-      so_far = so_far_on files faults dbs l.reader.ended (g.S.Source.left l.input) (g.K.Sink.written l.out) l.run
-          (λ script before. SoFar files faults dbs script c.turn.new.reader.ended (g.S.Source.left c.turn.new.input) before
+      so_far = so_far_on g.D.Disk dbs l.reader.ended (g.S.Source.left l.input) (g.K.Sink.written l.out) l.run
+          (λ script before. SoFar g.D.Disk dbs script c.turn.new.reader.ended (g.S.Source.left c.turn.new.input) before
           (g.K.Sink.written c.turn.new.out) next)
           _ _ l.invariant.so_far (c.turn.ensures.goes none);
       sound = c.turn.ensures.sound none;
-      spare = unreached files faults dbs l.run next c.args.disks.now.items [] l.invariant.sound.disks c.turn.ensures.disks
+      spare = unreached g.D.Disk dbs l.run next c.args.disks.now.items [] l.invariant.sound.disks c.turn.ensures.disks
           l.invariant.spare c.turn.ensures.spare;
       empty = l.invariant.empty;
       room = l.invariant.room;

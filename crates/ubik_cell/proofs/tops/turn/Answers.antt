@@ -22,43 +22,37 @@ fault_is_no_end = λ same. cc
 
 pub returns-in-End-clause-ends : goal.returns-in-End-clause-ends
 returns-in-End-clause-ends g c =
-    let files = g.D.Disk.files in
-    let faults = g.D.Disk.faults in
     let dbs : Databases = only (script_database g.V.Service.database g.V.WordForms.words) in
     let run = c.args.run.now in
     as_written (λ (written : List ℕ) (after : Option (List ℕ)). (script before : List ℕ) →
-    SoFar files faults dbs script c.args.reader.now.ended (g.S.Source.left c.args.input.now) before (Some written) run →
+    SoFar g.D.Disk dbs script c.args.reader.now.ended (g.S.Source.left c.args.input.now) before (Some written) run →
     Ran kind.Done dbs script (g.S.Source.left c.next_line.new.source) before after (sites_in run.cell)
-    (run_helds files faults run)) _
-    (λ written script before so. ran_to_the_end files faults dbs script _ c.next_line.new.self.ended _ _ before (Some written) run so
+    (run_helds g.D.Disk run)) _
+    (λ written script before so. ran_to_the_end g.D.Disk dbs script _ c.next_line.new.self.ended _ _ before (Some written) run so
     c.requires.sound c.in-End.ensures.told (λ was. ap g.S.Source.left (c.in-End.ensures.ended was).1))
 
 pub returns-in-Failed-clause-ends : goal.returns-in-Failed-clause-ends
 returns-in-Failed-clause-ends g c =
-    let files = g.D.Disk.files in
-    let faults = g.D.Disk.faults in
     let dbs : Databases = only (script_database g.V.Service.database g.V.WordForms.words) in
     let run = c.args.run.now in
     let going = was_going _ _ fault_is_no_end (λ was. (c.in-Failed.ensures.ended was).0) in
     as_written (λ (written : List ℕ) (after : Option (List ℕ)). (script before : List ℕ) →
-    SoFar files faults dbs script c.args.reader.now.ended (g.S.Source.left c.args.input.now) before (Some written) run →
+    SoFar g.D.Disk dbs script c.args.reader.now.ended (g.S.Source.left c.args.input.now) before (Some written) run →
     Ran kind.ReadFault dbs script (g.S.Source.left c.next_line.new.source) before after (sites_in run.cell)
-    (run_helds files faults run)) _
-    (λ written script before so. ran_to_fault files faults dbs script _ c.next_line.new.self.ended _ _ before (Some written) run so
+    (run_helds g.D.Disk run)) _
+    (λ written script before so. ran_to_fault g.D.Disk dbs script _ c.next_line.new.self.ended _ _ before (Some written) run so
     c.requires.sound going (c.in-Failed.ensures.told going))
 
 pub returns-in-TooLong-clause-ends : goal.returns-in-TooLong-clause-ends
 returns-in-TooLong-clause-ends g c =
-    let files = g.D.Disk.files in
-    let faults = g.D.Disk.faults in
     let dbs : Databases = only (script_database g.V.Service.database g.V.WordForms.words) in
     let run = c.args.run.now in
     let left = g.S.Source.left c.next_line.new.source in
     let after = g.K.Sink.written c.write_line.new.out in
     let going = was_going _ _ long_is_no_end (λ was. (c.in-TooLong.ensures.ended was).0) in
-    ends_line files faults dbs left after run run (c.lines-line.result + 1)
+    ends_line g.D.Disk dbs left after run run (c.lines-line.result + 1)
     (ap (λ (n : ℕ). n + 1) c.lines-line.ensures) c.deref.result.now
-    (λ script before written. SoFar files faults dbs script c.args.reader.now.ended (g.S.Source.left c.args.input.now) before
+    (λ script before written. SoFar g.D.Disk dbs script c.args.reader.now.ended (g.S.Source.left c.args.input.now) before
     (Some written) run)
     c.long_line-told.result c.write_line.result (g.K.Sink.written c.args.out.now)
     (record {
@@ -68,12 +62,12 @@ returns-in-TooLong-clause-ends g c =
     })
     (λ is. absurd (c.long_line-told.ensures.ends is))
     (λ written script before so.
-    let long = at_long files faults dbs script _ c.next_line.new.self.ended _ left before (Some written) run so going
+    let long = at_long g.D.Disk dbs script _ c.next_line.new.self.ended _ left before (Some written) run so going
     (c.in-TooLong.ensures.told going) in
     record {
       line = long.line;
       at = long.at;
-      line_told = λ goes. retold files faults dbs left after run run long.line (told dbs long.at.readings) _ _ _ _ c.clear.ensures.bytes
+      line_told = λ goes. retold g.D.Disk dbs left after run run long.line (told dbs long.at.readings) _ _ _ _ c.clear.ensures.bytes
           c.deref.ensures
           (c.long_line-told.ensures.told goes long.line (told dbs long.at.readings) long.long long.at.at long.at.good);
       short = λ none. c.long_line-told.ensures.short none (take 1025 long.line) (told dbs long.at.readings) long.at.at;
@@ -81,8 +75,6 @@ returns-in-TooLong-clause-ends g c =
 
 pub returns-in-Line-clause-goes : goal.returns-in-Line-clause-goes
 returns-in-Line-clause-goes g c = λ none.
-    let files = g.D.Disk.files in
-    let faults = g.D.Disk.faults in
     let dbs : Databases = only (script_database g.V.Service.database g.V.WordForms.words) in
     let run = c.args.run.now in
     let next = c.line-told.new.self in
@@ -90,9 +82,9 @@ returns-in-Line-clause-goes g c = λ none.
     let after = g.K.Sink.written c.write_line-in-Line.new.out in
     let going = was_going _ _ line_is_no_end (λ was. (c.in-Line.ensures.ended was).0) in
     let now = c.next_line.new.self.ended in
-    goes_line files faults dbs left after run next (c.lines-line.result + 1)
+    goes_line g.D.Disk dbs left after run next (c.lines-line.result + 1)
     (ap (λ (n : ℕ). n + 1) c.lines-line.ensures) c.deref-in-Line.result.now
-    (λ script before written. SoFar files faults dbs script c.args.reader.now.ended (g.S.Source.left c.args.input.now) before
+    (λ script before written. SoFar g.D.Disk dbs script c.args.reader.now.ended (g.S.Source.left c.args.input.now) before
     (Some written) run)
     now c.line-told.result c.write_line-in-Line.result (g.K.Sink.written c.args.out.now) none
     (record {
@@ -107,19 +99,17 @@ returns-in-Line-clause-goes g c = λ none.
     (λ ok script before written so.
     let takes = subst (λ (l : List ℕ). IfSome (g.S.Source.left c.args.input.now) (λ text. TakesLine text left l now))
     (sym c.line.ensures.line) (c.in-Line.ensures.told going) in
-    let at = at_line files faults dbs script _ now _ left before (Some written) run so c.line.result.now going takes in
+    let at = at_line g.D.Disk dbs script _ now _ left before (Some written) run so c.line.result.now going takes in
     record {
       line = c.line.result.now;
       at = at;
-      line_told = retold files faults dbs left after run next c.line.result.now (told dbs at.at.readings) _ _ _ _ c.clear.ensures.bytes
+      line_told = retold g.D.Disk dbs left after run next c.line.result.now (told dbs at.at.readings) _ _ _ _ c.clear.ensures.bytes
           c.deref-in-Line.ensures
           (c.line-told.ensures.told (λ short. let never = sym ok ∙ short in cc) (told dbs at.at.readings) at.at.at at.at.good);
     })
 
 pub returns-in-Line-clause-ends : goal.returns-in-Line-clause-ends
 returns-in-Line-clause-ends g c =
-    let files = g.D.Disk.files in
-    let faults = g.D.Disk.faults in
     let dbs : Databases = only (script_database g.V.Service.database g.V.WordForms.words) in
     let run = c.args.run.now in
     let next = c.line-told.new.self in
@@ -127,9 +117,9 @@ returns-in-Line-clause-ends g c =
     let after = g.K.Sink.written c.write_line-in-Line.new.out in
     let going = was_going _ _ line_is_no_end (λ was. (c.in-Line.ensures.ended was).0) in
     let now = c.next_line.new.self.ended in
-    ends_line files faults dbs left after run next (c.lines-line.result + 1)
+    ends_line g.D.Disk dbs left after run next (c.lines-line.result + 1)
     (ap (λ (n : ℕ). n + 1) c.lines-line.ensures) c.deref-in-Line.result.now
-    (λ script before written. SoFar files faults dbs script c.args.reader.now.ended (g.S.Source.left c.args.input.now) before
+    (λ script before written. SoFar g.D.Disk dbs script c.args.reader.now.ended (g.S.Source.left c.args.input.now) before
     (Some written) run)
     c.line-told.result c.write_line-in-Line.result (g.K.Sink.written c.args.out.now)
     (record {
@@ -145,13 +135,13 @@ returns-in-Line-clause-ends g c =
     (λ written script before so.
     let takes = subst (λ (l : List ℕ). IfSome (g.S.Source.left c.args.input.now) (λ text. TakesLine text left l now))
     (sym c.line.ensures.line) (c.in-Line.ensures.told going) in
-    let at = at_line files faults dbs script _ now _ left before (Some written) run so c.line.result.now going takes in
+    let at = at_line g.D.Disk dbs script _ now _ left before (Some written) run so c.line.result.now going takes in
     record {
       line = c.line.result.now;
       at = at.at;
-      line_told = λ goes. retold files faults dbs left after run next c.line.result.now (told dbs at.at.readings) _ _ _ _
+      line_told = λ goes. retold g.D.Disk dbs left after run next c.line.result.now (told dbs at.at.readings) _ _ _ _
           c.clear.ensures.bytes c.deref-in-Line.ensures
           (c.line-told.ensures.told goes (told dbs at.at.readings) at.at.at at.at.good);
-      short = λ none. subst (λ (l : List ℕ). LineShort files faults dbs l (told dbs at.at.readings) next) (sym at.bound)
+      short = λ none. subst (λ (l : List ℕ). LineShort g.D.Disk dbs l (told dbs at.at.readings) next) (sym at.bound)
           (c.line-told.ensures.short none (told dbs at.at.readings) at.at.at at.at.good);
     })

@@ -20,7 +20,7 @@ returns-in_err-k-clause-refused g c = λ why is.
       refl,
       λ cell stands choices.
           let does : ℕ → Cell_run = λ k. stepped db cell (first_choice choices) (Asking k c.args.id c.args.call) in
-          c.in_err-k.ensures.up cell does (size_of g.D.Disk.files g.D.Disk.faults c.requires.0 c.args.self.now cell c.requires.1 stands) stands ∙ ap Err same,
+          c.in_err-k.ensures.up cell does (size_of g.D.Disk c.requires.0 c.args.self.now cell c.requires.1 stands) stands ∙ ap Err same,
     )
 
 pub returns-in_err-k-clause-never_falls : goal.returns-in_err-k-clause-never_falls
@@ -32,8 +32,8 @@ returns-clause-told g c = λ ok cell stands.
     let o : Some (c.in_ok-k.k, event.Ask c.args.id c.args.call) ≡ Some (c.in_ok-k.k, event.Ask c.args.id c.in_ok-asked.asked) = ap (λ (bytes : List ℕ). Some (c.in_ok-k.k, event.Ask c.args.id bytes)) (sym same) in
     let db = script_database g.V.Service.database g.V.WordForms.words in
     let does : List Choice → ℕ → Cell_run = λ choices k. stepped db cell (first_choice choices) (Asking k c.args.id c.args.call) in
-    told_as g.D.Disk.files g.D.Disk.faults (λ choices. asked_at db cell (first_choice choices) c.args.id c.args.call (Some c.args.server)) (λ choices. Ok (does choices c.in_ok-k.k))
-    (λ choices. c.in_ok-k.ensures.up cell (does choices) (size_of g.D.Disk.files g.D.Disk.faults c.requires.0 c.args.self.now cell c.requires.1 stands) stands)
+    told_as g.D.Disk (λ choices. asked_at db cell (first_choice choices) c.args.id c.args.call (Some c.args.server)) (λ choices. Ok (does choices c.in_ok-k.k))
+    (λ choices. c.in_ok-k.ensures.up cell (does choices) (size_of g.D.Disk c.requires.0 c.args.self.now cell c.requires.1 stands) stands)
     db _ _ _ _ _ (c.step.ensures.told ok cell (Asking c.in_ok-k.k c.args.id c.args.call) stands o)
 
 pub returns-clause-limit : goal.returns-clause-limit
@@ -42,8 +42,8 @@ returns-clause-limit g c = λ which is cell stands.
     let o : Some (c.in_ok-k.k, event.Ask c.args.id c.args.call) ≡ Some (c.in_ok-k.k, event.Ask c.args.id c.in_ok-asked.asked) = ap (λ (bytes : List ℕ). Some (c.in_ok-k.k, event.Ask c.args.id bytes)) (sym same) in
     let db = script_database g.V.Service.database g.V.WordForms.words in
     let does : List Choice → ℕ → Cell_run = λ choices k. stepped db cell (first_choice choices) (Asking k c.args.id c.args.call) in
-    told_as g.D.Disk.files g.D.Disk.faults (λ choices. asked_at db cell (first_choice choices) c.args.id c.args.call (Some c.args.server)) (λ choices. Ok (does choices c.in_ok-k.k))
-    (λ choices. c.in_ok-k.ensures.up cell (does choices) (size_of g.D.Disk.files g.D.Disk.faults c.requires.0 c.args.self.now cell c.requires.1 stands) stands)
+    told_as g.D.Disk (λ choices. asked_at db cell (first_choice choices) c.args.id c.args.call (Some c.args.server)) (λ choices. Ok (does choices c.in_ok-k.k))
+    (λ choices. c.in_ok-k.ensures.up cell (does choices) (size_of g.D.Disk c.requires.0 c.args.self.now cell c.requires.1 stands) stands)
     db _ _ _ _ _ (c.step.ensures.limit which is cell (Asking c.in_ok-k.k c.args.id c.args.call) stands o)
 
 pub returns-clause-short : goal.returns-clause-short
@@ -52,12 +52,12 @@ returns-clause-short g c = λ is cell stands.
     let o : Some (c.in_ok-k.k, event.Ask c.args.id c.args.call) ≡ Some (c.in_ok-k.k, event.Ask c.args.id c.in_ok-asked.asked) = ap (λ (bytes : List ℕ). Some (c.in_ok-k.k, event.Ask c.args.id bytes)) (sym same) in
     let db = script_database g.V.Service.database g.V.WordForms.words in
     let does : List Choice → ℕ → Cell_run = λ choices k. stepped db cell (first_choice choices) (Asking k c.args.id c.args.call) in
-    short_as g.D.Disk.files g.D.Disk.faults (λ choices. asked_at db cell (first_choice choices) c.args.id c.args.call (Some c.args.server)) (λ choices. Ok (does choices c.in_ok-k.k))
-    (λ choices. c.in_ok-k.ensures.up cell (does choices) (size_of g.D.Disk.files g.D.Disk.faults c.requires.0 c.args.self.now cell c.requires.1 stands) stands)
+    short_as g.D.Disk (λ choices. asked_at db cell (first_choice choices) c.args.id c.args.call (Some c.args.server)) (λ choices. Ok (does choices c.in_ok-k.k))
+    (λ choices. c.in_ok-k.ensures.up cell (does choices) (size_of g.D.Disk c.requires.0 c.args.self.now cell c.requires.1 stands) stands)
     cell _ _ (c.step.ensures.short is cell (Asking c.in_ok-k.k c.args.id c.args.call) stands o)
 
 pub returns-in_err-asked-clause-short : goal.returns-in_err-asked-clause-short
-returns-in_err-asked-clause-short g c = λ is cell stands. inl (cell_reads g.D.Disk.files g.D.Disk.faults c.requires.0 c.args.self.now cell c.requires.1 stands)
+returns-in_err-asked-clause-short g c = λ is cell stands. inl (cell_reads g.D.Disk c.requires.0 c.args.self.now cell c.requires.1 stands)
 
 pub returns-in_err-asked-clause-never_falls : goal.returns-in_err-asked-clause-never_falls
 returns-in_err-asked-clause-never_falls g c = rises_same _ _ refl

@@ -22,7 +22,7 @@ is_up-requires g c =
     let to = c.copy_of_votes-packet.result.to in
     let place : place_of c.args.self.now.hosts.items to ≡ Some c.in-Some.k = sym (c.place_of.ensures ∙ ap (λ (h : List Host). place_of h to) c.deref.ensures.value) ∙ c.in-Some.is in
     let lt = (position-Some (λ (other : Host). other.0 == to.0) c.args.self.now.hosts.items c.in-Some.k (record { 0 = 0 }) place).0 in
-    let count = host_count g.D.Disk.files g.D.Disk.faults c.requires.sound.0 c.args.self.now c.requires.sound.1 in
+    let count = host_count g.D.Disk c.requires.sound.0 c.args.self.now c.requires.sound.1 in
     omega (arith, lt, count)
 
 pub step-requires-clause-taken : goal.step-requires-clause-taken
@@ -39,7 +39,7 @@ returns-then-is_up-clause-told g c = λ ok cell stands.
     let p = c.hand_over.new.self in
     let place : place_of c.args.self.now.hosts.items to ≡ Some c.in-Some.k = sym (c.place_of.ensures ∙ ap (λ (h : List Host). place_of h to) c.deref.ensures.value) ∙ c.in-Some.is in
     let h = handed_cell c.args.self.now cell p c.args.number c.in-Some.k c.copy_of_votes-packet.result c.packet.result.now stands c.hand_over.ensures c.requires.some c.packet.ensures c.copy_of_votes-packet.ensures place in
-    told_before g.D.Disk.files g.D.Disk.faults db c.args.self.now c.step.new.self p _ _ _ _ (c.step.ensures.told ok (with_handed cell (set cell.handed (c.args.number - 1) true)) (Delivery c.args.number) h.stands h.goes)
+    told_before g.D.Disk db c.args.self.now c.step.new.self p _ _ _ _ (c.step.ensures.told ok (with_handed cell (set cell.handed (c.args.number - 1) true)) (Delivery c.args.number) h.stands h.goes)
 
 pub returns-then-is_up-clause-limit : goal.returns-then-is_up-clause-limit
 returns-then-is_up-clause-limit g c = λ which is cell stands.
@@ -48,7 +48,7 @@ returns-then-is_up-clause-limit g c = λ which is cell stands.
     let p = c.hand_over.new.self in
     let place : place_of c.args.self.now.hosts.items to ≡ Some c.in-Some.k = sym (c.place_of.ensures ∙ ap (λ (h : List Host). place_of h to) c.deref.ensures.value) ∙ c.in-Some.is in
     let h = handed_cell c.args.self.now cell p c.args.number c.in-Some.k c.copy_of_votes-packet.result c.packet.result.now stands c.hand_over.ensures c.requires.some c.packet.ensures c.copy_of_votes-packet.ensures place in
-    told_before g.D.Disk.files g.D.Disk.faults db c.args.self.now c.step.new.self p _ _ _ _ (c.step.ensures.limit which is (with_handed cell (set cell.handed (c.args.number - 1) true)) (Delivery c.args.number) h.stands h.goes)
+    told_before g.D.Disk db c.args.self.now c.step.new.self p _ _ _ _ (c.step.ensures.limit which is (with_handed cell (set cell.handed (c.args.number - 1) true)) (Delivery c.args.number) h.stands h.goes)
 
 pub returns-then-is_up-clause-short : goal.returns-then-is_up-clause-short
 returns-then-is_up-clause-short g c = λ is cell stands.
@@ -56,18 +56,18 @@ returns-then-is_up-clause-short g c = λ is cell stands.
     let p = c.hand_over.new.self in
     let place : place_of c.args.self.now.hosts.items to ≡ Some c.in-Some.k = sym (c.place_of.ensures ∙ ap (λ (h : List Host). place_of h to) c.deref.ensures.value) ∙ c.in-Some.is in
     let h = handed_cell c.args.self.now cell p c.args.number c.in-Some.k c.copy_of_votes-packet.result c.packet.result.now stands c.hand_over.ensures c.requires.some c.packet.ensures c.copy_of_votes-packet.ensures place in
-    short_before g.D.Disk.files g.D.Disk.faults c.args.self.now c.step.new.self p _ cell (set cell.handed (c.args.number - 1) true)
+    short_before g.D.Disk c.args.self.now c.step.new.self p _ cell (set cell.handed (c.args.number - 1) true)
     (c.step.ensures.short is (with_handed cell (set cell.handed (c.args.number - 1) true)) (Delivery c.args.number) h.stands h.goes)
 
 pub returns-then-is_up-clause-sound : goal.returns-then-is_up-clause-sound
 returns-then-is_up-clause-sound g c = λ ok bound sound.
-    c.step.ensures.sound ok bound (sound_with g.D.Disk.files g.D.Disk.faults bound c.args.self.now c.hand_over.new.self sound (ap (λ (t : Traffic). t.sent) c.hand_over.ensures))
+    c.step.ensures.sound ok bound (sound_with g.D.Disk bound c.args.self.now c.hand_over.new.self sound (ap (λ (t : Traffic). t.sent) c.hand_over.ensures))
 
 pub returns-then-is_up-clause-keeps : goal.returns-then-is_up-clause-keeps
 returns-then-is_up-clause-keeps g c = λ sites read. c.step.ensures.keeps c.copy_of_votes-packet.result refl sites read
 
 pub returns-in_err-tell_mark-clause-short : goal.returns-in_err-tell_mark-clause-short
-returns-in_err-tell_mark-clause-short g c = λ is cell stands. inl (cell_reads g.D.Disk.files g.D.Disk.faults c.requires.sound.0 c.args.self.now cell c.requires.sound.1 stands)
+returns-in_err-tell_mark-clause-short g c = λ is cell stands. inl (cell_reads g.D.Disk c.requires.sound.0 c.args.self.now cell c.requires.sound.1 stands)
 
 pub returns-in_err-tell_mark-clause-never_falls : goal.returns-in_err-tell_mark-clause-never_falls
 returns-in_err-tell_mark-clause-never_falls g c = rises_same _ _ refl
@@ -82,6 +82,6 @@ returns-clause-told g c = λ ok cell stands.
     let p = c.hand_over.new.self in
     let place : place_of c.args.self.now.hosts.items to ≡ Some c.in-Some.k = sym (c.place_of.ensures ∙ ap (λ (h : List Host). place_of h to) c.deref.ensures.value) ∙ c.in-Some.is in
     let h = handed_cell c.args.self.now cell p c.args.number c.in-Some.k c.copy_of_votes-packet.result c.packet.result.now stands c.hand_over.ensures c.requires.some c.packet.ensures c.copy_of_votes-packet.ensures place in
-    told_before g.D.Disk.files g.D.Disk.faults db c.args.self.now (with_packets c.args.self.now p) p _ _ _ _
-    (lost g.D.Disk.files g.D.Disk.faults db (with_packets c.args.self.now p) (with_handed cell (set cell.handed (c.args.number - 1) true)) c.args.number c.in-Some.k c.copy_of_votes-packet.result (string_bytes c.args.text.now) (string_bytes c.tell_mark.new.text)
+    told_before g.D.Disk db c.args.self.now (with_packets c.args.self.now p) p _ _ _ _
+    (lost g.D.Disk db (with_packets c.args.self.now p) (with_handed cell (set cell.handed (c.args.number - 1) true)) c.args.number c.in-Some.k c.copy_of_votes-packet.result (string_bytes c.args.text.now) (string_bytes c.tell_mark.new.text)
     h.stands c.if-is_up.ensures h.goes c.in_ok-tell_mark.ensures)

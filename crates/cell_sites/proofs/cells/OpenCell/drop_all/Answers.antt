@@ -19,7 +19,7 @@ returns-in_err-k-clause-refused g c = λ why is.
       refl,
       λ cell stands choices.
           c.in_err-k.ensures.up cell (does cell)
-          (size_of g.D.Disk.files g.D.Disk.faults c.requires.0 c.args.self.now cell c.requires.1 stands) stands
+          (size_of g.D.Disk c.requires.0 c.args.self.now cell c.requires.1 stands) stands
           ∙ ap Err same,
     )
 
@@ -29,7 +29,7 @@ returns-in_err-k-clause-never_falls g c = rises_none 0 _
 pub index-host-requires : goal.index-host-requires
 index-host-requires g c =
     let up = c.in_ok-k.ensures.place.1 in
-    let within = host_within g.D.Disk.files g.D.Disk.faults c.requires.0 c.args.self.now c.in_ok-k.k c.requires.1 up in
+    let within = host_within g.D.Disk c.requires.0 c.args.self.now c.in_ok-k.k c.requires.1 up in
     let count = c.args.self.now.hosts.ok.0 in
     omega (arith, within, count)
 
@@ -40,12 +40,12 @@ returns-clause-told g c = λ is cell text stands.
     let packets = c.drop_all.new.self in
     let host = c.index-host.result.now in
     let db = script_database g.V.Service.database g.V.WordForms.words in
-    let within = host_within g.D.Disk.files g.D.Disk.faults c.requires.0 running k c.requires.1 c.in_ok-k.ensures.place.1 in
+    let within = host_within g.D.Disk c.requires.0 running k c.requires.1 c.in_ok-k.ensures.place.1 in
     let there = site_there running.hosts.items k host within c.index-host.ensures in
-    packets_told g.D.Disk.files g.D.Disk.faults db running cell packets
+    packets_told g.D.Disk db running cell packets
     (dropped_of (host_at cell.run.world.hosts k) cell.run.world.packets cell.handed) _ text
     (λ choices. c.in_ok-k.ensures.up cell (does cell)
-    (size_of g.D.Disk.files g.D.Disk.faults c.requires.0 running cell c.requires.1 stands) stands)
+    (size_of g.D.Disk c.requires.0 running cell c.requires.1 stands) stands)
     (ap (λ (t : Traffic). t.sent) c.drop_all.ensures)
     (host_handed running cell packets k host c.drop_all.ensures there stands)
     stands

@@ -15,7 +15,7 @@ returns-clause-told g c = λ is c' text stands.
     let running = c.args.self.now in
     let packets = c.hand_over.new.self in
     let db = script_database g.V.Service.database g.V.WordForms.words in
-    packets_told g.D.Disk.files g.D.Disk.faults db running c' packets handed _ text
+    packets_told g.D.Disk db running c' packets handed _ text
     (λ choices. c.in_ok-number.ensures.there c' (resting (record c' { handed = handed })) (ap length stands.sent))
     (ap (λ (t : Traffic). t.sent) c.hand_over.ensures)
     (one_handed running c' packets c.in_ok-number.number c.args.number c.hand_over.ensures c.in_ok-number.ensures.sent.0 stands)

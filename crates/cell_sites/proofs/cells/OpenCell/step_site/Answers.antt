@@ -11,27 +11,27 @@ pub step_node-requires-clause-moment : goal.step_node-requires-clause-moment
 step_node-requires-clause-moment g c =
     let site = c.index_mut-site.result.now in
     let there = found_up c.args.self.now c.args.k site c.in-Up.node c.requires.up c.index_mut-site.ensures.value c.in-Up.is in
-    (here g.D.Disk.files g.D.Disk.faults c.requires.sound.0 c.args.self.now c.args.k site.clock c.in-Up.node c.requires.sound.1 there).moment
+    (here g.D.Disk c.requires.sound.0 c.args.self.now c.args.k site.clock c.in-Up.node c.requires.sound.1 there).moment
 
 pub step_node-requires-clause-sound : goal.step_node-requires-clause-sound
 step_node-requires-clause-sound g c =
     let site = c.index_mut-site.result.now in
     let there = found_up c.args.self.now c.args.k site c.in-Up.node c.requires.up c.index_mut-site.ensures.value c.in-Up.is in
-    let at = here g.D.Disk.files g.D.Disk.faults c.requires.sound.0 c.args.self.now c.args.k site.clock c.in-Up.node c.requires.sound.1 there in
-    subst (λ (m : Member). IsSoundNode g.D.Disk.files g.D.Disk.faults m site.clock c.in-Up.node) (sym at.sound.member) at.sound
+    let at = here g.D.Disk c.requires.sound.0 c.args.self.now c.args.k site.clock c.in-Up.node c.requires.sound.1 there in
+    subst (λ (m : Member). IsSoundNode g.D.Disk m site.clock c.in-Up.node) (sym at.sound.member) at.sound
 
 pub step_node-requires-clause-taken : goal.step_node-requires-clause-taken
 step_node-requires-clause-taken g c =
     let site = c.index_mut-site.result.now in
     let there = found_up c.args.self.now c.args.k site c.in-Up.node c.requires.up c.index_mut-site.ensures.value c.in-Up.is in
-    let at = here g.D.Disk.files g.D.Disk.faults c.requires.sound.0 c.args.self.now c.args.k site.clock c.in-Up.node c.requires.sound.1 there in
+    let at = here g.D.Disk c.requires.sound.0 c.args.self.now c.args.k site.clock c.in-Up.node c.requires.sound.1 there in
     subst (λ (m : Member). IsTaken m c.args.event) (sym at.sound.member) c.requires.taken
 
 pub returns : goal.returns
 returns g c =
     let site = c.index_mut-site.result.now in
     let there = found_up c.args.self.now c.args.k site c.in-Up.node c.requires.up c.index_mut-site.ensures.value c.in-Up.is in
-    let at = here g.D.Disk.files g.D.Disk.faults c.requires.sound.0 c.args.self.now c.args.k site.clock c.in-Up.node c.requires.sound.1 there in
+    let at = here g.D.Disk c.requires.sound.0 c.args.self.now c.args.k site.clock c.in-Up.node c.requires.sound.1 there in
     record {
       clock = site.clock;
       node = c.in-Up.node;
@@ -40,5 +40,5 @@ returns g c =
       sites = refl;
       hosts = refl;
       packets = refl;
-      step = subst (λ (m : Member). NodeStepped g.D.Disk.files g.D.Disk.faults g.V.Service.database m site.clock c.args.event c.step_node.result.0 c.step_node.result.1 c.in-Up.node c.step_node.new.node c.step_node.new.out) at.sound.member c.step_node.ensures;
+      step = subst (λ (m : Member). NodeStepped g.D.Disk g.V.Service.database m site.clock c.args.event c.step_node.result.0 c.step_node.result.1 c.in-Up.node c.step_node.new.node c.step_node.new.out) at.sound.member c.step_node.ensures;
     }

@@ -1,10 +1,9 @@
-use Rattle.std.proofs.Common.{◌≡◌, ◌+◌, ℕ, Option, Some, None, List, Result, Ok, Err, refl, sym, ap, subst, ◌∙◌, arith}
+use Rattle.std.proofs.Common.{◌≡◌, ◌+◌, Some, List, Ok, Err, refl, sym, ap, subst, ◌∙◌, arith}
 use Rattle.std.specs.Result.{result_ok}
 use Rattle.std.specs.String.{string_bytes}
 use Rattle.cell_script.specs.declared.lines.Line.TheVariants as line
-use Rattle.cell_runs.specs.Script.{Cell, Choice, Run_or_why, asked_at, first_choice}
+use Rattle.cell_runs.specs.Script.{Cell, Choice, asked_at, first_choice}
 use Rattle.cell_runs.specs.ScriptDatabase.{script_database}
-use Rattle.cell_sites.specs.declared.faults.LineFault.{LineFault}
 use Rattle.cell_sites.specs.declared.faults.LineFault.TheVariants.{NoMemory}
 use Rattle.cell_sites.specs.Sound.{IsSound}
 use Rattle.ubik_cell.specs.LineRuns.{CellDone, LineDone}
@@ -20,9 +19,9 @@ returns-in_err-call-clause-done g c =
     let run = c.args.self.now in
     let l = line.Ask c.args.server c.args.words.now in
     let same : with_cell run c.in-Some.cell ≡ run = same_again run c.in-Some.cell c.in-Some.cell c.in-Some.is refl in
-    handed_on (λ r. LineDone g.D.Disk.files g.D.Disk.faults db l r run (with_cell run c.in-Some.cell) text text) c.from_residual.result NoMemory c.from_residual.ensures.1
-    (subst (λ after. LineDone g.D.Disk.files g.D.Disk.faults db l (Err NoMemory) run after text text) (sym same)
-    (short_same g.D.Disk.files g.D.Disk.faults db l run text text c.requires.sound))
+    handed_on (λ r. LineDone g.D.Disk db l r run (with_cell run c.in-Some.cell) text text) c.from_residual.result NoMemory c.from_residual.ensures.1
+    (subst (λ after. LineDone g.D.Disk db l (Err NoMemory) run after text text) (sym same)
+    (short_same g.D.Disk db l run text text c.requires.sound))
 
 pub returns-in_err-ask-clause-done : goal.returns-in_err-ask-clause-done
 returns-in_err-ask-clause-done g c =
@@ -34,13 +33,13 @@ returns-in_err-ask-clause-done g c =
     let named : g.V.WordForms.words.call_of c.args.words.now ≡ Some c.in-Some-2.call =
     ap g.V.WordForms.words.call_of (sym c.as_slice.ensures) ∙ sym c.in_ok-call.ensures ∙ c.in-Some-2.is in
     let so = λ (cell : Cell) (choices : List Choice). asked_at db cell (first_choice choices) (run.asks + 1) c.in-Some-2.call (Some c.in_ok-server.server) in
-    let cell = cell_done g.D.Disk.files g.D.Disk.faults c.in-Some.cell c.ask.new.self db so c.ask.result text later
+    let cell = cell_done g.D.Disk c.in-Some.cell c.ask.new.self db so c.ask.result text later
     c.ask.ensures.told c.ask.ensures.limit c.ask.ensures.refused c.ask.ensures.quiet c.ask.ensures.short in
-    handed_on (λ r. LineDone g.D.Disk.files g.D.Disk.faults db (line.Ask c.args.server c.args.words.now) r run (with_cell run c.ask.new.self) text later)
+    handed_on (λ r. LineDone g.D.Disk db (line.Ask c.args.server c.args.words.now) r run (with_cell run c.ask.new.self) text later)
     c.from_residual-in_err-ask.result c.in_err-ask.field-0.0 c.from_residual-in_err-ask.ensures.1
-    (subst (λ server. LineDone g.D.Disk.files g.D.Disk.faults db (line.Ask server c.args.words.now) (Err c.in_err-ask.field-0.0) run (with_cell run c.ask.new.self) text later) (sym number)
-    (asked_err g.D.Disk.files g.D.Disk.faults db c.args.words.now c.in-Some-2.call c.in_ok-server.server named run c.in-Some.cell c.ask.new.self c.in-Some.is c.requires.sound text later
-    c.in_err-ask.field-0.0 (subst (λ r. CellDone g.D.Disk.files g.D.Disk.faults db so r c.in-Some.cell c.ask.new.self text later) c.in_err-ask.was cell) c.ask.ensures.same c.ask.ensures.never_falls))
+    (subst (λ server. LineDone g.D.Disk db (line.Ask server c.args.words.now) (Err c.in_err-ask.field-0.0) run (with_cell run c.ask.new.self) text later) (sym number)
+    (asked_err g.D.Disk db c.args.words.now c.in-Some-2.call c.in_ok-server.server named run c.in-Some.cell c.ask.new.self c.in-Some.is c.requires.sound text later
+    c.in_err-ask.field-0.0 (subst (λ r. CellDone g.D.Disk db so r c.in-Some.cell c.ask.new.self text later) c.in_err-ask.was cell) c.ask.ensures.same c.ask.ensures.never_falls))
 
 pub returns-clause-done : goal.returns-clause-done
 returns-clause-done g c =
@@ -51,17 +50,17 @@ returns-clause-done g c =
     let number : c.args.server ≡ Some c.in_ok-server.server = c.ok_or.ensures.ok_part ∙ ap result_ok c.in_ok-server.was in
     let named : g.V.WordForms.words.call_of c.args.words.now ≡ Some c.in-Some-2.call =
     ap g.V.WordForms.words.call_of (sym c.as_slice.ensures) ∙ sym c.in_ok-call.ensures ∙ c.in-Some-2.is in
-    let sound : IsSound g.D.Disk.files g.D.Disk.faults (clock_bound run.lines) c.in-Some.cell =
-    subst (CellIsSound g.D.Disk.files g.D.Disk.faults (clock_bound run.lines)) c.in-Some.is c.requires.sound.cell in
-    subst (λ server. LineDone g.D.Disk.files g.D.Disk.faults db (line.Ask server c.args.words.now) (Ok tt) run
+    let sound : IsSound g.D.Disk (clock_bound run.lines) c.in-Some.cell =
+    subst (CellIsSound g.D.Disk (clock_bound run.lines)) c.in-Some.is c.requires.sound.cell in
+    subst (λ server. LineDone g.D.Disk db (line.Ask server c.args.words.now) (Ok tt) run
     (record run { cell = Some c.ask.new.self; asks = run.asks + 1 }) text later) (sym number)
-    (asked_ok g.D.Disk.files g.D.Disk.faults db c.args.words.now c.in-Some-2.call c.in_ok-server.server named run c.in-Some.cell c.ask.new.self c.in-Some.is c.requires.sound
+    (asked_ok g.D.Disk db c.args.words.now c.in-Some-2.call c.in_ok-server.server named run c.in-Some.cell c.ask.new.self c.in-Some.is c.requires.sound
     (clock_bound run.lines) text later (c.in_ok-ask.ensures.told refl) c.ask.ensures.same (c.in_ok-ask.ensures.sound refl (clock_bound run.lines) sound))
 
 pub returns-clause-kept : goal.returns-clause-kept
 returns-clause-kept g c =
     let run = c.args.self.now in
-    kept_run g.D.Disk.files g.D.Disk.faults (Ok tt) run c.in-Some.cell c.ask.new.self (run.asks + 1) c.in-Some.is c.requires.sound c.requires.room (omega (arith, c.requires.sound.asks))
-    (kept_of g.D.Disk.files g.D.Disk.faults c.in-Some.cell c.ask.new.self (Ok tt) 0 (omega arith)
-    (λ done bound is. raised g.D.Disk.files g.D.Disk.faults bound (bound + 0) c.ask.new.self (omega arith) (c.in_ok-ask.ensures.sound refl bound is))
+    kept_run g.D.Disk (Ok tt) run c.in-Some.cell c.ask.new.self (run.asks + 1) c.in-Some.is c.requires.sound c.requires.room (omega (arith, c.requires.sound.asks))
+    (kept_of g.D.Disk c.in-Some.cell c.ask.new.self (Ok tt) 0 (omega arith)
+    (λ done bound is. raised g.D.Disk bound (bound + 0) c.ask.new.self (omega arith) (c.in_ok-ask.ensures.sound refl bound is))
     c.ask.ensures.never_falls c.ask.ensures.same)

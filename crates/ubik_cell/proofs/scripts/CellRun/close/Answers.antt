@@ -15,5 +15,5 @@ returns-clause-held g c =
     ] in
     let joined : c.append.new.self.items ≡ c.match-cell.disks.items ++ spare =
     search (rules, c.append.ensures, c.unwrap.ensures) in
-    closed_helds g.D.Disk.files g.D.Disk.faults c.args.self.cell spare c.append.new.self.items
+    closed_helds g.D.Disk c.args.self.cell spare c.append.new.self.items
     (joined ∙ ap (λ (l : List _). l ++ spare) of_cell)

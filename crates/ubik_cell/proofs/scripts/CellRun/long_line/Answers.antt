@@ -1,4 +1,4 @@
-use Rattle.std.proofs.Common.{◌≡◌, ◌∙◌, List, [], ℕ, sym, subst, arith, Err}
+use Rattle.std.proofs.Common.{[], sym, subst, arith}
 use Rattle.cell_runs.specs.ScriptDatabase.{Databases, script_database}
 use Rattle.ubik_cell.specs.Lines.{LineTold, only}
 use Rattle.ubik_cell.specs.declared.scripts.RunEnd.{RunEnd}
@@ -9,17 +9,15 @@ use Rattle.ubik_cell.proofs.scripts.CellRun.long_line.Goals as goal
 
 pub returns-clause-told : goal.returns-clause-told
 returns-clause-told g c = λ goes line t long at good.
-    let files = g.D.Disk.files in
-    let faults = g.D.Disk.faults in
     let dbs : Databases = only (script_database g.V.Service.database g.V.WordForms.words) in
     let ended = c.end.ensures.told goes in
     let run = c.args.self.now in
     let before = string_bytes c.args.text.now in
     let after = string_bytes c.end.new.text in
-    subst (λ (r : Result (Unit {0}) RunEnd). LineTold files faults dbs line t r run before after) (sym ended.0)
-    (end_told files faults dbs run t c.requires.sound at line [] c.long_ending-ending.result before after
+    subst (λ (r : Result (Unit {0}) RunEnd). LineTold g.D.Disk dbs line t r run before after) (sym ended.0)
+    (end_told g.D.Disk dbs run t c.requires.sound at line [] c.long_ending-ending.result before after
     (c.long_ending-ending.ensures dbs t.stage (record { line = line; choices = [] }) (omega (arith, at.stage.lines)) long) ended.1)
 
 pub returns-clause-short : goal.returns-clause-short
 returns-clause-short g c = λ none line t at.
-    end_short g.D.Disk.files g.D.Disk.faults (only (script_database g.V.Service.database g.V.WordForms.words)) c.args.self.now t c.requires.sound at line
+    end_short g.D.Disk (only (script_database g.V.Service.database g.V.WordForms.words)) c.args.self.now t c.requires.sound at line

@@ -1,6 +1,5 @@
-use Rattle.std.proofs.Common.{◌≡◌, ◌≤◌, ◌+◌, ℕ, Option, Some, None, List, [], length, take, drop, Result, Ok, Err, IfOk, All, refl, sym, ap, subst, ◌∙◌, arith}
+use Rattle.std.proofs.Common.{◌≡◌, None, length, take, Ok, refl, sym, ap, ◌∙◌, arith}
 use Rattle.std.specs.String.{string_bytes}
-use Rattle.disk_base.specs.Files.{no_files}
 use Rattle.cell_script.specs.declared.lines.Kind.TheVariants.{Protection}
 use Rattle.cell_script.specs.declared.lines.Line.TheVariants as line
 use Rattle.cell_runs.specs.Script.{hosts_of}
@@ -20,8 +19,8 @@ returns-in_err-cell-clause-done g c = λ kind.
     let run = c.args.self.now in
     let text = string_bytes c.args.text.now in
     let l = line.Cell c.args.servers c.args.clock kind in
-    handed_on (λ r. LineDone g.D.Disk.files g.D.Disk.faults db l r run run text text) c.from_residual.result NoMemory c.from_residual.ensures.1
-    (short_same g.D.Disk.files g.D.Disk.faults db l run text text c.requires.sound)
+    handed_on (λ r. LineDone g.D.Disk db l r run run text text) c.from_residual.result NoMemory c.from_residual.ensures.1
+    (short_same g.D.Disk db l run text text c.requires.sound)
 
 pub open_servers-opened-requires-clause-servers : goal.open_servers-opened-requires-clause-servers
 open_servers-opened-requires-clause-servers g c = sym (ap length c.in_ok-cell.ensures.hosts ∙ hosts_count c.args.servers)
@@ -34,9 +33,9 @@ returns-in_err-opened-in-None-clause-done g c = λ kind.
     let text = string_bytes c.args.text.now in
     let later = string_bytes c.open_servers-opened.new.text in
     let none : run.cell ≡ None = sym c.replace.ensures.value ∙ c.in-None.is in
-    handed_on (λ r. LineDone g.D.Disk.files g.D.Disk.faults db (line.Cell c.args.servers c.args.clock kind) r run after text later)
+    handed_on (λ r. LineDone g.D.Disk db (line.Cell c.args.servers c.args.clock kind) r run after text later)
     c.from_residual-in_err-opened-in-None.result NoMemory c.from_residual-in_err-opened-in-None.ensures.1
-    (opened_short g.D.Disk.files g.D.Disk.faults db c.args.servers c.args.clock kind run c.open_servers-opened.new.cell after c.replace.ensures.after none refl refl
+    (opened_short g.D.Disk db c.args.servers c.args.clock kind run c.open_servers-opened.new.cell after c.replace.ensures.after none refl refl
     text later c.open_servers-opened.ensures.unwritten
     (rest_empty g.D.Disk.files run.spare.items after.spare.items _ c.open_servers-opened.ensures.spare c.requires.sound.spare))
 
@@ -53,7 +52,7 @@ returns-clause-done g c = λ kind.
     let count : length given ≡ c.args.servers = taken_count run.spare.items c.args.servers (omega (arith, c.requires.few, c.requires.sound.disks, no_sites)) in
     let hosts : c.open_servers-opened.new.cell.hosts.items ≡ hosts_of c.args.servers = c.open_servers-opened.ensures.hosts ∙ c.in_ok-cell.ensures.hosts in
     let all : length given ≡ length c.open_servers-opened.new.cell.hosts.items = count ∙ sym (ap length hosts ∙ hosts_count c.args.servers) in
-    opened_line g.D.Disk.files g.D.Disk.faults db c.args.servers c.args.clock kind run c.open_servers-opened.new.cell after c.replace.ensures.after none refl refl
+    opened_line g.D.Disk db c.args.servers c.args.clock kind run c.open_servers-opened.new.cell after c.replace.ensures.after none refl refl
     given text later count
     (c.law_cell_opened.ensures db c.args.clock kind given c.open_servers-opened.new.cell text later c.requires.moment c.open_servers-opened.ensures.room all
     c.in_ok-opened-in-None.ensures.opened) hosts
@@ -74,6 +73,6 @@ returns-clause-kept g c =
     let all : length given ≡ length c.open_servers-opened.new.cell.hosts.items = count ∙ sym (ap length hosts ∙ hosts_count c.args.servers) in
     let opened = c.law_cell_opened.ensures db c.args.clock Protection given c.open_servers-opened.new.cell text later c.requires.moment
     c.open_servers-opened.ensures.room all c.in_ok-opened-in-None.ensures.opened in
-    opened_keeps g.D.Disk.files g.D.Disk.faults db c.args.servers c.args.clock Protection run c.open_servers-opened.new.cell after c.replace.ensures.after none refl refl
+    opened_keeps g.D.Disk db c.args.servers c.args.clock Protection run c.open_servers-opened.new.cell after c.replace.ensures.after none refl refl
     (Ok tt) c.requires.sound c.requires.room (omega (arith, c.open_servers-opened.ensures.few, c.requires.few)) c.open_servers-opened.ensures.spare
     (λ done. opened.sound) c.requires.early

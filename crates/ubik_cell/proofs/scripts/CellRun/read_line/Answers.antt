@@ -1,4 +1,4 @@
-use Rattle.std.proofs.Common.{◌≡◌, ℕ, ◌<◌, Option, Some, None, List, Result, Ok, Err, refl, sym, ap, ◌∙◌}
+use Rattle.std.proofs.Common.{◌≡◌, Ok, Err, sym, ap, ◌∙◌}
 use Rattle.std.specs.String.{string_bytes}
 use Rattle.cell_script.specs.Meaning.{line_of}
 use Rattle.cell_runs.specs.ScriptDatabase.{script_database}
@@ -14,8 +14,8 @@ returns-in_err-meaning-clause-done g c =
     let db = script_database g.V.Service.database g.V.WordForms.words in
     let run = c.args.self.now in
     let text = string_bytes c.args.text.now in
-    handed_on (λ r. ReadDone g.D.Disk.files g.D.Disk.faults db c.args.line.now r run run text text) c.from_residual.result NoMemory c.from_residual.ensures.1
-    (short_read g.D.Disk.files g.D.Disk.faults db c.args.line.now run c.requires.sound text)
+    handed_on (λ r. ReadDone g.D.Disk db c.args.line.now r run run text text) c.from_residual.result NoMemory c.from_residual.ensures.1
+    (short_read g.D.Disk db c.args.line.now run c.requires.sound text)
 
 pub returns-in_err-line-clause-done : goal.returns-in_err-line-clause-done
 returns-in_err-line-clause-done g c =
@@ -25,9 +25,9 @@ returns-in_err-line-clause-done g c =
     let why = c.in_err-line.field-0.0 in
     let is : line_of (sites_in run.cell) c.args.line.now ≡ Err why =
     sym (c.in_ok-meaning.ensures.meaning ∙ ap (λ n. line_of n c.args.line.now) c.servers.ensures) ∙ c.in_err-line.was in
-    handed_on (λ r. ReadDone g.D.Disk.files g.D.Disk.faults db c.args.line.now r run run text text) c.from_residual-in_err-line.result (Refused why)
+    handed_on (λ r. ReadDone g.D.Disk db c.args.line.now r run run text text) c.from_residual-in_err-line.result (Refused why)
     c.from_residual-in_err-line.ensures.1
-    (ended_meaning g.D.Disk.files g.D.Disk.faults db c.args.line.now run c.requires.sound why text c.if-self-ge-MAX_LINES.false is)
+    (ended_meaning g.D.Disk db c.args.line.now run c.requires.sound why text c.if-self-ge-MAX_LINES.false is)
 
 pub returns-clause-done : goal.returns-clause-done
 returns-clause-done g c =
@@ -35,5 +35,5 @@ returns-clause-done g c =
     let run = c.args.self.now in
     let is : line_of (sites_in run.cell) c.args.line.now ≡ Ok c.in_ok-line.line =
     sym (c.in_ok-meaning.ensures.meaning ∙ ap (λ n. line_of n c.args.line.now) c.servers.ensures) ∙ c.in_ok-line.was in
-    read_done g.D.Disk.files g.D.Disk.faults db c.args.line.now run c.requires.sound c.in_ok-line.line c.if-self-ge-MAX_LINES.false is c.run_line.new.self
+    read_done g.D.Disk db c.args.line.now run c.requires.sound c.in_ok-line.line c.if-self-ge-MAX_LINES.false is c.run_line.new.self
     (string_bytes c.args.text.now) (string_bytes c.run_line.new.text) c.run_line.result c.run_line.ensures.done

@@ -1,10 +1,10 @@
-use Rattle.std.proofs.Common.{◌≡◌, ◌⊎◌, inl, inr, ◌+◌, ◌*◌, ℕ, Option, Some, None, List, Result, Ok, Err, refl, sym, subst, arith, ◌≤◌}
+use Rattle.std.proofs.Common.{◌≡◌, inl, inr, ◌+◌, Ok, sym, subst, arith}
 use Rattle.std.specs.String.{string_bytes}
 use Rattle.cell_script.specs.declared.lines.Line.{Line}
 use Rattle.cell_script.specs.declared.lines.TheConstants.{MAX_TICK}
 use Rattle.cell_runs.specs.ScriptDatabase.{script_database}
 use Rattle.cell_sites.specs.Sound.{IsSound}
-use Rattle.ubik_cell.specs.LineRuns.{KeepsRun, LineDone}
+use Rattle.ubik_cell.specs.LineRuns.{LineDone}
 use Rattle.ubik_cell.specs.Lines.{CellIsSound, clock_bound}
 use Rattle.ubik_cell.proofs.Lifting.{IsNoAsk, kept_run, lifted}
 use Rattle.ubik_cell.proofs.Opened.{nothing_keeps, nothing_line}
@@ -14,12 +14,12 @@ pub returns-in-Nothing-clause-done : goal.returns-in-Nothing-clause-done
 returns-in-Nothing-clause-done g c =
     let db = script_database g.V.Service.database g.V.WordForms.words in
     let text = string_bytes c.args.text.now in
-    subst (λ l. LineDone g.D.Disk.files g.D.Disk.faults db l (Ok tt) c.args.self.now c.args.self.now text text) (sym c.in-Nothing.is)
-    (nothing_line g.D.Disk.files g.D.Disk.faults db c.args.self.now c.requires.sound text)
+    subst (λ l. LineDone g.D.Disk db l (Ok tt) c.args.self.now c.args.self.now text text) (sym c.in-Nothing.is)
+    (nothing_line g.D.Disk db c.args.self.now c.requires.sound text)
 
 pub returns-in-Nothing-clause-kept : goal.returns-in-Nothing-clause-kept
 returns-in-Nothing-clause-kept g c =
-    nothing_keeps g.D.Disk.files g.D.Disk.faults (script_database g.V.Service.database g.V.WordForms.words) c.args.self.now c.requires.sound c.requires.room
+    nothing_keeps g.D.Disk (script_database g.V.Service.database g.V.WordForms.words) c.args.self.now c.requires.sound c.requires.room
 
 pub returns-in-Some : goal.returns-in-Some
 returns-in-Some g c =
@@ -40,12 +40,12 @@ returns-in-Some g c =
       | inr (inr (inr (inr (inr (inr (inr (inr (inr (inr (inl a)))))))))) ↦ no _ a.1 tt
       | inr (inr (inr (inr (inr (inr (inr (inr (inr (inr (inr a)))))))))) ↦ no _ a.1 tt
     ] in
-    let sound : IsSound g.D.Disk.files g.D.Disk.faults bound c.in-Some.cell =
-    subst (CellIsSound g.D.Disk.files g.D.Disk.faults bound) c.in-Some.is c.requires.sound.cell in
+    let sound : IsSound g.D.Disk bound c.in-Some.cell =
+    subst (CellIsSound g.D.Disk bound) c.in-Some.is c.requires.sound.cell in
     record {
-      done = lifted g.D.Disk.files g.D.Disk.faults (script_database g.V.Service.database g.V.WordForms.words) c.args.line.now run c.in-Some.cell c.run_in_cell.new.cell
+      done = lifted g.D.Disk (script_database g.V.Service.database g.V.WordForms.words) c.args.line.now run c.in-Some.cell c.run_in_cell.new.cell
           (bound + MAX_TICK) c.run_in_cell.result (string_bytes c.args.text.now) (string_bytes c.run_in_cell.new.text) no_ask c.in-Some.is c.requires.sound
           c.run_in_cell.ensures.done (λ done. c.run_in_cell.ensures.kept.sound done bound sound) c.run_in_cell.ensures.kept;
-      kept = kept_run g.D.Disk.files g.D.Disk.faults c.run_in_cell.result run c.in-Some.cell c.run_in_cell.new.cell run.asks c.in-Some.is c.requires.sound c.requires.room
+      kept = kept_run g.D.Disk c.run_in_cell.result run c.in-Some.cell c.run_in_cell.new.cell run.asks c.in-Some.is c.requires.sound c.requires.room
           (omega (arith, c.requires.sound.asks)) c.run_in_cell.ensures.kept;
     }

@@ -1,0 +1,133 @@
+-- What a crash leaves of a step, and how many calls its disk gets, by the durable call of its store.
+use Rattle.std.proofs.Common.{◌≡◌, ⊎_elim, ℕ, ◌+◌, Bool, true, false, cond, ltb, List, [], ◌∷◌, length, Option, Some, None, IfSome, refl, sym, ap, subst, ◌∙◌, arith}
+use Rattle.std.specs.Option.{option_map}
+use Rattle.std.specs.Prelude.{not, Result, Err, MatchResult}
+use Rattle.ubik_types.specs.declared.images.Change.{Change}
+use Rattle.ubik_types.specs.declared.versions.Version.{Version}
+use Rattle.ubik_types.specs.Image.{effect}
+use Rattle.disk_base.specs.declared.disks.Disk.{Ghosts}
+use Rattle.disk_base.specs.Crash.{LeavesOnly, Narrows, Only}
+use Rattle.disk_base.specs.Files.{Files}
+use Rattle.disk_base.specs.Runs.{OnlyReads}
+use Rattle.disk_base.proofs.Runs.{widened, rested}
+use Rattle.page_file.specs.Pages.{image_of}
+use Rattle.ubik_log.proofs.Gates.{short_log_is_discarded}
+use Rattle.ubik_store.specs.declared.faults.StoreFault.{StoreFault}
+use Rattle.ubik_store.specs.declared.faults.StoreFault.TheVariants.{DiskFault}
+use Rattle.ubik_store.specs.declared.stores.Store.{Store}
+use Rattle.ubik_store.specs.DurableCall.{Commits, EndsAs, HasFailed, IsDurable, IsNeverLong}
+use Rattle.ubik_store.specs.Files.{StandsFor, StandsForEither}
+use Rattle.ubik_store.specs.Files.StandsFor.{by_label}
+use Rattle.ubik_store.specs.Gaps.{IsPlain, CutsNoPut}
+use Rattle.ubik_store.specs.Moments.{head_calls}
+use Rattle.ubik_store.specs.Rest.{IsAtRest}
+use Rattle.ubik_store.specs.Store.{IsReady, image_in}
+use Rattle.ubik_store.proofs.Gaps.{discarded_is_plain}
+use Rattle.ubik_store.proofs.Telling.{told, of_told}
+use Rattle.cell_model.specs.Durable.{Durable, Made, durable, durable_after, change_count}
+use Rattle.ubik_node.specs.Disk.{StandsWithin, LeavesWithin, Serves, has_label, calls_made}
+
+-- the image that stands there is the one that is known
+abbrev pub IsThere : List ℕ → Option (List ℕ) → Type 0
+IsThere image there = IfSome there (λ bytes. bytes ≡ image)
+
+image_there : (files : Option Files) (fs : Files) (image : List ℕ) → files ≡ Some fs → IsThere image (image_in files) → image_of fs.database ≡ image
+image_there files fs image is there = subst (λ (o : Option Files). IsThere image (image_in o)) is there
+
+-- and so it is after changes of it
+pub image_then : (change : List ℕ → List ℕ) (before after : Option (List ℕ)) (old new : List ℕ) → after ≡ option_map change before → IsThere old before → change old ≡ new → IsThere new after
+image_then change None after old new is there leads = let P : Option (List ℕ) → Type 0 = IsThere new in subst P (sym is) tt
+image_then change (Some bytes) after old new is there leads = let P : Option (List ℕ) → Type 0 = IsThere new in subst P (sym is) (ap change there ∙ leads)
+
+stands_one : (d after : Durable) (made : Made) (own v : Version) (here image : List ℕ) → own ≡ d.version → here ≡ d.image → durable v image ≡ after → durable_after d made.call ≡ after
+    → (c : Files) → StandsForEither own here v image c → StandsWithin d (made ∷ []) c
+stands_one d after made own v here image version same then leads c stands =
+    ⊎_elim (λ before. (0, omega arith, subst (λ (w : Version). StandsFor c w d.image) version (subst (λ (xs : List ℕ). StandsFor c own xs) same before)))
+    (λ changed. (1, omega arith, subst (λ (e : Durable). StandsFor c e.version e.image) (then ∙ sym leads) changed)) stands
+
+head_is : (b : Bool) → ◌≡◌ {A = ℕ} (cond b 1 0) (cond (not b) 0 1)
+head_is true = refl
+head_is false = refl
+
+calls_one : (file : List ℕ) (made : Made) (changes : ℕ) → change_count made.call ≡ changes → 13 + changes + head_calls file ≡ calls_made (has_label file) (made ∷ [])
+calls_one file made changes count = let head = head_is (ltb (length file) 64) in omega (arith, count, head)
+
+module _ {D : Type 0} (g : Ghosts D) (old new : Store D) (d : Durable) (changes : List Change) (v : Version) (image : List ℕ) (made : Made) {F : Type 0} where
+  -- one durable call of the store
+  pub leaves_one : IsThere d.image (image_in (g.files old.disk)) → old.version ≡ d.version → effect d.image changes ≡ image → durable_after d made.call ≡ durable v image → CutsNoPut changes
+      → IsDurable g changes v old new F → LeavesWithin g d old.disk new.disk (made ∷ [])
+  leaves_one there version leads after cuts made_so = record {
+    moments = told (g.files old.disk) (λ _. LeavesOnly g.steps g.left_since old.disk new.disk (StandsWithin d (made ∷ []))) (λ fs is.
+        let here : image_of fs.database ≡ d.image = image_there (g.files old.disk) fs d.image is there in
+        let Either : Files → Type 0 = StandsForEither old.version (image_of fs.database) v (effect (image_of fs.database) changes) in
+        widened g.steps g.left_since old.disk new.disk Either (StandsWithin d (made ∷ []))
+        (stands_one d (durable v image) made old.version v (image_of fs.database) (effect (image_of fs.database) changes) version here
+        (ap (durable v) (ap (λ (xs : List ℕ). effect xs changes) here ∙ leads)) after)
+        (of_told (g.files old.disk) fs (λ fs. LeavesOnly g.steps g.left_since old.disk new.disk (StandsForEither old.version (image_of fs.database) v (effect (image_of fs.database) changes))) is made_so.moments));
+    plain = made_so.plain cuts;
+  }
+
+  pub serves_one : IsThere d.image (image_in (g.files old.disk)) → old.version ≡ d.version → effect d.image changes ≡ image → durable_after d made.call ≡ durable v image → CutsNoPut changes
+      → change_count made.call ≡ length changes → IfSome (g.files old.disk) (λ fs. g.steps new.disk ≡ g.steps old.disk + (13 + length changes + head_calls fs.database))
+      → IsDurable g changes v old new F → Serves g d old.disk new.disk (made ∷ [])
+  serves_one there version leads after cuts count rose made_so = record {
+    leaves = leaves_one there version leads after cuts made_so;
+    steps = told (g.files old.disk) (λ fs. g.steps new.disk ≡ g.steps old.disk + calls_made (has_label fs.database) (made ∷ [])) (λ fs is.
+        of_told (g.files old.disk) fs (λ fs. g.steps new.disk ≡ g.steps old.disk + (13 + length changes + head_calls fs.database)) is rose
+        ∙ ap (λ (n : ℕ). g.steps old.disk + n) (calls_one fs.database made (length changes) count));
+  }
+
+module _ {D : Type 0} (g : Ghosts D) (s : Store D) (d : Durable) where
+  at_rest : IsReady g s → (fs : Files) → g.files s.disk ≡ Some fs → IsAtRest s.version (image_of fs.database) fs
+  at_rest ready fs is = of_told (g.files s.disk) fs (λ fs. IsAtRest s.version (image_of fs.database) fs) is ready.rests
+
+  only_these : IsReady g s → (fs : Files) → g.files s.disk ≡ Some fs → Only fs (g.may_leave s.disk)
+  only_these ready fs is = of_told (g.files s.disk) fs (λ fs. Only fs (g.may_leave s.disk)) is ready.settled
+
+  none_left : IsReady g s → (fs : Files) → g.files s.disk ≡ Some fs → StandsFor fs s.version (image_of fs.database)
+  none_left ready fs is =
+      let rests = at_rest ready fs is in by_label fs s.version (short_log_is_discarded fs.log (omega (arith, ap length rests.log))) rests.label
+
+  stands_none : IsReady g s → IsThere d.image (image_in (g.files s.disk)) → s.version ≡ d.version → (fs : Files) → g.files s.disk ≡ Some fs → Narrows (StandsWithin d []) (g.may_leave s.disk)
+  stands_none ready there version fs is = λ c left.
+      let here : image_of fs.database ≡ d.image = image_there (g.files s.disk) fs d.image is there in
+      let stands : StandsFor fs d.version d.image = subst (λ (w : Version). StandsFor fs w d.image) version (subst (λ (xs : List ℕ). StandsFor fs s.version xs) here (none_left ready fs is)) in
+      (0, omega arith, subst (λ (f : Files). StandsFor f d.version d.image) (sym (only_these ready fs is c left)) stands)
+
+  plain_none : IsReady g s → (fs : Files) → g.files s.disk ≡ Some fs → Narrows IsPlain (g.may_leave s.disk)
+  plain_none ready fs is = λ c left.
+      subst IsPlain (sym (only_these ready fs is c left)) (discarded_is_plain fs (short_log_is_discarded fs.log (omega (arith, ap length (at_rest ready fs is).log))))
+
+  -- no durable call of a store: its disk is only read
+  pub serves_reads : {new : D} {F : Type 0} → IsReady g s → IsThere d.image (image_in (g.files s.disk)) → s.version ≡ d.version → OnlyReads g s.disk new F → Serves g d s.disk new []
+  serves_reads {new} ready there version reads =
+      let rest : (P : Files → Type 0) → Narrows P (g.may_leave s.disk) → LeavesOnly g.steps g.left_since s.disk new P =
+      λ P before. rested g.steps g.left_since s.disk new P (g.may_leave s.disk) (g.may_leave new) reads.steps reads.crash (g.only_now s.disk) before in
+      record {
+        leaves = record {
+          moments = told (g.files s.disk) (λ _. LeavesOnly g.steps g.left_since s.disk new (StandsWithin d [])) (λ fs is. rest (StandsWithin d []) (stands_none ready there version fs is));
+          plain = told (g.files s.disk) (λ _. LeavesOnly g.steps g.left_since s.disk new IsPlain) (λ fs is. rest IsPlain (plain_none ready fs is));
+        };
+        steps = told (g.files s.disk) (λ fs. g.steps new ≡ g.steps s.disk + 0) (λ fs is. omega (arith, reads.steps));
+      }
+
+  -- or left alone
+  pub serves_none : IsReady g s → IsThere d.image (image_in (g.files s.disk)) → s.version ≡ d.version → Serves g d s.disk s.disk []
+  serves_none ready there version =
+      let reads : OnlyReads g s.disk s.disk ⊥ = record {
+        files = λ _. refl;
+        kept = λ _. refl;
+        room = λ file. omega arith;
+        steps = refl;
+        crash = record { no_more = λ c left. left; no_less = λ c left. left; since_no_more = λ t c left. left; since_no_less = λ t c left. left };
+        stop = refl;
+        pending = refl;
+        tells = refl;
+        cause = record { never_falls = omega arith; rose = λ none. absurd none };
+      } in
+      serves_reads ready there version reads
+
+-- a durable call that the disk made fail
+pub ended_by_disk : {D : Type 0} (g : Ghosts D) (changes : List Change) (v : Version) (old new : Store D) (r : Result (Unit {0}) StoreFault) → r ≡ Err DiskFault
+    → MatchResult r (λ _. Commits g changes v old new) (EndsAs g IsNeverLong v old new) → HasFailed old new
+ended_by_disk g changes v old new r is ended = subst (λ (r : Result (Unit {0}) StoreFault). MatchResult r (λ _. Commits g changes v old new) (EndsAs g IsNeverLong v old new)) is ended
