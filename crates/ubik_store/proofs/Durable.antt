@@ -1,5 +1,5 @@
 -- A durable call over files at rest: what went before its first changing call shows in nothing.
-use Rattle.std.proofs.Common.{◌≡◌, inl, ℕ, List, [], length, Some, IfSome, subst, sym, ap, ◌∙◌, arith}
+use Rattle.std.proofs.Common.{◌≡◌, inl, ℕ, ◌+◌, List, [], length, Some, IfSome, subst, sym, ap, ◌∙◌, arith}
 use Rattle.ubik_types.specs.declared.images.Change.{Change}
 use Rattle.ubik_types.specs.declared.versions.Version.{Version}
 use Rattle.ubik_types.specs.Image.{effect}
@@ -11,20 +11,18 @@ use Rattle.disk_base.specs.Stops.{IsStopped}
 use Rattle.disk_base.proofs.Stopping.{advances_none}
 use Rattle.page_file.specs.Label.{version_of_database}
 use Rattle.page_file.specs.Pages.{image_of}
-use Rattle.ubik_log.proofs.Gates.{short_log_is_discarded}
 use Rattle.ubik_store.specs.Calls.{CallsAtMost}
 use Rattle.ubik_store.specs.Commit.{IsDurableOver}
 use Rattle.ubik_store.specs.Files.{StandsForEither}
 use Rattle.ubik_store.specs.Gaps.{IsPlain}
 use Rattle.ubik_store.proofs.Applied.{calls_joined, calls_as, no_calls}
 use Rattle.ubik_store.proofs.Committing.{LeavesEither, settled_at, stands_at_rest, unmoved, room_made, room_first}
-use Rattle.ubik_store.proofs.Gaps.{discarded_is_plain}
-use Rattle.ubik_store.proofs.Telling.{told, of_told, of_some}
+use Rattle.ubik_store.proofs.Heads.{FewWithHead, few_but}
+use Rattle.ubik_store.proofs.Telling.{told, of_told}
 
--- files at rest are plain
-plain_at_rest : (fs : Files) (before : Files → Type 0) → fs.log ≡ [] → Only fs before → Narrows IsPlain before
-plain_at_rest fs before empty only c here =
-    subst IsPlain (sym (only c here)) (discarded_is_plain fs (short_log_is_discarded fs.log (omega (arith, ap length empty))))
+-- plain files stay plain
+abbrev pub KeepsPlain : {D : Type 0} (g : Ghosts D) (old new : D) → Files → Type 0
+KeepsPlain g old new fs = IsPlain fs → LeavesOnly g.steps g.left_since old new IsPlain
 
 module _ {D : Type 0} (g : Ghosts D) where
   calls_reserved : {old new : D} {F : Type 0} → OnlyReserves g old new → ¬ F → CallsAtMost g 0 old new F
@@ -48,15 +46,15 @@ module _ {D : Type 0} (g : Ghosts D) where
         stands_at_rest fs own v (effect (image_of fs.database) changes) (g.may_leave disk) (of_told (g.files disk) fs (λ fs. fs.log ≡ []) is empty) labelled
         (settled_at (g.files disk) fs (g.may_leave disk) is settled)
 
-    plain_here : (fs : Files) → g.files disk ≡ Some fs → Narrows IsPlain (g.may_leave disk)
-    plain_here fs is =
-        plain_at_rest fs (g.may_leave disk) (of_told (g.files disk) fs (λ fs. fs.log ≡ []) is empty) (settled_at (g.files disk) fs (g.may_leave disk) is settled)
+    plain_here : (fs : Files) → g.files disk ≡ Some fs → IsPlain fs → Narrows IsPlain (g.may_leave disk)
+    plain_here fs is plain = λ c here. subst IsPlain (sym (settled_at (g.files disk) fs (g.may_leave disk) is settled c here)) plain
 
     -- no call of the disk at all
     pub durable_unmoved : {F : Type 0} → ¬ F → IsDurableOver g changes v disk disk F
     durable_unmoved {F} not = record {
       moments = told (g.files disk) (LeavesEither g disk disk v changes) (λ fs is own labelled. unmoved g disk _ (stands_here fs own is labelled));
-      plain = λ _. told (g.files disk) (λ _. LeavesOnly g.steps g.left_since disk disk IsPlain) (λ fs is. unmoved g disk IsPlain (plain_here fs is));
+      plain = λ _ _. told (g.files disk) (KeepsPlain g disk disk) (λ fs is plain. unmoved g disk IsPlain (plain_here fs is plain));
+      few = few_but g (13 + length changes) 0 disk disk (omega arith, omega arith) (omega arith);
       calls = calls_as (omega arith) (λ failed. failed) (λ failed. failed) (no_calls disk F not);
     }
 
@@ -64,7 +62,8 @@ module _ {D : Type 0} (g : Ghosts D) where
     pub durable_reserved : {new : D} {F : Type 0} → OnlyReserves g disk new → ¬ F → IsDurableOver g changes v disk new F
     durable_reserved {new} {F} made not = record {
       moments = told (g.files disk) (LeavesEither g disk new v changes) (λ fs is own labelled. room_made g _ made (stands_here fs own is labelled));
-      plain = λ _. told (g.files disk) (λ _. LeavesOnly g.steps g.left_since disk new IsPlain) (λ fs is. room_made g IsPlain made (plain_here fs is));
+      plain = λ _ _. told (g.files disk) (KeepsPlain g disk new) (λ fs is plain. room_made g IsPlain made (plain_here fs is plain));
+      few = few_but g (13 + length changes) 0 disk new (omega (arith, made.steps), omega (arith, made.steps)) (omega arith);
       calls = calls_as (omega arith) (λ failed. failed) (λ failed. failed) (calls_reserved made not);
     }
 
@@ -74,8 +73,11 @@ module _ {D : Type 0} (g : Ghosts D) where
       moments = told (g.files disk) (LeavesEither g disk new v changes) (λ fs is own labelled.
           room_first g _ made (stands_here fs own is labelled)
           (of_told (g.files mid) fs (LeavesEither g mid new v changes) (made.files ∙ is) rest.moments own labelled));
-      plain = λ cuts. told (g.files disk) (λ _. LeavesOnly g.steps g.left_since disk new IsPlain) (λ fs is.
-          room_first g IsPlain made (plain_here fs is)
-          (of_some (g.files mid) fs (LeavesOnly g.steps g.left_since mid new IsPlain) (made.files ∙ is) (rest.plain cuts)));
+      plain = λ newer cuts. told (g.files disk) (KeepsPlain g disk new) (λ fs is plain.
+          room_first g IsPlain made (plain_here fs is plain)
+          (of_told (g.files mid) fs (KeepsPlain g mid new) (made.files ∙ is) (rest.plain newer cuts) plain));
+      few = told (g.files disk) (FewWithHead g (13 + length changes) disk new) (λ fs is.
+          let last = of_told (g.files mid) fs (FewWithHead g (13 + length changes) mid new) (made.files ∙ is) rest.few in
+          (omega (arith, made.steps, last.0), omega (arith, made.steps, last.1)));
       calls = calls_first made rest.calls;
     }

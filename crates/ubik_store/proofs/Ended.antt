@@ -1,5 +1,5 @@
 -- How a durable call of a store ends, by how the call over its files did.
-use Rattle.std.proofs.Common.{◌≡◌, ◌≤◌, ◌⊎◌, ⊎_elim, ℕ, ◌-◌, ◌^◌, min, true, false, List, [], length, Option, Some, None, IfSome, refl, sym, ap, subst, ◌∙◌, arith}
+use Rattle.std.proofs.Common.{◌≡◌, ◌≤◌, ◌⊎◌, ⊎_elim, ℕ, ◌+◌, ◌-◌, ◌^◌, min, true, false, List, [], length, Option, Some, None, IfSome, refl, sym, ap, subst, ◌∙◌, arith}
 use Rattle.std.proofs.lemmas.Bool.{false≢true}
 use Rattle.std.specs.Prelude.{Result, Ok, Err, OnOk, IfErr, IsErrOf}
 use Rattle.std.specs.Option.{option_map}
@@ -7,7 +7,7 @@ use Rattle.ubik_types.specs.declared.images.Change.{Change}
 use Rattle.ubik_types.specs.declared.limits.TheConstants.{MAX_IMAGE}
 use Rattle.ubik_types.specs.declared.versions.Version.{Version}
 use Rattle.ubik_types.specs.Image.{effect}
-use Rattle.ubik_types.specs.Version.{IsVersion}
+use Rattle.ubik_types.specs.Version.{IsVersion, version_lt}
 use Rattle.disk_base.specs.declared.disks.Disk.{Ghosts}
 use Rattle.disk_base.specs.Crash.{LeavesOnly}
 use Rattle.disk_base.specs.Files.{Files}
@@ -15,7 +15,6 @@ use Rattle.disk_base.specs.Runs.{OnlyReserves}
 use Rattle.disk_base.specs.Stops.{IsStopped}
 use Rattle.page_file.specs.Label.{version_of_database}
 use Rattle.page_file.specs.Pages.{Known, AgreesIn, image_of}
-use Rattle.ubik_log.proofs.Gates.{short_log_is_discarded}
 use Rattle.ubik_store.specs.declared.faults.StoreFault.{StoreFault}
 use Rattle.ubik_store.specs.declared.faults.StoreFault.TheVariants.{DiskFault, BadLabel, TooLarge, NotNewer, NoMemory}
 use Rattle.ubik_store.specs.declared.stores.Store.{Store}
@@ -29,9 +28,11 @@ use Rattle.ubik_store.specs.Rest.{IsAtRest, RestsAs}
 use Rattle.ubik_store.specs.Store.{IsReady, IsSound, IsForbidden, taken_over}
 use Rattle.ubik_store.proofs.Applied.{no_calls, calls_as}
 use Rattle.ubik_store.proofs.Committing.{settled_at, settled_narrow, stands_at_rest, unmoved}
-use Rattle.ubik_store.proofs.Gaps.{discarded_is_plain}
+use Rattle.ubik_store.proofs.Durable.{KeepsPlain}
+use Rattle.ubik_store.proofs.Heads.{few_but}
 use Rattle.ubik_store.proofs.Rests.{AllAtRest, rests_here}
 use Rattle.ubik_store.proofs.Telling.{told, of_told}
+use Rattle.ubik_store.proofs.Versions.{after_first}
 
 -- what is said of the files under the version of their label, is said under the version of files at rest
 labelled : (files : Option Files) (own : Version) (P : Version → Files → Type 0) → AllAtRest own files
@@ -45,10 +46,6 @@ module _ (v : Version) (changes : List Change) (change : Files → Files) where
   rests_after None new is rests = subst (AllAtRest v) (sym is) tt
   rests_after (Some fs) new is rests = rests_here new v (effect (image_of fs.database) changes) rests
 
--- files at rest are plain
-plain_at_rest : (fs : Files) → fs.log ≡ [] → IsPlain fs
-plain_at_rest fs empty = discarded_is_plain fs (short_log_is_discarded fs.log (omega (arith, ap length empty)))
-
 module _ {D : Type 0} (g : Ghosts D) where
   -- where no call was made, a crash finds what stood there
   pub durable_itself : (changes : List Change) (v : Version) (s : Store D) (F : Type 0) → IsReady g s → ¬ F → IsDurable g changes v s s F
@@ -58,10 +55,10 @@ module _ {D : Type 0} (g : Ghosts D) where
         let only = settled_at (g.files s.disk) fs (g.may_leave s.disk) is ready.settled in
         unmoved g s.disk (StandsForEither s.version (image_of fs.database) v (effect (image_of fs.database) changes))
         (stands_at_rest fs s.version v (effect (image_of fs.database) changes) (g.may_leave s.disk) rest.log rest.label only));
-    plain = λ cuts. told (g.files s.disk) _ (λ fs is.
-        let rest = of_told (g.files s.disk) fs (λ fs. IsAtRest s.version (image_of fs.database) fs) is ready.rests in
+    plain = λ cuts. told (g.files s.disk) (KeepsPlain g s.disk s.disk) (λ fs is plain.
         let only = settled_at (g.files s.disk) fs (g.may_leave s.disk) is ready.settled in
-        unmoved g s.disk IsPlain (λ c here. subst IsPlain (sym (only c here)) (plain_at_rest fs rest.log)));
+        unmoved g s.disk IsPlain (λ c here. subst IsPlain (sym (only c here)) plain));
+    few = few_but g (13 + length changes) 0 s.disk s.disk (omega arith, omega arith) (omega arith);
     calls = calls_as (omega arith) (λ failed. failed) (λ failed. failed) (no_calls s.disk F not);
   }
 
@@ -130,23 +127,24 @@ module _ {D : Type 0} (g : Ghosts D) (changes : List Change) (v : Version) (s : 
   sound_ended (Err NoMemory) sound went version fits is = let same = is.unchanged refl in sound_as_it_was sound went same.0 same.1
 
   -- the call was made of a durable one over the files
-  durable_at : (after : Store D) (F : Type 0) → IsReady g s → IsDurableOver g changes v s.disk after.disk F → IsDurable g changes v s after F
-  durable_at after F ready durable = record {
+  durable_at : (after : Store D) (F : Type 0) → IsReady g s → version_lt s.version v ≡ true → IsDurableOver g changes v s.disk after.disk F → IsDurable g changes v s after F
+  durable_at after F ready newer durable = record {
     moments = labelled (g.files s.disk) s.version
         (λ w fs. LeavesOnly g.steps g.left_since s.disk after.disk (StandsForEither w (image_of fs.database) v (effect (image_of fs.database) changes)))
         ready.rests durable.moments;
-    plain = durable.plain;
+    plain = durable.plain (after_first s.version v newer);
+    few = durable.few;
     calls = durable.calls;
   }
 
-  durable_ended : (r : Result (Unit {0}) StoreFault) → IsSound g s → s.failed ≡ false → IsDurableOver g changes v s.disk disk (IsErrOf r DiskFault)
+  durable_ended : (r : Result (Unit {0}) StoreFault) → IsSound g s → s.failed ≡ false → version_lt s.version v ≡ true → IsDurableOver g changes v s.disk disk (IsErrOf r DiskFault)
       → IsDurable g changes v s (taken_over v (record s { disk = disk; pages = pages }) r) (IsErrOf r DiskFault)
-  durable_ended (Ok done) sound went durable = durable_at _ _ (sound.ready went) durable
-  durable_ended (Err DiskFault) sound went durable = durable_at _ _ (sound.ready went) durable
-  durable_ended (Err (BadLabel len head)) sound went durable = durable_at _ _ (sound.ready went) durable
-  durable_ended (Err (TooLarge bytes)) sound went durable = durable_at _ _ (sound.ready went) durable
-  durable_ended (Err (NotNewer own given)) sound went durable = durable_at _ _ (sound.ready went) durable
-  durable_ended (Err NoMemory) sound went durable = durable_at _ _ (sound.ready went) durable
+  durable_ended (Ok done) sound went newer durable = durable_at _ _ (sound.ready went) newer durable
+  durable_ended (Err DiskFault) sound went newer durable = durable_at _ _ (sound.ready went) newer durable
+  durable_ended (Err (BadLabel len head)) sound went newer durable = durable_at _ _ (sound.ready went) newer durable
+  durable_ended (Err (TooLarge bytes)) sound went newer durable = durable_at _ _ (sound.ready went) newer durable
+  durable_ended (Err (NotNewer own given)) sound went newer durable = durable_at _ _ (sound.ready went) newer durable
+  durable_ended (Err NoMemory) sound went newer durable = durable_at _ _ (sound.ready went) newer durable
 
   pub sound_taken : (r : Result (Unit {0}) StoreFault) (after : Store D) → after ≡ taken_over v (record s { disk = disk; pages = pages }) r
       → IsSound g s → s.failed ≡ false → IsVersion v → len_after s.len changes ≤ MAX_IMAGE → EndsFiles g changes v s disk pages r → IsSound g after
@@ -154,11 +152,11 @@ module _ {D : Type 0} (g : Ghosts D) (changes : List Change) (v : Version) (s : 
       subst (λ (x : Store D). IsSound g x) (sym is) (sound_ended r sound went version fits ends)
 
   pub durable_taken : (r said : Result (Unit {0}) StoreFault) (after : Store D) → after ≡ taken_over v (record s { disk = disk; pages = pages }) r → said ≡ r
-      → IsSound g s → s.failed ≡ false → IsDurableOver g changes v s.disk disk (IsErrOf r DiskFault) → IsDurable g changes v s after (IsErrOf said DiskFault)
-  durable_taken r said after is same sound went durable =
+      → IsSound g s → s.failed ≡ false → version_lt s.version v ≡ true → IsDurableOver g changes v s.disk disk (IsErrOf r DiskFault) → IsDurable g changes v s after (IsErrOf said DiskFault)
+  durable_taken r said after is same sound went newer durable =
       let P : Store D → Type 0 = λ x. IsDurable g changes v s x (IsErrOf said DiskFault) in
       let Q : Result (Unit {0}) StoreFault → Type 0 = λ x. IsDurable g changes v s (taken_over v (record s { disk = disk; pages = pages }) r) (IsErrOf x DiskFault) in
-      subst P (sym is) (subst Q (sym same) (durable_ended r sound went durable))
+      subst P (sym is) (subst Q (sym same) (durable_ended r sound went newer durable))
 
 -- where a version is not newer, the disk is not at fault
 pub not_forbidden : {D : Type 0} (s : Store D) (v : Version) (fault : StoreFault) → s.failed ≡ false → IsForbidden s v fault → ¬ (fault ≡ DiskFault)

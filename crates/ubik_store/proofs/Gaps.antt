@@ -1,9 +1,11 @@
 -- Where a committed log leaves no gap, and no cut of it goes to before an earlier put, it leaves none over what a crash in the midst of it leaves.
-use Rattle.std.proofs.Common.{◌≤◌, ℕ, List, [], ◌∷◌, length, sym, subst, arith}
+use Rattle.std.proofs.Common.{◌≡◌, ◌≤◌, ℕ, true, List, [], ◌∷◌, length, Some, sym, subst, arith}
 use Rattle.ubik_types.specs.declared.images.Change.{Change}
 use Rattle.ubik_types.specs.declared.images.Change.TheVariants.{Put, Cut}
 use Rattle.ubik_types.specs.declared.versions.Version.{Version}
+use Rattle.ubik_types.specs.Version.{zero_version, version_lt}
 use Rattle.disk_base.specs.Files.{Files}
+use Rattle.page_file.specs.Label.{version_of_database}
 use Rattle.page_file.specs.Pages.{image_of}
 use Rattle.ubik_log.specs.LogGrammar.{IsCommitted, IsDiscarded}
 use Rattle.ubik_log.proofs.OneReading.{log_has_one_reading}
@@ -40,20 +42,30 @@ seamless_is_gapless [] len seamless = tt
 seamless_is_gapless (Put at bytes ∷ changes) len seamless = (seamless.0, seamless_is_gapless changes (changed_len len (Put at bytes)) seamless.1)
 seamless_is_gapless (Cut to ∷ changes) len seamless = (tt, seamless_is_gapless changes (changed_len len (Cut to)) seamless.1)
 
--- files with a discarded log are plain
-pub discarded_is_plain : (fs : Files) → IsDiscarded fs.log → IsPlain fs
-discarded_is_plain fs discarded = record {
+-- a database file that stands for the first version is empty
+abbrev pub HasNoFirstLabel : List ℕ → Type 0
+HasNoFirstLabel file = version_of_database file ≡ Some zero_version → file ≡ []
+
+-- files with a discarded log are plain, where no label of the first version stands there
+pub discarded_is_plain : (fs : Files) → IsDiscarded fs.log → HasNoFirstLabel fs.database → IsPlain fs
+discarded_is_plain fs discarded first = record {
   gapless = λ changes version committed. absurd (discarded changes version committed);
   cuts = λ changes version committed. absurd (discarded changes version committed);
+  newer = λ changes version committed. absurd (discarded changes version committed);
+  unlabelled = λ _. first;
 }
 
 module _ (told : List Change) (v : Version) where
-  -- and those whose log tells such changes of the image that stands there
-  pub committed_is_plain : (fs : Files) → IsCommitted fs.log told v → LeaveNoGap (length (image_of fs.database)) told → CutsNoPut told → IsPlain fs
-  committed_is_plain fs committed gapless cuts = record {
+  -- and those whose log tells such changes of the image that stands there, under a version that is not the first one
+  pub committed_is_plain : (fs : Files) → IsCommitted fs.log told v → LeaveNoGap (length (image_of fs.database)) told → CutsNoPut told
+      → version_lt zero_version v ≡ true → IsPlain fs
+  committed_is_plain fs committed gapless cuts newer = record {
     gapless = λ changes version other.
         subst (LeaveNoGap (length (image_of fs.database))) (log_has_one_reading fs.log told changes v version committed other).0 gapless;
     cuts = λ changes version other. subst CutsNoPut (log_has_one_reading fs.log told changes v version committed other).0 cuts;
+    newer = λ changes version other.
+        subst (λ (w : Version). version_lt zero_version w ≡ true) (log_has_one_reading fs.log told changes v version committed other).1 newer;
+    unlabelled = λ discarded. absurd (discarded told v committed);
   }
 
   -- what a crash leaves of plain files while the changes of their log are made is plain
@@ -61,4 +73,4 @@ module _ (told : List Change) (v : Version) where
   plain_again kept c committed plain may =
       committed_is_plain c (subst (λ (log : List ℕ). IsCommitted log told v) (sym may.log) committed)
       (no_gap_again told (length (image_of kept.database)) (length (image_of c.database)) (plain.gapless told v committed) (plain.cuts told v committed) may.redoes.reaches)
-      (plain.cuts told v committed)
+      (plain.cuts told v committed) (plain.newer told v committed)

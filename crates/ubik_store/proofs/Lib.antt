@@ -18,3 +18,4 @@ pub mod Redone
 pub mod Resting
 pub mod Rests
 pub mod Telling
+pub mod Versions

@@ -10,7 +10,7 @@ use Rattle.ubik_types.specs.Logged.{logged}
 use Rattle.disk_base.specs.declared.disks.Disk.{Ghosts}
 use Rattle.disk_base.specs.declared.disks.FileNo.TheVariants.{Log}
 use Rattle.disk_base.specs.Files.{Files}
-use Rattle.disk_base.specs.Crash.{Narrows, LeavesOnly, IsSettled}
+use Rattle.disk_base.specs.Crash.{Narrows, LeavesOnly, IsSettled, RisesAtMost}
 use Rattle.disk_base.specs.Runs.{OnlyReads, ChangesAtMost}
 use Rattle.disk_base.specs.Stops.{DiskStop, IsStopped}
 use Rattle.disk_base.proofs.Runs.{widened, joined, rested, reads_change_none}
@@ -41,8 +41,8 @@ use Rattle.ubik_store.proofs.AsMade.{logged_is_seamless, logged_is_within, effec
 use Rattle.ubik_store.proofs.Committing.{fits_of, may_redo_all, settled_at}
 use Rattle.ubik_store.proofs.Covering.{leads_logged}
 use Rattle.ubik_store.proofs.Ending.{LeavesEffect}
-use Rattle.ubik_store.proofs.Gaps.{discarded_is_plain}
-use Rattle.ubik_store.proofs.Plain.{LeavesPlain}
+use Rattle.ubik_store.proofs.Heads.{FewWithHead}
+use Rattle.ubik_store.proofs.Plain.{LeavesPlain, plain_discarded}
 use Rattle.ubik_store.proofs.Redone.{length-effect}
 use Rattle.ubik_store.proofs.Redoing.{narrowed, rested_first}
 use Rattle.ubik_store.proofs.Resting.{len_of, len_after_within, rests_in}
@@ -52,6 +52,10 @@ use Rattle.ubik_store.proofs.Telling.{told, of_told}
 abbrev pub Opened : Option Files → Known → Files → Type 0
 Opened new pages fs =
     (version : Version) × (image : List ℕ) × StandsFor fs version image × RestsAs version image new × (pages.version ≡ Some version) × (pages.len ≡ length image)
+
+-- at most so many calls as an opening of these files makes
+abbrev pub OpensInFew : {D : Type 0} (g : Ghosts D) (old new : D) → Files → Type 0
+OpensInFew g old new fs = (calls : ℕ) → OpensIn fs calls → RisesAtMost calls (g.steps old) (g.steps new)
 
 -- the plan of one kind or the other
 pub planned : {D : Type 0} (g : Ghosts D) (disk : D) (plan : Plan) (pages : Known) (made : List Change) (v : Version) → plan ≡ Redo pages made v → Plans g disk plan → PlansRedo g disk pages made v
@@ -150,8 +154,9 @@ module _ {D : Type 0} (g : Ghosts D) (old : D) (pages : Known) (made : List Chan
 
   pub redo_is_opening : {new : D} {F G : Type 0} → IsSettled (g.files old) (g.may_leave old) → ¬ IsStopped (g.stop old)
       → IfSome (g.files old) (LeavesEffect g old new v made) → IfSome (g.files old) (LeavesPlain g old new v made)
+      → IfSome (g.files old) (FewWithHead g (7 + length made) old new)
       → (F → G) → (G → F) → CallsAtMost g (8 + length made) old new F → IsOpening g old new G
-  redo_is_opening {new} {F} {G} settled runs effects plains to from calls = record {
+  redo_is_opening {new} {F} {G} settled runs effects plains few to from calls = record {
     moments = told (g.files old) (λ fs. IsGapless fs → (version : Version) (image : List ℕ) → StandsFor fs version image
         → LeavesOnly g.steps g.left_since old new (λ c. StandsFor c version image)) (λ fs is gapless version image stands.
         let committed = plan_committed fs is in
@@ -161,6 +166,10 @@ module _ {D : Type 0} (g : Ghosts D) (old : D) (pages : Known) (made : List Chan
         (λ c there. subst (λ (w : Version). StandsFor c w image) (sym once.0) (subst (λ (xs : List ℕ). StandsFor c v xs) (sym once.1) there)) run);
     plain = told (g.files old) (λ fs. IsPlain fs → LeavesOnly g.steps g.left_since old new IsPlain) (λ fs is plain.
         of_told (g.files old) fs (LeavesPlain g old new v made) is plains plan.told (plan_leads fs is (plain.gapless plan.told v (plan_committed fs is))) plain (plan_narrow fs is settled));
+    few = told (g.files old) (OpensInFew g old new) (λ fs is most opens.
+        let rises = of_told (g.files old) fs (FewWithHead g (7 + length made) old new) is few in
+        let same = plan_calls fs is most opens in
+        (rises.0, omega (arith, rises.1, same)));
     stopped = λ is. ⊎_elim (λ was. absurd (runs was)) (λ failed. to failed) (calls.stopped is);
     most = 8 + length made;
     calls = calls_as (omega arith) to from calls;
@@ -197,15 +206,17 @@ module _ {D : Type 0} (g : Ghosts D) (old : D) (pages : Known) (begun : Bool) (p
 
   pub empty_is_opening : {new : D} {F G : Type 0} → ¬ IsStopped (g.stop old)
       → IfSome (g.files old) (λ fs. LeavesOnly g.steps g.left_since old new (HasDiscarded fs))
+      → RisesAtMost (cond begun 4 2) (g.steps old) (g.steps new)
       → (F → G) → (G → F) → ChangesAtMost g Log 4 old new F → IsOpening g old new G
-  empty_is_opening {new} {F} {G} runs leaves to from changes = record {
+  empty_is_opening {new} {F} {G} runs leaves few to from changes = record {
     moments = told (g.files old) (λ fs. IsGapless fs → (version : Version) (image : List ℕ) → StandsFor fs version image
         → LeavesOnly g.steps g.left_since old new (λ c. StandsFor c version image)) (λ fs is gapless version image stands.
         widened g.steps g.left_since old new (HasDiscarded fs) (λ c. StandsFor c version image) (discarded_stands fs is version image stands)
         (of_told (g.files old) fs (λ fs. LeavesOnly g.steps g.left_since old new (HasDiscarded fs)) is leaves));
     plain = told (g.files old) (λ fs. IsPlain fs → LeavesOnly g.steps g.left_since old new IsPlain) (λ fs is plain.
-        widened g.steps g.left_since old new (HasDiscarded fs) IsPlain (λ c none. discarded_is_plain c none.0)
+        widened g.steps g.left_since old new (HasDiscarded fs) IsPlain (λ c from. plain_discarded fs c plain (none_there fs is) from)
         (of_told (g.files old) fs (λ fs. LeavesOnly g.steps g.left_since old new (HasDiscarded fs)) is leaves));
+    few = told (g.files old) (OpensInFew g old new) (λ fs is most opens. subst (λ (n : ℕ). RisesAtMost n (g.steps old) (g.steps new)) (sym (empty_calls fs is most opens)) few);
     stopped = λ is. ⊎_elim (λ was. absurd (runs was)) (λ failed. to failed) (changes.stopped is);
     most = 4;
     calls = calls_as (omega arith) to from (calls_of changes);
@@ -226,6 +237,7 @@ module _ {D : Type 0} (g : Ghosts D) where
             → LeavesOnly g.steps g.left_since old new (λ c. StandsFor c version image)) (λ fs is gapless version image stands.
             rest (λ c. StandsFor c version image) (before_it fs (λ c. StandsFor c version image) is settled stands));
         plain = told (g.files old) (λ fs. IsPlain fs → LeavesOnly g.steps g.left_since old new IsPlain) (λ fs is plain. rest IsPlain (before_it fs IsPlain is settled plain));
+        few = told (g.files old) (OpensInFew g old new) (λ fs is most opens. (omega (arith, reads.steps), omega (arith, reads.steps)));
         stopped = λ is. stopped (subst (λ (s : DiskStop). IsStopped s) reads.stop is);
         most = 0;
         calls = calls_of (reads_change_none {f = Log} reads);
@@ -245,6 +257,9 @@ module _ {D : Type 0} (g : Ghosts D) where
         plain = told (g.files old) (λ fs. IsPlain fs → LeavesOnly g.steps g.left_since old new IsPlain) (λ fs is plain.
             first IsPlain (before_it fs IsPlain is settled plain)
             (of_told (g.files mid) fs (λ fs. IsPlain fs → LeavesOnly g.steps g.left_since mid new IsPlain) (reads.files went ∙ is) opening.plain plain));
+        few = told (g.files old) (OpensInFew g old new) (λ fs is most opens.
+            let rises = of_told (g.files mid) fs (OpensInFew g mid new) (reads.files went ∙ is) opening.few most opens in
+            (omega (arith, reads.steps, rises.0), omega (arith, reads.steps, rises.1)));
         stopped = opening.stopped;
         most = opening.most;
         calls = calls_as (omega arith) (λ failed. failed) (λ failed. failed) (calls_joined (calls_of (reads_change_none {f = Log} reads)) went opening.calls);
@@ -265,6 +280,9 @@ module _ {D : Type 0} (g : Ghosts D) where
             → LeavesOnly g.steps g.left_since old mid (λ c. StandsFor c version image)) is opening.moments gapless version image stands));
         plain = told (g.files old) (λ fs. IsPlain fs → LeavesOnly g.steps g.left_since old new IsPlain) (λ fs is plain.
             last IsPlain (of_told (g.files old) fs (λ fs. IsPlain fs → LeavesOnly g.steps g.left_since old mid IsPlain) is opening.plain plain));
+        few = told (g.files old) (OpensInFew g old new) (λ fs is most opens.
+            let rises = of_told (g.files old) fs (OpensInFew g old mid) is opening.few most opens in
+            (omega (arith, reads.steps, rises.0), omega (arith, reads.steps, rises.1)));
         stopped = λ is. absurd (opening.stopped (subst (λ (s : DiskStop). IsStopped s) reads.stop is));
         most = opening.most;
         calls = calls_as (omega arith) (λ failed. failed) (λ failed. failed) (calls_joined opening.calls (λ none. none) (calls_of (reads_change_none {f = Log} reads)));

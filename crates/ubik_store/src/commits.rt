@@ -1,5 +1,5 @@
 //! A durable call: a log is kept and its gate opened, and then its changes are made.
-ghost use Rattle.std.specs.Prelude.{◌≡◌, ◌+◌, ◌<◌, ◌≤◌, ◌⊎◌, ℕ, List, [], length, All, IfSome, Some, None, OnOk, IfErr, IsErrOf};
+ghost use Rattle.std.specs.Prelude.{◌≡◌, ◌+◌, ◌<◌, ◌≤◌, ◌⊎◌, ℕ, true, List, [], length, All, IfSome, Some, None, OnOk, IfErr, IsErrOf};
 ghost use Rattle.std.specs.Option.{option_map};
 ghost use Rattle.ubik_types.specs.declared.versions.Version.{Version};
 ghost use Rattle.ubik_types.specs.Version.{IsVersion, version_lt, zero_version};

@@ -3,7 +3,7 @@ ghost use Rattle.std.specs.Prelude.{◌≡◌, ◌≢◌, ◌↔◌, ◌+◌, �
 ghost use Rattle.std.specs.Option.{option_map};
 ghost use Rattle.ubik_types.specs.declared.versions.Version.{Version};
 ghost use Rattle.ubik_types.specs.Version.{IsVersion};
-ghost use Rattle.disk_base.specs.Crash.{LeavesOnly, IsSettled};
+ghost use Rattle.disk_base.specs.Crash.{LeavesOnly, IsSettled, RisesAtMost};
 ghost use Rattle.disk_base.specs.Runs.{OnlyReads, OnlyReserves, ChangesAtMost};
 ghost use Rattle.disk_base.specs.Stops.{IsStopped};
 ghost use Rattle.page_file.specs.Pages.{AgreesIn};
@@ -137,6 +137,7 @@ fn empty_discarded<D: Disk>(disk: &mut D, begun: bool) -> Result<(), StoreFault>
     ensures settled { OnOk result (IsSettled (D.files disk.new) (D.may_leave disk.new)) }
     ensures moments { IfSome (D.files disk.old) (λ fs. LeavesOnly D.steps D.left_since disk.old disk.new (HasDiscarded fs)) }
     ensures steps { OnOk result (D.steps disk.new ≡ D.steps disk.old + (if begun then 4 else 2)) }
+    ensures few { RisesAtMost (if begun then 4 else 2) (D.steps disk.old) (D.steps disk.new) }
     ensures fault { IfErr result (λ fault. fault ≡ StoreFault.DiskFault) }
     ensures changes { ChangesAtMost D.Disk FileNo.Log 4 disk.old disk.new (IsErrOf result StoreFault.DiskFault) }
 {

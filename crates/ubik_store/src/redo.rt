@@ -4,7 +4,7 @@ ghost use Rattle.std.specs.Prelude.{◌≡◌, ◌+◌, ◌<◌, ◌≤◌, ℕ,
 ghost use Rattle.std.specs.Option.{option_map};
 ghost use Rattle.ubik_types.specs.declared.images.Change.{Change};
 ghost use Rattle.disk_base.specs.Files.{Files, OnDone};
-ghost use Rattle.disk_base.specs.Crash.{CutShort, InFile, Narrows, LeavesOnly, OnlyIn, IsSettled, After};
+ghost use Rattle.disk_base.specs.Crash.{CutShort, InFile, Narrows, LeavesOnly, OnlyIn, IsSettled, After, RisesAtMost};
 ghost use Rattle.page_file.specs.Pages.{AgreesIn, image_of};
 ghost use Rattle.ubik_types.specs.Version.{IsVersion};
 ghost use Rattle.disk_base.specs.Runs.{ChangesAtMost};
@@ -29,6 +29,7 @@ pub(crate) fn put_head<D: Disk>(disk: &mut D) -> Result<(), PageFault>
     requires fits { 64 ≤ D.room disk.old FileNo.Database }
     ensures files { OnOk result (D.files disk.new ≡ option_map (with_database with_head) (D.files disk.old)) }
     ensures steps { OnOk result (IfSome (D.files disk.old) (λ fs. D.steps disk.new ≡ D.steps disk.old + head_calls fs.database)) }
+    ensures few { IfSome (D.files disk.old) (λ fs. RisesAtMost (head_calls fs.database) (D.steps disk.old) (D.steps disk.new)) }
     ensures redo { (kept : Files) (told : List Change) → Narrows (MayRedo kept told) (D.may_leave disk.old)
         → LeavesOnly D.steps D.left_since disk.old disk.new (MayRedo kept told) }
     ensures fault { IfErr result (λ fault. fault ≡ PageFault.DiskFault) }
@@ -182,6 +183,8 @@ pub(crate) fn redo<D: Disk>(
         → IsSettled (D.files disk.new) (D.may_leave disk.new)) }
     ensures steps { OnOk result (IfSome (D.files disk.old) (λ fs.
         D.steps disk.new ≡ D.steps disk.old + (7 + length changes.now + head_calls fs.database))) }
+    ensures few { IfSome (D.files disk.old) (λ fs.
+        RisesAtMost (7 + length changes.now + head_calls fs.database) (D.steps disk.old) (D.steps disk.new)) }
     ensures label { OnOk result (pages.new.version ≡ Some v) }
     ensures len { OnOk result (pages.new.len ≡ len_after pages.old.len changes.now) }
     ensures agrees { OnOk result (AgreesIn pages.new (D.files disk.new)) }

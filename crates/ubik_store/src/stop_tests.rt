@@ -139,6 +139,53 @@ fn a_stop_leaves_the_state_before_or_after(rt: HostRuntime) -> Result<(), Fail> 
     Ok(())
 }
 
+/// Relabels a store that stops after so many changing calls, and revives it if it failed: it stays failed. The disk, revived.
+fn revived<D: StopDisk + Drop>(rt: &impl Abort, store: Store<D>, calls: u32) -> D
+    requires sound { IsSound D.Disk store }
+    requires none { store.begun ≡ None }
+    ensures settled { IsSettled (D.files result) (D.may_leave result) }
+{
+    let mut store = store;
+    store.arm(calls, Fill::New);
+    if let Err(StoreFault::DiskFault) = store.relabel(NEXT) {
+        store.revive();
+        assert!(rt; !store.stopped());
+        assert!(rt; matches!(store.relabel(NEXT), Err(StoreFault::DiskFault)));
+        return store.close();
+    }
+    let mut disk = store.close();
+    disk.revive();
+    disk
+}
+
+fn expect_revived<D: StopDisk + Drop>(
+    rt: &impl Abort,
+    alloc: Global,
+    disk: D,
+    calls: u32,
+) -> Result<(), Fail>
+    requires settled { IsSettled (D.files disk) (D.may_leave disk) }
+{
+    let store = installed(alloc, disk)?;
+    let own = store.version();
+    let mut left = opened(alloc, revived(rt, store, calls))?;
+    let version = if is_after(calls, Fill::New) {
+        NEXT
+    } else {
+        own
+    };
+    assert!(rt; holds(alloc, &mut left, version, BEFORE)?, "at {calls}");
+    Ok(())
+}
+
+#[test]
+fn a_revived_store_stays_failed(rt: HostRuntime) -> Result<(), Fail> {
+    for calls in 0..=13 {
+        expect_revived(&rt, rt.alloc(), fresh(rt.alloc())?, calls)?;
+    }
+    Ok(())
+}
+
 /// The first call on an empty disk, which writes zero bytes in place of a label.
 const FIRST: Row = (Call::Commit(&[Edit::Put(0, b"abc")]), 15, b"", b"abc");
 

@@ -1,4 +1,4 @@
-use Rattle.std.proofs.Common.{◌≡◌, ◌+◌, ◌∙◌, ◌⊎◌, rules, inl, inr, length, Some, refl, ap, arith}
+use Rattle.std.proofs.Common.{◌≡◌, ◌+◌, ◌∙◌, ◌⊎◌, rules, inl, inr, ℕ, [], length, Some, refl, ap, arith}
 use Rattle.std.proofs.lemmas.Bool.{false≢true}
 use Rattle.std.specs.Option.{option_map}
 use Rattle.std.specs.Prelude.{Result, Ok, Err, IfErr, IsErr, IsErrOf}
@@ -20,7 +20,8 @@ use Rattle.ubik_store.proofs.Applied.{calls_of, calls_joined, calls_as}
 use Rattle.ubik_store.proofs.Committing.{LeavesEither, fits_of, stands_before, stands_in_gate, leads_itself, may_redo_all, opened_files, ended_from, opened_over, while_kept, until_open, settled_at, all_end_more}
 use Rattle.ubik_store.proofs.Ending.{LeavesEffect}
 use Rattle.ubik_store.proofs.Gaps.{seamless_is_gapless}
-use Rattle.ubik_store.proofs.Plain.{LeavesPlain, plain_before, plain_in_gate, plain_committed}
+use Rattle.ubik_store.proofs.Heads.{FewWithHead, rises_joined, few_but}
+use Rattle.ubik_store.proofs.Plain.{LeavesPlain, plain_before, plain_in_gate, plain_committed, first_over}
 use Rattle.ubik_store.proofs.Resting.{seamless_of, rests_in, committed_long}
 use Rattle.ubik_store.proofs.Telling.{told, of_told, ok_map, err_of, err_any}
 use Rattle.ubik_store.proofs.commits.keep_and_redo.Goals as goal
@@ -39,16 +40,18 @@ returns-in_err-open_gate-clause-moments g c = told _ (LeavesEither g.D.Disk c.ar
     c.in_ok-keep_log.ensures.stands c.open_gate.ensures.either)
 
 pub returns-in_err-keep_log-clause-plain : goal.returns-in_err-keep_log-clause-plain
-returns-in_err-keep_log-clause-plain g c = λ cuts. told _ (λ _. LeavesOnly g.D.Disk.steps g.D.Disk.left_since c.args.disk.now c.keep_log.new.disk IsPlain) (λ fs is.
-    while_kept g.D.Disk IsPlain fs c.args.log.now is c.requires.empty c.requires.settled (plain_before fs) c.keep_log.ensures.moments)
+returns-in_err-keep_log-clause-plain g c = λ newer cuts. told _ (λ fs. IsPlain fs → LeavesOnly g.D.Disk.steps g.D.Disk.left_since c.args.disk.now c.keep_log.new.disk IsPlain) (λ fs is plain.
+    let first = first_over fs plain (of_told _ fs (λ fs. fs.log ≡ []) is c.requires.empty) in
+    while_kept g.D.Disk IsPlain fs c.args.log.now is c.requires.empty c.requires.settled (plain_before fs first) c.keep_log.ensures.moments)
 
 pub returns-in_err-open_gate-clause-plain : goal.returns-in_err-open_gate-clause-plain
-returns-in_err-open_gate-clause-plain g c = λ cuts. told _ (λ _. LeavesOnly g.D.Disk.steps g.D.Disk.left_since c.args.disk.now c.open_gate.new.disk IsPlain) (λ fs is.
+returns-in_err-open_gate-clause-plain g c = λ newer cuts. told _ (λ fs. IsPlain fs → LeavesOnly g.D.Disk.steps g.D.Disk.left_since c.args.disk.now c.open_gate.new.disk IsPlain) (λ fs is plain.
+    let first = first_over fs plain (of_told _ fs (λ fs. fs.log ≡ []) is c.requires.empty) in
     let log = c.args.log.now in
     let changes = c.args.changes.now in
     let gapless = seamless_is_gapless changes _ (seamless_of c.args.pages.now _ fs changes c.requires.agrees is c.requires.seamless) in
-    until_open g.D.Disk IsPlain fs log changes c.args.v is c.requires.empty c.requires.settled (plain_before fs) c.keep_log.ensures.moments
-    (plain_in_gate fs changes c.args.v log c.requires.committed gapless cuts) c.requires.committed c.in_ok-keep_log.ensures.stands c.open_gate.ensures.either)
+    until_open g.D.Disk IsPlain fs log changes c.args.v is c.requires.empty c.requires.settled (plain_before fs first) c.keep_log.ensures.moments
+    (plain_in_gate fs changes c.args.v log c.requires.committed gapless cuts newer first) c.requires.committed c.in_ok-keep_log.ensures.stands c.open_gate.ensures.either)
 
 -- a call that never lacks memory fails by the disk
 gate_fault : {A : Type 0} (r : Result A LogFault) (e : LogFault) → r ≡ Err e → ¬ IsErrOf r logs.NoMemory → e ≡ logs.DiskFault
@@ -97,7 +100,8 @@ returns-clause-moments g c = told _ (LeavesEither g.D.Disk c.args.disk.now c.red
     (rest changes (leads_itself fs c.args.v changes log c.requires.committed) (may_redo_all (with_log log fs) changes _ fits only))))
 
 pub returns-clause-plain : goal.returns-clause-plain
-returns-clause-plain g c = λ cuts. told _ (λ _. LeavesOnly g.D.Disk.steps g.D.Disk.left_since c.args.disk.now c.redo.new.disk IsPlain) (λ fs is.
+returns-clause-plain g c = λ newer cuts. told _ (λ fs. IsPlain fs → LeavesOnly g.D.Disk.steps g.D.Disk.left_since c.args.disk.now c.redo.new.disk IsPlain) (λ fs is plain.
+    let first = first_over fs plain (of_told _ fs (λ fs. fs.log ≡ []) is c.requires.empty) in
     let log = c.args.log.now in
     let changes = c.args.changes.now in
     let gapless = seamless_is_gapless changes _ (seamless_of c.args.pages.now _ fs changes c.requires.agrees is c.requires.seamless) in
@@ -105,9 +109,9 @@ returns-clause-plain g c = λ cuts. told _ (λ _. LeavesOnly g.D.Disk.steps g.D.
     let only = settled_at _ (with_log log fs) _ opened (c.in_ok-open_gate.ensures.set.settled (c.in_ok-keep_log.ensures.stands.settled c.requires.settled)) in
     let rest = of_told _ (with_log log fs) (LeavesPlain g.D.Disk c.open_gate.new.disk c.redo.new.disk c.args.v changes) opened c.redo.ensures.plain in
     joined g.D.Disk.steps g.D.Disk.left_since _ _ _ IsPlain
-    (until_open g.D.Disk IsPlain fs log changes c.args.v is c.requires.empty c.requires.settled (plain_before fs) c.keep_log.ensures.moments
-    (plain_in_gate fs changes c.args.v log c.requires.committed gapless cuts) c.requires.committed c.in_ok-keep_log.ensures.stands c.open_gate.ensures.either)
-    (rest changes (leads_itself fs c.args.v changes log c.requires.committed) (plain_committed fs changes c.args.v log (with_log log fs) c.requires.committed gapless cuts refl refl)
+    (until_open g.D.Disk IsPlain fs log changes c.args.v is c.requires.empty c.requires.settled (plain_before fs first) c.keep_log.ensures.moments
+    (plain_in_gate fs changes c.args.v log c.requires.committed gapless cuts newer first) c.requires.committed c.in_ok-keep_log.ensures.stands c.open_gate.ensures.either)
+    (rest changes (leads_itself fs c.args.v changes log c.requires.committed) (plain_committed fs changes c.args.v log (with_log log fs) c.requires.committed gapless cuts newer refl refl)
     (may_redo_all (with_log log fs) changes _ (fits_of _ _ fs c.requires.agrees is c.requires.len) only)))
 
 pub returns-clause-settled : goal.returns-clause-settled
@@ -147,3 +151,28 @@ returns-clause-room g c =
     let kept_database = c.in_ok-open_gate.ensures.changes.room Database in
     let last_database = c.redo.ensures.calls.room Database in
     (omega (arith, long, kept, last, c.in_ok-keep_log.ensures.stands.reserved), omega (arith, first_database, kept_database, last_database, c.requires.head_fits)))
+
+pub returns-in_err-keep_log-clause-few : goal.returns-in_err-keep_log-clause-few
+returns-in_err-keep_log-clause-few g c =
+    few_but g.D.Disk (13 + length c.args.changes.now) 4 c.args.disk.now c.keep_log.new.disk c.keep_log.ensures.changes.at_most (omega arith)
+
+pub returns-in_err-open_gate-clause-few : goal.returns-in_err-open_gate-clause-few
+returns-in_err-open_gate-clause-few g c =
+    let old = c.args.disk.now in
+    let mid = c.keep_log.new.disk in
+    let new = c.open_gate.new.disk in
+    few_but g.D.Disk (13 + length c.args.changes.now) 6 old new
+    (rises_joined g.D.Disk 4 2 old mid new c.keep_log.ensures.changes.at_most c.open_gate.ensures.changes.at_most) (omega arith)
+
+pub returns-clause-few : goal.returns-clause-few
+returns-clause-few g c =
+    let old = c.args.disk.now in
+    let mid = c.keep_log.new.disk in
+    let opens = c.open_gate.new.disk in
+    let new = c.redo.new.disk in
+    let first = rises_joined g.D.Disk 4 2 old mid opens c.keep_log.ensures.changes.at_most c.open_gate.ensures.changes.at_most in
+    let more : ℕ = 7 + length c.args.changes.now in
+    told (g.D.Disk.files old) (FewWithHead g.D.Disk (13 + length c.args.changes.now) old new) (λ fs is.
+    let opened = opened_over c.args.log.now c.args.changes.now c.args.v fs _ _ _ is c.requires.committed c.in_ok-keep_log.ensures.stands.files c.in_ok-open_gate.ensures.set.files in
+    let last = of_told _ (with_log c.args.log.now fs) (FewWithHead g.D.Disk more opens new) opened c.redo.ensures.few in
+    (omega (arith, first.0, last.0), omega (arith, first.1, last.1)))

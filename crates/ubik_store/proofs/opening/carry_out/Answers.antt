@@ -28,14 +28,14 @@ returns-in_err-redo-in-Redo-clause-opening g c =
     let only : IfErr r (λ fault. fault ≡ DiskFault) = search rules in
     let made = c.as_slice.result.now in
     let plan = planned g.D.Disk c.args.disk.now c.args.plan _ made _ (c.in-Redo.is ∙ ap (λ (xs : List Change). Redo c.in-Redo.pages xs c.in-Redo.version) (sym c.as_slice.ensures)) c.requires.plans in
-    redo_is_opening g.D.Disk c.args.disk.now c.in-Redo.pages made c.in-Redo.version plan c.requires.settled c.requires.runs c.redo.ensures.moments c.redo.ensures.plain
+    redo_is_opening g.D.Disk c.args.disk.now c.in-Redo.pages made c.in-Redo.version plan c.requires.settled c.requires.runs c.redo.ensures.moments c.redo.ensures.plain c.redo.ensures.few
     (λ failed. err_of r DiskFault only some) (λ failed. ap is_err c.in_err-redo-in-Redo.was) c.redo.ensures.calls
 
 pub returns-in_ok-redo-in-Redo-clause-opening : goal.returns-in_ok-redo-in-Redo-clause-opening
 returns-in_ok-redo-in-Redo-clause-opening g c =
     let made = c.as_slice.result.now in
     let plan = planned g.D.Disk c.args.disk.now c.args.plan _ made _ (c.in-Redo.is ∙ ap (λ (xs : List Change). Redo c.in-Redo.pages xs c.in-Redo.version) (sym c.as_slice.ensures)) c.requires.plans in
-    redo_is_opening g.D.Disk c.args.disk.now c.in-Redo.pages made c.in-Redo.version plan c.requires.settled c.requires.runs c.redo.ensures.moments c.redo.ensures.plain
+    redo_is_opening g.D.Disk c.args.disk.now c.in-Redo.pages made c.in-Redo.version plan c.requires.settled c.requires.runs c.redo.ensures.moments c.redo.ensures.plain c.redo.ensures.few
     (λ failed. absurd (false≢true failed)) (λ failed. absurd (false≢true (ap is_err failed))) c.in_ok-redo-in-Redo.ensures.calls
 
 pub returns-in_ok-redo-in-Redo-clause-stands : goal.returns-in_ok-redo-in-Redo-clause-stands
@@ -67,7 +67,7 @@ returns-in_err-empty_discarded-in-Empty-clause-opening g c =
     let some : IsErr r = search rules in
     let only : IfErr r (λ fault. fault ≡ DiskFault) = search rules in
     let plan = emptied g.D.Disk c.args.disk.now c.args.plan _ _ c.in-Empty.is c.requires.plans in
-    empty_is_opening g.D.Disk c.args.disk.now c.in-Empty.pages c.in-Empty.begun plan c.requires.runs c.empty_discarded.ensures.moments
+    empty_is_opening g.D.Disk c.args.disk.now c.in-Empty.pages c.in-Empty.begun plan c.requires.runs c.empty_discarded.ensures.moments c.empty_discarded.ensures.few
     (λ failed. err_of r DiskFault only some)
     (λ failed. err_of c.empty_discarded.result DiskFault c.empty_discarded.ensures.fault (ap is_err c.in_err-empty_discarded-in-Empty.was))
     c.empty_discarded.ensures.changes
@@ -75,7 +75,7 @@ returns-in_err-empty_discarded-in-Empty-clause-opening g c =
 pub returns-in_ok-empty_discarded-in-Empty-clause-opening : goal.returns-in_ok-empty_discarded-in-Empty-clause-opening
 returns-in_ok-empty_discarded-in-Empty-clause-opening g c =
     let plan = emptied g.D.Disk c.args.disk.now c.args.plan _ _ c.in-Empty.is c.requires.plans in
-    empty_is_opening g.D.Disk c.args.disk.now c.in-Empty.pages c.in-Empty.begun plan c.requires.runs c.empty_discarded.ensures.moments
+    empty_is_opening g.D.Disk c.args.disk.now c.in-Empty.pages c.in-Empty.begun plan c.requires.runs c.empty_discarded.ensures.moments c.empty_discarded.ensures.few
     (λ failed. absurd (false≢true (ap is_err failed))) (λ failed. absurd (false≢true (ap is_err failed))) c.in_ok-empty_discarded-in-Empty.ensures.changes
 
 pub returns-in_ok-empty_discarded-in-Empty-clause-stands : goal.returns-in_ok-empty_discarded-in-Empty-clause-stands

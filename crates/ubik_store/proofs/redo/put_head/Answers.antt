@@ -1,4 +1,4 @@
-use Rattle.std.proofs.Common.{◌≡◌, refl, replicate, rules, arith}
+use Rattle.std.proofs.Common.{◌≡◌, ◌+◌, ◌∙◌, ℕ, ap, refl, replicate, rules, arith}
 use Rattle.std.proofs.lemmas.Bool.{false≢true}
 use Rattle.disk_base.specs.declared.disks.DiskEnd.TheVariants as ends
 use Rattle.disk_base.specs.declared.disks.FileNo.TheVariants.{Database}
@@ -6,7 +6,7 @@ use Rattle.disk_base.specs.declared.disks.LenEnd.TheVariants as lens
 use Rattle.disk_base.specs.Runs.{OnlyReads, Writes}
 use Rattle.disk_base.proofs.Runs.{called, rested, reads_change_none, write_changes, changes_joined, changes_as}
 use Rattle.ubik_store.specs.Moments.{MayRedo}
-use Rattle.ubik_store.proofs.Heads.{headed}
+use Rattle.ubik_store.proofs.Heads.{headed, few_none, few_head}
 use Rattle.ubik_store.proofs.Redoing.{len_reads, rested_first, redo_head}
 use Rattle.ubik_store.proofs.redo.put_head.Goals as goal
 
@@ -28,6 +28,18 @@ returns-in-Failed-write_at-clause-redo g c = λ kept told before.
     rested_first g.D.Disk (MayRedo kept told) c.len.ensures.steps c.len.ensures.crash before
     (λ mid. called g.D.Disk.steps g.D.Disk.left_since _ _ (MayRedo kept told) _ _ c.write_at.ensures.steps c.write_at.ensures.time (g.D.Disk.only_now c.len.new.self) mid
     (λ fs left. let from = c.write_at.ensures.crash fs left in redo_head kept told from.0 fs from.2 (mid from.0 from.1)))
+
+pub returns-in-Known-clause-few : goal.returns-in-Known-clause-few
+returns-in-Known-clause-few g c = few_none _ _ _ c.len.ensures.steps
+
+pub returns-in-Done-clause-few : goal.returns-in-Done-clause-few
+returns-in-Done-clause-few g c = few_head _ _ _ _ c.in-Known.ensures.length (omega arith) (c.write_at.ensures.steps ∙ ap (λ (n : ℕ). n + 1) c.len.ensures.steps)
+
+pub returns-in-Failed-write_at-clause-few : goal.returns-in-Failed-write_at-clause-few
+returns-in-Failed-write_at-clause-few g c = few_head _ _ _ _ c.in-Known.ensures.length (omega arith) (c.write_at.ensures.steps ∙ ap (λ (n : ℕ). n + 1) c.len.ensures.steps)
+
+pub returns-in-Failed-clause-few : goal.returns-in-Failed-clause-few
+returns-in-Failed-clause-few g c = few_none _ _ _ c.len.ensures.steps
 
 pub returns-in-Known-clause-changes : goal.returns-in-Known-clause-changes
 returns-in-Known-clause-changes g c =

@@ -13,6 +13,7 @@ use Rattle.ubik_store.specs.Moments.{MayRedo, with_database, head_calls, with_he
 use Rattle.ubik_store.specs.Redo.{IsSeamless}
 use Rattle.ubik_store.proofs.Applied.{calls_of, calls_joined, calls_as}
 use Rattle.ubik_store.proofs.Ending.{agrees_headed, finished_files, ended_files, log_there, stands_by_log, settled_end, run_ended, LeavesEffect}
+use Rattle.ubik_store.proofs.Heads.{rises_joined, few_more}
 use Rattle.ubik_store.proofs.Plain.{LeavesPlain, plain_by_log, run_plain}
 use Rattle.ubik_store.proofs.Redoing.{narrowed}
 use Rattle.ubik_store.proofs.Telling.{told, of_told}
@@ -148,8 +149,9 @@ returns-in_err-end_log-clause-plain g c = told _ (LeavesPlain g.D.Disk c.args.di
     let two = joined g.D.Disk.steps g.D.Disk.left_since _ _ _ (MayRedo fs cs) one (c.apply_all.ensures.redo fs cs leads.covered (narrowed g.D.Disk one)) in
     let three = joined g.D.Disk.steps g.D.Disk.left_since _ _ _ (MayRedo fs cs) two (c.put_label.ensures.redo fs cs (narrowed g.D.Disk two)) in
     let mid = two_files c.args.changes.now _ _ _ fs is c.in_ok-put_head.ensures.files c.in_ok-apply_all.ensures.files in
-    run_plain fs cs c.args.changes.now c.args.v leads plain g.D.Disk (finished c.args.changes.now c.args.v) three
+    run_plain fs cs c.args.changes.now c.args.v leads plain g.D.Disk c.requires.version three
     (c.in_ok-put_label.ensures.files ∙ ap (option_map (with_database (labelled c.args.v))) mid)
+    (labelled_only c.args.v c.args.changes.now _ fs _ mid c.in_ok-put_label.ensures.durable)
     c.end_log.ensures.moments)
 
 pub returns-clause-plain : goal.returns-clause-plain
@@ -158,6 +160,49 @@ returns-clause-plain g c = told _ (LeavesPlain g.D.Disk c.args.disk.now c.end_lo
     let two = joined g.D.Disk.steps g.D.Disk.left_since _ _ _ (MayRedo fs cs) one (c.apply_all.ensures.redo fs cs leads.covered (narrowed g.D.Disk one)) in
     let three = joined g.D.Disk.steps g.D.Disk.left_since _ _ _ (MayRedo fs cs) two (c.put_label.ensures.redo fs cs (narrowed g.D.Disk two)) in
     let mid = two_files c.args.changes.now _ _ _ fs is c.in_ok-put_head.ensures.files c.in_ok-apply_all.ensures.files in
-    run_plain fs cs c.args.changes.now c.args.v leads plain g.D.Disk (finished c.args.changes.now c.args.v) three
+    run_plain fs cs c.args.changes.now c.args.v leads plain g.D.Disk c.requires.version three
     (c.in_ok-put_label.ensures.files ∙ ap (option_map (with_database (labelled c.args.v))) mid)
+    (labelled_only c.args.v c.args.changes.now _ fs _ mid c.in_ok-put_label.ensures.durable)
     c.end_log.ensures.moments)
+
+pub returns-in_err-put_head-clause-few : goal.returns-in_err-put_head-clause-few
+returns-in_err-put_head-clause-few g c =
+    let old = c.args.disk.now in
+    let one = c.put_head.new.disk in
+    few_more g.D.Disk (7 + length c.args.changes.now) 0 old one one c.put_head.ensures.few (omega arith, omega arith) (omega arith)
+
+pub returns-in_err-apply_all-clause-few : goal.returns-in_err-apply_all-clause-few
+returns-in_err-apply_all-clause-few g c =
+    let long = length c.args.changes.now in
+    few_more g.D.Disk (7 + long) long c.args.disk.now c.put_head.new.disk c.apply_all.new.disk c.put_head.ensures.few c.apply_all.ensures.changes.at_most (omega arith)
+
+pub returns-in_err-put_label-clause-few : goal.returns-in_err-put_label-clause-few
+returns-in_err-put_label-clause-few g c =
+    let long = length c.args.changes.now in
+    let one = c.put_head.new.disk in
+    let two = c.apply_all.new.disk in
+    let three = c.put_label.new.disk in
+    few_more g.D.Disk (7 + long) (long + 3) c.args.disk.now one three c.put_head.ensures.few
+    (rises_joined g.D.Disk long 3 one two three c.apply_all.ensures.changes.at_most c.put_label.ensures.changes.at_most) (omega arith)
+
+pub returns-in_err-end_log-clause-few : goal.returns-in_err-end_log-clause-few
+returns-in_err-end_log-clause-few g c =
+    let long = length c.args.changes.now in
+    let one = c.put_head.new.disk in
+    let two = c.apply_all.new.disk in
+    let three = c.put_label.new.disk in
+    let four = c.end_log.new.disk in
+    few_more g.D.Disk (7 + long) (long + 3 + 4) c.args.disk.now one four c.put_head.ensures.few
+    (rises_joined g.D.Disk (long + 3) 4 one three four
+    (rises_joined g.D.Disk long 3 one two three c.apply_all.ensures.changes.at_most c.put_label.ensures.changes.at_most) c.end_log.ensures.changes.at_most) (omega arith)
+
+pub returns-clause-few : goal.returns-clause-few
+returns-clause-few g c =
+    let long = length c.args.changes.now in
+    let one = c.put_head.new.disk in
+    let two = c.apply_all.new.disk in
+    let three = c.put_label.new.disk in
+    let four = c.end_log.new.disk in
+    few_more g.D.Disk (7 + long) (long + 3 + 4) c.args.disk.now one four c.put_head.ensures.few
+    (rises_joined g.D.Disk (long + 3) 4 one three four
+    (rises_joined g.D.Disk long 3 one two three c.apply_all.ensures.changes.at_most c.put_label.ensures.changes.at_most) c.end_log.ensures.changes.at_most) (omega arith)

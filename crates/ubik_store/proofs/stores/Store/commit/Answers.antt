@@ -28,4 +28,4 @@ returns-in-Some-clause-durable g c = λ went.
     let P : Option (List Change) → Type 0 = λ o. IfSome o (λ changes. IsDurable g.D.Disk changes c.args.v c.args.self.now c.end.new.self (IsErrOf c.end.result DiskFault)) in
     subst P (sym (ap changes_begun c.in-Some.is ∙ ap (λ (cs : List Change). Some cs) (sym c.changes.ensures)))
     (durable_taken g.D.Disk c.changes.result.now c.args.v c.args.self.now made.new.disk made.new.pages made.result c.end.result c.end.new.self c.end.ensures.store c.end.ensures.same
-    c.requires.sound went made.ensures.durable)
+    c.requires.sound went c.in_ok-allow.ensures.ok.1 made.ensures.durable)
