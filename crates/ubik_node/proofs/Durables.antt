@@ -1,14 +1,15 @@
 -- What a crash leaves of a step, and how many calls its disk gets, by the durable call of its store.
-use Rattle.std.proofs.Common.{◌≡◌, ⊎_elim, ℕ, ◌+◌, Bool, true, false, cond, ltb, List, [], ◌∷◌, length, Option, Some, None, IfSome, refl, sym, ap, subst, ◌∙◌, arith}
+use Rattle.std.proofs.Common.{◌≡◌, ⊎_elim, inl, inr, ℕ, zero, suc, ◌+◌, ◌≤◌, Bool, true, false, cond, ltb, List, [], ◌∷◌, length, take, Option, Some, None, IfSome, refl, sym, ap, subst, ◌∙◌, arith}
 use Rattle.std.specs.Option.{option_map}
 use Rattle.std.specs.Prelude.{not, Result, Err, MatchResult}
 use Rattle.ubik_types.specs.declared.images.Change.{Change}
 use Rattle.ubik_types.specs.declared.versions.Version.{Version}
 use Rattle.ubik_types.specs.Image.{effect}
 use Rattle.disk_base.specs.declared.disks.Disk.{Ghosts}
-use Rattle.disk_base.specs.Crash.{LeavesOnly, Narrows, Only}
+use Rattle.disk_base.specs.Crash.{LeavesOnly, Narrows, Only, RisesAtMost}
 use Rattle.disk_base.specs.Files.{Files}
 use Rattle.disk_base.specs.Runs.{OnlyReads}
+use Rattle.disk_base.specs.Stops.{IsStopped, after_changes}
 use Rattle.disk_base.proofs.Runs.{widened, rested}
 use Rattle.page_file.specs.Pages.{image_of}
 use Rattle.ubik_log.proofs.Gates.{short_log_is_discarded}
@@ -22,10 +23,9 @@ use Rattle.ubik_store.specs.Gaps.{IsPlain, CutsNoPut}
 use Rattle.ubik_store.specs.Moments.{head_calls}
 use Rattle.ubik_store.specs.Rest.{IsAtRest}
 use Rattle.ubik_store.specs.Store.{IsReady, image_in}
-use Rattle.ubik_store.proofs.Gaps.{discarded_is_plain}
 use Rattle.ubik_store.proofs.Telling.{told, of_told}
-use Rattle.cell_model.specs.Durable.{Durable, Made, durable, durable_after, change_count}
-use Rattle.ubik_node.specs.Disk.{StandsWithin, LeavesWithin, Serves, has_label, calls_made}
+use Rattle.cell_model.specs.Durable.{Durable, Made, durable, durable_after, durable_after_all, change_count}
+use Rattle.ubik_node.specs.Disk.{FailsIn, StandsAs, StandsBetween, StandsWithin, LeavesWithin, Serves, has_label, calls_made}
 
 -- the image that stands there is the one that is known
 abbrev pub IsThere : List ℕ → Option (List ℕ) → Type 0
@@ -44,6 +44,12 @@ stands_one : (d after : Durable) (made : Made) (own v : Version) (here image : L
 stands_one d after made own v here image version same then leads c stands =
     ⊎_elim (λ before. (0, omega arith, subst (λ (w : Version). StandsFor c w d.image) version (subst (λ (xs : List ℕ). StandsFor c own xs) same before)))
     (λ changed. (1, omega arith, subst (λ (e : Durable). StandsFor c e.version e.image) (then ∙ sym leads) changed)) stands
+
+-- and none or one of one call is made
+between_one : (d : Durable) (made : Made) (c : Files) (n : ℕ) → n ≤ 1 → StandsAs (durable_after_all d (take n (made ∷ []))) c → StandsBetween d (made ∷ []) 0 c
+between_one d made c zero few stands = inl stands
+between_one d made c (suc zero) few stands = inr stands
+between_one d made c (suc (suc n)) few stands = absurd (omega arith)
 
 head_is : (b : Bool) → ◌≡◌ {A = ℕ} (cond b 1 0) (cond (not b) 0 1)
 head_is true = refl
@@ -77,6 +83,27 @@ module _ {D : Type 0} (g : Ghosts D) (old new : Store D) (d : Durable) (changes 
         ∙ ap (λ (n : ℕ). g.steps old.disk + n) (calls_one fs.database made (length changes) count));
   }
 
+  -- the store failed in it
+  pub fails_one : IsReady g old → IsThere d.image (image_in (g.files old.disk)) → old.version ≡ d.version → effect d.image changes ≡ image → durable_after d made.call ≡ durable v image → CutsNoPut changes
+      → change_count made.call ≡ length changes → IsDurable g changes v old new F → FailsIn g d old.disk new.disk (made ∷ [])
+  fails_one ready there version leads after cuts count made_so =
+      let leaves = leaves_one there version leads after cuts made_so in record {
+        leaves = leaves;
+        whole = 0;
+        now = told (g.files old.disk) (λ _. Narrows (StandsBetween d (made ∷ []) 0) (g.may_leave new.disk)) (λ fs is c left.
+            let run = of_told (g.files old.disk) fs (λ _. LeavesOnly g.steps g.left_since old.disk new.disk (StandsWithin d (made ∷ []))) is leaves.moments in
+            let stands = run.each c (g.counts_now new.disk (g.steps old.disk) c run.later left) in
+            between_one d made c stands.0 stands.1 stands.2);
+        least = told (g.files old.disk) (λ fs. g.steps old.disk + calls_made (has_label fs.database) [] ≤ g.steps new.disk) (λ fs is.
+            let few = of_told (g.files old.disk) fs (λ fs. RisesAtMost (13 + length changes + head_calls fs.database) (g.steps old.disk) (g.steps new.disk)) is made_so.few in
+            omega (arith, few.0));
+        most = told (g.files old.disk) (λ fs. g.steps new.disk ≤ g.steps old.disk + calls_made (has_label fs.database) (made ∷ [])) (λ fs is.
+            let few = of_told (g.files old.disk) fs (λ fs. RisesAtMost (13 + length changes + head_calls fs.database) (g.steps old.disk) (g.steps new.disk)) is made_so.few in
+            let one = calls_one fs.database made (length changes) count in
+            omega (arith, few.1, one));
+        running = told (g.files old.disk) (λ fs. ¬ IsStopped (after_changes (calls_made (has_label fs.database) []) (g.stop old.disk))) (λ fs is. ready.runs);
+      }
+
 module _ {D : Type 0} (g : Ghosts D) (s : Store D) (d : Durable) where
   at_rest : IsReady g s → (fs : Files) → g.files s.disk ≡ Some fs → IsAtRest s.version (image_of fs.database) fs
   at_rest ready fs is = of_told (g.files s.disk) fs (λ fs. IsAtRest s.version (image_of fs.database) fs) is ready.rests
@@ -94,9 +121,8 @@ module _ {D : Type 0} (g : Ghosts D) (s : Store D) (d : Durable) where
       let stands : StandsFor fs d.version d.image = subst (λ (w : Version). StandsFor fs w d.image) version (subst (λ (xs : List ℕ). StandsFor fs s.version xs) here (none_left ready fs is)) in
       (0, omega arith, subst (λ (f : Files). StandsFor f d.version d.image) (sym (only_these ready fs is c left)) stands)
 
-  plain_none : IsReady g s → (fs : Files) → g.files s.disk ≡ Some fs → Narrows IsPlain (g.may_leave s.disk)
-  plain_none ready fs is = λ c left.
-      subst IsPlain (sym (only_these ready fs is c left)) (discarded_is_plain fs (short_log_is_discarded fs.log (omega (arith, ap length (at_rest ready fs is).log))))
+  plain_none : IsReady g s → (fs : Files) → g.files s.disk ≡ Some fs → IsPlain fs → Narrows IsPlain (g.may_leave s.disk)
+  plain_none ready fs is plain = λ c left. subst IsPlain (sym (only_these ready fs is c left)) plain
 
   -- no durable call of a store: its disk is only read
   pub serves_reads : {new : D} {F : Type 0} → IsReady g s → IsThere d.image (image_in (g.files s.disk)) → s.version ≡ d.version → OnlyReads g s.disk new F → Serves g d s.disk new []
@@ -106,7 +132,7 @@ module _ {D : Type 0} (g : Ghosts D) (s : Store D) (d : Durable) where
       record {
         leaves = record {
           moments = told (g.files s.disk) (λ _. LeavesOnly g.steps g.left_since s.disk new (StandsWithin d [])) (λ fs is. rest (StandsWithin d []) (stands_none ready there version fs is));
-          plain = told (g.files s.disk) (λ _. LeavesOnly g.steps g.left_since s.disk new IsPlain) (λ fs is. rest IsPlain (plain_none ready fs is));
+          plain = told (g.files s.disk) (λ fs. IsPlain fs → LeavesOnly g.steps g.left_since s.disk new IsPlain) (λ fs is plain. rest IsPlain (plain_none ready fs is plain));
         };
         steps = told (g.files s.disk) (λ fs. g.steps new ≡ g.steps s.disk + 0) (λ fs is. omega (arith, reads.steps));
       }

@@ -28,7 +28,7 @@ use Rattle.ubik_node.specs.declared.recovering.Plan.TheVariants as plan
 use Rattle.ubik_node.specs.declared.progress.Progress.{Progress}
 use Rattle.ubik_node.specs.declared.state.State.{State}
 use Rattle.disk_base.specs.declared.disks.Disk.{Ghosts}
-use Rattle.ubik_node.specs.Disk.{LeavesWithin, Serves}
+use Rattle.ubik_node.specs.Disk.{FailsIn, Serves}
 use Rattle.ubik_node.specs.Node.{Makes, Steps, durable_in}
 use Rattle.ubik_node.specs.Progress.{IsServing, alone, phase_record}
 use Rattle.ubik_node.specs.Recovering.{Recovers, relabelled_to}
@@ -90,7 +90,7 @@ pub asked_step : {D : Type 0} (g : Ghosts D) (db : Database) (end : StepEnd) (st
     → member_of mid ≡ member_of st → (IsServing mid.progress → mid ≡ st) → durable_in (server_of mid) ≡ durable_in (server_of st)
     → (end ≡ Done → Answers db (member_of mid) (server_of mid) now id call after out (Serves g (durable_in (server_of mid)) old new))
     → (end ≡ Halted → (after ≡ model.Halted (model.halted_from (server_of mid))) × (out ≡ output.Reply id reply.DiskFault ∷ []))
-    → (end ≡ Halted → LeavesWithin g (durable_in (server_of mid)) old new (asked db (member_of mid) (server_of mid) now id call false).calls)
+    → (end ≡ Halted → FailsIn g (durable_in (server_of mid)) old new (asked db (member_of mid) (server_of mid) now id call false).calls)
     → (end ≡ Halted → IsServing mid.progress) → end ≢ NoMemory
     → Steps g db (member_of st) end (event.Ask id call) now (model.Up (server_of st)) after out old new
 asked_step g db Done st mid now id call after out old new rests member same kept made halted left serving told =
@@ -99,12 +99,12 @@ asked_step g db Done st mid now id call after out old new rests member same kept
     (m.0 ∷ [], rested db st mid now (event.Ask id call) (m.0 ∷ []) after out (Serves g (durable_in (server_of st)) old new) rests member (subst P kept m.1))
 asked_step g db Halted st mid now id call after out old new rests member same kept made halted left serving told =
     let h = halted refl in
-    let P : Durable → Type 0 = λ d. LeavesWithin g d old new (asked db (member_of mid) (server_of mid) now id call false).calls in
-    let Q : Member → Type 0 = λ m. LeavesWithin g (durable_in (server_of st)) old new (asked db m (server_of mid) now id call false).calls in
-    let T : Stepped → Type 0 = λ t. LeavesWithin g (durable_in (server_of st)) old new t.calls in (
+    let P : Durable → Type 0 = λ d. FailsIn g d old new (asked db (member_of mid) (server_of mid) now id call false).calls in
+    let Q : Member → Type 0 = λ m. FailsIn g (durable_in (server_of st)) old new (asked db m (server_of mid) now id call false).calls in
+    let T : Stepped → Type 0 = λ t. FailsIn g (durable_in (server_of st)) old new t.calls in (
       h.0 ∙ ap (λ (s : State). model.Halted (model.halted_from (server_of s))) (same (serving refl)),
       h.1,
-      (false ∷ [], subst T (sym (step_rests db (member_of st) (server_of st) (server_of mid) now (event.Ask id call) (false ∷ []) rests)) (subst Q member (subst P kept (left refl)))),
+      subst T (sym (step_rests db (member_of st) (server_of st) (server_of mid) now (event.Ask id call) [] rests)) (subst Q member (subst P kept (left refl))),
     )
 asked_step g db NoMemory st mid now id call after out old new rests member same kept made halted left serving told = absurd (told refl)
 
@@ -164,17 +164,17 @@ answered_refuse db m s now id call writes r Did none kind turn =
     let W : Option Bool → Type 0 = λ w. Makes (asked_as db m s now id call false w) (model.Up s) (output.Reply id r ∷ []) Did in
     (false, subst W (sym kind) (subst T (sym (turn false)) (record { server = refl; outputs = refl; disk = none })))
 
--- what a crash leaves of a writing call's step
+-- a writing call's step whose disk fails
 pub left_write : {D : Type 0} (g : Ghosts D) (d : Durable) (old new : D) (db : Database) (st : State) (now id : ℕ) (call : List ℕ) (writes : Bool) → db.writes call ≡ Some writes
     → length st.cell ≡ 1 → st.me < length st.cell
     → ((short : Bool) → asked_as db (member_of st) (server_of st) now id call short (Some writes) ≡ write_turn db (member_of st) (server_of st) now id call short)
-    → ((h : Host) → LeavesWithin g d old new (write_turn db (alone h) (server_of st) now id call false).calls)
-    → LeavesWithin g d old new (asked db (member_of st) (server_of st) now id call false).calls
+    → ((h : Host) → FailsIn g d old new (write_turn db (alone h) (server_of st) now id call false).calls)
+    → FailsIn g d old new (asked db (member_of st) (server_of st) now id call false).calls
 left_write g d old new db st now id call writes kind one inside turn left =
     let only = is_alone st.cell st.me one inside in
-    let M : Member → Type 0 = λ m. LeavesWithin g d old new (write_turn db m (server_of st) now id call false).calls in
-    let T : Stepped → Type 0 = λ t. LeavesWithin g d old new t.calls in
-    let W : Option Bool → Type 0 = λ k. LeavesWithin g d old new (asked_as db (member_of st) (server_of st) now id call false k).calls in
+    let M : Member → Type 0 = λ m. FailsIn g d old new (write_turn db m (server_of st) now id call false).calls in
+    let T : Stepped → Type 0 = λ t. FailsIn g d old new t.calls in
+    let W : Option Bool → Type 0 = λ k. FailsIn g d old new (asked_as db (member_of st) (server_of st) now id call false k).calls in
     subst W (sym kind) (subst T (sym (turn false)) (subst M (sym only.1) (left only.0)))
 
 -- a plan for the server that the lapse leaves is one for the server before it, whose phase it does not read

@@ -20,4 +20,6 @@ pub use ubik_calls::{Body, DebugIs, Packet, Reply};
 pub use ubik_store::StoreFault;
 
 #[cfg(test)]
+mod stop_tests;
+#[cfg(test)]
 mod tests;

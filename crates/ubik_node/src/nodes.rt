@@ -103,6 +103,7 @@ impl<D: Disk, V: Service> Node<D, V> {
             (calls : ℕ) → OpensIn fs calls → D.steps node.store.disk ≡ D.steps disk + calls)) }
         ensures refused { IfErr result (λ refused. IfSome (D.files disk) (λ fs. RefusesFiles fs refused.why)) }
         ensures left { IfErr result (λ refused. refused.why ≢ StoreFault.DiskFault → IsSome (D.files disk) → IsSome (D.files refused.disk)) }
+        ensures settled { IfErr result (λ refused. refused.why ≢ StoreFault.DiskFault → IsSettled (D.files refused.disk) (D.may_leave refused.disk)) }
         ensures opening { MatchResult result (λ node. IsOpening D.Disk disk node.store.disk ⊥)
             (λ refused. IsOpening D.Disk disk refused.disk (refused.why ≡ StoreFault.DiskFault)) }
     {

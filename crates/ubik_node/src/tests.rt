@@ -16,7 +16,7 @@ use ubik_types::{Applied, Bytes, Cell, Host, NoMemory, Phase, Version, bytes_of}
 
 /// A database whose calls answer the image and append their bytes to it.
 #[derive(Drop)]
-struct Appending;
+pub(crate) struct Appending;
 
 impl Service for Appending {
     ghost database = { appending };
@@ -44,10 +44,10 @@ impl Service for Appending {
     fn never_shrinks() {}
 }
 
-type Server<D> = Node<D, Appending>;
+pub(crate) type Server<D> = Node<D, Appending>;
 
 /// The disk, on which nothing is pending: it was opened anew.
-fn revived<D: StopDisk>(disk: D) -> D
+pub(crate) fn revived<D: StopDisk>(disk: D) -> D
     ensures settled { IsSettled (D.files result) (D.may_leave result) }
 {
     let mut disk = disk;
@@ -80,7 +80,11 @@ fn open<D: Disk + Drop>(
 }
 
 /// Opens it over a disk on which nothing is amiss.
-fn opened<D: Disk + Drop>(rt: &impl Abort, alloc: Global, disk: D) -> Result<Server<D>, Fail>
+pub(crate) fn opened<D: Disk + Drop>(
+    rt: &impl Abort,
+    alloc: Global,
+    disk: D,
+) -> Result<Server<D>, Fail>
     requires settled { IsSettled (D.files disk) (D.may_leave disk) }
     ensures alone { IfOk result (λ node. cell_size (own_member node) ≡ 1) }
     ensures stored { IfOk result (IsStored D.Disk) }
@@ -110,7 +114,7 @@ fn one_of_three<D: Disk + Drop>(
 }
 
 /// One step, which ends so, and what it put out.
-fn step<D: Disk>(
+pub(crate) fn step<D: Disk>(
     rt: &impl Abort,
     alloc: Global,
     node: &mut Server<D>,
@@ -271,7 +275,7 @@ fn beacons<D: Disk>(
 }
 
 /// Asks, in a step that ends so.
-fn ask<D: Disk>(
+pub(crate) fn ask<D: Disk>(
     rt: &impl Abort,
     alloc: Global,
     node: &mut Server<D>,
@@ -318,7 +322,7 @@ fn is_elsewhere(output: &Option<Output>, wanted: u32, heard: (Host, u32)) -> boo
     }
 }
 
-fn is_disk_fault(output: &Option<Output>, wanted: u32) -> bool {
+pub(crate) fn is_disk_fault(output: &Option<Output>, wanted: u32) -> bool {
     match output {
         Some(
             Output::Reply {
@@ -330,7 +334,7 @@ fn is_disk_fault(output: &Option<Output>, wanted: u32) -> bool {
     }
 }
 
-const fn version(epoch: u32, counter: u32) -> Version
+pub(crate) const fn version(epoch: u32, counter: u32) -> Version
     ensures { (result.epoch ≡ epoch) × (result.counter ≡ counter) }
 {
     Version { epoch, counter }

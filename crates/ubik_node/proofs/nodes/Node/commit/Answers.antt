@@ -7,7 +7,7 @@ use Rattle.ubik_store.specs.declared.faults.StoreFault.TheVariants.{DiskFault}
 use Rattle.ubik_store.specs.DurableCall.{Commits, IsDurable}
 use Rattle.ubik_store.specs.Redo.{len_after}
 use Rattle.ubik_store.proofs.Redone.{length-effect}
-use Rattle.ubik_node.proofs.Durables.{leaves_one, serves_one, image_then}
+use Rattle.ubik_node.proofs.Durables.{fails_one, serves_one, image_then}
 use Rattle.ubik_node.proofs.nodes.Node.commit.Goals as goal
 
 pub commit_all-requires-clause-none : goal.commit_all-requires-clause-none
@@ -17,8 +17,9 @@ pub returns-in_err-commit_all-clause-left : goal.returns-in_err-commit_all-claus
 returns-in_err-commit_all-clause-left g c = λ failed t.
     let n = c.args.self.now in
     let v = next_version n.state.version in
-    leaves_one g.D.Disk n.store c.commit_all.new.store (durable n.state.version n.state.image) c.args.changes.now v c.args.image (own_commit v c.args.changes.now c.args.image t)
-    (c.requires.stored.image c.requires.not_halted) c.requires.stored.version c.requires.written.leads refl c.requires.written.puts
+    fails_one g.D.Disk n.store c.commit_all.new.store (durable n.state.version n.state.image) c.args.changes.now v c.args.image (own_commit v c.args.changes.now c.args.image t)
+    (c.requires.stored.sound.ready (c.requires.stored.failed ∙ c.requires.not_halted)) (c.requires.stored.image c.requires.not_halted) c.requires.stored.version c.requires.written.leads refl
+    c.requires.written.puts refl
     (subst (λ (cs : List Change). IsDurable g.D.Disk cs v n.store c.commit_all.new.store (IsErrOf c.commit_all.result DiskFault)) c.as_slice.ensures c.commit_all.ensures.durable)
 
 pub returns-clause-served : goal.returns-clause-served

@@ -4,6 +4,7 @@ use Rattle.std.specs.Result.{is_err}
 use Rattle.ubik_types.specs.declared.images.Bytes.{Bytes}
 use Rattle.std.proofs.lemmas.Bool.{false≢true}
 use Rattle.ubik_types.specs.declared.versions.Version.{Version}
+use Rattle.disk_base.specs.Crash.{IsSettled}
 use Rattle.disk_base.specs.Files.{Files}
 use Rattle.disk_base.proofs.Runs.{reads_as}
 use Rattle.page_file.specs.Pages.{image_of}
@@ -14,6 +15,7 @@ use Rattle.ubik_store.specs.declared.faults.StoreFault.TheVariants.{DiskFault}
 use Rattle.ubik_store.specs.Files.{StandsFor}
 use Rattle.ubik_store.specs.Rest.{RestsAs}
 use Rattle.ubik_store.specs.Store.{image_in}
+use Rattle.ubik_store.proofs.Committing.{settled_narrow}
 use Rattle.ubik_store.proofs.Opened.{opening_then}
 use Rattle.ubik_store.proofs.Telling.{told, of_told}
 use Rattle.ubik_node.specs.Disk.{StandsAs}
@@ -41,6 +43,15 @@ pub returns-in-Err-clause-opening : goal.returns-in-Err-clause-opening
 returns-in-Err-clause-opening g c =
     subst (λ (d : g.row.D.Denot). IsOpening g.D.Disk c.args.disk d (c.in-Err.why ≡ DiskFault)) (sym c.close-disk.ensures)
     (opening_then g.D.Disk c.in_ok-store.ensures.opening (reads_as (same_fault c.in-Err.why) (λ is. ap Err is) c.in-Err.ensures.disk))
+
+pub returns-in-Err-clause-settled : goal.returns-in-Err-clause-settled
+returns-in-Err-clause-settled g c = λ other.
+    let mid = c.in_ok-store.store in
+    let new = c.read_image.new.store in
+    let D = g.D.Disk in
+    subst (λ (d : g.row.D.Denot). IsSettled (D.files d) (D.may_leave d)) (sym c.close-disk.ensures)
+    (settled_narrow (D.files mid.disk) (D.files new.disk) (D.may_leave mid.disk) (D.may_leave new.disk) (c.in-Err.ensures.disk.files (λ failed. other (same_fault c.in-Err.why failed)))
+    c.in-Err.ensures.disk.crash.no_more (c.in_ok-store.ensures.sound.ready c.in_ok-store.ensures.fresh.1).settled)
 
 pub returns-clause-opened : goal.returns-clause-opened
 returns-clause-opened g c = (

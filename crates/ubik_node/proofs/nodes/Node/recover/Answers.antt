@@ -11,9 +11,9 @@ use Rattle.cell_model.specs.Step.{Stepped}
 use Rattle.ubik_store.specs.DurableCall.{HasFailed}
 use Rattle.ubik_node.specs.declared.nodes.StepEnd.TheVariants.{Done, Halted}
 use Rattle.ubik_node.specs.declared.recovering.Plan.TheVariants as plan
-use Rattle.ubik_node.specs.Disk.{LeavesWithin, Serves}
+use Rattle.ubik_node.specs.Disk.{FailsIn, Serves}
 use Rattle.ubik_node.specs.State.{member_of, server_of}
-use Rattle.ubik_node.proofs.Durables.{ended_by_disk, leaves_one, serves_one, serves_none}
+use Rattle.ubik_node.proofs.Durables.{ended_by_disk, fails_one, serves_one, serves_none}
 use Rattle.ubik_node.proofs.Stepping.{planned_step, relabel_made, rest_made, steps_at, up_if}
 use Rattle.ubik_node.proofs.nodes.Node.recover.Goals as goal
 
@@ -65,11 +65,9 @@ returns-in-Err-DiskFault-clause-step g c =
     steps_at g.D.Disk db (member_of st) Halted RecoverTurn RecoverTurn (server_of st) c.args.now _ _ _ _ n.store.disk new.disk (up_if _ _ _ c.requires.not_halted) refl refl (
       refl,
       c.requires.empty,
-      (
-        [],
-        subst (LeavesWithin g.D.Disk d n.store.disk new.disk) (sym (ap (λ (t : Stepped). t.calls) step))
-            (leaves_one g.D.Disk n.store new d [] v st.image (own_relabelling v) (c.requires.stored.image c.requires.not_halted) c.requires.stored.version refl refl tt (c.relabel.ensures.durable fresh)),
-      ),
+      subst (FailsIn g.D.Disk d n.store.disk new.disk) (sym (ap (λ (t : Stepped). t.calls) step))
+          (fails_one g.D.Disk n.store new d [] v st.image (own_relabelling v) (c.requires.stored.sound.ready fresh) (c.requires.stored.image c.requires.not_halted) c.requires.stored.version
+          refl refl tt refl (c.relabel.ensures.durable fresh)),
     )
 
 -- the store of a node that halts

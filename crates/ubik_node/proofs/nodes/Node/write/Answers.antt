@@ -6,7 +6,7 @@ use Rattle.cell_model.specs.Durable.{durable}
 use Rattle.cell_model.specs.Writes.{write_turn}
 use Rattle.cell_model.specs.Node as model
 use Rattle.ubik_node.specs.declared.state.State.{State}
-use Rattle.ubik_node.specs.Disk.{LeavesWithin}
+use Rattle.ubik_node.specs.Disk.{FailsIn}
 use Rattle.ubik_node.specs.State.{server_of}
 use Rattle.ubik_node.specs.Node.{up_server}
 use Rattle.ubik_node.specs.Progress.{alone}
@@ -69,7 +69,7 @@ pub returns-in-DiskFault-clause-left : goal.returns-in-DiskFault-clause-left
 returns-in-DiskFault-clause-left g c = λ ended h.
     let n = c.args.self.now in
     let judged = rw c.in-Commit.is at c.in-Ok.ensures h c.args.id in
-    subst (LeavesWithin g.D.Disk (durable n.state.version n.state.image) n.store.disk c.commit.new.self.store.disk) (sym judged.2.calls)
+    subst (FailsIn g.D.Disk (durable n.state.version n.state.image) n.store.disk c.commit.new.self.store.disk) (sym judged.2.calls)
     (c.commit.ensures.left (c.in-Err.is ∙ ap Err c.in-DiskFault.is) (record { moment = c.args.now; call = c.args.call.now }))
 
 pub returns-clause-done : goal.returns-clause-done
