@@ -70,6 +70,10 @@ pub record Cell : Type 0 where
   pub handed : List Bool
   pub armed : List (Option Armed)
 
+-- the first world of a cell
+abbrev pub first_of : Cell → World
+first_of c = first_world c.run.world.hosts c.opening.clock c.opening.failed
+
 -- what the lines so far left: how many there were, how many calls were asked, and the cell, once there is one
 pub record Stage : Type 0 where
   pub lines : ℕ

@@ -191,6 +191,10 @@ mark_text (mark.Halts server) = line_text (codes "halted " ++ server_text server
 mark_text (mark.Restarts server version) = line_text (codes "restarted " ++ server_text server ++ 32 ∷ version_text version)
 mark_text (mark.StaysDown server) = line_text (codes "restarted " ++ server_text server ++ codes " diskfault")
 
+-- the text of marks, one after the other
+abbrev pub marks_text : List Mark → List ℕ
+marks_text marks = flat_map mark_text marks
+
 -- the evaluation behind an Ok is of this call
 abbrev pub FitsReply : Reply → List ℕ → Option Evaluation → Type 0
 FitsReply (reply.Ok answer) call e = IsSomeAnd e (λ evaluation. evaluation.call ≡ call)

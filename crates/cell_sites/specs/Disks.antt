@@ -1,41 +1,31 @@
--- What the disks of a running cell read as, and how often they failed.
+-- What the disks of a running cell read as, how often they failed, and how many changing calls they got.
 use Rattle.std.specs.Prelude.{◌≡◌, ◌≤◌, ℕ, ◌+◌, Option, Some, None, IsSomeAnd, List, [], ◌∷◌, map}
+use Rattle.disk_base.specs.declared.disks.Disk.{Ghosts}
 use Rattle.disk_base.specs.Files.{Files}
-use Rattle.cell_model.specs.Durable.{durable, no_database}
-use Rattle.cell_model.specs.Node.{Node, Down, Halted, Up}
 use Rattle.cell_model.specs.World.{Site}
 use Rattle.cell_runs.specs.Trace.{TraceItem, fault_count}
 use Rattle.ubik_node.specs.Disk.{StandsAs}
 
--- what a disk reads as, where it tells it, and how often it has failed
+-- what a disk reads as, where it tells it, how often it has failed, and how many changing calls it got
 pub record Held : Type 0 where
   pub files : Option Files
   pub faults : ℕ
+  pub steps : ℕ
 
-abbrev pub held : {D : Type 0} → (D → Option Files) → (D → ℕ) → D → Held
-held files faults disk = record { files = files disk; faults = faults disk }
+abbrev pub held : {D : Type 0} → Ghosts D → D → Held
+held g disk = record { files = g.files disk; faults = g.faults disk; steps = g.steps disk }
 
-abbrev pub all_held : {D : Type 0} → (D → Option Files) → (D → ℕ) → List D → List Held
-all_held files faults disks = map (held files faults) disks
+abbrev pub all_held : {D : Type 0} → Ghosts D → List D → List Held
+all_held g disks = map (held g) disks
 
--- a server that is up: the files stand for its version and its image
-abbrev pub ReadsNode : Node → Files → Type 0
-ReadsNode Down fs = ⊥
-ReadsNode (Halted h) fs = ⊥
-ReadsNode (Up s) fs = StandsAs (durable s.version s.image) fs
+-- the files stand for the durable state of a server, be it up, halted or down
+abbrev pub IsReadBy : Site → Held → Type 0
+IsReadBy site disk = IsSomeAnd disk.files (StandsAs site.durable)
 
--- the files stand for no database
-abbrev pub IsFresh : Option Files → Type 0
-IsFresh files = IsSomeAnd files (StandsAs no_database)
-
--- a disk that never failed reads as its server
-abbrev pub IsReadBy : Node → Held → Type 0
-IsReadBy node disk = disk.faults ≡ 0 → IsSomeAnd disk.files (ReadsNode node)
-
--- so each of these servers, one after the other
+-- so of each of these servers, one after the other
 abbrev pub AreReadBy : List Site → List Held → Type 0
 AreReadBy [] [] = Unit {0}
-AreReadBy (site ∷ sites) (disk ∷ disks) = IsReadBy site.node disk × AreReadBy sites disks
+AreReadBy (site ∷ sites) (disk ∷ disks) = IsReadBy site disk × AreReadBy sites disks
 AreReadBy _ _ = ⊥
 
 -- each disk failed at least as often as is told of its server, from server k on

@@ -1,8 +1,10 @@
+pub mod Counts
 pub mod Disks
 pub mod Opened
 pub mod OpenedServer
 pub mod Packets
 pub mod Places
+pub mod Reopened
 pub mod Sites
 pub mod Sound
 pub mod Stepped

@@ -1,9 +1,14 @@
 -- What a running cell stands for: a cell of the model.
-use Rattle.std.specs.Prelude.{◌≡◌, ℕ, Option, Some, None, List, [], ◌∷◌, length, map, replicate}
-use Rattle.disk_base.specs.Files.{Files}
+use Rattle.std.specs.Prelude.{◌≡◌, ◌≤◌, ◌-◌, ℕ, false, Option, Some, None, List, [], ◌∷◌, map}
+use Rattle.disk_base.specs.declared.disks.Disk.{Ghosts}
+use Rattle.disk_base.specs.declared.disks.Fill.{Fill}
+use Rattle.disk_base.specs.Stops.{DiskStop}
+use Rattle.disk_base.specs.Stops.DiskStop as DiskStop
+use Rattle.db_image.specs.Database.{Database}
 use Rattle.cell_model.specs.Node.{Node, Down, Halted, Up}
 use Rattle.cell_model.specs.World.{Site as ModelSite}
-use Rattle.cell_runs.specs.Script.{Cell}
+use Rattle.cell_runs.specs.Script.{Armed, Cell}
+use Rattle.cell_sites.specs.Counts.{HoldRun}
 use Rattle.cell_sites.specs.Disks.{Held, held}
 use Rattle.cell_sites.specs.declared.cells.OpenCell.{OpenCell}
 use Rattle.cell_sites.specs.declared.sites.Server.{Server}
@@ -28,10 +33,10 @@ abbrev pub disks_of : {D V : Type 0} → OpenCell D V → List D
 disks_of running = map site_disk running.sites.items
 
 -- what its disks read as, in their order
-abbrev pub helds : {D V : Type 0} → (D → Option Files) → (D → ℕ) → OpenCell D V → List Held
-helds files faults running = map (λ site. held files faults (site_disk site)) running.sites.items
+abbrev pub helds : {D V : Type 0} → Ghosts D → OpenCell D V → List Held
+helds g running = map (λ site. held g (site_disk site)) running.sites.items
 
--- the clock and the server of the model; what is durable of it, and which ids were asked, is not kept beside them
+-- the clock and the server of the model; which ids were asked is not kept beside them
 pub record IsSiteOf {D V : Type 0} (site : Site D V) (s : ModelSite) : Type 0 where
   pub clock : s.clock ≡ site.clock
   pub node : s.node ≡ server_node site.server
@@ -41,10 +46,28 @@ AreSitesOf [] [] = Unit {0}
 AreSitesOf (site ∷ sites) (s ∷ others) = IsSiteOf site s × AreSitesOf sites others
 AreSitesOf _ _ = ⊥
 
--- a running cell whose packets are these, and no disk of which is to stop
-pub record IsModelledBy {D V : Type 0} (running : OpenCell D V) (c : Cell) : Type 0 where
+-- a disk is to stop as a script has it
+abbrev pub StopsAs : Option Armed → DiskStop → Type 0
+StopsAs None stop = stop ≡ DiskStop.Unarmed
+StopsAs (Some armed) stop = (armed.made ≤ armed.calls) × ((fill : Fill) × (stop ≡ DiskStop.Armed (armed.calls - armed.made) fill))
+
+-- The disk of a halted server gets no call until the server goes down, so nothing is said of it.
+abbrev pub IsArmedAs : Node → Option Armed → DiskStop → Type 0
+IsArmedAs Down armed stop = StopsAs armed stop
+IsArmedAs (Halted h) armed stop = Unit {0}
+IsArmedAs (Up s) armed stop = StopsAs armed stop
+
+-- so each of these sites
+abbrev pub AreArmed : {D V : Type 0} → Ghosts D → List (Site D V) → List (Option Armed) → Type 0
+AreArmed g [] [] = Unit {0}
+AreArmed g (site ∷ sites) (armed ∷ more) = IsArmedAs (server_node site.server) armed (g.stop (site_disk site)) × AreArmed g sites more
+AreArmed g _ _ = ⊥
+
+-- a running cell whose packets are these, and whose disks hold the run; `given` has their counts of changing calls before it
+pub record IsModelledBy {D V : Type 0} (g : Ghosts D) (db : Database) (given : List ℕ) (running : OpenCell D V) (c : Cell) : Type 0 where
   pub hosts : c.run.world.hosts ≡ running.hosts.items
   pub sites : AreSitesOf running.sites.items c.run.world.sites
   pub sent : c.run.world.packets ≡ running.packets.sent
   pub handed : c.handed ≡ running.packets.handed
-  pub unarmed : c.armed ≡ replicate (length running.hosts.items) None
+  pub armed : AreArmed g running.sites.items c.armed
+  pub disks : HoldRun db given false c (helds g running)

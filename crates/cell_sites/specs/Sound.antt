@@ -1,6 +1,7 @@
 -- What is kept true of a running cell.
-use Rattle.std.specs.Prelude.{◌≡◌, ◌+◌, ◌<◌, ◌≤◌, ℕ, true, false, Option, IsSome, All, List, [], ◌∷◌, length, map}
+use Rattle.std.specs.Prelude.{◌≡◌, ◌+◌, ◌≤◌, ℕ, true, IfSome, IsSome, All, List, [], ◌∷◌, length, map, vec_capacity}
 use Rattle.disk_base.specs.declared.disks.Disk.{Ghosts}
+use Rattle.disk_base.specs.Crash.{IsSettled}
 use Rattle.ubik_types.specs.declared.hosts.Host.{Host}
 use Rattle.ubik_types.specs.declared.limits.TheConstants.{MAXSERVERS}
 use Rattle.ubik_types.specs.Moment.{IsMoment}
@@ -8,6 +9,8 @@ use Rattle.cell_model.specs.Step.{Member}
 use Rattle.cell_model.specs.Voters.{IsVotePacket, IsVoter}
 use Rattle.cell_model.specs.World.{are_near}
 use Rattle.cell_runs.specs.Script.{hosts_of}
+use Rattle.ubik_store.specs.Gaps.{IsPlain}
+use Rattle.cell_sites.specs.Sites.{site_disk}
 use Rattle.cell_sites.specs.declared.cells.OpenCell.{OpenCell}
 use Rattle.cell_sites.specs.declared.sites.Server.{Server}
 use Rattle.cell_sites.specs.declared.sites.Server.TheVariants as server
@@ -15,24 +18,28 @@ use Rattle.cell_sites.specs.declared.sites.Site.{Site}
 use Rattle.ubik_node.specs.declared.nodes.Node.{Node}
 use Rattle.ubik_node.specs.Node.{own_member, up_server, IsStored}
 
--- A server that is up: its disk tells its files, and its store has its version and its image; or it is halted, since the disk failed.
+-- A server that is up: its store has its version and its image; or it is halted.
 pub record IsSoundNode {D V : Type 0} (g : Ghosts D) (m : Member) (clock : ℕ) (n : Node D V) : Type 0 where
   pub last : n.last ≤ clock
   pub member : own_member n ≡ m
   pub voter : IsVoter m (up_server n)
   pub stored : IsStored g n
-  pub told : n.halted ≡ false → IsSome (g.files n.store.disk)
-  pub cause : n.halted ≡ true → 0 < g.faults n.store.disk
 
--- a server that is down is so since its disk failed
 abbrev pub IsSoundServer : {D V : Type 0} → Ghosts D → Member → (clock : ℕ) → Server D V → Type 0
-IsSoundServer g m clock (server.Down disk) = 0 < g.faults disk
+IsSoundServer g m clock (server.Down disk) = Unit {0}
 IsSoundServer g m clock (server.Up node) = IsSoundNode g m clock node
+
+-- Between two steps a disk tells its files, nothing is pending on it, and a server can be opened over it however often that crashes.
+pub record IsSoundDisk {D : Type 0} (g : Ghosts D) (disk : D) : Type 0 where
+  pub told : IsSome (g.files disk)
+  pub settled : IsSettled (g.files disk) (g.may_leave disk)
+  pub plain : IfSome (g.files disk) IsPlain
 
 pub record IsSoundSite {D V : Type 0} (g : Ghosts D) (m : Member) (bound : ℕ) (site : Site D V) : Type 0 where
   pub moment : IsMoment site.clock
   pub within : site.clock ≤ bound
   pub server : IsSoundServer g m site.clock site.server
+  pub disk : IsSoundDisk g (site_disk site)
 
 -- so each of these sites, the first of which has this place among the hosts
 abbrev pub AreSound : {D V : Type 0} → Ghosts D → List Host → (place bound : ℕ) → List (Site D V) → Type 0

@@ -11,22 +11,21 @@ ghost use Rattle.ubik_types.specs.Moment.{IsMoment};
 ghost use Rattle.cell_script.specs.declared.lines.Kind.{Kind};
 ghost use Rattle.cell_runs.specs.Script.{hosts_of};
 ghost use Rattle.cell_runs.specs.ScriptDatabase.{ScriptDatabase, script_database};
-ghost use Rattle.cell_runs.specs.Trace.{mark_text};
-ghost use Rattle.cell_sites.specs.OpenedServer.{IsEmptied, ServerOpened};
+ghost use Rattle.cell_runs.specs.Trace.{marks_text};
+ghost use Rattle.cell_sites.specs.OpenedServer.{opened_marks};
 ghost use Rattle.cell_sites.specs.Opened.{ArePartOpened, HasRoom, IsAdded, IsOpened};
-ghost use Rattle.cell_sites.specs.Sites.{disks_of, server_disk};
-ghost use Rattle.cell_sites.specs.Sound.{IsSoundServer};
+ghost use Rattle.cell_sites.specs.Sites.{disks_of};
 ghost use Rattle.cell_sites.specs.declared.cells.OpenCell.{OpenCell as AnOpenCell};
 
 use crate::packets::Packets;
-use crate::sites::{Server, Site};
-use cell_model::law_voters_vote;
+use crate::openings::{OpenEnd, open_server};
+use crate::sites::Site;
 use cell_runs::{Mark, tell_mark};
 use db_image::WordForms;
-use disk_base::{Refused, StopDisk};
+use disk_base::StopDisk;
 use std::alloc::Global;
-use ubik_node::{Node, Outputs, StoreFault};
-use ubik_types::{Cell, Host, NoMemory};
+use ubik_node::Outputs;
+use ubik_types::{Host, NoMemory};
 
 /// The host of the first server of a cell, 10.0.0.1. The others follow it.
 const FIRST_HOST: u32 = 167_772_161;
@@ -81,6 +80,7 @@ impl<D: StopDisk, V: WordForms> OpenCell<D, V> {
         requires next { length self.old.sites.items < length self.old.hosts.items }
         requires empty { D.files disk ≡ Some no_files }
         requires settled { IsSettled (D.files disk) (D.may_leave disk) }
+        requires unarmed { D.stop disk ≡ Unarmed }
         ensures opened { OnOk result ((given : List D) (text_before : List ℕ) →
             ArePartOpened D.Disk (script_database V.database V.words) clock given self.old text_before (string_bytes text.old) →
             ArePartOpened D.Disk (script_database V.database V.words) clock (given ++ disk ∷ []) self.new
@@ -91,7 +91,8 @@ impl<D: StopDisk, V: WordForms> OpenCell<D, V> {
         ensures count { length self.new.sites.items ≡ length self.old.sites.items + 1 }
     {
         let me = self.sites.len();
-        let (server, told) = open_server(self.alloc, &self.hosts, me, disk, clock, text);
+        let (server, end) = open_server(self.alloc, &self.hosts, me, disk, clock);
+        let told = tell_opened(me as u32, end, text);
         match self.sites.push(Site { clock, server }) {
             Ok(()) => told,
             Err(_) => unreachable!(),
@@ -129,58 +130,17 @@ fn first_hosts(alloc: Global, servers: usize) -> Result<Vec<Host>, NoMemory>
     Ok(hosts)
 }
 
-/// Opens the server at a place of the cell of these hosts over its disk. Where the disk fails it stays down, and its disk is revived.
-fn open_server<D: StopDisk, V: WordForms>(
-    alloc: Global,
-    hosts: &[Host],
-    me: usize,
-    disk: D,
-    clock: u32,
-    text: &mut String,
-) -> (Server<D, V>, Result<(), NoMemory>)
-    requires cell { hosts.now ≡ hosts_of (length hosts.now) }
-    requires few { length hosts.now ≤ MAXSERVERS }
-    requires me { me < length hosts.now }
-    requires moment { IsMoment clock }
-    requires empty { D.files disk ≡ Some no_files }
-    requires settled { IsSettled (D.files disk) (D.may_leave disk) }
-    ensures told { OnOk result.1 (ServerOpened D.faults (script_database V.database V.words) hosts.now me clock disk result.0
-        (string_bytes text.old) (string_bytes text.new)) }
-    ensures sound { OnOk result.1 (IsSoundServer D.Disk (record { hosts = hosts.now; me = me }) clock result.0) }
-    ensures kept { IsEmptied D.Disk disk (server_disk result.0) }
+/// Tells of a first opening that its server stays down.
+fn tell_opened(server: u32, end: OpenEnd, text: &mut String) -> Result<(), NoMemory>
+    requires { server < 20 }
+    ensures { OnOk result ((end ≢ OpenEnd.NoMemory)
+        × (string_bytes text.new ≡ string_bytes text.old ++ marks_text (opened_marks server end))) }
 {
-    law_voters_vote();
-    let Ok(cell) = Cell::new(alloc, hosts) else {
-        return (Server::Down(disk), Err(NoMemory));
-    };
-    match Node::open(alloc, cell, me, disk, clock) {
-        Ok(node) => (Server::Up(node), Ok(())),
-        Err(refused) => keep_down(me, refused, text),
+    match end {
+        OpenEnd::Up(_) => Ok(()),
+        OpenEnd::StaysDown => tell_mark(text, Mark::StaysDown { server }),
+        OpenEnd::NoMemory => Err(NoMemory),
     }
-}
-
-/// Keeps a server down whose opening was refused. Its disk is revived, unless memory ran out.
-fn keep_down<D: StopDisk, V: WordForms>(
-    me: usize,
-    refused: Refused<D, StoreFault>,
-    text: &mut String,
-) -> (Server<D, V>, Result<(), NoMemory>)
-    requires { me < 20 }
-    ensures down { (kept : D) × (result.0 ≡ Server.Down kept) × (D.faults kept ≡ D.faults refused.disk)
-        × (refused.why ≡ StoreFault.NoMemory → D.files kept ≡ D.files refused.disk) }
-    ensures revived { refused.why ≢ StoreFault.NoMemory → D.stop (server_disk result.0) ≡ Unarmed }
-    ensures told { OnOk result.1 ((refused.why ≢ StoreFault.NoMemory)
-        × (string_bytes text.new ≡ string_bytes text.old ++ mark_text (Mark.StaysDown me))) }
-{
-    let Refused { disk, why } = refused;
-    if let StoreFault::NoMemory = why {
-        return (Server::Down(disk), Err(NoMemory));
-    }
-    let mut disk = disk;
-    disk.revive();
-    let server = me as u32;
-    let told = tell_mark(text, Mark::StaysDown { server });
-    (Server::Down(disk), told)
 }
 
 /// A cell all of whose servers were opened stands for the opened cell of some choices.

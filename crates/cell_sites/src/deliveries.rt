@@ -1,8 +1,7 @@
 //! Packets that are handed to their receivers.
-ghost use Rattle.std.specs.Prelude.{◌≡◌, ◌≢◌, ◌<◌, ◌≤◌, ◌+◌, ◌-◌, ℕ, List, Some, None, IfOk, MatchBool, Ok, Err, length, slice_get, []};
+ghost use Rattle.std.specs.Prelude.{◌≡◌, ◌≢◌, ◌<◌, ◌≤◌, ◌+◌, ◌-◌, ℕ, List, Some, None, IfOk, Ok, Err, false, length, slice_get, []};
 ghost use Rattle.std.specs.String.{string_bytes};
 ghost use Rattle.cell_model.specs.NodeRule.{place_of};
-ghost use Rattle.cell_model.specs.World.{Site as ModelSite};
 ghost use Rattle.cell_model.specs.Voters.{IsOfVotes};
 ghost use Rattle.cell_runs.specs.declared.endings.Ending.TheVariants as ending;
 ghost use Rattle.cell_runs.specs.declared.endings.Which.{Which as AWhich};
@@ -10,15 +9,14 @@ ghost use Rattle.cell_runs.specs.ScriptDatabase.{script_database};
 ghost use Rattle.cell_runs.specs.Script.{Cell, Cell_run, Choice, first_choice, delivered, at_packet, run_in};
 ghost use Rattle.cell_script.specs.declared.lines.Line.TheVariants as line;
 ghost use Rattle.cell_script.specs.declared.lines.Why.{Why as AWhy};
-ghost use Rattle.cell_sites.specs.Disks.{AreReadBy, AreRises};
-ghost use Rattle.cell_sites.specs.Places.{IsDownAt, IsUpAt};
+ghost use Rattle.cell_sites.specs.Counts.{HoldRun};
+ghost use Rattle.cell_sites.specs.Disks.{AreRises};
 ghost use Rattle.cell_sites.specs.Sites.{IsModelledBy, helds};
 ghost use Rattle.cell_sites.specs.Sound.{IsSound};
 ghost use Rattle.cell_sites.specs.Told.{CellTold, IsRefused, IsShort};
 
 use crate::cells::OpenCell;
 use crate::faults::LineFault;
-use crate::sites::Server;
 use cell_runs::{MAX_PACKETS, Mark, tell_mark};
 use cell_script::Why;
 use db_image::WordForms;
@@ -31,17 +29,17 @@ impl<D: StopDisk, V: WordForms> OpenCell<D, V> {
     /// Hands the packet of a number to its receiver, whether it waits or not. A server that is down loses it.
     pub fn deliver(&mut self, number: u64, text: &mut String) -> Result<(), LineFault>
         requires { (bound : ℕ) × IsSound D.Disk bound self.old }
-        ensures told { result ≡ Ok tt → (c : Cell) → IsModelledBy self.old c →
-            CellTold D.Disk (script_database V.database V.words) (λ choices. run_in (script_database V.database V.words) c choices (line.Deliver number)) None self.old self.new (string_bytes text.old) (string_bytes text.new) }
-        ensures limit { (which : AWhich) → result ≡ Err (LineFault.Limit which) → (c : Cell) → IsModelledBy self.old c →
-            CellTold D.Disk (script_database V.database V.words) (λ choices. run_in (script_database V.database V.words) c choices (line.Deliver number)) (Some (ending.Limit which)) self.old self.new (string_bytes text.old) (string_bytes text.new) }
+        ensures told { result ≡ Ok tt → (given : List ℕ) (c : Cell) → IsModelledBy D.Disk V.database given self.old c →
+            CellTold D.Disk (script_database V.database V.words) given (λ choices. run_in (script_database V.database V.words) c choices (line.Deliver number)) None self.old self.new (string_bytes text.old) (string_bytes text.new) }
+        ensures limit { (which : AWhich) → result ≡ Err (LineFault.Limit which) → (given : List ℕ) (c : Cell) → IsModelledBy D.Disk V.database given self.old c →
+            CellTold D.Disk (script_database V.database V.words) given (λ choices. run_in (script_database V.database V.words) c choices (line.Deliver number)) (Some (ending.Limit which)) self.old self.new (string_bytes text.old) (string_bytes text.new) }
         ensures refused { (why : AWhy) → result ≡ Err (LineFault.Refused why) → (self.new ≡ self.old)
-            × ((c : Cell) → IsModelledBy self.old c → IsRefused why (λ choices. run_in (script_database V.database V.words) c choices (line.Deliver number))) }
+            × ((given : List ℕ) (c : Cell) → IsModelledBy D.Disk V.database given self.old c → IsRefused why (λ choices. run_in (script_database V.database V.words) c choices (line.Deliver number))) }
         ensures quiet { (why : AWhy) → result ≡ Err (LineFault.Refused why) → string_bytes text.new ≡ string_bytes text.old }
-        ensures short { result ≡ Err LineFault.NoMemory → (c : Cell) → IsModelledBy self.old c →
-            IsShort D.Disk (λ choices. run_in (script_database V.database V.words) c choices (line.Deliver number)) c self.old self.new }
+        ensures short { result ≡ Err LineFault.NoMemory → (given : List ℕ) (c : Cell) → IsModelledBy D.Disk V.database given self.old c →
+            IsShort D.Disk V.database given (λ choices. run_in (script_database V.database V.words) c choices (line.Deliver number)) c self.old self.new }
         ensures sound { result ≡ Ok tt → (bound : ℕ) → IsSound D.Disk bound self.old → IsSound D.Disk bound self.new }
-        ensures never_falls { AreRises 0 [] (helds D.files D.faults self.old) (helds D.files D.faults self.new) }
+        ensures never_falls { AreRises 0 [] (helds D.Disk self.old) (helds D.Disk self.new) }
         ensures same { length self.new.sites.items ≡ length self.old.sites.items }
     {
         let number = self.sent_number(number)?;
@@ -52,15 +50,15 @@ impl<D: StopDisk, V: WordForms> OpenCell<D, V> {
     /// more of them than a script may send.
     pub fn deliver_all(&mut self, text: &mut String) -> Result<(), LineFault>
         requires { (bound : ℕ) × IsSound D.Disk bound self.old }
-        ensures told { result ≡ Ok tt → (c : Cell) → IsModelledBy self.old c →
-            CellTold D.Disk (script_database V.database V.words) (λ choices. run_in (script_database V.database V.words) c choices line.DeliverAll) None self.old self.new (string_bytes text.old) (string_bytes text.new) }
-        ensures limit { (which : AWhich) → result ≡ Err (LineFault.Limit which) → (c : Cell) → IsModelledBy self.old c →
-            CellTold D.Disk (script_database V.database V.words) (λ choices. run_in (script_database V.database V.words) c choices line.DeliverAll) (Some (ending.Limit which)) self.old self.new (string_bytes text.old) (string_bytes text.new) }
+        ensures told { result ≡ Ok tt → (given : List ℕ) (c : Cell) → IsModelledBy D.Disk V.database given self.old c →
+            CellTold D.Disk (script_database V.database V.words) given (λ choices. run_in (script_database V.database V.words) c choices line.DeliverAll) None self.old self.new (string_bytes text.old) (string_bytes text.new) }
+        ensures limit { (which : AWhich) → result ≡ Err (LineFault.Limit which) → (given : List ℕ) (c : Cell) → IsModelledBy D.Disk V.database given self.old c →
+            CellTold D.Disk (script_database V.database V.words) given (λ choices. run_in (script_database V.database V.words) c choices line.DeliverAll) (Some (ending.Limit which)) self.old self.new (string_bytes text.old) (string_bytes text.new) }
         ensures refused { (why : AWhy) → result ≢ Err (LineFault.Refused why) }
-        ensures short { result ≡ Err LineFault.NoMemory → (c : Cell) → IsModelledBy self.old c →
-            IsShort D.Disk (λ choices. run_in (script_database V.database V.words) c choices line.DeliverAll) c self.old self.new }
+        ensures short { result ≡ Err LineFault.NoMemory → (given : List ℕ) (c : Cell) → IsModelledBy D.Disk V.database given self.old c →
+            IsShort D.Disk V.database given (λ choices. run_in (script_database V.database V.words) c choices line.DeliverAll) c self.old self.new }
         ensures sound { result ≡ Ok tt → (bound : ℕ) → IsSound D.Disk bound self.old → IsSound D.Disk bound self.new }
-        ensures never_falls { AreRises 0 [] (helds D.files D.faults self.old) (helds D.files D.faults self.new) }
+        ensures never_falls { AreRises 0 [] (helds D.Disk self.old) (helds D.Disk self.new) }
         ensures same { length self.new.sites.items ≡ length self.old.sites.items }
     {
         for _ in 0..MAX_PACKETS {
@@ -77,18 +75,18 @@ impl<D: StopDisk, V: WordForms> OpenCell<D, V> {
         requires sound { (bound : ℕ) × IsSound D.Disk bound self.old }
         requires some { 0 < number }
         requires sent { number ≤ length self.old.packets.sent }
-        ensures told { result ≡ Ok tt → (c : Cell) → IsModelledBy self.old c →
-            CellTold D.Disk (script_database V.database V.words) (λ choices. Ok (delivered (script_database V.database V.words) c (first_choice choices) number)) None self.old self.new (string_bytes text.old) (string_bytes text.new) }
-        ensures limit { (which : AWhich) → result ≡ Err (LineFault.Limit which) → (c : Cell) → IsModelledBy self.old c →
-            CellTold D.Disk (script_database V.database V.words) (λ choices. Ok (delivered (script_database V.database V.words) c (first_choice choices) number)) (Some (ending.Limit which)) self.old self.new (string_bytes text.old) (string_bytes text.new) }
+        ensures told { result ≡ Ok tt → (given : List ℕ) (c : Cell) → IsModelledBy D.Disk V.database given self.old c →
+            CellTold D.Disk (script_database V.database V.words) given (λ choices. Ok (delivered (script_database V.database V.words) c (first_choice choices) number)) None self.old self.new (string_bytes text.old) (string_bytes text.new) }
+        ensures limit { (which : AWhich) → result ≡ Err (LineFault.Limit which) → (given : List ℕ) (c : Cell) → IsModelledBy D.Disk V.database given self.old c →
+            CellTold D.Disk (script_database V.database V.words) given (λ choices. Ok (delivered (script_database V.database V.words) c (first_choice choices) number)) (Some (ending.Limit which)) self.old self.new (string_bytes text.old) (string_bytes text.new) }
         ensures refused { (why : AWhy) → result ≢ Err (LineFault.Refused why) }
-        ensures short { result ≡ Err LineFault.NoMemory → (c : Cell) → IsModelledBy self.old c →
-            IsShort D.Disk (λ choices. Ok (delivered (script_database V.database V.words) c (first_choice choices) number)) c self.old self.new }
+        ensures short { result ≡ Err LineFault.NoMemory → (given : List ℕ) (c : Cell) → IsModelledBy D.Disk V.database given self.old c →
+            IsShort D.Disk V.database given (λ choices. Ok (delivered (script_database V.database V.words) c (first_choice choices) number)) c self.old self.new }
         ensures sound { result ≡ Ok tt → (bound : ℕ) → IsSound D.Disk bound self.old → IsSound D.Disk bound self.new }
-        ensures never_falls { AreRises 0 [] (helds D.files D.faults self.old) (helds D.files D.faults self.new) }
+        ensures never_falls { AreRises 0 [] (helds D.Disk self.old) (helds D.Disk self.new) }
         ensures same { length self.new.sites.items ≡ length self.old.sites.items }
-        // A packet of votes leaves what disks read as.
-        ensures keeps { (sites : List ModelSite) → AreReadBy sites (helds D.files D.faults self.old) → AreReadBy sites (helds D.files D.faults self.new) }
+        // A packet of votes leaves what the disks hold.
+        ensures keeps { (given : List ℕ) (c : Cell) → HoldRun V.database given false c (helds D.Disk self.old) → HoldRun V.database given false c (helds D.Disk self.new) }
     {
         self.packets.hand_over(number);
         let packet = copy_of_votes(self.packets.packet(number));
@@ -101,17 +99,6 @@ impl<D: StopDisk, V: WordForms> OpenCell<D, V> {
         let packet = number;
         tell_mark(text, Mark::Lost { packet })?;
         Ok(())
-    }
-
-    /// Whether the server at a place is up.
-    fn is_up(&self, k: usize) -> bool
-        requires { k < length self.now.sites.items }
-        ensures { MatchBool result (IsUpAt self.now k) (IsDownAt self.now k) }
-    {
-        match &self.sites[k].server {
-            Server::Down(_) => false,
-            Server::Up(_) => true,
-        }
     }
 }
 

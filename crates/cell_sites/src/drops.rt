@@ -30,15 +30,15 @@ impl<D: StopDisk, V: WordForms> OpenCell<D, V> {
     /// The packet of a number waits no longer.
     pub fn drop_packet(&mut self, number: u64) -> Result<(), Why>
         requires { (bound : ℕ) × IsSound D.Disk bound self.old }
-        ensures told { result ≡ Ok tt → (c : Cell) (text : List ℕ) → IsModelledBy self.old c →
-            CellTold D.Disk (script_database V.database V.words)
+        ensures told { result ≡ Ok tt → (given : List ℕ) (c : Cell) (text : List ℕ) → IsModelledBy D.Disk V.database given self.old c →
+            CellTold D.Disk (script_database V.database V.words) given
             (λ choices. run_in (script_database V.database V.words) c choices (line.Drop number))
             None self.old self.new text text }
         ensures refused { (why : AWhy) → result ≡ Err why → (self.new ≡ self.old)
-            × ((c : Cell) → IsModelledBy self.old c → IsRefused why
+            × ((given : List ℕ) (c : Cell) → IsModelledBy D.Disk V.database given self.old c → IsRefused why
             (λ choices. run_in (script_database V.database V.words) c choices (line.Drop number))) }
         ensures sound { (bound : ℕ) → IsSound D.Disk bound self.old → IsSound D.Disk bound self.new }
-        ensures never_falls { AreRises 0 [] (helds D.files D.faults self.old) (helds D.files D.faults self.new) }
+        ensures never_falls { AreRises 0 [] (helds D.Disk self.old) (helds D.Disk self.new) }
         ensures same { length self.new.sites.items ≡ length self.old.sites.items }
     {
         let number = self.sent_number(number)?;
@@ -49,15 +49,15 @@ impl<D: StopDisk, V: WordForms> OpenCell<D, V> {
     /// The packets to and from a server that is up wait no longer.
     pub fn drop_all(&mut self, server: u64) -> Result<(), Why>
         requires { (bound : ℕ) × IsSound D.Disk bound self.old }
-        ensures told { result ≡ Ok tt → (c : Cell) (text : List ℕ) → IsModelledBy self.old c →
-            CellTold D.Disk (script_database V.database V.words)
+        ensures told { result ≡ Ok tt → (given : List ℕ) (c : Cell) (text : List ℕ) → IsModelledBy D.Disk V.database given self.old c →
+            CellTold D.Disk (script_database V.database V.words) given
             (λ choices. run_in (script_database V.database V.words) c choices (line.DropAll server))
             None self.old self.new text text }
         ensures refused { (why : AWhy) → result ≡ Err why → (self.new ≡ self.old)
-            × ((c : Cell) → IsModelledBy self.old c → IsRefused why
+            × ((given : List ℕ) (c : Cell) → IsModelledBy D.Disk V.database given self.old c → IsRefused why
             (λ choices. run_in (script_database V.database V.words) c choices (line.DropAll server))) }
         ensures sound { (bound : ℕ) → IsSound D.Disk bound self.old → IsSound D.Disk bound self.new }
-        ensures never_falls { AreRises 0 [] (helds D.files D.faults self.old) (helds D.files D.faults self.new) }
+        ensures never_falls { AreRises 0 [] (helds D.Disk self.old) (helds D.Disk self.new) }
         ensures same { length self.new.sites.items ≡ length self.old.sites.items }
     {
         let k = self.place_up(server)?;

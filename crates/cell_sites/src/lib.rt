@@ -5,6 +5,8 @@ mod cells;
 mod deliveries;
 mod drops;
 mod faults;
+mod openings;
+mod outages;
 mod packets;
 mod places;
 mod shows;

@@ -21,17 +21,17 @@ impl<D: StopDisk, V: WordForms> OpenCell<D, V> {
     /// Tells the state of a server: of a halted one what it kept.
     pub fn show(&self, server: u64, text: &mut String) -> Result<(), LineFault>
         requires { (bound : ℕ) × IsSound D.Disk bound self.now }
-        ensures told { result ≡ Ok tt → (c : Cell) → IsModelledBy self.now c →
-            CellTold D.Disk (script_database V.database V.words)
+        ensures told { result ≡ Ok tt → (given : List ℕ) (c : Cell) → IsModelledBy D.Disk V.database given self.now c →
+            CellTold D.Disk (script_database V.database V.words) given
             (λ choices. run_in (script_database V.database V.words) c choices (line.Show server)) None self.now self.now
             (string_bytes text.old) (string_bytes text.new) }
         ensures limit { (which : Which) → result ≢ Err (LineFault.Limit which) }
         ensures refused { (why : Why) → result ≡ Err (LineFault.Refused why) →
-            (c : Cell) → IsModelledBy self.now c → IsRefused why
+            (given : List ℕ) (c : Cell) → IsModelledBy D.Disk V.database given self.now c → IsRefused why
             (λ choices. run_in (script_database V.database V.words) c choices (line.Show server)) }
         ensures quiet { (why : Why) → result ≡ Err (LineFault.Refused why) → string_bytes text.new ≡ string_bytes text.old }
-        ensures short { result ≡ Err LineFault.NoMemory → (c : Cell) → IsModelledBy self.now c →
-            IsShort D.Disk
+        ensures short { result ≡ Err LineFault.NoMemory → (given : List ℕ) (c : Cell) → IsModelledBy D.Disk V.database given self.now c →
+            IsShort D.Disk V.database given
             (λ choices. run_in (script_database V.database V.words) c choices (line.Show server)) c self.now self.now }
     {
         let k = self.place(server)?;

@@ -1,8 +1,8 @@
 //! Steps of one server: its turns, and the calls that it is asked.
-ghost use Rattle.std.specs.Prelude.{◌≡◌, ◌≢◌, ◌<◌, ◌≤◌, ◌+◌, ◌-◌, ◌++◌, ℕ, List, Some, None, All, OnOk, IfOk, Ok, Err, length, filter_map, []};
+ghost use Rattle.std.specs.Prelude.{◌≡◌, ◌≢◌, ◌<◌, ◌≤◌, ◌+◌, ◌-◌, ◌++◌, ℕ, List, Some, None, All, OnOk, IfOk, Ok, Err, false, length, filter_map, []};
 ghost use Rattle.std.specs.String.{string_bytes};
 ghost use Rattle.cell_model.specs.Step.{Shown, outputs_of};
-ghost use Rattle.cell_model.specs.World.{Site as ModelSite, Trigger, occasion, packet_in};
+ghost use Rattle.cell_model.specs.World.{Trigger, occasion, packet_in};
 ghost use Rattle.ubik_calls.specs.declared.packets.Packet.{Packet as APacket};
 ghost use Rattle.cell_sites.specs.Telling.{IsNotShort, MayBeTold, WholeTold, told_of};
 ghost use Rattle.cell_sites.specs.Traffic.{sent_all};
@@ -13,10 +13,11 @@ ghost use Rattle.cell_runs.specs.ScriptDatabase.{script_database};
 ghost use Rattle.cell_runs.specs.Script.{Cell, Choice, first_choice, stepped, run_in, asked_at};
 ghost use Rattle.cell_script.specs.declared.lines.Line.TheVariants as line;
 ghost use Rattle.cell_script.specs.declared.lines.Why.{Why as AWhy};
-ghost use Rattle.cell_sites.specs.Disks.{AreReadBy, AreRises};
+ghost use Rattle.cell_sites.specs.Counts.{HoldRun};
+ghost use Rattle.cell_sites.specs.Disks.{AreRises};
 ghost use Rattle.cell_sites.specs.Places.{IsUpAt};
 ghost use Rattle.cell_sites.specs.Sites.{IsModelledBy, helds};
-ghost use Rattle.cell_sites.specs.Sound.{IsSound, IsSoundNode};
+ghost use Rattle.cell_sites.specs.Sound.{IsSound, IsSoundDisk, IsSoundNode};
 ghost use Rattle.cell_sites.specs.Stepped.{NodeStepped, SiteStepped, member_at};
 ghost use Rattle.cell_sites.specs.Told.{CellTold, IsRefused, IsShort};
 ghost use Rattle.ubik_node.specs.Node.{own_member};
@@ -37,17 +38,17 @@ impl<D: StopDisk, V: WordForms> OpenCell<D, V> {
     /// A beacon turn of a server, which is counted from 1.
     pub fn beacon(&mut self, server: u64, text: &mut String) -> Result<(), LineFault>
         requires { (bound : ℕ) × IsSound D.Disk bound self.old }
-        ensures told { result ≡ Ok tt → (c : Cell) → IsModelledBy self.old c →
-            CellTold D.Disk (script_database V.database V.words) (λ choices. run_in (script_database V.database V.words) c choices (line.Beacon server)) None self.old self.new (string_bytes text.old) (string_bytes text.new) }
-        ensures limit { (which : AWhich) → result ≡ Err (LineFault.Limit which) → (c : Cell) → IsModelledBy self.old c →
-            CellTold D.Disk (script_database V.database V.words) (λ choices. run_in (script_database V.database V.words) c choices (line.Beacon server)) (Some (ending.Limit which)) self.old self.new (string_bytes text.old) (string_bytes text.new) }
+        ensures told { result ≡ Ok tt → (given : List ℕ) (c : Cell) → IsModelledBy D.Disk V.database given self.old c →
+            CellTold D.Disk (script_database V.database V.words) given (λ choices. run_in (script_database V.database V.words) c choices (line.Beacon server)) None self.old self.new (string_bytes text.old) (string_bytes text.new) }
+        ensures limit { (which : AWhich) → result ≡ Err (LineFault.Limit which) → (given : List ℕ) (c : Cell) → IsModelledBy D.Disk V.database given self.old c →
+            CellTold D.Disk (script_database V.database V.words) given (λ choices. run_in (script_database V.database V.words) c choices (line.Beacon server)) (Some (ending.Limit which)) self.old self.new (string_bytes text.old) (string_bytes text.new) }
         ensures refused { (why : AWhy) → result ≡ Err (LineFault.Refused why) → (self.new ≡ self.old)
-            × ((c : Cell) → IsModelledBy self.old c → IsRefused why (λ choices. run_in (script_database V.database V.words) c choices (line.Beacon server))) }
+            × ((given : List ℕ) (c : Cell) → IsModelledBy D.Disk V.database given self.old c → IsRefused why (λ choices. run_in (script_database V.database V.words) c choices (line.Beacon server))) }
         ensures quiet { (why : AWhy) → result ≡ Err (LineFault.Refused why) → string_bytes text.new ≡ string_bytes text.old }
-        ensures short { result ≡ Err LineFault.NoMemory → (c : Cell) → IsModelledBy self.old c →
-            IsShort D.Disk (λ choices. run_in (script_database V.database V.words) c choices (line.Beacon server)) c self.old self.new }
+        ensures short { result ≡ Err LineFault.NoMemory → (given : List ℕ) (c : Cell) → IsModelledBy D.Disk V.database given self.old c →
+            IsShort D.Disk V.database given (λ choices. run_in (script_database V.database V.words) c choices (line.Beacon server)) c self.old self.new }
         ensures sound { result ≡ Ok tt → (bound : ℕ) → IsSound D.Disk bound self.old → IsSound D.Disk bound self.new }
-        ensures never_falls { AreRises 0 [] (helds D.files D.faults self.old) (helds D.files D.faults self.new) }
+        ensures never_falls { AreRises 0 [] (helds D.Disk self.old) (helds D.Disk self.new) }
         ensures same { length self.new.sites.items ≡ length self.old.sites.items }
     {
         let k = self.place_up(server)?;
@@ -58,17 +59,17 @@ impl<D: StopDisk, V: WordForms> OpenCell<D, V> {
     pub fn recover(&mut self, server: u64, text: &mut String) -> Result<(), LineFault>
         requires sound { (bound : ℕ) × IsSound D.Disk bound self.old }
         requires alone { length self.old.sites.items ≡ 1 }
-        ensures told { result ≡ Ok tt → (c : Cell) → IsModelledBy self.old c →
-            CellTold D.Disk (script_database V.database V.words) (λ choices. run_in (script_database V.database V.words) c choices (line.Recover server)) None self.old self.new (string_bytes text.old) (string_bytes text.new) }
-        ensures limit { (which : AWhich) → result ≡ Err (LineFault.Limit which) → (c : Cell) → IsModelledBy self.old c →
-            CellTold D.Disk (script_database V.database V.words) (λ choices. run_in (script_database V.database V.words) c choices (line.Recover server)) (Some (ending.Limit which)) self.old self.new (string_bytes text.old) (string_bytes text.new) }
+        ensures told { result ≡ Ok tt → (given : List ℕ) (c : Cell) → IsModelledBy D.Disk V.database given self.old c →
+            CellTold D.Disk (script_database V.database V.words) given (λ choices. run_in (script_database V.database V.words) c choices (line.Recover server)) None self.old self.new (string_bytes text.old) (string_bytes text.new) }
+        ensures limit { (which : AWhich) → result ≡ Err (LineFault.Limit which) → (given : List ℕ) (c : Cell) → IsModelledBy D.Disk V.database given self.old c →
+            CellTold D.Disk (script_database V.database V.words) given (λ choices. run_in (script_database V.database V.words) c choices (line.Recover server)) (Some (ending.Limit which)) self.old self.new (string_bytes text.old) (string_bytes text.new) }
         ensures refused { (why : AWhy) → result ≡ Err (LineFault.Refused why) → (self.new ≡ self.old)
-            × ((c : Cell) → IsModelledBy self.old c → IsRefused why (λ choices. run_in (script_database V.database V.words) c choices (line.Recover server))) }
+            × ((given : List ℕ) (c : Cell) → IsModelledBy D.Disk V.database given self.old c → IsRefused why (λ choices. run_in (script_database V.database V.words) c choices (line.Recover server))) }
         ensures quiet { (why : AWhy) → result ≡ Err (LineFault.Refused why) → string_bytes text.new ≡ string_bytes text.old }
-        ensures short { result ≡ Err LineFault.NoMemory → (c : Cell) → IsModelledBy self.old c →
-            IsShort D.Disk (λ choices. run_in (script_database V.database V.words) c choices (line.Recover server)) c self.old self.new }
+        ensures short { result ≡ Err LineFault.NoMemory → (given : List ℕ) (c : Cell) → IsModelledBy D.Disk V.database given self.old c →
+            IsShort D.Disk V.database given (λ choices. run_in (script_database V.database V.words) c choices (line.Recover server)) c self.old self.new }
         ensures sound { result ≡ Ok tt → (bound : ℕ) → IsSound D.Disk bound self.old → IsSound D.Disk bound self.new }
-        ensures never_falls { AreRises 0 [] (helds D.files D.faults self.old) (helds D.files D.faults self.new) }
+        ensures never_falls { AreRises 0 [] (helds D.Disk self.old) (helds D.Disk self.new) }
         ensures same { length self.new.sites.items ≡ length self.old.sites.items }
     {
         let k = self.place_up(server)?;
@@ -84,17 +85,17 @@ impl<D: StopDisk, V: WordForms> OpenCell<D, V> {
         text: &mut String,
     ) -> Result<(), LineFault>
         requires { (bound : ℕ) × IsSound D.Disk bound self.old }
-        ensures told { result ≡ Ok tt → (c : Cell) → IsModelledBy self.old c →
-            CellTold D.Disk (script_database V.database V.words) (λ choices. asked_at (script_database V.database V.words) c (first_choice choices) id call (Some server)) None self.old self.new (string_bytes text.old) (string_bytes text.new) }
-        ensures limit { (which : AWhich) → result ≡ Err (LineFault.Limit which) → (c : Cell) → IsModelledBy self.old c →
-            CellTold D.Disk (script_database V.database V.words) (λ choices. asked_at (script_database V.database V.words) c (first_choice choices) id call (Some server)) (Some (ending.Limit which)) self.old self.new (string_bytes text.old) (string_bytes text.new) }
+        ensures told { result ≡ Ok tt → (given : List ℕ) (c : Cell) → IsModelledBy D.Disk V.database given self.old c →
+            CellTold D.Disk (script_database V.database V.words) given (λ choices. asked_at (script_database V.database V.words) c (first_choice choices) id call (Some server)) None self.old self.new (string_bytes text.old) (string_bytes text.new) }
+        ensures limit { (which : AWhich) → result ≡ Err (LineFault.Limit which) → (given : List ℕ) (c : Cell) → IsModelledBy D.Disk V.database given self.old c →
+            CellTold D.Disk (script_database V.database V.words) given (λ choices. asked_at (script_database V.database V.words) c (first_choice choices) id call (Some server)) (Some (ending.Limit which)) self.old self.new (string_bytes text.old) (string_bytes text.new) }
         ensures refused { (why : AWhy) → result ≡ Err (LineFault.Refused why) → (self.new ≡ self.old)
-            × ((c : Cell) → IsModelledBy self.old c → IsRefused why (λ choices. asked_at (script_database V.database V.words) c (first_choice choices) id call (Some server))) }
+            × ((given : List ℕ) (c : Cell) → IsModelledBy D.Disk V.database given self.old c → IsRefused why (λ choices. asked_at (script_database V.database V.words) c (first_choice choices) id call (Some server))) }
         ensures quiet { (why : AWhy) → result ≡ Err (LineFault.Refused why) → string_bytes text.new ≡ string_bytes text.old }
-        ensures short { result ≡ Err LineFault.NoMemory → (c : Cell) → IsModelledBy self.old c →
-            IsShort D.Disk (λ choices. asked_at (script_database V.database V.words) c (first_choice choices) id call (Some server)) c self.old self.new }
+        ensures short { result ≡ Err LineFault.NoMemory → (given : List ℕ) (c : Cell) → IsModelledBy D.Disk V.database given self.old c →
+            IsShort D.Disk V.database given (λ choices. asked_at (script_database V.database V.words) c (first_choice choices) id call (Some server)) c self.old self.new }
         ensures sound { result ≡ Ok tt → (bound : ℕ) → IsSound D.Disk bound self.old → IsSound D.Disk bound self.new }
-        ensures never_falls { AreRises 0 [] (helds D.files D.faults self.old) (helds D.files D.faults self.new) }
+        ensures never_falls { AreRises 0 [] (helds D.Disk self.old) (helds D.Disk self.new) }
         ensures same { length self.new.sites.items ≡ length self.old.sites.items }
     {
         let k = self.place_up(server)?;
@@ -114,24 +115,28 @@ impl<D: StopDisk, V: WordForms> OpenCell<D, V> {
         requires up { IsUpAt self.old k }
         requires taken { IsTaken (member_at self.old k) event }
         requires asks { AsksNoOther event call.now }
-        ensures told { result ≡ Ok tt → (c : Cell) (trigger : Trigger) → IsModelledBy self.old c → occasion c.run.world trigger ≡ Some (k, event) →
-            CellTold D.Disk (script_database V.database V.words) (λ choices. Ok (stepped (script_database V.database V.words) c (first_choice choices) trigger)) None self.old self.new (string_bytes text.old) (string_bytes text.new) }
-        ensures limit { (which : AWhich) → result ≡ Err (LineFault.Limit which) → (c : Cell) (trigger : Trigger) → IsModelledBy self.old c → occasion c.run.world trigger ≡ Some (k, event) →
-            CellTold D.Disk (script_database V.database V.words) (λ choices. Ok (stepped (script_database V.database V.words) c (first_choice choices) trigger)) (Some (ending.Limit which)) self.old self.new (string_bytes text.old) (string_bytes text.new) }
+        ensures told { result ≡ Ok tt → (given : List ℕ) (c : Cell) (trigger : Trigger) → IsModelledBy D.Disk V.database given self.old c → occasion c.run.world trigger ≡ Some (k, event) →
+            CellTold D.Disk (script_database V.database V.words) given (λ choices. Ok (stepped (script_database V.database V.words) c (first_choice choices) trigger)) None self.old self.new (string_bytes text.old) (string_bytes text.new) }
+        ensures limit { (which : AWhich) → result ≡ Err (LineFault.Limit which) → (given : List ℕ) (c : Cell) (trigger : Trigger) → IsModelledBy D.Disk V.database given self.old c → occasion c.run.world trigger ≡ Some (k, event) →
+            CellTold D.Disk (script_database V.database V.words) given (λ choices. Ok (stepped (script_database V.database V.words) c (first_choice choices) trigger)) (Some (ending.Limit which)) self.old self.new (string_bytes text.old) (string_bytes text.new) }
         ensures refused { (why : AWhy) → result ≢ Err (LineFault.Refused why) }
-        ensures short { result ≡ Err LineFault.NoMemory → (c : Cell) (trigger : Trigger) → IsModelledBy self.old c → occasion c.run.world trigger ≡ Some (k, event) →
-            IsShort D.Disk (λ choices. Ok (stepped (script_database V.database V.words) c (first_choice choices) trigger)) c self.old self.new }
+        ensures short { result ≡ Err LineFault.NoMemory → (given : List ℕ) (c : Cell) (trigger : Trigger) → IsModelledBy D.Disk V.database given self.old c → occasion c.run.world trigger ≡ Some (k, event) →
+            IsShort D.Disk V.database given (λ choices. Ok (stepped (script_database V.database V.words) c (first_choice choices) trigger)) c self.old self.new }
         ensures sound { result ≡ Ok tt → (bound : ℕ) → IsSound D.Disk bound self.old → IsSound D.Disk bound self.new }
-        ensures never_falls { AreRises 0 [] (helds D.files D.faults self.old) (helds D.files D.faults self.new) }
-        // A packet of votes leaves what disks read as.
-        ensures keeps { (packet : APacket) → event ≡ NodeEvent.Packet packet → (sites : List ModelSite) → AreReadBy sites (helds D.files D.faults self.old) → AreReadBy sites (helds D.files D.faults self.new) }
+        ensures never_falls { AreRises 0 [] (helds D.Disk self.old) (helds D.Disk self.new) }
+        // A packet of votes leaves what the disks hold.
+        ensures keeps { (packet : APacket) → event ≡ NodeEvent.Packet packet → (given : List ℕ) (c : Cell) → HoldRun V.database given false c (helds D.Disk self.old) → HoldRun V.database given false c (helds D.Disk self.new) }
         ensures same { length self.new.sites.items ≡ length self.old.sites.items }
     {
         law_voters_vote();
-        let (end, halts) = self.step_site(k, event);
-        match end {
-            StepEnd::NoMemory => Err(LineFault::NoMemory),
-            StepEnd::Done | StepEnd::Halted => self.tell_step(k, halts, call, text),
+        match self.step_site(k, event) {
+            SiteEnd::NoMemory => Err(LineFault::NoMemory),
+            SiteEnd::Made => self.tell_step(k, false, call, text),
+            SiteEnd::Halts => self.tell_step(k, true, call, text),
+            SiteEnd::Stops => {
+                let server = k as u32;
+                Ok(tell_mark(text, Mark::Stops { server })?)
+            }
         }
     }
 
@@ -172,39 +177,64 @@ impl<D: StopDisk, V: WordForms> OpenCell<D, V> {
         Ok(())
     }
 
-    /// A step of a server that is up, at its clock, which leaves what it put out; and whether the server was halted in it.
-    fn step_site(&mut self, k: usize, event: NodeEvent) -> (StepEnd, bool)
+    /// A step of a server that is up, at its clock, which leaves what it put out. Where its disk fails, the files are opened anew; where that
+    /// stopped, the server is down, and what it put out is dropped.
+    fn step_site(&mut self, k: usize, event: NodeEvent) -> SiteEnd
         requires sound { (bound : ℕ) × IsSound D.Disk bound self.old }
         requires up { IsUpAt self.old k }
         requires taken { IsTaken (member_at self.old k) event }
-        ensures { SiteStepped D.Disk V.database k event result.0 result.1 self.old self.new }
+        ensures { SiteStepped D.Disk V.database k event result self.old self.new }
     {
         let site = &mut self.sites[k];
         let clock = site.clock;
         let Server::Up(node) = &mut site.server else {
             unreachable!();
         };
-        step_node(node, clock, event, &mut self.outputs)
+        let end = step_node(node, clock, event, &mut self.outputs);
+        if end == SiteEnd::Stops {
+            while self.outputs.take().is_some() {}
+            self.take_down(k);
+        }
+        end
     }
 }
 
-/// A step of a server that is up, at a moment; and whether the server was halted in it.
+/// How a step of a server ended for its cell.
+#[derive(Clone, Copy, Debug, PartialEq, Eq)]
+pub enum SiteEnd {
+    /// It was made, or the server was halted before.
+    Made,
+    /// The disk failed in it: the server is halted, and its files are opened anew.
+    Halts,
+    /// The disk stopped in it.
+    Stops,
+    /// Memory ran out: nothing changed.
+    NoMemory,
+}
+
+/// A step of a server that is up, at a moment. Where it is halted in it by a fault of the disk that is no stop, the files are opened anew.
 fn step_node<D: StopDisk, V: WordForms>(
     node: &mut Node<D, V>,
     clock: u32,
     event: NodeEvent,
     out: &mut Outputs,
-) -> (StepEnd, bool)
+) -> SiteEnd
     requires moment { IsMoment clock }
     requires sound { IsSoundNode D.Disk (own_member node.old) clock node.old }
     requires taken { IsTaken (own_member node.old) event }
+    requires disk { IsSoundDisk D.Disk node.old.store.disk }
     requires empty { out.old ≡ [] }
-    ensures { NodeStepped D.Disk V.database (own_member node.old) clock event result.0 result.1 node.old node.new out.new }
+    ensures { NodeStepped D.Disk V.database (own_member node.old) clock event result node.old node.new out.new }
 {
     let was_halted = node.halted();
     match node.step(clock, event, out) {
-        StepEnd::Halted => (StepEnd::Halted, !was_halted),
-        StepEnd::Done => (StepEnd::Done, false),
-        StepEnd::NoMemory => (StepEnd::NoMemory, false),
+        StepEnd::Done => SiteEnd::Made,
+        StepEnd::NoMemory => SiteEnd::NoMemory,
+        StepEnd::Halted if was_halted => SiteEnd::Made,
+        StepEnd::Halted if node.stopped() => SiteEnd::Stops,
+        StepEnd::Halted => {
+            node.revive();
+            SiteEnd::Halts
+        }
     }
 }

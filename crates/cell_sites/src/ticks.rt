@@ -23,16 +23,16 @@ impl<D: StopDisk, V: WordForms> OpenCell<D, V> {
     /// The clock of a server goes forward. That is refused where it would be more than 7 seconds past another one.
     pub fn tick(&mut self, server: u64, seconds: u32) -> Result<(), Why>
         requires { (bound : ℕ) × IsSound D.Disk bound self.old × (bound + seconds ≤ MAX_MOMENT) }
-        ensures told { result ≡ Ok tt → (c : Cell) (text : List ℕ) → IsModelledBy self.old c →
-            CellTold D.Disk (script_database V.database V.words)
+        ensures told { result ≡ Ok tt → (given : List ℕ) (c : Cell) (text : List ℕ) → IsModelledBy D.Disk V.database given self.old c →
+            CellTold D.Disk (script_database V.database V.words) given
             (λ choices. run_in (script_database V.database V.words) c choices (line.Tick server seconds))
             None self.old self.new text text }
         ensures refused { (why : AWhy) → result ≡ Err why → (self.new ≡ self.old)
-            × ((c : Cell) → IsModelledBy self.old c → IsRefused why
+            × ((given : List ℕ) (c : Cell) → IsModelledBy D.Disk V.database given self.old c → IsRefused why
             (λ choices. run_in (script_database V.database V.words) c choices (line.Tick server seconds))) }
         ensures sound { result ≡ Ok tt → (bound : ℕ) → IsSound D.Disk bound self.old
             → IsSound D.Disk (bound + seconds) self.new }
-        ensures never_falls { AreRises 0 [] (helds D.files D.faults self.old) (helds D.files D.faults self.new) }
+        ensures never_falls { AreRises 0 [] (helds D.Disk self.old) (helds D.Disk self.new) }
         ensures same { length self.new.sites.items ≡ length self.old.sites.items }
     {
         let k = self.place(server)?;
@@ -47,12 +47,12 @@ impl<D: StopDisk, V: WordForms> OpenCell<D, V> {
     /// All clocks go forward.
     pub fn tick_all(&mut self, seconds: u32)
         requires { (bound : ℕ) × IsSound D.Disk bound self.old × (bound + seconds ≤ MAX_MOMENT) }
-        ensures told { (c : Cell) (text : List ℕ) → IsModelledBy self.old c →
-            CellTold D.Disk (script_database V.database V.words)
+        ensures told { (given : List ℕ) (c : Cell) (text : List ℕ) → IsModelledBy D.Disk V.database given self.old c →
+            CellTold D.Disk (script_database V.database V.words) given
             (λ choices. run_in (script_database V.database V.words) c choices (line.TickAll seconds))
             None self.old self.new text text }
         ensures sound { (bound : ℕ) → IsSound D.Disk bound self.old → IsSound D.Disk (bound + seconds) self.new }
-        ensures never_falls { AreRises 0 [] (helds D.files D.faults self.old) (helds D.files D.faults self.new) }
+        ensures never_falls { AreRises 0 [] (helds D.Disk self.old) (helds D.Disk self.new) }
         ensures same { length self.new.sites.items ≡ length self.old.sites.items }
     {
         tick_sites(&mut self.sites, seconds);

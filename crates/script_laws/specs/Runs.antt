@@ -2,12 +2,13 @@
 use Rattle.std.specs.Prelude.{ℕ, ◌≡◌, Bool, true, false, Option, Some, None, IsSome, All, List, [], ◌∷◌, ◌++◌, length}
 use Rattle.db_image.specs.Database.{Database}
 use Rattle.cell_model.specs.Book.{Run, first_run, run_through}
-use Rattle.cell_model.specs.World.{World, Trigger, Asking, Event, Step, Stop, Fault, Happening, IsFirst, IsRun, first_world, first_seen, seen_of}
+use Rattle.cell_model.specs.World.{World, Trigger, Asking, Event, Step, Stop, Fault, Happening, IsFirst, IsRun, first_seen, seen_of}
 use Rattle.cell_script.specs.declared.lines.Kind.{Kind}
 use Rattle.cell_runs.specs.declared.endings.Ending.{Ending}
 use Rattle.cell_runs.specs.declared.endings.Ending.TheVariants.{Limit}
 use Rattle.cell_runs.specs.declared.endings.Which.TheVariants.{Packets, PacketBytes}
 use Rattle.cell_runs.specs.Script.{LineRead, Cell, ScriptEnd, Told, hosts_of, kind_of_cell, end_text, told}
+pub use Rattle.cell_runs.specs.Script.{first_of}
 use Rattle.cell_runs.specs.ScriptDatabase.{Databases}
 use Rattle.cell_runs.specs.Trace.{TraceItem, Tells, Shows, trace}
 
@@ -19,10 +20,6 @@ NamesCalls dbs =
 -- the database of a cell
 abbrev pub database_of : Databases → Cell → Database
 database_of dbs c = (dbs (kind_of_cell c)).database
-
--- the first world of a cell
-abbrev pub first_of : Cell → World
-first_of c = first_world c.run.world.hosts c.opening.clock c.opening.failed
 
 -- its run through these events, from its opening on
 abbrev pub run_of : Database → Cell → List Event → Run

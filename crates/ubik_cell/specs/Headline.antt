@@ -1,5 +1,5 @@
 -- The headline: what was read and written is the trace of one run of the world, and that run keeps what it promises.
-use Rattle.std.specs.Prelude.{◌≡◌, ◌≢◌, ◌⊎◌, ℕ, Option, Some, None, List, [], ◌++◌, drop}
+use Rattle.std.specs.Prelude.{◌≡◌, ◌≢◌, ◌⊎◌, ℕ, Bool, Option, Some, None, List, [], ◌++◌, drop}
 use Rattle.disk_base.specs.declared.disks.Disk.{Ghosts}
 use Rattle.cell_runs.specs.Script.{Cell, LineRead, cell_size_of, servers_of, told}
 use Rattle.script_laws.specs.Runs.{IsRunOfTold}
@@ -8,9 +8,10 @@ use Rattle.script_promises.specs.Order.{HasOneOrder}
 use Rattle.script_promises.specs.Kept.{IsKept}
 use Rattle.script_promises.specs.Replies.{HasSingleReplies}
 use Rattle.cell_sites.specs.Disks.{Held, all_held}
-use Rattle.ubik_cell.specs.Disks.{ReadAsCell}
-use Rattle.ubik_cell.specs.Lines.{HeldCauses}
+use Rattle.cell_sites.specs.Opened.{counts_of}
+use Rattle.ubik_cell.specs.Lines.{HeldCauses, HoldStage}
 use Rattle.ubik_cell.specs.Runs.{Runs, read_lines}
+use Rattle.ubik_cell.specs.Turns.{is_short}
 use Rattle.ubik_cell.specs.declared.cells.CellKind.{CellKind}
 use Rattle.ubik_cell.specs.declared.cells.CellKind.TheVariants as kind
 
@@ -22,13 +23,14 @@ OfOne P (Some c) = cell_size_of c ≡ 1 → P c
 abbrev pub OfOneAfter : (Cell → Type 0) → List LineRead → Type 0
 OfOneAfter P readings = OfOne P (told databases readings).stage.cell
 
--- The disks read as the durable states of the run; where memory ran out in a line, perhaps as those after this line, whose faults are
--- those of the disks and whose run keeps what was acknowledged too.
-pub record DisksHold (readings : List LineRead) (untold : List (List ℕ)) (disks : List Held) : Type 0 where
+-- The disks hold the run: each reads as the durable state of its server, be it up, halted or down, and got the changing calls of the run's
+-- events. Where memory ran out in a line, they hold perhaps what this line left, whose faults are those of the disks and whose run keeps
+-- what was acknowledged too.
+pub record DisksHold (readings : List LineRead) (untold : List (List ℕ)) (given : List ℕ) (short : Bool) (disks : List Held) : Type 0 where
   pub more : List LineRead
   pub run_or_not : (more ≡ []) ⊎ (read_lines more ≡ untold)
   pub causes : HeldCauses (told databases (readings ++ more)).stage.cell (told databases (readings ++ more)).items disks
-  pub read : ReadAsCell (told databases (readings ++ more)).stage.cell disks
+  pub holds : HoldStage databases given short (told databases (readings ++ more)).stage.cell disks
   pub kept : OfOneAfter IsKept (readings ++ more)
 
 -- the line in which memory ran out, if it did in one
@@ -45,7 +47,7 @@ pub record OthersStay {D : Type 0} (k : CellKind) (servers : ℕ) (before after 
 
 -- One run: its bytes are those that were written, it is a run of the world, and in a cell of one server its committed transactions
 -- have one order, what was acknowledged is kept, its replies are those of the single copy; each stop, halt and failed opening that it
--- tells is a fault of that server's disk; and the disks hold the durable states.
+-- tells is a fault of that server's disk; and the disks hold the run.
 pub record Headline {D : Type 0} (g : Ghosts D) (k : CellKind) (script : List ℕ) (left : Option (List ℕ))
     (before : List ℕ) (after : Option (List ℕ)) (disks_before disks_after : List D) : Type 0 where
   pub readings : List LineRead
@@ -54,6 +56,6 @@ pub record Headline {D : Type 0} (g : Ghosts D) (k : CellKind) (script : List �
   pub one_order : OfOneAfter HasOneOrder readings
   pub kept : OfOneAfter IsKept readings
   pub single_copy : OfOneAfter HasSingleReplies readings
-  pub causes : HeldCauses (told databases readings).stage.cell (told databases readings).items (all_held g.files g.faults disks_after)
-  pub disks : DisksHold readings (untold_of k readings script left before after run) (all_held g.files g.faults disks_after)
+  pub causes : HeldCauses (told databases readings).stage.cell (told databases readings).items (all_held g disks_after)
+  pub disks : DisksHold readings (untold_of k readings script left before after run) (counts_of g disks_before) (is_short k) (all_held g disks_after)
   pub others : OthersStay k (servers_of (told databases readings).stage.cell) disks_before disks_after

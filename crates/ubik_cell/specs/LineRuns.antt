@@ -30,14 +30,14 @@ run_of_line db l st choices = line_run (only db) (next_line st) choices l st.cel
 abbrev pub LineDone : {D V : Type 0} → Ghosts D → ScriptDatabase → Line → Result (Unit {0}) LineFault
     → (before after : CellRun D V) → (text_before text_after : List ℕ) → Type 0
 LineDone g db l (Ok done) before after text_before text_after =
-    (st : Stage) → IsNear 0 before st → StageTold g (only db) (run_of_line db l st) None before after text_before text_after
+    (given : List ℕ) (st : Stage) → IsNear g (only db) given 0 before st → StageTold g (only db) given (run_of_line db l st) None before after text_before text_after
 LineDone g db l (Err (Limit which)) before after text_before text_after =
-    (st : Stage) → IsNear 0 before st →
-    StageTold g (only db) (run_of_line db l st) (Some (ending.Limit which)) before after text_before text_after
+    (given : List ℕ) (st : Stage) → IsNear g (only db) given 0 before st →
+    StageTold g (only db) given (run_of_line db l st) (Some (ending.Limit which)) before after text_before text_after
 LineDone g db l (Err (Refused why)) before after text_before text_after =
-    (after ≡ before) × (text_after ≡ text_before) × ((st : Stage) → IsNear 0 before st → IsRefusedLine why (run_of_line db l st))
+    (after ≡ before) × (text_after ≡ text_before) × ((given : List ℕ) (st : Stage) → IsNear g (only db) given 0 before st → IsRefusedLine why (run_of_line db l st))
 LineDone g db l (Err NoMemory) before after text_before text_after =
-    (st : Stage) → IsNear 0 before st → StageShort g (run_of_line db l st) st before after
+    (given : List ℕ) (st : Stage) → IsNear g (only db) given 0 before st → StageShort g (only db) given (run_of_line db l st) st before after
 
 -- what a line keeps of a run: how many lines there were, and each disk in its place
 pub record KeepsRun {D V : Type 0} (g : Ghosts D) (result : Result (Unit {0}) LineFault) (before after : CellRun D V) : Type 0 where
@@ -51,35 +51,35 @@ abbrev pub result_of : ScriptDatabase → List ℕ → Stage → List Choice →
 result_of db bytes st choices = line_result (only db) st (record { line = bytes; choices = choices })
 
 -- the script ends before a line does anything
-abbrev pub IsEnded : {D V : Type 0} → ScriptDatabase → List ℕ → Ending → (before after : CellRun D V) → (text_before text_after : List ℕ) → Type 0
-IsEnded db bytes e before after text_before text_after =
+abbrev pub IsEnded : {D V : Type 0} → Ghosts D → ScriptDatabase → List ℕ → Ending → (before after : CellRun D V) → (text_before text_after : List ℕ) → Type 0
+IsEnded g db bytes e before after text_before text_after =
     (after ≡ before) × (text_after ≡ text_before)
-    × ((st : Stage) → IsNear 0 before st → (choices : List Choice) → result_of db bytes st choices ≡ Err e)
+    × ((given : List ℕ) (st : Stage) → IsNear g (only db) given 0 before st → (choices : List Choice) → result_of db bytes st choices ≡ Err e)
 
 -- What became of the bytes of a line in a run.
 abbrev pub ReadDone : {D V : Type 0} → Ghosts D → ScriptDatabase → List ℕ → Result (Unit {0}) LineFault
     → (before after : CellRun D V) → (text_before text_after : List ℕ) → Type 0
 ReadDone g db bytes (Ok done) before after text_before text_after =
-    (st : Stage) → IsNear 0 before st → StageTold g (only db) (result_of db bytes st) None before after text_before text_after
+    (given : List ℕ) (st : Stage) → IsNear g (only db) given 0 before st → StageTold g (only db) given (result_of db bytes st) None before after text_before text_after
 ReadDone g db bytes (Err (Limit which)) before after text_before text_after =
-    IsEnded db bytes (ending.Limit which) before after text_before text_after
-    ⊎ ((st : Stage) → IsNear 0 before st →
-    StageTold g (only db) (result_of db bytes st) (Some (ending.Limit which)) before after text_before text_after)
+    IsEnded g db bytes (ending.Limit which) before after text_before text_after
+    ⊎ ((given : List ℕ) (st : Stage) → IsNear g (only db) given 0 before st →
+    StageTold g (only db) given (result_of db bytes st) (Some (ending.Limit which)) before after text_before text_after)
 ReadDone g db bytes (Err (Refused why)) before after text_before text_after =
-    IsEnded db bytes (ending.Refused why) before after text_before text_after
+    IsEnded g db bytes (ending.Refused why) before after text_before text_after
 ReadDone g db bytes (Err NoMemory) before after text_before text_after =
-    (st : Stage) → IsNear 0 before st → StageShort g (result_of db bytes st) st before after
+    (given : List ℕ) (st : Stage) → IsNear g (only db) given 0 before st → StageShort g (only db) given (result_of db bytes st) st before after
 
 -- What the bytes of a line left of a run: it was told, with its end where the script ends in it; or memory ran out.
 abbrev pub LineEnds : {D V : Type 0} → Ghosts D → ScriptDatabase → List ℕ → Result (Unit {0}) RunEnd
     → (before after : CellRun D V) → (text_before text_after : List ℕ) → Type 0
 LineEnds g db bytes (Ok done) before after text_before text_after =
-    (t : Told) → IsAt g before t → t.ended ≡ None → LineTold g (only db) bytes t (Ok done) after text_before text_after
+    (given : List ℕ) (t : Told) → IsAt g (only db) given before t → t.ended ≡ None → LineTold g (only db) given bytes t (Ok done) after text_before text_after
 LineEnds g db bytes (Err (run_end.Ended e)) before after text_before text_after =
-    (t : Told) → IsAt g before t → t.ended ≡ None
-    → LineTold g (only db) bytes t (Err (run_end.Ended e)) after text_before text_after
+    (given : List ℕ) (t : Told) → IsAt g (only db) given before t → t.ended ≡ None
+    → LineTold g (only db) given bytes t (Err (run_end.Ended e)) after text_before text_after
 LineEnds g db bytes (Err run_end.NoMemory) before after text_before text_after =
-    (t : Told) → IsAt g before t → t.ended ≡ None → LineShort g (only db) bytes t after
+    (given : List ℕ) (t : Told) → IsAt g (only db) given before t → t.ended ≡ None → LineShort g (only db) given bytes t after
 
 -- how a script ends in a line: that was told, or memory ran out in the telling
 abbrev pub EndTold : (line : ℕ) → Ending → Result (Unit {0}) RunEnd → (text_before text_after : List ℕ) → Type 0
@@ -98,15 +98,15 @@ pub record KeepsPlaces {D V : Type 0} (g : Ghosts D) (result : Result (Unit {0})
 abbrev pub CellDone : {D V : Type 0} → Ghosts D → ScriptDatabase → (Cell → List Choice → Run_or_why)
     → Result (Unit {0}) LineFault → (before after : OpenCell D V) → (text_before text_after : List ℕ) → Type 0
 CellDone g db run (Ok done) before after text_before text_after =
-    (c : Cell) → IsModelledBy before c → CellTold g db (run c) None before after text_before text_after
+    (given : List ℕ) (c : Cell) → IsModelledBy g db.database given before c → CellTold g db given (run c) None before after text_before text_after
 CellDone g db run (Err (Limit which)) before after text_before text_after =
-    (c : Cell) → IsModelledBy before c → CellTold g db (run c) (Some (ending.Limit which)) before after text_before text_after
+    (given : List ℕ) (c : Cell) → IsModelledBy g db.database given before c → CellTold g db given (run c) (Some (ending.Limit which)) before after text_before text_after
 CellDone g db run (Err (Refused why)) before after text_before text_after =
-    (after ≡ before) × (text_after ≡ text_before) × ((c : Cell) → IsModelledBy before c → IsRefused why (run c))
+    (after ≡ before) × (text_after ≡ text_before) × ((given : List ℕ) (c : Cell) → IsModelledBy g db.database given before c → IsRefused why (run c))
 CellDone g db run (Err NoMemory) before after text_before text_after =
-    (c : Cell) → IsModelledBy before c → IsShort g (run c) c before after
+    (given : List ℕ) (c : Cell) → IsModelledBy g db.database given before c → IsShort g db.database given (run c) c before after
 
 pub record KeepsCell {D V : Type 0} (g : Ghosts D) (result : Result (Unit {0}) LineFault) (before after : OpenCell D V) : Type 0 where
   pub sound : result ≡ Ok tt → (bound : ℕ) → IsSound g bound before → IsSound g (bound + MAX_TICK) after
-  pub never_falls : AreRises 0 [] (helds g.files g.faults before) (helds g.files g.faults after)
+  pub never_falls : AreRises 0 [] (helds g before) (helds g after)
   pub same : length after.sites.items ≡ length before.sites.items

@@ -1,9 +1,10 @@
 -- A script that is read line by line: between two lines, and at its end.
-use Rattle.std.specs.Prelude.{◌≡◌, ◌≢◌, ◌⊎◌, ℕ, Bool, Option, Some, None, Result, Ok, Err, List, [], ◌++◌, drop}
+use Rattle.std.specs.Prelude.{◌≡◌, ◌≢◌, ◌⊎◌, ℕ, Bool, true, false, Option, Some, None, Result, Ok, Err, List, [], ◌++◌, drop}
 use Rattle.disk_base.specs.declared.disks.Disk.{Ghosts}
 use Rattle.cell_runs.specs.Script.{LineRead, servers_of, told}
 use Rattle.cell_runs.specs.ScriptDatabase.{Databases}
 use Rattle.cell_sites.specs.Disks.{Held, all_held}
+use Rattle.cell_sites.specs.Opened.{counts_of}
 use Rattle.ubik_cell.specs.declared.cells.CellKind.{CellKind}
 use Rattle.ubik_cell.specs.declared.cells.CellKind.TheVariants as kind
 use Rattle.ubik_cell.specs.declared.scripts.CellRun.{CellRun}
@@ -13,14 +14,14 @@ use Rattle.ubik_cell.specs.Lines.{AreHeld, HeldCauses, IsAt}
 use Rattle.ubik_cell.specs.Runs.{IsConsumed, Runs, Wrote, kind_at, read_lines}
 
 -- a run between two lines, where the source has ended or not
-pub record SoFar {D V : Type 0} (g : Ghosts D) (dbs : Databases) (text : List ℕ) (ended : Bool)
+pub record SoFar {D V : Type 0} (g : Ghosts D) (dbs : Databases) (given : List ℕ) (text : List ℕ) (ended : Bool)
     (left : Option (List ℕ)) (before : List ℕ) (after : Option (List ℕ)) (run : CellRun D V) : Type 0 where
   pub readings : List LineRead
   pub rest : List ℕ
   pub remains : left ≡ Some rest
   pub consumed : IsConsumed ended text rest (read_lines readings)
   pub good : (told dbs readings).ended ≡ None
-  pub at : IsAt g run (told dbs readings)
+  pub at : IsAt g dbs given run (told dbs readings)
   pub wrote : Wrote before after (told dbs readings).text
 
 -- how a script ends at a line of this number, if it does, where all that the line told was written
@@ -35,20 +36,25 @@ abbrev pub more_of : (k : CellKind) (dbs : Databases) (readings : List LineRead)
 more_of kind.NoMemory dbs readings text left before after run = run.more
 more_of _ dbs readings text left before after run = []
 
+-- memory ran out
+abbrev pub is_short : CellKind → Bool
+is_short kind.NoMemory = true
+is_short _ = false
+
 -- A run at its end: what it has read and written, how many disks were reached, and what the disks hold.
-pub record Ran (k : CellKind) (dbs : Databases) (text : List ℕ) (left : Option (List ℕ)) (before : List ℕ) (after : Option (List ℕ))
+pub record Ran (k : CellKind) (dbs : Databases) (given : List ℕ) (text : List ℕ) (left : Option (List ℕ)) (before : List ℕ) (after : Option (List ℕ))
     (reached : ℕ) (disks : List Held) : Type 0 where
   pub readings : List LineRead
   pub run : Runs k dbs readings text left before after
   pub more : List LineRead
   pub run_or_not : (more ≡ []) ⊎ (read_lines more ≡ more_of k dbs readings text left before after run)
   pub causes : HeldCauses (told dbs readings).stage.cell (told dbs readings).items disks
-  pub held : AreHeld (told dbs (readings ++ more)) disks
+  pub held : AreHeld dbs given (is_short k) (told dbs (readings ++ more)) disks
   pub servers : k ≢ kind.NoMemory → reached ≡ servers_of (told dbs readings).stage.cell
 
 -- the same over these disks: those that were not reached stay as they were
 pub record RanOver {D : Type 0} (g : Ghosts D) (k : CellKind) (dbs : Databases) (text : List ℕ)
     (left : Option (List ℕ)) (before : List ℕ) (after : Option (List ℕ)) (disks_before disks_after : List D) : Type 0 where
   pub reached : ℕ
-  pub ran : Ran k dbs text left before after reached (all_held g.files g.faults disks_after)
+  pub ran : Ran k dbs (counts_of g disks_before) text left before after reached (all_held g disks_after)
   pub stay : drop reached disks_after ≡ drop reached disks_before

@@ -3,6 +3,7 @@ ghost use Rattle.std.specs.Prelude.{◌≡◌, ◌≢◌, ◌+◌, ◌-◌, ◌<
 ghost use Rattle.std.specs.String.{string_bytes};
 ghost use Rattle.disk_base.specs.Crash.{IsSettled};
 ghost use Rattle.disk_base.specs.Files.{no_files};
+ghost use Rattle.disk_base.specs.Stops.DiskStop.{Unarmed};
 ghost use Rattle.ubik_types.specs.declared.limits.TheConstants.{MAXSERVERS, MAX_MOMENT};
 ghost use Rattle.ubik_types.specs.Moment.{IsMoment};
 ghost use Rattle.cell_script.specs.Meaning.{HasBounds, line_of};
@@ -16,12 +17,12 @@ ghost use Rattle.cell_runs.specs.Script.{LineRead, Stage, Told, first_told, line
 ghost use Rattle.cell_runs.specs.Trace.{ending_text};
 ghost use Rattle.cell_runs.specs.ScriptDatabase.{Databases, script_database};
 ghost use Rattle.cell_sites.specs.Disks.{all_held};
-ghost use Rattle.cell_sites.specs.Opened.{ArePartOpened, HasRoom};
+ghost use Rattle.cell_sites.specs.Opened.{ArePartOpened, HasRoom, counts_of};
 ghost use Rattle.cell_sites.specs.Sites.{helds};
 ghost use Rattle.cell_sites.specs.Sound.{IsSound};
 ghost use Rattle.script_laws.specs.Built.{IsBuiltLine};
 ghost use Rattle.ubik_cell.specs.LineRuns.{CellDone, KeepsCell, KeepsRun, LineDone, ReadDone};
-ghost use Rattle.ubik_cell.specs.Lines.{IsAt, IsSoundBy, IsSoundRun, LineTold, LineShort, IsUnwritten, only, run_helds, sites_in};
+ghost use Rattle.ubik_cell.specs.Lines.{IsAt, IsSoundBy, IsSoundRun, LineTold, LineShort, AreUnwritten, only, run_helds, sites_in};
 
 use cell_runs::{Ending, MAX_LINES, Which, tell_ending};
 use cell_script::{Line, Why, Words, line_meaning};
@@ -57,7 +58,8 @@ impl<D: StopDisk, V: WordForms> CellRun<D, V> {
         requires twenty { vec_len disks.old ≡ MAXSERVERS }
         requires empty { All (λ disk. D.files disk ≡ Some no_files) disks.old.items }
         requires settled { All (λ disk. IsSettled (D.files disk) (D.may_leave disk)) disks.old.items }
-        ensures at { IfOk result (λ run. IsAt D.Disk run first_told) }
+        requires unarmed { All (λ disk. D.stop disk ≡ Unarmed) disks.old.items }
+        ensures at { IfOk result (λ run. (dbs : Databases) → IsAt D.Disk dbs (counts_of D.Disk disks.old.items) run first_told) }
         ensures sound { IfOk result (λ run. IsSoundRun D.Disk run) }
         ensures taken { IfOk result (λ run. (disks.new.items ≡ []) × (vec_capacity disks.new ≡ vec_capacity disks.old)) }
         ensures spare { IfOk result (λ run. (run.spare.items ≡ disks.old.items) × (sites_in run.cell ≡ 0)) }
@@ -86,7 +88,7 @@ impl<D: StopDisk, V: WordForms> CellRun<D, V> {
         requires count { sites_in self.cell + length self.spare.items ≡ MAXSERVERS }
         requires empty { disks.old.items ≡ [] }
         requires room { MAXSERVERS ≤ vec_capacity disks.old }
-        ensures held { all_held D.files D.faults disks.new.items ≡ run_helds D.Disk self }
+        ensures held { all_held D.Disk disks.new.items ≡ run_helds D.Disk self }
         ensures others { drop (sites_in self.cell) disks.new.items ≡ self.spare.items }
         ensures twenty { vec_len disks.new ≡ MAXSERVERS }
     {
@@ -213,10 +215,10 @@ impl<D: StopDisk, V: WordForms> CellRun<D, V> {
     /// The next line of the script, without its LF: what is told of it is added to the text, and, where the script ends in it, why.
     pub fn line(&mut self, line: &[u8], text: &mut String) -> Result<(), RunEnd>
         requires sound { IsSoundRun D.Disk self.old }
-        ensures told { result ≢ Err RunEnd.NoMemory → (t : Told) → IsAt D.Disk self.old t → t.ended ≡ None →
-            LineTold D.Disk (only (script_database V.database V.words)) line.now t result self.new (string_bytes text.old) (string_bytes text.new) }
-        ensures short { result ≡ Err RunEnd.NoMemory → (t : Told) → IsAt D.Disk self.old t → t.ended ≡ None →
-            LineShort D.Disk (only (script_database V.database V.words)) line.now t self.new }
+        ensures told { result ≢ Err RunEnd.NoMemory → (given : List ℕ) (t : Told) → IsAt D.Disk (only (script_database V.database V.words)) given self.old t → t.ended ≡ None →
+            LineTold D.Disk (only (script_database V.database V.words)) given line.now t result self.new (string_bytes text.old) (string_bytes text.new) }
+        ensures short { result ≡ Err RunEnd.NoMemory → (given : List ℕ) (t : Told) → IsAt D.Disk (only (script_database V.database V.words)) given self.old t → t.ended ≡ None →
+            LineShort D.Disk (only (script_database V.database V.words)) given line.now t self.new }
         ensures sound { result ≡ Ok tt → IsSoundRun D.Disk self.new }
         ensures longer { result ≡ Ok tt → self.new.lines ≡ self.old.lines + 1 }
         ensures disks { sites_in self.new.cell + length self.new.spare.items ≡ MAXSERVERS }
@@ -236,10 +238,10 @@ impl<D: StopDisk, V: WordForms> CellRun<D, V> {
     /// The next line of the script where it has more bytes than a line may have.
     pub fn long_line(&self, text: &mut String) -> Result<(), RunEnd>
         requires sound { IsSoundRun D.Disk self.now }
-        ensures told { result ≢ Err RunEnd.NoMemory → (line : List ℕ) (t : Told) → MAX_LINE < length line → IsAt D.Disk self.now t → t.ended ≡ None →
-            LineTold D.Disk (only (script_database V.database V.words)) line t result self.now (string_bytes text.old) (string_bytes text.new) }
-        ensures short { result ≡ Err RunEnd.NoMemory → (line : List ℕ) (t : Told) → IsAt D.Disk self.now t →
-            LineShort D.Disk (only (script_database V.database V.words)) line t self.now }
+        ensures told { result ≢ Err RunEnd.NoMemory → (given : List ℕ) (line : List ℕ) (t : Told) → MAX_LINE < length line → IsAt D.Disk (only (script_database V.database V.words)) given self.now t → t.ended ≡ None →
+            LineTold D.Disk (only (script_database V.database V.words)) given line t result self.now (string_bytes text.old) (string_bytes text.new) }
+        ensures short { result ≡ Err RunEnd.NoMemory → (given : List ℕ) (line : List ℕ) (t : Told) → IsAt D.Disk (only (script_database V.database V.words)) given self.now t →
+            LineShort D.Disk (only (script_database V.database V.words)) given line t self.now }
         ensures ends { result ≢ Ok tt }
     {
         let ending = self.long_ending();
@@ -287,12 +289,13 @@ fn open_servers<D: StopDisk, V: WordForms>(
     requires enough { servers ≤ vec_len spare.old }
     requires empty { All (λ disk. D.files disk ≡ Some no_files) spare.old.items }
     requires settled { All (λ disk. IsSettled (D.files disk) (D.may_leave disk)) spare.old.items }
+    requires unarmed { All (λ disk. D.stop disk ≡ Unarmed) spare.old.items }
     requires opened { ArePartOpened D.Disk (script_database V.database V.words) clock [] cell.old (string_bytes text.old) (string_bytes text.old) }
     ensures opened { OnOk result (ArePartOpened D.Disk (script_database V.database V.words) clock (take servers spare.old.items)
         cell.new (string_bytes text.old) (string_bytes text.new)) }
     ensures all { OnOk result (length cell.new.sites.items ≡ servers) }
     ensures spare { spare.new.items ≡ drop (length cell.new.sites.items) spare.old.items }
-    ensures unwritten { All IsUnwritten (helds D.files D.faults cell.new) }
+    ensures unwritten { AreUnwritten (counts_of D.Disk (take (length cell.new.sites.items) spare.old.items)) (helds D.Disk cell.new) }
     ensures room { HasRoom cell.new }
     ensures hosts { cell.new.hosts.items ≡ cell.old.hosts.items }
     ensures few { length cell.new.sites.items ≤ servers }
@@ -331,7 +334,13 @@ fn run_in_cell<D: StopDisk, V: WordForms>(
         Line::DeliverAll => cell.deliver_all(text),
         Line::Show { server } => cell.show(*server, text),
         Line::Ask { .. } => Err(Why::Syntax.into()),
-        Line::Stop { .. } | Line::Crash { .. } | Line::Restart { .. } => Ok(()),
+        Line::Stop {
+            server,
+            calls,
+            fill,
+        } => Ok(cell.stop(*server, *calls, *fill)?),
+        Line::Crash { server } => Ok(cell.crash(*server)?),
+        Line::Restart { server } => cell.restart(*server, text),
     }
 }
 

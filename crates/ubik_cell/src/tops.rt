@@ -4,6 +4,7 @@ ghost use Rattle.std.specs.String.{string_bytes};
 ghost use Rattle.disk_base.specs.Count.{HasCause};
 ghost use Rattle.disk_base.specs.Crash.{IsSettled};
 ghost use Rattle.disk_base.specs.Files.{no_files};
+ghost use Rattle.disk_base.specs.Stops.DiskStop.{Unarmed};
 ghost use Rattle.ubik_types.specs.declared.limits.TheConstants.{MAXSERVERS};
 ghost use Rattle.prdb_entries.specs.CallWords.{protection_words};
 ghost use Rattle.prdb_entries.specs.Protection.{protection};
@@ -19,7 +20,6 @@ ghost use Rattle.ubik_cell.specs.Turns.{Ran, RanOver, SoFar, end_after};
 
 use crate::cells::{CellEnd, CellKind};
 use crate::scripts::{CellRun, RunEnd};
-use cell_model::law_database_is_durable;
 use cell_runs::Ending;
 use cell_script::{LineEnd, LineReader, write_whole};
 use db_image::WordForms;
@@ -74,15 +74,15 @@ fn turn<S: Source, K: Sink, D: StopDisk, V: WordForms>(
     text: &mut String,
 ) -> Option<CellKind>
     requires sound { IsSoundRun D.Disk run.old }
-    ensures goes { result ≡ None → IfSome (K.written out.old) (λ written. (script before : List ℕ) →
-        SoFar D.Disk (only (script_database V.database V.words)) script reader.old.ended (S.left input.old) before
+    ensures goes { result ≡ None → IfSome (K.written out.old) (λ written. (given script before : List ℕ) →
+        SoFar D.Disk (only (script_database V.database V.words)) given script reader.old.ended (S.left input.old) before
         (Some written) run.old →
-        SoFar D.Disk (only (script_database V.database V.words)) script reader.new.ended (S.left input.new) before
+        SoFar D.Disk (only (script_database V.database V.words)) given script reader.new.ended (S.left input.new) before
         (K.written out.new) run.new) }
-    ensures ends { IfSome result (λ kind. IfSome (K.written out.old) (λ written. (script before : List ℕ) →
-        SoFar D.Disk (only (script_database V.database V.words)) script reader.old.ended (S.left input.old) before
+    ensures ends { IfSome result (λ kind. IfSome (K.written out.old) (λ written. (given script before : List ℕ) →
+        SoFar D.Disk (only (script_database V.database V.words)) given script reader.old.ended (S.left input.old) before
         (Some written) run.old →
-        Ran kind (only (script_database V.database V.words)) script (S.left input.new) before (K.written out.new)
+        Ran kind (only (script_database V.database V.words)) given script (S.left input.new) before (K.written out.new)
         (sites_in run.new.cell) (run_helds D.Disk run.new))) }
     ensures sound { result ≡ None → IsSoundRun D.Disk run.new }
     ensures longer { result ≡ None → run.new.lines ≡ run.old.lines + 1 }
@@ -118,6 +118,7 @@ fn run_script<S: Source, K: Sink, D: StopDisk, V: WordForms>(
     requires twenty { vec_len disks.old ≡ MAXSERVERS }
     requires empty { All (λ disk. D.files disk ≡ Some no_files) disks.old.items }
     requires settled { All (λ disk. IsSettled (D.files disk) (D.may_leave disk)) disks.old.items }
+    requires unarmed { All (λ disk. D.stop disk ≡ Unarmed) disks.old.items }
     ensures ran { IfSome (S.left input.old) (λ script. IfSome (K.written out.old) (λ before.
         RanOver D.Disk result (only (script_database V.database V.words)) script (S.left input.new) before (K.written out.new)
         disks.old.items disks.new.items)) }
@@ -171,7 +172,6 @@ pub fn cell_top<S: Source, K: Sink, D: StopDisk>(
     law_faults_have_servers();
     law_scripts_keep_promises();
     law_words_are_calls();
-    law_database_is_durable();
     if !words.is_empty() {
         let kind = CellKind::Words { place: 1 };
         return CellEnd {

@@ -14,7 +14,7 @@ use Rattle.cell_model.specs.Step.{Member, Stepped, outputs_of}
 use Rattle.ubik_node.specs.declared.nodes.Node.{Node}
 use Rattle.ubik_node.specs.declared.nodes.StepEnd.{StepEnd}
 use Rattle.ubik_node.specs.declared.nodes.StepEnd.TheVariants.{Done, Halted, NoMemory}
-use Rattle.ubik_node.specs.Disk.{LeavesWithin, Serves}
+use Rattle.ubik_node.specs.Disk.{FailsIn, Serves}
 use Rattle.ubik_node.specs.State.{server_of, member_of}
 
 -- the server of a node that is not halted
@@ -63,8 +63,8 @@ pub record Makes (t : Stepped) (after : model.Node) (out : List Output) (Did : L
   pub outputs : out ≡ outputs_of t.shown
   pub disk : Did t.calls
 
--- A step at a moment that ended so, from one server and its disk to others, with these outputs. Which calls found no memory is free. A
--- server that is halted, now or before, puts out refusals alone; what ended for want of memory changed nothing.
+-- A step at a moment that ended so, from one server and its disk to others, with these outputs. Which calls found no memory is free where
+-- it was made. A server that is halted, now or before, puts out refusals alone; what ended for want of memory changed nothing.
 abbrev pub Steps : {D : Type 0} → Ghosts D → Database → Member → StepEnd → NodeEvent → ℕ → (before after : model.Node) → List Output
     → (old new : D) → Type 0
 Steps g db m Done event now (model.Up s) after outputs old new =
@@ -72,7 +72,7 @@ Steps g db m Done event now (model.Up s) after outputs old new =
 Steps g db m Done event now _ after outputs old new = ⊥
 Steps g db m Halted event now (model.Up s) after outputs old new =
     (after ≡ model.Halted (model.halted_from s)) × (outputs ≡ outputs_of (refusals event))
-    × ((short : List Bool) × LeavesWithin g (durable_in s) old new (step_of db m s now event short).calls)
+    × FailsIn g (durable_in s) old new (step_of db m s now event []).calls
 Steps g db m Halted event now (model.Halted h) after outputs old new =
     (after ≡ model.Halted h) × (outputs ≡ outputs_of (refusals event)) × (new ≡ old)
 Steps g db m Halted event now model.Down after outputs old new = ⊥

@@ -1,9 +1,10 @@
 //! A server of a cell, one step at a time.
-ghost use Rattle.std.specs.Prelude.{◌≡◌, ◌≢◌, ◌+◌, ◌*◌, ◌<◌, ◌≤◌, ℕ, [], ◌∷◌, length, IfOk, IfErr, IfSome, IsErrOf, IsSome, OnOk, OnErr, MatchResult, None, Some, true, false};
+ghost use Rattle.std.specs.Prelude.{◌≡◌, ◌≢◌, ◌↔◌, IsTrue, ◌+◌, ◌*◌, ◌<◌, ◌≤◌, ℕ, [], ◌∷◌, length, IfOk, IfErr, IfSome, IsErrOf, IsSome, OnOk, OnErr, MatchResult, None, Some, true, false};
 ghost use Rattle.ubik_types.specs.declared.hosts.Host.{Host};
 ghost use Rattle.ubik_types.specs.Moment.{IsMoment};
 ghost use Rattle.disk_base.specs.Crash.{IsSettled};
 ghost use Rattle.disk_base.specs.Runs.{OnlyReads};
+ghost use Rattle.disk_base.specs.Stops.{IsStopped};
 ghost use Rattle.cell_model.specs.Node as model;
 ghost use Rattle.cell_model.specs.NodeRule.{refusals};
 ghost use Rattle.cell_model.specs.Step.{outputs_of, cell_size};
@@ -20,7 +21,7 @@ use crate::state::State;
 use crate::verdicts::{Verdict, verdict_of};
 use cell_model::{NodeEvent, Output};
 use db_image::Service;
-use disk_base::{Disk, Refused};
+use disk_base::{Disk, Fill, Refused, StopDisk};
 use std::alloc::Global;
 use std::marker::PhantomData;
 use ubik_calls::{DebugIs, Reply};
@@ -72,7 +73,7 @@ impl<D: Disk, V: Service> Node<D, V> {
     ghost use Rattle.cell_model.specs.Asks.{asked};
     ghost use Rattle.cell_model.specs.Durable.{Durable, Transaction};
     ghost use Rattle.cell_model.specs.Writes.{write_turn, next_version, own_commit};
-    ghost use Rattle.ubik_node.specs.Disk.{Serves, LeavesWithin, StandsAs};
+    ghost use Rattle.ubik_node.specs.Disk.{FailsIn, Serves, StandsAs};
     ghost use Rattle.ubik_node.specs.Verdict.{Judges, IsWritten, committed};
     ghost use Rattle.ubik_node.specs.Serving.{Answers, Reads, Writes};
     ghost use Rattle.ubik_node.specs.Progress.{alone, IsServing};
@@ -333,7 +334,7 @@ impl<D: Disk, V: Service> Node<D, V> {
             (node_of self.new) out.new (Serves D.Disk (durable_in (up_server self.old)) self.old.store.disk self.new.store.disk) }
         ensures halted { result ≡ StepEnd.Halted → (node_of self.new ≡ model.Halted (model.halted_from (up_server self.old)))
             × (out.new ≡ outputs.Reply id Reply.DiskFault ∷ []) }
-        ensures left { result ≡ StepEnd.Halted → LeavesWithin D.Disk (durable_in (up_server self.old)) self.old.store.disk self.new.store.disk
+        ensures left { result ≡ StepEnd.Halted → FailsIn D.Disk (durable_in (up_server self.old)) self.old.store.disk self.new.store.disk
             (asked V.database (own_member self.old) (up_server self.old) now id call.now false).calls }
         ensures serving { result ≡ StepEnd.Halted → IsServing self.old.state.progress }
         ensures memory { result ≢ StepEnd.NoMemory }
@@ -376,7 +377,7 @@ impl<D: Disk, V: Service> Node<D, V> {
             (node_of self.new) out.new (Serves D.Disk (durable_in (up_server self.old)) self.old.store.disk self.new.store.disk) }
         ensures halted { result ≡ StepEnd.Halted → (node_of self.new ≡ model.Halted (model.halted_from (up_server self.old)))
             × (out.new ≡ outputs.Reply id Reply.DiskFault ∷ []) }
-        ensures left { result ≡ StepEnd.Halted → (h : Host) → LeavesWithin D.Disk (durable_in (up_server self.old)) self.old.store.disk self.new.store.disk
+        ensures left { result ≡ StepEnd.Halted → (h : Host) → FailsIn D.Disk (durable_in (up_server self.old)) self.old.store.disk self.new.store.disk
             (write_turn V.database (alone h) (up_server self.old) now id call.now false).calls }
         ensures memory { result ≢ StepEnd.NoMemory }
         ensures member { own_member self.new ≡ own_member self.old }
@@ -445,7 +446,7 @@ impl<D: Disk, V: Service> Node<D, V> {
             (own_commit (next_version self.old.state.version) changes.now image t ∷ [])) }
         ensures stored { ¬ IsErrOf result StoreFault.DiskFault → IsStored D.Disk self.new }
         ensures failed { IsErrOf result StoreFault.DiskFault → IsStoredBut D.Disk self.new }
-        ensures left { IsErrOf result StoreFault.DiskFault → (t : Transaction) → LeavesWithin D.Disk (durable_in (up_server self.old))
+        ensures left { IsErrOf result StoreFault.DiskFault → (t : Transaction) → FailsIn D.Disk (durable_in (up_server self.old))
             self.old.store.disk self.new.store.disk (own_commit (next_version self.old.state.version) changes.now image t ∷ []) }
         ensures member { own_member self.new ≡ own_member self.old }
         ensures same { OnErr result ((self.new.state ≡ self.old.state) × (self.new.halted ≡ self.old.halted) × (out.new ≡ [])) }
@@ -465,6 +466,39 @@ impl<D: Disk, V: Service> Node<D, V> {
         let reply = Reply::Ok(answer);
         out.put(Output::Reply { id, reply });
         Ok(())
+    }
+}
+
+impl<D: StopDisk, V: Service> Node<D, V> {
+    ghost use Rattle.ubik_node.specs.Disk.{IsArmed, IsRevived};
+    ghost use Rattle.ubik_node.specs.Node.{IsStored};
+
+    /// Has the disk stop after so many further changing calls, and then leave its files so. Of a halted server nothing comes of it.
+    pub fn arm(&mut self, calls: u32, fill: Fill)
+        requires stored { IsStored D.Disk self.old }
+        ensures stored { IsStored D.Disk self.new }
+        ensures disk { IsArmed D.Disk calls fill self.old.store.disk self.new.store.disk }
+        ensures same { (self.new.state ≡ self.old.state) × (self.new.halted ≡ self.old.halted) × (self.new.last ≡ self.old.last) }
+    {
+        self.store.arm(calls, fill);
+    }
+
+    /// Whether the disk has stopped.
+    pub fn stopped(&self) -> bool
+        ensures { IsTrue result ↔ IsStopped (D.stop self.now.store.disk) }
+    {
+        self.store.stopped()
+    }
+
+    /// Opens the files of a halted server anew: they are what a crash leaves of them, all synced. The server stays halted.
+    pub fn revive(&mut self)
+        requires halted { self.old.halted ≡ true }
+        requires stored { IsStored D.Disk self.old }
+        ensures stored { IsStored D.Disk self.new }
+        ensures disk { IsRevived D.Disk self.old.store.disk self.new.store.disk }
+        ensures same { (self.new.state ≡ self.old.state) × (self.new.halted ≡ self.old.halted) × (self.new.last ≡ self.old.last) }
+    {
+        self.store.revive();
     }
 }
 

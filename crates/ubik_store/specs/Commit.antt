@@ -1,11 +1,12 @@
 -- A durable call over the pages and the files of a disk: what it makes, and what a crash leaves of it (own).
-use Rattle.std.specs.Prelude.{◌≡◌, ◌+◌, List, length, Some, IfSome}
+use Rattle.std.specs.Prelude.{◌≡◌, ◌+◌, true, List, length, Some, IfSome}
 use Rattle.std.specs.Option.{option_map}
 use Rattle.ubik_types.specs.declared.images.Change.{Change}
 use Rattle.ubik_types.specs.declared.versions.Version.{Version}
 use Rattle.ubik_types.specs.Image.{effect}
+use Rattle.ubik_types.specs.Version.{zero_version, version_lt}
 use Rattle.disk_base.specs.declared.disks.Disk.{Ghosts}
-use Rattle.disk_base.specs.Crash.{LeavesOnly, IsSettled}
+use Rattle.disk_base.specs.Crash.{LeavesOnly, IsSettled, RisesAtMost}
 use Rattle.page_file.specs.Label.{version_of_database}
 use Rattle.page_file.specs.Pages.{Known, AgreesIn, image_of}
 use Rattle.ubik_store.specs.Calls.{CallsAtMost}
@@ -28,9 +29,12 @@ pub record CommitsFiles {D : Type 0} (g : Ghosts D) (changes : List Change) (v :
   pub room : CanRelabel g new
 
 -- Done or not, a crash at any moment of the call leaves files that stand for the version and image before it or for those after it. Where
--- no cut goes to before an earlier put, an opening over what is left may crash in turn.
+-- no cut goes to before an earlier put, and the version is not the first one, plain files stay plain. It makes no more changing calls than
+-- one that is done.
 pub record IsDurableOver {D : Type 0} (g : Ghosts D) (changes : List Change) (v : Version) (old new : D) (failed : Type 0) : Type 0 where
   pub moments : IfSome (g.files old) (λ fs. (own : Version) → version_of_database fs.database ≡ Some own
       → LeavesOnly g.steps g.left_since old new (StandsForEither own (image_of fs.database) v (effect (image_of fs.database) changes)))
-  pub plain : CutsNoPut changes → IfSome (g.files old) (λ _. LeavesOnly g.steps g.left_since old new IsPlain)
+  pub plain : version_lt zero_version v ≡ true → CutsNoPut changes
+      → IfSome (g.files old) (λ fs. IsPlain fs → LeavesOnly g.steps g.left_since old new IsPlain)
+  pub few : IfSome (g.files old) (λ fs. RisesAtMost (13 + length changes + head_calls fs.database) (g.steps old) (g.steps new))
   pub calls : CallsAtMost g (14 + length changes) old new failed

@@ -7,7 +7,7 @@ use Rattle.ubik_types.specs.declared.versions.Version.{Version}
 use Rattle.ubik_types.specs.Image.{effect}
 use Rattle.ubik_types.specs.Version.{version_lt}
 use Rattle.disk_base.specs.declared.disks.Disk.{Ghosts}
-use Rattle.disk_base.specs.Crash.{LeavesOnly}
+use Rattle.disk_base.specs.Crash.{LeavesOnly, RisesAtMost}
 use Rattle.disk_base.specs.Runs.{OnlyReads}
 use Rattle.page_file.specs.Pages.{image_of}
 use Rattle.ubik_store.specs.declared.faults.StoreFault.{StoreFault}
@@ -67,9 +67,10 @@ abbrev pub IsNeverLong : ℕ → Type 0
 IsNeverLong bytes = ⊥
 
 -- Of a store that had not failed: at each moment of the call a crash leaves files that stand for the version and image before it or for
--- those after it, whose openings may crash in turn.
+-- those after it, and plain files stay plain. It makes no more changing calls than one that is done.
 pub record IsDurable {D : Type 0} (g : Ghosts D) (changes : List Change) (v : Version) (old new : Store D) (failed : Type 0) : Type 0 where
   pub moments : IfSome (g.files old.disk) (λ fs. LeavesOnly g.steps g.left_since old.disk new.disk
       (StandsForEither old.version (image_of fs.database) v (effect (image_of fs.database) changes)))
-  pub plain : CutsNoPut changes → IfSome (g.files old.disk) (λ _. LeavesOnly g.steps g.left_since old.disk new.disk IsPlain)
+  pub plain : CutsNoPut changes → IfSome (g.files old.disk) (λ fs. IsPlain fs → LeavesOnly g.steps g.left_since old.disk new.disk IsPlain)
+  pub few : IfSome (g.files old.disk) (λ fs. RisesAtMost (13 + length changes + head_calls fs.database) (g.steps old.disk) (g.steps new.disk))
   pub calls : CallsAtMost g (14 + length changes) old.disk new.disk failed

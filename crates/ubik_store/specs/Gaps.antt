@@ -1,11 +1,13 @@
 -- Committed logs that a crash may make anew: none of their puts begins behind the end of the image that it finds (own).
-use Rattle.std.specs.Prelude.{ℕ, ◌≤◌, List, [], ◌∷◌, length}
+use Rattle.std.specs.Prelude.{◌≡◌, ℕ, ◌≤◌, true, Some, List, [], ◌∷◌, length}
 use Rattle.ubik_types.specs.declared.images.Change.{Change}
 use Rattle.ubik_types.specs.declared.images.Change.TheVariants.{Put, Cut}
 use Rattle.ubik_types.specs.declared.versions.Version.{Version}
+use Rattle.ubik_types.specs.Version.{zero_version, version_lt}
 use Rattle.disk_base.specs.Files.{Files}
+use Rattle.page_file.specs.Label.{version_of_database}
 use Rattle.page_file.specs.Pages.{image_of}
-use Rattle.ubik_log.specs.LogGrammar.{IsCommitted}
+use Rattle.ubik_log.specs.LogGrammar.{IsCommitted, IsDiscarded}
 use Rattle.ubik_store.specs.Redo.{changed_len}
 
 -- a put begins within an image of this length, or at its end; a cut may go past it
@@ -35,7 +37,10 @@ abbrev pub IsGapless : Files → Type 0
 IsGapless fs =
     (changes : List Change) (version : Version) → IsCommitted fs.log changes version → LeaveNoGap (length (image_of fs.database)) changes
 
--- and none of its cuts goes to before where an earlier put begins: so it stays, however often an opening crashes
+-- And none of its cuts goes to before where an earlier put begins: so it stays, however often an opening crashes. The first version is
+-- that of an empty database file, and of nothing else: a store that began on empty files gives no log and no label that version.
 pub record IsPlain (fs : Files) : Type 0 where
   pub gapless : IsGapless fs
   pub cuts : (changes : List Change) (version : Version) → IsCommitted fs.log changes version → CutsNoPut changes
+  pub newer : (changes : List Change) (version : Version) → IsCommitted fs.log changes version → version_lt zero_version version ≡ true
+  pub unlabelled : IsDiscarded fs.log → version_of_database fs.database ≡ Some zero_version → fs.database ≡ []

@@ -4,7 +4,7 @@ use Rattle.ubik_types.specs.declared.images.Change.{Change}
 use Rattle.ubik_types.specs.declared.versions.Version.{Version}
 use Rattle.ubik_types.specs.Logged.{logged}
 use Rattle.disk_base.specs.declared.disks.Disk.{Ghosts}
-use Rattle.disk_base.specs.Crash.{LeavesOnly}
+use Rattle.disk_base.specs.Crash.{LeavesOnly, RisesAtMost}
 use Rattle.disk_base.specs.Files.{Files}
 use Rattle.disk_base.specs.Stops.{IsStopped}
 use Rattle.page_file.specs.Label.{IsHeadOf}
@@ -40,11 +40,13 @@ RefusesFiles fs (NotNewer own given) = ⊥
 RefusesFiles fs NoMemory = Unit {0}
 
 -- What an opening leaves of a disk, done or not. Where no put of a committed log leaves a gap, a crash at any moment of it leaves files
--- that stand for the same; where none of its cuts goes to before an earlier put either, so it is at any crash of a later opening.
+-- that stand for the same; plain files stay plain, so that it is so at any crash of a later opening. It makes no more changing calls than one
+-- that is done.
 pub record IsOpening {D : Type 0} (g : Ghosts D) (old new : D) (failed : Type 0) : Type 0 where
   pub moments : IfSome (g.files old) (λ fs. IsGapless fs → (version : Version) (image : List ℕ) → StandsFor fs version image
       → LeavesOnly g.steps g.left_since old new (λ c. StandsFor c version image))
   pub plain : IfSome (g.files old) (λ fs. IsPlain fs → LeavesOnly g.steps g.left_since old new IsPlain)
+  pub few : IfSome (g.files old) (λ fs. (calls : ℕ) → OpensIn fs calls → RisesAtMost calls (g.steps old) (g.steps new))
   pub stopped : IsStopped (g.stop new) → failed
   pub most : ℕ
   pub calls : CallsAtMost g most old new failed

@@ -2,9 +2,9 @@
 ghost use Rattle.std.specs.Prelude.{◌≡◌, ◌+◌, ◌<◌, ◌≤◌, ◌⊎◌, ℕ, List, [], length, All, IfSome, Some, None, OnOk, IfErr, IsErrOf};
 ghost use Rattle.std.specs.Option.{option_map};
 ghost use Rattle.ubik_types.specs.declared.versions.Version.{Version};
-ghost use Rattle.ubik_types.specs.Version.{IsVersion};
+ghost use Rattle.ubik_types.specs.Version.{IsVersion, version_lt, zero_version};
 ghost use Rattle.ubik_types.specs.Image.{effect};
-ghost use Rattle.disk_base.specs.Crash.{LeavesOnly, IsSettled};
+ghost use Rattle.disk_base.specs.Crash.{LeavesOnly, IsSettled, RisesAtMost};
 ghost use Rattle.disk_base.specs.Runs.{OnlyReserves};
 ghost use Rattle.page_file.specs.Label.{version_of_database};
 ghost use Rattle.page_file.specs.Pages.{AgreesIn, image_of};
@@ -49,8 +49,10 @@ pub(crate) fn keep_and_redo<D: Disk>(
     ensures moments { IfSome (D.files disk.old) (λ fs. (own : Version) → version_of_database fs.database ≡ Some own
         → LeavesOnly D.steps D.left_since disk.old disk.new
         (StandsForEither own (image_of fs.database) v (effect (image_of fs.database) changes.now))) }
-    ensures plain { CutsNoPut changes.now → IfSome (D.files disk.old) (λ _.
-        LeavesOnly D.steps D.left_since disk.old disk.new IsPlain) }
+    ensures plain { version_lt zero_version v ≡ true → CutsNoPut changes.now → IfSome (D.files disk.old) (λ fs.
+        IsPlain fs → LeavesOnly D.steps D.left_since disk.old disk.new IsPlain) }
+    ensures few { IfSome (D.files disk.old) (λ fs.
+        RisesAtMost (13 + length changes.now + head_calls fs.database) (D.steps disk.old) (D.steps disk.new)) }
     ensures rests { OnOk result (IfSome (D.files disk.old) (λ fs.
         RestsAs v (effect (image_of fs.database) changes.now) (D.files disk.new))) }
     ensures settled { OnOk result (IsSettled (D.files disk.new) (D.may_leave disk.new)) }

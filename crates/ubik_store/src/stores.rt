@@ -2,9 +2,10 @@
 ghost use Rattle.std.specs.Prelude.{◌≡◌, ◌≢◌, ◌+◌, ◌<◌, ◌≤◌, ◌⊎◌, ◌^◌, ◌↔◌, ℕ, List, [], ◌∷◌, ◌++◌, length, take, drop, true, false, IsTrue, Some, None, IsSome, IfOk, IfErr, IfSome, IsErrOf, OnOk, OnErr, MatchResult};
 ghost use Rattle.ubik_types.specs.Version.{IsVersion, version_lt};
 ghost use Rattle.ubik_types.specs.declared.images.Change.TheVariants as change;
-ghost use Rattle.disk_base.specs.Crash.{IsSettled};
+ghost use Rattle.disk_base.specs.Crash.{IsSettled, LeavesSame, Only};
 ghost use Rattle.disk_base.specs.Runs.{OnlyReads};
 ghost use Rattle.disk_base.specs.Stops.{IsStopped, armed};
+ghost use Rattle.disk_base.specs.Stops.DiskStop.{Unarmed};
 ghost use Rattle.ubik_store.specs.DurableCall.{Commits, EndsAs, HasFailed, IsDurable, IsNeverLong, whole_image};
 ghost use Rattle.ubik_store.specs.Files.{StandsFor};
 ghost use Rattle.ubik_store.specs.Opening.{OpensIn, RefusesFiles, IsOpening};
@@ -288,6 +289,8 @@ impl<D: StopDisk> Store<D> {
         ensures armed { D.stop self.new.disk ≡ armed (D.stop self.old.disk) calls fill }
         ensures files { D.files self.new.disk ≡ D.files self.old.disk }
         ensures steps { D.steps self.new.disk ≡ D.steps self.old.disk }
+        ensures crash { LeavesSame (D.may_leave self.old.disk) (D.may_leave self.new.disk) (D.left_since self.old.disk) (D.left_since self.new.disk) }
+        ensures tells { D.tells self.new.disk ≡ D.tells self.old.disk }
         ensures faults { D.faults self.new.disk ≡ D.faults self.old.disk }
     {
         self.disk.arm(calls, fill);
@@ -298,5 +301,21 @@ impl<D: StopDisk> Store<D> {
         ensures { IsTrue result ↔ IsStopped (D.stop self.now.disk) }
     {
         self.disk.stopped()
+    }
+
+    /// Opens the files of a store anew whose disk has failed: they are what a crash leaves of them, all synced. The store stays failed.
+    pub fn revive(&mut self)
+        requires failed { self.old.failed ≡ true }
+        requires sound { IsSound D.Disk self.old }
+        ensures sound { IsSound D.Disk self.new }
+        ensures same { StaysAsItWas self.old self.new }
+        ensures unarmed { D.stop self.new.disk ≡ Unarmed }
+        ensures left { IfSome (D.files self.new.disk) (λ fs. D.may_leave self.old.disk fs × Only fs (D.may_leave self.new.disk)) }
+        ensures tells_files { D.tells self.old.disk ≡ true → IsSome (D.files self.new.disk) }
+        ensures tells { D.tells self.new.disk ≡ D.tells self.old.disk }
+        ensures steps { D.steps self.new.disk ≡ D.steps self.old.disk }
+        ensures faults { D.faults self.new.disk ≡ D.faults self.old.disk }
+    {
+        self.disk.revive();
     }
 }
