@@ -1,5 +1,5 @@
 -- What the lines of a script mean, and why a line has no meaning, as far as the line alone tells (own).
-use Rattle.std.specs.Prelude.{ℕ, ◌≤◌, ◌==◌, ◌||◌, ◌&&◌, nat_lt, Bool, true, false, if◌then◌else◌, List, [], ◌∷◌, length, codes, Option, Some, None, option_map, option_and_then, Result, Ok, Err}
+use Rattle.std.specs.Prelude.{ℕ, ◌≤◌, ◌==◌, ◌&&◌, nat_lt, Bool, true, false, if◌then◌else◌, List, [], ◌∷◌, length, codes, Option, Some, None, option_map, option_and_then, Result, Ok, Err}
 use Rattle.std.specs.Option.{option_or}
 use Rattle.std.specs.Str.{bytes_eq}
 use Rattle.ubik_types.specs.declared.limits.TheConstants.{MAXSERVERS}
@@ -115,14 +115,11 @@ whole_line [] = Err Syntax
 whole_line (first ∷ arguments) =
     if bytes_eq first (codes "ask") then ask_line arguments else line_of_counted first arguments
 
--- Lines that are not built yet, by their words and by how many servers the cell has that stands, 0 where none does: stops, crashes
--- and openings, a location database, and recovery in a cell of several servers.
+-- Lines that are not built yet, by their words and by how many servers the cell has that stands, 0 where none does: a location
+-- database, and recovery in a cell of several servers.
 abbrev pub is_later : (servers : ℕ) → List (List ℕ) → Bool
-is_later servers (first ∷ a ∷ []) =
-    bytes_eq first (codes "crash") || bytes_eq first (codes "restart")
-    || (bytes_eq first (codes "recover") && nat_lt 1 servers)
-is_later servers (first ∷ a ∷ b ∷ c ∷ []) =
-    bytes_eq first (codes "stop") || (bytes_eq first (codes "cell") && bytes_eq c (codes "vl"))
+is_later servers (first ∷ a ∷ []) = bytes_eq first (codes "recover") && nat_lt 1 servers
+is_later servers (first ∷ a ∷ b ∷ c ∷ []) = bytes_eq first (codes "cell") && bytes_eq c (codes "vl")
 is_later servers _ = false
 
 -- that a line is not built is judged after its syntax, and before its numbers

@@ -165,19 +165,16 @@ fn words_meaning(words: Words, servers: usize) -> Result<Line, Why>
     }
 }
 
-/// Whether a line of these words is not built yet: stops, crashes and openings, a location database, and recovery
-/// in a cell of several servers.
+/// Whether a line of these words is not built yet: a location database, and recovery in a cell of several servers.
 fn is_later(words: &[Bytes], servers: usize) -> bool
     ensures { result ≡ is_later servers words.now }
 {
     match words {
         [first, _] => match first.as_slice() {
-            b"crash" | b"restart" => true,
             b"recover" => servers > 1,
             _ => false,
         },
         [first, _, _, last] => match first.as_slice() {
-            b"stop" => true,
             b"cell" => last.as_slice() == b"vl".as_slice(),
             _ => false,
         },

@@ -104,6 +104,15 @@ fn understands_lines_that_name_a_server(rt: HostRuntime) -> Result<(), Fail> {
         (3, "ask 1 newentry smith 0 0", ("ask", 1, 0, 4)),
         (3, "ask 0 nametoid", ("ask", 0, 0, 1)),
         (3, "ask -1 idtoname 7", ("ask", 0, 0, 2)),
+        (0, "stop 1 0 old", ("stop with old bytes", 1, 0, 0)),
+        (
+            3,
+            "stop 4 1000000 new",
+            ("stop with new bytes", 4, 1_000_000, 0),
+        ),
+        (1, "stop 1 7 255", ("stop with a byte", 1, 7, 0)),
+        (1, "crash 1", ("crash", 1, 0, 0)),
+        (20, "restart 20", ("restart", 20, 0, 0)),
     ] {
         expect(&rt, rt.alloc(), servers, line.as_bytes(), Ok(want))?;
     }
@@ -183,13 +192,6 @@ fn tells_what_is_not_built_before_the_numbers(rt: HostRuntime) -> Result<(), Fai
         (0usize, "cell 3 x vl"),
         (0, "cell 0 0 vl"),
         (3, "cell 1 1000 vl"),
-        (1, "stop 1 x mad"),
-        (1, "stop 0 1000001 256"),
-        (1, "stop 1 0 old"),
-        (1, "crash x"),
-        (0, "crash 1"),
-        (1, "restart 0"),
-        (3, "restart 1"),
         (2, "recover 1"),
         (3, "recover x"),
         (20, "recover 0"),
@@ -225,6 +227,13 @@ fn refuses_numbers(rt: HostRuntime) -> Result<(), Fail> {
         (3, "drop x"),
         (3, "dropall 0"),
         (3, "show 00"),
+        (1, "stop 0 0 old"),
+        (1, "stop 1 1000001 old"),
+        (1, "stop 1 x mad"),
+        (1, "stop 1 0 256"),
+        (1, "crash x"),
+        (3, "crash 0"),
+        (1, "restart 0"),
     ] {
         expect(&rt, rt.alloc(), servers, line.as_bytes(), Err(Why::Number))?;
     }
@@ -239,7 +248,7 @@ fn refuses_long_lines(rt: HostRuntime) -> Result<(), Fail> {
         ("beacon", 1025, Err(Why::Syntax)),
         ("#", 1024, Ok(("nothing", 0, 0, 0))),
         ("#", 1025, Err(Why::Syntax)),
-        ("crash", 1024, Err(Why::Unbuilt)),
+        ("crash", 1024, Ok(("crash", 7, 0, 0))),
         ("crash", 1025, Err(Why::Syntax)),
     ] {
         let mut line = Vec::new(rt.alloc());

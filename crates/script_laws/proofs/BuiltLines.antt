@@ -1,15 +1,16 @@
 -- A line that means something is built: what is built later is told before its numbers are judged.
-use Rattle.std.proofs.Common.{Bool, true, false, cond, true≢false, ◌≡◌, ◌⊎◌, inl, inr, ℕ, ◌≤◌, ◌&&◌, ◌||◌, nat_lt, List, [], ◌∷◌, length, Option, Some, None, IfSome, Result, Ok, Err, IfOk, refl, sym, ◌∙◌, arith}
+use Rattle.std.proofs.Common.{Bool, true, false, cond, true≢false, ◌≡◌, ◌⊎◌, inl, inr, ℕ, ◌≤◌, ◌&&◌, nat_lt, List, [], ◌∷◌, length, Option, Some, None, IfSome, Result, Ok, Err, IfOk, refl, sym, ◌∙◌, arith}
 use Rattle.std.proofs.lemmas.Bool.{cond_both}
 use Rattle.std.proofs.lemmas.Bool.Decides.{nat_tests}
 use Rattle.std.specs.Prelude.{codes, option_map}
 use Rattle.std.specs.Option.{option_or}
 use Rattle.std.specs.Str.{bytes_eq}
+use Rattle.disk_base.specs.declared.disks.Fill.{Fill}
 use Rattle.script_words.specs.Numbers.{number_of, number_within}
 use Rattle.ubik_types.specs.declared.limits.TheConstants.{MAXSERVERS}
-use Rattle.cell_script.specs.Meaning.{kind_of, server_of, or_number, numbered_cell, cell_in, numbered_tick, line_of_server, line_of_packet, with_number, or_syntax, line_of_one, line_of_two, line_of_three, ask_line, line_of_counted, whole_line, is_later, unless_later, line_of_words, line_of_split, is_idle}
+use Rattle.cell_script.specs.Meaning.{kind_of, server_of, or_number, numbered_cell, cell_in, numbered_tick, numbered_stop, fill_of, line_of_server, line_of_packet, with_number, or_syntax, line_of_one, line_of_two, line_of_three, ask_line, line_of_counted, whole_line, is_later, unless_later, line_of_words, line_of_split, is_idle}
 use Rattle.cell_script.specs.Words.{words_of}
-use Rattle.cell_script.specs.declared.lines.TheConstants.{MAX_CLOCK, MAX_TICK}
+use Rattle.cell_script.specs.declared.lines.TheConstants.{MAX_CLOCK, MAX_TICK, MAX_STOP}
 use Rattle.cell_script.specs.declared.readers.TheConstants.{MAX_LINE}
 use Rattle.cell_script.specs.declared.lines.Kind.{Kind}
 use Rattle.cell_script.specs.declared.lines.Kind.TheVariants.{Protection}
@@ -87,14 +88,13 @@ module _ (servers : ℕ) where
         other_branch (λ (o : Option (ℕ → Line)). IfSome o IsFree) (bytes_eq first (codes "recover")) (Some line.Recover) rest other free
     recover_free (inr few) rest free = if_some IsFree (bytes_eq first (codes "recover")) (Some line.Recover) rest (λ n. few) free
 
-    server_free : bytes_eq first (codes "crash") ≡ false → bytes_eq first (codes "restart") ≡ false → MayRecover
-        → IfSome (line_of_server first) IsFree
-    server_free no_crash no_restart may =
+    server_free : MayRecover → IfSome (line_of_server first) IsFree
+    server_free may =
         if_some IsFree (bytes_eq first (codes "beacon")) _ _ (λ n. tt)
         (recover_free may _
         (if_some IsFree (bytes_eq first (codes "dropall")) _ _ (λ n. tt)
-        (other_branch (λ (o : Option (ℕ → Line)). IfSome o IsFree) (bytes_eq first (codes "crash")) _ _ no_crash
-        (other_branch (λ (o : Option (ℕ → Line)). IfSome o IsFree) (bytes_eq first (codes "restart")) _ _ no_restart
+        (if_some IsFree (bytes_eq first (codes "crash")) _ _ (λ n. tt)
+        (if_some IsFree (bytes_eq first (codes "restart")) _ _ (λ n. tt)
         (if_some IsFree (bytes_eq first (codes "show")) _ _ (λ n. tt) tt)))))
 
     packet_free : IfSome (line_of_packet first) IsFree
@@ -106,32 +106,26 @@ module _ (servers : ℕ) where
     tick_all_built None = tt
     tick_all_built (Some seconds) = tt
 
-    one_built : (a : List ℕ) → bytes_eq first (codes "crash") ≡ false → bytes_eq first (codes "restart") ≡ false → MayRecover
-        → AllBuilt (line_of_one first a)
-    one_built a no_crash no_restart may =
+    one_built : (a : List ℕ) → MayRecover → AllBuilt (line_of_one first a)
+    one_built a may =
         if_ok (IsBuiltLine servers) (bytes_eq first (codes "tickall")) _ _
         (numbered_built (option_map line.TickAll (number_within 1 MAX_TICK a)) (tick_all_built (number_within 1 MAX_TICK a)))
         (either_built (with_number (line_of_server first) (server_of a)) (with_number (line_of_packet first) (number_of a))
-        (with_number_built (line_of_server first) (server_of a) (server_free no_crash no_restart may))
+        (with_number_built (line_of_server first) (server_of a) (server_free may))
         (with_number_built (line_of_packet first) (number_of a) packet_free))
 
-    one_or_later : (a : List ℕ) (crash restart recover larger : Bool) → bytes_eq first (codes "crash") ≡ crash
-        → bytes_eq first (codes "restart") ≡ restart → bytes_eq first (codes "recover") ≡ recover → nat_lt 1 servers ≡ larger
-        → AllBuilt (unless_later (crash || restart || (recover && larger)) (line_of_one first a))
+    one_or_later : (a : List ℕ) (recover larger : Bool) → bytes_eq first (codes "recover") ≡ recover → nat_lt 1 servers ≡ larger
+        → AllBuilt (unless_later (recover && larger) (line_of_one first a))
     unfolding MayRecover
-    one_or_later a true restart recover larger is_crash is_restart is_recover more = never_built (line_of_one first a)
-    one_or_later a false true recover larger is_crash is_restart is_recover more = never_built (line_of_one first a)
-    one_or_later a false false true true is_crash is_restart is_recover more = never_built (line_of_one first a)
-    one_or_later a false false true false is_crash is_restart is_recover more =
-        let few : servers ≤ 1 = grind (arith, nat_tests) in one_built a is_crash is_restart (inr few)
-    one_or_later a false false false larger is_crash is_restart is_recover more = one_built a is_crash is_restart (inl is_recover)
+    one_or_later a true true is_recover more = never_built (line_of_one first a)
+    one_or_later a true false is_recover more = let few : servers ≤ 1 = grind (arith, nat_tests) in one_built a (inr few)
+    one_or_later a false larger is_recover more = one_built a (inl is_recover)
 
     one_word_built : (a : List ℕ) (asks : Bool)
         → AllBuilt (unless_later (is_later servers (first ∷ a ∷ [])) (cond asks (ask_line (a ∷ [])) (line_of_one first a)))
     one_word_built a true = unless_built (is_later servers (first ∷ a ∷ [])) (ask_line (a ∷ [])) tt
     one_word_built a false =
-        one_or_later a (bytes_eq first (codes "crash")) (bytes_eq first (codes "restart")) (bytes_eq first (codes "recover"))
-        (nat_lt 1 servers) refl refl refl refl
+        one_or_later a (bytes_eq first (codes "recover")) (nat_lt 1 servers) refl refl
 
     -- ---- a first word and three more
 
@@ -151,29 +145,39 @@ module _ (servers : ℕ) where
         numbered_built (numbered_cell k (number_within 1 MAXSERVERS a) (number_within 1 MAX_CLOCK b))
         (numbered_cell_built k (number_within 1 MAXSERVERS a) (number_within 1 MAX_CLOCK b) is)
 
-    three_built : (a b c : List ℕ) → bytes_eq first (codes "stop") ≡ false
-        → (bytes_eq first (codes "cell") ≡ false) ⊎ (bytes_eq c (codes "vl") ≡ false) → AllBuilt (line_of_three first a b c)
-    three_built a b c no_stop (inl other) =
-        other_branch AllBuilt (bytes_eq first (codes "cell")) _ _ other
-        (other_branch AllBuilt (bytes_eq first (codes "stop")) _ _ no_stop tt)
-    three_built a b c no_stop (inr other) =
-        if_ok (IsBuiltLine servers) (bytes_eq first (codes "cell")) _ _ (cell_in_built a b (kind_of c) (protection_alone c other))
-        (other_branch AllBuilt (bytes_eq first (codes "stop")) _ _ no_stop tt)
+    numbered_stop_built : (server calls : Option ℕ) (f : Option Fill) → IfSome (numbered_stop server calls f) (IsBuiltLine servers)
+    numbered_stop_built None calls f = tt
+    numbered_stop_built (Some server) None f = tt
+    numbered_stop_built (Some server) (Some calls) None = tt
+    numbered_stop_built (Some server) (Some calls) (Some f) = tt
 
-    three_or_later : (a b c : List ℕ) (stop cell location : Bool) → bytes_eq first (codes "stop") ≡ stop
-        → bytes_eq first (codes "cell") ≡ cell
-        → bytes_eq c (codes "vl") ≡ location → AllBuilt (unless_later (stop || (cell && location)) (line_of_three first a b c))
-    three_or_later a b c true cell location is_stop is_cell is_location = never_built (line_of_three first a b c)
-    three_or_later a b c false true true is_stop is_cell is_location = never_built (line_of_three first a b c)
-    three_or_later a b c false true false is_stop is_cell is_location = three_built a b c is_stop (inr is_location)
-    three_or_later a b c false false location is_stop is_cell is_location = three_built a b c is_stop (inl is_cell)
+    stop_built : (a b c : List ℕ)
+        → AllBuilt (cond (bytes_eq first (codes "stop")) (or_number (numbered_stop (server_of a) (number_within 0 MAX_STOP b) (fill_of c)))
+        (Err why.Syntax))
+    stop_built a b c =
+        if_ok (IsBuiltLine servers) (bytes_eq first (codes "stop")) _ _
+        (numbered_built (numbered_stop (server_of a) (number_within 0 MAX_STOP b) (fill_of c))
+        (numbered_stop_built (server_of a) (number_within 0 MAX_STOP b) (fill_of c))) tt
+
+    three_built : (a b c : List ℕ) → (bytes_eq first (codes "cell") ≡ false) ⊎ (bytes_eq c (codes "vl") ≡ false)
+        → AllBuilt (line_of_three first a b c)
+    three_built a b c (inl other) = other_branch AllBuilt (bytes_eq first (codes "cell")) _ _ other (stop_built a b c)
+    three_built a b c (inr other) =
+        if_ok (IsBuiltLine servers) (bytes_eq first (codes "cell")) _ _ (cell_in_built a b (kind_of c) (protection_alone c other))
+        (stop_built a b c)
+
+    three_or_later : (a b c : List ℕ) (cell location : Bool) → bytes_eq first (codes "cell") ≡ cell
+        → bytes_eq c (codes "vl") ≡ location → AllBuilt (unless_later (cell && location) (line_of_three first a b c))
+    three_or_later a b c true true is_cell is_location = never_built (line_of_three first a b c)
+    three_or_later a b c true false is_cell is_location = three_built a b c (inr is_location)
+    three_or_later a b c false location is_cell is_location = three_built a b c (inl is_cell)
 
     three_words_built : (a b c : List ℕ) (asks : Bool)
         → AllBuilt (unless_later (is_later servers (first ∷ a ∷ b ∷ c ∷ []))
         (cond asks (ask_line (a ∷ b ∷ c ∷ [])) (line_of_three first a b c)))
     three_words_built a b c true = unless_built (is_later servers (first ∷ a ∷ b ∷ c ∷ [])) (ask_line (a ∷ b ∷ c ∷ [])) tt
     three_words_built a b c false =
-        three_or_later a b c (bytes_eq first (codes "stop")) (bytes_eq first (codes "cell")) (bytes_eq c (codes "vl")) refl refl refl
+        three_or_later a b c (bytes_eq first (codes "cell")) (bytes_eq c (codes "vl")) refl refl
 
     -- ---- lines of other counts, of which none is later
 

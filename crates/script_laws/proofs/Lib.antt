@@ -6,6 +6,7 @@ pub mod BuiltLines
 pub mod LineFacts
 pub mod LineRuns
 pub mod Telling
+pub mod Sites
 pub mod SoundLines
 pub mod SoundTelling
 pub mod ToldFaults

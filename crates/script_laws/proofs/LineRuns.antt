@@ -24,7 +24,7 @@ use Rattle.script_laws.proofs.Parts.{IsPart, resting_part, event_part, stepped_p
 use Rattle.script_laws.proofs.Steps.{IsOccasion, crash_legal, restart_legal, tick_legal, tick_all_legal}
 use Rattle.script_laws.proofs.Worlds.{Fits, SiteFits, site_there}
 
-between : (number n : ℕ) → (nat_lt 0 number && nat_le number n) ≡ true → (0 < number) × (number ≤ n)
+pub between : (number n : ℕ) → (nat_lt 0 number && nat_le number n) ≡ true → (0 < number) × (number ≤ n)
 between number n is = (grind (arith, nat_tests), grind (arith, nat_tests))
 
 length-dropped : (host : Host) (packets : List Packet) (handed : List Bool) → length (dropped_of host packets handed) ≡ length handed

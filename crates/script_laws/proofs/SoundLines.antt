@@ -1,6 +1,6 @@
 -- Where no fault of a disk is told of a line, no choice in it matters: a step in which a disk fails or stops tells of it, and so does
 -- an opening in which one fails.
-use Rattle.std.proofs.Common.{Bool, true, false, cond, ◌≡◌, ℕ, zero, suc, ◌+◌, ◌-◌, ◌==◌, ◌&&◌, nat_lt, nat_le, List, [], ◌∷◌, ◌++◌, length, refl, ap, ◌∙◌, arith}
+use Rattle.std.proofs.Common.{Bool, true, false, cond, ◌≡◌, ℕ, zero, suc, ◌+◌, ◌-◌, ◌<◌, ◌==◌, ◌&&◌, nat_lt, nat_le, List, [], ◌∷◌, ◌++◌, length, refl, ap, ◌∙◌, arith}
 use Rattle.std.proofs.lemmas.Bool.Decides.{nat_tests}
 use Rattle.std.specs.Prelude.{Option, Some, None, Result, Ok, Err, IfOk, map, drop, set}
 use Rattle.db_image.specs.Database.{Database}
@@ -8,7 +8,7 @@ use Rattle.cell_model.specs.declared.events.NodeEvent.{NodeEvent}
 use Rattle.cell_model.specs.declared.events.NodeEvent.TheVariants as event
 use Rattle.cell_model.specs.Node.{Node, Down, Halted, Up, Server}
 use Rattle.cell_model.specs.NodeRule.{refusals}
-use Rattle.cell_model.specs.World.{Site, World, Trigger, Beacon_turn, Recover_turn, Asking, Delivery, Fault, Stop, Halts, Happened, member, site_of, occasion, seen_from, first_seen, stop_at, fault_at, happened_at, happens_at, triggered, happens}
+use Rattle.cell_model.specs.World.{Site, World, Trigger, Beacon_turn, Recover_turn, Asking, Delivery, Fault, Stop, Restart, Halts, Happened, member, site_of, occasion, seen_from, first_seen, stop_at, fault_at, restart_at, happened_at, happens_at, triggered, happens}
 use Rattle.cell_script.specs.Meaning.{line_of}
 use Rattle.cell_script.specs.declared.lines.Line.{Line}
 use Rattle.cell_script.specs.declared.lines.Line.TheVariants as line
@@ -18,12 +18,12 @@ use Rattle.cell_runs.specs.declared.limits.TheConstants.{MAX_LINES, MAX_PACKETS}
 use Rattle.cell_runs.specs.declared.endings.Ending.{Ending}
 use Rattle.cell_runs.specs.declared.endings.Ending.TheVariants.{Limit}
 use Rattle.cell_runs.specs.declared.endings.Which.TheVariants.{Lines}
-use Rattle.cell_runs.specs.Script.{Choice, sound, first_choice, Cell, Cell_run, Stage, Line_run, Run_or_why, DiskOutcome, Fails_after, Stops_after, outcome_of_stop, outcome_at, outcome_of, node_in, place_in, bytes_of, within, stepped_so, stepped, delivered, first_waiting, joined_run, unless_ended, all_delivered, at_up, is_down_at, cell_size_of, run_in, asked, asked_in, in_stage, fails_at, opened_cell, kind_of_cell, run_first, run_standing, line_run, meaning_run, or_refused, servers_of, next_line, line_result}
+use Rattle.cell_runs.specs.Script.{Choice, sound, first_choice, Cell, Cell_run, Stage, Line_run, Run_or_why, DiskOutcome, Fails_after, Stops_after, outcome_of_stop, outcome_at, outcome_of, node_in, place_in, bytes_of, within, stepped_so, stepped, delivered, first_waiting, joined_run, unless_ended, all_delivered, at_up, at_down, is_down_at, with_event, cell_size_of, run_in, asked, asked_in, in_stage, fails_at, opened_cell, kind_of_cell, run_first, run_standing, line_run, meaning_run, or_refused, servers_of, next_line, line_result}
 use Rattle.cell_runs.specs.ScriptDatabase.{ScriptDatabase, Databases}
 use Rattle.cell_runs.specs.Trace.{TraceItem, Tells, Shows, fault_count}
-use Rattle.script_laws.specs.Built.{IsBuiltLine}
 use Rattle.script_laws.specs.Sound.{HasNoFault}
-use Rattle.script_laws.proofs.BuiltLines.{lines_are_built}
+use Rattle.script_laws.proofs.LineRuns.{between}
+use Rattle.script_laws.proofs.Sites.{HasSites, MayHaveSites, site_at}
 
 -- ---- counts
 
@@ -76,6 +76,12 @@ module _ (db : Database) (w : World) (trigger : Trigger) (k : ℕ) (e : NodeEven
       ∙ ap (λ (o : Option Site). faults_in k bytes (happens_at w k (λ site. stop_at db (member w k) e [] made site site.node) o)) at.1
       ∙ ap (λ (node : Node). faults_in k bytes (happened_at w k (stop_at db (member w k) e [] made at.0 node))) at.2
       ∙ its_own k 0
+
+-- a server that stays down in its opening
+restart_told : (db : Database) (w : World) (k bytes : ℕ) (site : Site) → site_of w k ≡ Some site
+    → faults_in k bytes (happens db w (Restart k true)) ≡ 1
+restart_told db w k bytes site there =
+    ap (λ (o : Option Site). faults_in k bytes (happens_at w k (restart_at (length w.hosts) k true) o)) there ∙ its_own k 0
 
 module _ (script_db : ScriptDatabase) where
   module _ (c : Cell) (trigger : Trigger) where
@@ -156,7 +162,12 @@ unless_same : (b : Bool) (x y z : Run_or_why) → (FreeRun y → x ≡ y) → Fr
 unless_same true x y z same free = refl
 unless_same false x y z same free = same free
 
-module _ (script_db : ScriptDatabase) (c : Cell) where
+-- the same where the test is known
+taken_same : (b : Bool) (x y z : Run_or_why) → (b ≡ true → FreeRun y → x ≡ y) → FreeRun (cond b y z) → cond b x z ≡ cond b y z
+taken_same true x y z same free = same refl free
+taken_same false x y z same free = refl
+
+module _ (script_db : ScriptDatabase) (c : Cell) (has : HasSites c) where
   at_up_same : (number : ℕ) (f g : ℕ → Cell_run) → ((k : ℕ) → HasNoFault (g k).items → f k ≡ g k) → FreeRun (at_up c number g)
       → at_up c number f ≡ at_up c number g
   at_up_same number f g same free =
@@ -171,26 +182,45 @@ module _ (script_db : ScriptDatabase) (c : Cell) where
       at_up_same number (λ k. stepped script_db c sound (trigger k)) (λ k. stepped script_db c choice (trigger k))
       (λ k free. step_same script_db c (trigger k) choice free) free
 
-  run_same : (choices : List Choice) (l : Line) (servers : ℕ) → IsBuiltLine servers l → FreeRun (run_in script_db c choices l)
+  at_down_same : (number : ℕ) (f g : ℕ → Cell_run) → ((k : ℕ) → k < cell_size_of c → HasNoFault (g k).items → f k ≡ g k)
+      → FreeRun (at_down c number g) → at_down c number f ≡ at_down c number g
+  at_down_same number f g same free =
+      taken_same (nat_lt 0 number && nat_le number (cell_size_of c)) _ _ (Err why.Server)
+      (λ there. let place = between number (cell_size_of c) there in
+      if_same (is_down_at c (number - 1)) (Ok (f (number - 1))) (Ok (g (number - 1))) (Err why.State)
+      (λ free. ap Ok (same (number - 1) (omega (arith, place.0, place.1)) free))) free
+
+  opening_same : (k : ℕ) (fails : Bool) → k < cell_size_of c → HasNoFault (with_event script_db c (Restart k fails)).items
+      → with_event script_db c (Restart k false) ≡ with_event script_db c (Restart k fails)
+  opening_same k true inside free =
+      let w = c.run.world in
+      let at = site_at w k has inside in
+      absurd (omega (arith, free k, restart_told script_db.database w k (bytes_of w.packets) at.0 at.1))
+  opening_same k false inside free = refl
+
+  run_same : (choices : List Choice) (l : Line) → FreeRun (run_in script_db c choices l)
       → run_in script_db c [] l ≡ run_in script_db c choices l
-  run_same choices (line.Tick server seconds) servers built free = refl
-  run_same choices (line.TickAll seconds) servers built free = refl
-  run_same choices (line.Beacon server) servers built free = turn_same server (first_choice choices) Beacon_turn free
-  run_same choices (line.Recover server) servers built free = turn_same server (first_choice choices) Recover_turn free
-  run_same choices (line.Deliver packet) servers built free =
+  run_same choices (line.Tick server seconds) free = refl
+  run_same choices (line.TickAll seconds) free = refl
+  run_same choices (line.Beacon server) free = turn_same server (first_choice choices) Beacon_turn free
+  run_same choices (line.Recover server) free = turn_same server (first_choice choices) Recover_turn free
+  run_same choices (line.Deliver packet) free =
       if_same (nat_lt 0 packet && nat_le packet (length c.run.world.packets)) _ _ (Err why.Packet)
       (λ free. ap Ok (deliver_same script_db c (first_choice choices) packet free)) free
-  run_same choices (line.Drop packet) servers built free = refl
-  run_same choices (line.DropAll server) servers built free = refl
-  run_same choices line.DeliverAll servers built free =
+  run_same choices (line.Drop packet) free = refl
+  run_same choices (line.DropAll server) free = refl
+  run_same choices line.DeliverAll free =
       ap Ok (all_same script_db MAX_PACKETS c choices (first_waiting 1 c.handed) free)
-  run_same choices (line.Stop server calls f) servers built free = refl
-  run_same choices (line.Crash server) servers built free = refl
-  run_same choices (line.Restart server) servers built free = absurd built
-  run_same choices (line.Show server) servers built free = refl
-  run_same choices (line.Cell count clock k) servers built free = refl
-  run_same choices line.Nothing servers built free = refl
-  run_same choices (line.Ask server words) servers built free = refl
+  run_same choices (line.Stop server calls f) free = refl
+  run_same choices (line.Crash server) free = refl
+  run_same choices (line.Restart server) free =
+      at_down_same server (λ k. with_event script_db c (Restart k false))
+      (λ k. with_event script_db c (Restart k (first_choice choices).fails))
+      (λ k inside free. opening_same k (first_choice choices).fails inside free) free
+  run_same choices (line.Show server) free = refl
+  run_same choices (line.Cell count clock k) free = refl
+  run_same choices line.Nothing free = refl
+  run_same choices (line.Ask server words) free = refl
 
   ask_same : (choice : Choice) (id : ℕ) (words : List (List ℕ)) (server : Option ℕ) (call : Option (List ℕ))
       → FreeRun (asked_in script_db c choice id words server call)
@@ -251,44 +281,44 @@ in_same st x (Err w) same free = ap (in_stage st) (same tt)
 in_same st x (Ok r) same free = ap (in_stage st) (same free)
 
 module _ (dbs : Databases) where
-  other_same : (st : Stage) (choices : List Choice) (c : Cell) (l : Line) (servers : ℕ) → IsBuiltLine servers l
+  other_same : (st : Stage) (choices : List Choice) (c : Cell) (l : Line) → HasSites c
       → FreeLine (in_stage st (run_in (dbs (kind_of_cell c)) c choices l))
       → in_stage st (run_in (dbs (kind_of_cell c)) c [] l) ≡ in_stage st (run_in (dbs (kind_of_cell c)) c choices l)
-  other_same st choices c l servers built free =
+  other_same st choices c l has free =
       in_same st (run_in (dbs (kind_of_cell c)) c [] l) (run_in (dbs (kind_of_cell c)) c choices l)
-      (run_same (dbs (kind_of_cell c)) c choices l servers built) free
+      (run_same (dbs (kind_of_cell c)) c has choices l) free
 
-  standing_same : (st : Stage) (choices : List Choice) (c : Cell) (l : Line) (servers : ℕ) → IsBuiltLine servers l
+  standing_same : (st : Stage) (choices : List Choice) (c : Cell) (l : Line) → HasSites c
       → FreeLine (run_standing dbs st choices c l) → run_standing dbs st [] c l ≡ run_standing dbs st choices c l
-  standing_same st choices c (line.Ask server words) servers built free =
+  standing_same st choices c (line.Ask server words) has free =
       let script_db = dbs (kind_of_cell c) in
       in_same (record st { asks = st.asks + 1 }) (asked script_db c sound (st.asks + 1) words server)
       (asked script_db c (first_choice choices) (st.asks + 1) words server)
-      (ask_same script_db c (first_choice choices) (st.asks + 1) words server (script_db.words.call_of words)) free
-  standing_same st choices c line.Nothing servers built free = refl
-  standing_same st choices c (line.Cell count clock k) servers built free = refl
-  standing_same st choices c (line.Tick server seconds) servers built free = refl
-  standing_same st choices c (line.TickAll seconds) servers built free = refl
-  standing_same st choices c (line.Beacon server) servers built free = other_same st choices c (line.Beacon server) servers built free
-  standing_same st choices c (line.Recover server) servers built free = other_same st choices c (line.Recover server) servers built free
-  standing_same st choices c (line.Deliver packet) servers built free = other_same st choices c (line.Deliver packet) servers built free
-  standing_same st choices c (line.Drop packet) servers built free = refl
-  standing_same st choices c (line.DropAll server) servers built free = refl
-  standing_same st choices c line.DeliverAll servers built free = other_same st choices c line.DeliverAll servers built free
-  standing_same st choices c (line.Stop server calls f) servers built free = refl
-  standing_same st choices c (line.Crash server) servers built free = refl
-  standing_same st choices c (line.Restart server) servers built free = absurd built
-  standing_same st choices c (line.Show server) servers built free = refl
+      (ask_same script_db c has (first_choice choices) (st.asks + 1) words server (script_db.words.call_of words)) free
+  standing_same st choices c line.Nothing has free = refl
+  standing_same st choices c (line.Cell count clock k) has free = refl
+  standing_same st choices c (line.Tick server seconds) has free = refl
+  standing_same st choices c (line.TickAll seconds) has free = refl
+  standing_same st choices c (line.Beacon server) has free = other_same st choices c (line.Beacon server) has free
+  standing_same st choices c (line.Recover server) has free = other_same st choices c (line.Recover server) has free
+  standing_same st choices c (line.Deliver packet) has free = other_same st choices c (line.Deliver packet) has free
+  standing_same st choices c (line.Drop packet) has free = refl
+  standing_same st choices c (line.DropAll server) has free = refl
+  standing_same st choices c line.DeliverAll has free = other_same st choices c line.DeliverAll has free
+  standing_same st choices c (line.Stop server calls f) has free = refl
+  standing_same st choices c (line.Crash server) has free = refl
+  standing_same st choices c (line.Restart server) has free = other_same st choices c (line.Restart server) has free
+  standing_same st choices c (line.Show server) has free = refl
 
-  any_same : (st : Stage) (choices : List Choice) (l : Line) (cell : Option Cell) → IsBuiltLine (servers_of cell) l
+  any_same : (st : Stage) (choices : List Choice) (l : Line) (cell : Option Cell) → MayHaveSites cell
       → FreeLine (line_run dbs st choices l cell) → line_run dbs st [] l cell ≡ line_run dbs st choices l cell
-  any_same st choices l None built free = first_same st choices l free
-  any_same st choices l (Some c) built free = standing_same st choices c l (cell_size_of c) built free
+  any_same st choices l None has free = first_same st choices l free
+  any_same st choices l (Some c) has free = standing_same st choices c l has free
 
-  meant_same : (st : Stage) (choices : List Choice) (meaning : Result Line Why) → IfOk meaning (IsBuiltLine (servers_of st.cell))
+  meant_same : (st : Stage) (choices : List Choice) (meaning : Result Line Why) → MayHaveSites st.cell
       → FreeLine (meaning_run dbs st choices meaning) → meaning_run dbs st [] meaning ≡ meaning_run dbs st choices meaning
-  meant_same st choices (Err w) built free = refl
-  meant_same st choices (Ok l) built free = any_same st choices l st.cell built free
+  meant_same st choices (Err w) has free = refl
+  meant_same st choices (Ok l) has free = any_same st choices l st.cell has free
 
   refused_free : (r : Result Line_run Why) → FreeLine (or_refused r) → FreeLine r
   refused_free (Ok run) free = free
@@ -301,10 +331,10 @@ module _ (dbs : Databases) where
   unless_past false x y same free = ap or_refused (same (refused_free y free))
 
   -- a line of which no fault is told is the same where every disk is sound
-  pub result_same : (st : Stage) (bytes : List ℕ) (choices : List Choice)
+  pub result_same : (st : Stage) (bytes : List ℕ) (choices : List Choice) → MayHaveSites st.cell
       → FreeLine (line_result dbs st (record { line = bytes; choices = choices }))
       → line_result dbs st (record { line = bytes; choices = [] }) ≡ line_result dbs st (record { line = bytes; choices = choices })
-  result_same st bytes choices free =
+  result_same st bytes choices has free =
       let meaning = line_of (servers_of st.cell) bytes in
       unless_past (nat_le MAX_LINES st.lines) (meaning_run dbs (next_line st) [] meaning) (meaning_run dbs (next_line st) choices meaning)
-      (meant_same (next_line st) choices meaning (lines_are_built (servers_of st.cell) bytes)) free
+      (meant_same (next_line st) choices meaning has) free

@@ -5,6 +5,7 @@ use Rattle.cell_runs.specs.declared.endings.Ending.{Ending}
 use Rattle.cell_runs.specs.Script.{LineRead, Line_run, ScriptEnd, Told, first_told, line_result, told_with, told_after, told_from}
 use Rattle.cell_runs.specs.ScriptDatabase.{Databases}
 use Rattle.script_laws.specs.Sound.{HasNoFault, SoundScripts, SoundFronts, sound_lines, lines_read}
+use Rattle.script_laws.proofs.Sites.{MayHaveSites, line_keeps_sites}
 use Rattle.script_laws.proofs.SoundLines.{FreeLine, front_free, back_free, result_same}
 
 module _ (dbs : Databases) where
@@ -28,19 +29,19 @@ module _ (dbs : Databases) where
   with_free t (Ok run) free = back_free t.items run.items free
   with_free t (Err ending) free = tt
 
-  after_same : (t : Told) (r : LineRead) (ended : Option ScriptEnd) → HasNoFault (told_after dbs t r ended).items
+  after_same : (t : Told) (r : LineRead) (ended : Option ScriptEnd) → MayHaveSites t.stage.cell → HasNoFault (told_after dbs t r ended).items
       → told_after dbs t (record { line = r.line; choices = [] }) ended ≡ told_after dbs t r ended
-  after_same t r None free =
-      ap (told_with dbs t) (result_same dbs t.stage r.line r.choices (with_free t (line_result dbs t.stage r) free))
-  after_same t r (Some h) free = refl
+  after_same t r None has free =
+      ap (told_with dbs t) (result_same dbs t.stage r.line r.choices has (with_free t (line_result dbs t.stage r) free))
+  after_same t r (Some h) has free = refl
 
-  from_same : (t : Told) (readings : List LineRead) → HasNoFault (told_from dbs t readings).items
+  from_same : (t : Told) (readings : List LineRead) → MayHaveSites t.stage.cell → HasNoFault (told_from dbs t readings).items
       → told_from dbs t (sound_lines (lines_read readings)) ≡ told_from dbs t readings
-  from_same t [] free = refl
-  from_same t (r ∷ readings) free =
+  from_same t [] has free = refl
+  from_same t (r ∷ readings) has free =
       ap (λ (u : Told). told_from dbs u (sound_lines (lines_read readings)))
-      (after_same t r t.ended (from_front (told_after dbs t r t.ended) readings free))
-      ∙ from_same (told_after dbs t r t.ended) readings free
+      (after_same t r t.ended has (from_front (told_after dbs t r t.ended) readings free))
+      ∙ from_same (told_after dbs t r t.ended) readings (line_keeps_sites dbs t r t.ended has) free
 
   -- ---- fronts
 
@@ -59,7 +60,7 @@ module _ (dbs : Databases) where
   front_goes t (l ∷ lines) later goes = front_goes (told_after dbs t (record { line = l; choices = [] }) t.ended) lines later goes
 
 pub sound_scripts : SoundScripts
-sound_scripts dbs readings free = from_same dbs first_told readings free
+sound_scripts dbs readings free = from_same dbs first_told readings tt free
 
 pub sound_fronts : SoundFronts
 sound_fronts dbs readings later free goes =

@@ -30,7 +30,7 @@ use Rattle.script_laws.proofs.Worlds.{Fits, first_fits}
 
 -- ---- the opening
 
-length-hosts : (k n : ℕ) → length (hosts_from k n) ≡ n
+pub length-hosts : (k n : ℕ) → length (hosts_from k n) ≡ n
 length-hosts k zero = refl
 length-hosts k (suc n) = ap suc (length-hosts (k + 1) n)
 
@@ -42,7 +42,7 @@ rising k (suc (suc n)) = (omega arith, rising (k + 1) (suc n))
 is_cell : (n : ℕ) → 1 ≤ n → n ≤ MAXSERVERS → IsCell (hosts_of n)
 is_cell n some few = record { some = omega (arith, length-hosts 0 n); not_more = omega (arith, length-hosts 0 n); ascending = rising 0 n }
 
-length-fails : (n : ℕ) (choices : List Choice) → length (fails_at n choices) ≡ n
+pub length-fails : (n : ℕ) (choices : List Choice) → length (fails_at n choices) ≡ n
 length-fails zero choices = refl
 length-fails (suc n) choices = ap suc (length-fails n (drop 1 choices))
 

@@ -5,8 +5,8 @@ ghost use Rattle.script_laws.specs.Sound.{FaultsHaveServers, SoundFronts, SoundS
 
 use cell_model::law_voters_vote;
 
-/// A line that means something is built: it opens no cell of a location database, stops, crashes and opens no server, and lets a
-/// server recover only where the cell has no other.
+/// A line that means something is built: it opens no cell of a location database, and lets a server recover only where the cell
+/// has no other.
 pub fn law_lines_are_built()
     ensures { LinesAreBuilt }
 {}

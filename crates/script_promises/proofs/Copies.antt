@@ -25,7 +25,6 @@ use Rattle.script_promises.specs.Order.{HasOneOrder, order_in, run_at}
 use Rattle.script_promises.specs.Replies.{HasSingleReplies, IsProper, IsSeenOf, meant_reply, single_in}
 use Rattle.script_promises.proofs.Proper.{FineSeen, FineWorld, GoodCall, first_fine, fine_run, the_host}
 use Rattle.script_promises.proofs.SingleStates.{DatabaseLaws, image_stands, reply_meant, never_bad, over_call, counted}
-use Rattle.script_promises.proofs.Unstopped.{IsUnstopped}
 
 over_some : {X : Type 0} (P Q : X → Type 0) (o : Option X) → IfSome o P → ((x : X) → P x → Q x) → IfSome o Q
 over_some P Q None is goes = tt
@@ -117,10 +116,10 @@ module _ (transactions : List Transaction) (w : World) (event : Event) where
   proper (Replied server id (reply.BadRecord at) evaluation) fine is = absurd (never_bad_record transactions w server id at event is)
   proper (Replied server id reply.NoMemory evaluation) fine is = fine
   proper (Lost number) fine is = fine
-  proper (Stops server) fine is = fine
+  proper (Stops server) fine is = tt
   proper (Halts server) fine is = tt
-  proper (Restarts server version) fine is = fine
-  proper (Stays_down server) fine is = fine
+  proper (Restarts server version) fine is = tt
+  proper (Stays_down server) fine is = tt
 
 -- what is seen of a reply is the single copy's answer
 seen_of_single : (r later : Run) (e : Event) (answer : Option Answered) → single_answer protection (order_in r) r.world e ≡ answer
@@ -229,9 +228,8 @@ module _ (c : Cell) (one : IsOfOne c) where
   abbrev AllSingle : Event → Run → Type 0
   AllSingle e r = All (IsSeenSingle protection r (run_after protection r e) e) (happens protection r.world e).seen
 
-  pub single_replies : DatabaseLaws → RepliesAreSingle → All (IsScripted protection) c.events → All IsUnstopped c.events
-      → HasSingleReplies c
-  single_replies laws law scripted up = λ front back e split.
+  pub single_replies : DatabaseLaws → RepliesAreSingle → All (IsScripted protection) c.events → HasSingleReplies c
+  single_replies laws law scripted = λ front back e split.
       let r = run_at c front in
       let later = run_after protection r e in
       let order = order_in r in
@@ -240,7 +238,7 @@ module _ (c : Cell) (one : IsOfOne c) where
       let first : FineWorld (first_of c) = subst FineWorld (sym one.first) (first_fine c.opening.clock one.failed) in
       let fine : All FineSeen (happens protection r.world e).seen =
       fine_run protection (λ call some. good_read call (call_of call) refl some) (first_run (first_of c)) front back e first
-      (subst (All (IsScripted protection)) split scripted) (subst (All IsUnstopped) split up) in
+      (subst (All (IsScripted protection)) split scripted) in
       all_both (IsSeenSingle protection r later e) FineSeen (λ seen. IsSeenOf (single_in r e) seen × IsProper seen)
       (λ seen told good. let is = seen_of_single r later e (single_in r e) same seen told in (is, proper order r.world e seen good is))
       (happens protection r.world e).seen

@@ -1,5 +1,4 @@
--- What is seen in a cell of one server of which each event is one that a script may bring, and in which none stops: no packet, and
--- only proper replies.
+-- What is seen in a cell of one server of which each event is one that a script may bring: no packet, and only proper replies.
 use Rattle.std.proofs.Common.{inl, inr, Bool, true, false, true≢false, ◌==◌, ◌≡◌, ◌≢◌, ◌+◌, ℕ, zero, suc, List, [], ◌∷◌, ◌++◌, length, map, Option, Some, None, IsSome, refl, sym, ap, subst, ◌∙◌}
 use Rattle.std.proofs.lemmas.Bool.{cond_both}
 use Rattle.std.proofs.lemmas.List.Elements.{All-nil, All-cons, All-head, All-tail}
@@ -34,11 +33,10 @@ use Rattle.cell_model.specs.Writes.{written_in, written_small, written_within, t
 use Rattle.std.specs.List.{cons_option}
 use Rattle.ubik_calls.specs.declared.packets.Packet.{Packet}
 use Rattle.cell_model.specs.Book.{Run, run_after, run_through}
-use Rattle.cell_model.specs.World.{Site, World, Trigger, Delivery, Beacon_turn, Recover_turn, Asking, Event, Tick, Tick_all, Step, Stop, Fault, Crash, Restart, Happening, Announced, Replied, Halts, Happened, SiteHappened, ticked, packet_in, packet_of, packets_of, number_after, seen_of_output, seen_from, happened_at, lost_at, step_at, fault_at, nothing, happens, first_world}
+use Rattle.cell_model.specs.World.{Site, World, Trigger, Delivery, Beacon_turn, Recover_turn, Asking, Event, Tick, Tick_all, Step, Stop, Fault, Crash, Restart, Happening, Announced, Replied, Stops, Halts, Restarts, Stays_down, Happened, SiteHappened, ticked, packet_in, packet_of, packets_of, number_after, seen_of_output, seen_from, happened_at, lost_at, step_at, stop_at, fault_at, crash_at, restart_at, nothing, happens, first_world}
 use Rattle.cell_model.proofs.KeptRuns.{world_of}
 use Rattle.script_laws.specs.Runs.{AsksACall, IsScripted}
 use Rattle.cell_model.proofs.StepKinds.{IsAlone, IsAlonePhase, IsOwn, IsStep, AllTold, IsToldOutput, one_of, step_is}
-use Rattle.script_promises.proofs.Unstopped.{IsUnstopped}
 
 -- the one server of the cell
 abbrev pub the_host : Host
@@ -281,11 +279,14 @@ step_fine db s now e good lone heard =
 
 -- ---- what is seen of an event
 
--- no packet is seen, and no server that stops or is opened; and each reply is fine
+-- no packet is seen, sent or lost, and each reply is fine
 abbrev pub FineSeen : Happening → Type 0
 FineSeen (Announced server version) = Unit {0}
 FineSeen (Replied server id r evaluation) = FineReply r
+FineSeen (Stops server) = Unit {0}
 FineSeen (Halts server) = Unit {0}
+FineSeen (Restarts server version) = Unit {0}
+FineSeen (Stays_down server) = Unit {0}
 FineSeen _ = ⊥
 
 seen_output : (number : ℕ) (o : Output) (evaluation : Option Evaluation) → packet_in o ≡ None → FineOutput o
@@ -338,8 +339,8 @@ refusals_fine event.BeaconTurn = tt
 refusals_fine event.RecoverTurn = tt
 refusals_fine (event.Ask id call) = (tt, tt)
 
-halt_fine : All FineSeen (Halts 0 ∷ [])
-halt_fine = All-cons FineSeen (Halts 0) [] tt (All-nil FineSeen)
+one_fine : (h : Happening) → FineSeen h → All FineSeen (h ∷ [])
+one_fine h fine = All-cons FineSeen h [] fine (All-nil FineSeen)
 
 own : (db : Database) (e : NodeEvent) → GoodEvent db e → IsOwn e
 own db (event.Packet p) good = good
@@ -377,7 +378,26 @@ site_failed : (db : Database) (e : NodeEvent) (made : ℕ) (site : Site) (node :
 site_failed db e made site Down is fine = record { quiet = tt; fine = tt; marks = All-nil FineSeen; node = subst FineNode (sym is) tt }
 site_failed db e made site (Halted h) is fine =
     record { quiet = tt; fine = tt; marks = All-nil FineSeen; node = subst FineNode (sym is) tt }
-site_failed db e made site (Up s) is fine = record { quiet = refusals_quiet e; fine = refusals_fine e; marks = halt_fine; node = tt }
+site_failed db e made site (Up s) is fine = record { quiet = refusals_quiet e; fine = refusals_fine e; marks = one_fine (Halts 0) tt; node = tt }
+
+site_stopped : (db : Database) (e : NodeEvent) (made : ℕ) (site : Site) (node : Node) → site.node ≡ node → FineNode node
+    → FineSite (stop_at db only e [] made site node)
+site_stopped db e made site Down is fine = record { quiet = tt; fine = tt; marks = All-nil FineSeen; node = subst FineNode (sym is) tt }
+site_stopped db e made site (Halted h) is fine = record { quiet = tt; fine = tt; marks = one_fine (Stops 0) tt; node = tt }
+site_stopped db e made site (Up s) is fine = record { quiet = tt; fine = tt; marks = one_fine (Stops 0) tt; node = tt }
+
+site_crashed : (site : Site) → FineSite (crash_at site)
+site_crashed site = record { quiet = tt; fine = tt; marks = All-nil FineSeen; node = tt }
+
+-- a server that was just opened heard no other
+site_opened : (failed : Bool) (site : Site) → FineNode site.node → FineSite (restart_at 1 0 failed site)
+site_opened true site fine = record { quiet = tt; fine = tt; marks = one_fine (Stays_down 0) tt; node = fine }
+site_opened false site fine = record {
+  quiet = tt;
+  fine = tt;
+  marks = one_fine (Restarts 0 site.durable.version) tt;
+  node = (record { flight = refl; waiting = refl; beacon = refl; phase = tt }, tt);
+}
 
 no_packets : (shown : List Shown) → AllQuiet shown → packets_of shown ≡ []
 no_packets [] quiet = refl
@@ -424,38 +444,51 @@ module _ (db : Database) (goods : (call : List ℕ) → IsSome (db.writes call) 
     failed_fine (Asking zero id call) made = at_first site _ (site_failed db (event.Ask id call) made site site.node refl fine)
     failed_fine (Asking (suc k) id call) made = nothing_seen
 
+    stopped_fine : (trigger : Trigger) (made : ℕ) → FineHappened (happens db (world_of the_host site) (Stop trigger [] made))
+    stopped_fine (Delivery zero) made = nothing_seen
+    stopped_fine (Delivery (suc number)) made = nothing_seen
+    stopped_fine (Beacon_turn zero) made = at_first site _ (site_stopped db event.BeaconTurn made site site.node refl fine)
+    stopped_fine (Beacon_turn (suc k)) made = nothing_seen
+    stopped_fine (Recover_turn zero) made = at_first site _ (site_stopped db event.RecoverTurn made site site.node refl fine)
+    stopped_fine (Recover_turn (suc k)) made = nothing_seen
+    stopped_fine (Asking zero id call) made = at_first site _ (site_stopped db (event.Ask id call) made site site.node refl fine)
+    stopped_fine (Asking (suc k) id call) made = nothing_seen
+
     ticked_fine : (seconds : ℕ) (w : World) → w ≡ world_of the_host (ticked seconds site)
         → FineHappened (record { world = w; seen = []; entries = [] })
     ticked_fine seconds w is = record { seen = All-nil FineSeen; world = record { site = ticked seconds site; is = is; node = fine } }
 
-    here_fine : (e : Event) → IsScripted db e → IsUnstopped e → FineHappened (happens db (world_of the_host site) e)
-    here_fine (Tick zero seconds) scripted up = ticked_fine seconds _ refl
-    here_fine (Tick (suc k) seconds) scripted up = nothing_seen
-    here_fine (Tick_all seconds) scripted up = ticked_fine seconds _ refl
-    here_fine (Step trigger short) scripted up =
+    here_fine : (e : Event) → IsScripted db e → FineHappened (happens db (world_of the_host site) e)
+    here_fine (Tick zero seconds) scripted = ticked_fine seconds _ refl
+    here_fine (Tick (suc k) seconds) scripted = nothing_seen
+    here_fine (Tick_all seconds) scripted = ticked_fine seconds _ refl
+    here_fine (Step trigger short) scripted =
         let P : List Bool → Type 0 = λ l. FineHappened (happens db (world_of the_host site) (Step trigger l)) in
         subst P (sym scripted.1) (stepped_fine trigger scripted.0)
-    here_fine (Stop trigger short made) scripted up = absurd up
-    here_fine (Fault trigger short made) scripted up =
+    here_fine (Stop trigger short made) scripted =
+        let P : List Bool → Type 0 = λ l. FineHappened (happens db (world_of the_host site) (Stop trigger l made)) in
+        subst P (sym scripted.1) (stopped_fine trigger made)
+    here_fine (Fault trigger short made) scripted =
         let P : List Bool → Type 0 = λ l. FineHappened (happens db (world_of the_host site) (Fault trigger l made)) in
         subst P (sym scripted.1) (failed_fine trigger made)
-    here_fine (Crash server) scripted up = absurd up
-    here_fine (Restart server failed) scripted up = absurd up
+    here_fine (Crash zero) scripted = at_first site _ (site_crashed site)
+    here_fine (Crash (suc k)) scripted = nothing_seen
+    here_fine (Restart zero failed) scripted = at_first site _ (site_opened failed site fine)
+    here_fine (Restart (suc k) failed) scripted = nothing_seen
 
-  event_fine : (w : World) (e : Event) → FineWorld w → IsScripted db e → IsUnstopped e → FineHappened (happens db w e)
-  event_fine w e fine scripted up =
+  event_fine : (w : World) (e : Event) → FineWorld w → IsScripted db e → FineHappened (happens db w e)
+  event_fine w e fine scripted =
       let P : World → Type 0 = λ v. FineHappened (happens db v e) in
-      subst P (sym fine.is) (here_fine fine.site fine.node e scripted up)
+      subst P (sym fine.is) (here_fine fine.site fine.node e scripted)
 
   -- what is seen of each event of a run
   pub fine_run : (r : Run) (front back : List Event) (e : Event) → FineWorld r.world → All (IsScripted db) (front ++ e ∷ back)
-      → All IsUnstopped (front ++ e ∷ back) → All FineSeen (happens db (run_through db r front).world e).seen
-  fine_run r [] back e fine scripted up =
-      (event_fine r.world e fine (All-head (IsScripted db) e back scripted) (All-head IsUnstopped e back up)).seen
-  fine_run r (f ∷ front) back e fine scripted up =
+      → All FineSeen (happens db (run_through db r front).world e).seen
+  fine_run r [] back e fine scripted = (event_fine r.world e fine (All-head (IsScripted db) e back scripted)).seen
+  fine_run r (f ∷ front) back e fine scripted =
       let rest = front ++ e ∷ back in
-      let next = event_fine r.world f fine (All-head (IsScripted db) f rest scripted) (All-head IsUnstopped f rest up) in
-      fine_run (run_after db r f) front back e next.world (All-tail (IsScripted db) f rest scripted) (All-tail IsUnstopped f rest up)
+      let next = event_fine r.world f fine (All-head (IsScripted db) f rest scripted) in
+      fine_run (run_after db r f) front back e next.world (All-tail (IsScripted db) f rest scripted)
 
 pub first_fine : (clock : ℕ) (failed : Bool) → FineWorld (first_world (the_host ∷ []) clock (failed ∷ []))
 first_fine clock true = record { site = _; is = refl; node = tt }

@@ -10,13 +10,11 @@ use Rattle.prdb_entries.specs.Protection.{protection}
 use Rattle.prdb_entries.specs.Reading.{call_of}
 use Rattle.prdb_entries.specs.Words.{call_in}
 use Rattle.cell_runs.specs.Script.{Cell, Told, cell_size_of, hosts_of, told}
-use Rattle.script_laws.specs.Built.{LinesAreBuilt}
 use Rattle.script_laws.specs.Runs.{NamesCalls, IsRunOf, IsRunOfCell, ScriptsAreRuns}
 use Rattle.script_promises.specs.Databases.{databases}
 use Rattle.script_promises.specs.Promises.{KeepsPromises, ScriptsKeepPromises}
 use Rattle.script_promises.proofs.Copies.{IsOfOne, kept, one_order, single_replies}
 use Rattle.script_promises.proofs.SingleStates.{DatabaseLaws}
-use Rattle.script_promises.proofs.Unstopped.{MayStayUp, StaysUp, scripts_stay_up}
 
 abbrev pub NamesItsCalls : Type 0
 NamesItsCalls = (words : List (List ℕ)) (call : PrCall) → call_in words ≡ Some call → call_of (spelling call) ≡ Some call
@@ -31,7 +29,6 @@ pub record Laws : Type 0 where
   pub sites : SitesAreSingle
   pub replies : RepliesAreSingle
   pub runs : ScriptsAreRuns
-  pub built : LinesAreBuilt
 
 -- ---- words name calls
 
@@ -67,20 +64,19 @@ of_one t c run one = of_failed c c.opening.failed refl (run.first.each ∙ one) 
 
 -- ---- what it is worth
 
-worth : Laws → (t : Told) (c : Cell) → IsRunOf databases t c → StaysUp c → KeepsPromises c
-worth laws t c run up one =
+worth : Laws → (t : Told) (c : Cell) → IsRunOf databases t c → KeepsPromises c
+worth laws t c run one =
     let is : IsOfOne c = of_one t c run one in
     record {
       order = one_order c is laws.order;
       kept = kept c is laws.database laws.stay laws.sites laws.acknowledged;
-      replies = single_replies c is laws.database laws.replies run.scripted up.events;
+      replies = single_replies c is laws.database laws.replies run.scripted;
     }
 
-cell_worth : Laws → (t : Told) (cell : Option Cell) → IsRunOfCell databases t cell → MayStayUp cell → IfSome cell KeepsPromises
-cell_worth laws t None run up = tt
-cell_worth laws t (Some c) run up = worth laws t c run up
+cell_worth : Laws → (t : Told) (cell : Option Cell) → IsRunOfCell databases t cell → IfSome cell KeepsPromises
+cell_worth laws t None run = tt
+cell_worth laws t (Some c) run = worth laws t c run
 
 pub scripts_keep_promises : Laws → ScriptsKeepPromises
 scripts_keep_promises laws readings =
     cell_worth laws (told databases readings) (told databases readings).stage.cell (laws.runs databases (names_calls laws.names) readings)
-    (scripts_stay_up laws.built databases readings)

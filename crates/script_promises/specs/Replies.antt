@@ -7,7 +7,7 @@ use Rattle.ubik_calls.specs.declared.replies.Reply.TheVariants as reply
 use Rattle.cell_model.specs.Book.{Run}
 use Rattle.cell_model.specs.Durable.{Transaction}
 use Rattle.cell_model.specs.KeptLaws.{Answered, IsAnsweredBy, answered_by}
-use Rattle.cell_model.specs.World.{Event, Happening, Announced, Replied, Halts, happens}
+use Rattle.cell_model.specs.World.{Event, Happening, Announced, Replied, Stops, Halts, Restarts, Stays_down, happens}
 use Rattle.prdb_entries.specs.ByteMeaning.{protection_meaning}
 use Rattle.prdb_entries.specs.Protection.{protection}
 use Rattle.cell_runs.specs.Script.{Cell}
@@ -27,11 +27,14 @@ IsProperReply (reply.TooLarge bytes) = Unit {0}
 IsProperReply reply.DiskFault = Unit {0}
 IsProperReply _ = ⊥
 
--- no packet is seen, and no server that stops or is opened anew
+-- no packet is seen, sent or lost, and no other reply
 abbrev pub IsProper : Happening → Type 0
 IsProper (Announced server version) = Unit {0}
 IsProper (Replied server id r evaluation) = IsProperReply r
+IsProper (Stops server) = Unit {0}
 IsProper (Halts server) = Unit {0}
+IsProper (Restarts server version) = Unit {0}
+IsProper (Stays_down server) = Unit {0}
 IsProper _ = ⊥
 
 -- a reply Ok or Rule that is seen is this answer
@@ -44,7 +47,7 @@ abbrev pub single_in : Run → Event → Option Answered
 single_in r e = answered_by (meant_reply (order_in r)) r.world e
 
 -- Each reply Ok or Rule of an event is what its call means for the state of the order before the event, at the clock of
--- the server; and nothing is seen but announcements, proper replies and halts.
+-- the server; and nothing is seen but announcements, proper replies, and that the server stops, halts, is opened or stays down.
 abbrev pub HasSingleReplies : Cell → Type 0
 HasSingleReplies c =
     (front back : List Event) (e : Event) → c.events ≡ front ++ e ∷ back →

@@ -10,12 +10,13 @@ use cell_model::{
 use prdb_entries::{
     law_call_means, law_empty_is_initial, law_images_never_shrink, law_words_name_a_call,
 };
-use script_laws::{law_lines_are_built, law_scripts_are_runs};
+use script_laws::law_scripts_are_runs;
 
-/// Whatever the lines of a script, and whatever the disks do: in a cell of one server committed transactions have one order,
-/// which only grows; what was acknowledged stays in it, at its place; the database of the server, once it is ready, is that of
-/// the single copy; and each reply of the database is the single copy's to the call that was asked. Nothing is seen that
-/// such a cell cannot show: no packet, and no reply for want of memory, of another server, or of a bad call or database.
+/// Whatever the lines of a script, and whatever the disks do, wherever the server stops, crashes and is opened again: in a cell of
+/// one server committed transactions have one order, which only grows; what was acknowledged stays in it, at its place; the database
+/// of the server, once it is ready, is that of the single copy; and each reply of the database is the single copy's to the call that
+/// was asked. Nothing is seen that such a cell cannot show: no packet, and no reply for want of memory, of another server, or of a
+/// bad call or database.
 pub fn law_scripts_keep_promises()
     ensures { ScriptsKeepPromises }
 {
@@ -28,7 +29,6 @@ pub fn law_scripts_keep_promises()
     law_ok_is_acknowledged();
     law_sites_are_single();
     law_replies_are_single();
-    law_lines_are_built();
     law_scripts_are_runs();
 }
 

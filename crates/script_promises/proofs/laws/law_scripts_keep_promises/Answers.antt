@@ -19,5 +19,4 @@ returns c =
       sites = c.law_sites_are_single.ensures;
       replies = c.law_replies_are_single.ensures.seen;
       runs = c.law_scripts_are_runs.ensures;
-      built = c.law_lines_are_built.ensures;
     })
