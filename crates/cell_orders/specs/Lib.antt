@@ -1,0 +1,6 @@
+pub mod Histories
+pub mod Kept
+pub mod Laws
+pub mod Midst
+pub mod OrderMoves
+pub mod Orders

@@ -1,0 +1,14 @@
+//! Laws of the order in cells of 1 to 20 servers, over every run: each is the clause of a public call.
+ghost use Rattle.cell_orders.specs.Laws.{AnnouncementsGrow};
+
+use lease_model::law_rules_are_safe;
+use ubik_votes::lease_rests_on_greatest_start;
+
+/// In each cell, whatever happens, the list of each announcement is a front of the list of each later one: announced transactions have
+/// one order, which only grows.
+pub fn law_announcements_grow()
+    ensures { AnnouncementsGrow }
+{
+    law_rules_are_safe();
+    lease_rests_on_greatest_start();
+}
