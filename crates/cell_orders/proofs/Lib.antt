@@ -1,3 +1,5 @@
+pub mod Acknowledging
+pub mod Lists
 pub mod Moving
 pub mod Openings
 pub mod Order

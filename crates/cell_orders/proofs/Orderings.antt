@@ -16,7 +16,7 @@ use Rattle.cell_model.specs.declared.events.Output.TheVariants as output
 use Rattle.cell_model.specs.Book.{Book, BookVersion, list_of}
 use Rattle.cell_model.specs.Durable.{Transaction}
 use Rattle.cell_model.specs.Polls.{only_at}
-use Rattle.cell_model.specs.Step.{Member, Shown, host_at}
+use Rattle.cell_model.specs.Step.{Member, Evaluation, Shown, host_at}
 use Rattle.cell_model.specs.World.{packet_in, packets_of}
 use Rattle.cell_pages.specs.Parts.{AtMost}
 use Rattle.cell_pages.proofs.Versions.{less_of_lt, at_most_less, at_most_same}
@@ -114,29 +114,29 @@ sent_get (q ∷ packets) (suc k) p is = inr (sent_get packets k p is)
 pub shown_fits : (m : Member) (Asked : ℕ → ℕ → Type 0) (c : Stand) (shown : List Shown) (p : Packet) → AllFit m Asked c shown →
     WasSent (packets_of shown) p → (p.from ≡ host_at m.hosts m.me) × FitsTo m.hosts Asked c p.to p.body
 shown_fits m Asked c [] p all is = absurd is
-shown_fits m Asked c (one ∷ shown) p all is = by one.output all.0 is (λ more. shown_fits m Asked c shown p all.1 more)
+shown_fits m Asked c (one ∷ shown) p all is = by one.output one.evaluation all.0 is (λ more. shown_fits m Asked c shown p all.1 more)
   where
-    by : (o : Output) → OutputFits m Asked c o → WasSent (cons_option (packet_in o) (packets_of shown)) p →
+    by : (o : Output) (e : Option Evaluation) → OutputFits m Asked c o e → WasSent (cons_option (packet_in o) (packets_of shown)) p →
         (WasSent (packets_of shown) p → (p.from ≡ host_at m.hosts m.me) × FitsTo m.hosts Asked c p.to p.body) →
         (p.from ≡ host_at m.hosts m.me) × FitsTo m.hosts Asked c p.to p.body
-    by (output.Send packet) fits (inl same) rest =
+    by (output.Send packet) e fits (inl same) rest =
         subst (λ (q : Packet). (q.from ≡ host_at m.hosts m.me) × FitsTo m.hosts Asked c q.to q.body) same fits
-    by (output.Send packet) fits (inr is) rest = rest is
-    by (output.Reply id r) fits is rest = rest is
-    by (output.Announce version) fits is rest = absurd fits
+    by (output.Send packet) e fits (inr is) rest = rest is
+    by (output.Reply id r) e fits is rest = rest is
+    by (output.Announce version) e fits is rest = absurd fits
 
 -- what fits announces nothing
-fits_silent : (m : Member) (Asked : ℕ → ℕ → Type 0) (c : Stand) (o : Output) (announced : List Version) → OutputFits m Asked c o →
-    announced_in o announced ≡ announced
-fits_silent m Asked c (output.Send packet) announced fits = refl
-fits_silent m Asked c (output.Reply id r) announced fits = refl
-fits_silent m Asked c (output.Announce version) announced fits = absurd fits
+fits_silent : (m : Member) (Asked : ℕ → ℕ → Type 0) (c : Stand) (o : Output) (e : Option Evaluation) (announced : List Version) →
+    OutputFits m Asked c o e → announced_in o announced ≡ announced
+fits_silent m Asked c (output.Send packet) e announced fits = refl
+fits_silent m Asked c (output.Reply id r) e announced fits = refl
+fits_silent m Asked c (output.Announce version) e announced fits = absurd fits
 
 pub nothing_announced : (m : Member) (Asked : ℕ → ℕ → Type 0) (c : Stand) (shown : List Shown) (announced : List Version) →
     AllFit m Asked c shown → announced_with shown announced ≡ announced
 nothing_announced m Asked c [] announced all = refl
 nothing_announced m Asked c (one ∷ shown) announced all =
-    ap (announced_with shown) (fits_silent m Asked c one.output announced all.0) ∙ nothing_announced m Asked c shown announced all.1
+    ap (announced_with shown) (fits_silent m Asked c one.output one.evaluation announced all.0) ∙ nothing_announced m Asked c shown announced all.1
 
 pub names_more : (v w : Version) (b : Body) → AtMost v w → NamesAtMost v b → NamesAtMost w b
 names_more v w (body.VersionIs number x) more is = at_most_then x v w is more

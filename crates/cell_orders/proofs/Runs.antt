@@ -20,7 +20,7 @@ use Rattle.cell_model.specs.Book.{Book, BookVersion, Announcement, list_or_none,
 use Rattle.cell_model.specs.Durable.{Durable}
 use Rattle.cell_model.specs.Node.{Node, Down, Halted, Up, Server, HaltedServer, opened_server, halted_from}
 use Rattle.cell_model.specs.NodeRule.{refusals, place_of}
-use Rattle.cell_model.specs.Step.{Member, Shown}
+use Rattle.cell_model.specs.Step.{Member, Evaluation, Shown}
 use Rattle.cell_model.specs.World.{World, Site, Trigger, Delivery, Beacon_turn, Recover_turn, Asking, Event, Tick, Tick_all, Step, Stop}
 use Rattle.cell_model.specs.World.{Fault, Crash, Restart, Happening, Sent, Announced, Replied, Lost, Stops, Halts, Restarts, Stays_down}
 use Rattle.cell_model.specs.World.{Entry, Happened, SiteHappened, packets_of, seen_of_output, seen_from, number_after, packet_of, happened_at}
@@ -30,12 +30,12 @@ use Rattle.cell_laws.specs.Invariant.{NodeHolds, CellInvariant}
 use Rattle.cell_laws.proofs.Parts.{eq_true}
 use Rattle.cell_laws.proofs.Sites.{Here}
 use Rattle.cell_laws.proofs.Worlds.{here_of, LaterSites, ticked_one, ticked_each}
-use Rattle.cell_pages.specs.Laws.{MadeOnce}
 use Rattle.cell_pages.specs.Parts.{AtMost, IsReached, MakesVersions, OthersBelow}
 use Rattle.cell_pages.specs.Passes.{NodeKeeps, WorldKeeps}
 use Rattle.cell_pages.specs.Contents.{Carries}
 use Rattle.cell_pages.proofs.Holding.{Both, BothDurable, Pages, contents_pass}
-use Rattle.cell_pages.proofs.Making.{once_grew, versions_two}
+use Rattle.cell_pages.proofs.Making.{versions_two}
+use Rattle.cell_pages.proofs.Once.{OnceAndRising, both_grew}
 use Rattle.cell_pages.proofs.Runs.{one_leads, others_below}
 use Rattle.cell_pages.proofs.Versions.{at_most_same}
 use Rattle.cell_orders.specs.Histories.{announced_in, announced_with, number_of}
@@ -43,22 +43,24 @@ use Rattle.cell_orders.specs.Kept.{version_in, versions_of, ServerKeeps, OrderKe
 use Rattle.cell_orders.specs.Midst.{IsAhead}
 use Rattle.cell_orders.specs.Orders.{IsOrdered, IsListed, WasSent, IsAsked, NumbersUpTo, HeldSince, Premises}
 use Rattle.cell_orders.proofs.Orderings.{sent_get, kept_map, majority_map}
-use Rattle.cell_orders.proofs.Sites.{server_map, Leaves, happened_keeps, quiet_leaves}
+use Rattle.cell_orders.specs.Acknowledged.{FlightMade, IsOk, AllOks}
+use Rattle.cell_orders.proofs.Sites.{flight_more, server_map, Leaves, happened_keeps, quiet_leaves}
 use Rattle.cell_orders.proofs.Steps.{Comes, up_leaves, broken_leaves}
 
 -- ---- what is seen
 
--- nothing of this is an announcement
+-- nothing of this is an announcement or a reply
 abbrev IsSilent : List Happening → Type 0
 IsSilent [] = Unit {0}
 IsSilent (Announced server version ∷ seen) = ⊥
+IsSilent (Replied server id r evaluation ∷ seen) = ⊥
 IsSilent (_ ∷ seen) = IsSilent seen
 
 silent_seen : (book : Book) (marks : List Happening) (before : List Announcement) → IsSilent marks → announced book marks before ≡ before
 silent_seen book [] before silent = refl
 silent_seen book (Sent number packet ∷ marks) before silent = silent_seen book marks before silent
 silent_seen book (Announced server version ∷ marks) before silent = absurd silent
-silent_seen book (Replied server id r evaluation ∷ marks) before silent = silent_seen book marks before silent
+silent_seen book (Replied server id r evaluation ∷ marks) before silent = absurd silent
 silent_seen book (Lost number ∷ marks) before silent = silent_seen book marks before silent
 silent_seen book (Stops server ∷ marks) before silent = silent_seen book marks before silent
 silent_seen book (Halts server ∷ marks) before silent = silent_seen book marks before silent
@@ -84,6 +86,36 @@ seen_announced book k number (one ∷ shown) marks before silent =
     by (output.Announce version) rest =
         rest (number_after number (packet_of one))
         (record { server = k; version = version; transactions = list_or_none book version } ∷ before)
+
+-- commits that are answered, among what is seen
+abbrev pub OksSeen : Book → List Version → List Happening → Type 0
+OksSeen book a [] = Unit {0}
+OksSeen book a (Replied server id r e ∷ seen) = IsOk book a (output.Reply id r) e × OksSeen book a seen
+OksSeen book a (_ ∷ seen) = OksSeen book a seen
+
+silent_oks : (book : Book) (a : List Version) (marks : List Happening) → IsSilent marks → OksSeen book a marks
+silent_oks book a [] silent = tt
+silent_oks book a (Sent number packet ∷ marks) silent = silent_oks book a marks silent
+silent_oks book a (Announced server version ∷ marks) silent = absurd silent
+silent_oks book a (Replied server id r evaluation ∷ marks) silent = absurd silent
+silent_oks book a (Lost number ∷ marks) silent = silent_oks book a marks silent
+silent_oks book a (Stops server ∷ marks) silent = silent_oks book a marks silent
+silent_oks book a (Halts server ∷ marks) silent = silent_oks book a marks silent
+silent_oks book a (Restarts server version ∷ marks) silent = silent_oks book a marks silent
+silent_oks book a (Stays_down server ∷ marks) silent = silent_oks book a marks silent
+
+seen_oks : (book : Book) (a : List Version) (k number : ℕ) (shown : List Shown) (marks : List Happening) → IsSilent marks →
+    AllOks book a shown → OksSeen book a (seen_from k number shown ++ marks)
+seen_oks book a k number [] marks silent oks = silent_oks book a marks silent
+seen_oks book a k number (one ∷ shown) marks silent oks =
+    by one.output one.evaluation oks.0 (seen_oks book a k (number_after number (packet_of one)) shown marks silent oks.1)
+  where
+    by : (o : Output) (e : Option Evaluation) → IsOk book a o e →
+        OksSeen book a (seen_from k (number_after number (packet_of one)) shown ++ marks) →
+        OksSeen book a (seen_of_output k number o e ∷ (seen_from k (number_after number (packet_of one)) shown ++ marks))
+    by (output.Send packet) e ok rest = rest
+    by (output.Reply id r) e ok rest = (ok, rest)
+    by (output.Announce version) e ok rest = rest
 
 -- ---- a server that is opened
 
@@ -146,35 +178,43 @@ packet_at p k = (k, event.Packet p)
 module _ (safe : AreSafe cell_rules) (premises : Premises) (db : Database) where
   abbrev pub Contents : World → Book → Type 0
   Contents w book =
-      WorldKeeps (Both db MadeOnce once_grew) (BothDurable db MadeOnce once_grew) (Carries db) (Pages db MadeOnce once_grew) w book
+      WorldKeeps (Both db OnceAndRising both_grew) (BothDurable db OnceAndRising both_grew) (Carries db) (Pages db OnceAndRising both_grew) w book
 
   module _ (w : World) (x : Leases) (book : Book) (good : CellInvariant w x book) (contents : Contents w book)
       (before : List Announcement) (keeps : OrderKept w book (versions_in before)) where
     alone : (j k : ℕ) (y z : Site) (s u : Server) → site_of w j ≡ Some y → site_of w k ≡ Some z → y.node ≡ Up s → z.node ≡ Up u →
         (j ≡ k → ⊥) → is_in_lease (length w.hosts) s.starts y.clock ≡ true → is_in_lease (length w.hosts) u.starts z.clock ≡ true → ⊥
     alone j k y z s u at_j at_k up_j up_k other leased_j leased_k =
-        one_leads db (Both db MadeOnce once_grew) (BothDurable db MadeOnce once_grew) (Carries db) (Pages db MadeOnce once_grew)
-        (contents_pass db MadeOnce once_grew) safe w x j k y z s u (here_of w x book j y good at_j) (here_of w x book k z good at_k)
+        one_leads db (Both db OnceAndRising both_grew) (BothDurable db OnceAndRising both_grew) (Carries db) (Pages db OnceAndRising both_grew)
+        (contents_pass db OnceAndRising both_grew) safe w x j k y z s u (here_of w x book j y good at_j) (here_of w x book k z good at_k)
         up_j up_k other leased_j leased_k
 
+    -- what is kept of what happened; commits that are answered are those of their versions
     abbrev Keeps : Happened → Type 0
-    Keeps h = OrderKept h.world (entered book h.entries) (versions_in (announced (entered book h.entries) h.seen before))
+    Keeps h =
+        OrderKept h.world (entered book h.entries) (versions_in (announced (entered book h.entries) h.seen before))
+        × OksSeen (entered book h.entries) (versions_in (announced (entered book h.entries) h.seen before)) h.seen
 
     abbrev LeavesHere : ℕ → Site → SiteHappened → Type 0
     LeavesHere k site h = Leaves w book (versions_in before) keeps alone k site h × IsSilent h.marks
 
     at_site : (k : ℕ) (site : Site) (h : SiteHappened) → site_of w k ≡ Some site → LeavesHere k site h → Keeps (happened_at w k h)
     at_site k site h get leaves =
-        subst (λ (a : List Version). OrderKept (happened_at w k h).world (entered book h.entries) a)
-        (sym (seen_announced (entered book h.entries) k (length w.packets + 1) h.shown h.marks before leaves.1))
-        (happened_keeps w book (versions_in before) keeps alone k site h get leaves.0)
+        subst
+        (λ (a : List Version). OrderKept (happened_at w k h).world (entered book h.entries) a
+        × OksSeen (entered book h.entries) a (seen_from k (length w.packets + 1) h.shown ++ h.marks))
+        (sym (seen_announced (entered book h.entries) k (length w.packets + 1) h.shown h.marks before leaves.1)) (
+          happened_keeps w book (versions_in before) keeps alone k site h get leaves.0,
+          seen_oks (entered book h.entries) (announced_with h.shown (versions_in before)) k (length w.packets + 1) h.shown h.marks
+              leaves.1 leaves.0.oks,
+        )
 
     at_server : (k : ℕ) (f : Site → SiteHappened) → ((site : Site) → site_of w k ≡ Some site → LeavesHere k site (f site)) →
         Keeps (happens_at w k f (site_of w k))
     at_server k f leaves = by (site_of w k) refl
       where
         by : (o : Option Site) → site_of w k ≡ o → Keeps (happens_at w k f o)
-        by None is = keeps
+        by None is = (keeps, tt)
         by (Some site) is = at_site k site (f site) is (leaves site is)
 
     -- ---- one server
@@ -188,12 +228,15 @@ module _ (safe : AreSafe cell_rules) (premises : Premises) (db : Database) where
           announced_with h.shown (versions_in before) ≡ versions_in before → packets_of h.shown ≡ [] →
           ((s : Server) → h.site.node ≡ Up s →
           ServerKeeps w.hosts (versions_of w) w.packets (versions_in before) k site.clock s) →
+          ((s : Server) → h.site.node ≡ Up s → FlightMade book s.version s.phase s.flight) →
+          AllOks (entered book h.entries) (announced_with h.shown (versions_in before)) h.shown →
           Leaves w book (versions_in before) keeps alone k site h
-      stays h entries durable clock same_announced no_packets server =
+      stays h entries durable clock same_announced no_packets server flight oks =
           quiet_leaves w book (versions_in before) keeps alone k site h get clock
           (subst (λ (es : List Entry). IsOrdered (entered book es) (versions_in before)) (sym entries) keeps.ordered)
           (subst (λ (d : Durable). AtMost site.durable.version d.version) (sym durable) (at_most_same site.durable.version))
           same_announced (ap (λ (ps : List Packet). w.packets ++ ps) no_packets ∙ append-nil w.packets) server
+          (λ s up. flight_more book h.entries s.version s.phase s.flight (flight s up)) oks
 
       as_before : (s : Server) → site.node ≡ Up s → ServerKeeps w.hosts (versions_of w) w.packets (versions_in before) k site.clock s
       as_before s up = keeps.servers k site s get up
@@ -203,6 +246,12 @@ module _ (safe : AreSafe cell_rules) (premises : Premises) (db : Database) where
       refused_silent event.BeaconTurn = refl
       refused_silent event.RecoverTurn = refl
       refused_silent (event.Ask id call) = refl
+
+      refused_oks : (g : Book) (a : List Version) (e : NodeEvent) → AllOks g a (refusals e)
+      refused_oks g a (event.Packet p) = tt
+      refused_oks g a event.BeaconTurn = tt
+      refused_oks g a event.RecoverTurn = tt
+      refused_oks g a (event.Ask id call) = (tt, tt)
 
       refused_none : (e : NodeEvent) → packets_of (refusals e) ≡ []
       refused_none (event.Packet p) = refl
@@ -227,13 +276,13 @@ module _ (safe : AreSafe cell_rules) (premises : Premises) (db : Database) where
         held : MakesVersions k (is_in_lease (length w.hosts) s.starts site.clock) book s
         held =
             (subst
-            (NodeKeeps (λ lease. Both db MadeOnce once_grew k lease book) (length w.hosts) site.clock site.durable) is_up
+            (NodeKeeps (λ lease. Both db OnceAndRising both_grew k lease book) (length w.hosts) site.clock site.durable) is_up
             (contents.sites k site get).node).1.0
 
         contained : IsListed book s.version
         contained =
             let holds = (subst
-            (NodeKeeps (λ lease. Both db MadeOnce once_grew k lease book) (length w.hosts) site.clock site.durable) is_up
+            (NodeKeeps (λ lease. Both db OnceAndRising both_grew k lease book) (length w.hosts) site.clock site.durable) is_up
             (contents.sites k site get).node).1.1 in
             (holds.image.list, holds.image.listed)
 
@@ -242,8 +291,8 @@ module _ (safe : AreSafe cell_rules) (premises : Premises) (db : Database) where
 
         below : OthersBelow k site.clock (is_in_lease (length w.hosts) s.starts site.clock) book
         below =
-            others_below db (Both db MadeOnce once_grew) (BothDurable db MadeOnce once_grew) (Carries db) (Pages db MadeOnce once_grew)
-            (contents_pass db MadeOnce once_grew) safe w x book k site s good here is_up
+            others_below db (Both db OnceAndRising both_grew) (BothDurable db OnceAndRising both_grew) (Carries db) (Pages db OnceAndRising both_grew)
+            (contents_pass db OnceAndRising both_grew) safe w x book k site s good here is_up
 
         is_ahead : is_in_lease (length w.hosts) s.starts site.clock ≡ true → IsAhead site.clock book s.version s.phase
         is_ahead leased = record {
@@ -283,10 +332,14 @@ module _ (safe : AreSafe cell_rules) (premises : Premises) (db : Database) where
       step_leaves trigger e short comes = by site.node refl
         where
           by : (node : Node) → site.node ≡ node → LeavesHere k site (step_at db (member w k) trigger e short site node)
-          by Down is =
-              (stays (only_marks site (lost_at trigger)) refl refl refl refl refl (λ s up. absurd (not_up site.node s is up)), lost_silent trigger)
+          by Down is = (
+            stays (only_marks site (lost_at trigger)) refl refl refl refl refl (λ s up. absurd (not_up site.node s is up))
+                (λ s up. absurd (not_up site.node s is up)) tt,
+            lost_silent trigger,
+          )
           by (Halted r) is = (
-            stays (halted_step site e) refl refl refl (refused_silent e) (refused_none e) (λ s up. absurd (not_halted site.node r s is up)),
+            stays (halted_step site e) refl refl refl (refused_silent e) (refused_none e) (λ s up. absurd (not_halted site.node r s is up))
+                (λ s up. absurd (not_halted site.node r s is up)) (refused_oks book (announced_with (refusals e) (versions_in before)) e),
             tt,
           )
           by (Up s) is = (
@@ -300,13 +353,20 @@ module _ (safe : AreSafe cell_rules) (premises : Premises) (db : Database) where
       stop_leaves e short made comes = by site.node refl
         where
           by : (node : Node) → site.node ≡ node → LeavesHere k site (stop_at db (member w k) e short made site node)
-          by Down is = (stays (only_marks site []) refl refl refl refl refl (λ s up. absurd (not_up site.node s is up)), tt)
-          by (Halted r) is =
-              (stays (stop_at db (member w k) e short made site (Halted r)) refl refl refl refl refl (λ s up. absurd (not_up Down s refl up)), tt)
+          by Down is = (
+            stays (only_marks site []) refl refl refl refl refl (λ s up. absurd (not_up site.node s is up))
+                (λ s up. absurd (not_up site.node s is up)) tt,
+            tt,
+          )
+          by (Halted r) is = (
+            stays (stop_at db (member w k) e short made site (Halted r)) refl refl refl refl refl (λ s up. absurd (not_up Down s refl up))
+                (λ s up. absurd (not_up Down s refl up)) tt,
+            tt,
+          )
           by (Up s) is = (
             broken_leaves w book (versions_in before) keeps alone db k site s get is here.moment premises here.own (version_is s is) (held s is).kept
                 (is_ahead s is) e short made (stop_at db (member w k) e short made site (Up s)) (arrives s is e comes) refl refl refl refl
-                refl (λ u up. not_up Down u refl up),
+                refl (λ u up. not_up Down u refl up) tt,
             tt,
           )
 
@@ -315,26 +375,42 @@ module _ (safe : AreSafe cell_rules) (premises : Premises) (db : Database) where
       fault_leaves e short made comes = by site.node refl
         where
           by : (node : Node) → site.node ≡ node → LeavesHere k site (fault_at db (member w k) e short made site node)
-          by Down is = (stays (only_marks site []) refl refl refl refl refl (λ s up. absurd (not_up site.node s is up)), tt)
-          by (Halted r) is = (stays (only_marks site []) refl refl refl refl refl (λ s up. absurd (not_halted site.node r s is up)), tt)
+          by Down is = (
+            stays (only_marks site []) refl refl refl refl refl (λ s up. absurd (not_up site.node s is up))
+                (λ s up. absurd (not_up site.node s is up)) tt,
+            tt,
+          )
+          by (Halted r) is = (
+            stays (only_marks site []) refl refl refl refl refl (λ s up. absurd (not_halted site.node r s is up))
+                (λ s up. absurd (not_halted site.node r s is up)) tt,
+            tt,
+          )
           by (Up s) is = (
             broken_leaves w book (versions_in before) keeps alone db k site s get is here.moment premises here.own (version_is s is) (held s is).kept
                 (is_ahead s is) e short made (fault_at db (member w k) e short made site (Up s)) (arrives s is e comes) refl refl refl
-                (refused_silent e) (refused_none e) (λ u up. not_halted (Halted (halted_from s)) (halted_from s) u refl up),
+                (refused_silent e) (refused_none e) (λ u up. not_halted (Halted (halted_from s)) (halted_from s) u refl up)
+                (refused_oks (entered book (fault_at db (member w k) e short made site (Up s)).entries)
+                (announced_with (refusals e) (versions_in before)) e),
             tt,
           )
 
       crash_leaves : LeavesHere k site (crash_at site)
-      crash_leaves = (stays (crash_at site) refl refl refl refl refl (λ s up. absurd (not_up Down s refl up)), tt)
+      crash_leaves = (
+        stays (crash_at site) refl refl refl refl refl (λ s up. absurd (not_up Down s refl up)) (λ s up. absurd (not_up Down s refl up)) tt,
+        tt,
+      )
 
       restart_leaves : (failed : Bool) → LeavesHere k site (restart_at (length w.hosts) k failed site)
-      restart_leaves true = (stays (restart_at (length w.hosts) k true site) refl refl refl refl refl as_before, tt)
+      restart_leaves true =
+          (stays (restart_at (length w.hosts) k true site) refl refl refl refl refl as_before (λ s up. keeps.flights k site s get up) tt, tt)
       restart_leaves false = (
         stays (restart_at (length w.hosts) k false site) refl refl refl refl refl
             (λ s up. let same : opened_server (length w.hosts) site.durable site.clock ≡ s = cc in
             subst (λ (u : Server). ServerKeeps w.hosts (versions_of w) w.packets (versions_in before) k site.clock u) same
             (fresh (length w.hosts) site.clock site.durable w.hosts (versions_of w) w.packets (versions_in before) k refl
-            (λ number asked. subst (λ (c : ℕ). number ≤ c) (ap clock_in get) (keeps.numbers k number asked)))),
+            (λ number asked. subst (λ (c : ℕ). number ≤ c) (ap clock_in get) (keeps.numbers k number asked))))
+            (λ s up. let same : opened_server (length w.hosts) site.durable site.clock ≡ s = cc in
+            subst (λ (u : Server). FlightMade book u.version u.phase u.flight) same (λ f none. absurd (cc))) tt,
         tt,
       )
 
@@ -378,7 +454,7 @@ module _ (safe : AreSafe cell_rules) (premises : Premises) (db : Database) where
     at_trigger trigger f leaves = by (occasion w trigger) refl
       where
         by : (o : Option (ℕ × NodeEvent)) → occasion w trigger ≡ o → Keeps (triggered w f o)
-        by None is = keeps
+        by None is = (keeps, tt)
         by (Some o) is =
             at_server o.0 (f (member w o.0) o.1) (λ site get. leaves o.0 o.1 site get (arrives_by trigger o.0 o.1 site get is))
 
@@ -426,6 +502,8 @@ module _ (safe : AreSafe cell_rules) (premises : Premises) (db : Database) where
       majority =
           majority_map (length w.hosts) (versions_of w) (versions_of (record w { sites = sites })) (versions_in before) more keeps.majority;
       servers = λ k z s get up. by k z s up (later k z get);
+      flights = λ k z s get up.
+          (let old = later k z get in keeps.flights k old.0 s old.1 (sym old.4 ∙ up));
     }
       where
         more : (j : ℕ) → AtMost (versions_of w j) (versions_of (record w { sites = sites }) j)
@@ -440,12 +518,16 @@ module _ (safe : AreSafe cell_rules) (premises : Premises) (db : Database) where
             more (keeps.servers k old.0 s old.1 (sym old.4 ∙ up)))
 
     pub happens_orders : (e : Event) → Keeps (happens db w e)
-    happens_orders (Tick server seconds) =
-        ticked_keeps (tick_at w.sites server seconds) (ticked_one w.sites server seconds) (tick_version w.sites server seconds)
-        (tick_clock w.sites server seconds)
-    happens_orders (Tick_all seconds) =
-        ticked_keeps (map (ticked seconds) w.sites) (ticked_each w.sites seconds) (each_version w.sites seconds)
-        (each_clock w.sites seconds)
+    happens_orders (Tick server seconds) = (
+      ticked_keeps (tick_at w.sites server seconds) (ticked_one w.sites server seconds) (tick_version w.sites server seconds)
+          (tick_clock w.sites server seconds),
+      tt,
+    )
+    happens_orders (Tick_all seconds) = (
+      ticked_keeps (map (ticked seconds) w.sites) (ticked_each w.sites seconds) (each_version w.sites seconds)
+          (each_clock w.sites seconds),
+      tt,
+    )
     happens_orders (Step trigger short) =
         at_trigger trigger (λ m e site. step_at db m trigger e short site site.node)
         (λ k e site get comes. step_leaves k site get trigger e short comes)

@@ -9,19 +9,22 @@ use Rattle.ubik_types.specs.Lease.{is_in_lease, lease_end}
 use Rattle.ubik_types.specs.Phase.{PhaseRecord, NoPhase, Poll, Fetch, Relabel, Send, Ready}
 use Rattle.ubik_calls.specs.declared.packets.Packet.{Packet}
 use Rattle.cell_model.specs.Book.{Book, entered, clock_in, clock_at}
-use Rattle.cell_model.specs.Node.{Up, Server}
-use Rattle.cell_model.specs.World.{World, Site, SiteHappened, packets_of, happened_at, member, site_of}
+use Rattle.cell_model.specs.Node.{Up, Server, Flight}
+use Rattle.cell_model.specs.World.{World, Site, Entry, SiteHappened, packets_of, happened_at, member, site_of}
 use Rattle.cell_laws.proofs.Parts.{no, eq_true}
 use Rattle.cell_laws.proofs.Worlds.{site_either}
 use Rattle.cell_pages.specs.Parts.{AtMost}
 use Rattle.cell_pages.specs.Passes.{is_held}
 use Rattle.cell_pages.proofs.Versions.{at_most_same}
+use Rattle.cell_pages.specs.Moves.{transaction_of}
+use Rattle.cell_orders.specs.Acknowledged.{FlightMade, AllOks}
 use Rattle.cell_orders.specs.Histories.{stand_of, History, announced_with, number_of}
 use Rattle.cell_orders.specs.Kept.{version_in, versions_of, ServerKeeps, OrderKept}
 use Rattle.cell_orders.specs.Midst.{version_at, HeldInStep, HasGrown, MidStep}
 use Rattle.cell_orders.specs.Orders.{last_announced, IsOrdered, HasMajority, IsAsked, IsAnswered, KeptIsKept, AnswersAsked, NumbersPast}
 use Rattle.cell_orders.specs.Orders.{NumbersUpTo, HeldSince, PhaseKeeps, PollKeeps, IsCounted, LeaderStands, IsLeading}
 use Rattle.cell_orders.proofs.Moving.{leads_on}
+use Rattle.cell_orders.proofs.Telling.{entered_made}
 use Rattle.cell_orders.proofs.Orderings.{at_most_then, kept_map, majority_map, answers_map}
 
 -- ---- durable versions that rise
@@ -69,6 +72,12 @@ set_other (x ∷ sites) (suc k) (suc j) z other = set_other sites k j z (λ same
 eq_false : (a b : ℕ) → (a == b) ≡ false → a ≡ b → ⊥
 eq_false a b is same = grind (arith, nat_tests)
 
+-- a flight made its version in a longer book too
+pub flight_more : (book : Book) (entries : List Entry) (v : Version) (phase : PhaseRecord) (flight : Option Flight) →
+    FlightMade book v phase flight → FlightMade (entered book entries) v phase flight
+flight_more book entries v phase flight is f some =
+    ((is f some).0, entered_made book entries v (transaction_of f.began f.call) (is f some).1)
+
 within : (p now until : ℕ) → p ≤ now → now ≤ until → (p ≤ now) × (p ≤ until)
 within p now until first second = (first, omega arith)
 
@@ -99,6 +108,8 @@ module _ (w : World) (book : Book) (announced : List Version) (keeps : OrderKept
     pub server : (s : Server) → h.site.node ≡ Up s →
         ServerKeeps w.hosts (version_at (versions_of w) k h.site.durable.version) (w.packets ++ packets_of h.shown)
         (announced_with h.shown announced) k site.clock s
+    pub flight : (s : Server) → h.site.node ≡ Up s → FlightMade (entered book h.entries) s.version s.phase s.flight
+    pub oks : AllOks (entered book h.entries) (announced_with h.shown announced) h.shown
 
   module _ (k : ℕ) (site : Site) (h : SiteHappened) (get : site_of w k ≡ Some site) (leaves : Leaves k site h) where
     abbrev later : World
@@ -233,8 +244,16 @@ module _ (w : World) (book : Book) (announced : List Version) (keeps : OrderKept
       majority =
           majority_map n (version_at (versions_of w) k h.site.durable.version) (versions_of later) after version_later leaves.majority;
       servers = λ j z s at up. by j z s up (site_either w.sites k j h.site z at);
+      flights = λ j z s at up. flown j z s up (site_either w.sites k j h.site z at);
     }
       where
+        flown : (j : ℕ) (z : Site) (s : Server) → z.node ≡ Up s →
+            ((j ≡ k) × (z ≡ h.site)) ⊎ ((j ≡ k → ⊥) × (slice_get w.sites j ≡ Some z)) →
+            FlightMade (entered book h.entries) s.version s.phase s.flight
+        flown j z s up (inl own) = leaves.flight s (ap (λ (y : Site). y.node) (sym own.1) ∙ up)
+        flown j z s up (inr other) =
+            flight_more book h.entries s.version s.phase s.flight (keeps.flights j z s other.1 up)
+
         by : (j : ℕ) (z : Site) (s : Server) → z.node ≡ Up s →
             ((j ≡ k) × (z ≡ h.site)) ⊎ ((j ≡ k → ⊥) × (slice_get w.sites j ≡ Some z)) →
             ServerKeeps w.hosts (versions_of later) packets after j z.clock s
@@ -247,8 +266,10 @@ module _ (w : World) (book : Book) (announced : List Version) (keeps : OrderKept
     pub quiet_leaves : h.site.clock ≡ site.clock → IsOrdered (entered book h.entries) announced →
         AtMost site.durable.version h.site.durable.version → announced_with h.shown announced ≡ announced →
         w.packets ++ packets_of h.shown ≡ w.packets →
-        ((s : Server) → h.site.node ≡ Up s → ServerKeeps w.hosts (versions_of w) w.packets announced k site.clock s) → Leaves k site h
-    quiet_leaves clock ordered more same_announced same_packets server =
+        ((s : Server) → h.site.node ≡ Up s → ServerKeeps w.hosts (versions_of w) w.packets announced k site.clock s) →
+        ((s : Server) → h.site.node ≡ Up s → FlightMade (entered book h.entries) s.version s.phase s.flight) →
+        AllOks (entered book h.entries) (announced_with h.shown announced) h.shown → Leaves k site h
+    quiet_leaves clock ordered more same_announced same_packets server flight oks =
         whole (subst (λ (a : List Version). Of a (w.packets ++ packets_of h.shown)) (sym same_announced)
         (subst (λ (p : List Packet). Of announced p) (sym same_packets) here))
       where
@@ -305,6 +326,8 @@ module _ (w : World) (book : Book) (announced : List Version) (keeps : OrderKept
           leased = λ is. no is;
           grew = all.5;
           server = all.6;
+          flight = flight;
+          oks = oks;
         }
 
   -- ---- a step of a server that is up

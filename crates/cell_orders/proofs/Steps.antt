@@ -27,6 +27,7 @@ use Rattle.cell_laws.proofs.Parts.{eq_true}
 use Rattle.cell_pages.specs.Parts.{AtMost, KeptLeadsOn}
 use Rattle.cell_pages.proofs.Leading.{after_version}
 use Rattle.cell_pages.proofs.Versions.{at_most_same}
+use Rattle.cell_orders.specs.Acknowledged.{FlightMade, AllOks}
 use Rattle.cell_orders.specs.Histories.{Stand, stand_of, History, announced_in, announced_with, number_of, Brings}
 use Rattle.cell_orders.specs.Kept.{version_in, versions_of, ServerKeeps, OrderKept}
 use Rattle.cell_orders.specs.Midst.{version_at, IsAhead, HeldInStep, HasGrown, MidStep}
@@ -173,6 +174,9 @@ module _ (w : World) (book : Book) (announced : List Version) (keeps : OrderKept
     (moment : 0 < site.clock) (premises : Premises) (own : place_of w.hosts (host_at w.hosts k) ≡ Some k) (version : site.durable.version ≡ s.version)
     (leads : KeptLeadsOn s.version s.kept)
     (ahead : is_in_lease (length w.hosts) s.starts site.clock ≡ true → IsAhead site.clock book s.version s.phase) where
+  flown : FlightMade book s.version s.phase s.flight
+  flown = keeps.flights k site s get is_up
+
   abbrev lease : Bool
   lease = is_in_lease (length w.hosts) s.starts site.clock
 
@@ -269,7 +273,7 @@ module _ (w : World) (book : Book) (announced : List Version) (keeps : OrderKept
       (λ i number v. IsAnswered w.hosts w.packets k i number v) (λ i v. AtMost v (versions_of w i))
       (MidStep (member w k) site.clock (is_in_lease (length w.hosts) s.starts site.clock) (versions_of w) (clock_at w)
       (record { book = book; announced = announced; packets = w.packets })) moves
-      (record { book = book; announced = announced; packets = w.packets }) s e short refl leads (comes e is) begun
+      (record { book = book; announced = announced; packets = w.packets }) s e short refl leads flown (comes e is) begun
 
   rising_here : (calls : List Made) (last : Version) → Rising s.version calls last → Rising site.durable.version calls last
   rising_here calls last rising = subst (λ (v : Version). Rising v calls last) (sym version) rising
@@ -306,6 +310,9 @@ module _ (w : World) (book : Book) (announced : List Version) (keeps : OrderKept
             (w.packets ++ packets_of t.shown) (announced_with t.shown announced) k site.clock u) same
             (mid_server w book announced keeps alone k site.clock (is_in_lease (length w.hosts) s.starts site.clock) _ t.server
             (durable_after_all site.durable t.calls).version (sym last) end.held end.keeps);
+        flight = λ u up. let same : t.server ≡ u = cc in
+            subst (λ (u : Server). FlightMade (entered book (entries_from k s.version t.calls)) u.version u.phase u.flight) same end.flight;
+        oks = end.oks;
       }
         where
           last : (durable_after_all site.durable t.calls).version ≡ t.server.version
@@ -317,8 +324,9 @@ module _ (w : World) (book : Book) (announced : List Version) (keeps : OrderKept
       after.entries ≡ entries_from k s.version (take made (step_of db (member w k) s site.clock e short).calls) →
       after.site.durable ≡ durable_after_all site.durable (take made (step_of db (member w k) s site.clock e short).calls) →
       announced_with after.shown announced ≡ announced → packets_of after.shown ≡ [] →
-      ((u : Server) → after.site.node ≡ Up u → ⊥) → Leaves w book announced keeps alone k site after
-  broken_leaves e short made after is clock entries durable same_announced no_packets down = whole (ends e short is)
+      ((u : Server) → after.site.node ≡ Up u → ⊥) → AllOks (entered book after.entries) (announced_with after.shown announced) after.shown →
+      Leaves w book announced keeps alone k site after
+  broken_leaves e short made after is clock entries durable same_announced no_packets down oks = whole (ends e short is)
     where
       t : Stepped
       t = step_of db (member w k) s site.clock e short
@@ -331,4 +339,4 @@ module _ (w : World) (book : Book) (announced : List Version) (keeps : OrderKept
           (subst (λ (d : Durable). AtMost site.durable.version d.version) (sym durable)
           (risen_first site.durable t.calls t.server.version made (rising_here t.calls t.server.version end.rising)))
           same_announced (ap (λ (ps : List Packet). w.packets ++ ps) no_packets ∙ append-nil w.packets)
-          (λ u up. absurd (down u up))
+          (λ u up. absurd (down u up)) (λ u up. absurd (down u up)) oks

@@ -1,5 +1,6 @@
 -- What is put out one behind the other, and durable calls that follow one another.
-use Rattle.std.proofs.Common.{Bool, true, false, cond, ◌==◌, ◌≡◌, ℕ, ◌+◌, List, [], ◌∷◌, ◌++◌, map, refl, sym, ap, subst, ◌∙◌}
+use Rattle.std.proofs.Common.{Bool, true, false, cond, ◌==◌, ◌≡◌, inr, ℕ, ◌+◌, List, [], ◌∷◌, ◌++◌, map, refl}
+use Rattle.std.proofs.Common.{sym, ap, subst, ◌∙◌}
 use Rattle.std.proofs.Common.{append_assoc}
 use Rattle.std.proofs.lemmas.List.Elements.{filter_map-append}
 use Rattle.std.specs.Prelude.{Option, Some, None}
@@ -13,16 +14,20 @@ use Rattle.ubik_calls.specs.declared.packets.Packet.{Packet}
 use Rattle.ubik_calls.specs.declared.replies.Reply.{Reply}
 use Rattle.db_image.specs.declared.services.CallReply.{CallReply}
 use Rattle.db_image.specs.declared.services.CallReply.TheVariants as call_reply
+use Rattle.cell_model.specs.declared.events.Output.{Output}
 use Rattle.cell_model.specs.declared.events.Output.TheVariants as output
 use Rattle.cell_model.specs.Asks.{read_reply}
-use Rattle.cell_model.specs.Book.{Book, entered, with_version}
-use Rattle.cell_model.specs.Durable.{Made, version_after}
+use Rattle.cell_model.specs.Book.{Book, BookVersion, entered, with_version}
+use Rattle.cell_model.specs.Durable.{Made, Transaction, Reason, Own_relabelling, Committed, Received, version_after}
 use Rattle.cell_model.specs.Lapse.{no_quorum, flight_refused, waiting_refused, writes_refused}
 use Rattle.cell_model.specs.Node.{Server, Flight, Waiting}
-use Rattle.cell_model.specs.Step.{Member, Evaluation, Shown, Stepped, packet_to, sent, sends_from, sends_to_each}
-use Rattle.cell_model.specs.World.{entries_from, packet_of, packets_of}
-use Rattle.cell_pages.specs.Moves.{AllBodies}
-use Rattle.cell_orders.specs.Histories.{Stand, History, announced_in, announced_with, with_book, with_shown, after, FitsTo, AllFit}
+use Rattle.cell_model.specs.Step.{Member, Basis, Announced_image, Beacon_image, Commit_on, Evaluation, Shown, Stepped, packet_to}
+use Rattle.cell_model.specs.Step.{sent, sends_from, sends_to_each}
+use Rattle.cell_model.specs.World.{Entry, entries_from, packet_of, packets_of}
+use Rattle.cell_pages.specs.Moves.{AllBodies, transaction_of}
+use Rattle.cell_orders.specs.Histories.{Stand, History, announced_in, announced_with, with_book, with_shown, after, IsBeside, FitsTo}
+use Rattle.cell_orders.specs.Histories.{OutputFits, AllFit}
+use Rattle.cell_orders.specs.Acknowledged.{IsAnnounced, IsMade, IsOkBy, IsOk, AllOks}
 
 -- ---- durable calls
 
@@ -73,6 +78,80 @@ after_both h k v middle t u rising =
     (entered_append k v middle t.calls u.calls h.book rising) (announced_append t.shown u.shown h.announced)
     (packets_append h.packets t.shown u.shown)
 
+-- ---- replies to commits
+
+pub oks_append : (book : Book) (announced : List Version) (shown more : List Shown) → AllOks book announced shown →
+    AllOks book announced more → AllOks book announced (shown ++ more)
+oks_append book announced [] more all rest = rest
+oks_append book announced (one ∷ shown) more all rest = (all.0, oks_append book announced shown more all.1 rest)
+
+-- what fits answers no commit
+pub fits_oks : (m : Member) (Asked : ℕ → ℕ → Type 0) (c : Stand) (book : Book) (announced : List Version) (shown : List Shown) →
+    AllFit m Asked c shown → AllOks book announced shown
+fits_oks m Asked c book announced [] all = tt
+fits_oks m Asked c book announced (one ∷ shown) all =
+    (by one.output one.evaluation all.0, fits_oks m Asked c book announced shown all.1)
+  where
+    beside : (e : Evaluation) (b : Basis) → IsBeside b → IsOkBy book announced e b
+    beside e (Announced_image version) is = tt
+    beside e (Beacon_image version) is = tt
+    beside e (Commit_on old new) is = absurd is
+
+    by : (o : Output) (e : Option Evaluation) → OutputFits m Asked c o e → IsOk book announced o e
+    by (output.Send packet) e fits = tt
+    by (output.Reply id r) None fits = tt
+    by (output.Reply id r) (Some e) fits = beside e e.basis fits
+    by (output.Announce version) e fits = tt
+
+-- so they are after more versions were made and announced
+pub made_more : (book : Book) (b : BookVersion) (v : Version) (t : Transaction) → IsMade book v t → IsMade (b ∷ book) v t
+made_more book b v t is = inr is
+
+ok_more : (book later : Book) (announced after : List Version) (o : Output) (e : Option Evaluation) →
+    ((v : Version) (t : Transaction) → IsMade book v t → IsMade later v t) →
+    ((v : Version) → IsAnnounced announced v → IsAnnounced after v) → IsOk book announced o e → IsOk later after o e
+ok_more book later announced after (output.Send packet) e made more is = tt
+ok_more book later announced after (output.Announce version) e made more is = tt
+ok_more book later announced after (output.Reply id r) None made more is = tt
+ok_more book later announced after (output.Reply id r) (Some e) made more is = by e.basis is
+  where
+    by : (b : Basis) → IsOkBy book announced e b → IsOkBy later after e b
+    by (Announced_image version) is = tt
+    by (Beacon_image version) is = tt
+    by (Commit_on old new) is = (more new is.0, made new (transaction_of e.moment e.call) is.1)
+
+pub oks_more : (book later : Book) (announced after : List Version) (shown : List Shown) →
+    ((v : Version) (t : Transaction) → IsMade book v t → IsMade later v t) →
+    ((v : Version) → IsAnnounced announced v → IsAnnounced after v) → AllOks book announced shown → AllOks later after shown
+oks_more book later announced after [] made more all = tt
+oks_more book later announced after (one ∷ shown) made more all = (
+  ok_more book later announced after one.output one.evaluation made more all.0,
+  oks_more book later announced after shown made more all.1,
+)
+
+with_made : (book : Book) (k : ℕ) (old new : Version) (reason : Reason) (v : Version) (t : Transaction) → IsMade book v t →
+    IsMade (with_version book k old new reason) v t
+with_made book k old new Own_relabelling v t is = inr is
+with_made book k old new (Committed u) v t is = inr is
+with_made book k old new Received v t is = is
+
+pub entered_made : (book : Book) (entries : List Entry) (v : Version) (t : Transaction) → IsMade book v t →
+    IsMade (entered book entries) v t
+entered_made book [] v t is = is
+entered_made book (e ∷ entries) v t is =
+    entered_made (with_version book e.server e.before (version_after e.made.call) e.made.reason) entries v t
+    (with_made book e.server e.before (version_after e.made.call) e.made.reason v t is)
+
+pub announced_more : (shown : List Shown) (announced : List Version) (v : Version) → IsAnnounced announced v →
+    IsAnnounced (announced_with shown announced) v
+announced_more [] announced v is = is
+announced_more (one ∷ shown) announced v is = announced_more shown (announced_in one.output announced) v (by one.output)
+  where
+    by : (o : Output) → IsAnnounced (announced_in o announced) v
+    by (output.Send packet) = is
+    by (output.Reply id r) = is
+    by (output.Announce version) = inr is
+
 -- ---- packets
 
 module _ (m : Member) (Asked : ℕ → ℕ → Type 0) (c : Stand) where
@@ -113,8 +192,8 @@ module _ (m : Member) (Asked : ℕ → ℕ → Type 0) (c : Stand) where
   refused_fit s now phase =
       fit_append (flight_refused s.flight (no_quorum m s now phase applied.Unknown)) _ (flight_fits s.flight _) (waiting_fit s.waiting _)
 
-  pub read_fits : (id : ℕ) (e : Evaluation) (r : CallReply) → AllFit m Asked c (read_reply id e r ∷ [])
-  read_fits id e (call_reply.Done answer) = (tt, tt)
-  read_fits id e (call_reply.Rule number) = (tt, tt)
-  read_fits id e call_reply.Malformed = (tt, tt)
-  read_fits id e (call_reply.BadRecord at) = (tt, tt)
+  pub read_fits : (id : ℕ) (e : Evaluation) (r : CallReply) → IsBeside e.basis → AllFit m Asked c (read_reply id e r ∷ [])
+  read_fits id e (call_reply.Done answer) beside = (beside, tt)
+  read_fits id e (call_reply.Rule number) beside = (beside, tt)
+  read_fits id e call_reply.Malformed beside = (tt, tt)
+  read_fits id e (call_reply.BadRecord at) beside = (tt, tt)

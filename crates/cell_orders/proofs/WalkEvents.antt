@@ -1,5 +1,5 @@
 -- What each move keeps, each step of a server keeps: the receiver, the lapse, votes, and every event.
-use Rattle.std.proofs.Common.{Bool, true, false, cond, ◌==◌, ◌≡◌, ℕ, ◌+◌, List, [], ◌∷◌, length, refl, sym}
+use Rattle.std.proofs.Common.{Bool, true, false, cond, ◌==◌, ◌≡◌, ℕ, ◌+◌, List, [], ◌∷◌, ◌++◌, length, refl, sym}
 use Rattle.std.proofs.Common.{subst}
 use Rattle.std.proofs.lemmas.Bool.{cond_both}
 use Rattle.std.specs.Prelude.{Option, Some, None, ◌&&◌, ◌||◌, nat_lt, nat_le, is_none}
@@ -18,6 +18,7 @@ use Rattle.ubik_calls.specs.declared.packets.TheConstants.{MAX_PIECES}
 use Rattle.ubik_calls.specs.declared.packets.Body.{Body}
 use Rattle.ubik_calls.specs.declared.packets.Body.TheVariants as body
 use Rattle.ubik_calls.specs.declared.packets.Packet.{Packet}
+use Rattle.ubik_calls.specs.declared.replies.Reply.TheVariants as reply
 use Rattle.db_image.specs.declared.services.CallReply.TheVariants as call_reply
 use Rattle.db_image.specs.Database.{Database}
 use Rattle.cell_model.specs.declared.events.NodeEvent.{NodeEvent}
@@ -36,8 +37,9 @@ use Rattle.cell_model.specs.Receiver.{committed_by, write_taken, whole_write, co
 use Rattle.cell_model.specs.Recovery.{recovered, version_is_received}
 use Rattle.cell_model.specs.Recovery.{version_kept_received, piece_kept_received, text_with, is_whole, installed}
 use Rattle.cell_model.specs.Recovery.{piece_received}
-use Rattle.cell_model.specs.Step.{Member, cell_size, Shown, Stepped, quiet, showing, followed}
-use Rattle.cell_model.specs.Step.{leased, is_fetch, with_phase, with_database, is_short, short_after, sends_to}
+use Rattle.cell_model.specs.Step.{Member, cell_size, Shown, Stepped}
+use Rattle.cell_model.specs.Step.{quiet, showing, followed}
+use Rattle.cell_model.specs.Step.{leased, is_ready, is_fetch, with_phase, with_database, is_short, short_after, sends_to}
 use Rattle.cell_model.specs.Voting.{beacon_turn, beacon_taken, beacon_received, vote_received}
 use Rattle.cell_laws.proofs.Parts.{no, and_both, or_none}
 use Rattle.cell_pages.specs.Parts.{KeptLeadsOn}
@@ -45,8 +47,11 @@ use Rattle.cell_pages.specs.Passes.{is_held}
 use Rattle.cell_pages.proofs.Making.{piece_leads, but_leads, whole_leads}
 use Rattle.cell_pages.proofs.Versions.{same_of_eq, not_below, text_is_of}
 use Rattle.cell_orders.specs.Histories.{Stand, stand_of, History, with_book, after, AllFit, Brings}
+use Rattle.cell_orders.specs.Acknowledged.{FlightMade, AllOks}
 use Rattle.cell_orders.specs.OrderMoves.{OrderMoves}
-use Rattle.cell_orders.proofs.Telling.{Rising, rising_append, after_both, fit_append, each_fits, refused_fit}
+use Rattle.cell_orders.proofs.Telling.{fits_oks, Rising, rising_append, after_both}
+use Rattle.cell_orders.proofs.Telling.{fit_append, each_fits, refused_fit}
+use Rattle.cell_orders.proofs.Walk.{not_ready, none_made}
 use Rattle.cell_orders.proofs.Walk as walk
 use Rattle.cell_orders.proofs.WalkRecovery as recovery
 
@@ -73,6 +78,8 @@ module _ (db : Database) (m : Member) (now : ℕ) (starts : List (Option ℕ)) (
     pub keeps : I (after h m.me v t) (stand_of t.server)
     pub held : is_held t.server.phase ≡ true → Lease
     pub rising : Rising v t.calls t.server.version
+    pub flight : FlightMade (after h m.me v t).book t.server.version t.server.phase t.server.flight
+    pub oks : AllOks (after h m.me v t).book (after h m.me v t).announced t.shown
 
   either : (h : History) (v : Version) (test : Bool) (x y : Stepped) → (test ≡ true → Goes h v x) → (test ≡ false → Goes h v y) →
       Goes h v (cond test x y)
@@ -90,11 +97,20 @@ module _ (db : Database) (m : Member) (now : ℕ) (starts : List (Option ℕ)) (
       Goes h s.version (record { server = u; calls = made ∷ []; shown = shown })
   makes = walk.makes db m now starts Asked Answered Kept I moves
 
+  both_oks : (h : History) (v : Version) (t : Stepped) (middle : Version) (u : Stepped) →
+      AllOks (after h m.me v t).book (after h m.me v t).announced t.shown →
+      AllOks (after (after h m.me v t) m.me middle u).book (after (after h m.me v t) m.me middle u).announced u.shown →
+      AllOks (after (after h m.me v t) m.me middle u).book (after (after h m.me v t) m.me middle u).announced (t.shown ++ u.shown)
+  both_oks = walk.both_oks db m now starts Asked Answered Kept I moves
+
   follows : (h : History) (v : Version) (t : Stepped) (next : Server → Stepped) → Goes h v t →
       (Fit (after h m.me v t) t.server → Goes (after h m.me v t) t.server.version (next t.server)) → Goes h v (followed t next)
   follows = walk.follows db m now starts Asked Answered Kept I moves
 
-  begins : (h : History) (s : Server) → Lease → Fit h s → Fit h (polling m s now)
+  no_flight : (h : History) (s : Server) → is_ready s.phase ≡ false → Fit h s → s.flight ≡ None
+  no_flight = walk.no_flight db m now starts Asked Answered Kept I moves
+
+  begins : (h : History) (s : Server) → Lease → s.flight ≡ None → Fit h s → Fit h (polling m s now)
   begins = walk.begins db m now starts Asked Answered Kept I moves
 
   asked_as_is : (h : History) (s : Server) (id : ℕ) (call : List ℕ) (short : Bool) (o : Option Bool) → Fit h s →
@@ -154,7 +170,13 @@ module _ (db : Database) (m : Member) (now : ℕ) (starts : List (Option ℕ)) (
           let less : version_lt s.version new ≡ true =
           subst (λ (v : Version). version_lt v new ≡ true) (sym (same_of_eq s.version old is.0)) is.1 in
           makes h s (with_database s new s.image) (record { call = durables.Relabel new; reason = Received }) [] less refl
-          (record { keeps = moves.version.rises h (stand_of s) new idle less fit.keeps; same = fit.same; held = fit.held; leads = tt }) tt
+          (record {
+            keeps = moves.version.rises h (stand_of s) new idle less fit.keeps;
+            same = fit.same;
+            held = fit.held;
+            leads = tt;
+            flight = none_made h.book new s.phase s.flight (no_flight h s (not_ready s.phase idle) fit);
+          }) tt
 
   text_is : (h : History) (s : Server) (host : Host) (k poll : ℕ) (version : Version) (total at : ℕ) (bytes : List ℕ)
       (text : Option ReceivedText) → text_with true k version total at bytes s.received ≡ text → is_sending s.phase ≡ false →
@@ -167,7 +189,7 @@ module _ (db : Database) (m : Member) (now : ℕ) (starts : List (Option ℕ)) (
       (subst (λ (v : Version). version_lt s.version v ≡ true) (sym (text_is_of true k version total at bytes s.received text is)) less) fit)
       (λ fit. keeps_is _ (with_database s text.version text.bytes) host fit))
       (λ _. turns h (record s { received = Some text }) _
-      (record { keeps = fit.keeps; same = fit.same; held = fit.held; leads = fit.leads }) ((refl, tt), tt))
+      (record { keeps = fit.keeps; same = fit.same; held = fit.held; leads = fit.leads; flight = fit.flight }) ((refl, tt), tt))
 
   piece_taken_is : (h : History) (s : Server) (host : Host) (k poll : ℕ) (version : Version) (total at : ℕ) (bytes : List ℕ) →
       AskedBy host poll → Fit h s → Goes h s.version (send_piece_received m s host k poll version total at bytes)
@@ -191,6 +213,7 @@ module _ (db : Database) (m : Member) (now : ℕ) (starts : List (Option ℕ)) (
         same = fit.same;
         held = fit.held;
         leads = subst (λ (v : Version). version_lt v new ≡ true) (sym (same_of_eq s.version old both.0)) both.1;
+        flight = fit.flight;
       }) tt)
       (λ _. rests h s fit))
 
@@ -204,6 +227,7 @@ module _ (db : Database) (m : Member) (now : ℕ) (starts : List (Option ℕ)) (
         same = fit.same;
         held = fit.held;
         leads = piece_leads s.version new number bytes s.kept fit.leads;
+        flight = fit.flight;
       }) tt)
 
   taken_is : (h : History) (s : Server) (host : Host) (old new : Version) (changes : Option (List Change)) → is_sending s.phase ≡ false →
@@ -225,7 +249,13 @@ module _ (db : Database) (m : Member) (now : ℕ) (starts : List (Option ℕ)) (
             call = durables.Commit new (logged (length s.image) changes) (effect s.image (logged (length s.image) changes));
             reason = Received;
           }) [] less refl
-          (record { keeps = moves.version.rises h (stand_of s) new idle less fit.keeps; same = fit.same; held = fit.held; leads = tt }) tt
+          (record {
+            keeps = moves.version.rises h (stand_of s) new idle less fit.keeps;
+            same = fit.same;
+            held = fit.held;
+            leads = tt;
+            flight = none_made h.book new s.phase s.flight (no_flight h s (not_ready s.phase idle) fit);
+          }) tt
 
   write_committed_is : (h : History) (s : Server) (host : Host) (old new : Version) → Fit h s →
       Goes h s.version (commit_received m s host old new)
@@ -239,7 +269,7 @@ module _ (db : Database) (m : Member) (now : ℕ) (starts : List (Option ℕ)) (
   write_dropped_is h s new fit =
       either h s.version (is_sending s.phase) _ _ (λ _. rests h s fit)
       (λ _. turns h (record s { kept = kept_but new s.kept }) []
-      (record { keeps = fit.keeps; same = fit.same; held = fit.held; leads = but_leads s.version new s.kept fit.leads }) tt)
+      (record { keeps = fit.keeps; same = fit.same; held = fit.held; leads = but_leads s.version new s.kept fit.leads; flight = fit.flight }) tt)
 
   piece_asked_is : (h : History) (s : Server) (host : Host) (poll : ℕ) (version : Version) (at : ℕ) → AskedBy host poll → Fit h s →
       Goes h s.version (get_piece_received m s host poll version at)
@@ -249,9 +279,9 @@ module _ (db : Database) (m : Member) (now : ℕ) (starts : List (Option ℕ)) (
 
   -- ---- the lapse
 
-  lapsed_is : (h : History) (s : Server) → s.starts ≡ starts → KeptLeadsOn s.version s.kept → I h (stand_of s) →
-      Goes h s.version (lapsed m s now)
-  lapsed_is h s same leads keeps =
+  lapsed_is : (h : History) (s : Server) → s.starts ≡ starts → KeptLeadsOn s.version s.kept →
+      FlightMade h.book s.version s.phase s.flight → I h (stand_of s) → Goes h s.version (lapsed m s now)
+  lapsed_is h s same leads flown keeps =
       cond_both (leased m s now) (write_lapsed m s now s.flight) (phase_dropped m s now) (Goes h s.version)
       (λ is. held_by_lease (subst (λ (c : List (Option ℕ)). is_in_lease (cell_size m) c now ≡ true) same is) s.flight)
       (λ is. dropped (subst (λ (c : List (Option ℕ)). is_in_lease (cell_size m) c now ≡ false) same is))
@@ -259,24 +289,38 @@ module _ (db : Database) (m : Member) (now : ℕ) (starts : List (Option ℕ)) (
       dropped : is_in_lease (cell_size m) starts now ≡ false → Goes h s.version (phase_dropped m s now)
       dropped over =
           turns h (with_phase (without_writes s) NoPhase) _
-          (record { keeps = moves.poll.drops h (stand_of s) over keeps; same = same; held = λ is. no is; leads = leads })
+          (record {
+            keeps = moves.poll.drops h (stand_of s) over keeps;
+            same = same;
+            held = λ is. no is;
+            leads = leads;
+            flight = none_made h.book s.version NoPhase None refl;
+          })
           (refused_fit m Asked (stand_of (with_phase (without_writes s) NoPhase)) s now phases.None)
 
       held_by_lease : Lease → (f : Option Flight) → Goes h s.version (write_lapsed m s now f)
-      held_by_lease lease None = rests h s (record { keeps = keeps; same = same; held = λ _. lease; leads = leads })
+      held_by_lease lease None = rests h s (record { keeps = keeps; same = same; held = λ _. lease; leads = leads; flight = flown })
       held_by_lease lease (Some f) =
           either h s.version (nat_lt (f.began + SMALLTIME) now) _ _
           (λ _. turns h (polling m (without_writes s) now) _
-          (begins h (without_writes s) lease (record { keeps = keeps; same = same; held = λ _. lease; leads = leads }))
+          (begins h (without_writes s) lease refl
+          (record {
+            keeps = keeps;
+            same = same;
+            held = λ _. lease;
+            leads = leads;
+            flight = none_made h.book s.version s.phase None refl;
+          }))
           (fit_append m Asked (stand_of (polling m (without_writes s) now)) (writes_refused m s now phases.Poll) _
           (refused_fit m Asked (stand_of (polling m (without_writes s) now)) s now phases.Poll)
           (each_fits m Asked (stand_of (polling m (without_writes s) now)) _ (λ host k. (tt, tt)))))
-          (λ _. rests h s (record { keeps = keeps; same = same; held = λ _. lease; leads = leads }))
+          (λ _. rests h s (record { keeps = keeps; same = same; held = λ _. lease; leads = leads; flight = flown }))
 
   -- ---- votes
 
   ended : (h : History) (v : Version) (t : Stepped) → Goes h v t → Ends h v t
-  ended h v t goes = record { keeps = goes.fit.keeps; held = goes.fit.held; rising = goes.rising }
+  ended h v t goes =
+      record { keeps = goes.fit.keeps; held = goes.fit.held; rising = goes.rising; flight = goes.fit.flight; oks = goes.oks }
 
   beacon_turn_is : (h : History) (s : Server) → Fit h s → Ends h s.version (beacon_turn m s now)
   beacon_turn_is h s fit =
@@ -288,6 +332,9 @@ module _ (db : Database) (m : Member) (now : ℕ) (starts : List (Option ℕ)) (
             (moves.vote.asks h (stand_of s) (leased m s now) due fit.keeps);
         held = fit.held;
         rising = refl;
+        flight = fit.flight;
+        oks = fits_oks m Asked (stand_of (beacon_taken m s now (leased m s now)).server) h.book _ _
+            (each_fits m Asked (stand_of (beacon_taken m s now (leased m s now)).server) _ (λ host k. (tt, tt)));
       })
       (λ _. ended h s.version (quiet s) (rests h s fit))
 
@@ -310,6 +357,8 @@ module _ (db : Database) (m : Member) (now : ℕ) (starts : List (Option ℕ)) (
             (moves.vote.hears h (stand_of s) k claim fit.keeps);
         held = fit.held;
         rising = refl;
+        flight = fit.flight;
+        oks = (tt, tt);
       }
       by (body.Vote start granted) brings = record {
         keeps =
@@ -317,6 +366,8 @@ module _ (db : Database) (m : Member) (now : ℕ) (starts : List (Option ℕ)) (
             (moves.vote.counts h (stand_of s) k start granted fit.keeps);
         held = fit.held;
         rising = refl;
+        flight = fit.flight;
+        oks = tt;
       }
       by (body.GetVersion poll) brings = ended h s.version _ (tells_is h s host poll (by_host poll brings) fit)
       by (body.VersionIs poll version) brings =
@@ -356,9 +407,9 @@ module _ (db : Database) (m : Member) (now : ℕ) (starts : List (Option ℕ)) (
       ended h s.version _ (asked_as_is h s id call (is_short short) (db.writes call) fit)
 
   pub step_ends : (h : History) (s : Server) (e : NodeEvent) (short : List Bool) → s.starts ≡ starts → KeptLeadsOn s.version s.kept →
-      EventBrings e → I h (stand_of s) → Ends h s.version (step_of db m s now e short)
+      FlightMade h.book s.version s.phase s.flight → EventBrings e → I h (stand_of s) → Ends h s.version (step_of db m s now e short)
   unfolding step_of
-  step_ends h s e short same leads brings keeps = then (lapsed_is h s same leads keeps)
+  step_ends h s e short same leads flown brings keeps = then (lapsed_is h s same leads flown keeps)
     where
       t : Stepped
       t = lapsed m s now
@@ -375,6 +426,13 @@ module _ (db : Database) (m : Member) (now : ℕ) (starts : List (Option ℕ)) (
                 subst (λ (g : History). I g (stand_of (next t.server).server))
                 (after_both h m.me s.version t.server.version t (next t.server) first.rising) second.keeps;
             held = second.held;
+            flight =
+                subst (λ (g : History). FlightMade g.book (next t.server).server.version (next t.server).server.phase (next t.server).server.flight)
+                (after_both h m.me s.version t.server.version t (next t.server) first.rising) second.flight;
+            oks =
+                subst (λ (g : History). AllOks g.book g.announced (t.shown ++ (next t.server).shown))
+                (after_both h m.me s.version t.server.version t (next t.server) first.rising)
+                (both_oks h s.version t t.server.version (next t.server) first.oks second.oks);
             rising =
                 rising_append s.version t.server.version (next t.server).server.version t.calls (next t.server).calls first.rising
                 second.rising;

@@ -12,6 +12,7 @@ use Rattle.ubik_types.specs.Phase.{Polled, Spread, PhaseRecord, NoPhase, Poll, F
 use Rattle.ubik_types.specs.Quorum.{is_majority}
 use Rattle.ubik_types.specs.Version.{version_lt, version_eq}
 use Rattle.ubik_calls.specs.declared.packets.Body.TheVariants as body
+use Rattle.ubik_calls.specs.declared.replies.Reply.TheVariants as reply
 use Rattle.xdr_base.specs.ChangeText.{text_of}
 use Rattle.db_image.specs.declared.services.CallReply.TheVariants as call_reply
 use Rattle.db_image.specs.Database.{Database}
@@ -27,8 +28,9 @@ use Rattle.cell_model.specs.Recovery.{poll_asked, spread_to, spread_answer, spre
 use Rattle.cell_model.specs.Recovery.{spread_again, recovered, held_by, holder_added, lacking_sent, told_to_spread, version_is_received}
 use Rattle.cell_model.specs.Recovery.{version_kept_received, next_sent, piece_kept_received, text_with, is_whole, installed}
 use Rattle.cell_model.specs.Recovery.{fetch_went_on, piece_received}
-use Rattle.cell_model.specs.Step.{Member, cell_size, Shown, Stepped, quiet, showing, followed}
-use Rattle.cell_model.specs.Step.{leased, with_phase, with_database}
+use Rattle.cell_model.specs.Step.{Member, cell_size, Shown, Stepped}
+use Rattle.cell_model.specs.Step.{quiet, showing, followed}
+use Rattle.cell_model.specs.Step.{leased, is_ready, with_phase, with_database}
 use Rattle.cell_model.specs.Writes.{write_bodies}
 use Rattle.cell_model.specs.Writes.{settled}
 use Rattle.cell_model.specs.Writes.{settled_with_turns}
@@ -40,7 +42,7 @@ use Rattle.cell_pages.proofs.Versions.{same_of_eq, lt_of_epoch}
 use Rattle.cell_orders.specs.Histories.{Stand, stand_of, History, with_book, after, IsNumbered, FitsTo, AllFit}
 use Rattle.cell_orders.specs.OrderMoves.{OrderMoves}
 use Rattle.cell_orders.proofs.Telling.{each_fits}
-use Rattle.cell_orders.proofs.Walk.{not_itself, held_held}
+use Rattle.cell_orders.proofs.Walk.{not_both, not_itself, not_ready, ready_held, none_made, held_held}
 use Rattle.cell_orders.proofs.Walk as walk
 
 module _ (db : Database) (m : Member) (now : ℕ) (starts : List (Option ℕ)) (Asked : ℕ → ℕ → Type 0)
@@ -87,11 +89,14 @@ module _ (db : Database) (m : Member) (now : ℕ) (starts : List (Option ℕ)) (
   in_phase : (h : History) (s : Server) (phase : PhaseRecord) → s.phase ≡ phase → Fit h s → Fit h (with_phase s phase)
   in_phase = walk.in_phase db m now starts Asked Answered Kept I moves
 
-  to_phase : (h : History) (s : Server) (phase : PhaseRecord) → Lease → Fit h s → I h (record (stand_of s) { phase = phase }) →
-      Fit h (with_phase s phase)
+  no_flight : (h : History) (s : Server) → is_ready s.phase ≡ false → Fit h s → s.flight ≡ None
+  no_flight = walk.no_flight db m now starts Asked Answered Kept I moves
+
+  to_phase : (h : History) (s : Server) (phase : PhaseRecord) → Lease → is_ready s.phase ≡ false → Fit h s →
+      I h (record (stand_of s) { phase = phase }) → Fit h (with_phase s phase)
   to_phase = walk.to_phase db m now starts Asked Answered Kept I moves
 
-  begins : (h : History) (s : Server) → Lease → Fit h s → Fit h (polling m s now)
+  begins : (h : History) (s : Server) → Lease → s.flight ≡ None → Fit h s → Fit h (polling m s now)
   begins = walk.begins db m now starts Asked Answered Kept I moves
 
   numbered : (phase : PhaseRecord) (p : PhaseRecord) (number : ℕ) → phase ≡ p → IsNumbered p number → IsNumbered phase number
@@ -138,6 +143,7 @@ module _ (db : Database) (m : Member) (now : ℕ) (starts : List (Option ℕ)) (
             same = fit.same;
             held = λ _. lease;
             leads = tt;
+            flight = λ f is. absurd (not_both s.flight f (no_flight h (with_phase s (Relabel poll)) refl fit) is);
           })
           (each_fits m Asked (stand_of begun.server) _
           (λ host k. answer_fits (stand_of begun.server) host begun.server poll s.version (entry_at poll.answers k) refl))
@@ -155,6 +161,7 @@ module _ (db : Database) (m : Member) (now : ℕ) (starts : List (Option ℕ)) (
         same = fit.same;
         held = λ _. lease;
         leads = fit.leads;
+        flight = λ f is. absurd (not_both s.flight f (no_flight h (with_phase s (Poll poll)) refl fit) is);
       }) ((refl, refl), tt))
       (λ least. relabelled_is h s poll lease
       (record {
@@ -162,6 +169,7 @@ module _ (db : Database) (m : Member) (now : ℕ) (starts : List (Option ℕ)) (
         same = fit.same;
         held = λ _. lease;
         leads = fit.leads;
+        flight = λ f is. absurd (not_both s.flight f (no_flight h (with_phase s (Poll poll)) refl fit) is);
       })))
       (λ _. turns h (with_phase s (Poll poll)) [] fit tt)
 
@@ -175,8 +183,9 @@ module _ (db : Database) (m : Member) (now : ℕ) (starts : List (Option ℕ)) (
       (numbered s.phase (Poll poll) poll.number at refl, tt))))
       (λ fit. polled_is _ s poll lease (in_phase _ s (Poll poll) at fit))
 
-  poll_begun_is : (h : History) (s : Server) → Lease → Fit h s → Goes h s.version (poll_begun m s now)
-  poll_begun_is h s lease fit = poll_asked_is h (polling m s now) (new_poll m s now) refl lease (begins h s lease fit)
+  poll_begun_is : (h : History) (s : Server) → Lease → is_ready s.phase ≡ false → Fit h s → Goes h s.version (poll_begun m s now)
+  poll_begun_is h s lease idle fit =
+      poll_asked_is h (polling m s now) (new_poll m s now) refl lease (begins h s lease (no_flight h s idle fit) fit)
 
   again_fits : (c : Stand) (host : Host) (s : Server) (poll : Polled) (announced : Version) (f : Option Flight) →
       IsNumbered c.phase poll.number → AllBodies (FitsTo m.hosts Asked c host) (spread_bodies s poll announced f)
@@ -193,10 +202,10 @@ module _ (db : Database) (m : Member) (now : ℕ) (starts : List (Option ℕ)) (
 
   pub recovered_is : (h : History) (s : Server) (phase : PhaseRecord) → s.phase ≡ phase → Fit h s → Goes h s.version (recovered m s now phase)
   recovered_is h s NoPhase at fit =
-      either h s.version (leased m s now) _ _ (λ is. poll_begun_is h s (lease_of h s fit is) fit) (λ _. rests h s fit)
+      either h s.version (leased m s now) _ _ (λ is. poll_begun_is h s (lease_of h s fit is) (ap is_ready at) fit) (λ _. rests h s fit)
   recovered_is h s (Poll poll) at fit = poll_asked_is h s poll at (fit.held (ap is_held at)) fit
   recovered_is h s (Fetch poll best k) at fit =
-      either h s.version (nat_lt (poll.number + SMALLTIME) now) _ _ (λ _. poll_begun_is h s (fit.held (ap is_held at)) fit)
+      either h s.version (nat_lt (poll.number + SMALLTIME) now) _ _ (λ _. poll_begun_is h s (fit.held (ap is_held at)) (ap is_ready at) fit)
       (λ _. turns h s _ fit ((refl, numbered s.phase (Fetch poll best k) poll.number at refl), tt))
   recovered_is h s (Relabel poll) at fit = relabelled_is h s poll (fit.held (ap is_held at)) (in_phase h s (Relabel poll) at fit)
   recovered_is h s (Send poll spread) at fit =
@@ -234,6 +243,7 @@ module _ (db : Database) (m : Member) (now : ℕ) (starts : List (Option ℕ)) (
         same = fit.same;
         held = fit.held;
         leads = tt;
+        flight = none_made h.book version s.phase s.flight (no_flight h s (not_ready s.phase idle) fit);
       }) tt
 
   -- a fetch is over
@@ -241,7 +251,7 @@ module _ (db : Database) (m : Member) (now : ℕ) (starts : List (Option ℕ)) (
       version_lt s.version best ≡ false → Fit h s → Goes h s.version (relabelled m s poll now)
   fetched_is h s poll best from at lease least fit =
       relabelled_is h s poll lease
-      (to_phase h s (Relabel poll) lease fit (moves.poll.fetched h (stand_of s) poll best from lease at least fit.keeps))
+      (to_phase h s (Relabel poll) lease (ap is_ready at) fit (moves.poll.fetched h (stand_of s) poll best from lease at least fit.keeps))
 
   fetch_is : (h : History) (s : Server) (poll : Polled) (best : Version) (from : ℕ) (text : Option ReceivedText) →
       s.phase ≡ Fetch poll best from → Lease → Fit h s → Goes h s.version (fetch_went_on m s now poll best from text)
@@ -256,7 +266,7 @@ module _ (db : Database) (m : Member) (now : ℕ) (starts : List (Option ℕ)) (
       (λ least. follows h s.version (quiet s) (λ after. relabelled m after poll now) (rests h s fit)
       (λ fit. fetched_is _ s poll best from at lease least fit)))
       (λ _. turns h (record s { received = Some text }) _
-      (record { keeps = fit.keeps; same = fit.same; held = fit.held; leads = fit.leads })
+      (record { keeps = fit.keeps; same = fit.same; held = fit.held; leads = fit.leads; flight = fit.flight })
       ((refl, numbered s.phase (Fetch poll best from) poll.number at refl), tt))
 
   pub piece_received_is : (h : History) (s : Server) (k number : ℕ) (version : Version) (total at : ℕ) (bytes : List ℕ) (phase : PhaseRecord) →
@@ -284,6 +294,7 @@ module _ (db : Database) (m : Member) (now : ℕ) (starts : List (Option ℕ)) (
         same = fit.same;
         held = λ is. fit.held (sym (held_held s.phase k) ∙ is);
         leads = fit.leads;
+        flight = λ f is. (ready_held s.phase k ∙ (fit.flight f is).0, (fit.flight f is).1);
       })
 
   lacking_is : (h : History) (s : Server) (host : Host) (poll : Polled) (spread : Spread) (version : Version) (f : Option Flight) →
@@ -309,13 +320,13 @@ module _ (db : Database) (m : Member) (now : ℕ) (starts : List (Option ℕ)) (
   version_told_is h s host k number version short (Poll poll) brings at fit =
       either h s.version (number == poll.number) _ _
       (λ same. polled_is h s (with_answer poll k version) (fit.held (ap is_held at))
-      (to_phase h s (Poll (with_answer poll k version)) (fit.held (ap is_held at)) fit
+      (to_phase h s (Poll (with_answer poll k version)) (fit.held (ap is_held at)) (ap is_ready at) fit
       (moves.poll.answers h (stand_of s) poll k version (fit.held (ap is_held at)) at
       (subst (λ (n : ℕ). Answered k n version) (eq_true number poll.number same) brings.0) fit.keeps)))
       (λ _. rests h s fit)
   version_told_is h s host k number version short (Fetch poll best from) brings at fit =
       either h s.version (from == k && not (version_eq version best)) _ _
-      (λ _. turns h (polling m s now) [] (begins h s (fit.held (ap is_held at)) fit) tt) (λ _. rests h s fit)
+      (λ _. turns h (polling m s now) [] (begins h s (fit.held (ap is_held at)) (no_flight h s (ap is_ready at) fit) fit) tt) (λ _. rests h s fit)
   version_told_is h s host k number version short (Relabel poll) brings at fit = rests h s fit
   version_told_is h s host k number version short (Send poll spread) brings at fit =
       told_is h s host k poll spread number version short brings.1 (numbered s.phase (Send poll spread) poll.number at refl) fit

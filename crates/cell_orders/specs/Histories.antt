@@ -12,7 +12,7 @@ use Rattle.cell_model.specs.declared.events.Output.TheVariants as output
 use Rattle.cell_model.specs.Book.{Book, entered}
 use Rattle.cell_model.specs.Node.{Server}
 use Rattle.cell_model.specs.NodeRule.{place_of}
-use Rattle.cell_model.specs.Step.{Member, Shown, Stepped, host_at}
+use Rattle.cell_model.specs.Step.{Member, Basis, Commit_on, Evaluation, Shown, Stepped, host_at}
 use Rattle.cell_model.specs.World.{entries_from, packets_of}
 
 -- how a server stands that is up
@@ -78,15 +78,24 @@ BodyFits Asked c _ = Unit {0}
 abbrev pub FitsTo : List Host → (ℕ → ℕ → Type 0) → Stand → Host → Body → Type 0
 FitsTo hosts Asked c to b = BodyFits (λ number. (j : ℕ) → place_of hosts to ≡ Some j → Asked j number) c b
 
-abbrev pub OutputFits : Member → (ℕ → ℕ → Type 0) → Stand → Output → Type 0
-OutputFits m Asked c (output.Send packet) = (packet.from ≡ host_at m.hosts m.me) × FitsTo m.hosts Asked c packet.to packet.body
-OutputFits m Asked c (output.Reply id r) = Unit {0}
-OutputFits m Asked c (output.Announce version) = ⊥
+-- the reply is not for a commit
+abbrev pub IsBeside : Basis → Type 0
+IsBeside (Commit_on old new) = ⊥
+IsBeside _ = Unit {0}
 
--- so of each packet that is shown; nothing is announced
+abbrev pub IsUncommitted : Option Evaluation → Type 0
+IsUncommitted None = Unit {0}
+IsUncommitted (Some e) = IsBeside e.basis
+
+abbrev pub OutputFits : Member → (ℕ → ℕ → Type 0) → Stand → Output → Option Evaluation → Type 0
+OutputFits m Asked c (output.Send packet) e = (packet.from ≡ host_at m.hosts m.me) × FitsTo m.hosts Asked c packet.to packet.body
+OutputFits m Asked c (output.Reply id r) e = IsUncommitted e
+OutputFits m Asked c (output.Announce version) e = ⊥
+
+-- so of each packet that is shown; nothing is announced, and no commit is answered
 abbrev pub AllFit : Member → (ℕ → ℕ → Type 0) → Stand → List Shown → Type 0
 AllFit m Asked c [] = Unit {0}
-AllFit m Asked c (one ∷ shown) = OutputFits m Asked c one.output × AllFit m Asked c shown
+AllFit m Asked c (one ∷ shown) = OutputFits m Asked c one.output one.evaluation × AllFit m Asked c shown
 
 -- what a packet of server k brings: it asks under a number, answers a poll, or says that it keeps a version
 abbrev pub Brings : (ℕ → ℕ → Type 0) → (ℕ → ℕ → Version → Type 0) → (ℕ → Version → Type 0) → ℕ → Body → Type 0

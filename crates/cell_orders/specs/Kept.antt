@@ -8,6 +8,7 @@ use Rattle.cell_model.specs.Book.{Book, Announcement, clock_at, list_of}
 use Rattle.cell_model.specs.Node.{Up, Server}
 use Rattle.cell_model.specs.World.{World, Site, site_of}
 use Rattle.ubik_types.specs.declared.hosts.Host.{Host}
+use Rattle.cell_orders.specs.Acknowledged.{FlightMade}
 use Rattle.cell_orders.specs.Histories.{number_of}
 use Rattle.cell_orders.specs.Orders.{IsOrdered, HasMajority, IsAsked, IsAnswered, KeptIsKept, AnswersAsked, NumbersPast, HasOpened}
 use Rattle.cell_orders.specs.Orders.{NumbersUpTo, HeldSince}
@@ -39,6 +40,8 @@ pub record OrderKept (w : World) (book : Book) (announced : List Version) : Type
   pub majority : HasMajority (length w.hosts) (versions_of w) announced
   pub servers : (k : ℕ) (site : Site) (s : Server) → site_of w k ≡ Some site → site.node ≡ Up s →
       ServerKeeps w.hosts (versions_of w) w.packets announced k site.clock s
+  pub flights : (k : ℕ) (site : Site) (s : Server) → site_of w k ≡ Some site → site.node ≡ Up s →
+      FlightMade book s.version s.phase s.flight
 
 -- the announcements of a run: each has the list of its version
 abbrev pub ListsOf : Book → List Announcement → Type 0

@@ -1,3 +1,4 @@
+pub mod Acknowledged
 pub mod Histories
 pub mod Kept
 pub mod Laws

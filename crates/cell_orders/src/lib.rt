@@ -3,4 +3,4 @@
 
 mod laws;
 
-pub use laws::law_announcements_grow;
+pub use laws::{law_acknowledged_stay, law_announcements_grow, law_majorities_keep};
