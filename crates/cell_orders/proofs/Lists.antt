@@ -1,12 +1,11 @@
 -- The list of a version begins those of all that go on from it; and lists stay.
-use Rattle.std.proofs.Common.{Bool, true, false, cond, ◌≡◌, inl, inr, ℕ, ◌+◌, ◌≤◌, List, [], ◌∷◌, ◌++◌}
+use Rattle.std.proofs.Common.{Bool, true, false, cond, ◌≡◌, inl, inr, ℕ, ◌≤◌, List, [], ◌∷◌, ◌++◌}
 use Rattle.std.proofs.Common.{refl, sym, ap, subst, ◌∙◌, append_assoc, arith}
 use Rattle.std.proofs.lemmas.Bool.Decides.{nat_tests}
 use Rattle.std.proofs.lemmas.List.{append-nil}
 use Rattle.std.specs.Prelude.{Option, Some, None, unwrap_or}
 use Rattle.ubik_types.specs.declared.versions.Version.{Version}
 use Rattle.ubik_types.specs.Version.{version_lt, version_eq, zero_version}
-use Rattle.lease_model.specs.Runs as runs
 use Rattle.cell_model.specs.Book.{Book, BookVersion, Announcement, list_of, list_or_none, with_version, entered, announced}
 use Rattle.cell_model.specs.Durable.{Transaction, Reason, Own_relabelling, Committed, Received, version_after}
 use Rattle.cell_model.specs.Laws.{Begins, AllBegin, Grows}

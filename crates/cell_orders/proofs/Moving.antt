@@ -4,14 +4,12 @@ use Rattle.std.proofs.Common.{map, refl, sym, ap, subst, ◌∙◌, arith}
 use Rattle.std.proofs.lemmas.Bool.{cond_both}
 use Rattle.std.proofs.lemmas.Bool.Decides.{nat_tests}
 use Rattle.std.proofs.lemmas.List.{length-map}
-use Rattle.std.specs.Prelude.{Option, Some, None, slice_get, set, is_some, nat_lt}
+use Rattle.std.specs.Prelude.{Option, Some, None, slice_get, is_some, nat_lt}
 use Rattle.ubik_types.specs.declared.versions.Version.{Version}
 use Rattle.ubik_types.specs.Lease.{with_start, lease_end}
 use Rattle.ubik_types.specs.Phase.{Polled, Spread, PhaseRecord, NoPhase, Poll, Fetch, Relabel, Send, Ready}
 use Rattle.ubik_types.specs.Quorum.{is_majority, is_vote_quorum, size, lowest_bonus, SharesServer}
 use Rattle.ubik_types.specs.Version.{version_lt, zero_version}
-use Rattle.ubik_types.specs.Votes.{answered}
-use Rattle.ubik_calls.specs.declared.packets.Body.TheVariants as body
 use Rattle.lease_model.proofs.Places.{le_true}
 use Rattle.cell_model.specs.Book.{Book, BookVersion, list_or_none}
 use Rattle.cell_model.specs.Durable.{Transaction}

@@ -1,10 +1,9 @@
 -- What is put out keeps what holds in the midst of a step; and so do all moves.
-use Rattle.std.proofs.Common.{Bool, true, ◌≡◌, ◌⊎◌, inl, inr, ℕ, ◌+◌, ◌<◌, ◌≤◌, List, ◌++◌}
+use Rattle.std.proofs.Common.{Bool, true, ◌≡◌, ◌⊎◌, inl, inr, ℕ, ◌<◌, ◌≤◌, List, ◌++◌}
 use Rattle.std.proofs.Common.{refl, sym, ap, subst, ◌∙◌, arith}
 use Rattle.std.specs.Prelude.{Option, Some, None, slice_get}
 use Rattle.ubik_types.specs.declared.versions.Version.{Version}
 use Rattle.ubik_types.specs.Phase.{PhaseRecord, NoPhase, Poll, Fetch, Relabel, Send, Ready}
-use Rattle.ubik_types.specs.Votes.{answered}
 use Rattle.ubik_calls.specs.declared.packets.Body.{Body}
 use Rattle.ubik_calls.specs.declared.packets.Body.TheVariants as body
 use Rattle.ubik_calls.specs.declared.packets.Packet.{Packet}

@@ -7,7 +7,6 @@ use Rattle.std.specs.Prelude.{Option, Some, None, nat_le}
 use Rattle.lock_table.specs.declared.tables.TheConstants.{MAX_WAITING}
 use Rattle.ubik_types.specs.declared.hosts.Host.{Host}
 use Rattle.ubik_types.specs.declared.images.Change.{Change}
-use Rattle.ubik_types.specs.declared.phases.Phase.TheVariants as phases
 use Rattle.ubik_types.specs.declared.versions.TheConstants.{MAX_COUNTER}
 use Rattle.ubik_types.specs.declared.versions.Version.{Version}
 use Rattle.ubik_types.specs.Lease.{is_in_lease}
@@ -22,11 +21,9 @@ use Rattle.xdr_base.specs.ChangeText.{text_of}
 use Rattle.db_image.specs.declared.services.CallReply.{CallReply}
 use Rattle.db_image.specs.declared.services.CallReply.TheVariants as call_reply
 use Rattle.db_image.specs.Database.{Database, changes_of}
-use Rattle.cell_model.specs.declared.events.NodeEvent.TheVariants as event
 use Rattle.cell_model.specs.Asks.{read, write_asked, served, allows_reads, asked_elsewhere, asked_as}
 use Rattle.cell_model.specs.Book.{Book, with_version}
 use Rattle.cell_model.specs.Durable.{Made, Committed, version_after}
-use Rattle.cell_model.specs.Durable as durables
 use Rattle.cell_model.specs.Node.{Server, Flight, Waiting}
 use Rattle.cell_model.specs.Pieces.{piece_count}
 use Rattle.cell_model.specs.Polls.{new_poll, polling}

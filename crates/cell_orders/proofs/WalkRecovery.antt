@@ -5,18 +5,13 @@ use Rattle.std.proofs.lemmas.Bool.{cond_both}
 use Rattle.std.specs.Prelude.{Option, Some, None, ◌&&◌, not, nat_lt, is_some}
 use Rattle.ubik_types.specs.declared.hosts.Host.{Host}
 use Rattle.ubik_types.specs.declared.limits.TheConstants.{SMALLTIME}
-use Rattle.ubik_types.specs.declared.phases.Phase.TheVariants as phases
 use Rattle.ubik_types.specs.declared.versions.Version.{Version}
 use Rattle.ubik_types.specs.Lease.{is_in_lease}
 use Rattle.ubik_types.specs.Phase.{Polled, Spread, PhaseRecord, NoPhase, Poll, Fetch, Relabel, Send, Ready}
 use Rattle.ubik_types.specs.Quorum.{is_majority}
 use Rattle.ubik_types.specs.Version.{version_lt, version_eq}
-use Rattle.ubik_calls.specs.declared.packets.Body.TheVariants as body
-use Rattle.ubik_calls.specs.declared.replies.Reply.TheVariants as reply
 use Rattle.xdr_base.specs.ChangeText.{text_of}
-use Rattle.db_image.specs.declared.services.CallReply.TheVariants as call_reply
 use Rattle.db_image.specs.Database.{Database}
-use Rattle.cell_model.specs.declared.events.NodeEvent.TheVariants as event
 use Rattle.cell_model.specs.Book.{with_version}
 use Rattle.cell_model.specs.Durable.{Made, Received, version_after}
 use Rattle.cell_model.specs.Durable as durables
