@@ -27,7 +27,7 @@ use Rattle.cell_pages.proofs.Versions.{at_most_same}
 use Rattle.cell_orders.specs.Histories.{Stand, History, with_book, number_of}
 use Rattle.cell_orders.specs.Midst.{version_at, HeldInStep, HasGrown, MidStep}
 use Rattle.cell_orders.specs.OrderMoves.{poll_of, VoteMoves, PollMoves, VersionMoves}
-use Rattle.cell_orders.specs.Orders.{last_announced, IsListed, FollowFrom, IsOrdered}
+use Rattle.cell_orders.specs.Orders.{IsLast, last_announced, IsListed, FollowFrom, IsOrdered}
 use Rattle.cell_orders.specs.Orders.{IsAsked, IsAnswered, IsTo, Premises}
 use Rattle.cell_orders.specs.Orders.{NumbersUpTo, HoldersKeep, PhaseKeeps, AnswersKeep, PollKeeps, IsCounted, LeaderStands}
 use Rattle.cell_orders.proofs.Openings.{past_opening, until_rises, opened_hears, opened_asks, opened_counts, until_counts}
@@ -306,6 +306,7 @@ module _ (m : Member) (now : ℕ) (lease : Bool) (V : ℕ → Version) (C : ℕ 
     leading = λ _. record {
       poll = begun_keeps h c (number_of c.phase) leased is is.own is.held (is.leading leased).poll;
       stands = only_own h c;
+      serves = tt;
     };
     ahead = λ _. record { near = (is.ahead leased).near; greatest = λ sends. no sends; listed = λ sends. no sends };
     grew = is.grew;
@@ -331,6 +332,7 @@ module _ (m : Member) (now : ℕ) (lease : Bool) (V : ℕ → Version) (C : ℕ 
     leading = λ leased. record {
       poll = (is.leading leased).poll;
       stands = λ j x get. by leased j x (set_get poll.answers k j (Some v) (Some x) get);
+      serves = tt;
     };
     ahead = λ leased. record { near = (is.ahead leased).near; greatest = λ sends. no sends; listed = λ sends. no sends };
     grew = is.grew;
@@ -391,7 +393,7 @@ module _ (m : Member) (now : ℕ) (lease : Bool) (V : ℕ → Version) (C : ℕ 
     held = is.held;
     until = is.until;
     holders = tt;
-    leading = λ _. record { poll = (is.leading leased).poll; stands = by (best_reaches h c poll leased most is) };
+    leading = λ _. record { poll = (is.leading leased).poll; stands = by (best_reaches h c poll leased most is); serves = tt };
     ahead = λ _. record { near = (is.ahead leased).near; greatest = λ sends. no sends; listed = λ sends. no sends };
     grew = is.grew;
   }
@@ -415,7 +417,7 @@ module _ (m : Member) (now : ℕ) (lease : Bool) (V : ℕ → Version) (C : ℕ 
     held = subst (HeldInStep lease now) numbered is.held;
     until = is.until;
     holders = tt;
-    leading = λ _. record { poll = inl reached; stands = reached };
+    leading = λ _. record { poll = inl reached; stands = reached; serves = tt };
     ahead = λ _. record { near = (is.ahead leased).near; greatest = λ sends. no sends; listed = λ sends. no sends };
     grew = is.grew;
   }
@@ -469,6 +471,7 @@ module _ (m : Member) (now : ℕ) (lease : Bool) (V : ℕ → Version) (C : ℕ 
           leads_on n (At c.version) (At v) (IsAnswered m.hosts h.packets m.me) h.announced c.version v (number_of c.phase) more
           (at_more c.version v more) (is.leading leased).poll;
       stands = stands_rise m.me (IsAnswered m.hosts h.packets m.me) h.announced c.version v c.phase more (is.leading leased).stands;
+      serves = (is.leading leased).serves;
     };
     ahead = λ leased. record {
       near =
@@ -534,7 +537,7 @@ module _ (m : Member) (now : ℕ) (lease : Bool) (V : ℕ → Version) (C : ℕ 
     held = is.held;
     until = is.until;
     holders = alone (first_of_epoch now);
-    leading = λ _. record { poll = inl reached; stands = reached };
+    leading = λ _. record { poll = inl reached; stands = reached; serves = tt };
     ahead = λ _. record {
       near = (
         inl (at_most_same (first_of_epoch now)),
@@ -577,10 +580,11 @@ module _ (m : Member) (now : ℕ) (lease : Bool) (V : ℕ → Version) (C : ℕ 
       record { version = next_version v; before = v; transaction = Some t; maker = m.me; transactions = list_or_none h.book v ++ t ∷ [] }
 
   commits_in : (h : History) (c : Stand) (poll : Polled) (spread : Spread) (announced : Version) (t : Transaction) → lease ≡ true →
+      c.version ≡ announced →
       I h (record c { phase = Ready poll spread announced }) →
       I (with_book h (committed_page h c.version t ∷ h.book))
       (record c { version = next_version c.version; phase = Ready poll (record spread { holders = only_holder m }) c.version })
-  commits_in h c poll spread announced t leased is = record {
+  commits_in h c poll spread announced t leased level is = record {
     ordered = made h c (committed_page h c.version t) refl (is.leading leased).stands is.ordered;
     kept = kept_map m.hosts h.packets (At c.version) (At (next_version c.version)) (at_more c.version (next_version c.version) more) is.kept;
     asked = is.asked;
@@ -592,7 +596,7 @@ module _ (m : Member) (now : ℕ) (lease : Bool) (V : ℕ → Version) (C : ℕ 
     held = is.held;
     until = is.until;
     holders = alone (next_version c.version);
-    leading = λ _. record { poll = inl reached; stands = reached };
+    leading = λ _. record { poll = inl reached; stands = reached; serves = last };
     ahead = λ _. record {
       near = (
         inl (at_most_same (next_version c.version)),
@@ -610,6 +614,9 @@ module _ (m : Member) (now : ℕ) (lease : Bool) (V : ℕ → Version) (C : ℕ 
     grew = grown_on h c.version (next_version c.version) more is.grew;
   }
     where
+      last : IsLast h.announced c.version
+      last = subst (IsLast h.announced) (sym level) (is.leading leased).serves
+
       more : AtMost c.version (next_version c.version)
       more = inr (refl, omega arith)
 
@@ -653,7 +660,11 @@ module _ (m : Member) (now : ℕ) (lease : Bool) (V : ℕ → Version) (C : ℕ 
     held = is.held;
     until = is.until;
     holders = held_more spread c.version k kept is.holders;
-    leading = λ leased. record { poll = (is.leading leased).poll; stands = (is.leading leased).stands };
+    leading = λ leased. record {
+      poll = (is.leading leased).poll;
+      stands = (is.leading leased).stands;
+      serves = (is.leading leased).serves;
+    };
     ahead = λ leased. record { near = (is.ahead leased).near; greatest = (is.ahead leased).greatest; listed = (is.ahead leased).listed };
     grew = is.grew;
   }
@@ -668,7 +679,11 @@ module _ (m : Member) (now : ℕ) (lease : Bool) (V : ℕ → Version) (C : ℕ 
     held = is.held;
     until = is.until;
     holders = held_more spread c.version k kept is.holders;
-    leading = λ leased. record { poll = (is.leading leased).poll; stands = (is.leading leased).stands };
+    leading = λ leased. record {
+      poll = (is.leading leased).poll;
+      stands = (is.leading leased).stands;
+      serves = (is.leading leased).serves;
+    };
     ahead = λ leased. record { near = (is.ahead leased).near; greatest = (is.ahead leased).greatest; listed = (is.ahead leased).listed };
     grew = is.grew;
   }
@@ -704,7 +719,7 @@ module _ (m : Member) (now : ℕ) (lease : Bool) (V : ℕ → Version) (C : ℕ 
     held = subst (HeldInStep lease now) numbered is.held;
     until = is.until;
     holders = holders;
-    leading = λ _. record { poll = inl (at_most_same c.version); stands = at_most_same c.version };
+    leading = λ _. record { poll = inl (at_most_same c.version); stands = at_most_same c.version; serves = refl };
     ahead = λ _. record {
       near = (is.ahead leased).near;
       greatest = λ _. (is.ahead leased).greatest sends;
@@ -723,8 +738,8 @@ module _ (m : Member) (now : ℕ) (lease : Bool) (V : ℕ → Version) (C : ℕ 
   version_moves = record {
     rises = rises;
     relabels = λ h c poll leased at past is. relabels_in h c poll leased past (in_phase h c (Relabel poll) at is);
-    commits = λ h c poll spread announced t leased at is.
-        commits_in h c poll spread announced t leased (in_phase h c (Ready poll spread announced) at is);
+    commits = λ h c poll spread announced t leased at level is.
+        commits_in h c poll spread announced t leased level (in_phase h c (Ready poll spread announced) at is);
     holds = λ h c k kept is. holds_in h c k c.phase kept is;
     announces = λ h c poll spread leased at most is.
         let here : I h (record c { phase = Send poll spread }) = in_phase h c (Send poll spread) at is in

@@ -3,19 +3,29 @@ use Rattle.std.proofs.Common.{Bool, true, false, cond, ◌≡◌, inl, inr, ℕ,
 use Rattle.std.proofs.Common.{refl, sym, ap, subst, ◌∙◌, arith}
 use Rattle.std.proofs.lemmas.Bool.Decides.{nat_tests}
 use Rattle.std.proofs.lemmas.List.Sums.{sum_by-cons}
-use Rattle.std.specs.Prelude.{Option, replicate, nat_le}
+use Rattle.std.specs.Prelude.{Option, Some, None, replicate, nat_le}
+use Rattle.ubik_types.specs.declared.versions.Version.{Version}
 use Rattle.ubik_types.specs.declared.hosts.Host.{Host}
 use Rattle.ubik_types.specs.Quorum.{size, is_majority}
+use Rattle.ubik_types.specs.Phase.{Polled, Spread, PhaseRecord, NoPhase, Poll, Fetch, Relabel, Send, Ready}
+use Rattle.cell_model.specs.SingleCopy.{image_after}
+use Rattle.cell_model.specs.Step.{is_ready, leased}
+use Rattle.cell_model.specs.Writes.{image_before}
+use Rattle.cell_laws.proofs.Parts.{no, and_both}
+use Rattle.cell_pages.specs.Images.{KeepsImages, IsImageOf}
+use Rattle.cell_pages.specs.Passes.{NodeKeeps}
+use Rattle.cell_pages.proofs.Keeping.{one_list}
+use Rattle.cell_orders.proofs.Walk.{level_at}
 use Rattle.db_image.specs.Database.{Database}
 use Rattle.lease_model.specs.Leases.{Leases}
 use Rattle.lease_model.specs.Rules.{AreSafe, cell_rules}
 use Rattle.lease_model.specs.Runs as runs
 use Rattle.ubik_votes.specs.Greatest.{RestsOnGreatest}
-use Rattle.cell_model.specs.Book.{Run, entered, announced}
+use Rattle.cell_model.specs.Book.{Book, Announcement, Run, list_of, entered, announced, site_database}
 use Rattle.cell_model.specs.Book.{acknowledged, order_of, first_run, run_after, run_through}
-use Rattle.cell_model.specs.Durable.{no_database}
-use Rattle.cell_model.specs.Node.{Up, Server, opened_server}
-use Rattle.cell_model.specs.World.{World, Event, Happened}
+use Rattle.cell_model.specs.Durable.{Transaction, no_database}
+use Rattle.cell_model.specs.Node.{Up, Server, Flight, opened_server}
+use Rattle.cell_model.specs.World.{World, Site, Event, Happened, member, site_of}
 use Rattle.cell_model.specs.World.{IsFirst, IsRun, first_site, first_world, happens}
 use Rattle.cell_laws.specs.Invariant.{CellInvariant}
 use Rattle.cell_laws.proofs.Cells.{first_each, first_good, run_good, same_world}
@@ -28,12 +38,30 @@ use Rattle.cell_pages.proofs.Runs.{happens_keeps, first_keeps}
 use Rattle.cell_orders.specs.Kept.{versions_of, ServerKeeps, OrderKept, ListsOf, versions_in}
 use Rattle.cell_model.specs.KeptLaws.{IsPlaced}
 use Rattle.cell_orders.specs.Acknowledged.{FlightMade, AllKeptAt}
-use Rattle.cell_orders.specs.Laws.{AnnouncementsGrow, AcknowledgedStay, MajoritiesKeep}
-use Rattle.cell_orders.specs.Orders.{Premises}
+use Rattle.cell_orders.specs.Laws.{AnnouncementsGrow, AcknowledgedStay, MajoritiesKeep, SitesServeTheOrder}
+use Rattle.cell_orders.specs.Orders.{IsLast, ServesLast, Premises}
 use Rattle.cell_orders.proofs.Orderings.{zero_at_most}
 use Rattle.cell_orders.proofs.Runs.{Contents, OksSeen, fresh, happens_orders}
 use Rattle.cell_orders.proofs.Lists.{grows, keeps_lists, lists_later, lists_seen}
 use Rattle.cell_orders.proofs.Acknowledging.{acks_seen, told_more, acks_later, placed, run_adds, all_of_end}
+
+-- ---- ready sync sites
+
+is_served : (phase : PhaseRecord) → is_ready phase ≡ true →
+    (poll : Polled) × (spread : Spread) × (announced : Version) × (phase ≡ Ready poll spread announced)
+is_served NoPhase is = no is
+is_served (Poll poll) is = no is
+is_served (Fetch poll best host) is = no is
+is_served (Relabel poll) is = no is
+is_served (Send poll spread) is = no is
+is_served (Ready poll spread announced) is = (poll, spread, announced, refl)
+
+-- the list of the version that was announced last is the order
+of_last : (book : Book) (announcements : List Announcement) (v : Version) (list : List Transaction) → ListsOf book announcements →
+    IsLast (versions_in announcements) v → list_of book v ≡ Some list → list ≡ order_of announcements
+of_last book [] v list lists last listed = absurd last
+of_last book (a ∷ announcements) v list lists last listed =
+    one_list book v list a.transactions listed (subst (λ (u : Version). list_of book u ≡ Some a.transactions) last lists.0)
 
 -- ---- the first world
 
@@ -189,6 +217,46 @@ module _ (safe : AreSafe cell_rules) (rests : (n : ℕ) (starts : List (Option �
       added.1
       (placed (run_through db r more).book (run_through db r more).announcements (run_through db r more).acknowledged
       is.contents.pages.0.0 is.contents.pages.0.1 is.contents.pages.1 is.lists is.kept.ordered.follow is.kept.ordered.rise is.acks)
+
+  pub sites_serve_the_order : SitesServeTheOrder
+  sites_serve_the_order db hosts clock failed events first run k site s get up ready = record { last = last; database = database }
+    where
+      r : Run
+      r = run_of db hosts clock failed events
+
+      is : Ordered safe premises db (run_of db hosts clock failed events)
+      is = ordered safe premises db hosts clock failed events first run
+
+      tests : (leased (member (run_of db hosts clock failed events).world k) s site.clock ≡ true) × (is_ready s.phase ≡ true)
+      tests = and_both (leased (member (run_of db hosts clock failed events).world k) s site.clock) (is_ready s.phase) ready
+
+      keeps : ServerKeeps (run_of db hosts clock failed events).world.hosts (versions_of (run_of db hosts clock failed events).world)
+          (run_of db hosts clock failed events).world.packets (versions_in (run_of db hosts clock failed events).announcements) k site.clock s
+      keeps = (ordered safe premises db hosts clock failed events first run).kept.servers k site s get up
+
+      last : (poll : Polled) (spread : Spread) (announced : Version) → s.phase ≡ Ready poll spread announced →
+          IsLast (versions_in (run_of db hosts clock failed events).announcements) announced
+      last poll spread announced at =
+          subst (ServesLast (versions_in (run_of db hosts clock failed events).announcements)) at (keeps.leading tests.0).serves
+
+      image : IsImageOf db (run_of db hosts clock failed events).book s.version s.image
+      image =
+          (subst
+          (NodeKeeps (λ lease. Both db OnceAndRising both_grew k lease (run_of db hosts clock failed events).book)
+          (length (run_of db hosts clock failed events).world.hosts) site.clock site.durable) up
+          ((ordered safe premises db hosts clock failed events first run).contents.sites k site get).node).1.1.image
+
+      database : KeepsImages db → s.flight ≡ None →
+          site_database s ≡ image_after db (order_of (run_of db hosts clock failed events).announcements)
+      database good none =
+          let phase = is_served s.phase tests.1 in
+          let level : s.version ≡ phase.2 = level_at s.version s.phase s.flight phase.0 phase.1 phase.2 phase.3 none keeps.level in
+          let order : image.list ≡ order_of (run_of db hosts clock failed events).announcements =
+          of_last (run_of db hosts clock failed events).book (run_of db hosts clock failed events).announcements phase.2 image.list
+          (ordered safe premises db hosts clock failed events first run).lists (last phase.0 phase.1 phase.2 phase.3)
+          (subst (λ (v : Version). list_of (run_of db hosts clock failed events).book v ≡ Some image.list) level image.listed) in
+          subst (λ (o : Option Flight). image_before s.image o ≡ image_after db (order_of (run_of db hosts clock failed events).announcements))
+          (sym none) (image.image_is good ∙ ap (image_after db) order)
 
   pub majorities_keep : MajoritiesKeep
   majorities_keep db hosts clock failed events first run =

@@ -133,7 +133,8 @@ fresh n clock d hosts V packets announced k same numbers = record {
   own = λ number asked. inl (numbers number asked);
   held = tt;
   holders = tt;
-  leading = λ _. record { poll = tt; stands = tt };
+  leading = λ _. record { poll = tt; stands = tt; serves = tt };
+  level = tt;
 }
 
 -- ---- a later clock
@@ -170,6 +171,7 @@ clock_on hosts V packets announced k now later s more is = record {
   held = held_on now later (lease_end (length hosts) s.starts) (number_of s.phase) more is.held;
   holders = is.holders;
   leading = λ leased. is.leading (earlier_lease (lease_end (length hosts) s.starts) now later more leased);
+  level = is.level;
 }
 
 abbrev packet_at : Packet → ℕ → ℕ × NodeEvent

@@ -241,6 +241,7 @@ module _ (m : Member) (now : ℕ) (lease : Bool) (V : ℕ → Version) (C : ℕ 
       leading = λ leased. record {
         poll = poll_shown (number_of c.phase) (is.leading leased).poll;
         stands = stands_shown c.phase (is.leading leased).stands;
+        serves = (is.leading leased).serves;
       };
       ahead = is.ahead;
       grew = grew_shown;

@@ -17,7 +17,7 @@ use Rattle.cell_pages.specs.Parts.{AtMost}
 use Rattle.cell_pages.specs.Passes.{is_held}
 use Rattle.cell_pages.proofs.Versions.{at_most_same}
 use Rattle.cell_pages.specs.Moves.{transaction_of}
-use Rattle.cell_orders.specs.Acknowledged.{FlightMade, AllOks}
+use Rattle.cell_orders.specs.Acknowledged.{FlightMade, IsLevel, AllOks}
 use Rattle.cell_orders.specs.Histories.{stand_of, History, announced_with, number_of}
 use Rattle.cell_orders.specs.Kept.{version_in, versions_of, ServerKeeps, OrderKept}
 use Rattle.cell_orders.specs.Midst.{version_at, HeldInStep, HasGrown, MidStep}
@@ -52,7 +52,9 @@ server_map hosts V W packets announced k clock s more is = record {
         leads_on (length hosts) V W (IsAnswered hosts packets k) announced s.version s.version (number_of s.phase) (at_most_same s.version)
         more (is.leading leased).poll;
     stands = (is.leading leased).stands;
+    serves = (is.leading leased).serves;
   };
+  level = is.level;
 }
 
 -- ---- one server is another one
@@ -210,7 +212,11 @@ module _ (w : World) (book : Book) (announced : List Version) (keeps : OrderKept
               (λ (a : List Version).
               IsLeading n j (versions_of later) (IsAnswered w.hosts (w.packets ++ packets_of h.shown) j) a s.version s.phase)
               (sym (leaves.grew.still is))
-              (record { poll = poll_still (number_of s.phase) (old.leading leased).poll; stands = stands_still s.phase (old.leading leased).stands })
+              (record {
+                poll = poll_still (number_of s.phase) (old.leading leased).poll;
+                stands = stands_still s.phase (old.leading leased).stands;
+                serves = (old.leading leased).serves;
+              })
 
       other_keeps : ServerKeeps w.hosts (versions_of later) packets after j z.clock s
       other_keeps = record {
@@ -221,6 +227,7 @@ module _ (w : World) (book : Book) (announced : List Version) (keeps : OrderKept
         held = old.held;
         holders = phase_map n (versions_of w) (versions_of later) s.version s.phase version_rises old.holders;
         leading = leads_still;
+        level = old.level;
       }
 
     own_keeps : (j : ℕ) (z : Site) (s : Server) → j ≡ k → z ≡ h.site → z.node ≡ Up s →
@@ -344,7 +351,7 @@ module _ (w : World) (book : Book) (announced : List Version) (keeps : OrderKept
   -- who holds no phase stands nowhere
   leads_where : (phase : PhaseRecord) (lease : Bool) (k : ℕ) (W : ℕ → Version) (A : ℕ → ℕ → Version → Type 0) (a : List Version)
       (v : Version) → (is_held phase ≡ true → lease ≡ true) → (lease ≡ true → IsLeading n k W A a v phase) → IsLeading n k W A a v phase
-  leads_where NoPhase lease k W A a v held leads = record { poll = tt; stands = tt }
+  leads_where NoPhase lease k W A a v held leads = record { poll = tt; stands = tt; serves = tt }
   leads_where (Poll poll) lease k W A a v held leads = leads (held refl)
   leads_where (Fetch poll best host) lease k W A a v held leads = leads (held refl)
   leads_where (Relabel poll) lease k W A a v held leads = leads (held refl)
@@ -352,10 +359,10 @@ module _ (w : World) (book : Book) (announced : List Version) (keeps : OrderKept
   leads_where (Ready poll spread announced) lease k W A a v held leads = leads (held refl)
 
   pub mid_server : (k now : ℕ) (lease : Bool) (h : History) (s : Server) (v : Version) → s.version ≡ v →
-      (is_held s.phase ≡ true → lease ≡ true) →
+      (is_held s.phase ≡ true → lease ≡ true) → IsLevel s.version s.phase s.flight →
       MidStep (member w k) now lease (versions_of w) (clock_at w) (record { book = book; announced = announced; packets = w.packets }) h
       (stand_of s) → ServerKeeps w.hosts (version_at (versions_of w) k v) h.packets h.announced k now s
-  mid_server k now lease h s v same held mid =
+  mid_server k now lease h s v same held level mid =
       subst (λ (u : Version). ServerKeeps w.hosts (version_at (versions_of w) k u) h.packets h.announced k now s) same
       (record {
         opened = mid.opened;
@@ -364,4 +371,5 @@ module _ (w : World) (book : Book) (announced : List Version) (keeps : OrderKept
         holders = mid.holders;
         leading = λ _. leads_where s.phase lease k (version_at (versions_of w) k s.version) (IsAnswered w.hosts h.packets k) h.announced
             s.version held mid.leading;
+        level = level;
       })

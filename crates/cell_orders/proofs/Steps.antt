@@ -273,7 +273,7 @@ module _ (w : World) (book : Book) (announced : List Version) (keeps : OrderKept
       (λ i number v. IsAnswered w.hosts w.packets k i number v) (λ i v. AtMost v (versions_of w i))
       (MidStep (member w k) site.clock (is_in_lease (length w.hosts) s.starts site.clock) (versions_of w) (clock_at w)
       (record { book = book; announced = announced; packets = w.packets })) moves
-      (record { book = book; announced = announced; packets = w.packets }) s e short refl leads flown (comes e is) begun
+      (record { book = book; announced = announced; packets = w.packets }) s e short refl leads flown before.level (comes e is) begun
 
   rising_here : (calls : List Made) (last : Version) → Rising s.version calls last → Rising site.durable.version calls last
   rising_here calls last rising = subst (λ (v : Version). Rising v calls last) (sym version) rising
@@ -309,7 +309,7 @@ module _ (w : World) (book : Book) (announced : List Version) (keeps : OrderKept
             (λ (u : Server). ServerKeeps w.hosts (version_at (versions_of w) k (durable_after_all site.durable t.calls).version)
             (w.packets ++ packets_of t.shown) (announced_with t.shown announced) k site.clock u) same
             (mid_server w book announced keeps alone k site.clock (is_in_lease (length w.hosts) s.starts site.clock) _ t.server
-            (durable_after_all site.durable t.calls).version (sym last) end.held end.keeps);
+            (durable_after_all site.durable t.calls).version (sym last) end.held end.level end.keeps);
         flight = λ u up. let same : t.server ≡ u = cc in
             subst (λ (u : Server). FlightMade (entered book (entries_from k s.version t.calls)) u.version u.phase u.flight) same end.flight;
         oks = end.oks;

@@ -43,7 +43,7 @@ use Rattle.cell_pages.specs.Passes.{is_held}
 use Rattle.cell_pages.proofs.Leading.{bodies_append}
 use Rattle.cell_pages.proofs.Versions.{lt_of_next, at_most_same}
 use Rattle.cell_orders.specs.Histories.{Stand, stand_of, History, announced_with, with_book, after, IsBeside, IsNumbered, FitsTo, AllFit}
-use Rattle.cell_orders.specs.Acknowledged.{IsMade, FlightMade, IsOkBy, AllOks}
+use Rattle.cell_orders.specs.Acknowledged.{IsLevel, IsMade, FlightMade, IsOkBy, AllOks}
 use Rattle.cell_orders.specs.OrderMoves.{OrderMoves}
 use Rattle.cell_orders.proofs.Telling.{oks_append, fits_oks, oks_more, entered_made, announced_more, Rising, rising_append, after_both}
 use Rattle.cell_orders.proofs.Telling.{each_fits, waiting_fit, read_fits}
@@ -84,6 +84,32 @@ ready_held (Relabel poll) k = refl
 ready_held (Send poll spread) k = refl
 ready_held (Ready poll spread announced) k = refl
 
+pub level_idle : (v : Version) (phase : PhaseRecord) (f : Option Flight) → is_ready phase ≡ false → IsLevel v phase f
+level_idle v NoPhase f idle = tt
+level_idle v (Poll poll) f idle = tt
+level_idle v (Fetch poll best host) f idle = tt
+level_idle v (Relabel poll) f idle = tt
+level_idle v (Send poll spread) f idle = tt
+level_idle v (Ready poll spread announced) f idle = no (sym idle)
+
+pub level_same : (v : Version) (poll : Polled) (spread : Spread) (f : Option Flight) → IsLevel v (Ready poll spread v) f
+level_same v poll spread None = refl
+level_same v poll spread (Some f) = tt
+
+pub level_at : (v : Version) (phase : PhaseRecord) (f : Option Flight) (poll : Polled) (spread : Spread) (announced : Version) →
+    phase ≡ Ready poll spread announced → f ≡ None → IsLevel v phase f → v ≡ announced
+level_at v phase f poll spread announced at none is =
+    subst (λ (o : Option Flight). IsLevel v (Ready poll spread announced) o) none (subst (λ (p : PhaseRecord). IsLevel v p f) at is)
+
+pub level_held : (v : Version) (phase : PhaseRecord) (k : ℕ) (f : Option Flight) → IsLevel v phase f → IsLevel v (held_by phase k) f
+level_held v NoPhase k f is = tt
+level_held v (Poll poll) k f is = tt
+level_held v (Fetch poll best host) k f is = tt
+level_held v (Relabel poll) k f is = tt
+level_held v (Send poll spread) k f is = tt
+level_held v (Ready poll spread announced) k None is = is
+level_held v (Ready poll spread announced) k (Some f) is = tt
+
 pub not_both : (o : Option Flight) (f : Flight) → o ≡ None → o ≡ Some f → ⊥
 not_both o f none some = absurd (cc)
 
@@ -115,6 +141,7 @@ module _ (db : Database) (m : Member) (now : ℕ) (starts : List (Option ℕ)) (
     pub held : is_held s.phase ≡ true → Lease
     pub leads : KeptLeadsOn s.version s.kept
     pub flight : FlightMade h.book s.version s.phase s.flight
+    pub level : IsLevel s.version s.phase s.flight
 
   -- a part of a step that leaves the votes
   pub record Goes (h : History) (v : Version) (t : Stepped) : Type 0 where
@@ -137,6 +164,7 @@ module _ (db : Database) (m : Member) (now : ℕ) (starts : List (Option ℕ)) (
       held = fit.held;
       leads = fit.leads;
       flight = fit.flight;
+      level = fit.level;
     };
     rising = refl;
     oks = fits_oks m Asked (stand_of u) h.book (announced_with shown h.announced) shown all;
@@ -159,6 +187,7 @@ module _ (db : Database) (m : Member) (now : ℕ) (starts : List (Option ℕ)) (
       held = fit.held;
       leads = fit.leads;
       flight = fit.flight;
+      level = fit.level;
     };
     rising = (less, same);
     oks =
@@ -176,6 +205,7 @@ module _ (db : Database) (m : Member) (now : ℕ) (starts : List (Option ℕ)) (
       held = fit.held;
       leads = fit.leads;
       flight = fit.flight;
+      level = fit.level;
     };
     rising = refl;
     oks = (tt, fits_oks m Asked (stand_of u) h.book (announced_with more (u.version ∷ h.announced)) more all);
@@ -191,6 +221,7 @@ module _ (db : Database) (m : Member) (now : ℕ) (starts : List (Option ℕ)) (
       held = fit.held;
       leads = fit.leads;
       flight = fit.flight;
+      level = fit.level;
     };
     rising = refl;
     oks = (tt, (ok, tt));
@@ -234,6 +265,7 @@ module _ (db : Database) (m : Member) (now : ℕ) (starts : List (Option ℕ)) (
     held = λ is. fit.held (ap is_held at ∙ is);
     leads = fit.leads;
     flight = subst (λ (p : PhaseRecord). FlightMade h.book s.version p s.flight) at fit.flight;
+    level = subst (λ (p : PhaseRecord). IsLevel s.version p s.flight) at fit.level;
   }
 
   -- no write is in flight but in Ready
@@ -245,14 +277,15 @@ module _ (db : Database) (m : Member) (now : ℕ) (starts : List (Option ℕ)) (
       by (Some f) is = no (sym idle ∙ (fit.flight f is).0)
 
   -- another phase, in the lease
-  pub to_phase : (h : History) (s : Server) (phase : PhaseRecord) → Lease → is_ready s.phase ≡ false → Fit h s →
+  pub to_phase : (h : History) (s : Server) (phase : PhaseRecord) → is_ready phase ≡ false → Lease → is_ready s.phase ≡ false → Fit h s →
       I h (record (stand_of s) { phase = phase }) → Fit h (with_phase s phase)
-  to_phase h s phase lease idle fit keeps = record {
+  to_phase h s phase quiet lease idle fit keeps = record {
     keeps = keeps;
     same = fit.same;
     held = λ _. lease;
     leads = fit.leads;
     flight = none_made h.book s.version phase s.flight (no_flight h s idle fit);
+    level = level_idle s.version phase s.flight quiet;
   }
 
   -- a poll begins
@@ -263,6 +296,7 @@ module _ (db : Database) (m : Member) (now : ℕ) (starts : List (Option ℕ)) (
     held = λ _. lease;
     leads = fit.leads;
     flight = none_made h.book s.version (Poll (new_poll m s now)) s.flight none;
+    level = tt;
   }
 
   pub numbered : (phase : PhaseRecord) (p : PhaseRecord) (number : ℕ) → phase ≡ p → IsNumbered p number → IsNumbered phase number
@@ -286,6 +320,7 @@ module _ (db : Database) (m : Member) (now : ℕ) (starts : List (Option ℕ)) (
             held = λ _. fit.held (ap is_held at);
             leads = fit.leads;
             flight = none_made h.book s.version (Ready poll spread s.version) None refl;
+            level = refl;
           }) (inl refl, (fit.flight f flown).1)
 
   settled_in_is : (h : History) (s : Server) (phase : PhaseRecord) → s.phase ≡ phase → Fit h s → Goes h s.version (settled_in m s phase)
@@ -302,6 +337,7 @@ module _ (db : Database) (m : Member) (now : ℕ) (starts : List (Option ℕ)) (
         held = λ _. fit.held (ap is_held at);
         leads = fit.leads;
         flight = none_made h.book s.version (Ready poll spread s.version) s.flight (no_flight h s (ap is_ready at) fit);
+        level = level_same s.version poll spread s.flight;
       }) tt)
       (λ _. rests h s fit)
   settled_in_is h s (Ready poll spread announced) at fit = flight_settled_is h s poll spread announced s.flight at refl fit
@@ -325,13 +361,13 @@ module _ (db : Database) (m : Member) (now : ℕ) (starts : List (Option ℕ)) (
   )
 
   written_in_is : (h : History) (s : Server) (id : ℕ) (call answer image : List ℕ) (changes : List Change) (phase : PhaseRecord) →
-      s.phase ≡ phase → Fit h s → Goes h s.version (written_in m s now id call answer image changes phase)
-  written_in_is h s id call answer image changes NoPhase at fit = rests h s fit
-  written_in_is h s id call answer image changes (Poll poll) at fit = rests h s fit
-  written_in_is h s id call answer image changes (Fetch poll best host) at fit = rests h s fit
-  written_in_is h s id call answer image changes (Relabel poll) at fit = rests h s fit
-  written_in_is h s id call answer image changes (Send poll spread) at fit = rests h s fit
-  written_in_is h s id call answer image changes (Ready poll spread announced) at fit =
+      s.phase ≡ phase → s.flight ≡ None → Fit h s → Goes h s.version (written_in m s now id call answer image changes phase)
+  written_in_is h s id call answer image changes NoPhase at free fit = rests h s fit
+  written_in_is h s id call answer image changes (Poll poll) at free fit = rests h s fit
+  written_in_is h s id call answer image changes (Fetch poll best host) at free fit = rests h s fit
+  written_in_is h s id call answer image changes (Relabel poll) at free fit = rests h s fit
+  written_in_is h s id call answer image changes (Send poll spread) at free fit = rests h s fit
+  written_in_is h s id call answer image changes (Ready poll spread announced) at free fit =
       follows h s.version begun (settled m) made (λ fit. settled_is _ begun.server fit)
     where
       begun : Stepped
@@ -356,11 +392,14 @@ module _ (db : Database) (m : Member) (now : ℕ) (starts : List (Option ℕ)) (
           makes h s begun.server (own_commit (next_version s.version) changes image (transaction_of now call)) begun.shown
           (lt_of_next s.version s.version (at_most_same s.version)) refl
           (record {
-            keeps = moves.version.commits h (stand_of s) poll spread announced (transaction_of now call) lease at fit.keeps;
+            keeps =
+                moves.version.commits h (stand_of s) poll spread announced (transaction_of now call) lease at
+                (level_at s.version s.phase s.flight poll spread announced at free fit.level) fit.keeps;
             same = fit.same;
             held = λ _. lease;
             leads = tt;
             flight = flown;
+            level = tt;
           })
           (each_fits m Asked (stand_of begun.server) _
           (λ host k. write_fits (stand_of begun.server) host s.version (next_version s.version) (text_of changes)))
@@ -371,9 +410,9 @@ module _ (db : Database) (m : Member) (now : ℕ) (starts : List (Option ℕ)) (
       either h s.version (s.version.counter == MAX_COUNTER) _ _
       (λ _. turns h (polling m (record s { waiting = [] }) now) _
       (begins h (record s { waiting = [] }) lease free
-      (record { keeps = fit.keeps; same = fit.same; held = fit.held; leads = fit.leads; flight = fit.flight }))
+      (record { keeps = fit.keeps; same = fit.same; held = fit.held; leads = fit.leads; flight = fit.flight; level = fit.level }))
       (tt, waiting_fit m Asked (stand_of (polling m (record s { waiting = [] }) now)) s.waiting _))
-      (λ _. written_in_is h s id call answer image changes s.phase refl fit)
+      (λ _. written_in_is h s id call answer image changes s.phase refl free fit)
 
   written_small_is : (h : History) (s : Server) (id : ℕ) (call answer image : List ℕ) (changes : List Change) → Lease → s.flight ≡ None →
       Fit h s → Goes h s.version (written_small m s now id call answer image changes)
@@ -412,7 +451,7 @@ module _ (db : Database) (m : Member) (now : ℕ) (starts : List (Option ℕ)) (
       (short_after (write_turn db m (record s { waiting = waiting }) now w.id w.call (is_short short)).shown short))
       (turn_is h (record s { waiting = waiting }) w.id w.call (is_short short) (fit.held (free_held s.phase s.flight free))
       (free_none s.phase s.flight free)
-      (record { keeps = fit.keeps; same = fit.same; held = fit.held; leads = fit.leads; flight = fit.flight }))
+      (record { keeps = fit.keeps; same = fit.same; held = fit.held; leads = fit.leads; flight = fit.flight; level = fit.level }))
       (λ fit. next_turns_is waiting _ _ _ fit))
       (λ _. rests h s fit)
 
@@ -437,7 +476,7 @@ module _ (db : Database) (m : Member) (now : ℕ) (starts : List (Option ℕ)) (
       either h s.version (nat_le MAX_WAITING (length s.waiting)) _ _ (λ _. turns h s _ fit (tt, tt))
       (λ _. either h s.version short _ _ (λ _. turns h s _ fit (tt, tt))
       (λ _. turns h (record s { waiting = s.waiting ++ record { id = id; call = call } ∷ [] }) []
-      (record { keeps = fit.keeps; same = fit.same; held = fit.held; leads = fit.leads; flight = fit.flight }) tt))
+      (record { keeps = fit.keeps; same = fit.same; held = fit.held; leads = fit.leads; flight = fit.flight; level = fit.level }) tt))
 
   served_is : (h : History) (s : Server) (id : ℕ) (call : List ℕ) (writes short : Bool) → Lease → Fit h s →
       Goes h s.version (served db m s now id call writes short)

@@ -11,7 +11,7 @@ use Rattle.ubik_types.specs.declared.versions.Version.{Version}
 use Rattle.ubik_types.specs.Image.{effect}
 use Rattle.ubik_types.specs.Lease.{is_in_lease}
 use Rattle.ubik_types.specs.Logged.{logged, too_large}
-use Rattle.ubik_types.specs.Phase.{PhaseRecord, NoPhase}
+use Rattle.ubik_types.specs.Phase.{PhaseRecord, NoPhase, Poll}
 use Rattle.ubik_types.specs.Version.{version_lt, version_eq}
 use Rattle.ubik_types.specs.Votes.{beacon_is_due, answers_yes}
 use Rattle.ubik_calls.specs.declared.packets.TheConstants.{MAX_PIECES}
@@ -28,7 +28,7 @@ use Rattle.cell_model.specs.Durable as durables
 use Rattle.cell_model.specs.Lapse.{writes_refused, phase_dropped, write_lapsed, lapsed, without_writes}
 use Rattle.cell_model.specs.Node.{Server, ReceivedText, Flight}
 use Rattle.cell_model.specs.NodeRule.{received_from, received_packet, place_of, handled, step_of}
-use Rattle.cell_model.specs.Polls.{polling}
+use Rattle.cell_model.specs.Polls.{new_poll, polling}
 use Rattle.cell_model.specs.Receiver.{is_sending, answers_version_kept, answers_version_is, relabelled_by, set_version_received}
 use Rattle.cell_model.specs.Receiver.{text_went_on, send_piece_received, empty_write, begin_received, kept_with, put_piece_received}
 use Rattle.cell_model.specs.Receiver.{committed_by, write_taken, whole_write, commit_received, kept_but, abort_received, get_piece_received}
@@ -45,11 +45,11 @@ use Rattle.cell_pages.specs.Passes.{is_held}
 use Rattle.cell_pages.proofs.Making.{piece_leads, but_leads, whole_leads}
 use Rattle.cell_pages.proofs.Versions.{same_of_eq, not_below, text_is_of}
 use Rattle.cell_orders.specs.Histories.{Stand, stand_of, History, with_book, after, AllFit, Brings}
-use Rattle.cell_orders.specs.Acknowledged.{FlightMade, AllOks}
+use Rattle.cell_orders.specs.Acknowledged.{IsLevel, FlightMade, AllOks}
 use Rattle.cell_orders.specs.OrderMoves.{OrderMoves}
 use Rattle.cell_orders.proofs.Telling.{fits_oks, Rising, rising_append, after_both}
 use Rattle.cell_orders.proofs.Telling.{fit_append, each_fits, refused_fit}
-use Rattle.cell_orders.proofs.Walk.{not_ready, none_made}
+use Rattle.cell_orders.proofs.Walk.{level_idle, not_ready, none_made}
 use Rattle.cell_orders.proofs.Walk as walk
 use Rattle.cell_orders.proofs.WalkRecovery as recovery
 
@@ -77,6 +77,7 @@ module _ (db : Database) (m : Member) (now : ℕ) (starts : List (Option ℕ)) (
     pub held : is_held t.server.phase ≡ true → Lease
     pub rising : Rising v t.calls t.server.version
     pub flight : FlightMade (after h m.me v t).book t.server.version t.server.phase t.server.flight
+    pub level : IsLevel t.server.version t.server.phase t.server.flight
     pub oks : AllOks (after h m.me v t).book (after h m.me v t).announced t.shown
 
   either : (h : History) (v : Version) (test : Bool) (x y : Stepped) → (test ≡ true → Goes h v x) → (test ≡ false → Goes h v y) →
@@ -174,6 +175,7 @@ module _ (db : Database) (m : Member) (now : ℕ) (starts : List (Option ℕ)) (
             held = fit.held;
             leads = tt;
             flight = none_made h.book new s.phase s.flight (no_flight h s (not_ready s.phase idle) fit);
+            level = level_idle new s.phase s.flight (not_ready s.phase idle);
           }) tt
 
   text_is : (h : History) (s : Server) (host : Host) (k poll : ℕ) (version : Version) (total at : ℕ) (bytes : List ℕ)
@@ -187,7 +189,7 @@ module _ (db : Database) (m : Member) (now : ℕ) (starts : List (Option ℕ)) (
       (subst (λ (v : Version). version_lt s.version v ≡ true) (sym (text_is_of true k version total at bytes s.received text is)) less) fit)
       (λ fit. keeps_is _ (with_database s text.version text.bytes) host fit))
       (λ _. turns h (record s { received = Some text }) _
-      (record { keeps = fit.keeps; same = fit.same; held = fit.held; leads = fit.leads; flight = fit.flight }) ((refl, tt), tt))
+      (record { keeps = fit.keeps; same = fit.same; held = fit.held; leads = fit.leads; flight = fit.flight; level = fit.level }) ((refl, tt), tt))
 
   piece_taken_is : (h : History) (s : Server) (host : Host) (k poll : ℕ) (version : Version) (total at : ℕ) (bytes : List ℕ) →
       AskedBy host poll → Fit h s → Goes h s.version (send_piece_received m s host k poll version total at bytes)
@@ -212,6 +214,7 @@ module _ (db : Database) (m : Member) (now : ℕ) (starts : List (Option ℕ)) (
         held = fit.held;
         leads = subst (λ (v : Version). version_lt v new ≡ true) (sym (same_of_eq s.version old both.0)) both.1;
         flight = fit.flight;
+        level = fit.level;
       }) tt)
       (λ _. rests h s fit))
 
@@ -226,6 +229,7 @@ module _ (db : Database) (m : Member) (now : ℕ) (starts : List (Option ℕ)) (
         held = fit.held;
         leads = piece_leads s.version new number bytes s.kept fit.leads;
         flight = fit.flight;
+        level = fit.level;
       }) tt)
 
   taken_is : (h : History) (s : Server) (host : Host) (old new : Version) (changes : Option (List Change)) → is_sending s.phase ≡ false →
@@ -253,6 +257,7 @@ module _ (db : Database) (m : Member) (now : ℕ) (starts : List (Option ℕ)) (
             held = fit.held;
             leads = tt;
             flight = none_made h.book new s.phase s.flight (no_flight h s (not_ready s.phase idle) fit);
+            level = level_idle new s.phase s.flight (not_ready s.phase idle);
           }) tt
 
   write_committed_is : (h : History) (s : Server) (host : Host) (old new : Version) → Fit h s →
@@ -267,7 +272,14 @@ module _ (db : Database) (m : Member) (now : ℕ) (starts : List (Option ℕ)) (
   write_dropped_is h s new fit =
       either h s.version (is_sending s.phase) _ _ (λ _. rests h s fit)
       (λ _. turns h (record s { kept = kept_but new s.kept }) []
-      (record { keeps = fit.keeps; same = fit.same; held = fit.held; leads = but_leads s.version new s.kept fit.leads; flight = fit.flight }) tt)
+      (record {
+        keeps = fit.keeps;
+        same = fit.same;
+        held = fit.held;
+        leads = but_leads s.version new s.kept fit.leads;
+        flight = fit.flight;
+        level = fit.level;
+      }) tt)
 
   piece_asked_is : (h : History) (s : Server) (host : Host) (poll : ℕ) (version : Version) (at : ℕ) → AskedBy host poll → Fit h s →
       Goes h s.version (get_piece_received m s host poll version at)
@@ -278,8 +290,8 @@ module _ (db : Database) (m : Member) (now : ℕ) (starts : List (Option ℕ)) (
   -- ---- the lapse
 
   lapsed_is : (h : History) (s : Server) → s.starts ≡ starts → KeptLeadsOn s.version s.kept →
-      FlightMade h.book s.version s.phase s.flight → I h (stand_of s) → Goes h s.version (lapsed m s now)
-  lapsed_is h s same leads flown keeps =
+      FlightMade h.book s.version s.phase s.flight → IsLevel s.version s.phase s.flight → I h (stand_of s) → Goes h s.version (lapsed m s now)
+  lapsed_is h s same leads flown level keeps =
       cond_both (leased m s now) (write_lapsed m s now s.flight) (phase_dropped m s now) (Goes h s.version)
       (λ is. held_by_lease (subst (λ (c : List (Option ℕ)). is_in_lease (cell_size m) c now ≡ true) same is) s.flight)
       (λ is. dropped (subst (λ (c : List (Option ℕ)). is_in_lease (cell_size m) c now ≡ false) same is))
@@ -293,32 +305,33 @@ module _ (db : Database) (m : Member) (now : ℕ) (starts : List (Option ℕ)) (
             held = λ is. no is;
             leads = leads;
             flight = none_made h.book s.version NoPhase None refl;
+            level = tt;
           })
           (refused_fit m Asked (stand_of (with_phase (without_writes s) NoPhase)) s now phases.None)
 
       held_by_lease : Lease → (f : Option Flight) → Goes h s.version (write_lapsed m s now f)
-      held_by_lease lease None = rests h s (record { keeps = keeps; same = same; held = λ _. lease; leads = leads; flight = flown })
+      held_by_lease lease None = rests h s (record { keeps = keeps; same = same; held = λ _. lease; leads = leads; flight = flown; level = level })
       held_by_lease lease (Some f) =
           either h s.version (nat_lt (f.began + SMALLTIME) now) _ _
           (λ _. turns h (polling m (without_writes s) now) _
-          (begins h (without_writes s) lease refl
           (record {
-            keeps = keeps;
+            keeps = moves.poll.begins h (stand_of s) lease keeps;
             same = same;
             held = λ _. lease;
             leads = leads;
-            flight = none_made h.book s.version s.phase None refl;
-          }))
+            flight = none_made h.book s.version (Poll (new_poll m (without_writes s) now)) None refl;
+            level = tt;
+          })
           (fit_append m Asked (stand_of (polling m (without_writes s) now)) (writes_refused m s now phases.Poll) _
           (refused_fit m Asked (stand_of (polling m (without_writes s) now)) s now phases.Poll)
           (each_fits m Asked (stand_of (polling m (without_writes s) now)) _ (λ host k. (tt, tt)))))
-          (λ _. rests h s (record { keeps = keeps; same = same; held = λ _. lease; leads = leads; flight = flown }))
+          (λ _. rests h s (record { keeps = keeps; same = same; held = λ _. lease; leads = leads; flight = flown; level = level }))
 
   -- ---- votes
 
   ended : (h : History) (v : Version) (t : Stepped) → Goes h v t → Ends h v t
   ended h v t goes =
-      record { keeps = goes.fit.keeps; held = goes.fit.held; rising = goes.rising; flight = goes.fit.flight; oks = goes.oks }
+      record { keeps = goes.fit.keeps; held = goes.fit.held; rising = goes.rising; flight = goes.fit.flight; level = goes.fit.level; oks = goes.oks }
 
   beacon_turn_is : (h : History) (s : Server) → Fit h s → Ends h s.version (beacon_turn m s now)
   beacon_turn_is h s fit =
@@ -331,6 +344,7 @@ module _ (db : Database) (m : Member) (now : ℕ) (starts : List (Option ℕ)) (
         held = fit.held;
         rising = refl;
         flight = fit.flight;
+        level = fit.level;
         oks = fits_oks m Asked (stand_of (beacon_taken m s now (leased m s now)).server) h.book _ _
             (each_fits m Asked (stand_of (beacon_taken m s now (leased m s now)).server) _ (λ host k. (tt, tt)));
       })
@@ -356,6 +370,7 @@ module _ (db : Database) (m : Member) (now : ℕ) (starts : List (Option ℕ)) (
         held = fit.held;
         rising = refl;
         flight = fit.flight;
+        level = fit.level;
         oks = (tt, tt);
       }
       by (body.Vote start granted) brings = record {
@@ -365,6 +380,7 @@ module _ (db : Database) (m : Member) (now : ℕ) (starts : List (Option ℕ)) (
         held = fit.held;
         rising = refl;
         flight = fit.flight;
+        level = fit.level;
         oks = tt;
       }
       by (body.GetVersion poll) brings = ended h s.version _ (tells_is h s host poll (by_host poll brings) fit)
@@ -405,9 +421,10 @@ module _ (db : Database) (m : Member) (now : ℕ) (starts : List (Option ℕ)) (
       ended h s.version _ (asked_as_is h s id call (is_short short) (db.writes call) fit)
 
   pub step_ends : (h : History) (s : Server) (e : NodeEvent) (short : List Bool) → s.starts ≡ starts → KeptLeadsOn s.version s.kept →
-      FlightMade h.book s.version s.phase s.flight → EventBrings e → I h (stand_of s) → Ends h s.version (step_of db m s now e short)
+      FlightMade h.book s.version s.phase s.flight → IsLevel s.version s.phase s.flight →
+      EventBrings e → I h (stand_of s) → Ends h s.version (step_of db m s now e short)
   unfolding step_of
-  step_ends h s e short same leads flown brings keeps = then (lapsed_is h s same leads flown keeps)
+  step_ends h s e short same leads flown level brings keeps = then (lapsed_is h s same leads flown level keeps)
     where
       t : Stepped
       t = lapsed m s now
@@ -424,6 +441,7 @@ module _ (db : Database) (m : Member) (now : ℕ) (starts : List (Option ℕ)) (
                 subst (λ (g : History). I g (stand_of (next t.server).server))
                 (after_both h m.me s.version t.server.version t (next t.server) first.rising) second.keeps;
             held = second.held;
+            level = second.level;
             flight =
                 subst (λ (g : History). FlightMade g.book (next t.server).server.version (next t.server).server.phase (next t.server).server.flight)
                 (after_both h m.me s.version t.server.version t (next t.server) first.rising) second.flight;

@@ -37,7 +37,7 @@ use Rattle.cell_pages.proofs.Versions.{same_of_eq, lt_of_epoch}
 use Rattle.cell_orders.specs.Histories.{Stand, stand_of, History, with_book, after, IsNumbered, FitsTo, AllFit}
 use Rattle.cell_orders.specs.OrderMoves.{OrderMoves}
 use Rattle.cell_orders.proofs.Telling.{each_fits}
-use Rattle.cell_orders.proofs.Walk.{not_both, not_itself, not_ready, ready_held, none_made, held_held}
+use Rattle.cell_orders.proofs.Walk.{level_idle, level_held, not_both, not_itself, not_ready, ready_held, none_made, held_held}
 use Rattle.cell_orders.proofs.Walk as walk
 
 module _ (db : Database) (m : Member) (now : ℕ) (starts : List (Option ℕ)) (Asked : ℕ → ℕ → Type 0)
@@ -87,7 +87,7 @@ module _ (db : Database) (m : Member) (now : ℕ) (starts : List (Option ℕ)) (
   no_flight : (h : History) (s : Server) → is_ready s.phase ≡ false → Fit h s → s.flight ≡ None
   no_flight = walk.no_flight db m now starts Asked Answered Kept I moves
 
-  to_phase : (h : History) (s : Server) (phase : PhaseRecord) → Lease → is_ready s.phase ≡ false → Fit h s →
+  to_phase : (h : History) (s : Server) (phase : PhaseRecord) → is_ready phase ≡ false → Lease → is_ready s.phase ≡ false → Fit h s →
       I h (record (stand_of s) { phase = phase }) → Fit h (with_phase s phase)
   to_phase = walk.to_phase db m now starts Asked Answered Kept I moves
 
@@ -139,6 +139,7 @@ module _ (db : Database) (m : Member) (now : ℕ) (starts : List (Option ℕ)) (
             held = λ _. lease;
             leads = tt;
             flight = λ f is. absurd (not_both s.flight f (no_flight h (with_phase s (Relabel poll)) refl fit) is);
+            level = tt;
           })
           (each_fits m Asked (stand_of begun.server) _
           (λ host k. answer_fits (stand_of begun.server) host begun.server poll s.version (entry_at poll.answers k) refl))
@@ -157,6 +158,7 @@ module _ (db : Database) (m : Member) (now : ℕ) (starts : List (Option ℕ)) (
         held = λ _. lease;
         leads = fit.leads;
         flight = λ f is. absurd (not_both s.flight f (no_flight h (with_phase s (Poll poll)) refl fit) is);
+        level = tt;
       }) ((refl, refl), tt))
       (λ least. relabelled_is h s poll lease
       (record {
@@ -165,6 +167,7 @@ module _ (db : Database) (m : Member) (now : ℕ) (starts : List (Option ℕ)) (
         held = λ _. lease;
         leads = fit.leads;
         flight = λ f is. absurd (not_both s.flight f (no_flight h (with_phase s (Poll poll)) refl fit) is);
+        level = tt;
       })))
       (λ _. turns h (with_phase s (Poll poll)) [] fit tt)
 
@@ -239,6 +242,7 @@ module _ (db : Database) (m : Member) (now : ℕ) (starts : List (Option ℕ)) (
         held = fit.held;
         leads = tt;
         flight = none_made h.book version s.phase s.flight (no_flight h s (not_ready s.phase idle) fit);
+        level = level_idle version s.phase s.flight (not_ready s.phase idle);
       }) tt
 
   -- a fetch is over
@@ -246,7 +250,7 @@ module _ (db : Database) (m : Member) (now : ℕ) (starts : List (Option ℕ)) (
       version_lt s.version best ≡ false → Fit h s → Goes h s.version (relabelled m s poll now)
   fetched_is h s poll best from at lease least fit =
       relabelled_is h s poll lease
-      (to_phase h s (Relabel poll) lease (ap is_ready at) fit (moves.poll.fetched h (stand_of s) poll best from lease at least fit.keeps))
+      (to_phase h s (Relabel poll) refl lease (ap is_ready at) fit (moves.poll.fetched h (stand_of s) poll best from lease at least fit.keeps))
 
   fetch_is : (h : History) (s : Server) (poll : Polled) (best : Version) (from : ℕ) (text : Option ReceivedText) →
       s.phase ≡ Fetch poll best from → Lease → Fit h s → Goes h s.version (fetch_went_on m s now poll best from text)
@@ -261,7 +265,7 @@ module _ (db : Database) (m : Member) (now : ℕ) (starts : List (Option ℕ)) (
       (λ least. follows h s.version (quiet s) (λ after. relabelled m after poll now) (rests h s fit)
       (λ fit. fetched_is _ s poll best from at lease least fit)))
       (λ _. turns h (record s { received = Some text }) _
-      (record { keeps = fit.keeps; same = fit.same; held = fit.held; leads = fit.leads; flight = fit.flight })
+      (record { keeps = fit.keeps; same = fit.same; held = fit.held; leads = fit.leads; flight = fit.flight; level = fit.level })
       ((refl, numbered s.phase (Fetch poll best from) poll.number at refl), tt))
 
   pub piece_received_is : (h : History) (s : Server) (k number : ℕ) (version : Version) (total at : ℕ) (bytes : List ℕ) (phase : PhaseRecord) →
@@ -290,6 +294,7 @@ module _ (db : Database) (m : Member) (now : ℕ) (starts : List (Option ℕ)) (
         held = λ is. fit.held (sym (held_held s.phase k) ∙ is);
         leads = fit.leads;
         flight = λ f is. (ready_held s.phase k ∙ (fit.flight f is).0, (fit.flight f is).1);
+        level = level_held s.version s.phase k s.flight fit.level;
       })
 
   lacking_is : (h : History) (s : Server) (host : Host) (poll : Polled) (spread : Spread) (version : Version) (f : Option Flight) →
@@ -315,7 +320,7 @@ module _ (db : Database) (m : Member) (now : ℕ) (starts : List (Option ℕ)) (
   version_told_is h s host k number version short (Poll poll) brings at fit =
       either h s.version (number == poll.number) _ _
       (λ same. polled_is h s (with_answer poll k version) (fit.held (ap is_held at))
-      (to_phase h s (Poll (with_answer poll k version)) (fit.held (ap is_held at)) (ap is_ready at) fit
+      (to_phase h s (Poll (with_answer poll k version)) refl (fit.held (ap is_held at)) (ap is_ready at) fit
       (moves.poll.answers h (stand_of s) poll k version (fit.held (ap is_held at)) at
       (subst (λ (n : ℕ). Answered k n version) (eq_true number poll.number same) brings.0) fit.keeps)))
       (λ _. rests h s fit)

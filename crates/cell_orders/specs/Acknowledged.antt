@@ -1,7 +1,7 @@
 -- Commits that are answered: their versions were announced, and each is that of its transaction (own).
-use Rattle.std.specs.Prelude.{◌≡◌, ◌⊎◌, true, Option, Some, List, [], ◌∷◌, slice_get}
+use Rattle.std.specs.Prelude.{◌≡◌, ◌⊎◌, true, Option, Some, None, List, [], ◌∷◌, slice_get}
 use Rattle.ubik_types.specs.declared.versions.Version.{Version}
-use Rattle.ubik_types.specs.Phase.{PhaseRecord}
+use Rattle.ubik_types.specs.Phase.{PhaseRecord, Ready}
 use Rattle.cell_model.specs.declared.events.Output.{Output}
 use Rattle.cell_model.specs.declared.events.Output.TheVariants as output
 use Rattle.cell_model.specs.Book.{Book, Acknowledgement, list_of}
@@ -24,6 +24,11 @@ IsMade (b ∷ book) v t = ((b.version ≡ v) × (b.transaction ≡ Some t)) ⊎ 
 abbrev pub FlightMade : Book → Version → PhaseRecord → Option Flight → Type 0
 FlightMade book v phase flight =
     (f : Flight) → flight ≡ Some f → (is_ready phase ≡ true) × IsMade book v (transaction_of f.began f.call)
+
+-- where no write is in flight, a server that serves has the announced version
+abbrev pub IsLevel : Version → PhaseRecord → Option Flight → Type 0
+IsLevel v (Ready poll spread announced) None = v ≡ announced
+IsLevel v _ flight = Unit {0}
 
 -- an answer to a commit: its version was announced, and is that of its transaction
 abbrev pub IsOkBy : Book → List Version → Evaluation → Basis → Type 0

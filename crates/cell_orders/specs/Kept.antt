@@ -8,7 +8,7 @@ use Rattle.cell_model.specs.Book.{Book, Announcement, clock_at, list_of}
 use Rattle.cell_model.specs.Node.{Up, Server}
 use Rattle.cell_model.specs.World.{World, Site, site_of}
 use Rattle.ubik_types.specs.declared.hosts.Host.{Host}
-use Rattle.cell_orders.specs.Acknowledged.{FlightMade}
+use Rattle.cell_orders.specs.Acknowledged.{FlightMade, IsLevel}
 use Rattle.cell_orders.specs.Histories.{number_of}
 use Rattle.cell_orders.specs.Orders.{IsOrdered, HasMajority, IsAsked, IsAnswered, KeptIsKept, AnswersAsked, NumbersPast, HasOpened}
 use Rattle.cell_orders.specs.Orders.{NumbersUpTo, HeldSince}
@@ -31,6 +31,7 @@ pub record ServerKeeps (hosts : List Host) (V : ℕ → Version) (packets : List
   pub holders : PhaseKeeps (length hosts) V s.version s.phase
   pub leading : is_in_lease (length hosts) s.starts clock ≡ true →
       IsLeading (length hosts) k V (IsAnswered hosts packets k) announced s.version s.phase
+  pub level : IsLevel s.version s.phase s.flight
 
 pub record OrderKept (w : World) (book : Book) (announced : List Version) : Type 0 where
   pub ordered : IsOrdered book announced

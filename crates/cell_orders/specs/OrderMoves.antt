@@ -53,7 +53,7 @@ pub record VersionMoves (m : Member) (now : ℕ) (lease : Bool) (Kept : ℕ → 
       I (with_book h (with_version h.book m.me c.version (first_of_epoch now) Own_relabelling))
       (record c { version = first_of_epoch now; phase = Send poll (record { old = c.version; holders = only_holder m }) })
   pub commits : (h : History) (c : Stand) (poll : Polled) (spread : Spread) (announced : Version) (t : Transaction) → lease ≡ true →
-      c.phase ≡ Ready poll spread announced → I h c →
+      c.phase ≡ Ready poll spread announced → c.version ≡ announced → I h c →
       I (with_book h (with_version h.book m.me c.version (next_version c.version) (Committed t)))
       (record c {
         version = next_version c.version;

@@ -160,9 +160,20 @@ LeaderStands me Answered announced version (Poll poll) =
 LeaderStands me Answered announced version (Fetch poll best host) = AtMost (last_announced announced) best
 LeaderStands me Answered announced version _ = AtMost (last_announced announced) version
 
+-- the version was announced last
+abbrev pub IsLast : List Version → Version → Type 0
+IsLast [] v = ⊥
+IsLast (newest ∷ earlier) v = newest ≡ v
+
+-- a server that serves has the version that was announced last
+abbrev pub ServesLast : List Version → PhaseRecord → Type 0
+ServesLast announced (Ready poll spread v) = IsLast announced v
+ServesLast announced _ = Unit {0}
+
 -- of a server that is in lease
 pub record IsLeading (n me : ℕ) (V : ℕ → Version) (Answered : ℕ → ℕ → Version → Type 0) (announced : List Version) (version : Version)
     (phase : PhaseRecord) :
     Type 0 where
   pub poll : PollKeeps n V Answered announced version (number_of phase)
   pub stands : LeaderStands me Answered announced version phase
+  pub serves : ServesLast announced phase

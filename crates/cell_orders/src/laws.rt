@@ -1,5 +1,5 @@
 //! Laws of the order in cells of 1 to 20 servers, over every run: each is the clause of a public call.
-ghost use Rattle.cell_orders.specs.Laws.{AcknowledgedStay, AnnouncementsGrow, MajoritiesKeep};
+ghost use Rattle.cell_orders.specs.Laws.{AcknowledgedStay, AnnouncementsGrow, MajoritiesKeep, SitesServeTheOrder};
 
 use lease_model::law_rules_are_safe;
 use ubik_votes::lease_rests_on_greatest_start;
@@ -26,6 +26,15 @@ pub fn law_acknowledged_stay()
 /// it on its disk, be it up, halted or down.
 pub fn law_majorities_keep()
     ensures { MajoritiesKeep }
+{
+    law_rules_are_safe();
+    lease_rests_on_greatest_start();
+}
+
+/// In each cell, whatever happens, each ready sync site serves the version that was announced last; without a write in flight its database,
+/// where no call makes an image shorter, is that of the single copy after the order.
+pub fn law_sites_serve_the_order()
+    ensures { SitesServeTheOrder }
 {
     law_rules_are_safe();
     lease_rests_on_greatest_start();

@@ -3,4 +3,6 @@
 
 mod laws;
 
-pub use laws::{law_acknowledged_stay, law_announcements_grow, law_majorities_keep};
+pub use laws::{
+    law_acknowledged_stay, law_announcements_grow, law_majorities_keep, law_sites_serve_the_order,
+};
