@@ -37,7 +37,7 @@ pub versions_map : (P Q : BookVersion → Type 0) (book : Book) → ((b : BookVe
 versions_map P Q [] f all = tt
 versions_map P Q (b ∷ book) f all = (f b all.0, versions_map P Q book f all.1)
 
-versions_two : (P Q R : BookVersion → Type 0) (book : Book) → ((b : BookVersion) → P b → Q b → R b) → AllVersions P book →
+pub versions_two : (P Q R : BookVersion → Type 0) (book : Book) → ((b : BookVersion) → P b → Q b → R b) → AllVersions P book →
     AllVersions Q book → AllVersions R book
 versions_two P Q R [] f first second = tt
 versions_two P Q R (b ∷ book) f first second = (f b first.0 second.0, versions_two P Q R book f first.1 second.1)
@@ -146,14 +146,14 @@ ready_held (Relabel poll) k = refl
 ready_held (Send poll spread) k = refl
 ready_held (Ready poll spread announced) k = refl
 
-piece_leads : (v new : Version) (number : ℕ) (bytes : List ℕ) (kept : Option KeptWrite) → KeptLeadsOn v kept →
+pub piece_leads : (v new : Version) (number : ℕ) (bytes : List ℕ) (kept : Option KeptWrite) → KeptLeadsOn v kept →
     KeptLeadsOn v (kept_with new number bytes kept)
 piece_leads v new number bytes None leads = tt
 piece_leads v new number bytes (Some w) leads =
     cond_both (version_eq w.new new && nat_lt number (length w.pieces)) _ _ (λ (w : KeptWrite). version_lt v w.new ≡ true) (λ _. leads)
     (λ _. leads)
 
-but_leads : (v new : Version) (kept : Option KeptWrite) → KeptLeadsOn v kept → KeptLeadsOn v (kept_but new kept)
+pub but_leads : (v new : Version) (kept : Option KeptWrite) → KeptLeadsOn v kept → KeptLeadsOn v (kept_but new kept)
 but_leads v new None leads = tt
 but_leads v new (Some w) leads = cond_both (version_eq w.new new) _ _ (KeptLeadsOn v) (λ _. tt) (λ _. leads)
 

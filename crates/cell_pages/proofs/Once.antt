@@ -38,7 +38,7 @@ no_list new (b ∷ book) list is_new listed = first (version_eq b.version new) r
     first true same rest is = is_new.0 (sym (same_of_eq b.version new same))
     first false same rest is = rest is
 
-differs : (v new : Version) (book : Book) (list : List Transaction) → IsNew new book → list_of book v ≡ Some list → version_eq new v ≡ false
+pub differs : (v new : Version) (book : Book) (list : List Transaction) → IsNew new book → list_of book v ≡ Some list → version_eq new v ≡ false
 differs v new book list is_new listed = by (version_eq new v) refl
   where
     by : (t : Bool) → version_eq new v ≡ t → version_eq new v ≡ false

@@ -313,7 +313,7 @@ module _ (db : Database) (F : ℕ → Bool → Book → Server → Type 0) (D : 
       (leased_is (length w.hosts) s.starts site.clock here.moment is))
 
   -- what other servers made is of epochs below the clock of a server that is in lease
-  others_below : AreSafe cell_rules → (w : World) (x : Leases) (book : Book) (k : ℕ) (site : Site) (s : Server) → CellInvariant w x book →
+  pub others_below : AreSafe cell_rules → (w : World) (x : Leases) (book : Book) (k : ℕ) (site : Site) (s : Server) → CellInvariant w x book →
       Here w.hosts x k site → site.node ≡ Up s → OthersBelow k site.clock (is_in_lease (length w.hosts) s.starts site.clock) book
   others_below safe w x book k site s good here is_up =
       versions_map (VersionHolds w.sites x)
@@ -323,7 +323,7 @@ module _ (db : Database) (F : ℕ → Bool → Book → Server → Type 0) (D : 
       other) good.versions
 
   -- two servers are not in lease at once
-  one_leads : AreSafe cell_rules → (w : World) (x : Leases) (j k : ℕ) (y z : Site) (s u : Server) → Here w.hosts x j y →
+  pub one_leads : AreSafe cell_rules → (w : World) (x : Leases) (j k : ℕ) (y z : Site) (s u : Server) → Here w.hosts x j y →
       Here w.hosts x k z → y.node ≡ Up s → z.node ≡ Up u → (j ≡ k → ⊥) → is_in_lease (length w.hosts) s.starts y.clock ≡ true →
       is_in_lease (length w.hosts) u.starts z.clock ≡ true → ⊥
   one_leads safe w x j k y z s u here_j here_k up_j up_k other leased_j leased_k =

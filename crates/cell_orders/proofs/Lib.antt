@@ -1,0 +1,14 @@
+pub mod Acknowledging
+pub mod Lists
+pub mod Moving
+pub mod Openings
+pub mod Order
+pub mod Orderings
+pub mod Runs
+pub mod Showing
+pub mod Sites
+pub mod Steps
+pub mod Telling
+pub mod Walk
+pub mod WalkEvents
+pub mod WalkRecovery

@@ -1,0 +1,263 @@
+-- After each run of each cell the list of each announcement begins that of each later one.
+use Rattle.std.proofs.Common.{Bool, true, false, cond, ◌≡◌, inl, inr, ℕ, zero, suc, ◌+◌, ◌/◌, ◌<◌, List, [], ◌∷◌, length}
+use Rattle.std.proofs.Common.{refl, sym, ap, subst, ◌∙◌, arith}
+use Rattle.std.proofs.lemmas.Bool.Decides.{nat_tests}
+use Rattle.std.proofs.lemmas.List.Sums.{sum_by-cons}
+use Rattle.std.specs.Prelude.{Option, Some, None, replicate, nat_le}
+use Rattle.ubik_types.specs.declared.versions.Version.{Version}
+use Rattle.ubik_types.specs.declared.hosts.Host.{Host}
+use Rattle.ubik_types.specs.Quorum.{size, is_majority}
+use Rattle.ubik_types.specs.Phase.{Polled, Spread, PhaseRecord, NoPhase, Poll, Fetch, Relabel, Send, Ready}
+use Rattle.cell_model.specs.SingleCopy.{image_after}
+use Rattle.cell_model.specs.Step.{is_ready, leased}
+use Rattle.cell_model.specs.Writes.{image_before}
+use Rattle.cell_laws.proofs.Parts.{no, and_both}
+use Rattle.cell_pages.specs.Images.{KeepsImages, IsImageOf}
+use Rattle.cell_pages.specs.Passes.{NodeKeeps}
+use Rattle.cell_pages.proofs.Keeping.{one_list}
+use Rattle.cell_orders.proofs.Walk.{level_at}
+use Rattle.db_image.specs.Database.{Database}
+use Rattle.lease_model.specs.Leases.{Leases}
+use Rattle.lease_model.specs.Rules.{AreSafe, cell_rules}
+use Rattle.lease_model.specs.Runs as runs
+use Rattle.ubik_votes.specs.Greatest.{RestsOnGreatest}
+use Rattle.cell_model.specs.Book.{Book, Announcement, Run, list_of, entered, announced, site_database}
+use Rattle.cell_model.specs.Book.{acknowledged, order_of, first_run, run_after, run_through}
+use Rattle.cell_model.specs.Durable.{Transaction, no_database}
+use Rattle.cell_model.specs.Node.{Up, Server, Flight, opened_server}
+use Rattle.cell_model.specs.World.{World, Site, Event, Happened, member, site_of}
+use Rattle.cell_model.specs.World.{IsFirst, IsRun, first_site, first_world, happens}
+use Rattle.cell_laws.specs.Invariant.{CellInvariant}
+use Rattle.cell_laws.proofs.Cells.{first_each, first_good, run_good, same_world}
+use Rattle.cell_laws.proofs.Worlds.{Result, happens_good}
+use Rattle.cell_pages.specs.Contents.{Carries}
+use Rattle.cell_pages.specs.Laws.{run_of}
+use Rattle.cell_pages.proofs.Holding.{Both, BothDurable, Pages, contents_pass}
+use Rattle.cell_pages.proofs.Once.{OnceAndRising, both_grew}
+use Rattle.cell_pages.proofs.Runs.{happens_keeps, first_keeps}
+use Rattle.cell_orders.specs.Kept.{versions_of, ServerKeeps, OrderKept, ListsOf, versions_in}
+use Rattle.cell_model.specs.KeptLaws.{IsPlaced}
+use Rattle.cell_orders.specs.Acknowledged.{FlightMade, AllKeptAt}
+use Rattle.cell_orders.specs.Laws.{AnnouncementsGrow, AcknowledgedStay, MajoritiesKeep, SitesServeTheOrder}
+use Rattle.cell_orders.specs.Orders.{IsLast, ServesLast, Premises}
+use Rattle.cell_orders.proofs.Orderings.{zero_at_most}
+use Rattle.cell_orders.proofs.Runs.{Contents, OksSeen, fresh, happens_orders}
+use Rattle.cell_orders.proofs.Lists.{grows, keeps_lists, lists_later, lists_seen}
+use Rattle.cell_orders.proofs.Acknowledging.{acks_seen, told_more, acks_later, placed, run_adds, all_of_end}
+
+-- ---- ready sync sites
+
+is_served : (phase : PhaseRecord) → is_ready phase ≡ true →
+    (poll : Polled) × (spread : Spread) × (announced : Version) × (phase ≡ Ready poll spread announced)
+is_served NoPhase is = no is
+is_served (Poll poll) is = no is
+is_served (Fetch poll best host) is = no is
+is_served (Relabel poll) is = no is
+is_served (Send poll spread) is = no is
+is_served (Ready poll spread announced) is = (poll, spread, announced, refl)
+
+-- the list of the version that was announced last is the order
+of_last : (book : Book) (announcements : List Announcement) (v : Version) (list : List Transaction) → ListsOf book announcements →
+    IsLast (versions_in announcements) v → list_of book v ≡ Some list → list ≡ order_of announcements
+of_last book [] v list lists last listed = absurd last
+of_last book (a ∷ announcements) v list lists last listed =
+    one_list book v list a.transactions listed (subst (λ (u : Version). list_of book u ≡ Some a.transactions) last lists.0)
+
+-- ---- the first world
+
+size-cons : (a : Bool) (set : List Bool) → size (a ∷ set) ≡ cond a 1 0 + size set
+size-cons a set = sum_by-cons (λ (marked : Bool). cond marked 1 0) a set
+
+all_size : (n : ℕ) → size (replicate n true) ≡ n
+all_size zero = refl
+all_size (suc n) = size-cons true (replicate n true) ∙ (let rest : size (replicate n true) ≡ n = all_size n in omega arith)
+
+all_length : (n : ℕ) → length (replicate n true) ≡ n
+all_length zero = refl
+all_length (suc n) = ap suc (all_length n)
+
+all_most : (n : ℕ) → 0 < n → is_majority n (replicate n true) ≡ true
+all_most n some = by (nat_le (n / 2 + 1) (size (replicate n true))) refl
+  where
+    by : (t : Bool) → nat_le (n / 2 + 1) (size (replicate n true)) ≡ t → nat_le (n / 2 + 1) (size (replicate n true)) ≡ true
+    by true is = is
+    by false is =
+        let same : size (replicate n true) ≡ n = all_size n in
+        let less : size (replicate n true) < n / 2 + 1 = grind (arith, nat_tests) in
+        absurd (omega arith)
+
+module _ (safe : AreSafe cell_rules) (premises : Premises) (db : Database) where
+  first_orders : (hosts : List Host) (clock : ℕ) (failed : List Bool) → IsFirst hosts clock failed →
+      OrderKept (first_world hosts clock failed) [] []
+  first_orders hosts clock failed first = record {
+    ordered = record { listed = tt; rise = tt; follow = tt };
+    kept = λ p j sent. absurd sent;
+    asked = λ p j sent. absurd sent;
+    numbers = λ j number asked. absurd asked.1;
+    majority = record {
+      set = replicate (length hosts) true;
+      each = all_length (length hosts);
+      most = all_most (length hosts) first.cell.some;
+      keeps = λ j marked. zero_at_most _;
+    };
+    servers = λ k site s get up. first_each hosts clock
+        (λ k site. (s : Server) → site.node ≡ Up s →
+        ServerKeeps hosts (versions_of (first_world hosts clock failed)) [] [] k site.clock s) failed (λ k b. one k b) k site get s up;
+    flights = λ k site s get up. first_each hosts clock
+        (λ k site. (s : Server) → site.node ≡ Up s → FlightMade [] s.version s.phase s.flight) failed (λ k b. none k b) k site get s up;
+  }
+    where
+      none : (k : ℕ) (b : Bool) (s : Server) → (first_site (length hosts) clock b).node ≡ Up s → FlightMade [] s.version s.phase s.flight
+      none k true s up = absurd (cc)
+      none k false s up =
+          let same : opened_server (length hosts) no_database clock ≡ s = cc in
+          subst (λ (u : Server). FlightMade [] u.version u.phase u.flight) same (λ f is. absurd (cc))
+
+      one : (k : ℕ) (b : Bool) (s : Server) → (first_site (length hosts) clock b).node ≡ Up s →
+          ServerKeeps hosts (versions_of (first_world hosts clock failed)) [] [] k clock s
+      one k true s up = absurd (cc)
+      one k false s up =
+          let same : opened_server (length hosts) no_database clock ≡ s = cc in
+          subst (λ (u : Server). ServerKeeps hosts (versions_of (first_world hosts clock failed)) [] [] k clock u) same
+          (fresh (length hosts) clock no_database hosts (versions_of (first_world hosts clock failed)) [] [] k refl
+          (λ number asked. absurd asked.1))
+
+  -- ---- each run
+
+  record Ordered (r : Run) : Type 0 where
+    contents : Contents safe premises db r.world r.book
+    kept : OrderKept r.world r.book (versions_in r.announcements)
+    lists : ListsOf r.book r.announcements
+    acks : AllKeptAt r.book (versions_in r.announcements) r.acknowledged
+
+  one_event : (r : Run) (x : Leases) (e : Event) → CellInvariant r.world x r.book → Ordered r → Ordered (run_after db r e)
+  one_event r x e good is = record { contents = contents; kept = both.0; lists = lists; acks = acks }
+    where
+      h : Happened
+      h = happens db r.world e
+
+      contents : Contents safe premises db (happens db r.world e).world (entered r.book (happens db r.world e).entries)
+      contents =
+          happens_keeps db (Both db OnceAndRising both_grew) (BothDurable db OnceAndRising both_grew) (Carries db) (Pages db OnceAndRising both_grew)
+          (contents_pass db OnceAndRising both_grew) safe r.world x r.book good is.contents e
+
+      both : OrderKept (happens db r.world e).world (entered r.book (happens db r.world e).entries)
+          (versions_in (announced (entered r.book (happens db r.world e).entries) (happens db r.world e).seen r.announcements))
+          × OksSeen (entered r.book (happens db r.world e).entries)
+          (versions_in (announced (entered r.book (happens db r.world e).entries) (happens db r.world e).seen r.announcements))
+          (happens db r.world e).seen
+      both = happens_orders safe premises db r.world x r.book good is.contents r.announcements is.kept e
+
+      lists : ListsOf (entered r.book (happens db r.world e).entries)
+          (announced (entered r.book (happens db r.world e).entries) (happens db r.world e).seen r.announcements)
+      lists =
+          lists_seen (entered r.book (happens db r.world e).entries) (happens db r.world e).seen r.announcements
+          (lists_later r.book (entered r.book (happens db r.world e).entries) r.announcements
+          (keeps_lists r.book (happens db r.world e).entries contents.pages.0.0) is.lists) both.0.ordered.listed
+
+      acks : AllKeptAt (entered r.book (happens db r.world e).entries)
+          (versions_in (announced (entered r.book (happens db r.world e).entries) (happens db r.world e).seen r.announcements))
+          (acknowledged (entered r.book (happens db r.world e).entries) (happens db r.world e).seen r.acknowledged)
+      acks =
+          acks_seen (entered r.book (happens db r.world e).entries)
+          (versions_in (announced (entered r.book (happens db r.world e).entries) (happens db r.world e).seen r.announcements))
+          contents.pages.0.0 contents.pages.1 (happens db r.world e).seen r.acknowledged both.1
+          (acks_later r.book (entered r.book (happens db r.world e).entries) (versions_in r.announcements)
+          (versions_in (announced (entered r.book (happens db r.world e).entries) (happens db r.world e).seen r.announcements)) r.acknowledged
+          (keeps_lists r.book (happens db r.world e).entries contents.pages.0.0)
+          (told_more (entered r.book (happens db r.world e).entries) (happens db r.world e).seen r.announcements) is.acks)
+
+  along : (r : Run) (x : Leases) (events : List Event) → CellInvariant r.world x r.book → Ordered r → IsRun db r.world events →
+      Ordered (run_through db r events)
+  along r x [] good is run = is
+  along r x (e ∷ events) good is run =
+      by (happens_good safe db r.world x r.book good e run.0)
+      (λ y next. along (run_after db r e) y events next (one_event r x e good is) run.1)
+    where
+      by : Result (happens db r.world e).world x (run_after db r e).book →
+          ((y : Leases) → CellInvariant (happens db r.world e).world y (run_after db r e).book → Ordered (run_through db r (e ∷ events))) →
+          Ordered (run_through db r (e ∷ events))
+      by (inl next) rest = rest x next
+      by (inr next) rest = rest (runs.after cell_rules x next.0) next.2
+
+  ordered : (hosts : List Host) (clock : ℕ) (failed : List Bool) (events : List Event) → IsFirst hosts clock failed →
+      IsRun db (first_world hosts clock failed) events → Ordered (run_of db hosts clock failed events)
+  ordered hosts clock failed events first run =
+      along (first_run (first_world hosts clock failed)) (runs.first cell_rules clock failed) events (first_good hosts clock failed first)
+      (record {
+        contents =
+            first_keeps db (Both db OnceAndRising both_grew) (BothDurable db OnceAndRising both_grew) (Carries db) (Pages db OnceAndRising both_grew)
+            (contents_pass db OnceAndRising both_grew) hosts clock failed ((tt, tt), tt)
+            (λ k. (tt, record { list = []; listed = refl; image_is = λ good. refl }));
+        kept = first_orders hosts clock failed first;
+        lists = tt;
+        acks = tt;
+      }) run
+
+module _ (safe : AreSafe cell_rules) (rests : (n : ℕ) (starts : List (Option ℕ)) → RestsOnGreatest n starts) where
+  premises : Premises
+  premises = record { overlap = safe.overlap; rests = rests }
+
+  pub announcements_grow : AnnouncementsGrow
+  announcements_grow db hosts clock failed events first run =
+      let is = ordered safe premises db hosts clock failed events first run in
+      grows (run_of db hosts clock failed events).book (run_of db hosts clock failed events).announcements is.contents.pages.0.0
+      is.contents.pages.0.1 is.contents.pages.1 is.lists is.kept.ordered.follow is.kept.ordered.rise
+
+  pub acknowledged_stay : AcknowledgedStay
+  acknowledged_stay db hosts clock failed events more first run then =
+      let r = run_of db hosts clock failed events in
+      let good = run_good safe db hosts clock failed events first run in
+      let is =
+      along safe premises db r (runs.after_all cell_rules (runs.first cell_rules clock failed) good.0) more good.2
+      (ordered safe premises db hosts clock failed events first run)
+      (subst (λ (w : World). IsRun db w more) (sym (same_world db (first_run (first_world hosts clock failed)) events)) then) in
+      let added = run_adds db r more in
+      all_of_end (IsPlaced (order_of (run_through db r more).announcements)) (run_through db r more).acknowledged added.0 r.acknowledged
+      added.1
+      (placed (run_through db r more).book (run_through db r more).announcements (run_through db r more).acknowledged
+      is.contents.pages.0.0 is.contents.pages.0.1 is.contents.pages.1 is.lists is.kept.ordered.follow is.kept.ordered.rise is.acks)
+
+  pub sites_serve_the_order : SitesServeTheOrder
+  sites_serve_the_order db hosts clock failed events first run k site s get up ready = record { last = last; database = database }
+    where
+      r : Run
+      r = run_of db hosts clock failed events
+
+      is : Ordered safe premises db (run_of db hosts clock failed events)
+      is = ordered safe premises db hosts clock failed events first run
+
+      tests : (leased (member (run_of db hosts clock failed events).world k) s site.clock ≡ true) × (is_ready s.phase ≡ true)
+      tests = and_both (leased (member (run_of db hosts clock failed events).world k) s site.clock) (is_ready s.phase) ready
+
+      keeps : ServerKeeps (run_of db hosts clock failed events).world.hosts (versions_of (run_of db hosts clock failed events).world)
+          (run_of db hosts clock failed events).world.packets (versions_in (run_of db hosts clock failed events).announcements) k site.clock s
+      keeps = (ordered safe premises db hosts clock failed events first run).kept.servers k site s get up
+
+      last : (poll : Polled) (spread : Spread) (announced : Version) → s.phase ≡ Ready poll spread announced →
+          IsLast (versions_in (run_of db hosts clock failed events).announcements) announced
+      last poll spread announced at =
+          subst (ServesLast (versions_in (run_of db hosts clock failed events).announcements)) at (keeps.leading tests.0).serves
+
+      image : IsImageOf db (run_of db hosts clock failed events).book s.version s.image
+      image =
+          (subst
+          (NodeKeeps (λ lease. Both db OnceAndRising both_grew k lease (run_of db hosts clock failed events).book)
+          (length (run_of db hosts clock failed events).world.hosts) site.clock site.durable) up
+          ((ordered safe premises db hosts clock failed events first run).contents.sites k site get).node).1.1.image
+
+      database : KeepsImages db → s.flight ≡ None →
+          site_database s ≡ image_after db (order_of (run_of db hosts clock failed events).announcements)
+      database good none =
+          let phase = is_served s.phase tests.1 in
+          let level : s.version ≡ phase.2 = level_at s.version s.phase s.flight phase.0 phase.1 phase.2 phase.3 none keeps.level in
+          let order : image.list ≡ order_of (run_of db hosts clock failed events).announcements =
+          of_last (run_of db hosts clock failed events).book (run_of db hosts clock failed events).announcements phase.2 image.list
+          (ordered safe premises db hosts clock failed events first run).lists (last phase.0 phase.1 phase.2 phase.3)
+          (subst (λ (v : Version). list_of (run_of db hosts clock failed events).book v ≡ Some image.list) level image.listed) in
+          subst (λ (o : Option Flight). image_before s.image o ≡ image_after db (order_of (run_of db hosts clock failed events).announcements))
+          (sym none) (image.image_is good ∙ ap (image_after db) order)
+
+  pub majorities_keep : MajoritiesKeep
+  majorities_keep db hosts clock failed events first run =
+      (ordered safe premises db hosts clock failed events first run).kept.majority

@@ -1,0 +1,56 @@
+-- Announced transactions have one order, and acknowledged ones stay in it, in cells of every size (own).
+use Rattle.std.specs.Prelude.{◌≡◌, ℕ, Bool, true, Some, None, List, All, Contains, length}
+use Rattle.db_image.specs.Database.{Database}
+use Rattle.ubik_types.specs.declared.hosts.Host.{Host}
+use Rattle.ubik_types.specs.declared.versions.Version.{Version}
+use Rattle.ubik_types.specs.Phase.{Polled, Spread, Ready}
+use Rattle.cell_model.specs.Book.{Run, order_of, run_through, is_ready_site, site_database}
+use Rattle.cell_model.specs.KeptLaws.{IsPlaced}
+use Rattle.cell_model.specs.Laws.{Grows}
+use Rattle.cell_model.specs.Node.{Up, Server}
+use Rattle.cell_model.specs.SingleCopy.{image_after}
+use Rattle.cell_model.specs.World.{Site, Event, IsFirst, IsRun, first_world, world_after, member, site_of}
+use Rattle.cell_pages.specs.Images.{KeepsImages}
+use Rattle.cell_pages.specs.Laws.{run_of}
+use Rattle.cell_orders.specs.Kept.{versions_of, versions_in}
+use Rattle.cell_orders.specs.Orders.{HasMajority, IsLast}
+
+-- In each cell, after each run, the list of each announcement is a front of the list of each later one.
+abbrev pub AnnouncementsGrow : Type 0
+AnnouncementsGrow =
+    (db : Database) (hosts : List Host) (clock : ℕ) (failed : List Bool) (events : List Event) →
+    IsFirst hosts clock failed → IsRun db (first_world hosts clock failed) events → Grows (run_of db hosts clock failed events).announcements
+
+-- In each cell, whatever happens later, each transaction that was acknowledged still is, and is in the order at its place.
+abbrev pub AcknowledgedStay : Type 0
+AcknowledgedStay =
+    (db : Database) (hosts : List Host) (clock : ℕ) (failed : List Bool) (events more : List Event) →
+    IsFirst hosts clock failed → IsRun db (first_world hosts clock failed) events →
+    IsRun db (world_after db (first_world hosts clock failed) events) more →
+    let r = run_of db hosts clock failed events in
+    let later = run_through db r more in
+    All (λ a. Contains later.acknowledged a × IsPlaced (order_of later.announcements) a) r.acknowledged
+
+-- In each cell, after each run, each server of some majority, in whatever state, has a durable version of at least the last announced one.
+abbrev pub MajoritiesKeep : Type 0
+MajoritiesKeep =
+    (db : Database) (hosts : List Host) (clock : ℕ) (failed : List Bool) (events : List Event) →
+    IsFirst hosts clock failed → IsRun db (first_world hosts clock failed) events →
+    let r = run_of db hosts clock failed events in
+    HasMajority (length r.world.hosts) (versions_of r.world) (versions_in r.announcements)
+
+-- A ready sync site: its announced version is the last one, and without a write in flight its database, where the database keeps its
+-- images, is the image of the single copy after the order.
+pub record ServesOrder (db : Database) (r : Run) (s : Server) : Type 0 where
+  pub last : (poll : Polled) (spread : Spread) (announced : Version) → s.phase ≡ Ready poll spread announced →
+      IsLast (versions_in r.announcements) announced
+  pub database : KeepsImages db → s.flight ≡ None → site_database s ≡ image_after db (order_of r.announcements)
+
+-- In each cell, after each run, so of each ready sync site.
+abbrev pub SitesServeTheOrder : Type 0
+SitesServeTheOrder =
+    (db : Database) (hosts : List Host) (clock : ℕ) (failed : List Bool) (events : List Event) →
+    IsFirst hosts clock failed → IsRun db (first_world hosts clock failed) events →
+    let r = run_of db hosts clock failed events in
+    (k : ℕ) (site : Site) (s : Server) → site_of r.world k ≡ Some site → site.node ≡ Up s →
+    is_ready_site (member r.world k) site.clock (Up s) ≡ true → ServesOrder db r s

@@ -1,0 +1,8 @@
+//! One order of announced transactions, for cells of every size.
+#![tactic(auto)]
+
+mod laws;
+
+pub use laws::{
+    law_acknowledged_stay, law_announcements_grow, law_majorities_keep, law_sites_serve_the_order,
+};
