@@ -1,6 +1,6 @@
 -- Sites that stand for those of a model, one after the other.
 use Rattle.std.proofs.Common.{if◌then◌else◌, ◌≡◌, ◌<◌, ◌+◌, ℕ, zero, suc, Bool, true, false, List, [], ◌∷◌, ◌++◌, Option, Some, length, map, set, get_or, refl, sym, ap, subst, ◌∙◌, arith}
-use Rattle.std.specs.Prelude.{slice_get}
+use Rattle.std.specs.Prelude.{insert, remove, slice_get}
 use Rattle.disk_base.specs.Files.{Files}
 use Rattle.ubik_types.specs.declared.hosts.Host.{Host}
 use Rattle.std.proofs.lemmas.Option.{slice_get_read}
@@ -155,3 +155,9 @@ get_set_before (x ∷ xs) zero zero y less = absurd (omega (arith, less))
 get_set_before (x ∷ xs) zero (suc k) y less = refl
 get_set_before (x ∷ xs) (suc i) zero y less = absurd (omega (arith, less))
 get_set_before (x ∷ xs) (suc i) (suc k) y less = get_set_before xs i k y (omega (arith, less))
+
+-- an element that was taken out and put back changed
+pub put_back : {X : Type 0} (xs : List X) (k : ℕ) (y : X) → k < length xs → insert (remove xs k) k y ≡ set xs k y
+put_back [] k y less = absurd (omega (arith, less))
+put_back (x ∷ xs) zero y less = refl
+put_back {X} (x ∷ xs) (suc k) y less = ap (λ (l : List X). x ∷ l) (put_back xs k y (omega (arith, less)))

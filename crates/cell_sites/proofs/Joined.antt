@@ -116,6 +116,19 @@ are_marks k ended.NoMemory = tt
 abbrev pub Tells_halt : ℕ → SiteEnd → Bool → Type 0
 Tells_halt k end halts = halt_marks k halts ≡ end_marks k end
 
+pub tells_made : (k : ℕ) (end : SiteEnd) → end ≡ ended.Made → Tells_halt k end false
+tells_made k end is = sym (ap (end_marks k) is)
+
+pub tells_halts : (k : ℕ) (end : SiteEnd) → end ≡ ended.Halts → Tells_halt k end true
+tells_halts k end is = sym (ap (end_marks k) is)
+
+-- a step that ended otherwise found memory
+pub found_made : (end : SiteEnd) → end ≡ ended.Made → end ≢ ended.NoMemory
+found_made end is short = let never : ended.Made ≡ ended.NoMemory = sym is ∙ short in cc
+
+pub found_halts : (end : SiteEnd) → end ≡ ended.Halts → end ≢ ended.NoMemory
+found_halts end is short = let never : ended.Halts ≡ ended.NoMemory = sym is ∙ short in cc
+
 module _ {D V : Type 0} (g : Ghosts D) (script_db : ScriptDatabase) (before mid after : OpenCell D V) (law : VotersVote) (k : ℕ) (e : NodeEvent) (end : SiteEnd) (call : List ℕ) (bound : ℕ) (sound : IsSound g bound before) (taken : IsTaken (member_at before k) e) (asks : AsksNoOther e call) (ss : SiteStepped g script_db.database k e end before mid) (hosts : after.hosts.items ≡ mid.hosts.items) (sites : after.sites.items ≡ mid.sites.items) where
   at : IsHere g bound before k ss.clock ss.node
   at = here g bound before k ss.clock ss.node sound ss.there
@@ -184,6 +197,10 @@ module _ {D V : Type 0} (g : Ghosts D) (script_db : ScriptDatabase) (before mid 
         where
           of_left_none : ss.out ≡ [] → All (IsVotePacket before.hosts.items) (filter_map packet_in ss.out)
           of_left_none none = subst (λ (o : List Output). All (IsVotePacket before.hosts.items) (filter_map packet_in o)) (sym none) (All-nil _)
+
+  -- where its disk stopped it puts nothing out
+  pub stops_quiet : end ≡ ended.Stops → mid.outputs ≡ []
+  stops_quiet is = (subst (λ (x : SiteEnd). Becomes g x ss.later ss.out ss.server mid.outputs) is ss.becomes).1
 
   pub sound_still : (packets : after.packets ≡ sent_all mid.packets (filter_map packet_in mid.outputs)) → after.outputs ≡ [] → (other : ℕ) → IsSound g other before → IsSound g other after
   sound_still packets empty other still =

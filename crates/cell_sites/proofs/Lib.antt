@@ -25,6 +25,7 @@ pub mod Running
 pub mod Serving
 pub mod Shortage
 pub mod Showing
+pub mod Sited
 pub mod Soundly
 pub mod Standing
 pub mod Sweeping

@@ -20,7 +20,7 @@ returns-in_err-k-clause-refused g c = λ why is.
       refl,
       λ given cell stands choices.
           let does : ℕ → Cell_run = λ k. stepped db cell (first_choice choices) (Recover_turn k) in
-          c.in_err-k.ensures.up cell does (size_of g.D.Disk c.requires.sound.0 c.args.self.now cell c.requires.sound.1 stands) stands ∙ ap Err same,
+          c.in_err-k.ensures.up cell does (size_of g.D.Disk c.requires.sound.0 c.args.self.now cell c.requires.sound.1 stands) stands.sites ∙ ap Err same,
     )
 
 pub returns-in_err-k-clause-never_falls : goal.returns-in_err-k-clause-never_falls
@@ -34,7 +34,7 @@ returns-clause-told g c = λ ok given cell stands.
     let db = script_database g.V.Service.database g.V.WordForms.words in
     let does : List Choice → ℕ → Cell_run = λ choices k. stepped db cell (first_choice choices) (Recover_turn k) in
     told_as g.D.Disk (λ choices. run_in db cell choices (line.Recover c.args.server)) (λ choices. Ok (does choices c.in_ok-k.k))
-    (λ choices. c.in_ok-k.ensures.up cell (does choices) (size_of g.D.Disk c.requires.sound.0 c.args.self.now cell c.requires.sound.1 stands) stands)
+    (λ choices. c.in_ok-k.ensures.up cell (does choices) (size_of g.D.Disk c.requires.sound.0 c.args.self.now cell c.requires.sound.1 stands) stands.sites)
     db _ _ _ _ _ (c.step.ensures.told ok given cell (Recover_turn c.in_ok-k.k) stands refl)
 
 pub returns-clause-limit : goal.returns-clause-limit
@@ -42,7 +42,7 @@ returns-clause-limit g c = λ which is given cell stands.
     let db = script_database g.V.Service.database g.V.WordForms.words in
     let does : List Choice → ℕ → Cell_run = λ choices k. stepped db cell (first_choice choices) (Recover_turn k) in
     told_as g.D.Disk (λ choices. run_in db cell choices (line.Recover c.args.server)) (λ choices. Ok (does choices c.in_ok-k.k))
-    (λ choices. c.in_ok-k.ensures.up cell (does choices) (size_of g.D.Disk c.requires.sound.0 c.args.self.now cell c.requires.sound.1 stands) stands)
+    (λ choices. c.in_ok-k.ensures.up cell (does choices) (size_of g.D.Disk c.requires.sound.0 c.args.self.now cell c.requires.sound.1 stands) stands.sites)
     db _ _ _ _ _ (c.step.ensures.limit which is given cell (Recover_turn c.in_ok-k.k) stands refl)
 
 pub returns-clause-short : goal.returns-clause-short
@@ -50,5 +50,5 @@ returns-clause-short g c = λ is given cell stands.
     let db = script_database g.V.Service.database g.V.WordForms.words in
     let does : List Choice → ℕ → Cell_run = λ choices k. stepped db cell (first_choice choices) (Recover_turn k) in
     short_as g.D.Disk (λ choices. run_in db cell choices (line.Recover c.args.server)) (λ choices. Ok (does choices c.in_ok-k.k))
-    (λ choices. c.in_ok-k.ensures.up cell (does choices) (size_of g.D.Disk c.requires.sound.0 c.args.self.now cell c.requires.sound.1 stands) stands)
+    (λ choices. c.in_ok-k.ensures.up cell (does choices) (size_of g.D.Disk c.requires.sound.0 c.args.self.now cell c.requires.sound.1 stands) stands.sites)
     cell _ _ (c.step.ensures.short is given cell (Recover_turn c.in_ok-k.k) stands refl)
