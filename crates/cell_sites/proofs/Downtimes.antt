@@ -1,6 +1,6 @@
 -- Servers that stop, go down, and come back.
 use Rattle.std.proofs.Common.{if◌then◌else◌, ◌≡◌, ◌≢◌, ◌⊎◌, inl, inr, ◌<◌, ◌≤◌, ◌+◌, ◌-◌, ◌==◌, ℕ, zero, suc, Bool, true, false, Option, Some, None, IfSome, IsSome, IsSomeAnd, Result, Ok, Err, List, [], ◌∷◌, ◌++◌, length, map, set, refl, sym, ap, subst, ◌∙◌, arith}
-use Rattle.std.specs.Prelude.{All, slice_get}
+use Rattle.std.specs.Prelude.{All, OnOk, slice_get}
 use Rattle.std.proofs.lemmas.Bool.{eq-eqb, ne_eqb}
 use Rattle.std.proofs.lemmas.List.{append-nil, length-set}
 use Rattle.std.proofs.lemmas.List.Elements.{All-nil}
@@ -56,6 +56,11 @@ use Rattle.cell_sites.proofs.Plainly.{and_some, make_if, make_some, of_some, som
 use Rattle.cell_sites.proofs.Reading.{read_at}
 use Rattle.cell_sites.proofs.Running.{held_at, moved_set, reads_both, reads_set, rises_set, short_after, whole}
 use Rattle.cell_sites.proofs.Soundly.{none_sent, sound_after}
+
+-- what a call says that did not find memory wanting
+pub ok_says : {P : Type 0} (r : Result (Unit {0}) NoMemory) → r ≡ Ok tt → OnOk r P → P
+ok_says (Ok x) ok says = says
+ok_says (Err e) ok says = absurd cc
 
 zero_add : (n : ℕ) → n ≡ 0 + n
 zero_add n = omega arith

@@ -22,6 +22,7 @@ use Rattle.cell_runs.specs.Script.{Armed, Cell, fails_at, hosts_of, opened_cell}
 use Rattle.cell_runs.specs.ScriptDatabase.{ScriptDatabase}
 use Rattle.cell_runs.specs.Trace.{TraceItem, Tells, item_text, marks_text, trace}
 use Rattle.ubik_node.specs.Disk.{StandsAs}
+use Rattle.ubik_node.specs.Node.{up_server}
 use Rattle.cell_sites.specs.Counts.{AreCountsFrom, OpensFirst, RisesAs}
 use Rattle.cell_sites.specs.Disks.{AreReadBy, AreRises, Held, IsReadBy, all_held, held}
 use Rattle.cell_sites.specs.Opened.{AreFirstCounts, ArePartOpened, AreUnarmed, HasRoom, IsAdded, IsOpened, counts_of, opening_items}
@@ -72,13 +73,13 @@ first_calls g failed disk after empty o =
     let is : o.files ≡ no_files = cc in
     (o.calls, subst (λ (fs : Files). OpensIn fs o.calls) is o.opens, o.rises)
 
+never_down : (halted : Bool) (h : model.HaltedServer) (u : model.Server) → (if halted then model.Halted h else model.Up u) ≡ model.Down → ⊥
+never_down true h u same = let never : model.Halted h ≡ model.Down = same in cc
+never_down false h u same = let never : model.Up u ≡ model.Down = same in cc
+
 down_is : {D V : Type 0} (g : Ghosts D) (hosts : List Host) (me clock : ℕ) (s : Server D V) → server_node s ≡ model.Down → IsSoundServer g (record { hosts = hosts; me = me }) clock s
 down_is g hosts me clock (server.Down disk) is = tt
-down_is g hosts me clock (server.Up n) is = absurd (never n.halted is)
-  where
-    never : {h : model.HaltedServer} {u : model.Server} (halted : Bool) → (if halted then model.Halted h else model.Up u) ≡ model.Down → ⊥
-    never true same = cc
-    never false same = cc
+down_is g hosts me clock (server.Up n) is = absurd (never_down n.halted (model.halted_from (up_server n)) (up_server n) is)
 
 module _ {D V : Type 0} (g : Ghosts D) (db : ScriptDatabase) (hosts : List Host) (me clock : ℕ) (disk : D) (s : Server D V) (text_before text_after : List ℕ)
     (empty : g.files disk ≡ Some no_files) (unarmed : g.stop disk ≡ Unarmed) where

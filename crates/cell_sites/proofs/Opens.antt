@@ -15,6 +15,10 @@ use Rattle.ubik_store.specs.declared.faults.StoreFault.{StoreFault}
 use Rattle.ubik_store.specs.declared.faults.StoreFault.TheVariants.{DiskFault, BadLabel, TooLarge, NotNewer, NoMemory}
 use Rattle.ubik_store.specs.Files.{StandsFor}
 use Rattle.ubik_store.specs.Files.StandsFor.{by_log, by_label}
+use Rattle.ubik_store.specs.Rest.{IsAtRest}
+use Rattle.ubik_store.specs.Store.{image_in}
+use Rattle.page_file.specs.Pages.{image_of}
+use Rattle.ubik_log.proofs.Gates.{short_log_is_discarded}
 use Rattle.ubik_store.specs.Gaps.{IsGapless, IsPlain}
 use Rattle.ubik_store.specs.Opening.{IsOpening, OpensIn, RefusesFiles}
 use Rattle.ubik_store.specs.Opening.OpensIn.{redoes, closes, cuts}
@@ -34,7 +38,17 @@ use Rattle.cell_sites.specs.declared.openings.OpenEnd.TheVariants as opened
 use Rattle.cell_sites.specs.declared.sites.Server.{Server}
 use Rattle.cell_sites.specs.declared.sites.Server.TheVariants as server
 use Rattle.cell_sites.specs.Sound.{IsSoundDisk, StandsForSome}
-use Rattle.cell_sites.proofs.Standing.{rested_all, stands_once}
+use Rattle.cell_sites.proofs.Standing.{stands_once}
+
+-- files at rest stand for their version and their image
+rested : (fs : Files) (v : Version) (image : List ℕ) → IsAtRest v (image_of fs.database) fs → image_of fs.database ≡ image → StandsAs (durable v image) fs
+rested fs v image rests same =
+    subst (λ (xs : List ℕ). StandsFor fs v xs) same (by_label fs v (short_log_is_discarded fs.log (omega (arith, ap length rests.log))) rests.label)
+
+rested_all : (files : Option Files) (v w : Version) (image : List ℕ) → v ≡ w → IsSome files → IfSome files (λ fs. IsAtRest v (image_of fs.database) fs) → IfSome (image_in files) (λ xs. xs ≡ image)
+    → IsSomeAnd files (StandsAs (durable w image))
+rested_all None v w image same some rests is = absurd (false≢true some)
+rested_all (Some fs) v w image same some rests is = rested fs w image (subst (λ (x : Version). IsAtRest x (image_of fs.database) fs) same rests) is
 
 -- files that stand for something are opened in some number of calls
 opens_by_label : (fs : Files) → IsDiscarded fs.log → (begun : Bool) → bytes_eq (take 4 fs.log) new_record ≡ begun → (calls : ℕ) × OpensIn fs calls
@@ -88,7 +102,7 @@ one_durable fs d e x y =
 
 module _ {D : Type 0} (g : Ghosts D) (disk new : D) (F : Type 0) (d : Durable) (sound : IsSoundDisk g disk) (stands : IsSomeAnd (g.files disk) (StandsAs d)) (opening : IsOpening g disk new F) where
   -- the files before it
-  pub before : Told (g.files disk)
+  abbrev pub before : Told (g.files disk)
   before = told_files (g.files disk) sound.told
 
   pub stood : StandsAs d before.fs
@@ -155,10 +169,10 @@ module _ {D V : Type 0} (g : Ghosts D) (hosts cell : List Host) (me clock : ℕ)
     (same : cell ≡ hosts) (up : node_of n ≡ model.Up (model.opened_server (length cell) e clock)) (read : IfSome (g.files disk) (StandsAs e))
     (mine : own_member n ≡ record { hosts = cell; me = me }) (stored : IsStored g n) (kept : IsSome (g.files disk) → IsSome (g.files n.store.disk))
     (steps : IfSome (g.files disk) (λ fs. (calls : ℕ) → OpensIn fs calls → g.steps n.store.disk ≡ g.steps disk + calls)) (last : n.last ≡ clock) where
-  m : Member
+  abbrev pub m : Member
   m = record { hosts = hosts; me = me }
 
-  there : Told (g.files disk)
+  abbrev there : Told (g.files disk)
   there = before g disk n.store.disk ⊥ d sound stands opening
 
   is_d : e ≡ d
@@ -222,22 +236,22 @@ refused_so fs d (TooLarge bytes) stands refuses other = absurd refuses
 refused_so fs d (NotNewer own given) stands refuses other = absurd refuses
 refused_so fs d NoMemory stands refuses other = absurd (other refl)
 
-module _ {D V : Type 0} (g : Ghosts D) (m : Member) (clock : ℕ) (disk refused revived : D) (d : Durable) (why : StoreFault)
+module _ {D : Type 0} (g : Ghosts D) (m : Member) (clock : ℕ) (disk refused revived : D) (d : Durable) (why : StoreFault)
     (sound : IsSoundDisk g disk) (stands : IsSomeAnd (g.files disk) (StandsAs d)) (opening : IsOpening g disk refused (why ≡ DiskFault))
     (refuses : IfSome (g.files disk) (λ fs. RefusesFiles fs why)) (unarmed : g.stop revived ≡ Unarmed)
     (left : IfSome (g.files revived) (λ fs. g.may_leave refused fs × Only fs (g.may_leave revived)))
     (told_then : g.tells refused ≡ true → IsSome (g.files revived)) (steps : g.steps revived ≡ g.steps refused) (faults : g.faults revived ≡ g.faults refused) where
-  there_then : Told (g.files disk)
+  abbrev there_then : Told (g.files disk)
   there_then = before g disk refused (why ≡ DiskFault) d sound stands opening
 
-  now_told : Told (g.files revived)
+  abbrev now_told : Told (g.files revived)
   now_told = told_files (g.files revived) (told_then (opening.calls.tells ∙ g.tells_now disk sound.told))
 
   now_left : g.may_leave refused now_told.fs × Only now_told.fs (g.may_leave revived)
   now_left = of_told (g.files revived) now_told.fs (λ fs. g.may_leave refused fs × Only fs (g.may_leave revived)) now_told.is left
 
-  pub opened_down : (end : OpenEnd) → (is_cut : is_cut_short end ≡ true)
-      → ServerIs {V = V} g m clock d end disk (server.Down revived) → ServerOpens g m clock d end disk (server.Down {V = V} revived)
+  pub opened_down : {V : Type 0} → (end : OpenEnd) → (is_cut : is_cut_short end ≡ true)
+      → ServerIs {V = V} g m clock d end disk (server.Down revived) → ServerOpens {V = V} g m clock d end disk (server.Down revived)
   opened_down end is_cut is = record {
     stands = told_at (g.files revived) now_told.fs (StandsAs d) now_told.is
         (leaves_same g disk refused (why ≡ DiskFault) d sound stands opening now_told.fs now_left.0);
@@ -256,20 +270,20 @@ module _ {D V : Type 0} (g : Ghosts D) (m : Member) (clock : ℕ) (disk refused 
   }
 
   -- the disk failed
-  pub down_by_fault : why ≢ NoMemory → ServerOpens g m clock d opened.StaysDown disk (server.Down {V = V} revived)
+  pub down_by_fault : {V : Type 0} → why ≢ NoMemory → ServerOpens {V = V} g m clock d opened.StaysDown disk (server.Down revived)
   down_by_fault other =
       let fault = refused_so there_then.fs d why (stood g disk refused (why ≡ DiskFault) d sound stands opening)
       (of_told (g.files disk) there_then.fs (λ fs. RefusesFiles fs why) there_then.is refuses) other in
       let rose = opening.calls.cause.rose fault in
       opened_down opened.StaysDown refl (refl, omega (arith, rose, faults))
 
-  pub down_by_memory : ServerOpens g m clock d opened.NoMemory disk (server.Down {V = V} revived)
+  pub down_by_memory : {V : Type 0} → ServerOpens {V = V} g m clock d opened.NoMemory disk (server.Down revived)
   down_by_memory = opened_down opened.NoMemory refl refl
 
 -- no opening was begun
 pub not_opened : {D V : Type 0} (g : Ghosts D) (m : Member) (clock : ℕ) (disk : D) (d : Durable) → IsSoundDisk g disk → IsSomeAnd (g.files disk) (StandsAs d)
-    → ServerOpens g m clock d opened.NoMemory disk (server.Down {V = V} disk)
-not_opened g m clock disk d sound stands =
+    → ServerOpens {V = V} g m clock d opened.NoMemory disk (server.Down disk)
+not_opened g mine clock disk d sound stands =
     let there = told_files (g.files disk) sound.told in
     let o = opens_in (at_told (g.files disk) there.fs (StandsAs d) there.is stands) in
     record {

@@ -24,7 +24,7 @@ get_set [] k y z there = cc
 get_set (x ∷ xs) zero y z there = refl
 get_set (x ∷ xs) (suc k) y z there = get_set xs k y z there
 
-some_same : {X : Type 0} (a b : X) → Some a ≡ Some b → a ≡ b
+pub some_same : {X : Type 0} (a b : X) → Some a ≡ Some b → a ≡ b
 some_same a b is = cc
 
 module _ {D V : Type 0} (g : Ghosts D) (db : Database) (k : ℕ) (e : NodeEvent) (end : SiteEnd) (before mid : OpenCell D V) (up : UpStepped g db k e end before mid) where

@@ -15,7 +15,7 @@ use Rattle.cell_runs.specs.Script.{hosts_of}
 use Rattle.ubik_node.specs.declared.nodes.Node.{Node}
 use Rattle.cell_sites.specs.declared.cells.OpenCell.{OpenCell}
 use Rattle.cell_sites.specs.declared.sites.Server.{Server}
-use Rattle.cell_sites.specs.declared.sites.Server.TheVariants.{Up}
+use Rattle.cell_sites.specs.declared.sites.Server.TheVariants.{Down, Up}
 use Rattle.cell_sites.specs.declared.sites.Site.{Site}
 use Rattle.cell_sites.specs.Places.{IsUpAt}
 use Rattle.cell_sites.specs.Sites.{site_disk}
@@ -101,3 +101,13 @@ found_up {D} {V} running k site node up value is =
     let lt = slice_get_within running.sites.items k (up_site up.clock up.node) up.there in
     slice_get_read running.sites.items (length running.sites.items) k site refl lt value
     ∙ ap (λ (s : Server D V). Some (record { clock = site.clock; server = s })) is
+
+-- it is not down
+pub not_down : {D V : Type 0} (running : OpenCell D V) (k : ℕ) (site : Site D V) (disk : D) → IsUpAt running k → site ≡ get_or running.sites.items k site → site.server ≡ Down disk → ⊥
+not_down {D} {V} running k site disk up value is =
+    let lt = slice_get_within running.sites.items k (up_site up.clock up.node) up.there in
+    let there = slice_get_read running.sites.items (length running.sites.items) k site refl lt value in
+    let same : Some site ≡ Some (up_site up.clock up.node) = sym there ∙ up.there in
+    let one : site ≡ up_site up.clock up.node = cc in
+    let server : Up up.node ≡ Down disk = sym (ap (λ (s : Site D V). s.server) one) ∙ is in
+    cc

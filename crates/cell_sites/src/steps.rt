@@ -186,7 +186,7 @@ impl<D: StopDisk, V: WordForms> OpenCell<D, V> {
         ensures { SiteStepped D.Disk V.database k event result self.old self.new }
     {
         let end = self.step_up(k, event);
-        if end == SiteEnd::Stops {
+        if let SiteEnd::Stops = end {
             drop_outputs(&mut self.outputs);
             self.take_down(k);
         }
