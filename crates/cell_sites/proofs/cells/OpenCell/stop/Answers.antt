@@ -27,7 +27,9 @@ pub returns-in_err-k-clause-never_falls : goal.returns-in_err-k-clause-never_fal
 returns-in_err-k-clause-never_falls g c = rises_same _ _ refl
 
 pub index_mut-requires : goal.index_mut-requires
-index_mut-requires g c = slice_get_within c.args.self.now.sites.items c.in_ok-k.k _ c.in_ok-k.ensures.place.1.there
+index_mut-requires g c =
+    let within = slice_get_within c.args.self.now.sites.items c.in_ok-k.k _ c.in_ok-k.ensures.place.1.there in
+    omega (arith, within, c.args.self.now.sites.ok.0)
 
 pub unreachable-requires : goal.unreachable-requires
 unreachable-requires g c = not_down c.args.self.now c.in_ok-k.k c.index_mut.result.now c.in_default.field-0 c.in_ok-k.ensures.place.1 c.index_mut.ensures.value c.in_default.is
@@ -36,7 +38,7 @@ pub arm-requires : goal.arm-requires
 arm-requires g c =
     let site = c.index_mut.result.now in
     let there = found_up c.args.self.now c.in_ok-k.k site c.in-Up.node c.in_ok-k.ensures.place.1 c.index_mut.ensures.value c.in-Up.is in
-    (here g.D.Disk c.requires.0 c.args.self.now c.in_ok-k.k site.clock c.in-Up.node c.requires.1 there).sound.stored
+    record { stored = (here g.D.Disk c.requires.0 c.args.self.now c.in_ok-k.k site.clock c.in-Up.node c.requires.1 there).sound.stored }
 
 pub returns-clause-told : goal.returns-clause-told
 returns-clause-told g c = λ ok given cell text stands.
@@ -44,7 +46,7 @@ returns-clause-told g c = λ ok given cell text stands.
     let site = c.index_mut.result.now in
     let there = found_up c.args.self.now c.in_ok-k.k site c.in-Up.node c.in_ok-k.ensures.place.1 c.index_mut.ensures.value c.in-Up.is in
     let does : ℕ → Cell_run = λ k. resting (record cell { armed = set cell.armed k (Some (record { calls = c.args.calls; made = 0 })) }) in
-    arm_told g.D.Disk c.args.self.now _ c.in_ok-k.k site.clock c.args.calls c.args.fill c.in-Up.node c.arm.new.node there refl refl refl c.arm.ensures.disk c.arm.ensures.same db given cell
+    arm_told g.D.Disk c.args.self.now _ c.in_ok-k.k site.clock c.args.calls c.args.fill c.in-Up.node c.arm.new.self there refl refl refl c.arm.ensures.disk c.arm.ensures.same db given cell
     (λ choices. run_in db cell choices (line.Stop c.args.server c.args.calls c.args.fill)) text stands
     (λ choices. c.in_ok-k.ensures.up cell does (size_of g.D.Disk c.requires.0 c.args.self.now cell c.requires.1 stands) stands.sites)
 
@@ -54,9 +56,9 @@ returns-clause-sound g c = λ bound still.
     let k = c.in_ok-k.k in
     let there = found_up c.args.self.now k site c.in-Up.node c.in_ok-k.ensures.place.1 c.index_mut.ensures.value c.in-Up.is in
     let at = here g.D.Disk bound c.args.self.now k site.clock c.in-Up.node still there in
-    sound_at_place g.D.Disk c.args.self.now _ k (up_site site.clock c.in-Up.node) (up_site site.clock c.arm.new.node) there refl bound still refl
-    (arm_node g.D.Disk c.args.self.now _ k site.clock c.args.calls c.args.fill c.in-Up.node c.arm.new.node there refl refl refl c.arm.ensures.disk c.arm.ensures.same (member_at c.args.self.now k) at.sound c.arm.ensures.stored)
-    (arm_disk g.D.Disk c.args.self.now _ k site.clock c.args.calls c.args.fill c.in-Up.node c.arm.new.node there refl refl refl c.arm.ensures.disk c.arm.ensures.same at.disk)
+    sound_at_place g.D.Disk c.args.self.now _ k (up_site site.clock c.in-Up.node) (up_site site.clock c.arm.new.self) there refl bound still refl
+    (arm_node g.D.Disk c.args.self.now _ k site.clock c.args.calls c.args.fill c.in-Up.node c.arm.new.self there refl refl refl c.arm.ensures.disk c.arm.ensures.same (member_at c.args.self.now k) at.sound c.arm.ensures.stored)
+    (arm_disk g.D.Disk c.args.self.now _ k site.clock c.args.calls c.args.fill c.in-Up.node c.arm.new.self there refl refl refl c.arm.ensures.disk c.arm.ensures.same at.disk)
     refl refl refl
 
 pub returns-clause-never_falls : goal.returns-clause-never_falls
@@ -64,4 +66,4 @@ returns-clause-never_falls g c =
     let site = c.index_mut.result.now in
     let there = found_up c.args.self.now c.in_ok-k.k site c.in-Up.node c.in_ok-k.ensures.place.1 c.index_mut.ensures.value c.in-Up.is in
     let same = c.arm.ensures.disk.faults in
-    rises_at g.D.Disk c.args.self.now _ c.in_ok-k.k (up_site site.clock c.in-Up.node) (up_site site.clock c.arm.new.node) there refl (omega (arith, same))
+    rises_at g.D.Disk c.args.self.now _ c.in_ok-k.k (up_site site.clock c.in-Up.node) (up_site site.clock c.arm.new.self) there refl (omega (arith, same))
