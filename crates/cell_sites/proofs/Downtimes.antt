@@ -137,6 +137,7 @@ module _ {D V : Type 0} (g : Ghosts D) (running after : OpenCell D V) (k clock c
         causes = rises_at g running after k (up_site clock node) (up_site clock later) there sites (let f = disk.faults in omega (arith, f));
       }
 
+module _ {D V : Type 0} (g : Ghosts D) (clock calls : ℕ) (fill : Fill) (node later : Node D V) (disk : IsArmed g calls fill node.store.disk later.store.disk) (same : (later.state ≡ node.state) × (later.halted ≡ node.halted) × (later.last ≡ node.last)) where
   -- it stays sound
   pub arm_disk : IsSoundDisk g node.store.disk → IsSoundDisk g later.store.disk
   arm_disk sound =

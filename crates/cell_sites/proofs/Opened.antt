@@ -6,13 +6,17 @@ use Rattle.std.proofs.lemmas.Grind.{flat_map-append}
 use Rattle.std.specs.declared.alloc.Global.{Global}
 use Rattle.db_image.specs.Database.{Database}
 use Rattle.disk_base.specs.declared.disks.Disk.{Ghosts}
+use Rattle.disk_base.specs.Crash.{IsSettled}
 use Rattle.disk_base.specs.Files.{Files, no_files}
 use Rattle.disk_base.specs.Stops.{DiskStop}
 use Rattle.disk_base.specs.Stops.DiskStop.{Unarmed}
 use Rattle.ubik_types.specs.declared.hosts.Host.{Host}
 use Rattle.ubik_types.specs.Moment.{IsMoment}
 use Rattle.ubik_calls.specs.declared.packets.Packet.{Packet}
+use Rattle.ubik_log.proofs.Gates.{short_log_is_discarded}
+use Rattle.ubik_store.specs.Gaps.{IsPlain}
 use Rattle.ubik_store.specs.Opening.{OpensIn}
+use Rattle.ubik_store.proofs.Gaps.{discarded_is_plain}
 use Rattle.cell_model.specs.Durable.{no_database}
 use Rattle.cell_model.specs.Node as model
 use Rattle.cell_model.specs.Voters.{IsVotePacket}
@@ -28,7 +32,7 @@ use Rattle.cell_sites.specs.Disks.{AreReadBy, AreRises, Held, IsReadBy, all_held
 use Rattle.cell_sites.specs.Opened.{AreFirstCounts, ArePartOpened, AreUnarmed, HasRoom, IsAdded, IsOpened, counts_of, opening_items}
 use Rattle.cell_sites.specs.OpenedServer.{IsEmptied, OpensDisk, ServerIs, ServerOpens, is_cut_short, opened_marks}
 use Rattle.cell_sites.specs.Sites.{AreArmed, AreSitesOf, IsArmedAs, IsModelledBy, helds, server_disk, server_node, site_disk}
-use Rattle.cell_sites.specs.Sound.{AreSound, IsSoundDisk, IsSoundServer, IsSoundSite}
+use Rattle.cell_sites.specs.Sound.{AreSound, IsSoundDisk, IsSoundServer, IsSoundSite, StandsForSome}
 use Rattle.cell_sites.specs.Traffic.{Traffic}
 use Rattle.cell_sites.specs.declared.cells.OpenCell.{OpenCell}
 use Rattle.cell_sites.specs.declared.openings.OpenEnd.{OpenEnd}
@@ -40,6 +44,8 @@ use Rattle.cell_sites.proofs.AtPlace.{sites_clocks, sites_length, sites_push, so
 use Rattle.cell_sites.proofs.Hosts.{length-hosts_of}
 use Rattle.cell_sites.proofs.Near.{near_make, near_same}
 use Rattle.cell_sites.proofs.Opening.{choices_of, chosen, items_more, rises_more}
+use Rattle.cell_sites.proofs.Opens.{if_told, some_told, told_at}
+use Rattle.cell_sites.proofs.Standing.{fresh_stands}
 
 length_snoc : {X : Type 0} (xs : List X) (x : X) → length (xs ++ x ∷ []) ≡ length xs + 1
 length_snoc [] x = refl
@@ -49,6 +55,24 @@ length_snoc (y ∷ xs) x = let rest = length_snoc xs x in omega (arith, rest)
 pub opened_length : {D V : Type 0} (sites : List (Site D V)) (n clock : ℕ) (failed : List Bool) → AreSitesOf sites (map (first_site n clock) failed) → length sites ≡ length failed
 opened_length sites n clock failed are =
     sym (sites_length sites (map (first_site n clock) failed) are) ∙ length-map failed (first_site n clock)
+
+-- ---- an empty disk
+
+fresh_plain : IsPlain no_files
+fresh_plain = discarded_is_plain no_files (short_log_is_discarded [] (omega arith)) (λ _. refl)
+
+-- a server can be opened over it
+pub fresh_sound : {D : Type 0} (g : Ghosts D) (disk : D) → g.files disk ≡ Some no_files → IsSettled (g.files disk) (g.may_leave disk) → IsSoundDisk g disk
+fresh_sound g disk empty settled = record {
+  told = some_told (g.files disk) no_files empty;
+  settled = settled;
+  plain = if_told (g.files disk) no_files IsPlain empty fresh_plain;
+  stands = if_told (g.files disk) no_files StandsForSome empty (no_database, fresh_stands);
+}
+
+-- it stands for no database
+pub fresh_told : {D : Type 0} (g : Ghosts D) (disk : D) → g.files disk ≡ Some no_files → IsSomeAnd (g.files disk) (StandsAs no_database)
+fresh_told g disk empty = told_at (g.files disk) no_files (StandsAs no_database) empty fresh_stands
 
 -- ---- one server
 

@@ -1,8 +1,5 @@
-use Rattle.std.proofs.Common.{◌≡◌, ◌≢◌, IfSome, length, sym, subst, arith}
+use Rattle.std.proofs.Common.{◌≡◌, ◌≢◌, length, sym, subst, ◌∙◌, arith}
 use Rattle.std.proofs.lemmas.List.Sorted.{length_permutation}
-use Rattle.ubik_store.specs.declared.faults.StoreFault.{StoreFault}
-use Rattle.ubik_store.specs.declared.faults.StoreFault.TheVariants as store_fault
-use Rattle.ubik_store.specs.Opening.{IsOpening, RefusesFiles}
 use Rattle.cell_model.specs.Step.{Member}
 use Rattle.cell_sites.specs.declared.openings.OpenEnd.{OpenEnd}
 use Rattle.cell_sites.specs.declared.openings.OpenEnd.TheVariants as opened
@@ -33,14 +30,12 @@ returns-after-why g c = λ d stands.
     let r = c.revive.ensures in
     let m : Member = record { hosts = c.args.hosts.now; me = c.args.me } in
     let P : OpenEnd → Type 0 = λ end. ServerOpens g.D.Disk m c.args.clock d end c.args.disk (server.Down c.revive.new.self) in
-    let opening = subst (λ (x : _). IsOpening g.D.Disk c.args.disk x (c.in-Err.why ≡ store_fault.DiskFault)) (sym c.in-Err.disk-is)
-    (subst (λ (w : StoreFault). IsOpening g.D.Disk c.args.disk c.in-Err.field-0.disk (w ≡ store_fault.DiskFault)) (sym c.in-Err.why-is) e.opening) in
-    let refused = subst (λ (w : StoreFault). IfSome (g.D.Disk.files c.args.disk) (λ fs. RefusesFiles fs w)) (sym c.in-Err.why-is) e.refused in
     elim c.match-why.branch [
       | in-NoMemory w ↦
           subst P (sym w.end-is)
-          (down_by_memory g.D.Disk m c.args.clock c.args.disk c.in-Err.disk c.revive.new.self d c.in-Err.why c.requires.sound stands opening refused r.unarmed r.left r.tells_files r.steps r.faults)
+          (down_by_memory g.D.Disk m c.args.clock c.args.disk c.in-Err.field-0.disk c.revive.new.self d c.in-Err.field-0.why c.requires.sound stands e.opening e.refused r.unarmed r.left r.tells_files r.steps r.faults)
       | in_default-why w ↦
           subst P (sym w.end-is)
-          (down_by_fault g.D.Disk m c.args.clock c.args.disk c.in-Err.disk c.revive.new.self d c.in-Err.why c.requires.sound stands opening refused r.unarmed r.left r.tells_files r.steps r.faults (λ same. w.in_default-why.not-NoMemory same))
+          (down_by_fault g.D.Disk m c.args.clock c.args.disk c.in-Err.field-0.disk c.revive.new.self d c.in-Err.field-0.why c.requires.sound stands e.opening e.refused r.unarmed r.left r.tells_files r.steps r.faults
+          (λ same. w.in_default-why.not-NoMemory (sym c.in-Err.why-is ∙ same)))
     ]

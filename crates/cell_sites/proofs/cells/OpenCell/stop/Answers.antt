@@ -1,4 +1,4 @@
-use Rattle.std.proofs.Common.{◌≡◌, ◌<◌, ◌∙◌, ℕ, zero, Bool, List, None, Some, Ok, Err, length, set, refl, sym, ap, subst, arith}
+use Rattle.std.proofs.Common.{[], ◌≡◌, ◌<◌, ◌∙◌, ℕ, zero, Bool, List, None, Some, Ok, Err, length, set, refl, sym, ap, subst, arith}
 use Rattle.std.specs.String.{string_bytes}
 use Rattle.std.proofs.lemmas.Option.{slice_get_within}
 use Rattle.std.proofs.lemmas.Result.{err_from_is_err_and}
@@ -8,6 +8,7 @@ use Rattle.cell_script.specs.declared.lines.Line.TheVariants as line
 use Rattle.cell_sites.proofs.AtPlace.{rises_same}
 use Rattle.cell_sites.proofs.Downtimes.{arm_disk, arm_node, arm_told, many_at, rises_at, sound_at_place}
 use Rattle.cell_sites.proofs.Lining.{size_of}
+use Rattle.cell_sites.proofs.Running.{rises_set}
 use Rattle.cell_sites.proofs.Soundly.{found_up, here, not_down}
 use Rattle.cell_sites.specs.Stepped.{member_at, up_site}
 use Rattle.cell_sites.proofs.cells.OpenCell.stop.Goals as goal
@@ -57,8 +58,8 @@ returns-clause-sound g c = λ bound still.
     let there = found_up c.args.self.now k site c.in-Up.node c.in_ok-k.ensures.place.1 c.index_mut.ensures.value c.in-Up.is in
     let at = here g.D.Disk bound c.args.self.now k site.clock c.in-Up.node still there in
     sound_at_place g.D.Disk c.args.self.now _ k (up_site site.clock c.in-Up.node) (up_site site.clock c.arm.new.self) there refl bound still refl
-    (arm_node g.D.Disk c.args.self.now _ k site.clock c.args.calls c.args.fill c.in-Up.node c.arm.new.self there refl refl refl c.arm.ensures.disk c.arm.ensures.same (member_at c.args.self.now k) at.sound c.arm.ensures.stored)
-    (arm_disk g.D.Disk c.args.self.now _ k site.clock c.args.calls c.args.fill c.in-Up.node c.arm.new.self there refl refl refl c.arm.ensures.disk c.arm.ensures.same at.disk)
+    (arm_node g.D.Disk site.clock c.args.calls c.args.fill c.in-Up.node c.arm.new.self c.arm.ensures.disk c.arm.ensures.same (member_at c.args.self.now k) at.sound c.arm.ensures.stored)
+    (arm_disk g.D.Disk site.clock c.args.calls c.args.fill c.in-Up.node c.arm.new.self c.arm.ensures.disk c.arm.ensures.same at.disk)
     refl refl refl
 
 pub returns-clause-never_falls : goal.returns-clause-never_falls
@@ -66,4 +67,4 @@ returns-clause-never_falls g c =
     let site = c.index_mut.result.now in
     let there = found_up c.args.self.now c.in_ok-k.k site c.in-Up.node c.in_ok-k.ensures.place.1 c.index_mut.ensures.value c.in-Up.is in
     let same = c.arm.ensures.disk.faults in
-    rises_at g.D.Disk c.args.self.now _ c.in_ok-k.k (up_site site.clock c.in-Up.node) (up_site site.clock c.arm.new.self) there refl (omega (arith, same))
+    rises_set g.D.Disk [] 0 c.in_ok-k.k c.args.self.now.sites.items (up_site site.clock c.in-Up.node) (up_site site.clock c.arm.new.self) there (omega (arith, same)) (λ j other. refl)
