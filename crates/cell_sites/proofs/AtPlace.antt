@@ -1,9 +1,10 @@
 -- Sites that stand for those of a model, one after the other.
 use Rattle.std.proofs.Common.{if◌then◌else◌, ◌≡◌, ◌<◌, ◌+◌, ℕ, zero, suc, Bool, true, false, List, [], ◌∷◌, ◌++◌, Option, Some, length, map, set, get_or, refl, sym, ap, subst, ◌∙◌, arith}
-use Rattle.std.specs.Prelude.{slice_get}
+use Rattle.std.specs.Prelude.{insert, remove, slice_get}
 use Rattle.disk_base.specs.Files.{Files}
 use Rattle.ubik_types.specs.declared.hosts.Host.{Host}
 use Rattle.std.proofs.lemmas.Option.{slice_get_read}
+use Rattle.db_image.specs.Database.{Database}
 use Rattle.disk_base.specs.declared.disks.Disk.{Ghosts}
 use Rattle.cell_model.specs.Node as model
 use Rattle.cell_model.specs.World.{Site as ModelSite, clocks_of, is_down, tick_at, ticked}
@@ -129,22 +130,22 @@ rises_same before after same = subst (λ (l : List Held). AreRises 0 [] before l
 pub site_there : {X : Type 0} (xs : List X) (k : ℕ) (x : X) → k < length xs → x ≡ get_or xs k x → slice_get xs k ≡ Some x
 site_there xs k x less is = slice_get_read xs (length xs) k x refl less is
 
-pub down_at : {D V : Type 0} (running : OpenCell D V) (c : Cell) (k : ℕ) (site : Site D V) (disk : D) → IsModelledBy running c → slice_get running.sites.items k ≡ Some site → site.server ≡ server.Down disk → is_down_at c k ≡ true
+pub down_at : {D V : Type 0} (running : OpenCell D V) (c : Cell) (k : ℕ) (site : Site D V) (disk : D) → AreSitesOf running.sites.items c.run.world.sites → slice_get running.sites.items k ≡ Some site → site.server ≡ server.Down disk → is_down_at c k ≡ true
 down_at {D} {V} running c k site disk stands there is =
-    let at = site_at running.sites.items c.run.world.sites k site stands.sites there in
+    let at = site_at running.sites.items c.run.world.sites k site stands there in
     ap (λ (o : Option ModelSite). is_down (node_in o)) at.there ∙ ap is_down (at.is.node ∙ ap (λ (s : Server D V). server_node s) is)
 
 is_up : (halted : Bool) (u : model.Server) → is_down (if halted then model.Halted (model.halted_from u) else model.Up u) ≡ false
 is_up true u = refl
 is_up false u = refl
 
-pub up_at : {D V : Type 0} (running : OpenCell D V) (c : Cell) (k : ℕ) (site : Site D V) (n : Node D V) → IsModelledBy running c → slice_get running.sites.items k ≡ Some site → site.server ≡ server.Up n → is_down_at c k ≡ false
+pub up_at : {D V : Type 0} (running : OpenCell D V) (c : Cell) (k : ℕ) (site : Site D V) (n : Node D V) → AreSitesOf running.sites.items c.run.world.sites → slice_get running.sites.items k ≡ Some site → site.server ≡ server.Up n → is_down_at c k ≡ false
 up_at {D} {V} running c k site n stands there is =
-    let at = site_at running.sites.items c.run.world.sites k site stands.sites there in
+    let at = site_at running.sites.items c.run.world.sites k site stands there in
     ap (λ (o : Option ModelSite). is_down (node_in o)) at.there ∙ ap is_down (at.is.node ∙ ap (λ (s : Server D V). server_node s) is)
     ∙ is_up n.halted (up_server n)
 
-pub cell_size : {D V : Type 0} (g : Ghosts D) (bound : ℕ) (running : OpenCell D V) (c : Cell) → IsSound g bound running → IsModelledBy running c → cell_size_of c ≡ length running.sites.items
+pub cell_size : {D V : Type 0} {database : Database} {given : List ℕ} (g : Ghosts D) (bound : ℕ) (running : OpenCell D V) (c : Cell) → IsSound g bound running → IsModelledBy g database given running c → cell_size_of c ≡ length running.sites.items
 cell_size g bound running c sound stands =
     ap (λ (l : List Host). length l) (stands.hosts ∙ sound.hosts) ∙ length-hosts_of (length running.sites.items)
 
@@ -154,3 +155,9 @@ get_set_before (x ∷ xs) zero zero y less = absurd (omega (arith, less))
 get_set_before (x ∷ xs) zero (suc k) y less = refl
 get_set_before (x ∷ xs) (suc i) zero y less = absurd (omega (arith, less))
 get_set_before (x ∷ xs) (suc i) (suc k) y less = get_set_before xs i k y (omega (arith, less))
+
+-- an element that was taken out and put back changed
+pub put_back : {X : Type 0} (xs : List X) (k : ℕ) (y : X) → k < length xs → insert (remove xs k) k y ≡ set xs k y
+put_back [] k y less = absurd (omega (arith, less))
+put_back (x ∷ xs) zero y less = refl
+put_back {X} (x ∷ xs) (suc k) y less = ap (λ (l : List X). x ∷ l) (put_back xs k y (omega (arith, less)))

@@ -1,9 +1,10 @@
 -- Packets that are handed over or dropped in a running cell.
-use Rattle.std.proofs.Common.{if◌then◌else◌, ◌≡◌, ◌⊎◌, inl, inr, ◌<◌, ◌≤◌, ◌+◌, ◌-◌, ℕ, zero, suc, Bool, true, false, Option, Some, None, Result, Ok, Err, List, [], ◌∷◌, ◌++◌, drop, length, map, replicate, set, get_or, refl, sym, ap, subst, ◌∙◌, arith, append_assoc}
+use Rattle.std.proofs.Common.{sum, if◌then◌else◌, ◌≡◌, ◌⊎◌, inl, inr, ◌<◌, ◌≤◌, ◌+◌, ◌-◌, ℕ, zero, suc, Bool, true, false, Option, Some, None, Result, Ok, Err, List, [], ◌∷◌, ◌++◌, drop, length, map, replicate, set, get_or, refl, sym, ap, subst, ◌∙◌, arith, append_assoc}
 use Rattle.std.specs.Prelude.{All, slice_get, unwrap_or}
 use Rattle.std.specs.Option.{option_and_then, option_map}
 use Rattle.std.proofs.lemmas.List.{append-nil}
 use Rattle.std.proofs.lemmas.Option.{get_or_from_slice_get, slice_get_read, slice_get_within}
+use Rattle.db_image.specs.Database.{Database}
 use Rattle.disk_base.specs.declared.disks.Disk.{Ghosts}
 use Rattle.disk_base.specs.Files.{Files}
 use Rattle.ubik_types.specs.declared.hosts.Host.{Host}
@@ -14,11 +15,11 @@ use Rattle.cell_model.specs.Node as model
 use Rattle.cell_model.specs.NodeRule.{place_of}
 use Rattle.cell_model.specs.Step.{host_at}
 use Rattle.cell_model.specs.Voters.{IsVotePacket}
-use Rattle.cell_model.specs.World.{Site as ModelSite, World, Delivery, Step, Lost, SiteHappened, occasion, only_marks, lost_at, packet_numbered}
+use Rattle.cell_model.specs.World.{Site as ModelSite, World, Delivery, Step, Lost, Happened, SiteHappened, happened_at, occasion, only_marks, lost_at, packet_numbered}
 use Rattle.cell_model.specs.World as world
 use Rattle.cell_runs.specs.declared.endings.Ending.{Ending}
 use Rattle.cell_runs.specs.ScriptDatabase.{ScriptDatabase}
-use Rattle.cell_runs.specs.Script.{Cell, Cell_run, Choice, Run_or_why, all_delivered, delivered, dropped_of, first_choice, first_waiting, happened, joined_run, resting, stepped, unless_ended}
+use Rattle.cell_runs.specs.Script.{armed_at, cell_after, counted_on, Cell, Cell_run, Choice, Run_or_why, all_delivered, delivered, dropped_of, first_choice, first_waiting, happened, joined_run, resting, stepped, unless_ended}
 use Rattle.cell_runs.specs.Script as script
 use Rattle.cell_runs.specs.Trace.{TraceItem, Tells, item_text, trace, fault_count}
 use Rattle.cell_sites.specs.declared.cells.OpenCell.{OpenCell}
@@ -26,12 +27,15 @@ use Rattle.cell_sites.specs.declared.sites.Server.TheVariants.{Down}
 use Rattle.cell_sites.specs.declared.sites.Site.{Site}
 use Rattle.cell_sites.specs.Disks.{Held, AreReadBy, AreRises}
 use Rattle.cell_sites.specs.Places.{IsDownAt}
-use Rattle.cell_sites.specs.Sites.{IsModelledBy, helds}
+use Rattle.cell_sites.specs.Counts.{HoldRun, calls_of}
+use Rattle.cell_sites.specs.Sites.{AreArmed, IsModelledBy, helds}
 use Rattle.cell_sites.specs.Sound.{IsSound}
 use Rattle.cell_sites.specs.Told.{CellTold, IsShort, IsShortAfter}
 use Rattle.cell_sites.specs.Traffic.{Traffic, dropped_all, handed_over, sent_all}
 use Rattle.cell_sites.proofs.AtPlace.{rises_same, site_at}
-use Rattle.cell_sites.proofs.Happening.{down_happens, stepped_sound}
+use Rattle.cell_sites.proofs.Arming.{armed_here, armed_set}
+use Rattle.cell_sites.proofs.Counting.{GoesOn, hold_as, hold_more, moved_same, same_run}
+use Rattle.cell_sites.proofs.Happening.{down_happens, stepped_down, with_armed}
 use Rattle.cell_sites.proofs.Opening.{count_append}
 use Rattle.cell_sites.proofs.Running.{whole}
 
@@ -44,9 +48,16 @@ with_packets running p = record running { packets = p }
 abbrev pub with_handed : Cell → List Bool → Cell
 with_handed c handed = record c { handed = handed }
 
-pub stands_with : {D V : Type 0} (running : OpenCell D V) (c : Cell) (p : Traffic) (handed : List Bool) → IsModelledBy running c → p.sent ≡ running.packets.sent → handed ≡ p.handed → IsModelledBy (with_packets running p) (with_handed c handed)
+pub stands_with : {D V : Type 0} {gs : Ghosts D} {database : Database} {given : List ℕ} (running : OpenCell D V) (c : Cell) (p : Traffic) (handed : List Bool) → IsModelledBy gs database given running c → p.sent ≡ running.packets.sent → handed ≡ p.handed → IsModelledBy gs database given (with_packets running p) (with_handed c handed)
 stands_with running c p handed stands sent is =
-    record { hosts = stands.hosts; sites = stands.sites; sent = stands.sent ∙ sym sent; handed = is; unarmed = stands.unarmed }
+    record {
+      hosts = stands.hosts;
+      sites = stands.sites;
+      sent = stands.sent ∙ sym sent;
+      handed = is;
+      armed = stands.armed;
+      disks = hold_as _ c (with_handed c handed) _ false _ (same_run c (with_handed c handed) refl refl refl) stands.disks;
+    }
 
 pub sound_with : {D V : Type 0} (g : Ghosts D) (bound : ℕ) (running : OpenCell D V) (p : Traffic) → IsSound g bound running → p.sent ≡ running.packets.sent → IsSound g bound (with_packets running p)
 sound_with g bound running p sound sent =
@@ -61,13 +72,13 @@ sound_with g bound running p sound sent =
     }
 
 -- what is told of the cell with other packets is told of the cell
-pub told_before : {D V : Type 0} (g : Ghosts D) (script_db : ScriptDatabase) (running after : OpenCell D V) (p : Traffic) (run : List Choice → Run_or_why) (ended : Option Ending) (tb ta : List ℕ) → CellTold g script_db run ended (with_packets running p) after tb ta → CellTold g script_db run ended running after tb ta
+pub told_before : {D V : Type 0} {given : List ℕ} (g : Ghosts D) (script_db : ScriptDatabase) (running after : OpenCell D V) (p : Traffic) (run : List Choice → Run_or_why) (ended : Option Ending) (tb ta : List ℕ) → CellTold g script_db given run ended (with_packets running p) after tb ta → CellTold g script_db given run ended running after tb ta
 told_before g script_db running after p run ended tb ta told =
     record { choices = told.choices; ran = told.ran; is = told.is; ends = told.ends; cell = told.cell; told = told.told; causes = told.causes }
 
-pub short_before : {D V : Type 0} (g : Ghosts D) (running after : OpenCell D V) (p : Traffic) (run : List Choice → Run_or_why) (c : Cell) (handed : List Bool) → IsShort g run (with_handed c handed) (with_packets running p) after → IsShort g run c running after
-short_before g running after p run c handed (inl read) = inl read
-short_before g running after p run c handed (inr later) = inr (record { choices = later.choices; ran = later.ran; is = later.is; read = later.read; causes = later.causes })
+pub short_before : {D V : Type 0} {database : Database} {given : List ℕ} (g : Ghosts D) (running after : OpenCell D V) (p : Traffic) (run : List Choice → Run_or_why) (c : Cell) (handed : List Bool) → IsShort g database given run (with_handed c handed) (with_packets running p) after → IsShort g database given run c running after
+short_before g running after p run c handed (inl hold) = inl (hold_as _ (with_handed c handed) c _ true _ (same_run (with_handed c handed) c refl refl refl) hold)
+short_before g running after p run c handed (inr later) = inr (record { choices = later.choices; ran = later.ran; is = later.is; disks = later.disks; causes = later.causes })
 
 -- ---- where a packet goes
 
@@ -90,33 +101,43 @@ set_same {X} (y ∷ xs) (suc k) x there = ap (λ (l : List X). y ∷ l) (set_sam
 
 -- ---- a server that is down loses the packet
 
-pub lost : {D V : Type 0} (g : Ghosts D) (script_db : ScriptDatabase) (running : OpenCell D V) (c : Cell) (number k : ℕ) (p : Packet) (text_before text_after : List ℕ) → IsModelledBy running c → (down : IsDownAt running k)
+pub lost : {D V : Type 0} {given : List ℕ} (g : Ghosts D) (script_db : ScriptDatabase) (running : OpenCell D V) (c : Cell) (number k : ℕ) (p : Packet) (text_before text_after : List ℕ) → IsModelledBy g script_db.database given running c → (down : IsDownAt running k)
     → occasion c.run.world (Delivery number) ≡ Some (k, event.Packet p) → text_after ≡ text_before ++ item_text script_db running.hosts.items (Tells (Lost number))
-    → CellTold g script_db (λ choices. Ok (stepped script_db c (first_choice choices) (Delivery number))) None running running text_before text_after
-lost {D} {V} g script_db running c number k p tb ta stands down o told =
-    let m = site_at running.sites.items c.run.world.sites k (record { clock = down.clock; server = Down down.disk }) stands.sites down.there in
-    let h : SiteHappened = only_marks m.s (Lost number ∷ []) in
+    → CellTold g script_db given (λ choices. Ok (stepped script_db c (first_choice choices) (Delivery number))) None running running text_before text_after
+lost {D} {V} {given} g script_db running c number k p tb ta stands down o told =
     let site : Site D V = record { clock = down.clock; server = Down down.disk } in
-    whole g script_db running running c stands k (Step (Delivery number) []) h (λ choices. Ok (stepped script_db c (first_choice choices) (Delivery number))) []
-    (ap Ok (stepped_sound script_db c (length running.hosts.items) stands.unarmed (Delivery number) k (event.Packet p) m.s o m.there
-    ∙ ap (happened c (Step (Delivery number) [])) (down_happens script_db.database c.run.world (Delivery number) k (event.Packet p) m.s o m.there m.is.node)))
-    tt site site down.there (sym (set_same running.sites.items k site down.there)) (omega arith) (λ j other. refl)
+    let m = site_at running.sites.items c.run.world.sites k site stands.sites down.there in
+    let h : SiteHappened = only_marks m.s (Lost number ∷ []) in
+    let armed = set c.armed k (counted_on 0 (armed_at c.armed k)) in
+    let here = armed_here g running.sites.items c.armed k site stands.armed down.there in
+    let same : running.sites.items ≡ set running.sites.items k site = sym (set_same running.sites.items k site down.there) in
+    let happened_so = down_happens script_db.database c.run.world (Delivery number) k (event.Packet p) m.s o m.there m.is.node in
+    let goes : GoesOn script_db.database c (cell_after (with_armed c armed) (Step (Delivery number) []) (happened_at c.run.world k h)) (Step (Delivery number) [] ∷ []) =
+    record { opening = refl; events = refl; world = ap (λ (x : Happened). x.world) (sym happened_so) } in
+    whole g script_db given running running c stands k (Step (Delivery number) []) h armed (λ choices. Ok (stepped script_db c (first_choice choices) (Delivery number))) []
+    (ap Ok (stepped_down script_db c (Delivery number) k (event.Packet p) m.s o m.there m.is.node ∙ ap (happened (with_armed c armed) (Step (Delivery number) [])) happened_so))
+    tt site site down.there same (omega arith) (λ j other. refl)
     tb tb ta refl
     (told ∙ ap (λ (l : List ℕ). tb ++ l) (sym (append-nil (item_text script_db running.hosts.items (Tells (Lost number))))))
     refl
     (ap (λ (l : List Packet). record { sent = l; handed = running.packets.handed }) (sym (append-nil running.packets.sent))
     ∙ ap (λ (l : List Bool). record { sent = running.packets.sent ++ []; handed = l }) (sym (append-nil running.packets.handed)))
     m.is
+    (subst (λ (l : List (Site D V)). AreArmed g l armed) (sym same)
+    (armed_set g running.sites.items c.armed k site (counted_on 0 (armed_at c.armed k)) stands.armed (ap (counted_on 0) here.0, here.1)))
+    (hold_more script_db.database c (cell_after (with_armed c armed) (Step (Delivery number) []) (happened_at c.run.world k h)) given (Step (Delivery number) []) goes (helds g running) (helds g running) stands.disks
+    (subst (λ (l : List ModelSite). AreReadBy l (helds g running)) (sym (set_same c.run.world.sites k m.s m.there)) stands.disks.read)
+    (moved_same _ 0 (helds g running) (λ j x. (0, sym (ap (λ (y : Happened). sum (calls_of j y.entries)) happened_so), omega arith))))
 
 -- ---- a packet that was sent
 
 -- the cell from which a packet is handed over, and where it goes
-pub record HandedOver {D V : Type 0} (running : OpenCell D V) (c : Cell) (p : Traffic) (number k : ℕ) (packet : Packet) : Type 0 where
-  pub stands : IsModelledBy (with_packets running p) (with_handed c (set c.handed (number - 1) true))
+pub record HandedOver {D V : Type 0} (g : Ghosts D) (database : Database) (given : List ℕ) (running : OpenCell D V) (c : Cell) (p : Traffic) (number k : ℕ) (packet : Packet) : Type 0 where
+  pub stands : IsModelledBy g database given (with_packets running p) (with_handed c (set c.handed (number - 1) true))
   pub goes : occasion c.run.world (Delivery number) ≡ Some (k, event.Packet packet)
 
-pub handed_cell : {D V : Type 0} (running : OpenCell D V) (c : Cell) (p : Traffic) (number k : ℕ) (packet sent : Packet) → IsModelledBy running c → p ≡ handed_over running.packets number → 0 < number → slice_get p.sent (number - 1) ≡ Some sent → packet ≡ sent → place_of running.hosts.items packet.to ≡ Some k
-    → HandedOver running c p number k packet
+pub handed_cell : {D V : Type 0} {gs : Ghosts D} {database : Database} {given : List ℕ} (running : OpenCell D V) (c : Cell) (p : Traffic) (number k : ℕ) (packet sent : Packet) → IsModelledBy gs database given running c → p ≡ handed_over running.packets number → 0 < number → slice_get p.sent (number - 1) ≡ Some sent → packet ≡ sent → place_of running.hosts.items packet.to ≡ Some k
+    → HandedOver gs database given running c p number k packet
 handed_cell running c p number k packet sent stands is some there same place =
     record {
       stands = stands_with running c p (set c.handed (number - 1) true) stands (ap (λ (t : Traffic). t.sent) is)

@@ -11,12 +11,13 @@ use Rattle.cell_runs.specs.ScriptDatabase.{ScriptDatabase}
 use Rattle.cell_runs.specs.Script.{Cell, Cell_run, Choice, Run_or_why, all_delivered, delivered, first_choice, first_waiting, hosts_of, joined_run, resting, unless_ended}
 use Rattle.cell_runs.specs.Trace.{TraceItem, trace, item_text, fault_count}
 use Rattle.cell_sites.specs.declared.cells.OpenCell.{OpenCell}
-use Rattle.cell_sites.specs.Disks.{Held, AreReadBy, AreRises}
+use Rattle.cell_sites.specs.Counts.{HoldRun}
+use Rattle.cell_sites.specs.Disks.{Held, AreRises}
 use Rattle.cell_sites.specs.Sites.{IsModelledBy, helds}
 use Rattle.cell_sites.specs.Sound.{IsSound}
 use Rattle.cell_sites.specs.Told.{CellTold, IsShort}
 use Rattle.cell_sites.proofs.Opening.{count_append}
-use Rattle.cell_sites.proofs.Reading.{cell_reads}
+use Rattle.cell_sites.proofs.Counting.{hold_short}
 
 -- ---- joining what is told
 
@@ -41,22 +42,22 @@ joined items more r = ap (λ (l : List TraceItem). record r { items = l }) (sym 
 -- ---- the loop
 
 -- what was delivered so far, with some choices: what it comes to in all is that, and then what it comes to from here with so much fuel
-pub record SoFar {D V : Type 0} (g : Ghosts D) (script_db : ScriptDatabase) (most fuel : ℕ) (c : Cell) (start now : OpenCell D V) (text_before text : List ℕ) : Type 0 where
+pub record SoFar {D V : Type 0} (g : Ghosts D) (script_db : ScriptDatabase) (given : List ℕ) (most fuel : ℕ) (c : Cell) (start now : OpenCell D V) (text_before text : List ℕ) : Type 0 where
   pub cell : Cell
-  pub stands : IsModelledBy now cell
+  pub stands : IsModelledBy g script_db.database given now cell
   pub items : List TraceItem
   pub done : List Choice
   pub is : (more : List Choice) → all_delivered script_db most c (done ++ more) (first_waiting 1 c.handed) ≡ joined_run items (all_delivered script_db fuel cell more (first_waiting 1 cell.handed))
   pub told : text ≡ text_before ++ trace script_db start.hosts.items items
-  pub causes : AreRises 0 items (helds g.files g.faults start) (helds g.files g.faults now)
+  pub causes : AreRises 0 items (helds g start) (helds g now)
   pub hosts : now.hosts.items ≡ start.hosts.items
 
 pub record Follows {D V : Type 0} (g : Ghosts D) (script_db : ScriptDatabase) (most fuel : ℕ) (start now : OpenCell D V) (text_before text : List ℕ) : Type 0 where
-  pub runs : (c : Cell) → IsModelledBy start c → SoFar g script_db most fuel c start now text_before text
+  pub runs : (given : List ℕ) (c : Cell) → IsModelledBy g script_db.database given start c → SoFar g script_db given most fuel c start now text_before text
   pub sound : (bound : ℕ) → IsSound g bound start → IsSound g bound now
-  pub rises : AreRises 0 [] (helds g.files g.faults start) (helds g.files g.faults now)
+  pub rises : AreRises 0 [] (helds g start) (helds g now)
   pub same : length now.sites.items ≡ length start.sites.items
-  pub keeps : (sites : List ModelSite) → AreReadBy sites (helds g.files g.faults start) → AreReadBy sites (helds g.files g.faults now)
+  pub keeps : (given : List ℕ) (c : Cell) → HoldRun script_db.database given false c (helds g start) → HoldRun script_db.database given false c (helds g now)
 
 no_rise : (k : ℕ) (disks : List Held) → AreRises k [] disks disks
 no_rise k [] = tt
@@ -65,23 +66,23 @@ no_rise k (disk ∷ disks) = (omega arith, no_rise (k + 1) disks)
 pub follows_none : {D V : Type 0} (g : Ghosts D) (script_db : ScriptDatabase) (most fuel : ℕ) (start : OpenCell D V) (text : List ℕ) → fuel ≡ most → Follows g script_db most fuel start start text text
 follows_none g script_db most fuel start text same =
     record {
-      runs = λ c stands. record {
+      runs = λ given c stands. record {
         cell = c;
         stands = stands;
         items = [];
         done = [];
         is = λ more. ap (λ (n : ℕ). joined_run [] (all_delivered script_db n c more (first_waiting 1 c.handed))) (sym same);
         told = sym (append-nil text);
-        causes = no_rise 0 (helds g.files g.faults start);
+        causes = no_rise 0 (helds g start);
         hosts = refl;
       };
       sound = λ bound sound. sound;
-      rises = no_rise 0 (helds g.files g.faults start);
+      rises = no_rise 0 (helds g start);
       same = refl;
-      keeps = λ sites read. read;
+      keeps = λ given c hold. hold;
     }
 
-module _ {D V : Type 0} (g : Ghosts D) (script_db : ScriptDatabase) (most fuel : ℕ) (c : Cell) (start now later : OpenCell D V) (tb text after : List ℕ) (so : SoFar g script_db most (suc fuel) c start now tb text) (number : ℕ) (waits : first_waiting 1 so.cell.handed ≡ Some number) (ended : Option Ending) (told : CellTold g script_db (λ choices. Ok (delivered script_db so.cell (first_choice choices) number)) ended now later text after) where
+module _ {D V : Type 0} (g : Ghosts D) (script_db : ScriptDatabase) (given : List ℕ) (most fuel : ℕ) (c : Cell) (start now later : OpenCell D V) (tb text after : List ℕ) (so : SoFar g script_db given most (suc fuel) c start now tb text) (number : ℕ) (waits : first_waiting 1 so.cell.handed ≡ Some number) (ended : Option Ending) (told : CellTold g script_db given (λ choices. Ok (delivered script_db so.cell (first_choice choices) number)) ended now later text after) where
   -- what one more packet comes to
   one_more : (more : List Choice) → all_delivered script_db most c ((so.done ++ first_choice told.choices ∷ []) ++ more) (first_waiting 1 c.handed)
       ≡ joined_run so.items (unless_ended told.ran told.ran.ending (all_delivered script_db fuel told.ran.cell more (first_waiting 1 told.ran.cell.handed)))
@@ -101,7 +102,7 @@ module _ {D V : Type 0} (g : Ghosts D) (script_db : ScriptDatabase) (most fuel :
       ∙ ap (λ (l : List ℕ). tb ++ l) (sym (trace-append script_db start.hosts.items so.items told.ran.items))
 
   -- the script goes on
-  pub goes_on : ended ≡ None → IsModelledBy later told.ran.cell → later.hosts.items ≡ now.hosts.items → SoFar g script_db most fuel c start later tb after
+  pub goes_on : ended ≡ None → IsModelledBy g script_db.database given later told.ran.cell → later.hosts.items ≡ now.hosts.items → SoFar g script_db given most fuel c start later tb after
   goes_on none stands hosts =
       record {
         cell = told.ran.cell;
@@ -113,29 +114,29 @@ module _ {D V : Type 0} (g : Ghosts D) (script_db : ScriptDatabase) (most fuel :
             ∙ ap (λ (e : Option Ending). joined_run so.items (unless_ended told.ran e (all_delivered script_db fuel told.ran.cell more (first_waiting 1 told.ran.cell.handed)))) (told.ends ∙ none)
             ∙ joined so.items told.ran.items (all_delivered script_db fuel told.ran.cell more (first_waiting 1 told.ran.cell.handed));
         told = all_told;
-        causes = rises_both 0 so.items told.ran.items (helds g.files g.faults start) (helds g.files g.faults now) (helds g.files g.faults later) so.causes told.causes;
+        causes = rises_both 0 so.items told.ran.items (helds g start) (helds g now) (helds g later) so.causes told.causes;
         hosts = hosts ∙ so.hosts;
       }
 
   -- the script ends in it
-  pub ends_there : (ending : Ending) → ended ≡ Some ending → AreReadBy told.ran.cell.run.world.sites (helds g.files g.faults later)
-      → CellTold g script_db (λ choices. Ok (all_delivered script_db most c choices (first_waiting 1 c.handed))) (Some ending) start later tb after
-  ends_there ending some read =
+  pub ends_there : (ending : Ending) → ended ≡ Some ending → HoldRun script_db.database given false told.ran.cell (helds g later)
+      → CellTold g script_db given (λ choices. Ok (all_delivered script_db most c choices (first_waiting 1 c.handed))) (Some ending) start later tb after
+  ends_there ending some hold =
       record {
         choices = (so.done ++ first_choice told.choices ∷ []) ++ [];
         ran = joined_run so.items told.ran;
         is = ap Ok (one_more [] ∙ ap (λ (e : Option Ending). joined_run so.items (unless_ended told.ran e (all_delivered script_db fuel told.ran.cell [] (first_waiting 1 told.ran.cell.handed)))) (told.ends ∙ some));
         ends = told.ends ∙ some;
-        cell = read;
+        cell = hold;
         told = all_told;
-        causes = rises_both 0 so.items told.ran.items (helds g.files g.faults start) (helds g.files g.faults now) (helds g.files g.faults later) so.causes told.causes;
+        causes = rises_both 0 so.items told.ran.items (helds g start) (helds g now) (helds g later) so.causes told.causes;
       }
 
 -- no packet waits any more, or there is no fuel left
-pub followed : {D V : Type 0} (g : Ghosts D) (script_db : ScriptDatabase) (most fuel : ℕ) (c : Cell) (start now : OpenCell D V) (tb text : List ℕ) (so : SoFar g script_db most fuel c start now tb text)
+pub followed : {D V : Type 0} (g : Ghosts D) (script_db : ScriptDatabase) (given : List ℕ) (most fuel : ℕ) (c : Cell) (start now : OpenCell D V) (tb text : List ℕ) (so : SoFar g script_db given most fuel c start now tb text)
     → all_delivered script_db fuel so.cell [] (first_waiting 1 so.cell.handed) ≡ resting so.cell
-    → CellTold g script_db (λ choices. Ok (all_delivered script_db most c choices (first_waiting 1 c.handed))) None start now tb text
-followed g script_db most fuel c start now tb text so rests =
+    → CellTold g script_db given (λ choices. Ok (all_delivered script_db most c choices (first_waiting 1 c.handed))) None start now tb text
+followed g script_db given most fuel c start now tb text so rests =
     record {
       choices = so.done ++ [];
       ran = joined_run so.items (resting so.cell);
@@ -143,7 +144,7 @@ followed g script_db most fuel c start now tb text so rests =
       ends = refl;
       cell = so.stands;
       told = so.told ∙ ap (λ (l : List TraceItem). tb ++ trace script_db start.hosts.items l) (sym (append-nil so.items));
-      causes = subst (λ (l : List TraceItem). AreRises 0 l (helds g.files g.faults start) (helds g.files g.faults now)) (sym (append-nil so.items)) so.causes;
+      causes = subst (λ (l : List TraceItem). AreRises 0 l (helds g start) (helds g now)) (sym (append-nil so.items)) so.causes;
     }
 
 pub none_left : (script_db : ScriptDatabase) (fuel : ℕ) (c : Cell) → first_waiting 1 c.handed ≡ None → all_delivered script_db fuel c [] (first_waiting 1 c.handed) ≡ resting c
@@ -170,54 +171,54 @@ pub same_hosts : {D V : Type 0} (g : Ghosts D) (bound other : ℕ) (now later : 
 same_hosts g bound other now later sound sounds same = sounds.hosts ∙ ap hosts_of same ∙ sym sound.hosts
 
 module _ {D V : Type 0} (g : Ghosts D) (script_db : ScriptDatabase) (most n fuel bound : ℕ) (start now later : OpenCell D V) (tb text after : List ℕ) (follows : Follows g script_db most n start now tb text) (less : n ≡ suc fuel) (sound : IsSound g bound start) (number : ℕ) (waits : first_waiting 1 now.packets.handed ≡ Some number) where
-  before : (c : Cell) → IsModelledBy start c → SoFar g script_db most (suc fuel) c start now tb text
-  before c stands = subst (λ (m : ℕ). SoFar g script_db most m c start now tb text) less (follows.runs c stands)
+  before : (given : List ℕ) (c : Cell) → IsModelledBy g script_db.database given start c → SoFar g script_db given most (suc fuel) c start now tb text
+  before given c stands = subst (λ (m : ℕ). SoFar g script_db given most m c start now tb text) less (follows.runs given c stands)
 
   -- one more packet was handed over
-  pub follows_more : ((c : Cell) → IsModelledBy now c → CellTold g script_db (λ choices. Ok (delivered script_db c (first_choice choices) number)) None now later text after)
-      → ((b : ℕ) → IsSound g b now → IsSound g b later) → AreRises 0 [] (helds g.files g.faults now) (helds g.files g.faults later) → length later.sites.items ≡ length now.sites.items
-      → ((sites : List ModelSite) → AreReadBy sites (helds g.files g.faults now) → AreReadBy sites (helds g.files g.faults later))
+  pub follows_more : ((given : List ℕ) (c : Cell) → IsModelledBy g script_db.database given now c → CellTold g script_db given (λ choices. Ok (delivered script_db c (first_choice choices) number)) None now later text after)
+      → ((b : ℕ) → IsSound g b now → IsSound g b later) → AreRises 0 [] (helds g now) (helds g later) → length later.sites.items ≡ length now.sites.items
+      → ((given : List ℕ) (c : Cell) → HoldRun script_db.database given false c (helds g now) → HoldRun script_db.database given false c (helds g later))
       → Follows g script_db most fuel start later tb after
   follows_more told sounds rises same keeps =
       record {
-        runs = λ c stands.
-            let so = before c stands in
-            let t = told so.cell so.stands in
-            goes_on g script_db most fuel c start now later tb text after so number (ap (first_waiting 1) so.stands.handed ∙ waits) None t refl t.cell
+        runs = λ given c stands.
+            let so = before given c stands in
+            let t = told given so.cell so.stands in
+            goes_on g script_db given most fuel c start now later tb text after so number (ap (first_waiting 1) so.stands.handed ∙ waits) None t refl t.cell
             (same_hosts g bound bound now later (follows.sound bound sound) (sounds bound (follows.sound bound sound)) same);
         sound = λ b s. sounds b (follows.sound b s);
-        rises = rises_both 0 [] [] (helds g.files g.faults start) (helds g.files g.faults now) (helds g.files g.faults later) follows.rises rises;
+        rises = rises_both 0 [] [] (helds g start) (helds g now) (helds g later) follows.rises rises;
         same = same ∙ follows.same;
-        keeps = λ sites read. keeps sites (follows.keeps sites read);
+        keeps = λ given c hold. keeps given c (follows.keeps given c hold);
       }
 
   -- the next one passes a limit
-  pub limit_there : (c : Cell) → IsModelledBy start c → (ending : Ending) → ((d : Cell) → IsModelledBy now d → CellTold g script_db (λ choices. Ok (delivered script_db d (first_choice choices) number)) (Some ending) now later text after)
-      → CellTold g script_db (λ choices. Ok (all_delivered script_db most c choices (first_waiting 1 c.handed))) (Some ending) start later tb after
-  limit_there c stands ending told =
-      let so = before c stands in
+  pub limit_there : (given : List ℕ) (c : Cell) → IsModelledBy g script_db.database given start c → (ending : Ending) → ((d : Cell) → IsModelledBy g script_db.database given now d → CellTold g script_db given (λ choices. Ok (delivered script_db d (first_choice choices) number)) (Some ending) now later text after)
+      → CellTold g script_db given (λ choices. Ok (all_delivered script_db most c choices (first_waiting 1 c.handed))) (Some ending) start later tb after
+  limit_there given c stands ending told =
+      let so = before given c stands in
       let t = told so.cell so.stands in
-      ends_there g script_db most fuel c start now later tb text after so number (ap (first_waiting 1) so.stands.handed ∙ waits) (Some ending) t ending refl t.cell
+      ends_there g script_db given most fuel c start now later tb text after so number (ap (first_waiting 1) so.stands.handed ∙ waits) (Some ending) t ending refl t.cell
 
 -- none waits any more
 pub all_followed : {D V : Type 0} (g : Ghosts D) (script_db : ScriptDatabase) (most fuel : ℕ) (start now : OpenCell D V) (tb text : List ℕ) → Follows g script_db most fuel start now tb text
-    → first_waiting 1 now.packets.handed ≡ None → (c : Cell) → IsModelledBy start c
-    → CellTold g script_db (λ choices. Ok (all_delivered script_db most c choices (first_waiting 1 c.handed))) None start now tb text
-all_followed g script_db most fuel start now tb text follows none c stands =
-    let so = follows.runs c stands in
-    followed g script_db most fuel c start now tb text so (none_left script_db fuel so.cell (ap (first_waiting 1) so.stands.handed ∙ none))
+    → first_waiting 1 now.packets.handed ≡ None → (given : List ℕ) (c : Cell) → IsModelledBy g script_db.database given start c
+    → CellTold g script_db given (λ choices. Ok (all_delivered script_db most c choices (first_waiting 1 c.handed))) None start now tb text
+all_followed g script_db most fuel start now tb text follows none given c stands =
+    let so = follows.runs given c stands in
+    followed g script_db given most fuel c start now tb text so (none_left script_db fuel so.cell (ap (first_waiting 1) so.stands.handed ∙ none))
 
 -- as many were handed over as a script may send
 pub fuel_followed : {D V : Type 0} (g : Ghosts D) (script_db : ScriptDatabase) (most fuel : ℕ) (start now : OpenCell D V) (tb text : List ℕ) → Follows g script_db most fuel start now tb text
-    → fuel ≡ zero → (c : Cell) → IsModelledBy start c
-    → CellTold g script_db (λ choices. Ok (all_delivered script_db most c choices (first_waiting 1 c.handed))) None start now tb text
-fuel_followed g script_db most fuel start now tb text follows none c stands =
-    let so = follows.runs c stands in
-    followed g script_db most fuel c start now tb text so (ap (λ (m : ℕ). all_delivered script_db m so.cell [] (first_waiting 1 so.cell.handed)) none ∙ no_fuel script_db so.cell (first_waiting 1 so.cell.handed))
+    → fuel ≡ zero → (given : List ℕ) (c : Cell) → IsModelledBy g script_db.database given start c
+    → CellTold g script_db given (λ choices. Ok (all_delivered script_db most c choices (first_waiting 1 c.handed))) None start now tb text
+fuel_followed g script_db most fuel start now tb text follows none given c stands =
+    let so = follows.runs given c stands in
+    followed g script_db given most fuel c start now tb text so (ap (λ (m : ℕ). all_delivered script_db m so.cell [] (first_waiting 1 so.cell.handed)) none ∙ no_fuel script_db so.cell (first_waiting 1 so.cell.handed))
 
 -- memory ran out in the next one
-pub short_there : {D V : Type 0} (g : Ghosts D) (script_db : ScriptDatabase) (most fuel bound : ℕ) (start now later : OpenCell D V) (tb text : List ℕ) → Follows g script_db most fuel start now tb text
-    → IsSound g bound start → ((sites : List ModelSite) → AreReadBy sites (helds g.files g.faults now) → AreReadBy sites (helds g.files g.faults later))
-    → (run : List Choice → Run_or_why) (c : Cell) → IsModelledBy start c → IsShort g run c start later
-short_there g script_db most fuel bound start now later tb text follows sound keeps run c stands =
-    inl (keeps c.run.world.sites (follows.keeps c.run.world.sites (cell_reads g bound start c sound stands)))
+pub short_there : {D V : Type 0} (g : Ghosts D) (script_db : ScriptDatabase) (most fuel : ℕ) (start now later : OpenCell D V) (tb text : List ℕ) → Follows g script_db most fuel start now tb text
+    → ((given : List ℕ) (c : Cell) → HoldRun script_db.database given false c (helds g now) → HoldRun script_db.database given false c (helds g later))
+    → (run : List Choice → Run_or_why) (given : List ℕ) (c : Cell) → IsModelledBy g script_db.database given start c → IsShort g script_db.database given run c start later
+short_there g script_db most fuel start now later tb text follows keeps run given c stands =
+    inl (hold_short script_db.database c given (helds g later) (keeps given c (follows.keeps given c stands.disks)))

@@ -1,15 +1,16 @@
--- What happens in a world where a trigger brings a step, and what a script makes of it where no disk is armed.
-use Rattle.std.proofs.Common.{◌≡◌, ◌+◌, ℕ, zero, suc, Bool, true, false, Option, Some, None, List, [], ◌∷◌, ◌++◌, length, replicate, set, refl, sym, ap, subst, ◌∙◌}
+-- What happens in a world where a trigger brings a step, and what a script makes of it.
+use Rattle.std.proofs.Common.{if◌then◌else◌, ◌≡◌, ◌+◌, ℕ, zero, suc, Bool, true, false, Option, Some, None, List, [], ◌∷◌, ◌++◌, length, replicate, set, refl, sym, ap, subst, ◌∙◌}
 use Rattle.std.specs.Prelude.{slice_get}
 use Rattle.db_image.specs.Database.{Database}
 use Rattle.cell_model.specs.declared.events.NodeEvent.{NodeEvent}
+use Rattle.cell_model.specs.Durable.{Made}
 use Rattle.cell_model.specs.Node as model
 use Rattle.cell_model.specs.NodeRule.{step_of}
-use Rattle.cell_model.specs.Book.{clock_at}
+use Rattle.cell_model.specs.Book.{clock_at, clock_in}
 use Rattle.cell_model.specs.Step.{Stepped}
-use Rattle.cell_model.specs.World.{World, Site, Trigger, Step, Fault, Happened, SiteHappened, happens, happens_at, happened_at, triggered, occasion, member, site_of, step_at, fault_at, step_up, fault_up, halted_step, only_marks, lost_at}
+use Rattle.cell_model.specs.World.{World, Site, Trigger, Step, Fault, Stop, Happened, SiteHappened, happens, happens_at, happened_at, triggered, occasion, member, site_of, step_at, fault_at, stop_at, step_up, fault_up, stop_up, halted_step, only_marks, lost_at}
 use Rattle.cell_runs.specs.ScriptDatabase.{ScriptDatabase}
-use Rattle.cell_runs.specs.Script.{Armed, Cell, Cell_run, Choice, sound, DiskOutcome, Serves, Fails_after, armed_at, counted_on, stops_in, calls_on_all, outcome_of_stop, outcome_up, outcome_at, outcome_of, node_in, place_in, stepped_so, stepped, with_event, happened}
+use Rattle.cell_runs.specs.Script.{Armed, Cell, Cell_run, Choice, sound, DiskOutcome, Serves, Fails_after, Stops_after, armed_at, counted_on, stops_in, calls_on_all, outcome_of_stop, outcome_up, outcome_at, outcome_of, node_in, place_in, stepped_so, stepped, with_event, happened}
 
 -- ---- the world
 
@@ -29,46 +30,33 @@ module _ (db : Database) (w : World) (trigger : Trigger) (k : ℕ) (e : NodeEven
   pub down_happens : site.node ≡ model.Down → happens db w (Step trigger []) ≡ happened_at w k (only_marks site (lost_at trigger))
   down_happens is = step_happens ∙ ap (λ (n : model.Node). happened_at w k (step_at db (member w k) trigger e [] site n)) is
 
-  pub fault_happens : (s : model.Server) → site.node ≡ model.Up s → happens db w (Fault trigger [] 0) ≡ happened_at w k (fault_up k site e s (step_of db (member w k) s site.clock e []) 0)
-  fault_happens s is =
-      ap (triggered w (λ m e site. fault_at db m e [] 0 site site.node)) o
-      ∙ ap (happens_at w k (λ site. fault_at db (member w k) e [] 0 site site.node)) there
-      ∙ ap (λ (n : model.Node). happened_at w k (fault_at db (member w k) e [] 0 site n)) is
+  pub fault_happens : (s : model.Server) (made : ℕ) → site.node ≡ model.Up s → happens db w (Fault trigger [] made) ≡ happened_at w k (fault_up k site e s (step_of db (member w k) s site.clock e []) made)
+  fault_happens s made is =
+      ap (triggered w (λ m e site. fault_at db m e [] made site site.node)) o
+      ∙ ap (happens_at w k (λ site. fault_at db (member w k) e [] made site site.node)) there
+      ∙ ap (λ (n : model.Node). happened_at w k (fault_at db (member w k) e [] made site n)) is
 
--- ---- no disk is armed
+  pub stop_happens : (s : model.Server) (made : ℕ) → site.node ≡ model.Up s → happens db w (Stop trigger [] made) ≡ happened_at w k (stop_up k site s.version (step_of db (member w k) s site.clock e []) made)
+  stop_happens s made is =
+      ap (triggered w (λ m e site. stop_at db m e [] made site site.node)) o
+      ∙ ap (happens_at w k (λ site. stop_at db (member w k) e [] made site site.node)) there
+      ∙ ap (λ (n : model.Node). happened_at w k (stop_at db (member w k) e [] made site n)) is
 
-none_armed : (n k : ℕ) → armed_at (replicate n None) k ≡ None
-none_armed zero k = refl
-none_armed (suc n) zero = refl
-none_armed (suc n) (suc k) = none_armed n k
+-- ---- a line
 
-abbrev not_armed : Option Armed
-not_armed = None
+-- the cell with other disks armed
+abbrev pub with_armed : Cell → List (Option Armed) → Cell
+with_armed c armed = record c { armed = armed }
 
-still_none : (n k : ℕ) → set (replicate n not_armed) k None ≡ replicate n None
-still_none zero k = refl
-still_none (suc n) zero = refl
-still_none (suc n) (suc k) = ap (λ (l : List (Option Armed)). None ∷ l) (still_none n k)
+-- the choice of a step in which the disk fails
+abbrev pub fails_after : ℕ → Choice
+fails_after made = record { fails = true; made = made; took = false }
 
--- no armed disk is counted on
-pub unarmed : (armed : List (Option Armed)) (n k calls : ℕ) → armed ≡ replicate n None → set armed k (counted_on calls (armed_at armed k)) ≡ armed
-unarmed armed n k calls is =
-    ap (λ (a : List (Option Armed)). set a k (counted_on calls (armed_at a k))) is
-    ∙ ap (λ (a : Option Armed). set (replicate n None) k (counted_on calls a)) (none_armed n k)
-    ∙ still_none n k ∙ sym is
+-- the choice of a step in which the disk may stop
+abbrev pub stops_so : Bool → Choice
+stops_so took = record { fails = false; made = 0; took = took }
 
-module _ (script_db : ScriptDatabase) (c : Cell) (n : ℕ) (none : c.armed ≡ replicate n None) (trigger : Trigger) (k : ℕ) (e : NodeEvent) (site : Site) (o : occasion c.run.world trigger ≡ Some (k, e)) (there : slice_get c.run.world.sites k ≡ Some site) where
-  -- a disk that is sound serves the step
-  serves : (node : model.Node) → (calls : ℕ) × (outcome_at script_db.database c.run.world sound c.armed (k, e) node ≡ Serves calls)
-  serves model.Down = (0, refl)
-  serves (model.Halted h) = (0, refl)
-  serves (model.Up s) =
-      let t = step_of script_db.database (member c.run.world k) s (clock_at c.run.world k) e [] in (
-        calls_on_all s.version t.calls,
-        ap (λ (a : Option Armed). outcome_of_stop (calls_on_all s.version t.calls) false (stops_in s.version t.calls a))
-            (ap (λ (a : List (Option Armed)). armed_at a k) none ∙ none_armed n k),
-      )
-
+module _ (script_db : ScriptDatabase) (c : Cell) (trigger : Trigger) (k : ℕ) (e : NodeEvent) (site : Site) (o : occasion c.run.world trigger ≡ Some (k, e)) (there : slice_get c.run.world.sites k ≡ Some site) where
   outcome_is : (choice : Choice) → outcome_of script_db.database c.run.world choice c.armed (occasion c.run.world trigger) ≡ outcome_at script_db.database c.run.world choice c.armed (k, e) site.node
   outcome_is choice =
       ap (outcome_of script_db.database c.run.world choice c.armed) o
@@ -79,15 +67,40 @@ module _ (script_db : ScriptDatabase) (c : Cell) (n : ℕ) (none : c.armed ≡ r
       ap (λ (p : ℕ). stepped_so script_db c trigger p (outcome_of script_db.database c.run.world choice c.armed (occasion c.run.world trigger))) (ap place_in o)
       ∙ ap (stepped_so script_db c trigger k) (outcome_is choice ∙ is)
 
-  -- where no disk fails the step is made
-  pub stepped_sound : stepped script_db c sound trigger ≡ with_event script_db c (Step trigger [])
-  stepped_sound =
-      let s = serves site.node in
-      as_outcome sound (Serves s.0) s.1
-      ∙ ap (λ (a : List (Option Armed)). with_event script_db (record c { armed = a }) (Step trigger [])) (unarmed c.armed n k s.0 none)
+  -- a server that makes no call of its disk
+  pub stepped_down : site.node ≡ model.Down → stepped script_db c sound trigger ≡ with_event script_db (with_armed c (set c.armed k (counted_on 0 (armed_at c.armed k)))) (Step trigger [])
+  stepped_down is = as_outcome sound (Serves 0) (ap (outcome_at script_db.database c.run.world sound c.armed (k, e)) is)
 
-  -- where the disk of a server that is up fails before its first durable call, the server is halted
-  pub stepped_fails : (s : model.Server) → site.node ≡ model.Up s → stepped script_db c (record { fails = true; made = 0; took = false }) trigger ≡ with_event script_db c (Fault trigger [] 0)
-  stepped_fails s is =
-      as_outcome (record { fails = true; made = 0; took = false }) (Fails_after 0)
-      (ap (outcome_at script_db.database c.run.world (record { fails = true; made = 0; took = false }) c.armed (k, e)) is)
+  pub stepped_halted : (h : model.HaltedServer) → site.node ≡ model.Halted h → stepped script_db c sound trigger ≡ with_event script_db (with_armed c (set c.armed k (counted_on 0 (armed_at c.armed k)))) (Step trigger [])
+  stepped_halted h is = as_outcome sound (Serves 0) (ap (outcome_at script_db.database c.run.world sound c.armed (k, e)) is)
+
+  module _ (s : model.Server) (up : site.node ≡ model.Up s) where
+    -- the durable calls of the step
+    abbrev pub calls_here : List Made
+    calls_here = (step_of script_db.database (member c.run.world k) s site.clock e []).calls
+
+    clock_here : clock_at c.run.world k ≡ site.clock
+    clock_here = ap clock_in there
+
+    outcome_here : (choice : Choice) → outcome_at script_db.database c.run.world choice c.armed (k, e) site.node ≡ outcome_up choice s.version calls_here (armed_at c.armed k)
+    outcome_here choice =
+        ap (outcome_at script_db.database c.run.world choice c.armed (k, e)) up
+        ∙ ap (λ (now : ℕ). outcome_up choice s.version (step_of script_db.database (member c.run.world k) s now e []).calls (armed_at c.armed k)) clock_here
+
+    -- a step that the disk serves
+    pub stepped_served : stops_in s.version calls_here (armed_at c.armed k) ≡ None
+        → stepped script_db c sound trigger ≡ with_event script_db (with_armed c (set c.armed k (counted_on (calls_on_all s.version calls_here) (armed_at c.armed k)))) (Step trigger [])
+    stepped_served none =
+        as_outcome sound (Serves (calls_on_all s.version calls_here))
+        (outcome_here sound ∙ ap (outcome_of_stop (calls_on_all s.version calls_here) false) none)
+
+    -- one in which the disk fails, after so many durable calls
+    pub stepped_fails : (made : ℕ) → stepped script_db c (fails_after made) trigger ≡ with_event script_db c (Fault trigger [] made)
+    stepped_fails made = as_outcome (fails_after made) (Fails_after made) (outcome_here (fails_after made))
+
+    -- one in which it stops
+    pub stepped_stops : (took : Bool) (whole : ℕ) → stops_in s.version calls_here (armed_at c.armed k) ≡ Some whole
+        → stepped script_db c (stops_so took) trigger ≡ with_event script_db (with_armed c (set c.armed k None)) (Stop trigger [] (if took then whole + 1 else whole))
+    stepped_stops took whole is =
+        as_outcome (stops_so took) (Stops_after (if took then whole + 1 else whole))
+        (outcome_here (stops_so took) ∙ ap (outcome_of_stop (calls_on_all s.version calls_here) took) is)

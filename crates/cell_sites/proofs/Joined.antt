@@ -1,8 +1,8 @@
 -- A step of a server and what was told of it, joined: what a step does in a running cell.
-use Rattle.std.proofs.Common.{if◌then◌else◌, ◌≡◌, ◌≢◌, ◌⊎◌, inl, inr, ◌<◌, ◌≤◌, ◌+◌, ℕ, zero, suc, Bool, true, false, Option, Some, None, Result, Ok, Err, List, [], ◌∷◌, ◌++◌, length, map, set, get_or, refl, sym, ap, subst, ◌∙◌, arith}
-use Rattle.std.specs.Prelude.{All, IsSomeAnd, filter_map, slice_get}
+use Rattle.std.proofs.Common.{if◌then◌else◌, ◌≡◌, ◌≢◌, ◌⊎◌, inl, inr, ◌<◌, ◌≤◌, ◌+◌, ℕ, zero, suc, Bool, true, false, Option, Some, None, Result, Ok, Err, List, [], ◌∷◌, ◌++◌, length, map, set, get_or, take, sum, refl, sym, ap, subst, ◌∙◌, arith}
+use Rattle.std.specs.Prelude.{All, IsSome, IsSomeAnd, filter_map, slice_get}
 use Rattle.std.specs.List.{cons_option}
-use Rattle.std.proofs.lemmas.List.{length-set}
+use Rattle.std.proofs.lemmas.List.{append-nil, length-set}
 use Rattle.std.proofs.lemmas.List.Elements.{All-nil, All-cons, All-head, All-tail}
 use Rattle.disk_base.specs.declared.disks.Disk.{Ghosts}
 use Rattle.disk_base.specs.Files.{Files}
@@ -14,41 +14,51 @@ use Rattle.cell_model.specs.declared.events.NodeEvent.TheVariants as event
 use Rattle.cell_model.specs.declared.events.Output.{Output}
 use Rattle.cell_model.specs.declared.events.Output.TheVariants as output
 use Rattle.ubik_types.specs.declared.versions.Version.{Version}
-use Rattle.cell_model.specs.Durable.{durable}
+use Rattle.cell_model.specs.Durable.{Durable, Made, durable, durable_after_all}
 use Rattle.cell_model.specs.Node as model
 use Rattle.cell_model.specs.NodeRule.{refusals, step_of}
 use Rattle.cell_model.specs.Step.{Evaluation, Shown, Stepped, outputs_of}
 use Rattle.cell_model.specs.Voters.{AnswersCall, AsksNoOther, IsOkOf, IsOfVotes, IsTaken, IsVotePacket, IsVoter, VotersVote}
-use Rattle.cell_model.specs.World.{Site as ModelSite, Trigger, Happening, Halts, occasion, packet_in, packet_of, packets_of}
+use Rattle.cell_model.specs.World.{Site as ModelSite, World, Trigger, Happened, Happening, Halts, happened_at, happens, occasion, packet_in, packet_of, packets_of}
+use Rattle.cell_model.proofs.WholeWorld.{step_leads}
 use Rattle.cell_script.specs.declared.lines.Why.{Why}
 use Rattle.cell_runs.specs.declared.endings.Ending.{Ending}
 use Rattle.cell_runs.specs.ScriptDatabase.{ScriptDatabase}
-use Rattle.cell_runs.specs.Script.{Cell, Cell_run, Choice, Run_or_why, first_choice, stepped}
-use Rattle.cell_runs.specs.Trace.{Tells, trace}
-use Rattle.ubik_store.specs.Files.{StandsFor as FilesStandFor}
+use Rattle.cell_runs.specs.Script.{Cell, Cell_run, Choice, Run_or_why, cell_after, first_choice, stepped}
+use Rattle.cell_runs.specs.Trace.{Tells, fault_count, mark_text, trace}
+use Rattle.cell_runs.specs.declared.traces.Mark.TheVariants as mark
 use Rattle.ubik_node.specs.declared.nodes.Node.{Node}
 use Rattle.ubik_node.specs.declared.nodes.StepEnd.{StepEnd}
 use Rattle.ubik_node.specs.declared.nodes.StepEnd.TheVariants.{Done, Halted, NoMemory}
-use Rattle.ubik_node.specs.Node.{Steps, node_of}
+use Rattle.ubik_node.specs.Disk.{FailsIn, IsRevived, StandsAs}
+use Rattle.ubik_node.specs.Node.{Calls, Steps, durable_in, node_of, up_server}
 use Rattle.cell_sites.specs.declared.cells.OpenCell.{OpenCell}
-use Rattle.cell_sites.specs.declared.sites.Server.TheVariants.{Up}
+use Rattle.cell_sites.specs.declared.sites.Server.{Server}
+use Rattle.cell_sites.specs.declared.sites.Server.TheVariants.{Down, Up}
 use Rattle.cell_sites.specs.declared.sites.Site.{Site}
-use Rattle.cell_sites.specs.Disks.{IsReadBy, AreReadBy, AreRises, ReadsNode, held}
-use Rattle.cell_sites.specs.Sites.{AreSitesOf, IsModelledBy, IsSiteOf, helds, server_node, site_disk}
-use Rattle.cell_sites.specs.Sound.{IsSound}
-use Rattle.cell_sites.specs.Stepped.{NodeStepped, SiteStepped, member_at, up_site}
+use Rattle.cell_sites.specs.declared.steps.SiteEnd.{SiteEnd}
+use Rattle.cell_sites.specs.declared.steps.SiteEnd.TheVariants as ended
+use Rattle.cell_sites.specs.Counts.{HoldRun, IsRiseIn}
+use Rattle.cell_sites.specs.Disks.{Held, IsReadBy, AreReadBy, AreRises, held}
+use Rattle.cell_sites.specs.Sites.{AreArmed, AreSitesOf, IsModelledBy, IsSiteOf, helds, server_disk, server_node, site_disk}
+use Rattle.cell_sites.specs.Sound.{IsSound, IsSoundDisk, IsSoundServer}
+use Rattle.cell_sites.specs.Stepped.{Becomes, IsHalted, IsMade, IsStoppedIn, NodeStepped, SiteStepped, member_at, up_site}
 use Rattle.cell_sites.specs.Telling.{IsNotShort, MayBeTold, Telling, TellingRun, WholeTold, halt_marks, told_of}
 use Rattle.cell_sites.specs.Told.{CellTold, IsShort}
 use Rattle.cell_sites.specs.Traffic.{Traffic, sent_all}
 use Rattle.cell_sites.proofs.Agreeing.{AreMarks}
 use Rattle.cell_sites.proofs.AtPlace.{IsSiteAt, site_at}
-use Rattle.cell_sites.proofs.Made.{DoneBy, StepMade, done_by, made_whole, made_halted}
+use Rattle.cell_sites.proofs.Counting.{AreMoved, GoesOn, hold_more, hold_short, hold_still}
+use Rattle.cell_sites.proofs.Ended.{disk_made, faults_made, stays_sound}
+use Rattle.cell_sites.proofs.Happening.{with_armed}
+use Rattle.cell_sites.proofs.Made.{DoneBy, StepMade, done_by, end_marks, made_fault, made_rested, made_stop, made_whole, marks_others}
 use Rattle.cell_sites.proofs.Nodes.{is_up}
-use Rattle.cell_sites.proofs.Reading.{cell_reads, server_reads}
-use Rattle.cell_sites.proofs.Running.{held_at, reads_both, reads_set, rises_set, whole, part, short_after}
-use Rattle.cell_sites.proofs.Shortage.{CameShort, IsEither, packet_keeps}
+use Rattle.cell_sites.proofs.Plainly.{and_some, make_some}
+use Rattle.cell_sites.proofs.Reading.{read_at}
+use Rattle.cell_sites.proofs.Running.{held_at, moved_set, part, reads_both, reads_set, rises_set, short_after, whole}
+use Rattle.cell_sites.proofs.Serving.{files_at, one_durable, served_rise}
+use Rattle.cell_sites.proofs.Shortage.{CameShort, IsEither}
 use Rattle.cell_sites.proofs.Soundly.{IsHere, here, sound_after}
-use Rattle.cell_sites.proofs.Standing.{stands_once}
 
 -- ---- outputs
 
@@ -96,271 +106,309 @@ short_passes script_db hosts k call text sent (one ∷ []) id ending run is told
 
 -- ---- marks
 
-are_marks : (k : ℕ) (halts : Bool) → AreMarks (halt_marks k halts)
-are_marks k true = tt
-are_marks k false = tt
+are_marks : (k : ℕ) (end : SiteEnd) → AreMarks (end_marks k end)
+are_marks k ended.Made = tt
+are_marks k ended.Halts = tt
+are_marks k ended.Stops = tt
+are_marks k ended.NoMemory = tt
 
-module _ {D V : Type 0} (g : Ghosts D) (script_db : ScriptDatabase) (before mid after : OpenCell D V) (law : VotersVote) (k : ℕ) (e : NodeEvent) (end : StepEnd) (halts : Bool) (call : List ℕ) (bound : ℕ) (sound : IsSound g bound before) (taken : IsTaken (member_at before k) e) (asks : AsksNoOther e call) (ss : SiteStepped g script_db.database k e end halts before mid) (hosts : after.hosts.items ≡ mid.hosts.items) (sites : after.sites.items ≡ mid.sites.items) where
+-- a step that is told by its outputs and whether the server was halted in it
+abbrev pub Tells_halt : ℕ → SiteEnd → Bool → Type 0
+Tells_halt k end halts = halt_marks k halts ≡ end_marks k end
+
+pub tells_made : (k : ℕ) (end : SiteEnd) → end ≡ ended.Made → Tells_halt k end false
+tells_made k end is = sym (ap (end_marks k) is)
+
+pub tells_halts : (k : ℕ) (end : SiteEnd) → end ≡ ended.Halts → Tells_halt k end true
+tells_halts k end is = sym (ap (end_marks k) is)
+
+-- a step that ended otherwise found memory
+pub found_made : (end : SiteEnd) → end ≡ ended.Made → end ≢ ended.NoMemory
+found_made end is short = let never : ended.Made ≡ ended.NoMemory = sym is ∙ short in cc
+
+pub found_halts : (end : SiteEnd) → end ≡ ended.Halts → end ≢ ended.NoMemory
+found_halts end is short = let never : ended.Halts ≡ ended.NoMemory = sym is ∙ short in cc
+
+module _ {D V : Type 0} (g : Ghosts D) (script_db : ScriptDatabase) (before mid after : OpenCell D V) (law : VotersVote) (k : ℕ) (e : NodeEvent) (end : SiteEnd) (call : List ℕ) (bound : ℕ) (sound : IsSound g bound before) (taken : IsTaken (member_at before k) e) (asks : AsksNoOther e call) (ss : SiteStepped g script_db.database k e end before mid) (hosts : after.hosts.items ≡ mid.hosts.items) (sites : after.sites.items ≡ mid.sites.items) where
   at : IsHere g bound before k ss.clock ss.node
   at = here g bound before k ss.clock ss.node sound ss.there
 
-  all_sites : after.sites.items ≡ set before.sites.items k (up_site ss.clock ss.later)
+  -- the site after the step
+  abbrev pub later_site : Site D V
+  later_site = record { clock = ss.clock; server = ss.server }
+
+  all_sites : after.sites.items ≡ set before.sites.items k later_site
   all_sites = sites ∙ ss.sites
 
-  pub rises : AreRises 0 [] (helds g.files g.faults before) (helds g.files g.faults after)
+  faults : g.faults ss.node.store.disk + fault_count k (map Tells (end_marks k end)) ≤ g.faults (server_disk ss.server)
+  faults = faults_made g script_db.database (member_at before k) ss.clock e k end ss.node ss.later ss.out ss.server mid.outputs ss.step ss.becomes
+
+  pub rises : AreRises 0 [] (helds g before) (helds g after)
   rises =
-      subst (λ (l : List (Site D V)). AreRises 0 [] (helds g.files g.faults before) (map (held_at {V = V} g) l)) (sym all_sites)
-      (rises_set g [] 0 k before.sites.items (up_site ss.clock ss.node) (up_site ss.clock ss.later) ss.there (let kept = ss.step.never_falls in omega (arith, kept)) (λ j other. refl))
+      subst (λ (l : List (Site D V)). AreRises 0 [] (helds g before) (map (held_at {V = V} g) l)) (sym all_sites)
+      (rises_set g [] 0 k before.sites.items (up_site ss.clock ss.node) later_site ss.there (let kept = faults in omega (arith, kept)) (λ j other. refl))
 
   pub as_many : length after.sites.items ≡ length before.sites.items
-  as_many = ap length all_sites ∙ length-set before.sites.items k (up_site ss.clock ss.later)
+  as_many = ap length all_sites ∙ length-set before.sites.items k later_site
 
   -- the packets that are sent are of votes
   pub votes : All (IsVotePacket before.hosts.items) (filter_map packet_in mid.outputs)
-  votes = by end refl
+  votes = by end ss.step ss.becomes
     where
-      P : StepEnd → Type 0
-      P x = Steps g script_db.database (member_at before k) x e ss.clock (node_of ss.node) (node_of ss.later) mid.outputs ss.node.store.disk ss.later.store.disk
-
       of_refusals : (x : NodeEvent) → All (IsVotePacket before.hosts.items) (filter_map packet_in (outputs_of (refusals x)))
       of_refusals (event.Packet p) = All-nil _
       of_refusals event.BeaconTurn = All-nil _
       of_refusals event.RecoverTurn = All-nil _
       of_refusals (event.Ask id asked) = All-nil _
 
-      made : (x : model.Node) → node_of ss.node ≡ x → Steps g script_db.database (member_at before k) Done e ss.clock x (node_of ss.later) mid.outputs ss.node.store.disk ss.later.store.disk → All (IsVotePacket before.hosts.items) (filter_map packet_in mid.outputs)
-      made model.Down is steps = absurd steps
-      made (model.Halted h) is steps = absurd steps
-      made (model.Up s) is (short, makes) =
+      made : (out : List Output) (x y : model.Node) (b a : D) → node_of ss.node ≡ x → Steps g script_db.database (member_at before k) Done e ss.clock x y out b a → All (IsVotePacket before.hosts.items) (filter_map packet_in out)
+      made out model.Down y b a is steps = absurd steps
+      made out (model.Halted h) y b a is steps = absurd steps
+      made out (model.Up s) y b a is (short, makes) =
           let t = step_of script_db.database (member_at before k) s ss.clock e short in
           let voter = subst (IsVoter (member_at before k)) (is_up ss.node s is).1 at.sound.voter in
           let step = law.steps script_db.database (member_at before k) s ss.clock e short at.me voter taken in
           subst (λ (l : List Packet). All (IsVotePacket before.hosts.items) l) (sym (ap (λ (o : List Output). filter_map packet_in o) makes.outputs ∙ packets_in t.shown)) step.packets
 
-      refused : (x : model.Node) → Steps g script_db.database (member_at before k) Halted e ss.clock x (node_of ss.later) mid.outputs ss.node.store.disk ss.later.store.disk → mid.outputs ≡ outputs_of (refusals e)
-      refused model.Down steps = absurd steps
-      refused (model.Halted h) steps = steps.1
-      refused (model.Up s) steps = steps.1
+      refused : (out : List Output) (x y : model.Node) (b a : D) → Steps g script_db.database (member_at before k) Halted e ss.clock x y out b a → out ≡ outputs_of (refusals e)
+      refused out model.Down y b a steps = absurd steps
+      refused out (model.Halted h) y b a steps = steps.1
+      refused out (model.Up s) y b a steps = steps.1
 
-      by : (x : StepEnd) → end ≡ x → All (IsVotePacket before.hosts.items) (filter_map packet_in mid.outputs)
-      by Done is = made (node_of ss.node) refl (subst P is ss.step.steps)
-      by Halted is = subst (λ (o : List Output). All (IsVotePacket before.hosts.items) (filter_map packet_in o)) (sym (refused (node_of ss.node) (subst P is ss.step.steps))) (of_refusals e)
-      by NoMemory is = subst (λ (o : List Output). All (IsVotePacket before.hosts.items) (filter_map packet_in o)) (sym (subst P is ss.step.steps).1) (All-nil _)
+      of_refused : (out : List Output) → out ≡ outputs_of (refusals e) → All (IsVotePacket before.hosts.items) (filter_map packet_in out)
+      of_refused out is = subst (λ (o : List Output). All (IsVotePacket before.hosts.items) (filter_map packet_in o)) (sym is) (of_refusals e)
+
+      of_left : (left : List Output) → mid.outputs ≡ left → All (IsVotePacket before.hosts.items) (filter_map packet_in left) → All (IsVotePacket before.hosts.items) (filter_map packet_in mid.outputs)
+      of_left left is all = subst (λ (o : List Output). All (IsVotePacket before.hosts.items) (filter_map packet_in o)) (sym is) all
+
+      by : (x : SiteEnd) → NodeStepped g script_db.database (member_at before k) ss.clock e x ss.node ss.later ss.out → Becomes g x ss.later ss.out ss.server mid.outputs → All (IsVotePacket before.hosts.items) (filter_map packet_in mid.outputs)
+      by ended.Made step becomes = of_left ss.out becomes.1 (ends step.ends)
+        where
+          ends : (step.end ≡ Done) ⊎ ((step.end ≡ Halted) × (ss.node.halted ≡ true)) → All (IsVotePacket before.hosts.items) (filter_map packet_in ss.out)
+          ends (inl done) =
+              made ss.out (node_of ss.node) (node_of ss.later) ss.node.store.disk ss.later.store.disk refl
+              (subst (λ (x : StepEnd). Steps g script_db.database (member_at before k) x e ss.clock (node_of ss.node) (node_of ss.later) ss.out ss.node.store.disk ss.later.store.disk) done step.steps)
+          ends (inr (halted, was)) =
+              of_refused ss.out (refused ss.out (node_of ss.node) (node_of ss.later) ss.node.store.disk ss.later.store.disk
+              (subst (λ (x : StepEnd). Steps g script_db.database (member_at before k) x e ss.clock (node_of ss.node) (node_of ss.later) ss.out ss.node.store.disk ss.later.store.disk) halted step.steps))
+      by ended.Halts step becomes = of_left ss.out becomes.1 (of_refused ss.out (refused ss.out (node_of ss.node) (node_of ss.later) ss.node.store.disk step.failed step.steps))
+      by ended.Stops step becomes = of_left [] becomes.1 (All-nil _)
+      by ended.NoMemory step becomes = of_left ss.out becomes.1 (of_left_none step.steps.1)
+        where
+          of_left_none : ss.out ≡ [] → All (IsVotePacket before.hosts.items) (filter_map packet_in ss.out)
+          of_left_none none = subst (λ (o : List Output). All (IsVotePacket before.hosts.items) (filter_map packet_in o)) (sym none) (All-nil _)
+
+  -- where its disk stopped it puts nothing out
+  pub stops_quiet : end ≡ ended.Stops → mid.outputs ≡ []
+  stops_quiet is = (subst (λ (x : SiteEnd). Becomes g x ss.later ss.out ss.server mid.outputs) is ss.becomes).1
 
   pub sound_still : (packets : after.packets ≡ sent_all mid.packets (filter_map packet_in mid.outputs)) → after.outputs ≡ [] → (other : ℕ) → IsSound g other before → IsSound g other after
   sound_still packets empty other still =
-      sound_after g other before after k ss.clock ss.node ss.later (filter_map packet_in mid.outputs) still ss.there ss.step.sound all_sites (hosts ∙ ss.hosts)
+      let kept = stays_sound g script_db.database (member_at before k) ss.clock e end ss.node ss.later ss.out ss.server mid.outputs at.disk ss.step ss.becomes in
+      sound_after g other before after k (up_site ss.clock ss.node) later_site (filter_map packet_in mid.outputs) still ss.there refl kept.0 kept.1 all_sites (hosts ∙ ss.hosts)
       (packets ∙ ap (λ (t : Traffic). sent_all t (filter_map packet_in mid.outputs)) ss.packets) votes empty
 
-  module _ (c : Cell) (stands : IsModelledBy before c) (trigger : Trigger) (o : occasion c.run.world trigger ≡ Some (k, e)) where
+  module _ (given : List ℕ) (c : Cell) (stands : IsModelledBy g script_db.database given before c) (trigger : Trigger) (o : occasion c.run.world trigger ≡ Some (k, e)) where
     -- the step as a line
-    abbrev steps_so : List Choice → Run_or_why
+    abbrev pub steps_so : List Choice → Run_or_why
     steps_so choices = Ok (stepped script_db c (first_choice choices) trigger)
 
-    abbrev made_here : Type 0
-    made_here = StepMade g.faults script_db c before.hosts.items k trigger call halts ss.clock ss.node ss.later mid.outputs
+    abbrev pub made_here : Type 0
+    made_here = StepMade g script_db c before k trigger call (end_marks k end) (up_site ss.clock ss.node) later_site mid.outputs
 
     site : IsSiteAt (up_site {D = D} {V = V} ss.clock ss.node) c.run.world.sites k
     site = site_at before.sites.items c.run.world.sites k (up_site ss.clock ss.node) stands.sites ss.there
 
-    abbrev steps_as : StepEnd → Type 0
-    steps_as x = Steps g script_db.database (member_at before k) x e ss.clock (node_of ss.node) (node_of ss.later) mid.outputs ss.node.store.disk ss.later.store.disk
+    -- what its disk read as
+    read : IsReadBy site.s (held g ss.node.store.disk)
+    read = read_at g c.run.world.sites before.sites.items k site.s (up_site ss.clock ss.node) stands.disks.read site.there ss.there
 
-    -- a step that was made
-    by_done : (done : DoneBy g script_db before c stands law k e trigger o site.s site.there call ss.clock ss.node ss.later site.is.clock site.is.node at.me taken asks at.sound mid.outputs ss.node.store.disk ss.later.store.disk) → end ≡ Done
-        → step_of script_db.database (member_at before k) done.s ss.clock e done.short ≡ step_of script_db.database (member_at before k) done.s ss.clock e [] → made_here
-    by_done done is same = by halts refl
+    -- a step that was made, and what it comes to where all memory was found, or where it came short
+    pub data Comes : Type 0 where
+      made : made_here → Comes
+      short : (id : ℕ) → mid.outputs ≡ output.Reply id reply.NoMemory ∷ [] → HoldRun script_db.database given false c (helds g after) → Comes
+      rests : end ≡ ended.NoMemory → HoldRun script_db.database given false c (helds g after) → Comes
+
+    -- the disks hold what they held
+    holds_still : IsReadBy site.s (held g (server_disk ss.server)) → g.steps (server_disk ss.server) ≡ g.steps ss.node.store.disk → HoldRun script_db.database given false c (helds g after)
+    holds_still is same =
+        subst (λ (l : List (Site D V)). HoldRun script_db.database given false c (map (held_at {V = V} g) l)) (sym all_sites)
+        (hold_still script_db.database c given (helds g before) (map (held_at {V = V} g) (set before.sites.items k later_site))
+        (reads_set g c.run.world.sites before.sites.items k site.s later_site stands.disks.read site.there is)
+        (moved_set g (λ j x y. y.steps ≡ x.steps) 0 k before.sites.items (up_site ss.clock ss.node) later_site ss.there same (λ j x other. refl)) stands.disks)
+
+    comes : Comes
+    comes = by end ss.step ss.becomes refl
       where
-        by : (b : Bool) → halts ≡ b → made_here
-        by true hb = let never = (ss.step.halted hb).0 in cc
-        by false hb =
-            subst (λ (b : Bool). StepMade g.faults script_db c before.hosts.items k trigger call b ss.clock ss.node ss.later mid.outputs) (sym hb)
-            (made_whole g script_db before c stands law k e trigger o site.s site.there call ss.clock ss.node ss.later site.is.clock site.is.node at.me taken asks at.sound mid.outputs ss.node.store.disk ss.later.store.disk done same ss.step.never_falls)
+        as_made : (x : SiteEnd) (server : Server D V) (left : List Output) → end ≡ x → ss.server ≡ server → mid.outputs ≡ left
+            → StepMade g script_db c before k trigger call (end_marks k x) (up_site ss.clock ss.node) (record { clock = ss.clock; server = server }) left → Comes
+        as_made x server left is same outputs m =
+            made (subst (λ (y : SiteEnd). StepMade g script_db c before k trigger call (end_marks k y) (up_site ss.clock ss.node) later_site mid.outputs) (sym is)
+            (subst (λ (y : Server D V). StepMade g script_db c before k trigger call (end_marks k x) (up_site ss.clock ss.node) (record { clock = ss.clock; server = y }) mid.outputs) (sym same)
+            (subst (λ (y : List Output). StepMade g script_db c before k trigger call (end_marks k x) (up_site ss.clock ss.node) (record { clock = ss.clock; server = server }) y) (sym outputs) m)))
 
-    done : end ≡ Done → DoneBy g script_db before c stands law k e trigger o site.s site.there call ss.clock ss.node ss.later site.is.clock site.is.node at.me taken asks at.sound mid.outputs ss.node.store.disk ss.later.store.disk
-    done is = done_by g script_db before c stands law k e trigger o site.s site.there call ss.clock ss.node ss.later site.is.clock site.is.node at.me taken asks at.sound mid.outputs ss.node.store.disk ss.later.store.disk (subst steps_as is ss.step.steps)
+        steps_as : (step : IsMade g script_db.database (member_at before k) ss.clock e ss.node ss.later ss.out) (x : StepEnd) → step.end ≡ x → Steps g script_db.database (member_at before k) x e ss.clock (node_of ss.node) (node_of ss.later) ss.out ss.node.store.disk ss.later.store.disk
+        steps_as step x is = subst (λ (y : StepEnd). Steps g script_db.database (member_at before k) y e ss.clock (node_of ss.node) (node_of ss.later) ss.out ss.node.store.disk ss.later.store.disk) is step.steps
 
-    -- a step that was refused, now or before
-    by_halted : end ≡ Halted → made_here
-    by_halted is =
-        made_halted g script_db before c stands law k e trigger o site.s site.there call ss.clock ss.node ss.later site.is.clock site.is.node at.me taken asks at.sound halts mid.outputs ss.node.store.disk ss.later.store.disk
-        (subst steps_as is ss.step.steps) (λ yes. let h = ss.step.halted yes in (h.1, h.2)) (λ no. ss.step.rests no is) ss.step.never_falls
-
-    -- what was made of which enough was told
-    pub made : end ≢ NoMemory → ((id : ℕ) → mid.outputs ≡ output.Reply id reply.NoMemory ∷ [] → ⊥) → made_here
-    made other found = by end refl
-      where
-        by : (x : StepEnd) → end ≡ x → made_here
-        by Done is =
-            let d = done is in
-            by_done d is (whole_of d.either d.makes.outputs)
+        by : (x : SiteEnd) → NodeStepped g script_db.database (member_at before k) ss.clock e x ss.node ss.later ss.out → Becomes g x ss.later ss.out ss.server mid.outputs → end ≡ x → Comes
+        by ended.Made step becomes is = ends step.ends
           where
-            whole_of : {s : model.Server} {t u : Stepped} → IsEither s t u → mid.outputs ≡ outputs_of t.shown → t ≡ u
-            whole_of (inl same) outputs = same
-            whole_of (inr came) outputs = absurd (found came.id (outputs ∙ came.told))
-        by Halted is = by_halted is
-        by NoMemory is = absurd (other is)
+            ends : (step.end ≡ Done) ⊎ ((step.end ≡ Halted) × (ss.node.halted ≡ true)) → Comes
+            ends (inl done) = either d.either
+              where
+                d : DoneBy g script_db given before c stands law k e trigger o site.s site.there call ss.clock ss.node ss.there site.is.clock site.is.node at.me taken asks at.sound at.disk read ss.later ss.out ss.node.store.disk ss.later.store.disk
+                d = done_by g script_db given before c stands law k e trigger o site.s site.there call ss.clock ss.node ss.there site.is.clock site.is.node at.me taken asks at.sound at.disk read ss.later ss.out ss.node.store.disk ss.later.store.disk (steps_as step Done done)
+
+                either : IsEither d.s (step_of script_db.database (member_at before k) d.s ss.clock e d.short) (step_of script_db.database (member_at before k) d.s ss.clock e []) → Comes
+                either (inl same) =
+                    as_made ended.Made (Up ss.later) ss.out is becomes.0 becomes.1
+                    (made_whole g script_db given before c stands law k e trigger o site.s site.there call ss.clock ss.node ss.there site.is.clock site.is.node at.me taken asks at.sound at.disk read ss.later ss.out d same
+                    (subst (λ (y : StepEnd). Calls g ss.node ss.later y) done step.calls) step.sound)
+                either (inr came) =
+                    let disk = disk_made g script_db.database (member_at before k) ss.clock e ss.node ss.later d.s (step_of script_db.database (member_at before k) d.s ss.clock e d.short) site.s ss.out d.up at.sound at.disk step.sound read d.makes came in
+                    short came.id (becomes.1 ∙ d.makes.outputs ∙ came.told)
+                    (holds_still
+                    (subst (λ (y : Server D V). IsReadBy site.s (held g (server_disk y))) (sym becomes.0) disk.0)
+                    (ap (λ (y : Server D V). g.steps (server_disk y)) becomes.0 ∙ disk.1))
+            ends (inr (halted, was)) =
+                as_made ended.Made (Up ss.later) ss.out is becomes.0 becomes.1
+                (made_rested g script_db given before c stands law k e trigger o site.s site.there call ss.clock ss.node ss.there site.is.clock site.is.node at.me taken asks at.sound at.disk read ss.later ss.out was (steps_as step Halted halted))
+        by ended.Halts step becomes is =
+            as_made ended.Halts (Up ss.later) ss.out is becomes.0 becomes.1
+            (made_fault g script_db given before c stands law k e trigger o site.s site.there call ss.clock ss.node ss.there site.is.clock site.is.node at.me taken asks at.sound at.disk read ss.out step.failed ss.later.store.disk step.was (node_of ss.later) step.steps step.revived step.sound.disk.told
+            ss.later refl refl)
+        by ended.Stops step becomes is =
+            as_made ended.Stops (Down becomes.0.0) [] is becomes.0.1 becomes.1
+            (made_stop g script_db given before c stands law k e trigger o site.s site.there call ss.clock ss.node ss.there site.is.clock site.is.node at.me taken asks at.sound at.disk read ss.out ss.later.store.disk becomes.0.0 step.was (node_of ss.later) step.steps becomes.0.2
+            (becomes.0.2.told (step.calls.1.tells ∙ g.tells_now ss.node.store.disk at.disk.told)) step.calls step.stopped)
+        by ended.NoMemory step becomes is =
+            let reads = step.steps.2 in
+            let same = reads.files (λ never. never) in
+            rests is (holds_still
+            (subst (λ (y : Server D V). IsReadBy site.s (held g (server_disk y))) (sym becomes.0) (subst (λ (f : Option Files). IsSomeAnd f (StandsAs site.s.durable)) (sym same) read))
+            (ap (λ (y : Server D V). g.steps (server_disk y)) becomes.0 ∙ reads.steps))
 
     -- ---- what the step comes to
 
-    seen_marks : (m : made_here) → AreMarks m.h.marks
-    seen_marks m = subst AreMarks (sym m.marks.marks) (are_marks k halts)
+    -- the cell of the model after it
+    abbrev cell_made : made_here → Cell
+    cell_made m = cell_after (with_armed c m.armed) m.ev (happened_at c.run.world k m.h)
 
-    -- the outputs told are those of the model
-    pub told_line : (text_before text_after : List ℕ)
-        → ((shown : List Shown) → outputs_of shown ≡ mid.outputs → All (λ one. AnswersCall call one) shown → WholeTold script_db mid.hosts.items k halts (record { text = text_before; sent = mid.packets.sent }) shown text_after after.packets.sent)
-        → end ≢ NoMemory → All IsNotShort mid.outputs → after.packets ≡ sent_all mid.packets (filter_map packet_in mid.outputs)
-        → CellTold g script_db steps_so None before after text_before text_after
-    told_line tb ta tells other found sends =
-        let m = made other (λ id is. short_told mid.outputs id is found) in
-        let at_before : WholeTold script_db before.hosts.items k halts (record { text = tb; sent = before.packets.sent }) m.h.shown ta after.packets.sent =
-        subst (λ (h : List Host). WholeTold script_db h k halts (record { text = tb; sent = before.packets.sent }) m.h.shown ta after.packets.sent) ss.hosts
-        (subst (λ (t : Traffic). WholeTold script_db mid.hosts.items k halts (record { text = tb; sent = t.sent }) m.h.shown ta after.packets.sent) ss.packets (tells m.h.shown m.outputs m.answers)) in
-        whole g script_db before after c stands k m.ev m.h steps_so m.choices (ap Ok m.is) (seen_marks m) (up_site ss.clock ss.node) (up_site ss.clock ss.later) ss.there all_sites m.marks.rises m.marks.others
-        tb at_before.text ta at_before.told
-        (at_before.marked ∙ ap (λ (l : List Happening). at_before.text ++ trace script_db before.hosts.items (map Tells l)) (sym m.marks.marks))
+    hold_made : (m : made_here) → HoldRun script_db.database given false (cell_made m) (helds g after)
+    hold_made m =
+        subst (λ (l : List (Site D V)). HoldRun script_db.database given false (cell_made m) (map (held_at {V = V} g) l)) (sym all_sites)
+        (hold_more script_db.database c (cell_made m) given m.ev (record { opening = refl; events = refl; world = ap (λ (h : Happened). h.world) (sym m.happens_so) }) (helds g before) (map (held_at {V = V} g) (set before.sites.items k later_site)) stands.disks
+        (reads_both g c.run.world.sites before.sites.items k m.h.site later_site stands.disks.read m.reads)
+        (moved_set g (λ j x y. (more : ℕ) × IsRiseIn script_db.database c.run.world m.ev j more × (y.steps ≡ x.steps + more)) 0 k before.sites.items (up_site ss.clock ss.node) later_site ss.there
+        (m.rises.0, subst (λ (n : ℕ). IsRiseIn script_db.database c.run.world m.ev n m.rises.0) (zero_add k) m.rises.1, m.rises.2)
+        (λ j x other. (0, m.rests j (λ same. other (same ∙ zero_add k)), omega arith))))
+      where
+        zero_add : (n : ℕ) → n ≡ 0 + n
+        zero_add n = omega arith
+
+    seen_marks : (m : made_here) → AreMarks m.h.marks
+    seen_marks m = subst AreMarks (sym m.marked) (are_marks k end)
+
+    rises_made : (m : made_here) → g.faults ss.node.store.disk + fault_count k (map Tells m.h.marks) ≤ g.faults (server_disk ss.server)
+    rises_made m = subst (λ (marks : List Happening). g.faults ss.node.store.disk + fault_count k (map Tells marks) ≤ g.faults (server_disk ss.server)) (sym m.marked) faults
+
+    others_made : (m : made_here) (j : ℕ) → j ≢ k → fault_count j (map Tells m.h.marks) ≡ 0
+    others_made m j other = ap (λ (marks : List Happening). fault_count j (map Tells marks)) m.marked ∙ marks_others k j end other
+
+    -- all that it shows was told, and what is seen behind that
+    all_told : (m : made_here) (tb text ta : List ℕ)
+        → told_of script_db before.hosts.items k (record { text = tb; sent = before.packets.sent }) m.h.shown ≡ record { after = record { text = text; sent = after.packets.sent }; ending = None }
+        → ta ≡ text ++ trace script_db before.hosts.items (map Tells (end_marks k end))
+        → after.packets ≡ sent_all mid.packets (filter_map packet_in mid.outputs)
+        → CellTold g script_db given steps_so None before after tb ta
+    all_told m tb text ta told marked sends =
+        whole g script_db given before after c stands k m.ev m.h m.armed steps_so m.choices (ap Ok m.is) (seen_marks m) (up_site ss.clock ss.node) later_site ss.there all_sites (rises_made m) (others_made m)
+        tb text ta told
+        (marked ∙ ap (λ (l : List Happening). text ++ trace script_db before.hosts.items (map Tells l)) (sym m.marked))
         (hosts ∙ ss.hosts)
         (sends ∙ ap (λ (t : Traffic). sent_all t (filter_map packet_in mid.outputs)) ss.packets
         ∙ ap (λ (l : List Packet). sent_all before.packets l) (ap (λ (l : List Output). filter_map packet_in l) (sym m.outputs) ∙ packets_in m.h.shown))
         m.stood
+        (subst (λ (l : List (Site D V)). AreArmed g l m.armed) (sym all_sites) m.arms)
+        (hold_made m)
 
-    -- its disk reads as its server
-    reads_later : (n : model.Node) → n ≡ node_of ss.later → IsReadBy n (held g.files g.faults ss.later.store.disk)
-    reads_later n is = subst (λ (x : model.Node). IsReadBy x (held g.files g.faults ss.later.store.disk)) (sym is) (server_reads g (member_at before k) ss.clock (Up ss.later) ss.step.sound)
+    -- the outputs told are those of the model
+    pub told_line : (halts : Bool) → Tells_halt k end halts → (text_before text_after : List ℕ)
+        → ((shown : List Shown) → outputs_of shown ≡ mid.outputs → All (λ one. AnswersCall call one) shown → WholeTold script_db mid.hosts.items k halts (record { text = text_before; sent = mid.packets.sent }) shown text_after after.packets.sent)
+        → end ≢ ended.NoMemory → All IsNotShort mid.outputs → after.packets ≡ sent_all mid.packets (filter_map packet_in mid.outputs)
+        → CellTold g script_db given steps_so None before after text_before text_after
+    told_line halts tells_it tb ta tells other found sends = by comes
+      where
+        by : Comes → CellTold g script_db given steps_so None before after tb ta
+        by (made m) =
+            let at_before : WholeTold script_db before.hosts.items k halts (record { text = tb; sent = before.packets.sent }) m.h.shown ta after.packets.sent =
+            subst (λ (h : List Host). WholeTold script_db h k halts (record { text = tb; sent = before.packets.sent }) m.h.shown ta after.packets.sent) ss.hosts
+            (subst (λ (t : Traffic). WholeTold script_db mid.hosts.items k halts (record { text = tb; sent = t.sent }) m.h.shown ta after.packets.sent) ss.packets (tells m.h.shown m.outputs m.answers)) in
+            all_told m tb at_before.text ta at_before.told
+            (at_before.marked ∙ ap (λ (l : List Happening). at_before.text ++ trace script_db before.hosts.items (map Tells l)) tells_it) sends
+        by (short id is hold) = absurd (short_told mid.outputs id is found)
+        by (rests is hold) = absurd (other is)
 
-    reads_made : (m : made_here) → AreReadBy (set c.run.world.sites k m.h.site) (helds g.files g.faults after)
-    reads_made m =
-        subst (λ (l : List (Site D V)). AreReadBy (set c.run.world.sites k m.h.site) (map (held_at {V = V} g) l)) (sym all_sites)
-        (reads_both g c.run.world.sites before.sites.items k m.h.site (up_site ss.clock ss.later) (cell_reads g bound before c sound stands) (reads_later m.h.site.node m.stood.node))
+    -- its disk stopped, which alone is told
+    pub stop_line : end ≡ ended.Stops → (text_before text_after : List ℕ) → text_after ≡ text_before ++ mark_text (mark.Stops k) → after.packets ≡ mid.packets
+        → CellTold g script_db given steps_so None before after text_before text_after
+    stop_line stops tb ta told sends = by comes
+      where
+        none_out : mid.outputs ≡ []
+        none_out = (subst (λ (x : SiteEnd). Becomes g x ss.later ss.out ss.server mid.outputs) stops ss.becomes).1
 
-    -- the disks read as before
-    reads_before : IsReadBy site.s.node (held g.files g.faults ss.later.store.disk) → AreReadBy c.run.world.sites (helds g.files g.faults after)
-    reads_before is =
-        subst (λ (l : List (Site D V)). AreReadBy c.run.world.sites (map (held_at {V = V} g) l)) (sym all_sites)
-        (reads_set g c.run.world.sites before.sites.items k site.s (up_site ss.clock ss.later) (cell_reads g bound before c sound stands) site.there is)
+        none_shown : (shown : List Shown) → outputs_of shown ≡ mid.outputs → shown ≡ []
+        none_shown [] is = refl
+        none_shown (one ∷ shown) is = let never : one.output ∷ outputs_of shown ≡ [] = is ∙ none_out in cc
+
+        sent : after.packets ≡ sent_all mid.packets (filter_map packet_in mid.outputs)
+        sent =
+            sends ∙ ap (λ (l : List Packet). record { sent = l; handed = mid.packets.handed }) (sym (append-nil mid.packets.sent))
+            ∙ ap (λ (l : List Bool). record { sent = mid.packets.sent ++ []; handed = l }) (sym (append-nil mid.packets.handed))
+            ∙ ap (λ (o : List Output). sent_all mid.packets (filter_map packet_in o)) (sym none_out)
+
+        marked : ta ≡ tb ++ trace script_db before.hosts.items (map Tells (end_marks k end))
+        marked =
+            told ∙ ap (λ (l : List ℕ). tb ++ l) (sym (append-nil (mark_text (mark.Stops k))))
+            ∙ ap (λ (x : SiteEnd). tb ++ trace script_db before.hosts.items (map Tells (end_marks k x))) (sym stops)
+
+        by : Comes → CellTold g script_db given steps_so None before after tb ta
+        by (made m) =
+            all_told m tb tb ta
+            (ap (told_of script_db before.hosts.items k (record { text = tb; sent = before.packets.sent })) (none_shown m.h.shown m.outputs)
+            ∙ ap (λ (t : Traffic). record { after = record { text = tb; sent = t.sent }; ending = None }) (sym (sends ∙ ss.packets)))
+            marked sent
+        by (short id is hold) = let never : [] ≡ output.Reply id reply.NoMemory ∷ [] = sym none_out ∙ is in absurd cc
+        by (rests is hold) = let never : ended.Stops ≡ ended.NoMemory = sym stops ∙ is in absurd cc
 
     -- a packet passed a limit
     pub limit_line : (ending : Ending) (text_before text_after : List ℕ)
         → ((shown : List Shown) → outputs_of shown ≡ mid.outputs → All (λ one. AnswersCall call one) shown
         → told_of script_db mid.hosts.items k (record { text = text_before; sent = mid.packets.sent }) shown ≡ record { after = record { text = text_after; sent = after.packets.sent }; ending = Some ending })
-        → end ≢ NoMemory
-        → CellTold g script_db steps_so (Some ending) before after text_before text_after
-    limit_line ending tb ta tells other =
-        let m = made other (λ id is. no_limit mid.outputs id is refl) in
-        let at_before : told_of script_db before.hosts.items k (record { text = tb; sent = before.packets.sent }) m.h.shown ≡ record { after = record { text = ta; sent = after.packets.sent }; ending = Some ending } =
-        subst (λ (h : List Host). told_of script_db h k (record { text = tb; sent = before.packets.sent }) m.h.shown ≡ record { after = record { text = ta; sent = after.packets.sent }; ending = Some ending }) ss.hosts
-        (subst (λ (t : Traffic). told_of script_db mid.hosts.items k (record { text = tb; sent = t.sent }) m.h.shown ≡ record { after = record { text = ta; sent = after.packets.sent }; ending = Some ending }) ss.packets (tells m.h.shown m.outputs m.answers)) in
-        part g script_db before after c stands k m.ev m.h steps_so m.choices (ap Ok m.is) (seen_marks m) (up_site ss.clock ss.node) (up_site ss.clock ss.later) ss.there all_sites m.marks.rises m.marks.others
-        ending tb ta after.packets.sent at_before (reads_made m)
+        → end ≢ ended.NoMemory
+        → CellTold g script_db given steps_so (Some ending) before after text_before text_after
+    limit_line ending tb ta tells other = by comes
       where
         no_limit : (out : List Output) (id : ℕ) → out ≡ output.Reply id reply.NoMemory ∷ [] → out ≡ mid.outputs → ⊥
         no_limit out id is same =
             let one : Shown = record { output = output.Reply id reply.NoMemory; evaluation = None } in
             short_passes script_db mid.hosts.items k call tb mid.packets.sent (one ∷ []) id ending (record { after = record { text = ta; sent = after.packets.sent }; ending = Some ending }) refl (λ answers. tells (one ∷ []) (sym is ∙ same) answers) refl
 
+        by : Comes → CellTold g script_db given steps_so (Some ending) before after tb ta
+        by (made m) =
+            let at_before : told_of script_db before.hosts.items k (record { text = tb; sent = before.packets.sent }) m.h.shown ≡ record { after = record { text = ta; sent = after.packets.sent }; ending = Some ending } =
+            subst (λ (h : List Host). told_of script_db h k (record { text = tb; sent = before.packets.sent }) m.h.shown ≡ record { after = record { text = ta; sent = after.packets.sent }; ending = Some ending }) ss.hosts
+            (subst (λ (t : Traffic). told_of script_db mid.hosts.items k (record { text = tb; sent = t.sent }) m.h.shown ≡ record { after = record { text = ta; sent = after.packets.sent }; ending = Some ending }) ss.packets (tells m.h.shown m.outputs m.answers)) in
+            part g script_db given before after c stands k m.ev m.h m.armed steps_so m.choices (ap Ok m.is) (seen_marks m) (up_site ss.clock ss.node) later_site ss.there all_sites (rises_made m) (others_made m)
+            ending tb ta after.packets.sent at_before (hold_made m)
+        by (short id is hold) = absurd (no_limit mid.outputs id is refl)
+        by (rests is hold) = absurd (other is)
+
     -- memory ran out
-    pub short_line : IsShort g steps_so c before after
-    short_line = by end refl
+    pub short_line : IsShort g script_db.database given steps_so c before after
+    short_line = by comes
       where
-        at_made : made_here → IsShort g steps_so c before after
-        at_made m = short_after g script_db before after c stands k m.ev m.h steps_so m.choices (ap Ok m.is) (seen_marks m) (up_site ss.clock ss.node) (up_site ss.clock ss.later) ss.there all_sites m.marks.rises m.marks.others (reads_made m)
-
-        -- a server with the same version and image
-        came : (s : model.Server) (t : Stepped) → site.s.node ≡ model.Up s → node_of ss.later ≡ model.Up t.server → CameShort s t → IsReadBy site.s.node (held g.files g.faults ss.later.store.disk)
-        came s t is later short = λ none.
-            let reads = reads_later (model.Up t.server) (sym later) none in
-            subst (λ (n : model.Node). IsSomeAnd (g.files ss.later.store.disk) (ReadsNode n)) (sym is)
-            (weaker (g.files ss.later.store.disk) reads)
-          where
-            weaker : (o : Option Files) → IsSomeAnd o (ReadsNode (model.Up t.server)) → IsSomeAnd o (ReadsNode (model.Up s))
-            weaker None reads = absurd reads
-            weaker (Some fs) reads =
-                subst (λ (i : List ℕ). FilesStandFor fs s.version i) short.image_is (subst (λ (v : Version). FilesStandFor fs v t.server.image) short.version reads)
-
-        by : (x : StepEnd) → end ≡ x → IsShort g steps_so c before after
-        by Done is = either (done is).either
-          where
-            either : IsEither (done is).s (step_of script_db.database (member_at before k) (done is).s ss.clock e (done is).short) (step_of script_db.database (member_at before k) (done is).s ss.clock e []) → IsShort g steps_so c before after
-            either (inl same) = at_made (by_done (done is) is same)
-            either (inr short) = inl (reads_before (came (done is).s _ (site.is.node ∙ (done is).up) (done is).makes.server short))
-        by Halted is = at_made (by_halted is)
-        by NoMemory is = inl (reads_before (reads_later site.s.node (site.is.node ∙ sym (subst steps_as is ss.step.steps).0)))
-
--- ---- a packet of votes
-
--- a server that is up stays so with its version and image, or nothing is said of it
-abbrev pub KeepsUp : model.Node → model.Node → Type 0
-KeepsUp (model.Up s) (model.Up t) = (t.version ≡ s.version) × (t.image ≡ s.image)
-KeepsUp _ _ = Unit {0}
-
--- what read as a server reads so still
-reads_over : (n x y : model.Node) (fs later : Files) → KeepsUp x y → ReadsNode n fs → ReadsNode x fs → ReadsNode y later → ReadsNode n later
-reads_over model.Down x y fs later keeps reads own new = absurd reads
-reads_over (model.Halted h) x y fs later keeps reads own new = absurd reads
-reads_over (model.Up a) model.Down y fs later keeps reads own new = absurd own
-reads_over (model.Up a) (model.Halted h) y fs later keeps reads own new = absurd own
-reads_over (model.Up a) (model.Up s) model.Down fs later keeps reads own new = absurd new
-reads_over (model.Up a) (model.Up s) (model.Halted h) fs later keeps reads own new = absurd new
-reads_over (model.Up a) (model.Up s) (model.Up t) fs later keeps reads own new =
-    let same = stands_once fs s.version a.version s.image a.image own reads in
-    subst (λ (i : List ℕ). FilesStandFor later a.version i) (keeps.1 ∙ same.1)
-    (subst (λ (v : Version). FilesStandFor later v t.image) (keeps.0 ∙ same.0) new)
-
-both_read : (n x y : model.Node) (files later : Option Files) → KeepsUp x y → IsSomeAnd files (ReadsNode n) → IsSomeAnd files (ReadsNode x) → IsSomeAnd later (ReadsNode y) → IsSomeAnd later (ReadsNode n)
-both_read n x y None later keeps reads own new = absurd reads
-both_read n x y (Some fs) None keeps reads own new = absurd new
-both_read n x y (Some fs) (Some after) keeps reads own new = reads_over n x y fs after keeps reads own new
-
-reads_keep : {D V : Type 0} (g : Ghosts D) (ss : List ModelSite) (sites : List (Site D V)) (k : ℕ) (site later : Site D V) → slice_get sites k ≡ Some site
-    → ((n : model.Node) → IsReadBy n (held_at g site) → IsReadBy n (held_at g later)) → AreReadBy ss (map (held_at {V = V} g) sites) → AreReadBy ss (map (held_at {V = V} g) (set sites k later))
-reads_keep g ss [] k site later there one read = cc
-reads_keep g [] (x ∷ sites) k site later there one read = absurd read
-reads_keep {D} {V} g (s ∷ ss) (x ∷ sites) zero site later there one read =
-    let e : x ≡ site = cc in (one s.node (subst (λ (y : Site D V). IsReadBy s.node (held_at g y)) e read.0), read.1)
-reads_keep g (s ∷ ss) (x ∷ sites) (suc k) site later there one read = (read.0, reads_keep g ss sites k site later there one read.1)
-
-module _ {D V : Type 0} (g : Ghosts D) (script_db : ScriptDatabase) (before mid after : OpenCell D V) (k : ℕ) (p : Packet) (end : StepEnd) (halts : Bool) (bound : ℕ) (sound : IsSound g bound before) (taken : IsTaken (member_at before k) (event.Packet p)) (ss : SiteStepped g script_db.database k (event.Packet p) end halts before mid) (sites : after.sites.items ≡ mid.sites.items) where
-  stays : IsHere g bound before k ss.clock ss.node
-  stays = here g bound before k ss.clock ss.node sound ss.there
-
-  keeps_up : KeepsUp (node_of ss.node) (node_of ss.later)
-  keeps_up = by end refl
-    where
-      P : StepEnd → Type 0
-      P x = Steps g script_db.database (member_at before k) x (event.Packet p) ss.clock (node_of ss.node) (node_of ss.later) mid.outputs ss.node.store.disk ss.later.store.disk
-
-      up : (x y : model.Node) → node_of ss.node ≡ x → Steps g script_db.database (member_at before k) Done (event.Packet p) ss.clock x y mid.outputs ss.node.store.disk ss.later.store.disk → KeepsUp x y
-      up model.Down y is steps = absurd steps
-      up (model.Halted h) y is steps = tt
-      up (model.Up s) y is (short, makes) =
-          let voter = subst (IsVoter (member_at before k)) (is_up ss.node s is).1 stays.sound.voter in
-          let keeps = packet_keeps script_db.database (member_at before k) s ss.clock p short taken.votes voter.flight in
-          subst (λ (n : model.Node). KeepsUp (model.Up s) n) (sym makes.server) (keeps.version, keeps.image_is)
-
-      halted : (x y : model.Node) → Steps g script_db.database (member_at before k) Halted (event.Packet p) ss.clock x y mid.outputs ss.node.store.disk ss.later.store.disk → KeepsUp x y
-      halted model.Down y steps = absurd steps
-      halted (model.Halted h) y steps = tt
-      halted (model.Up s) y steps = subst (λ (n : model.Node). KeepsUp (model.Up s) n) (sym steps.0) tt
-
-      same : (x y : model.Node) → y ≡ x → KeepsUp x y
-      same model.Down y is = tt
-      same (model.Halted h) y is = tt
-      same (model.Up s) y is = subst (λ (n : model.Node). KeepsUp (model.Up s) n) (sym is) (refl, refl)
-
-      by : (x : StepEnd) → end ≡ x → KeepsUp (node_of ss.node) (node_of ss.later)
-      by Done is = up (node_of ss.node) (node_of ss.later) refl (subst P is ss.step.steps)
-      by Halted is = halted (node_of ss.node) (node_of ss.later) (subst P is ss.step.steps)
-      by NoMemory is = same (node_of ss.node) (node_of ss.later) (subst P is ss.step.steps).0
-
-  keeps_node : (n : model.Node) → IsReadBy n (held g.files g.faults ss.node.store.disk) → IsReadBy n (held g.files g.faults ss.later.store.disk)
-  keeps_node n read = λ none.
-      let kept = ss.step.never_falls in
-      let old : g.faults ss.node.store.disk ≡ 0 = omega (arith, kept, none) in
-      both_read n (node_of ss.node) (node_of ss.later) (g.files ss.node.store.disk) (g.files ss.later.store.disk) keeps_up (read old)
-      (server_reads g (member_at before k) ss.clock (Up ss.node) stays.sound old)
-      (server_reads g (member_at before k) ss.clock (Up ss.later) ss.step.sound none)
-
-  pub keeps : (models : List ModelSite) → AreReadBy models (helds g.files g.faults before) → AreReadBy models (helds g.files g.faults after)
-  keeps models read =
-      subst (λ (l : List (Site D V)). AreReadBy models (map (held_at {V = V} g) l)) (sym (sites ∙ ss.sites))
-      (reads_keep g models before.sites.items k (up_site ss.clock ss.node) (up_site ss.clock ss.later) ss.there keeps_node read)
+        by : Comes → IsShort g script_db.database given steps_so c before after
+        by (made m) = short_after g script_db given before after c stands k m.ev m.h m.armed steps_so m.choices (ap Ok m.is) (seen_marks m) (up_site ss.clock ss.node) later_site ss.there all_sites (rises_made m) (others_made m) (hold_made m)
+        by (short id is hold) = inl (hold_short script_db.database c given (helds g after) hold)
+        by (rests is hold) = inl (hold_short script_db.database c given (helds g after) hold)

@@ -1,10 +1,11 @@
 -- What the model makes of a step of a server that is up.
-use Rattle.std.proofs.Common.{if◌then◌else◌, ◌≡◌, ◌≢◌, ◌⊎◌, inl, inr, ◌<◌, ◌≤◌, ◌+◌, ◌==◌, ℕ, zero, suc, Bool, true, false, Option, Some, None, Result, Ok, Err, List, [], ◌∷◌, ◌++◌, length, map, set, get_or, refl, sym, ap, subst, ◌∙◌, arith}
-use Rattle.std.specs.Prelude.{All, filter_map, slice_get}
+use Rattle.std.proofs.Common.{if◌then◌else◌, ◌≡◌, ◌≢◌, ◌⊎◌, inl, inr, ◌<◌, ◌≤◌, ◌+◌, ◌==◌, ℕ, zero, suc, Bool, true, false, Option, Some, None, Result, Ok, Err, List, [], ◌∷◌, ◌++◌, length, map, set, sum, take, get_or, refl, sym, ap, subst, ◌∙◌, arith}
+use Rattle.std.specs.Prelude.{All, IsSome, IsSomeAnd, filter_map, slice_get}
 use Rattle.std.proofs.lemmas.Bool.{eq-eqb, ne_eqb}
 use Rattle.std.proofs.lemmas.List.Elements.{All-nil, All-head}
 use Rattle.disk_base.specs.declared.disks.Disk.{Ghosts}
 use Rattle.disk_base.specs.Files.{Files}
+use Rattle.disk_base.specs.Stops.{DiskStop, IsStopped, after_changes}
 use Rattle.ubik_types.specs.declared.hosts.Host.{Host}
 use Rattle.ubik_calls.specs.declared.packets.Packet.{Packet}
 use Rattle.ubik_calls.specs.declared.replies.Reply.TheVariants as reply
@@ -13,59 +14,82 @@ use Rattle.cell_model.specs.declared.events.NodeEvent.{NodeEvent}
 use Rattle.cell_model.specs.declared.events.NodeEvent.TheVariants as event
 use Rattle.cell_model.specs.declared.events.Output.{Output}
 use Rattle.cell_model.specs.declared.events.Output.TheVariants as output
+use Rattle.cell_model.specs.Durable.{Durable, Made, durable_after_all}
 use Rattle.cell_model.specs.Node as model
 use Rattle.cell_model.specs.NodeRule.{step_of, refusals}
 use Rattle.cell_model.specs.Step.{Member, Shown, Stepped, cell_size, outputs_of}
 use Rattle.cell_model.specs.Voters.{AnswersCall, AsksNoOther, IsTaken, IsVotePacket, IsVoter, VotersVote}
-use Rattle.cell_model.specs.World.{Site as ModelSite, World, Trigger, Event, Step, Fault, Halts, SiteHappened, happened_at, halted_step, fault_up, step_up, occasion, member, packets_of}
+use Rattle.cell_model.specs.World.{Site as ModelSite, World, Trigger, Event, Entry, Step, Stop, Fault, Happened, Happening, Halts, Stops, SiteHappened, entries_from, happened_at, happens, halted_step, fault_up, step_up, stop_up, occasion, member, packets_of}
+use Rattle.cell_model.proofs.WholeWorld.{step_leads}
 use Rattle.cell_script.specs.declared.lines.Why.{Why}
 use Rattle.cell_runs.specs.ScriptDatabase.{ScriptDatabase}
-use Rattle.cell_runs.specs.Script.{Cell, Cell_run, Choice, Run_or_why, first_choice, happened, sound, stepped}
+use Rattle.cell_runs.specs.Script.{Armed, Cell, Cell_run, Choice, Run_or_why, armed_at, calls_on_all, counted_on, first_choice, happened, sound, stepped, stops_in}
 use Rattle.cell_runs.specs.Trace.{Tells, fault_count}
+use Rattle.ubik_store.specs.Calls.{CallsAtMost}
 use Rattle.ubik_node.specs.declared.nodes.Node.{Node}
 use Rattle.ubik_node.specs.declared.nodes.StepEnd.{StepEnd}
 use Rattle.ubik_node.specs.declared.nodes.StepEnd.TheVariants.{Done, Halted, NoMemory}
-use Rattle.ubik_node.specs.Disk.{Serves}
-use Rattle.ubik_node.specs.Node.{Makes, Steps, durable_in, node_of, up_server}
+use Rattle.ubik_node.specs.Disk.{FailsIn, IsRevived, Serves, StandsAs}
+use Rattle.ubik_node.specs.Node.{Calls, Makes, Steps, durable_in, node_of, up_server}
 use Rattle.cell_sites.specs.declared.cells.OpenCell.{OpenCell}
-use Rattle.cell_sites.specs.Sites.{IsSiteOf, IsModelledBy}
-use Rattle.cell_sites.specs.Sound.{IsSoundNode}
-use Rattle.cell_sites.specs.Stepped.{NodeStepped, member_at, up_site}
+use Rattle.cell_sites.specs.declared.sites.Server.{Server}
+use Rattle.cell_sites.specs.declared.sites.Server.TheVariants.{Down, Up}
+use Rattle.cell_sites.specs.declared.sites.Site.{Site}
+use Rattle.cell_sites.specs.declared.steps.SiteEnd.{SiteEnd}
+use Rattle.cell_sites.specs.declared.steps.SiteEnd.TheVariants as ended
+use Rattle.cell_sites.specs.Counts.{IsCutShort, IsRiseIn, calls_of}
+use Rattle.cell_sites.specs.Disks.{IsReadBy, held}
+use Rattle.cell_sites.specs.Sites.{AreArmed, IsArmedAs, IsSiteOf, IsModelledBy, StopsAs, site_disk}
+use Rattle.cell_sites.specs.Sound.{IsSoundDisk, IsSoundNode}
+use Rattle.cell_sites.specs.Stepped.{NodeStepped, StaysSound, member_at, up_site}
 use Rattle.cell_sites.proofs.Agreeing.{AreMarks}
-use Rattle.cell_sites.proofs.Happening.{up_happens, halted_happens, fault_happens, stepped_sound, stepped_fails}
+use Rattle.cell_sites.proofs.Arming.{AreFew, armed_here, armed_set, armed_still, counts_on, none_stops, whole_before}
+use Rattle.cell_sites.proofs.Counting.{calls_other, calls_own, each_on, none_cut, sum_on}
+use Rattle.cell_sites.proofs.FewCalls.{step_few}
+use Rattle.cell_sites.proofs.Happening.{up_happens, halted_happens, fault_happens, stop_happens, fails_after, stepped_fails, stepped_halted, stepped_served, stepped_stops, stops_so, with_armed}
 use Rattle.cell_sites.proofs.Nodes.{is_up, made_up}
+use Rattle.cell_sites.proofs.Plainly.{and_some, make_some}
+use Rattle.cell_sites.proofs.Serving.{Failed, FilesAt, failed_in, files_at, one_durable, rise_most, runs_still, served_rise}
 use Rattle.cell_sites.proofs.Shortage.{IsEither, step_either}
 
--- a server is halted in a step, and nothing else is seen beside outputs
-pub record MarksHalt {D V : Type 0} (faults : D → ℕ) (k : ℕ) (halts : Bool) (h : SiteHappened) (node later : Node D V) : Type 0 where
-  pub marks : h.marks ≡ (if halts then Halts k ∷ [] else [])
-  pub rises : faults node.store.disk + fault_count k (map Tells h.marks) ≤ faults later.store.disk
-  pub others : (j : ℕ) → j ≢ k → fault_count j (map Tells h.marks) ≡ 0
+-- what is seen behind the outputs of a step
+abbrev pub end_marks : ℕ → SiteEnd → List Happening
+end_marks k ended.Made = []
+end_marks k ended.Halts = Halts k ∷ []
+end_marks k ended.Stops = Stops k ∷ []
+end_marks k ended.NoMemory = []
 
-marked : {D V : Type 0} (faults : D → ℕ) (k : ℕ) (halts : Bool) (h : SiteHappened) (node later : Node D V) → h.marks ≡ (if halts then Halts k ∷ [] else []) → (halts ≡ true → faults node.store.disk < faults later.store.disk) → faults node.store.disk ≤ faults later.store.disk → MarksHalt faults k halts h node later
-marked {D} {V} faults k true h node later is rose kept =
-    let one : fault_count k (map Tells h.marks) ≡ 1 = ap (λ seen. fault_count k (map Tells seen)) is ∙ ap (λ (b : Bool). (if b then 1 else 0) + 0) (eq-eqb k k refl) in
-    let more = rose refl in
-    record {
-      marks = is;
-      rises = omega (arith, one, more);
-      others = λ j other. ap (λ seen. fault_count j (map Tells seen)) is ∙ ap (λ (b : Bool). (if b then 1 else 0) + 0) (ne_eqb k j (λ e. other (sym e)));
-    }
-marked faults k false h node later is rose kept =
-    let none : fault_count k (map Tells h.marks) ≡ 0 = ap (λ seen. fault_count k (map Tells seen)) is in
-    record { marks = is; rises = omega (arith, none, kept); others = λ j other. ap (λ seen. fault_count j (map Tells seen)) is }
+-- they tell faults of their server alone
+pub marks_others : (k j : ℕ) (end : SiteEnd) → j ≢ k → fault_count j (map Tells (end_marks k end)) ≡ 0
+marks_others k j ended.Made other = refl
+marks_others k j ended.Halts other = ap (λ (b : Bool). (if b then 1 else 0) + 0) (ne_eqb k j (λ e. other (sym e)))
+marks_others k j ended.Stops other = ap (λ (b : Bool). (if b then 1 else 0) + 0) (ne_eqb k j (λ e. other (sym e)))
+marks_others k j ended.NoMemory other = refl
 
--- the event of the world that a step is, with the choices that bring it
-pub record StepMade {D V : Type 0} (faults : D → ℕ) (script_db : ScriptDatabase) (c : Cell) (hosts : List Host) (k : ℕ) (trigger : Trigger) (call : List ℕ) (halts : Bool) (clock : ℕ) (node later : Node D V) (out : List Output) : Type 0 where
+-- a stop and a halt tell one
+pub marks_one : (k : ℕ) → (fault_count k (map Tells (end_marks k ended.Halts)) ≡ 1) × (fault_count k (map Tells (end_marks k ended.Stops)) ≡ 1)
+marks_one k = (
+  ap (λ (b : Bool). (if b then 1 else 0) + 0) (eq-eqb k k refl),
+  ap (λ (b : Bool). (if b then 1 else 0) + 0) (eq-eqb k k refl),
+)
+
+-- the event of the world that a step is, with the choices that bring it, and what it makes of the disk
+pub record StepMade {D V : Type 0} (g : Ghosts D) (script_db : ScriptDatabase) (c : Cell) (running : OpenCell D V) (k : ℕ) (trigger : Trigger) (call : List ℕ) (marks : List Happening) (before after : Site D V) (out : List Output) : Type 0 where
   pub ev : Event
   pub h : SiteHappened
   pub choices : List Choice
-  pub is : stepped script_db c (first_choice choices) trigger ≡ happened c ev (happened_at c.run.world k h)
+  pub armed : List (Option Armed)
+  pub is : stepped script_db c (first_choice choices) trigger ≡ happened (with_armed c armed) ev (happened_at c.run.world k h)
+  pub happens_so : happens script_db.database c.run.world ev ≡ happened_at c.run.world k h
   pub outputs : outputs_of h.shown ≡ out
   pub answers : All (λ one. AnswersCall call one) h.shown
-  pub votes : All (IsVotePacket hosts) (packets_of h.shown)
-  pub stood : IsSiteOf (up_site clock later) h.site
-  pub marks : MarksHalt faults k halts h node later
+  pub votes : All (IsVotePacket running.hosts.items) (packets_of h.shown)
+  pub stood : IsSiteOf after h.site
+  pub marked : h.marks ≡ marks
+  pub arms : AreArmed g (set running.sites.items k after) armed
+  pub reads : IsReadBy h.site (held g (site_disk after))
+  pub rises : (more : ℕ) × IsRiseIn script_db.database c.run.world ev k more × (g.steps (site_disk after) ≡ g.steps (site_disk before) + more)
+  pub rests : (j : ℕ) → j ≢ k → IsRiseIn script_db.database c.run.world ev j 0
 
 -- a refusal is no Ok, and no packet
 refusals_answer : (e : NodeEvent) (call : List ℕ) → All (λ one. AnswersCall call one) (refusals e)
@@ -84,7 +108,7 @@ refusals_rest event.BeaconTurn hosts = All-nil _
 refusals_rest event.RecoverTurn hosts = All-nil _
 refusals_rest (event.Ask id call) hosts = All-nil _
 
-module _ {D V : Type 0} (g : Ghosts D) (script_db : ScriptDatabase) (before : OpenCell D V) (c : Cell) (stands : IsModelledBy before c) (law : VotersVote) (k : ℕ) (e : NodeEvent) (trigger : Trigger) (o : occasion c.run.world trigger ≡ Some (k, e)) (site : ModelSite) (there : slice_get c.run.world.sites k ≡ Some site) (call : List ℕ) (clock : ℕ) (node later : Node D V) (clocks : site.clock ≡ clock) (stood : site.node ≡ node_of node) (me : k < length before.hosts.items) (taken : IsTaken (member_at before k) e) (asks : AsksNoOther e call) (was : IsSoundNode g (member_at before k) clock node) where
+module _ {D V : Type 0} (g : Ghosts D) (script_db : ScriptDatabase) (given : List ℕ) (before : OpenCell D V) (c : Cell) (stands : IsModelledBy g script_db.database given before c) (law : VotersVote) (k : ℕ) (e : NodeEvent) (trigger : Trigger) (o : occasion c.run.world trigger ≡ Some (k, e)) (site : ModelSite) (there : slice_get c.run.world.sites k ≡ Some site) (call : List ℕ) (clock : ℕ) (node : Node D V) (placed : slice_get before.sites.items k ≡ Some (up_site clock node)) (clocks : site.clock ≡ clock) (stood : site.node ≡ node_of node) (me : k < length before.hosts.items) (taken : IsTaken (member_at before k) e) (asks : AsksNoOther e call) (was : IsSoundNode g (member_at before k) clock node) (disk : IsSoundDisk g node.store.disk) (read : IsReadBy site (held g node.store.disk)) where
   -- the server in its cell, as the model has it
   same_member : member c.run.world k ≡ member_at before k
   same_member = ap (λ (hosts : List Host). record { hosts = hosts; me = k }) stands.hosts
@@ -92,7 +116,11 @@ module _ {D V : Type 0} (g : Ghosts D) (script_db : ScriptDatabase) (before : Op
   abbrev made_of : model.Server → List Bool → Stepped
   made_of s short = step_of script_db.database (member_at before k) s clock e short
 
-  model_step : (s : model.Server) → step_of script_db.database (member c.run.world k) s site.clock e [] ≡ made_of s []
+  -- the step as the model has it
+  abbrev pub model_of : model.Server → Stepped
+  model_of s = step_of script_db.database (member c.run.world k) s site.clock e []
+
+  model_step : (s : model.Server) → model_of s ≡ made_of s []
   model_step s =
       ap (λ (m : Member). step_of script_db.database m s site.clock e []) same_member
       ∙ ap (λ (now : ℕ). step_of script_db.database (member_at before k) s now e []) clocks
@@ -100,85 +128,226 @@ module _ {D V : Type 0} (g : Ghosts D) (script_db : ScriptDatabase) (before : Op
   voter : (s : model.Server) → up_server node ≡ s → IsVoter (member_at before k) s
   voter s is = subst (IsVoter (member_at before k)) is was.voter
 
+  -- at most one durable call
+  few : (s : model.Server) → AreFew (model_of s).calls
+  few s = subst (λ (t : Stepped). AreFew t.calls) (sym (model_step s)) (step_few script_db.database (member_at before k) s clock e [] taken)
+
+  -- the files before the step, and their durable state
+  files : (s : model.Server) → node_of node ≡ model.Up s → FilesAt g node s
+  files s up = files_at g (member_at before k) clock node s was disk up
+
+  durable_is : (s : model.Server) → node_of node ≡ model.Up s → site.durable ≡ durable_in s
+  durable_is s up =
+      let at = files s up in
+      one_durable at.files site.durable (durable_in s) (and_some (g.files node.store.disk) at.files (StandsAs site.durable) at.is read) at.stands
+
+  -- the stop of its disk
+  stops : (s : model.Server) → node_of node ≡ model.Up s → StopsAs (armed_at c.armed k) (g.stop node.store.disk)
+  stops s up =
+      subst (λ (n : model.Node). IsArmedAs n (armed_at c.armed k) (g.stop node.store.disk)) up
+      (armed_here g before.sites.items c.armed k (up_site clock node) stands.armed placed)
+
+  -- the entries of the step where it is made whole
+  entries_are : (s : model.Server) → node_of node ≡ model.Up s → (j : ℕ) → calls_of j (happens script_db.database c.run.world (Step trigger [])).entries ≡ calls_of j (entries_from k s.version (model_of s).calls)
+  entries_are s up j = ap (λ (h : Happened). calls_of j h.entries) (up_happens script_db.database c.run.world trigger k e site o there s (stood ∙ up))
+
+  entries_none : (s : model.Server) → node_of node ≡ model.Up s → (j : ℕ) → j ≢ k → calls_of j (happens script_db.database c.run.world (Step trigger [])).entries ≡ []
+  entries_none s up j other = entries_are s up j ∙ calls_other j k s.version (model_of s).calls other
+
   -- a server that was up, and the step that it made, which is the one for which all memory was found, or came short
-  pub record DoneBy (out : List Output) (b a : D) : Type 0 where
+  pub record DoneBy (later : Node D V) (out : List Output) (b a : D) : Type 0 where
     pub s : model.Server
     pub short : List Bool
     pub up : node_of node ≡ model.Up s
     pub makes : Makes (made_of s short) (node_of later) out (Serves g (durable_in s) b a)
     pub either : IsEither s (made_of s short) (made_of s [])
 
-  pub done_by : (out : List Output) (b a : D) → Steps g script_db.database (member_at before k) Done e clock (node_of node) (node_of later) out b a → DoneBy out b a
-  done_by out b a steps = by (node_of node) refl steps
+  pub done_by : (later : Node D V) (out : List Output) (b a : D) → Steps g script_db.database (member_at before k) Done e clock (node_of node) (node_of later) out b a → DoneBy later out b a
+  done_by later out b a steps = by (node_of node) refl steps
     where
-      by : (x : model.Node) → node_of node ≡ x → Steps g script_db.database (member_at before k) Done e clock x (node_of later) out b a → DoneBy out b a
+      by : (x : model.Node) → node_of node ≡ x → Steps g script_db.database (member_at before k) Done e clock x (node_of later) out b a → DoneBy later out b a
       by model.Down is steps = absurd steps
       by (model.Halted h) is steps = absurd steps
       by (model.Up s) is (short, makes) =
           let takes = voter s (is_up node s is).1 in
           record { s = s; short = short; up = is; makes = makes; either = step_either script_db.database (member_at before k) s clock e short taken takes.flight takes.waiting }
 
-  -- a step for which memory was found
-  pub made_whole : (out : List Output) (b a : D) (done : DoneBy out b a) → made_of done.s done.short ≡ made_of done.s [] → g.faults node.store.disk ≤ g.faults later.store.disk
-      → StepMade g.faults script_db c before.hosts.items k trigger call false clock node later out
-  made_whole out b a done same kept =
-      let s = done.s in
-      let u = made_of s [] in
-      let h : SiteHappened = step_up k site e s.version u in
-      let takes = voter s (is_up node s done.up).1 in
-      let steps = law.steps script_db.database (member_at before k) s clock e [] me takes taken in
-      record {
-        ev = Step trigger [];
-        h = h;
-        choices = [];
-        is =
-            stepped_sound script_db c (length before.hosts.items) stands.unarmed trigger k e site o there
-            ∙ ap (happened c (Step trigger [])) (up_happens script_db.database c.run.world trigger k e site o there s (stood ∙ done.up))
-            ∙ ap (λ (t : Stepped). happened c (Step trigger []) (happened_at c.run.world k (step_up k site e s.version t))) (model_step s);
-        outputs = sym (done.makes.outputs ∙ ap (λ (t : Stepped). outputs_of t.shown) same);
-        answers = law.answers script_db.database (member_at before k) s clock e [] call me takes taken asks;
-        votes = steps.packets;
-        stood = record { clock = clocks; node = sym (done.makes.server ∙ ap (λ (t : Stepped). model.Up t.server) same) };
-        marks = marked g.faults k false h node later refl (λ never. cc) kept;
-      }
+  -- ---- a step for which memory was found
 
-  -- a step of a halted server, and one that halts it
-  pub made_halted : (halts : Bool) (out : List Output) (b a : D) → Steps g script_db.database (member_at before k) Halted e clock (node_of node) (node_of later) out b a
-      → (halts ≡ true → (node.halted ≡ false) × (g.faults node.store.disk < g.faults later.store.disk)) → (halts ≡ false → node.halted ≡ true) → g.faults node.store.disk ≤ g.faults later.store.disk
-      → StepMade g.faults script_db c before.hosts.items k trigger call halts clock node later out
-  made_halted true out b a steps now before_it kept =
-      let s = up_server node in
-      let up : node_of node ≡ model.Up s = ap (λ (b : Bool). if b then model.Halted (model.halted_from s) else model.Up s) (now refl).0 in
-      let is = subst (λ (x : model.Node). Steps g script_db.database (member_at before k) Halted e clock x (node_of later) out b a) up steps in
-      let h : SiteHappened = fault_up k site e s (step_of script_db.database (member c.run.world k) s site.clock e []) 0 in
-      record {
-        ev = Fault trigger [] 0;
-        h = h;
-        choices = record { fails = true; made = 0; took = false } ∷ [];
-        is =
-            stepped_fails script_db c (length before.hosts.items) stands.unarmed trigger k e site o there s (stood ∙ up)
-            ∙ ap (happened c (Fault trigger [] 0)) (fault_happens script_db.database c.run.world trigger k e site o there s (stood ∙ up));
-        outputs = sym is.1;
-        answers = refusals_answer e call;
-        votes = refusals_rest e before.hosts.items;
-        stood = record { clock = clocks; node = sym is.0 };
-        marks = marked g.faults k true h node later refl (λ yes. (now refl).1) kept;
-      }
-  made_halted false out b a steps now before_it kept =
-      let u = up_server node in
-      let halted : node_of node ≡ model.Halted (model.halted_from u) = ap (λ (b : Bool). if b then model.Halted (model.halted_from u) else model.Up u) (before_it refl) in
-      let is = subst (λ (x : model.Node). Steps g script_db.database (member_at before k) Halted e clock x (node_of later) out b a) halted steps in
-      let h : SiteHappened = halted_step site e in
+  module _ (later : Node D V) (out : List Output) (done : DoneBy later out node.store.disk later.store.disk) (same : made_of done.s done.short ≡ made_of done.s []) (calls : Calls g node later Done) (sound_later : StaysSound g (member_at before k) clock later) where
+    abbrev t : Stepped
+    t = model_of done.s
+
+    t_is : made_of done.s done.short ≡ t
+    t_is = same ∙ sym (model_step done.s)
+
+    later_up : node_of later ≡ model.Up t.server
+    later_up = done.makes.server ∙ ap (λ (x : Stepped). model.Up x.server) t_is
+
+    rose : g.steps later.store.disk ≡ g.steps node.store.disk + calls_on_all done.s.version t.calls
+    rose =
+        served_rise g node done.s later.store.disk t.calls (files done.s done.up) (few done.s)
+        (subst (λ (x : Stepped). Serves g (durable_in done.s) node.store.disk later.store.disk x.calls) t_is done.makes.disk)
+
+    stop_is : g.stop later.store.disk ≡ after_changes (calls_on_all done.s.version t.calls) (g.stop node.store.disk)
+    stop_is =
+        let advanced = calls.1.advances in
+        let n : advanced.calls ≡ calls_on_all done.s.version t.calls = let is = advanced.steps in omega (arith, is, rose) in
+        advanced.stop ∙ ap (λ (m : ℕ). after_changes m (g.stop node.store.disk)) n
+
+    runs : IsStopped (after_changes (calls_on_all done.s.version t.calls) (g.stop node.store.disk)) → ⊥
+    runs stopped = by (calls.1.stopped (subst IsStopped (sym stop_is) stopped))
+      where
+        by : IsStopped (g.stop node.store.disk) ⊎ ((Done ≡ Halted) × (node.halted ≡ false)) → ⊥
+        by (inl before_it) = (files done.s done.up).runs before_it
+        by (inr never) = let is : Done ≡ Halted = never.0 in cc
+
+    pub made_whole : StepMade g script_db c before k trigger call [] (up_site clock node) (up_site clock later) out
+    made_whole =
+        let s = done.s in
+        let armed = armed_at c.armed k in
+        let n = calls_on_all s.version t.calls in
+        let steps = law.steps script_db.database (member_at before k) s clock e [] me (voter s (is_up node s done.up).1) taken in
+        let at_later = files_at g (member_at before k) clock later t.server sound_later.node sound_later.disk later_up in
+        let happened_so = up_happens script_db.database c.run.world trigger k e site o there s (stood ∙ done.up) in
+        record {
+          ev = Step trigger [];
+          h = step_up k site e s.version t;
+          choices = [];
+          armed = set c.armed k (counted_on n armed);
+          is =
+              stepped_served script_db c trigger k e site o there s (stood ∙ done.up) (none_stops s.version t.calls armed (g.stop node.store.disk) (few s) (stops s done.up) runs)
+              ∙ ap (happened (with_armed c (set c.armed k (counted_on n armed))) (Step trigger [])) happened_so;
+          happens_so = happened_so;
+          outputs = sym (done.makes.outputs ∙ ap (λ (x : Stepped). outputs_of x.shown) t_is);
+          answers = subst (λ (x : Stepped). All (λ one. AnswersCall call one) x.shown) (sym (model_step s))
+              (law.answers script_db.database (member_at before k) s clock e [] call me (voter s (is_up node s done.up).1) taken asks);
+          votes = subst (λ (x : Stepped). All (IsVotePacket before.hosts.items) (packets_of x.shown)) (sym (model_step s)) steps.packets;
+          stood = record { clock = clocks; node = sym later_up };
+          marked = refl;
+          arms = armed_set g before.sites.items c.armed k (up_site clock later) (counted_on n armed) stands.armed
+              (subst (λ (x : model.Node). IsArmedAs x (counted_on n armed) (g.stop later.store.disk)) (sym later_up)
+              (subst (StopsAs (counted_on n armed)) (sym stop_is) (counts_on armed (g.stop node.store.disk) n (stops s done.up) runs)));
+          reads = make_some (g.files later.store.disk) at_later.files (StandsAs (durable_after_all site.durable t.calls)) at_later.is
+              (subst (λ (d : Durable). StandsAs d at_later.files)
+              (sym (step_leads script_db.database (member c.run.world k) s site.clock e []) ∙ ap (λ (d : Durable). durable_after_all d t.calls) (sym (durable_is s done.up)))
+              at_later.stands);
+          rises = (n, sym (ap sum (entries_are s done.up k ∙ calls_own k s.version t.calls) ∙ sum_on s.version t.calls), rose);
+          rests = λ j other. sym (ap sum (entries_none s done.up j other));
+        }
+
+  -- ---- a step of a server that was halted
+
+  pub made_rested : (later : Node D V) (out : List Output) → node.halted ≡ true → Steps g script_db.database (member_at before k) Halted e clock (node_of node) (node_of later) out node.store.disk later.store.disk
+      → StepMade g script_db c before k trigger call [] (up_site clock node) (up_site clock later) out
+  made_rested later out halts steps =
+      let h = model.halted_from (up_server node) in
+      let halted : node_of node ≡ model.Halted h = ap (λ (b : Bool). if b then model.Halted h else model.Up (up_server node)) halts in
+      let is = subst (λ (x : model.Node). Steps g script_db.database (member_at before k) Halted e clock x (node_of later) out node.store.disk later.store.disk) halted steps in
+      let armed = set c.armed k (counted_on 0 (armed_at c.armed k)) in
+      let happened_so = halted_happens script_db.database c.run.world trigger k e site o there h (stood ∙ halted) in
       record {
         ev = Step trigger [];
-        h = h;
+        h = halted_step site e;
         choices = [];
-        is =
-            stepped_sound script_db c (length before.hosts.items) stands.unarmed trigger k e site o there
-            ∙ ap (happened c (Step trigger [])) (halted_happens script_db.database c.run.world trigger k e site o there (model.halted_from u) (stood ∙ halted));
+        armed = armed;
+        is = stepped_halted script_db c trigger k e site o there h (stood ∙ halted) ∙ ap (happened (with_armed c armed) (Step trigger [])) happened_so;
+        happens_so = happened_so;
         outputs = sym is.1;
         answers = refusals_answer e call;
         votes = refusals_rest e before.hosts.items;
         stood = record { clock = clocks; node = stood ∙ halted ∙ sym is.0 };
-        marks = marked g.faults k false h node later refl (λ never. cc) kept;
+        marked = refl;
+        arms = armed_set g before.sites.items c.armed k (up_site clock later) (counted_on 0 (armed_at c.armed k)) stands.armed
+            (subst (λ (x : model.Node). IsArmedAs x (counted_on 0 (armed_at c.armed k)) (g.stop later.store.disk)) (sym is.0) tt);
+        reads = subst (λ (d : D). IsSomeAnd (g.files d) (StandsAs site.durable)) (sym is.2) read;
+        rises = (0, sym (ap (λ (x : Happened). sum (calls_of k x.entries)) happened_so), ap g.steps is.2 ∙ omega arith);
+        rests = λ j other. sym (ap (λ (x : Happened). sum (calls_of j x.entries)) happened_so);
       }
+
+  -- ---- a step in which the disk failed
+
+  module _ (out : List Output) (failed later : D) (up : node.halted ≡ false) (after : model.Node) (steps : Steps g script_db.database (member_at before k) Halted e clock (node_of node) after out node.store.disk failed) (revived : IsRevived g failed later) (told : IsSome (g.files later)) where
+    abbrev pub s : model.Server
+    s = up_server node
+
+    abbrev pub u : Stepped
+    u = model_of s
+
+    is_up_here : node_of node ≡ model.Up s
+    is_up_here = ap (λ (b : Bool). if b then model.Halted (model.halted_from s) else model.Up s) up
+
+    is_so : Steps g script_db.database (member_at before k) Halted e clock (model.Up s) after out node.store.disk failed
+    is_so = subst (λ (x : model.Node). Steps g script_db.database (member_at before k) Halted e clock x after out node.store.disk failed) is_up_here steps
+
+    pub fails : FailsIn g (durable_in s) node.store.disk failed u.calls
+    fails = subst (λ (x : Stepped). FailsIn g (durable_in s) node.store.disk failed x.calls) (sym (model_step s)) is_so.2
+
+    so : Failed g s node.store.disk later u.calls fails.whole
+    so = failed_in g node s failed later u.calls (files s is_up_here) (few s) fails revived told
+
+    -- how many durable calls took place
+    abbrev made : ℕ
+    made = if so.took then fails.whole + 1 else fails.whole
+
+    reads_so : IsSomeAnd (g.files later) (StandsAs (durable_after_all site.durable (take made u.calls)))
+    reads_so = subst (λ (d : Durable). IsSomeAnd (g.files later) (StandsAs (durable_after_all d (take made u.calls)))) (sym (durable_is s is_up_here)) so.stands
+
+    cut_so : IsCutShort (calls_of k (happens script_db.database c.run.world (Step trigger [])).entries) made so.rise
+    cut_so = subst (λ (l : List ℕ). IsCutShort l made so.rise) (sym (entries_are s is_up_here k ∙ calls_own k s.version u.calls)) so.cut
+
+    cut_none : (j : ℕ) → j ≢ k → IsCutShort (calls_of j (happens script_db.database c.run.world (Step trigger [])).entries) made 0
+    cut_none j other = none_cut (calls_of j (happens script_db.database c.run.world (Step trigger [])).entries) made (entries_none s is_up_here j other)
+
+    -- without a stop: the server is halted
+    pub made_fault : (halted : Node D V) → halted.store.disk ≡ later → node_of halted ≡ after → StepMade g script_db c before k trigger call (end_marks k ended.Halts) (up_site clock node) (up_site clock halted) out
+    made_fault halted place node_is =
+        let happened_so = fault_happens script_db.database c.run.world trigger k e site o there s made (stood ∙ is_up_here) in
+        record {
+          ev = Fault trigger [] made;
+          h = fault_up k site e s u made;
+          choices = fails_after made ∷ [];
+          armed = c.armed;
+          is = stepped_fails script_db c trigger k e site o there s (stood ∙ is_up_here) made ∙ ap (happened c (Fault trigger [] made)) happened_so;
+          happens_so = happened_so;
+          outputs = sym is_so.1;
+          answers = refusals_answer e call;
+          votes = refusals_rest e before.hosts.items;
+          stood = record { clock = clocks; node = sym (node_is ∙ is_so.0) };
+          marked = refl;
+          arms = armed_still g before.sites.items c.armed k (up_site clock halted) stands.armed
+              (subst (λ (x : model.Node). IsArmedAs x (armed_at c.armed k) (g.stop halted.store.disk)) (sym (node_is ∙ is_so.0)) tt);
+          reads = subst (λ (d : D). IsSomeAnd (g.files d) (StandsAs (durable_after_all site.durable (take made u.calls)))) (sym place) reads_so;
+          rises = (so.rise, cut_so, ap g.steps place ∙ so.steps);
+          rests = cut_none;
+        }
+
+    -- with a stop: it is down, and shows nothing
+    pub made_stop : (calls : (most : ℕ) × CallsAtMost g most node.store.disk failed ((Halted ≡ Halted) × (node.halted ≡ false))) → IsStopped (g.stop failed) → StepMade g script_db c before k trigger call (end_marks k ended.Stops) (up_site clock node) (record { clock = clock; server = Down later }) []
+    made_stop calls stopped =
+        let happened_so = stop_happens script_db.database c.run.world trigger k e site o there s made (stood ∙ is_up_here) in
+        let advanced = calls.1.advances in
+        let rise_is : advanced.calls ≡ so.rise = let is = advanced.steps in let still = revived.steps in let rose = so.steps in omega (arith, is, still, rose) in
+        let stop_is : g.stop failed ≡ after_changes so.rise (g.stop node.store.disk) = advanced.stop ∙ ap (λ (m : ℕ). after_changes m (g.stop node.store.disk)) rise_is in
+        let whole = whole_before s.version u.calls (armed_at c.armed k) (g.stop node.store.disk) fails.whole so.rise (few s) (stops s is_up_here)
+        (runs_still g node s failed later u.calls (files s is_up_here) (few s) fails) (subst IsStopped stop_is stopped)
+        (rise_most g node s failed later u.calls (files s is_up_here) (few s) fails so.rise (sym revived.steps ∙ so.steps)) in
+        record {
+          ev = Stop trigger [] made;
+          h = stop_up k site s.version u made;
+          choices = stops_so so.took ∷ [];
+          armed = set c.armed k None;
+          is =
+              stepped_stops script_db c trigger k e site o there s (stood ∙ is_up_here) so.took fails.whole whole
+              ∙ ap (happened (with_armed c (set c.armed k None)) (Stop trigger [] made)) happened_so;
+          happens_so = happened_so;
+          outputs = refl;
+          answers = All-nil _;
+          votes = All-nil _;
+          stood = record { clock = clocks; node = refl };
+          marked = refl;
+          arms = armed_set g before.sites.items c.armed k (record { clock = clock; server = Down later }) None stands.armed (refl, revived.unarmed);
+          reads = reads_so;
+          rises = (so.rise, cut_so, so.steps);
+          rests = cut_none;
+        }

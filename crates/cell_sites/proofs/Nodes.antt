@@ -2,24 +2,34 @@
 use Rattle.std.proofs.Common.{if◌then◌else◌, ◌≡◌, ◌≢◌, ◌⊎◌, inl, inr, ◌<◌, ◌≤◌, ◌+◌, ℕ, Bool, true, false, not, List, [], ◌∷◌, map, Option, Some, None, IfSome, IsSome, refl, sym, ap, subst, ◌∙◌, arith}
 use Rattle.std.specs.Option.{option_map}
 use Rattle.disk_base.specs.declared.disks.Disk.{Ghosts}
+use Rattle.disk_base.specs.Crash.{IsSettled, LeavesSame, Only}
 use Rattle.disk_base.specs.Files.{Files}
+use Rattle.disk_base.specs.Runs.{OnlyReads}
+use Rattle.disk_base.specs.Stops.{IsStopped}
 use Rattle.db_image.specs.Database.{Database}
 use Rattle.ubik_types.specs.declared.versions.Version.{Version}
 use Rattle.cell_model.specs.declared.events.NodeEvent.{NodeEvent}
 use Rattle.cell_model.specs.declared.events.Output.{Output}
+use Rattle.cell_model.specs.Durable.{Durable, Made}
 use Rattle.cell_model.specs.Node as model
 use Rattle.cell_model.specs.Step.{Member, cell_size}
 use Rattle.cell_model.specs.Voters.{IsVoter, IsAlonePhase}
 use Rattle.ubik_types.specs.Phase.{PhaseRecord, NoPhase}
+use Rattle.ubik_store.specs.Gaps.{IsPlain}
 use Rattle.ubik_node.specs.declared.nodes.Node.{Node}
 use Rattle.ubik_node.specs.declared.nodes.StepEnd.{StepEnd}
 use Rattle.ubik_node.specs.declared.nodes.StepEnd.TheVariants.{Done, Halted, NoMemory}
 use Rattle.ubik_node.specs.declared.progress.Progress.{Progress}
 use Rattle.ubik_node.specs.declared.progress.Progress.TheVariants as progress
-use Rattle.ubik_node.specs.Node.{IsStored, Steps, last_after, node_of, own_member, up_server}
+use Rattle.ubik_node.specs.Disk.{IsRevived, LeavesWithin}
+use Rattle.ubik_node.specs.Node.{Calls, IsStored, Steps, durable_in, last_after, node_of, own_member, up_server}
+use Rattle.ubik_node.specs.declared.state.State.{State}
+use Rattle.ubik_node.specs.State.{member_of, server_of}
 use Rattle.ubik_node.specs.Progress.{is_held, phase_record}
-use Rattle.cell_sites.specs.Sound.{IsSoundNode}
-use Rattle.cell_sites.specs.Stepped.{NodeStepped}
+use Rattle.cell_sites.specs.declared.steps.SiteEnd.TheVariants as ended
+use Rattle.cell_sites.specs.Sound.{IsSoundDisk, IsSoundNode, StandsForSome}
+use Rattle.cell_sites.specs.Stepped.{NodeStepped, StaysSound}
+use Rattle.cell_sites.proofs.Plainly.{left_plain, left_stands, make_if, of_some, some_of}
 
 -- ---- whether it is halted
 
@@ -52,6 +62,33 @@ phase_of_voter own size (progress.Ready poll old) alone = inr (alone refl, refl)
 pub node_votes : {D V : Type 0} (n : Node D V) → IsVoter (own_member n) (up_server n)
 node_votes n = record { phase = phase_of_voter n.state.version (cell_size (own_member n)) n.state.progress n.state.alone; flight = refl; waiting = refl }
 
+-- ---- disks
+
+-- a disk that was revived is sound where what a crash leaves of it is plain
+pub sound_revived : {D : Type 0} (g : Ghosts D) (failed later : D) → IsRevived g failed later → g.tells failed ≡ true → ((fs : Files) → g.may_leave failed fs → IsPlain fs × StandsForSome fs) → IsSoundDisk g later
+sound_revived g failed later revived tells plain =
+    let there = some_of (g.files later) (revived.told tells) in
+    let left = of_some (g.files later) there.0 (λ fs. g.may_leave failed fs × Only fs (g.may_leave later)) there.1 revived.left in
+    record {
+      told = revived.told tells;
+      settled = make_if (g.files later) there.0 (λ fs. Only fs (g.may_leave later)) there.1 left.1;
+      plain = make_if (g.files later) there.0 IsPlain there.1 (plain there.0 left.0).0;
+      stands = make_if (g.files later) there.0 StandsForSome there.1 (plain there.0 left.0).1;
+    }
+
+-- one that was only read stays so
+pub sound_read : {D : Type 0} (g : Ghosts D) (old new : D) → IsSoundDisk g old → OnlyReads g old new ⊥ → IsSoundDisk g new
+sound_read g old new sound reads =
+    let there = some_of (g.files old) sound.told in
+    let same : g.files new ≡ g.files old = reads.files (λ never. never) in
+    let only = of_some (g.files old) there.0 (λ fs. Only fs (g.may_leave old)) there.1 sound.settled in
+    record {
+      told = subst IsSome (sym same) sound.told;
+      settled = make_if (g.files new) there.0 (λ fs. Only fs (g.may_leave new)) (same ∙ there.1) (λ c left. only c (reads.crash.no_more c left));
+      plain = make_if (g.files new) there.0 IsPlain (same ∙ there.1) (of_some (g.files old) there.0 IsPlain there.1 sound.plain);
+      stands = make_if (g.files new) there.0 StandsForSome (same ∙ there.1) (of_some (g.files old) there.0 StandsForSome there.1 sound.stands);
+    }
+
 -- ---- a step
 
 -- where a step was made the server was up, and is
@@ -60,89 +97,130 @@ made_up g db m e now model.Down after out old new steps = absurd steps
 made_up g db m e now (model.Halted h) after out old new steps = absurd steps
 made_up g db m e now (model.Up s) after out old new (short, makes) = ((s, refl), (_, makes.server))
 
-pub halts_after : {D : Type 0} (g : Ghosts D) (db : Database) (m : Member) (e : NodeEvent) (now : ℕ) (x after : model.Node) (out : List Output) (old new : D) → Steps g db m Halted e now x after out old new → (h : model.HaltedServer) × (after ≡ model.Halted h)
-halts_after g db m e now model.Down after out old new steps = absurd steps
-halts_after g db m e now (model.Halted h) after out old new steps = (h, steps.0)
-halts_after g db m e now (model.Up s) after out old new steps = (model.halted_from s, steps.0)
+-- what a crash leaves of it
+abbrev pub Leaves : {D : Type 0} → Ghosts D → (old new : D) → Type 0
+Leaves g old new = (d : Durable) × (calls : List Made) × LeavesWithin g d old new calls
 
-module _ {D V : Type 0} (g : Ghosts D) (db : Database) (m : Member) (clock : ℕ) (e : NodeEvent) (node later : Node D V) (out : List Output) (sound : IsSoundNode g m clock node) where
-  -- a server that is not halted after a step was not halted before
-  was_up : (end : StepEnd) → Steps g db m end e clock (node_of node) (node_of later) out node.store.disk later.store.disk → later.halted ≡ false → (end ≢ Halted) × (node.halted ≡ false)
-  was_up Done steps up = let made = made_up g db m e clock (node_of node) (node_of later) out node.store.disk later.store.disk steps in ((λ is. cc), (is_up node made.0.0 made.0.1).0)
-  was_up Halted steps up =
-      let made = halts_after g db m e clock (node_of node) (node_of later) out node.store.disk later.store.disk steps in
-      let halted = is_halted later made.0 made.1 in absurd (false_true (sym up ∙ halted))
-    where
-      false_true : false ≡ true → ⊥
-      false_true is = cc
-  was_up NoMemory steps up =
-      let same : node_by node.halted (up_server node) ≡ model.Up (up_server later) = sym steps.0 ∙ ap (λ (h : Bool). node_by h (up_server later)) up in
-      ((λ is. cc), (by_up node.halted (up_server node) (up_server later) same).0)
+pub made_leaves : {D : Type 0} (g : Ghosts D) (db : Database) (m : Member) (e : NodeEvent) (now : ℕ) (x after : model.Node) (out : List Output) (old new : D) → Steps g db m Done e now x after out old new → Leaves g old new
+made_leaves g db m e now model.Down after out old new steps = absurd steps
+made_leaves g db m e now (model.Halted h) after out old new steps = absurd steps
+made_leaves g db m e now (model.Up s) after out old new (short, makes) = (_, _, makes.disk.leaves)
 
-  -- it is halted since its disk failed
-  caused : (end : StepEnd) → Steps g db m end e clock (node_of node) (node_of later) out node.store.disk later.store.disk → (end ≡ Halted → node.halted ≡ false → g.faults node.store.disk < g.faults later.store.disk) → g.faults node.store.disk ≤ g.faults later.store.disk → later.halted ≡ true → 0 < g.faults later.store.disk
-  caused Done steps fault kept halted =
-      let made = made_up g db m e clock (node_of node) (node_of later) out node.store.disk later.store.disk steps in
-      let up = (is_up later made.1.0 made.1.1).0 in absurd (true_false (sym halted ∙ up))
-    where
-      true_false : true ≡ false → ⊥
-      true_false is = cc
-  caused Halted steps fault kept halted = by node.halted refl
-    where
-      by : (h : Bool) → node.halted ≡ h → 0 < g.faults later.store.disk
-      by true is = let old = sound.cause is in omega (arith, old, kept)
-      by false is = let rose = fault refl is in omega (arith, rose)
-  caused NoMemory steps fault kept halted =
-      let same : node_by node.halted (up_server node) ≡ model.Halted (model.halted_from (up_server later)) = sym steps.0 ∙ ap (λ (h : Bool). node_by h (up_server later)) halted in
-      let old = sound.cause (by_halted node.halted (up_server node) (model.halted_from (up_server later)) same) in omega (arith, old, kept)
+pub halted_leaves : {D V : Type 0} (g : Ghosts D) (db : Database) (m : Member) (e : NodeEvent) (now : ℕ) (node : Node D V) (after : model.Node) (out : List Output) (old new : D) → node.halted ≡ false → Steps g db m Halted e now (node_of node) after out old new → Leaves g old new
+halted_leaves g db m e now node after out old new up steps =
+    let s = up_server node in
+    let is : node_of node ≡ model.Up s = ap (λ (b : Bool). if b then model.Halted (model.halted_from s) else model.Up s) up in
+    let so = subst (λ (x : model.Node). Steps g db m Halted e now x after out old new) is steps in
+    (_, _, so.2.leaves)
 
+-- a halted server leaves its disk alone
+pub halted_rests : {D V : Type 0} (g : Ghosts D) (db : Database) (m : Member) (e : NodeEvent) (now : ℕ) (node : Node D V) (after : model.Node) (out : List Output) (old new : D) → node.halted ≡ true → Steps g db m Halted e now (node_of node) after out old new → new ≡ old
+halted_rests g db m e now node after out old new halted steps =
+    let h = model.halted_from (up_server node) in
+    let is : node_of node ≡ model.Halted h = ap (λ (b : Bool). if b then model.Halted h else model.Up (up_server node)) halted in
+    (subst (λ (x : model.Node). Steps g db m Halted e now x after out old new) is steps).2
+
+-- what is left of a plain file is plain
+pub plain_left : {D : Type 0} (g : Ghosts D) (old new : D) → IsSoundDisk g old → Leaves g old new → (fs : Files) → g.may_leave new fs → IsPlain fs × StandsForSome fs
+plain_left g old new sound (d, calls, leaves) fs left =
+    let there = some_of (g.files old) sound.told in (
+      left_plain g d old new calls there.0 fs there.1 (of_some (g.files old) there.0 IsPlain there.1 sound.plain) leaves left,
+      left_stands g d old new calls there.0 fs there.1 leaves left,
+    )
+
+module _ {D V : Type 0} (g : Ghosts D) (db : Database) (m : Member) (clock : ℕ) (e : NodeEvent) (node : Node D V) (out : List Output) (sound : IsSoundNode g m clock node) (disk : IsSoundDisk g node.store.disk) where
   lasts : (end : StepEnd) (last : ℕ) → last ≤ clock → last_after end last clock ≤ clock
   lasts Done last within = omega arith
   lasts Halted last within = omega arith
   lasts NoMemory last within = within
 
-  pub sound_later : (end : StepEnd) → Steps g db m end e clock (node_of node) (node_of later) out node.store.disk later.store.disk
-      → own_member later ≡ own_member node → IsStored g later → (end ≢ Halted → IsSome (g.files node.store.disk) → IsSome (g.files later.store.disk))
-      → (end ≡ Halted → node.halted ≡ false → g.faults node.store.disk < g.faults later.store.disk) → g.faults node.store.disk ≤ g.faults later.store.disk → later.last ≡ last_after end node.last clock
-      → IsSoundNode g m clock later
-  sound_later end steps member stored others fault kept last =
+  sound_later : (later : Node D V) (end : StepEnd) → own_member later ≡ own_member node → IsStored g later → later.last ≡ last_after end node.last clock → IsSoundNode g m clock later
+  sound_later later end member stored last =
       record {
         last = let within = lasts end node.last sound.last in omega (arith, within, last);
         member = member ∙ sound.member;
         voter = subst (λ (n : Member). IsVoter n (up_server later)) (member ∙ sound.member) (node_votes later);
         stored = stored;
-        told = λ up. let was = was_up end steps up in others was.0 (sound.told was.1);
-        cause = caused end steps fault kept;
       }
 
-  pub halted_now : (was : Bool) → was ≡ node.halted → Steps g db m Halted e clock (node_of node) (node_of later) out node.store.disk later.store.disk
-      → own_member later ≡ own_member node → IsStored g later → (node.halted ≡ false → g.faults node.store.disk < g.faults later.store.disk) → g.faults node.store.disk ≤ g.faults later.store.disk → later.last ≡ last_after Halted node.last clock
-      → NodeStepped g db m clock e Halted (not was) node later out
-  halted_now was is steps member stored fault kept last =
+  -- it was made
+  pub done_now : (later : Node D V) → Steps g db m Done e clock (node_of node) (node_of later) out node.store.disk later.store.disk
+      → own_member later ≡ own_member node → IsStored g later → (IsSome (g.files node.store.disk) → IsSome (g.files later.store.disk)) → Calls g node later Done → later.last ≡ last_after Done node.last clock
+      → NodeStepped g db m clock e ended.Made node later out
+  done_now later steps member stored others calls last =
+      let made = made_up g db m e clock (node_of node) (node_of later) out node.store.disk later.store.disk steps in
+      let up = (is_up later made.1.0 made.1.1).0 in
+      let there = some_of (g.files later.store.disk) (others disk.told) in
+      let left =
+      plain_left g node.store.disk later.store.disk disk (made_leaves g db m e clock (node_of node) (node_of later) out node.store.disk later.store.disk steps) there.0
+      (g.may_be_read later.store.disk there.0 there.1) in
       record {
+        end = Done;
+        ends = inl refl;
         steps = steps;
-        halted = λ halts. let up = sym is ∙ not_true was halts in (refl, up, fault up);
-        rests = λ halts end. sym is ∙ not_false was halts;
-        never_falls = kept;
-        sound = sound_later Halted steps member stored (λ other. absurd (other refl)) (λ end up. fault up) kept last;
+        calls = calls;
+        sound = record {
+          node = sound_later later Done member stored last;
+          disk = record {
+            told = others disk.told;
+            settled = (stored.sound.ready (stored.failed ∙ up)).settled;
+            plain = make_if (g.files later.store.disk) there.0 IsPlain there.1 left.0;
+            stands = make_if (g.files later.store.disk) there.0 StandsForSome there.1 left.1;
+          };
+        };
       }
-    where
-      not_true : (b : Bool) → not b ≡ true → b ≡ false
-      not_true true is = cc
-      not_true false is = refl
 
-      not_false : (b : Bool) → not b ≡ false → b ≡ true
-      not_false true is = refl
-      not_false false is = cc
+  -- it was halted before
+  pub rested_now : (later : Node D V) → node.halted ≡ true → Steps g db m Halted e clock (node_of node) (node_of later) out node.store.disk later.store.disk
+      → own_member later ≡ own_member node → IsStored g later → Calls g node later Halted → later.last ≡ last_after Halted node.last clock
+      → NodeStepped g db m clock e ended.Made node later out
+  rested_now later halted steps member stored calls last =
+      record {
+        end = Halted;
+        ends = inr (refl, halted);
+        steps = steps;
+        calls = calls;
+        sound = record {
+          node = sound_later later Halted member stored last;
+          disk = subst (IsSoundDisk g) (sym (halted_rests g db m e clock node (node_of later) out node.store.disk later.store.disk halted steps)) disk;
+        };
+      }
 
-  pub not_halted_now : (end : StepEnd) → end ≢ Halted → Steps g db m end e clock (node_of node) (node_of later) out node.store.disk later.store.disk
-      → own_member later ≡ own_member node → IsStored g later → (IsSome (g.files node.store.disk) → IsSome (g.files later.store.disk)) → g.faults node.store.disk ≤ g.faults later.store.disk → later.last ≡ last_after end node.last clock
-      → NodeStepped g db m clock e end false node later out
-  not_halted_now end other steps member stored others kept last =
+  -- memory ran out
+  pub short_now : (later : Node D V) → Steps g db m NoMemory e clock (node_of node) (node_of later) out node.store.disk later.store.disk
+      → own_member later ≡ own_member node → IsStored g later → later.last ≡ last_after NoMemory node.last clock
+      → NodeStepped g db m clock e ended.NoMemory node later out
+  short_now later steps member stored last =
       record {
         steps = steps;
-        halted = λ never. cc;
-        rests = λ never is. absurd (other is);
-        never_falls = kept;
-        sound = sound_later end steps member stored (λ is. others) (λ is. absurd (other is)) kept last;
+        sound = record { node = sound_later later NoMemory member stored last; disk = sound_read g node.store.disk later.store.disk disk steps.2 };
+      }
+
+  -- its disk stopped
+  pub stopped_now : (later : Node D V) → node.halted ≡ false → Steps g db m Halted e clock (node_of node) (node_of later) out node.store.disk later.store.disk → Calls g node later Halted → IsStopped (g.stop later.store.disk)
+      → NodeStepped g db m clock e ended.Stops node later out
+  stopped_now later up steps calls stopped =
+      record { was = up; steps = steps; calls = calls; stopped = stopped; fault = calls.1.cause.rose (refl, up) }
+
+  -- its disk failed, and the files were opened anew
+  pub halted_now : (mid later : Node D V) → node.halted ≡ false → Steps g db m Halted e clock (node_of node) (node_of mid) out node.store.disk mid.store.disk → Calls g node mid Halted → (IsStopped (g.stop mid.store.disk) → ⊥)
+      → IsRevived g mid.store.disk later.store.disk → (later.state ≡ mid.state) × (later.halted ≡ mid.halted) × (later.last ≡ mid.last)
+      → own_member mid ≡ own_member node → IsStored g later → mid.last ≡ last_after Halted node.last clock
+      → NodeStepped g db m clock e ended.Halts node later out
+  halted_now mid later up steps calls runs revived same member stored last =
+      let node_same : node_of later ≡ node_of mid =
+      ap (λ (h : Bool). if h then model.Halted (model.halted_from (up_server later)) else model.Up (up_server later)) same.1
+      ∙ ap (λ (u : model.Server). if mid.halted then model.Halted (model.halted_from u) else model.Up u) (ap (λ (st : State). server_of st) same.0) in
+      record {
+        failed = mid.store.disk;
+        was = up;
+        steps = subst (λ (x : model.Node). Steps g db m Halted e clock (node_of node) x out node.store.disk mid.store.disk) (sym node_same) steps;
+        running = runs;
+        fault = calls.1.cause.rose (refl, up);
+        revived = revived;
+        sound = record {
+          node = sound_later later Halted (ap (λ (st : State). member_of st) same.0 ∙ member) stored (same.2 ∙ last);
+          disk = sound_revived g mid.store.disk later.store.disk revived (calls.1.tells ∙ g.tells_now node.store.disk disk.told)
+              (plain_left g node.store.disk mid.store.disk disk (halted_leaves g db m e clock node (node_of mid) out node.store.disk mid.store.disk up steps));
+        };
       }

@@ -1,43 +1,51 @@
 -- One more server is opened, until all are.
-use Rattle.std.proofs.Common.{if◌then◌else◌, ◌≡◌, ◌≢◌, ◌<◌, ◌≤◌, ◌+◌, ◌++◌, ℕ, zero, suc, Bool, true, false, List, [], ◌∷◌, Vec, length, map, get_or, replicate, Option, Some, None, Result, Ok, Err, IfSome, IsSome, IsSomeAnd, refl, sym, ap, subst, ◌∙◌, arith}
+use Rattle.std.proofs.Common.{if◌then◌else◌, ◌≡◌, ◌≢◌, ◌<◌, ◌≤◌, ◌+◌, ◌++◌, ℕ, zero, suc, Bool, true, false, List, [], ◌∷◌, Vec, length, map, get_or, replicate, Option, Some, None, Result, Ok, Err, IsSomeAnd, refl, sym, ap, subst, ◌∙◌, arith}
 use Rattle.std.specs.Prelude.{All, OnOk}
-use Rattle.std.proofs.lemmas.List.{append_assoc, append-nil, length-map, map-append}
+use Rattle.std.proofs.lemmas.List.{append_assoc, length-map, map-append}
 use Rattle.std.proofs.lemmas.Grind.{flat_map-append}
 use Rattle.std.specs.declared.alloc.Global.{Global}
+use Rattle.db_image.specs.Database.{Database}
 use Rattle.disk_base.specs.declared.disks.Disk.{Ghosts}
+use Rattle.disk_base.specs.Crash.{IsSettled}
 use Rattle.disk_base.specs.Files.{Files, no_files}
+use Rattle.disk_base.specs.Stops.{DiskStop}
+use Rattle.disk_base.specs.Stops.DiskStop.{Unarmed}
 use Rattle.ubik_types.specs.declared.hosts.Host.{Host}
 use Rattle.ubik_types.specs.Moment.{IsMoment}
 use Rattle.ubik_calls.specs.declared.packets.Packet.{Packet}
-use Rattle.cell_model.specs.Durable.{Durable, no_database}
+use Rattle.ubik_log.proofs.Gates.{short_log_is_discarded}
+use Rattle.ubik_store.specs.Gaps.{IsPlain}
+use Rattle.ubik_store.specs.Opening.{OpensIn}
+use Rattle.ubik_store.proofs.Gaps.{discarded_is_plain}
+use Rattle.cell_model.specs.Durable.{no_database}
 use Rattle.cell_model.specs.Node as model
-use Rattle.cell_model.specs.Step.{Member, cell_size}
-use Rattle.cell_model.specs.Voters.{IsVoter, IsVotePacket}
+use Rattle.cell_model.specs.Voters.{IsVotePacket}
 use Rattle.cell_model.specs.World.{Site as ModelSite, are_near, clocks_of, first_seen, first_site}
 use Rattle.cell_script.specs.declared.lines.Kind.{Kind}
-use Rattle.cell_runs.specs.Script.{fails_at, hosts_of, opened_cell}
+use Rattle.cell_runs.specs.Script.{Armed, Cell, fails_at, hosts_of, opened_cell}
 use Rattle.cell_runs.specs.ScriptDatabase.{ScriptDatabase}
-use Rattle.cell_runs.specs.Trace.{TraceItem, Tells, item_text, mark_text, trace}
-use Rattle.cell_runs.specs.declared.traces.Mark.TheVariants as mark
-use Rattle.cell_sites.specs.Disks.{Held, AreRises, all_held, held, IsFresh}
-use Rattle.cell_sites.specs.Opened.{ArePartOpened, HasRoom, IsAdded, IsOpened, opening_items}
-use Rattle.cell_sites.specs.OpenedServer.{IsEmptied, ServerOpened}
-use Rattle.cell_sites.specs.Sites.{AreSitesOf, IsModelledBy, helds, server_disk, site_disk}
-use Rattle.cell_sites.specs.Sound.{AreSound, IsSoundNode, IsSoundServer, IsSoundSite}
+use Rattle.cell_runs.specs.Trace.{TraceItem, Tells, item_text, marks_text, trace}
+use Rattle.ubik_node.specs.Disk.{StandsAs}
+use Rattle.ubik_node.specs.Node.{up_server}
+use Rattle.cell_sites.specs.Counts.{AreCountsFrom, OpensFirst, RisesAs}
+use Rattle.cell_sites.specs.Disks.{AreReadBy, AreRises, Held, IsReadBy, all_held, held}
+use Rattle.cell_sites.specs.Opened.{AreFirstCounts, ArePartOpened, AreUnarmed, HasRoom, IsAdded, IsOpened, counts_of, opening_items}
+use Rattle.cell_sites.specs.OpenedServer.{IsEmptied, OpensDisk, ServerIs, ServerOpens, is_cut_short, opened_marks}
+use Rattle.cell_sites.specs.Sites.{AreArmed, AreSitesOf, IsArmedAs, IsModelledBy, helds, server_disk, server_node, site_disk}
+use Rattle.cell_sites.specs.Sound.{AreSound, IsSoundDisk, IsSoundServer, IsSoundSite, StandsForSome}
 use Rattle.cell_sites.specs.Traffic.{Traffic}
 use Rattle.cell_sites.specs.declared.cells.OpenCell.{OpenCell}
+use Rattle.cell_sites.specs.declared.openings.OpenEnd.{OpenEnd}
+use Rattle.cell_sites.specs.declared.openings.OpenEnd.TheVariants as opened
 use Rattle.cell_sites.specs.declared.sites.Server.{Server}
 use Rattle.cell_sites.specs.declared.sites.Server.TheVariants as server
 use Rattle.cell_sites.specs.declared.sites.Site.{Site}
-use Rattle.ubik_store.specs.declared.faults.StoreFault.{StoreFault}
-use Rattle.ubik_store.specs.declared.faults.StoreFault.TheVariants.{DiskFault, BadLabel, TooLarge, NotNewer, NoMemory}
-use Rattle.ubik_node.specs.declared.nodes.Node.{Node}
-use Rattle.ubik_store.specs.Opening.{RefusesFiles}
-use Rattle.ubik_node.specs.Node.{node_of, own_member, up_server, IsStored}
 use Rattle.cell_sites.proofs.AtPlace.{sites_clocks, sites_length, sites_push, sound_push}
 use Rattle.cell_sites.proofs.Hosts.{length-hosts_of}
 use Rattle.cell_sites.proofs.Near.{near_make, near_same}
-use Rattle.cell_sites.proofs.Opening.{choices_of, chosen, items_more, not_halted, refused_by_fault, rises_more}
+use Rattle.cell_sites.proofs.Opening.{choices_of, chosen, items_more, rises_more}
+use Rattle.cell_sites.proofs.Opens.{if_told, some_told, told_at}
+use Rattle.cell_sites.proofs.Standing.{fresh_stands}
 
 length_snoc : {X : Type 0} (xs : List X) (x : X) → length (xs ++ x ∷ []) ≡ length xs + 1
 length_snoc [] x = refl
@@ -48,8 +56,123 @@ pub opened_length : {D V : Type 0} (sites : List (Site D V)) (n clock : ℕ) (fa
 opened_length sites n clock failed are =
     sym (sites_length sites (map (first_site n clock) failed) are) ∙ length-map failed (first_site n clock)
 
-pub next_opened : {D V : Type 0} (g : Ghosts D) (db : ScriptDatabase) (clock : ℕ) (given : List D) (running : OpenCell D V) (before told after : List ℕ) (disk : D) (s : Server D V) (sites : Vec (Site D V) Global) → IsMoment clock → sites.items ≡ running.sites.items ++ record { clock = clock; server = s } ∷ [] → ServerOpened g.faults db running.hosts.items (length running.sites.items) clock disk s told after → IsSoundServer g (record { hosts = running.hosts.items; me = length running.sites.items }) clock s → ArePartOpened g db clock given running before told → ArePartOpened g db clock (given ++ disk ∷ []) (record running { sites = sites }) before after
-next_opened {D} {V} g db clock given running before told after disk s sites moment pushed one sound p =
+-- ---- an empty disk
+
+fresh_plain : IsPlain no_files
+fresh_plain = discarded_is_plain no_files (short_log_is_discarded [] (omega arith)) (λ _. refl)
+
+-- a server can be opened over it
+pub fresh_sound : {D : Type 0} (g : Ghosts D) (disk : D) → g.files disk ≡ Some no_files → IsSettled (g.files disk) (g.may_leave disk) → IsSoundDisk g disk
+fresh_sound g disk empty settled = record {
+  told = some_told (g.files disk) no_files empty;
+  settled = settled;
+  plain = if_told (g.files disk) no_files IsPlain empty fresh_plain;
+  stands = if_told (g.files disk) no_files StandsForSome empty (no_database, fresh_stands);
+}
+
+-- it stands for no database
+pub fresh_told : {D : Type 0} (g : Ghosts D) (disk : D) → g.files disk ≡ Some no_files → IsSomeAnd (g.files disk) (StandsAs no_database)
+fresh_told g disk empty = told_at (g.files disk) no_files (StandsAs no_database) empty fresh_stands
+
+-- ---- one server
+
+-- it was opened on no database, or stays down and tells so
+pub record OneOpened {D V : Type 0} (g : Ghosts D) (db : ScriptDatabase) (hosts : List Host) (me clock : ℕ) (disk : D) (s : Server D V) (text_before text_after : List ℕ) : Type 0 where
+  pub fails : Bool
+  pub node : server_node s ≡ (first_site (length hosts) clock fails).node
+  pub sound : IsSoundServer g (record { hosts = hosts; me = me }) clock s
+  pub disk_sound : IsSoundDisk g (server_disk s)
+  pub stands : IsSomeAnd (g.files (server_disk s)) (StandsAs no_database)
+  pub opening : ℕ
+  pub opens : OpensFirst fails opening
+  pub steps : g.steps (server_disk s) ≡ g.steps disk + opening
+  pub unarmed : g.stop (server_disk s) ≡ Unarmed
+  pub cause : g.faults disk + (if fails then 1 else 0) ≤ g.faults (server_disk s)
+  pub told : text_after ≡ text_before ++ trace db hosts (map Tells (first_seen me (fails ∷ [])))
+
+-- the calls of an opening over empty files
+first_calls : {D : Type 0} (g : Ghosts D) (failed : Bool) (disk after : D) → g.files disk ≡ Some no_files → (o : OpensDisk g failed disk after) → OpensFirst failed o.rise
+first_calls g failed disk after empty o =
+    let same : Some o.files ≡ Some no_files = sym o.there ∙ empty in
+    let is : o.files ≡ no_files = cc in
+    (o.calls, subst (λ (fs : Files). OpensIn fs o.calls) is o.opens, o.rises)
+
+never_down : (halted : Bool) (h : model.HaltedServer) (u : model.Server) → (if halted then model.Halted h else model.Up u) ≡ model.Down → ⊥
+never_down true h u same = let never : model.Halted h ≡ model.Down = same in cc
+never_down false h u same = let never : model.Up u ≡ model.Down = same in cc
+
+down_is : {D V : Type 0} (g : Ghosts D) (hosts : List Host) (me clock : ℕ) (s : Server D V) → server_node s ≡ model.Down → IsSoundServer g (record { hosts = hosts; me = me }) clock s
+down_is g hosts me clock (server.Down disk) is = tt
+down_is g hosts me clock (server.Up n) is = absurd (never_down n.halted (model.halted_from (up_server n)) (up_server n) is)
+
+module _ {D V : Type 0} (g : Ghosts D) (db : ScriptDatabase) (hosts : List Host) (me clock : ℕ) (disk : D) (s : Server D V) (text_before text_after : List ℕ)
+    (empty : g.files disk ≡ Some no_files) (unarmed : g.stop disk ≡ Unarmed) where
+  pub one_opened : (end : OpenEnd) → ServerOpens g (record { hosts = hosts; me = me }) clock no_database end disk s → end ≢ opened.NoMemory
+      → text_after ≡ text_before ++ marks_text (opened_marks me end) → OneOpened g db hosts me clock disk s text_before text_after
+  one_opened (opened.Up version) one other text = record {
+    fails = false;
+    node = one.is.0;
+    sound = one.is.2;
+    disk_sound = one.sound;
+    stands = one.stands;
+    opening = one.calls.rise;
+    opens = first_calls g false disk (server_disk s) empty one.calls;
+    steps = one.calls.is;
+    unarmed = one.unarmed unarmed;
+    cause = let kept = one.never_falls in omega (arith, kept);
+    told = text;
+  }
+  one_opened opened.StaysDown one other text = record {
+    fails = true;
+    node = one.is.0;
+    sound = down_is g hosts me clock s one.is.0;
+    disk_sound = one.sound;
+    stands = one.stands;
+    opening = one.calls.rise;
+    opens = first_calls g true disk (server_disk s) empty one.calls;
+    steps = one.calls.is;
+    unarmed = one.unarmed unarmed;
+    cause = let rose = one.is.1 in omega (arith, rose);
+    told = text;
+  }
+  one_opened opened.NoMemory one other text = absurd (other refl)
+
+-- what it adds, however it ended
+rises_short : (failed : Bool) (rise : ℕ) → OpensFirst failed rise → OpensFirst true rise
+rises_short true rise opens = opens
+rises_short false rise opens = let is = opens.2 in (opens.0, opens.1, omega (arith, is))
+
+pub one_emptied : {D V : Type 0} (g : Ghosts D) (hosts : List Host) (me clock : ℕ) (disk : D) (s : Server D V) (end : OpenEnd) → g.files disk ≡ Some no_files
+    → ServerOpens g (record { hosts = hosts; me = me }) clock no_database end disk s → IsEmptied g disk (server_disk s)
+one_emptied g hosts me clock disk s end empty one = record {
+  never_falls = one.never_falls;
+  empty = one.stands;
+  few = (one.calls.rise, rises_short (is_cut_short end) one.calls.rise (first_calls g (is_cut_short end) disk (server_disk s) empty one.calls), one.calls.is);
+}
+
+-- ---- one more
+
+read_push : (ss : List ModelSite) (disks : List Held) (s : ModelSite) (disk : Held) → AreReadBy ss disks → IsReadBy s disk → AreReadBy (ss ++ s ∷ []) (disks ++ disk ∷ [])
+read_push [] [] s disk are is = (is, tt)
+read_push [] (x ∷ disks) s disk are is = absurd are
+read_push (t ∷ ss) [] s disk are is = absurd are
+read_push (t ∷ ss) (x ∷ disks) s disk are is = (are.0, read_push ss disks s disk are.1 is)
+
+counts_push : (failed : List Bool) (given : List ℕ) (disks : List Held) (fails : Bool) (before : ℕ) (disk : Held) → AreFirstCounts failed given disks
+    → (opening : ℕ) × OpensFirst fails opening × (disk.steps ≡ before + opening) → AreFirstCounts (failed ++ fails ∷ []) (given ++ before ∷ []) (disks ++ disk ∷ [])
+counts_push [] [] [] fails before disk are is = (is, tt)
+counts_push [] [] (x ∷ disks) fails before disk are is = absurd are
+counts_push [] (b ∷ given) disks fails before disk are is = absurd are
+counts_push (f ∷ failed) [] disks fails before disk are is = absurd are
+counts_push (f ∷ failed) (b ∷ given) [] fails before disk are is = absurd are
+counts_push (f ∷ failed) (b ∷ given) (x ∷ disks) fails before disk are is = (are.0, counts_push failed given disks fails before disk are.1 is)
+
+unarmed_push : {D V : Type 0} (g : Ghosts D) (sites : List (Site D V)) (site : Site D V) → AreUnarmed g sites → g.stop (site_disk site) ≡ Unarmed → AreUnarmed g (sites ++ site ∷ [])
+unarmed_push g [] site are is = (is, tt)
+unarmed_push g (x ∷ sites) site are is = (are.0, unarmed_push g sites site are.1 is)
+
+pub next_opened : {D V : Type 0} (g : Ghosts D) (db : ScriptDatabase) (clock : ℕ) (given : List D) (running : OpenCell D V) (before told after : List ℕ) (disk : D) (s : Server D V) (sites : Vec (Site D V) Global) → IsMoment clock → sites.items ≡ running.sites.items ++ record { clock = clock; server = s } ∷ [] → OneOpened g db running.hosts.items (length running.sites.items) clock disk s told after → ArePartOpened g db clock given running before told → ArePartOpened g db clock (given ++ disk ∷ []) (record running { sites = sites }) before after
+next_opened {D} {V} g db clock given running before told after disk s sites moment pushed one p =
     let items = running.sites.items in
     let site : Site D V = record { clock = clock; server = s } in
     let first = first_site (length running.hosts.items) clock in
@@ -58,6 +181,8 @@ next_opened {D} {V} g db clock given running before told after disk s sites mome
     let each = p.each in
     let hosts = running.hosts.items in
     let more = map Tells (first_seen (length failed) (one.fails ∷ [])) in
+    let now : helds g running ++ held g (server_disk s) ∷ [] ≡ helds g (record running { sites = sites }) =
+    sym (ap (map (λ (x : Site D V). held g (site_disk x))) pushed ∙ map-append (λ (x : Site D V). held g (site_disk x)) items (site ∷ [])) in
     record {
       failed = failed ++ one.fails ∷ [];
       each = let x = length_snoc failed one.fails in let y = length_snoc given disk in omega (arith, x, y, each);
@@ -67,7 +192,7 @@ next_opened {D} {V} g db clock given running before told after disk s sites mome
       sound = subst (λ (l : List (Site D V)). AreSound g hosts 0 clock l) (sym pushed)
           (sound_push g hosts 0 clock items site p.sound
           (subst (λ (n : ℕ). IsSoundSite g (record { hosts = hosts; me = n }) clock site) (omega arith)
-          (record { moment = moment; within = omega arith; server = sound })));
+          (record { moment = moment; within = omega arith; server = one.sound; disk = one.disk_sound })));
       packets = p.packets;
       outputs = p.outputs;
       told = one.told
@@ -76,11 +201,17 @@ next_opened {D} {V} g db clock given running before told after disk s sites mome
           ∙ append_assoc before (trace db hosts (opening_items failed)) (trace db hosts more)
           ∙ ap (λ (l : List ℕ). before ++ l) (sym (flat_map-append (item_text db hosts) (opening_items failed) more))
           ∙ ap (λ (l : List TraceItem). before ++ trace db hosts l) (sym (items_more failed one.fails));
-      causes = subst (λ (l : List Held). AreRises 0 (opening_items (failed ++ one.fails ∷ [])) l (helds g.files g.faults (record running { sites = sites }))) (sym (map-append (held g.files g.faults) given (disk ∷ [])))
-          (subst (λ (l : List Held). AreRises 0 (opening_items (failed ++ one.fails ∷ [])) (all_held g.files g.faults given ++ held g.files g.faults disk ∷ []) l)
-          (sym (ap (map (λ (x : Site D V). held g.files g.faults (site_disk x))) pushed ∙ map-append (λ (x : Site D V). held g.files g.faults (site_disk x)) items (site ∷ [])))
-          (rises_more failed one.fails (all_held g.files g.faults given) (helds g.files g.faults running) (held g.files g.faults disk) (held g.files g.faults (server_disk s))
-          (each ∙ sym (length-map given (held g.files g.faults))) p.causes one.cause));
+      causes = subst (λ (l : List Held). AreRises 0 (opening_items (failed ++ one.fails ∷ [])) l (helds g (record running { sites = sites }))) (sym (map-append (held g) given (disk ∷ [])))
+          (subst (λ (l : List Held). AreRises 0 (opening_items (failed ++ one.fails ∷ [])) (all_held g given ++ held g disk ∷ []) l) now
+          (rises_more failed one.fails (all_held g given) (helds g running) (held g disk) (held g (server_disk s))
+          (each ∙ sym (length-map given (held g))) p.causes one.cause));
+      read = subst (λ (l : List Held). AreReadBy (map first (failed ++ one.fails ∷ [])) l) now
+          (subst (λ (l : List ModelSite). AreReadBy l (helds g running ++ held g (server_disk s) ∷ [])) (sym (map-append first failed (one.fails ∷ [])))
+          (read_push (map first failed) (helds g running) (first one.fails) (held g (server_disk s)) p.read one.stands));
+      counts = subst (λ (l : List Held). AreFirstCounts (failed ++ one.fails ∷ []) (counts_of g (given ++ disk ∷ [])) l) now
+          (subst (λ (l : List ℕ). AreFirstCounts (failed ++ one.fails ∷ []) l (helds g running ++ held g (server_disk s) ∷ [])) (sym (map-append g.steps given (disk ∷ [])))
+          (counts_push failed (counts_of g given) (helds g running) one.fails (g.steps disk) (held g (server_disk s)) p.counts (one.opening, one.opens, one.steps)));
+      unarmed = subst (λ (l : List (Site D V)). AreUnarmed g l) (sym pushed) (unarmed_push g items site p.unarmed one.unarmed);
     }
 
 pub next_added : {D V : Type 0} (g : Ghosts D) (clock : ℕ) (running : OpenCell D V) (disk : D) (s : Server D V) (sites : Vec (Site D V) Global) → sites.items ≡ running.sites.items ++ record { clock = clock; server = s } ∷ [] → IsEmptied g disk (server_disk s) → IsAdded g disk running (record running { sites = sites })
@@ -88,9 +219,22 @@ next_added {D} {V} g clock running disk s sites pushed kept =
     record {
       kept = server_disk s;
       disks = ap (map (λ (x : Site D V). site_disk x)) pushed ∙ map-append (λ (x : Site D V). site_disk x) running.sites.items (record { clock = clock; server = s } ∷ []);
-      never_falls = kept.never_falls;
-      empty = kept.empty;
+      emptied = kept;
     }
+
+-- the same where hosts and place are those that were handed over, and the call did not fail
+pub next_opened_at : {D V T E : Type 0} (r : Result T E) (g : Ghosts D) (db : ScriptDatabase) (clock : ℕ) (running : OpenCell D V) (told after : List ℕ) (disk : D) (s : Server D V) (end : OpenEnd) (sites : Vec (Site D V) Global) (hosts : List Host) (me : ℕ) → hosts ≡ running.hosts.items → me ≡ length running.sites.items → IsMoment clock → sites.items ≡ running.sites.items ++ record { clock = clock; server = s } ∷ []
+    → g.files disk ≡ Some no_files → g.stop disk ≡ Unarmed → ServerOpens g (record { hosts = hosts; me = me }) clock no_database end disk s
+    → OnOk r ((end ≢ opened.NoMemory) × (after ≡ told ++ marks_text (opened_marks me end)))
+    → OnOk r ((given : List D) (before : List ℕ) → ArePartOpened g db clock given running before told → ArePartOpened g db clock (given ++ disk ∷ []) (record running { sites = sites }) before after)
+next_opened_at (Err e) g db clock running told after disk s end sites hosts me same place moment pushed empty unarmed one tells = tt
+next_opened_at {D} {V} (Ok x) g db clock running told after disk s end sites hosts me same place moment pushed empty unarmed one tells = λ given before p.
+    next_opened g db clock given running before told after disk s sites moment pushed
+    (subst (λ (n : ℕ). OneOpened g db running.hosts.items n clock disk s told after) place
+    (subst (λ (l : List Host). OneOpened g db l me clock disk s told after) same
+    (one_opened g db hosts me clock disk s told after empty unarmed end one tells.0 tells.1))) p
+
+-- ---- all of them
 
 first_clock : (n clock : ℕ) (failed : List Bool) (k : ℕ) → k < length (clocks_of (map (first_site n clock) failed)) → get_or (clocks_of (map (first_site n clock) failed)) k 0 ≡ clock
 first_clock n clock [] k less = absurd (omega arith)
@@ -99,6 +243,36 @@ first_clock n clock (fails ∷ failed) (suc k) less = first_clock n clock failed
 
 none_sent : (hosts : List Host) (sent : List Packet) → sent ≡ [] → All (IsVotePacket hosts) sent
 none_sent hosts sent none = subst (λ (l : List Packet). All (IsVotePacket hosts) l) (sym none) (λ k d less. absurd (omega (arith, less)))
+
+-- none is to stop
+armed_none : (node : model.Node) (stop : DiskStop) → stop ≡ Unarmed → IsArmedAs node None stop
+armed_none model.Down stop is = (refl, is)
+armed_none (model.Halted h) stop is = tt
+armed_none (model.Up s) stop is = is
+
+all_unarmed : {D V : Type 0} (g : Ghosts D) (sites : List (Site D V)) → AreUnarmed g sites → AreArmed g sites (replicate (length sites) None)
+all_unarmed g [] are = tt
+all_unarmed g (site ∷ sites) are = (armed_none (server_node site.server) (g.stop (site_disk site)) are.0, all_unarmed g sites are.1)
+
+-- no event was yet
+first_counts : (db : Database) (c : Cell) (k : ℕ) (failed : List Bool) (given : List ℕ) (disks : List Held) → c.events ≡ [] → AreFirstCounts failed given disks → AreCountsFrom db c false k failed given disks
+first_counts db c k [] [] [] none are = tt
+first_counts db c k [] [] (x ∷ disks) none are = absurd are
+first_counts db c k [] (b ∷ given) disks none are = absurd are
+first_counts db c k (f ∷ failed) [] disks none are = absurd are
+first_counts db c k (f ∷ failed) (b ∷ given) [] none are = absurd are
+first_counts db c k (f ∷ failed) (b ∷ given) (x ∷ disks) none are = (
+  record {
+    opening = are.0.0;
+    opens = are.0.1;
+    rise = 0;
+    rises = rw none refl;
+    surplus = 0;
+    over = refl;
+    is = let e = are.0.2 in omega (arith, e);
+  },
+  first_counts db c (k + 1) failed given disks none are.1,
+)
 
 pub all_opened : {D V : Type 0} (g : Ghosts D) (db : ScriptDatabase) (clock : ℕ) (k : Kind) (given : List D) (running : OpenCell D V) (before after : List ℕ) → HasRoom running → length given ≡ length running.hosts.items → ArePartOpened g db clock given running before after → IsOpened g db clock k given running before after
 all_opened {D} {V} g db clock k given running before after room same p =
@@ -116,12 +290,17 @@ all_opened {D} {V} g db clock k given running before after room same p =
     let near : are_near (clocks_of ss) ≡ true = near_make (clocks_of ss) (near_same (clocks_of ss) clock (first_clock (length hosts) clock failed)) in
     record {
       choices = choices;
-      stands = subst (λ (f : List Bool). IsModelledBy running (opened_cell n clock k f)) (sym is) (record {
+      stands = subst (λ (f : List Bool). IsModelledBy g db.database (counts_of g given) running (opened_cell n clock k f)) (sym is) (record {
         hosts = ap hosts_of same ∙ sym room.hosts;
         sites = subst (λ (m : ℕ). AreSitesOf items (map (first_site m clock) failed)) (sym size) p.sites;
         sent = ap (λ (t : Traffic). t.sent) (sym p.packets);
         handed = ap (λ (t : Traffic). t.handed) (sym p.packets);
-        unarmed = ap (λ (m : ℕ). replicate m None) same;
+        armed = subst (λ (m : ℕ). AreArmed g items (replicate m None)) (count ∙ sym same) (all_unarmed g items p.unarmed);
+        disks = record {
+          world = refl;
+          read = subst (λ (m : ℕ). AreReadBy (map (first_site m clock) failed) (helds g running)) (sym size) p.read;
+          counts = first_counts db.database (opened_cell n clock k failed) 0 failed (counts_of g given) (helds g running) refl p.counts;
+        };
       });
       sound = record {
         some = omega (arith, some, count);
@@ -133,80 +312,5 @@ all_opened {D} {V} g db clock k given running before after room same p =
         told = p.outputs;
       };
       told = subst (λ (f : List Bool). after ≡ before ++ trace db hosts (opening_items f)) (sym is) p.told;
-      causes = subst (λ (f : List Bool). AreRises 0 (opening_items f) (all_held g.files g.faults given) (helds g.files g.faults running)) (sym is) p.causes;
+      causes = subst (λ (f : List Bool). AreRises 0 (opening_items f) (all_held g given) (helds g running)) (sym is) p.causes;
     }
-
--- ---- one server
-
--- two facts of a call that did not fail
-pub on_ok : {T E : Type 0} {P Q R : Type 0} (r : Result T E) → OnOk r P → OnOk r Q → (P → Q → R) → OnOk r R
-on_ok (Ok x) p q goes = goes p q
-on_ok (Err e) p q goes = tt
-
--- the same where the hosts and the place are those that were handed over
-pub next_opened_at : {D V : Type 0} (g : Ghosts D) (db : ScriptDatabase) (clock : ℕ) (given : List D) (running : OpenCell D V) (before told after : List ℕ) (disk : D) (s : Server D V) (sites : Vec (Site D V) Global) (hosts : List Host) (me : ℕ) → hosts ≡ running.hosts.items → me ≡ length running.sites.items → IsMoment clock → sites.items ≡ running.sites.items ++ record { clock = clock; server = s } ∷ [] → ServerOpened g.faults db hosts me clock disk s told after → IsSoundServer g (record { hosts = hosts; me = me }) clock s → ArePartOpened g db clock given running before told → ArePartOpened g db clock (given ++ disk ∷ []) (record running { sites = sites }) before after
-next_opened_at g db clock given running before told after disk s sites hosts me same place moment pushed one sound p =
-    next_opened g db clock given running before told after disk s sites moment pushed
-    (subst (λ (n : ℕ). ServerOpened g.faults db running.hosts.items n clock disk s told after) place
-    (subst (λ (l : List Host). ServerOpened g.faults db l me clock disk s told after) same one))
-    (subst (λ (n : ℕ). IsSoundServer g (record { hosts = running.hosts.items; me = n }) clock s) place
-    (subst (λ (l : List Host). IsSoundServer g (record { hosts = l; me = me }) clock s) same sound))
-    p
-
-pub up_told : {D V : Type 0} (faults : D → ℕ) (db : ScriptDatabase) (hosts cell : List Host) (me clock : ℕ) (disk : D) (n : Node D V) (d : Durable) (text : List ℕ) → cell ≡ hosts → d ≡ no_database → node_of n ≡ model.Up (model.opened_server (length cell) d clock) → faults disk ≤ faults n.store.disk → ServerOpened faults db hosts me clock disk (server.Up n) text text
-up_told faults db hosts cell me clock disk n d text same none up kept =
-    record {
-      fails = false;
-      node = up ∙ ap (λ (l : List Host). model.Up (model.opened_server (length l) d clock)) same
-          ∙ ap (λ (e : Durable). model.Up (model.opened_server (length hosts) e clock)) none;
-      cause = omega (arith, kept);
-      told = sym (append-nil text);
-    }
-
-up_is : (halted : Bool) (s t : model.Server) → (if halted then model.Halted (model.halted_from s) else model.Up s) ≡ model.Up t → s ≡ t
-up_is true s t is = let never : model.Halted (model.halted_from s) ≡ model.Up t = is in absurd cc
-up_is false s t is = cc
-
-pub up_sound : {D V : Type 0} (g : Ghosts D) (hosts cell : List Host) (me clock : ℕ) (disk : D) (n : Node D V) (d : Durable) → ((m : Member) (e : Durable) (now : ℕ) → IsVoter m (model.opened_server (cell_size m) e now)) → cell ≡ hosts → g.files disk ≡ Some no_files → node_of n ≡ model.Up (model.opened_server (length cell) d clock) → own_member n ≡ record { hosts = cell; me = me } → IsStored g n → IsSome (g.files n.store.disk) → n.last ≡ clock → IsSoundNode g (record { hosts = hosts; me = me }) clock n
-up_sound g hosts cell me clock disk n d votes same empty up mine stored kept last =
-    record {
-      last = omega (arith, last);
-      member = mine ∙ ap (λ (l : List Host). record { hosts = l; me = me }) same;
-      voter = subst (λ (l : List Host). IsVoter (record { hosts = l; me = me }) (up_server n)) same
-          (subst (λ (u : model.Server). IsVoter (record { hosts = cell; me = me }) u) (sym (up_is n.halted (up_server n) (model.opened_server (length cell) d clock) up))
-          (votes (record { hosts = cell; me = me }) d clock));
-      stored = stored;
-      told = λ whole. kept;
-      cause = λ halted. let whole = not_halted n.halted (up_server n) (model.opened_server (length cell) d clock) up in absurd cc;
-    }
-
-pub down_told : {D V T : Type 0} {E : Type 0} (r : Result T E) (files : Option Files) (faults : D → ℕ) (db : ScriptDatabase) (hosts : List Host) (me clock : ℕ) (disk refused kept : D) (s : Server D V) (why : StoreFault) (before after : List ℕ) → s ≡ server.Down kept → faults kept ≡ faults refused → files ≡ Some no_files → IfSome files (λ fs. RefusesFiles fs why) → (why ≡ DiskFault → faults disk < faults refused) → OnOk r ((why ≢ NoMemory) × (after ≡ before ++ mark_text (mark.StaysDown me))) → OnOk r (ServerOpened faults db hosts me clock disk s before after)
-down_told (Err e) files faults db hosts me clock disk refused kept s why before after is same empty found rose told = tt
-down_told {D} {V} (Ok x) files faults db hosts me clock disk refused kept s why before after is same empty found rose told =
-    let more = rose (refused_by_fault files why empty found told.0) in
-    subst (λ (t : Server D V). ServerOpened faults db hosts me clock disk t before after) (sym is) (record {
-      fails = true;
-      node = refl;
-      cause = omega (arith, more, same);
-      told = told.1 ∙ ap (λ (l : List ℕ). before ++ l) (sym (append-nil (mark_text (mark.StaysDown me))));
-    })
-
-pub down_sound : {D V T : Type 0} {E : Type 0} (r : Result T E) (g : Ghosts D) (m : Member) (clock : ℕ) (disk refused kept : D) (s : Server D V) (why : StoreFault) (told : Type 0) → s ≡ server.Down kept → g.faults kept ≡ g.faults refused → g.files disk ≡ Some no_files → IfSome (g.files disk) (λ fs. RefusesFiles fs why) → (why ≡ DiskFault → g.faults disk < g.faults refused) → OnOk r ((why ≢ NoMemory) × told) → OnOk r (IsSoundServer g m clock s)
-down_sound (Err e) g m clock disk refused kept s why text is same empty found rose told = tt
-down_sound {D} {V} (Ok x) g m clock disk refused kept s why text is same empty found rose told =
-    let more = rose (refused_by_fault (g.files disk) why empty found told.0) in
-    subst (λ (t : Server D V). IsSoundServer g m clock t) (sym is) (omega (arith, more, same))
-
-pub down_kept : {D V : Type 0} (g : Ghosts D) (disk refused kept : D) (s : Server D V) (why : StoreFault) → s ≡ server.Down kept → g.faults kept ≡ g.faults refused → (why ≡ NoMemory → g.files kept ≡ g.files refused) → g.files disk ≡ Some no_files → IfSome (g.files disk) (λ fs. RefusesFiles fs why) → (why ≡ DiskFault → g.faults disk < g.faults refused) → (why ≢ DiskFault → IsFresh (g.files refused)) → g.faults disk ≤ g.faults refused → IsEmptied g disk (server_disk s)
-down_kept {D} {V} g disk refused kept s DiskFault is same left empty found rose held more =
-    subst (λ (t : Server D V). IsEmptied g disk (server_disk t)) (sym is)
-    (record { never_falls = omega (arith, more, same); empty = λ none. let up = rose refl in absurd (omega (arith, up, none, same)) })
-down_kept {D} {V} g disk refused kept s (BadLabel len head) is same left empty found rose held more =
-    let fault : BadLabel len head ≡ DiskFault = refused_by_fault (g.files disk) (BadLabel len head) empty found (λ e. cc) in absurd cc
-down_kept {D} {V} g disk refused kept s (TooLarge bytes) is same left empty found rose held more =
-    let fault : TooLarge bytes ≡ DiskFault = refused_by_fault (g.files disk) (TooLarge bytes) empty found (λ e. cc) in absurd cc
-down_kept {D} {V} g disk refused kept s (NotNewer own given) is same left empty found rose held more =
-    let fault : NotNewer own given ≡ DiskFault = refused_by_fault (g.files disk) (NotNewer own given) empty found (λ e. cc) in absurd cc
-down_kept {D} {V} g disk refused kept s NoMemory is same left empty found rose held more =
-    subst (λ (t : Server D V). IsEmptied g disk (server_disk t)) (sym is)
-    (record { never_falls = omega (arith, more, same); empty = λ none. subst IsFresh (sym (left refl)) (held (λ e. let never : NoMemory ≡ DiskFault = e in cc)) })

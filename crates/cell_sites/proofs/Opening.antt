@@ -1,65 +1,13 @@
 -- A cell that is opened server by server.
-use Rattle.std.proofs.Common.{if◌then◌else◌, ◌≡◌, ◌≢◌, ◌<◌, ◌≤◌, ◌+◌, ◌++◌, ℕ, Bool, true, false, List, [], ◌∷◌, length, map, Option, Some, None, IfSome, refl, sym, ap, subst, ◌∙◌, arith}
-use Rattle.std.specs.Prelude.{◌==◌, IsSome}
-use Rattle.std.proofs.lemmas.Bool.{eq-eqb, ne_eqb, false≢true}
+use Rattle.std.proofs.Common.{if◌then◌else◌, ◌≡◌, ◌<◌, ◌≤◌, ◌+◌, ◌++◌, ℕ, Bool, true, false, List, [], ◌∷◌, length, map, refl, sym, ap, subst, ◌∙◌, arith}
+use Rattle.std.specs.Prelude.{◌==◌}
+use Rattle.std.proofs.lemmas.Bool.{eq-eqb, ne_eqb}
 use Rattle.std.proofs.lemmas.List.{map-append}
-use Rattle.disk_base.specs.Files.{Files, no_files}
-use Rattle.cell_model.specs.Durable.{Durable, no_database}
-use Rattle.cell_model.specs.Node as model
 use Rattle.cell_model.specs.World.{Stays_down, first_seen}
 use Rattle.cell_runs.specs.Script.{Choice, fails_at, sound}
 use Rattle.cell_runs.specs.Trace.{TraceItem, Tells, Shows, fault_count}
-use Rattle.cell_sites.specs.Disks.{Held, AreRises, IsFresh}
+use Rattle.cell_sites.specs.Disks.{Held, AreRises}
 use Rattle.cell_sites.specs.Opened.{opening_items}
-use Rattle.ubik_store.specs.declared.faults.StoreFault.{StoreFault}
-use Rattle.ubik_store.specs.declared.faults.StoreFault.TheVariants.{DiskFault, BadLabel, TooLarge, NotNewer, NoMemory}
-use Rattle.disk_base.specs.declared.disks.Disk.{Ghosts}
-use Rattle.disk_base.specs.Crash.{LeavesOnly}
-use Rattle.ubik_types.specs.declared.versions.Version.{Version}
-use Rattle.ubik_log.proofs.Gates.{short_log_is_discarded}
-use Rattle.ubik_store.specs.Files.{StandsFor}
-use Rattle.ubik_store.specs.Gaps.{IsGapless}
-use Rattle.ubik_store.specs.Opening.{IsOpening, RefusesFiles}
-use Rattle.ubik_store.proofs.Gaps.{discarded_is_plain}
-use Rattle.ubik_store.proofs.Redoing.{narrowed}
-use Rattle.ubik_store.proofs.Telling.{of_told}
-use Rattle.ubik_node.specs.Disk.{StandsAs}
-use Rattle.cell_sites.proofs.Standing.{fresh_is, fresh_stands}
-
--- ---- an empty disk
-
--- it stands for no database
-pub fresh_durable : (files : Option Files) (d : Durable) → files ≡ Some no_files → IfSome files (StandsAs d) → d ≡ no_database
-fresh_durable files d empty is = let P : Option Files → Type 0 = λ f. IfSome f (StandsAs d) in fresh_is d (subst P empty is)
-
--- its opening is refused for a fault of the disk, where memory is there
-pub refused_by_fault : (files : Option Files) (why : StoreFault) → files ≡ Some no_files → IfSome files (λ fs. RefusesFiles fs why) → why ≢ NoMemory → why ≡ DiskFault
-refused_by_fault files DiskFault empty is found = refl
-refused_by_fault files (BadLabel len head) empty is found =
-    let P : Option Files → Type 0 = λ f. IfSome f (λ fs. RefusesFiles fs (BadLabel len head)) in
-    absurd ((subst P empty is).0 no_database.version no_database.image fresh_stands)
-refused_by_fault files (TooLarge bytes) empty is found =
-    let P : Option Files → Type 0 = λ f. IfSome f (λ fs. RefusesFiles fs (TooLarge bytes)) in absurd (subst P empty is)
-refused_by_fault files (NotNewer own given) empty is found =
-    let P : Option Files → Type 0 = λ f. IfSome f (λ fs. RefusesFiles fs (NotNewer own given)) in absurd (subst P empty is)
-refused_by_fault files NoMemory empty is found = absurd (found refl)
-
--- an opening leaves it so, where its files are told still
-pub fresh_left : {D : Type 0} (g : Ghosts D) (old new : D) (F : Type 0) → g.files old ≡ Some no_files → IsSome (g.files new) → IsOpening g old new F → IsFresh (g.files new)
-fresh_left {D} g old new F empty some opening =
-    let says = of_told (g.files old) no_files (λ fs. IsGapless fs → (version : Version) (image : List ℕ) → StandsFor fs version image
-    → LeavesOnly g.steps g.left_since old new (λ c. StandsFor c version image)) empty opening.moments in
-    let gapless = (discarded_is_plain no_files (short_log_is_discarded [] (omega arith))).gapless in
-    let left = narrowed g (says gapless no_database.version no_database.image fresh_stands) in
-    is_fresh (g.files new) some (λ fs is. left fs (g.may_be_read new fs is))
-  where
-    is_fresh : (files : Option Files) → IsSome files → ((fs : Files) → files ≡ Some fs → StandsAs no_database fs) → IsFresh files
-    is_fresh None some says = absurd (false≢true some)
-    is_fresh (Some fs) some says = says fs refl
-
-pub not_halted : (halted : Bool) (s t : model.Server) → (if halted then model.Halted (model.halted_from s) else model.Up s) ≡ model.Up t → halted ≡ false
-not_halted true s t is = let never : model.Halted (model.halted_from s) ≡ model.Up t = is in absurd cc
-not_halted false s t is = refl
 
 -- ---- what is told of an opening
 

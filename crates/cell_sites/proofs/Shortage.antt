@@ -26,6 +26,7 @@ use Rattle.cell_model.specs.Voters.{IsOfVotes, IsTaken}
 pub record CameShort (s : Server) (t : Stepped) : Type 0 where
   pub version : t.server.version ≡ s.version
   pub image_is : t.server.image ≡ s.image
+  pub calls : t.calls ≡ []
   pub id : ℕ
   pub told : outputs_of t.shown ≡ output.Reply id reply.NoMemory ∷ []
 
@@ -39,7 +40,7 @@ either_cond s false t u t' u' first second = second
 
 module _ (db : Database) (m : Member) (s : Server) (now id : ℕ) (call : List ℕ) (none : s.flight ≡ None) where
   short : {t : Stepped} → t ≡ showing s (record { output = output.Reply id reply.NoMemory; evaluation = None } ∷ []) → CameShort s t
-  short is = subst (CameShort s) (sym is) (record { version = refl; image_is = refl; id = id; told = refl })
+  short is = subst (CameShort s) (sym is) (record { version = refl; image_is = refl; calls = refl; id = id; told = refl })
 
   write_either : (f : Option Flight) → f ≡ None → IsEither s (write_asked db m s now id call true f) (write_asked db m s now id call false f)
   write_either None is = inr (short refl)
@@ -96,7 +97,7 @@ step_either db m s now e choices taken no_flight no_line = cond_both (leased m s
     dropped = with_phase (without_writes s) NoPhase
 
     came : (t : Stepped) → CameShort dropped t → CameShort s t
-    came t c = record { version = c.version; image_is = c.image_is; id = c.id; told = c.told }
+    came t c = record { version = c.version; image_is = c.image_is; calls = c.calls; id = c.id; told = c.told }
 
     lapsed_either : {t u : Stepped} → IsEither dropped t u → IsEither s t u
     lapsed_either (inl same) = inl same

@@ -1,7 +1,7 @@
 -- A sound cell, at a server that is up; and after its step.
-use Rattle.std.proofs.Common.{◌≡◌, ◌<◌, ◌≤◌, ◌+◌, ℕ, zero, suc, true, Option, Some, List, [], ◌∷◌, ◌++◌, length, map, set, get_or, refl, sym, ap, subst, ◌∙◌, arith}
+use Rattle.std.proofs.Common.{Bool, ◌≡◌, ◌<◌, ◌≤◌, ◌+◌, ℕ, zero, suc, true, Option, Some, List, [], ◌∷◌, ◌++◌, length, map, set, get_or, refl, sym, ap, subst, ◌∙◌, arith}
 use Rattle.std.specs.Prelude.{All, slice_get}
-use Rattle.std.proofs.lemmas.List.{length-set}
+use Rattle.std.proofs.lemmas.List.{append-nil, length-set}
 use Rattle.std.proofs.lemmas.List.Elements.{All-append}
 use Rattle.std.proofs.lemmas.Option.{slice_get_read, slice_get_within}
 use Rattle.disk_base.specs.declared.disks.Disk.{Ghosts}
@@ -15,10 +15,11 @@ use Rattle.cell_runs.specs.Script.{hosts_of}
 use Rattle.ubik_node.specs.declared.nodes.Node.{Node}
 use Rattle.cell_sites.specs.declared.cells.OpenCell.{OpenCell}
 use Rattle.cell_sites.specs.declared.sites.Server.{Server}
-use Rattle.cell_sites.specs.declared.sites.Server.TheVariants.{Up}
+use Rattle.cell_sites.specs.declared.sites.Server.TheVariants.{Down, Up}
 use Rattle.cell_sites.specs.declared.sites.Site.{Site}
 use Rattle.cell_sites.specs.Places.{IsUpAt}
-use Rattle.cell_sites.specs.Sound.{AreSound, IsSound, IsSoundNode, IsSoundSite, clocks_in}
+use Rattle.cell_sites.specs.Sites.{site_disk}
+use Rattle.cell_sites.specs.Sound.{AreSound, IsSound, IsSoundDisk, IsSoundNode, IsSoundServer, IsSoundSite, clocks_in}
 use Rattle.cell_sites.specs.Stepped.{member_at, up_site}
 use Rattle.cell_sites.specs.Traffic.{Traffic, sent_all}
 use Rattle.cell_sites.proofs.AtPlace.{sound_at, sound_set}
@@ -33,6 +34,7 @@ pub record IsHere {D V : Type 0} (g : Ghosts D) (bound : ℕ) (running : OpenCel
   pub moment : IsMoment clock
   pub within : clock ≤ bound
   pub sound : IsSoundNode g (member_at running k) clock node
+  pub disk : IsSoundDisk g node.store.disk
   pub me : k < length running.hosts.items
 
 pub here : {D V : Type 0} (g : Ghosts D) (bound : ℕ) (running : OpenCell D V) (k clock : ℕ) (node : Node D V) → IsSound g bound running → slice_get running.sites.items k ≡ Some (up_site clock node) → IsHere g bound running k clock node
@@ -45,6 +47,7 @@ here g bound running k clock node sound there =
       moment = site.moment;
       within = site.within;
       sound = subst (λ (n : ℕ). IsSoundNode g (record { hosts = running.hosts.items; me = n }) clock node) me site.server;
+      disk = site.disk;
       me = omega (arith, lt, count);
     }
 
@@ -55,17 +58,19 @@ clocks_set {D} {V} (x ∷ sites) zero site later there same =
     let e : x ≡ site = cc in ap (λ (n : ℕ). n ∷ clocks_in sites) (same ∙ sym (ap (λ (s : Site D V). s.clock) e))
 clocks_set (x ∷ sites) (suc k) site later there same = ap (λ (l : List ℕ). x.clock ∷ l) (clocks_set sites k site later there same)
 
--- the cell stays sound
-pub sound_after : {D V : Type 0} (g : Ghosts D) (bound : ℕ) (before after : OpenCell D V) (k clock : ℕ) (node later : Node D V) (packets : List Packet)
-    → IsSound g bound before → slice_get before.sites.items k ≡ Some (up_site clock node) → IsSoundNode g (member_at before k) clock later
-    → after.sites.items ≡ set before.sites.items k (up_site clock later) → after.hosts.items ≡ before.hosts.items → after.packets ≡ sent_all before.packets packets
+-- the cell stays sound, where another sound server takes the place of one
+pub sound_after : {D V : Type 0} (g : Ghosts D) (bound : ℕ) (before after : OpenCell D V) (k : ℕ) (site later : Site D V) (packets : List Packet)
+    → IsSound g bound before → slice_get before.sites.items k ≡ Some site → later.clock ≡ site.clock → IsSoundServer g (member_at before k) later.clock later.server → IsSoundDisk g (site_disk later)
+    → after.sites.items ≡ set before.sites.items k later → after.hosts.items ≡ before.hosts.items → after.packets ≡ sent_all before.packets packets
     → All (IsVotePacket before.hosts.items) packets → after.outputs ≡ [] → IsSound g bound after
-sound_after {D} {V} g bound before after k clock node later packets sound there is sites hosts sent votes empty =
-    let at = here g bound before k clock node sound there in
-    let many : length after.sites.items ≡ length before.sites.items = ap length sites ∙ length-set before.sites.items k (up_site clock later) in
+sound_after {D} {V} g bound before after k site later packets sound there clock is disk sites hosts sent votes empty =
+    let at = sound_at g before.hosts.items 0 bound before.sites.items k site sound.sites there in
+    let many : length after.sites.items ≡ length before.sites.items = ap length sites ∙ length-set before.sites.items k later in
     let me : 0 + k ≡ k = omega arith in
-    let site : IsSoundSite g (record { hosts = before.hosts.items; me = 0 + k }) bound (up_site clock later) =
-    subst (λ (n : ℕ). IsSoundSite g (record { hosts = before.hosts.items; me = n }) bound (up_site clock later)) (sym me) (record { moment = at.moment; within = at.within; server = is }) in
+    let within : later.clock ≤ bound = let w = at.within in omega (arith, w, clock) in
+    let one : IsSoundSite g (record { hosts = before.hosts.items; me = 0 + k }) bound later =
+    subst (λ (n : ℕ). IsSoundSite g (record { hosts = before.hosts.items; me = n }) bound later) (sym me)
+    (record { moment = subst IsMoment (sym clock) at.moment; within = within; server = is; disk = disk }) in
     record {
       some = let some = sound.some in omega (arith, some, many);
       few = let few = sound.few in omega (arith, few, many);
@@ -73,8 +78,8 @@ sound_after {D} {V} g bound before after k clock node later packets sound there 
       sites =
           subst (λ (h : List Host). AreSound g h 0 bound after.sites.items) (sym hosts)
           (subst (λ (l : List (Site D V)). AreSound g before.hosts.items 0 bound l) (sym sites)
-          (sound_set g before.hosts.items 0 bound before.sites.items k (up_site clock later) sound.sites site));
-      near = ap (λ (l : List (Site D V)). are_near (clocks_in l)) sites ∙ ap are_near (clocks_set before.sites.items k (up_site clock node) (up_site clock later) there refl) ∙ sound.near;
+          (sound_set g before.hosts.items 0 bound before.sites.items k later sound.sites one));
+      near = ap (λ (l : List (Site D V)). are_near (clocks_in l)) sites ∙ ap are_near (clocks_set before.sites.items k site later there clock) ∙ sound.near;
       packets =
           subst (λ (h : List Host). All (IsVotePacket h) after.packets.sent) (sym hosts)
           (subst (λ (t : Traffic). All (IsVotePacket before.hosts.items) t.sent) (sym sent)
@@ -82,9 +87,27 @@ sound_after {D} {V} g bound before after k clock node later packets sound there 
       told = empty;
     }
 
+-- no packet was sent
+pub none_sent : (t : Traffic) → t ≡ sent_all t []
+none_sent t = ap (λ (l : List Packet). record t { sent = l }) (sym (append-nil t.sent)) ∙ ap (λ (l : List Bool). record { sent = t.sent ++ []; handed = l }) (sym (append-nil t.handed))
+
+-- the disk of a site is sound
+pub disk_here : {D V : Type 0} (g : Ghosts D) (bound : ℕ) (running : OpenCell D V) (k : ℕ) (site : Site D V) → IsSound g bound running → slice_get running.sites.items k ≡ Some site → IsSoundDisk g (site_disk site)
+disk_here g bound running k site sound there = (sound_at g running.hosts.items 0 bound running.sites.items k site sound.sites there).disk
+
 -- the site at a place, as an index reads it
 pub found_up : {D V : Type 0} (running : OpenCell D V) (k : ℕ) (site : Site D V) (node : Node D V) → IsUpAt running k → site ≡ get_or running.sites.items k site → site.server ≡ Up node → slice_get running.sites.items k ≡ Some (up_site site.clock node)
 found_up {D} {V} running k site node up value is =
     let lt = slice_get_within running.sites.items k (up_site up.clock up.node) up.there in
     slice_get_read running.sites.items (length running.sites.items) k site refl lt value
     ∙ ap (λ (s : Server D V). Some (record { clock = site.clock; server = s })) is
+
+-- it is not down
+pub not_down : {D V : Type 0} (running : OpenCell D V) (k : ℕ) (site : Site D V) (disk : D) → IsUpAt running k → site ≡ get_or running.sites.items k site → site.server ≡ Down disk → ⊥
+not_down {D} {V} running k site disk up value is =
+    let lt = slice_get_within running.sites.items k (up_site up.clock up.node) up.there in
+    let there = slice_get_read running.sites.items (length running.sites.items) k site refl lt value in
+    let same : Some site ≡ Some (up_site up.clock up.node) = sym there ∙ up.there in
+    let one : site ≡ up_site up.clock up.node = cc in
+    let server : Up up.node ≡ Down disk = sym (ap (λ (s : Site D V). s.server) one) ∙ is in
+    cc

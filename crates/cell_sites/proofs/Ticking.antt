@@ -5,6 +5,7 @@ use Rattle.std.specs.Vec.{with_item, with_items}
 use Rattle.std.proofs.lemmas.List.{append-nil, length-set, length-map, map-set}
 use Rattle.std.proofs.Math.Seq.{map-set_same}
 use Rattle.std.proofs.lemmas.Option.{get_or_from_slice_get, slice_get_within}
+use Rattle.db_image.specs.Database.{Database}
 use Rattle.disk_base.specs.declared.disks.Disk.{Ghosts}
 use Rattle.disk_base.specs.Files.{Files}
 use Rattle.ubik_types.specs.declared.hosts.Host.{Host}
@@ -13,11 +14,12 @@ use Rattle.cell_model.specs.Step.{Member}
 use Rattle.cell_model.specs.World.{Site as ModelSite, Tick, Tick_all, are_near, are_moments, clocks_of, may_tick, tick_at, ticked}
 use Rattle.cell_script.specs.declared.lines.Why.{Why}
 use Rattle.cell_script.specs.declared.lines.Why.TheVariants as why
-use Rattle.cell_runs.specs.Script.{Cell, Run_or_why, hosts_of, unless_skewed, with_event}
+use Rattle.cell_runs.specs.Script.{Armed, Cell, Run_or_why, hosts_of, unless_skewed, with_event}
 use Rattle.cell_runs.specs.ScriptDatabase.{ScriptDatabase}
-use Rattle.cell_sites.specs.Disks.{Held, held}
+use Rattle.cell_sites.specs.Disks.{AreReadBy, Held, held}
 use Rattle.cell_sites.specs.Places.{IsNearAt, ticked_on}
-use Rattle.cell_sites.specs.Sites.{AreSitesOf, IsModelledBy, helds, site_disk}
+use Rattle.cell_sites.specs.Counts.{HoldRun}
+use Rattle.cell_sites.specs.Sites.{AreArmed, AreSitesOf, IsModelledBy, helds, site_disk}
 use Rattle.cell_sites.specs.Sound.{AreSound, IsSound, IsSoundServer, IsSoundSite, clocks_in}
 use Rattle.cell_sites.specs.Told.{CellTold}
 use Rattle.cell_sites.specs.declared.cells.OpenCell.{OpenCell}
@@ -25,6 +27,8 @@ use Rattle.cell_sites.specs.declared.sites.Server.{Server}
 use Rattle.cell_sites.specs.declared.sites.Server.TheVariants as server
 use Rattle.cell_sites.specs.declared.sites.Site.{Site}
 use Rattle.cell_sites.proofs.AtPlace.{rises_same, sites_all_ticked, sites_clocks, sites_ticked, sound_at, sound_set}
+use Rattle.cell_sites.proofs.Arming.{armed_here, armed_still}
+use Rattle.cell_sites.proofs.Counting.{hold_more, moved_same}
 use Rattle.cell_sites.proofs.Near.{moments_make, near_all, near_make, near_read, near_set, near_unset}
 use Rattle.cell_sites.proofs.Waiting.{items_with}
 
@@ -34,7 +38,7 @@ pub server_later : {D V : Type 0} (g : Ghosts D) (m : Member) (clock later : ℕ
 server_later g m clock later (server.Down disk) le sound = sound
 server_later g m clock later (server.Up n) le sound =
     let last = sound.last in
-    record { last = omega (arith, last, le); member = sound.member; voter = sound.voter; stored = sound.stored; told = sound.told; cause = sound.cause }
+    record { last = omega (arith, last, le); member = sound.member; voter = sound.voter; stored = sound.stored }
 
 pub site_later : {D V : Type 0} (g : Ghosts D) (m : Member) (bound seconds : ℕ) (site : Site D V) → site.clock + seconds ≤ MAX_MOMENT → IsSoundSite g m bound site → IsSoundSite g m (bound + seconds) (ticked_on seconds site)
 site_later g m bound seconds site fits sound =
@@ -45,13 +49,14 @@ site_later g m bound seconds site fits sound =
       moment = record { some = omega (arith, some); fits = omega (arith, fits, end) };
       within = omega (arith, within);
       server = server_later g m site.clock (site.clock + seconds) site.server (omega arith) sound.server;
+      disk = sound.disk;
     }
 
 pub sound_weaker : {D V : Type 0} (g : Ghosts D) (hosts : List Host) (place bound more : ℕ) (sites : List (Site D V)) → bound ≤ more → AreSound g hosts place bound sites → AreSound g hosts place more sites
 sound_weaker g hosts place bound more [] le sound = tt
 sound_weaker g hosts place bound more (site ∷ sites) le sound =
     let within = sound.0.within in (
-      record { moment = sound.0.moment; within = omega (arith, within, le); server = sound.0.server },
+      record { moment = sound.0.moment; within = omega (arith, within, le); server = sound.0.server; disk = sound.0.disk },
       sound_weaker g hosts (place + 1) bound more sites le sound.1,
     )
 
@@ -143,29 +148,52 @@ none_more xs handed =
     let none : length xs - length xs ≡ 0 = omega arith in
     ap (λ (n : ℕ). handed ++ replicate n false) none ∙ append-nil handed
 
-pub tick_sites_of : {D V : Type 0} (running : OpenCell D V) (c : Cell) (k seconds : ℕ) (site : Site D V) → IsModelledBy running c → slice_get running.sites.items k ≡ Some site → AreSitesOf (ticked_at running k seconds site).sites.items (tick_at c.run.world.sites k seconds)
+pub tick_sites_of : {D V : Type 0} {gs : Ghosts D} {database : Database} {given : List ℕ} (running : OpenCell D V) (c : Cell) (k seconds : ℕ) (site : Site D V) → IsModelledBy gs database given running c → slice_get running.sites.items k ≡ Some site → AreSitesOf (ticked_at running k seconds site).sites.items (tick_at c.run.world.sites k seconds)
 tick_sites_of {D} {V} running c k seconds site stands there =
     let same : get_or running.sites.items k site ≡ site = get_or_from_slice_get running.sites.items k site site there in
     subst (λ (s : Site D V). AreSitesOf (set running.sites.items k (ticked_on seconds s)) (tick_at c.run.world.sites k seconds)) same
     (sites_ticked running.sites.items c.run.world.sites k seconds site stands.sites)
 
-pub tick_stands : {D V : Type 0} (db : ScriptDatabase) (running : OpenCell D V) (c : Cell) (k seconds : ℕ) (site : Site D V) → IsModelledBy running c → slice_get running.sites.items k ≡ Some site → IsModelledBy (ticked_at running k seconds site) (with_event db c (Tick k seconds)).cell
-tick_stands db running c k seconds site stands there =
+pub helds_ticked : {D V : Type 0} (g : Ghosts D) (running : OpenCell D V) (k seconds : ℕ) (site : Site D V) → slice_get running.sites.items k ≡ Some site → helds g (ticked_at running k seconds site) ≡ helds g running
+helds_ticked {D} {V} g running k seconds site there =
+    let same : get_or running.sites.items k site ≡ site = get_or_from_slice_get running.sites.items k site site there in
+    map-set_same (λ (s : Site D V). held g (site_disk s)) running.sites.items k (ticked_on seconds site) site
+    (ap (λ (s : Site D V). held g (site_disk s)) (sym same))
+
+-- a clock that goes forward leaves the durable states
+reads_ticked : (ss : List ModelSite) (k seconds : ℕ) (disks : List Held) → AreReadBy ss disks → AreReadBy (tick_at ss k seconds) disks
+reads_ticked [] k seconds disks read = read
+reads_ticked (s ∷ ss) k seconds [] read = absurd read
+reads_ticked (s ∷ ss) zero seconds (disk ∷ disks) read = (read.0, read.1)
+reads_ticked (s ∷ ss) (suc k) seconds (disk ∷ disks) read = (read.0, reads_ticked ss k seconds disks read.1)
+
+reads_all : (ss : List ModelSite) (seconds : ℕ) (disks : List Held) → AreReadBy ss disks → AreReadBy (map (ticked seconds) ss) disks
+reads_all [] seconds disks read = read
+reads_all (s ∷ ss) seconds [] read = absurd read
+reads_all (s ∷ ss) seconds (disk ∷ disks) read = (read.0, reads_all ss seconds disks read.1)
+
+armed_all : {D V : Type 0} (g : Ghosts D) (sites : List (Site D V)) (armed : List (Option Armed)) (seconds : ℕ) → AreArmed g sites armed → AreArmed g (map (ticked_on seconds) sites) armed
+armed_all g [] [] seconds are = tt
+armed_all g [] (a ∷ armed) seconds are = absurd are
+armed_all g (x ∷ sites) [] seconds are = absurd are
+armed_all g (x ∷ sites) (a ∷ armed) seconds are = (are.0, armed_all g sites armed seconds are.1)
+
+pub tick_stands : {D V : Type 0} {given : List ℕ} (gs : Ghosts D) (db : ScriptDatabase) (running : OpenCell D V) (c : Cell) (k seconds : ℕ) (site : Site D V) → IsModelledBy gs db.database given running c → slice_get running.sites.items k ≡ Some site → IsModelledBy gs db.database given (ticked_at running k seconds site) (with_event db c (Tick k seconds)).cell
+tick_stands {D} {V} {given} gs db running c k seconds site stands there =
+    let here = armed_here gs running.sites.items c.armed k site stands.armed there in
     record {
       hosts = stands.hosts;
       sites = tick_sites_of running c k seconds site stands there;
       sent = stands.sent;
       handed = none_more c.run.world.packets c.handed ∙ stands.handed;
-      unarmed = stands.unarmed;
+      armed = armed_still gs running.sites.items c.armed k (ticked_on seconds site) stands.armed here;
+      disks = subst (λ (l : List Held). HoldRun db.database given false (with_event db c (Tick k seconds)).cell l) (sym (helds_ticked gs running k seconds site there))
+          (hold_more db.database c (with_event db c (Tick k seconds)).cell given (Tick k seconds) (record { opening = refl; events = refl; world = refl }) (helds gs running) (helds gs running) stands.disks
+          (reads_ticked c.run.world.sites k seconds (helds gs running) stands.disks.read)
+          (moved_same _ 0 (helds gs running) (λ j x. (0, refl, omega arith))));
     }
 
-pub helds_ticked : {D V : Type 0} (g : Ghosts D) (running : OpenCell D V) (k seconds : ℕ) (site : Site D V) → slice_get running.sites.items k ≡ Some site → helds g.files g.faults (ticked_at running k seconds site) ≡ helds g.files g.faults running
-helds_ticked {D} {V} g running k seconds site there =
-    let same : get_or running.sites.items k site ≡ site = get_or_from_slice_get running.sites.items k site site there in
-    map-set_same (λ (s : Site D V). held g.files g.faults (site_disk s)) running.sites.items k (ticked_on seconds site) site
-    (ap (λ (s : Site D V). held g.files g.faults (site_disk s)) (sym same))
-
-pub tick_told : {D V : Type 0} (g : Ghosts D) (db : ScriptDatabase) (bound : ℕ) (running : OpenCell D V) (c : Cell) (k seconds : ℕ) (site : Site D V) (run : Run_or_why) (text : List ℕ) → IsSound g bound running → bound + seconds ≤ MAX_MOMENT → IsModelledBy running c → slice_get running.sites.items k ≡ Some site → IsNearAt running.sites.items k (site.clock + seconds) → run ≡ unless_skewed db c (tick_at c.run.world.sites k seconds) (Tick k seconds) → CellTold g db (λ choices. run) None running (ticked_at running k seconds site) text text
+pub tick_told : {D V : Type 0} {given : List ℕ} (g : Ghosts D) (db : ScriptDatabase) (bound : ℕ) (running : OpenCell D V) (c : Cell) (k seconds : ℕ) (site : Site D V) (run : Run_or_why) (text : List ℕ) → IsSound g bound running → bound + seconds ≤ MAX_MOMENT → IsModelledBy g db.database given running c → slice_get running.sites.items k ≡ Some site → IsNearAt running.sites.items k (site.clock + seconds) → run ≡ unless_skewed db c (tick_at c.run.world.sites k seconds) (Tick k seconds) → CellTold g db given (λ choices. run) None running (ticked_at running k seconds site) text text
 tick_told g db bound running c k seconds site run text sound fits stands there near is =
     let at = sound_at g running.hosts.items 0 bound running.sites.items k site sound.sites there in
     let within = at.within in
@@ -176,13 +204,13 @@ tick_told g db bound running c k seconds site run text sound fits stands there n
       is = is ∙ ap (λ (b : Bool). if b then Ok (with_event db c (Tick k seconds)) else Err why.Skew)
           (may g (bound + seconds) (ticked_at running k seconds site) (tick_at c.run.world.sites k seconds) after (tick_sites_of running c k seconds site stands there));
       ends = refl;
-      cell = tick_stands db running c k seconds site stands there;
+      cell = tick_stands g db running c k seconds site stands there;
       told = sym (append-nil text);
-      causes = rises_same (helds g.files g.faults running) (helds g.files g.faults (ticked_at running k seconds site)) (helds_ticked g running k seconds site there);
+      causes = rises_same (helds g running) (helds g (ticked_at running k seconds site)) (helds_ticked g running k seconds site there);
     }
 
 -- one that would part the clocks
-pub tick_skews : {D V : Type 0} (db : ScriptDatabase) (running : OpenCell D V) (c : Cell) (k seconds : ℕ) (site : Site D V) → IsModelledBy running c → slice_get running.sites.items k ≡ Some site → (IsNearAt running.sites.items k (site.clock + seconds) → ⊥) → unless_skewed db c (tick_at c.run.world.sites k seconds) (Tick k seconds) ≡ Err why.Skew
+pub tick_skews : {D V : Type 0} {gs : Ghosts D} {given : List ℕ} (db : ScriptDatabase) (running : OpenCell D V) (c : Cell) (k seconds : ℕ) (site : Site D V) → IsModelledBy gs db.database given running c → slice_get running.sites.items k ≡ Some site → (IsNearAt running.sites.items k (site.clock + seconds) → ⊥) → unless_skewed db c (tick_at c.run.world.sites k seconds) (Tick k seconds) ≡ Err why.Skew
 tick_skews {D} {V} db running c k seconds site stands there parted = by (may_tick ss) refl
   where
     ss : List ModelSite
@@ -221,13 +249,13 @@ clocks_ticked : {D V : Type 0} (sites : List (Site D V)) (seconds : ℕ) → clo
 clocks_ticked [] seconds = refl
 clocks_ticked (site ∷ sites) seconds = ap (λ (l : List ℕ). (site.clock + seconds) ∷ l) (clocks_ticked sites seconds)
 
-helds_of_ticked : {D V : Type 0} (g : Ghosts D) (sites : List (Site D V)) (seconds : ℕ) → map (λ (s : Site D V). held g.files g.faults (site_disk s)) (map (ticked_on seconds) sites) ≡ map (λ (s : Site D V). held g.files g.faults (site_disk s)) sites
+helds_of_ticked : {D V : Type 0} (g : Ghosts D) (sites : List (Site D V)) (seconds : ℕ) → map (λ (s : Site D V). held g (site_disk s)) (map (ticked_on seconds) sites) ≡ map (λ (s : Site D V). held g (site_disk s)) sites
 helds_of_ticked g [] seconds = refl
-helds_of_ticked g (site ∷ sites) seconds = ap (λ (l : List Held). held g.files g.faults (site_disk site) ∷ l) (helds_of_ticked g sites seconds)
+helds_of_ticked g (site ∷ sites) seconds = ap (λ (l : List Held). held g (site_disk site) ∷ l) (helds_of_ticked g sites seconds)
 
-pub helds_all : {D V : Type 0} (g : Ghosts D) (running : OpenCell D V) (sites : List (Site D V)) (seconds : ℕ) → sites ≡ map (ticked_on seconds) running.sites.items → helds g.files g.faults (all_ticked running sites) ≡ helds g.files g.faults running
+pub helds_all : {D V : Type 0} (g : Ghosts D) (running : OpenCell D V) (sites : List (Site D V)) (seconds : ℕ) → sites ≡ map (ticked_on seconds) running.sites.items → helds g (all_ticked running sites) ≡ helds g running
 helds_all {D} {V} g running sites seconds are =
-    ap (map (λ (s : Site D V). held g.files g.faults (site_disk s))) (all_items running sites seconds are)
+    ap (map (λ (s : Site D V). held g (site_disk s))) (all_items running sites seconds are)
     ∙ helds_of_ticked g running.sites.items seconds
 
 pub all_sound : {D V : Type 0} (g : Ghosts D) (bound bound' : ℕ) (running : OpenCell D V) (sites : List (Site D V)) (seconds : ℕ) → sites ≡ map (ticked_on seconds) running.sites.items → IsSound g bound running → bound + seconds ≤ MAX_MOMENT → IsSound g bound' running → IsSound g (bound' + seconds) (all_ticked running sites)
@@ -250,8 +278,8 @@ all_sound {D} {V} g bound bound' running sites seconds are sound fits sound' =
       told = sound.told;
     }
 
-pub all_told : {D V : Type 0} (g : Ghosts D) (db : ScriptDatabase) (bound : ℕ) (running : OpenCell D V) (sites : List (Site D V)) (c : Cell) (seconds : ℕ) (text : List ℕ) → sites ≡ map (ticked_on seconds) running.sites.items → IsSound g bound running → bound + seconds ≤ MAX_MOMENT → IsModelledBy running c → CellTold g db (λ choices. unless_skewed db c (map (ticked seconds) c.run.world.sites) (Tick_all seconds)) None running (all_ticked running sites) text text
-all_told {D} {V} g db bound running sites c seconds text are sound fits stands =
+pub all_told : {D V : Type 0} {given : List ℕ} (g : Ghosts D) (db : ScriptDatabase) (bound : ℕ) (running : OpenCell D V) (sites : List (Site D V)) (c : Cell) (seconds : ℕ) (text : List ℕ) → sites ≡ map (ticked_on seconds) running.sites.items → IsSound g bound running → bound + seconds ≤ MAX_MOMENT → IsModelledBy g db.database given running c → CellTold g db given (λ choices. unless_skewed db c (map (ticked seconds) c.run.world.sites) (Tick_all seconds)) None running (all_ticked running sites) text text
+all_told {D} {V} {given} g db bound running sites c seconds text are sound fits stands =
     let is = all_items running sites seconds are in
     let ss = subst (λ (l : List (Site D V)). AreSitesOf l (map (ticked seconds) c.run.world.sites)) (sym is) (sites_all_ticked running.sites.items c.run.world.sites seconds stands.sites) in
     record {
@@ -265,10 +293,14 @@ all_told {D} {V} g db bound running sites c seconds text are sound fits stands =
         sites = ss;
         sent = stands.sent;
         handed = none_more c.run.world.packets c.handed ∙ stands.handed;
-        unarmed = stands.unarmed;
+        armed = subst (λ (l : List (Site D V)). AreArmed g l c.armed) (sym is) (armed_all g running.sites.items c.armed seconds stands.armed);
+        disks = subst (λ (l : List Held). HoldRun db.database given false (with_event db c (Tick_all seconds)).cell l) (sym (helds_all g running sites seconds are))
+            (hold_more db.database c (with_event db c (Tick_all seconds)).cell given (Tick_all seconds) (record { opening = refl; events = refl; world = refl }) (helds g running) (helds g running) stands.disks
+            (reads_all c.run.world.sites seconds (helds g running) stands.disks.read)
+            (moved_same _ 0 (helds g running) (λ j x. (0, refl, omega arith))));
       };
       told = sym (append-nil text);
-      causes = rises_same (helds g.files g.faults running) (helds g.files g.faults (all_ticked running sites)) (helds_all g running sites seconds are);
+      causes = rises_same (helds g running) (helds g (all_ticked running sites)) (helds_all g running sites seconds are);
     }
 
 pub fits_at : {D V : Type 0} (g : Ghosts D) (bound seconds : ℕ) (running : OpenCell D V) (k : ℕ) (site : Site D V) → IsSound g bound running → bound + seconds ≤ MAX_MOMENT → slice_get running.sites.items k ≡ Some site → site.clock + seconds ≤ MAX_MOMENT

@@ -40,12 +40,17 @@ abbrev pub OpensAt : Option Site → (failed : Bool) → (rise : ℕ) → Type 0
 OpensAt None failed rise = rise ≡ 0
 OpensAt (Some site) failed rise = OpensOver site.durable failed rise
 
+-- the same where the server is that one; no other is opened
+abbrev pub OpensWhere : (there : Bool) → Option Site → (failed : Bool) → (rise : ℕ) → Type 0
+OpensWhere true site failed rise = OpensAt site failed rise
+OpensWhere false site failed rise = rise ≡ 0
+
 -- what an event adds to the count of server k
 abbrev pub IsRiseIn : Database → World → Event → (k rise : ℕ) → Type 0
 IsRiseIn db w (Step trigger short) k rise = rise ≡ sum (calls_of k (happens db w (Step trigger short)).entries)
 IsRiseIn db w (Stop trigger short made) k rise = IsCutShort (calls_of k (happens db w (Step trigger short)).entries) made rise
 IsRiseIn db w (Fault trigger short made) k rise = IsCutShort (calls_of k (happens db w (Step trigger short)).entries) made rise
-IsRiseIn db w (Restart server failed) k rise = if server == k then OpensAt (site_of w k) failed rise else rise ≡ 0
+IsRiseIn db w (Restart server failed) k rise = OpensWhere (server == k) (site_of w k) failed rise
 IsRiseIn db w _ k rise = rise ≡ 0
 
 -- what these events add to it, one after the other

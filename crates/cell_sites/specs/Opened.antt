@@ -1,5 +1,5 @@
 -- The opening of a cell, server by server.
-use Rattle.std.specs.Prelude.{◌≡◌, ◌≤◌, ◌+◌, ◌++◌, ℕ, All, Bool, List, [], ◌∷◌, length, map, vec_capacity}
+use Rattle.std.specs.Prelude.{◌≡◌, ◌≤◌, ◌+◌, ◌++◌, ℕ, Bool, List, [], ◌∷◌, length, map, vec_capacity}
 use Rattle.disk_base.specs.declared.disks.Disk.{Ghosts}
 use Rattle.disk_base.specs.Stops.DiskStop.{Unarmed}
 use Rattle.ubik_types.specs.declared.limits.TheConstants.{MAXSERVERS}
@@ -41,7 +41,8 @@ AreFirstCounts _ _ _ = ⊥
 
 -- none of these disks is to stop
 abbrev pub AreUnarmed : {D V : Type 0} → Ghosts D → List (Site D V) → Type 0
-AreUnarmed g sites = All (λ site. g.stop (site_disk site) ≡ Unarmed) sites
+AreUnarmed g [] = Unit {0}
+AreUnarmed g (site ∷ sites) = (g.stop (site_disk site) ≡ Unarmed) × AreUnarmed g sites
 
 -- The first servers of a cell were opened over these disks, at a clock; where a disk failed in that, its server is down. What is told of
 -- that was added to a text, and each fault is one of its disk.

@@ -54,7 +54,7 @@ pub record ServerOpens {D V : Type 0} (g : Ghosts D) (m : Member) (clock : ℕ) 
   pub calls : OpensDisk g (is_cut_short end) disk (server_disk server)
   pub unarmed : g.stop disk ≡ Unarmed → g.stop (server_disk server) ≡ Unarmed
   pub never_falls : g.faults disk ≤ g.faults (server_disk server)
-  pub server : ServerIs g m clock d end disk server
+  pub is : ServerIs g m clock d end disk server
 
 -- a disk stands for no database still, and made no more changing calls than an opening over empty files does
 pub record IsEmptied {D : Type 0} (g : Ghosts D) (before after : D) : Type 0 where

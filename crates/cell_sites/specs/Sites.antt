@@ -3,7 +3,7 @@ use Rattle.std.specs.Prelude.{◌≡◌, ◌≤◌, ◌-◌, ℕ, false, Option,
 use Rattle.disk_base.specs.declared.disks.Disk.{Ghosts}
 use Rattle.disk_base.specs.declared.disks.Fill.{Fill}
 use Rattle.disk_base.specs.Stops.{DiskStop}
-use Rattle.disk_base.specs.Stops.DiskStop as DiskStop
+use Rattle.disk_base.specs.Stops.DiskStop.{Unarmed, Armed as ToStop}
 use Rattle.db_image.specs.Database.{Database}
 use Rattle.cell_model.specs.Node.{Node, Down, Halted, Up}
 use Rattle.cell_model.specs.World.{Site as ModelSite}
@@ -48,12 +48,12 @@ AreSitesOf _ _ = ⊥
 
 -- a disk is to stop as a script has it
 abbrev pub StopsAs : Option Armed → DiskStop → Type 0
-StopsAs None stop = stop ≡ DiskStop.Unarmed
-StopsAs (Some armed) stop = (armed.made ≤ armed.calls) × ((fill : Fill) × (stop ≡ DiskStop.Armed (armed.calls - armed.made) fill))
+StopsAs None stop = stop ≡ Unarmed
+StopsAs (Some armed) stop = (armed.made ≤ armed.calls) × ((fill : Fill) × (stop ≡ ToStop (armed.calls - armed.made) fill))
 
--- The disk of a halted server gets no call until the server goes down, so nothing is said of it.
+-- A disk is armed at a server that is up alone. That of a halted server gets no call until the server goes down, so nothing is said of it.
 abbrev pub IsArmedAs : Node → Option Armed → DiskStop → Type 0
-IsArmedAs Down armed stop = StopsAs armed stop
+IsArmedAs Down armed stop = (armed ≡ None) × (stop ≡ Unarmed)
 IsArmedAs (Halted h) armed stop = Unit {0}
 IsArmedAs (Up s) armed stop = StopsAs armed stop
 

@@ -2,9 +2,11 @@
 use Rattle.std.specs.Prelude.{◌≡◌, ◌+◌, ◌≤◌, ℕ, true, IfSome, IsSome, All, List, [], ◌∷◌, length, map, vec_capacity}
 use Rattle.disk_base.specs.declared.disks.Disk.{Ghosts}
 use Rattle.disk_base.specs.Crash.{IsSettled}
+use Rattle.disk_base.specs.Files.{Files}
 use Rattle.ubik_types.specs.declared.hosts.Host.{Host}
 use Rattle.ubik_types.specs.declared.limits.TheConstants.{MAXSERVERS}
 use Rattle.ubik_types.specs.Moment.{IsMoment}
+use Rattle.cell_model.specs.Durable.{Durable}
 use Rattle.cell_model.specs.Step.{Member}
 use Rattle.cell_model.specs.Voters.{IsVotePacket, IsVoter}
 use Rattle.cell_model.specs.World.{are_near}
@@ -16,6 +18,7 @@ use Rattle.cell_sites.specs.declared.sites.Server.{Server}
 use Rattle.cell_sites.specs.declared.sites.Server.TheVariants as server
 use Rattle.cell_sites.specs.declared.sites.Site.{Site}
 use Rattle.ubik_node.specs.declared.nodes.Node.{Node}
+use Rattle.ubik_node.specs.Disk.{StandsAs}
 use Rattle.ubik_node.specs.Node.{own_member, up_server, IsStored}
 
 -- A server that is up: its store has its version and its image; or it is halted.
@@ -29,11 +32,16 @@ abbrev pub IsSoundServer : {D V : Type 0} → Ghosts D → Member → (clock : �
 IsSoundServer g m clock (server.Down disk) = Unit {0}
 IsSoundServer g m clock (server.Up node) = IsSoundNode g m clock node
 
+-- files stand for some durable state
+abbrev pub StandsForSome : Files → Type 0
+StandsForSome fs = (d : Durable) × StandsAs d fs
+
 -- Between two steps a disk tells its files, nothing is pending on it, and a server can be opened over it however often that crashes.
 pub record IsSoundDisk {D : Type 0} (g : Ghosts D) (disk : D) : Type 0 where
   pub told : IsSome (g.files disk)
   pub settled : IsSettled (g.files disk) (g.may_leave disk)
   pub plain : IfSome (g.files disk) IsPlain
+  pub stands : IfSome (g.files disk) StandsForSome
 
 pub record IsSoundSite {D V : Type 0} (g : Ghosts D) (m : Member) (bound : ℕ) (site : Site D V) : Type 0 where
   pub moment : IsMoment site.clock

@@ -71,6 +71,17 @@ NodeStepped g db m clock event ended.Halts node later out = IsHalted g db m cloc
 NodeStepped g db m clock event ended.Stops node later out = IsStoppedIn g db m clock event node later out
 NodeStepped g db m clock event ended.NoMemory node later out = IsShortIn g db m clock event node later out
 
+-- The server at a place made such a step, and is there still, whatever its disk did; nothing else of the cell changed.
+pub record UpStepped {D V : Type 0} (g : Ghosts D) (db : Database) (k : ℕ) (event : NodeEvent) (end : SiteEnd) (before after : OpenCell D V) : Type 0 where
+  pub clock : ℕ
+  pub node : Node D V
+  pub there : slice_get before.sites.items k ≡ Some (up_site clock node)
+  pub later : Node D V
+  pub step : NodeStepped g db (member_at before k) clock event end node later after.outputs
+  pub sites : after.sites.items ≡ set before.sites.items k (up_site clock later)
+  pub hosts : after.hosts.items ≡ before.hosts.items
+  pub packets : after.packets ≡ before.packets
+
 -- what becomes of a server after its step, and of what it put out: where its disk stopped, it is down, its disk is revived, and it puts
 -- nothing out
 abbrev pub Becomes : {D V : Type 0} → Ghosts D → SiteEnd → Node D V → List Output → Server D V → List Output → Type 0

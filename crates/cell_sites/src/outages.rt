@@ -71,7 +71,7 @@ impl<D: StopDisk, V: WordForms> OpenCell<D, V> {
     /// Opens a server that is down at its clock, and tells its version. Where the disk fails in that, the server stays down, which is told, and
     /// its disk is revived.
     pub fn restart(&mut self, server: u64, text: &mut String) -> Result<(), LineFault>
-        requires sound { (bound : ℕ) × IsSound D.Disk bound self.old }
+        requires { (bound : ℕ) × IsSound D.Disk bound self.old }
         ensures told { result ≡ Ok tt → (given : List ℕ) (c : Cell) → IsModelledBy D.Disk V.database given self.old c →
             CellTold D.Disk (script_database V.database V.words) given (λ choices. run_in (script_database V.database V.words) c choices (line.Restart server)) None self.old self.new (string_bytes text.old) (string_bytes text.new) }
         ensures limit { (which : AWhich) → result ≢ Err (LineFault.Limit which) }
@@ -103,7 +103,7 @@ impl<D: StopDisk, V: WordForms> OpenCell<D, V> {
     /// Takes the server at a place down; its disk is revived.
     pub(crate) fn take_down(&mut self, k: usize)
         requires place { k < length self.old.sites.items }
-        ensures site { TakenDown D.Disk k self.old self.new }
+        ensures { TakenDown D.Disk k self.old self.new }
     {
         let Site { clock, server } = self.sites.remove(k);
         let mut disk = server.close();

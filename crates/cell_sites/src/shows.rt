@@ -1,5 +1,5 @@
 //! What is shown of a server.
-ghost use Rattle.std.specs.Prelude.{◌≡◌, ◌≢◌, ℕ, None, Ok, Err};
+ghost use Rattle.std.specs.Prelude.{◌≡◌, ◌≢◌, ℕ, List, None, Ok, Err};
 ghost use Rattle.std.specs.String.{string_bytes};
 ghost use Rattle.cell_runs.specs.ScriptDatabase.{script_database};
 ghost use Rattle.cell_runs.specs.Script.{Cell, run_in};

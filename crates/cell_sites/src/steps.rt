@@ -18,7 +18,7 @@ ghost use Rattle.cell_sites.specs.Disks.{AreRises};
 ghost use Rattle.cell_sites.specs.Places.{IsUpAt};
 ghost use Rattle.cell_sites.specs.Sites.{IsModelledBy, helds};
 ghost use Rattle.cell_sites.specs.Sound.{IsSound, IsSoundDisk, IsSoundNode};
-ghost use Rattle.cell_sites.specs.Stepped.{NodeStepped, SiteStepped, member_at};
+ghost use Rattle.cell_sites.specs.Stepped.{NodeStepped, SiteStepped, UpStepped, member_at};
 ghost use Rattle.cell_sites.specs.Told.{CellTold, IsRefused, IsShort};
 ghost use Rattle.ubik_node.specs.Node.{own_member};
 ghost use Rattle.ubik_types.specs.Moment.{IsMoment};
@@ -185,18 +185,35 @@ impl<D: StopDisk, V: WordForms> OpenCell<D, V> {
         requires taken { IsTaken (member_at self.old k) event }
         ensures { SiteStepped D.Disk V.database k event result self.old self.new }
     {
+        let end = self.step_up(k, event);
+        if let SiteEnd::Stops = end {
+            drop_outputs(&mut self.outputs);
+            self.take_down(k);
+        }
+        end
+    }
+
+    /// The step alone: a server whose disk stopped is up still.
+    fn step_up(&mut self, k: usize, event: NodeEvent) -> SiteEnd
+        requires sound { (bound : ℕ) × IsSound D.Disk bound self.old }
+        requires up { IsUpAt self.old k }
+        requires taken { IsTaken (member_at self.old k) event }
+        ensures { UpStepped D.Disk V.database k event result self.old self.new }
+    {
         let site = &mut self.sites[k];
         let clock = site.clock;
         let Server::Up(node) = &mut site.server else {
             unreachable!();
         };
-        let end = step_node(node, clock, event, &mut self.outputs);
-        if end == SiteEnd::Stops {
-            while self.outputs.take().is_some() {}
-            self.take_down(k);
-        }
-        end
+        step_node(node, clock, event, &mut self.outputs)
     }
+}
+
+/// Drops what a server put out.
+fn drop_outputs(out: &mut Outputs)
+    ensures { out.new ≡ [] }
+{
+    while out.take().is_some() {}
 }
 
 /// How a step of a server ended for its cell.

@@ -1,21 +1,17 @@
-use Rattle.std.proofs.Common.{refl}
-use Rattle.ubik_node.specs.declared.nodes.StepEnd.TheVariants.{Done, NoMemory}
-use Rattle.cell_sites.proofs.Nodes.{halted_now, not_halted_now}
+use Rattle.std.proofs.Common.{◌∙◌, sym}
+use Rattle.std.proofs.lemmas.Bool.{false≢true}
+use Rattle.cell_sites.proofs.Nodes.{done_now, halted_now}
 use Rattle.cell_sites.proofs.steps.step_node.Goals as goal
-
-pub returns-in-Halted : goal.returns-in-Halted
-returns-in-Halted g c =
-    let e = c.in-Halted.ensures in
-    let cause = e.calls.1.cause in
-    halted_now g.D.Disk _ _ _ _ _ _ _ c.requires.sound c.halted-was_halted.result c.halted-was_halted.ensures
-    e.step e.member e.stored (λ up. cause.rose (refl, up)) cause.never_falls e.last
 
 pub returns-in-Done : goal.returns-in-Done
 returns-in-Done g c =
     let e = c.in-Done.ensures in
-    not_halted_now g.D.Disk _ _ _ _ _ _ _ c.requires.sound Done (λ is. cc) e.step e.member e.stored (e.told (λ is. cc)) e.calls.1.cause.never_falls e.last
+    done_now g.D.Disk _ _ _ _ _ _ c.requires.sound c.requires.disk _ e.step e.member e.stored (e.told (λ is. cc)) e.calls e.last
 
-pub returns-in-NoMemory : goal.returns-in-NoMemory
-returns-in-NoMemory g c =
-    let e = c.in-NoMemory.ensures in
-    not_halted_now g.D.Disk _ _ _ _ _ _ _ c.requires.sound NoMemory (λ is. cc) e.step e.member e.stored (e.told (λ is. cc)) e.calls.1.cause.never_falls e.last
+pub returns-in-Halted-3 : goal.returns-in-Halted-3
+returns-in-Halted-3 g c =
+    let e = c.in-Halted-3.ensures in
+    let up = sym c.halted-was_halted.ensures ∙ c.if-was_halted.false in
+    halted_now g.D.Disk _ _ _ _ _ _ c.requires.sound c.requires.disk c.step.new.self c.revive.new.self up e.step e.calls
+    (λ stopped. absurd (false≢true (sym c.if-stopped.false ∙ c.stopped.ensures.1 stopped)))
+    c.revive.ensures.disk c.revive.ensures.same e.member c.revive.ensures.stored e.last

@@ -17,34 +17,34 @@ returns-in_err-k-clause-refused g c = λ why is.
     let p = err_from_is_err_and c.from_residual.result c.from_residual.ensures.1 in
     let same : c.in_err-k.field-0.0 ≡ why = let given = p.2 in let left = p.1 in cc (given, left, is) in (
       refl,
-      λ cell stands choices.
+      λ given cell stands choices.
           let does : ℕ → Cell_run = λ k. stepped db cell (first_choice choices) (Beacon_turn k) in
-          c.in_err-k.ensures.up cell does (size_of g.D.Disk c.requires.0 c.args.self.now cell c.requires.1 stands) stands ∙ ap Err same,
+          c.in_err-k.ensures.up cell does (size_of g.D.Disk c.requires.0 c.args.self.now cell c.requires.1 stands) stands.sites ∙ ap Err same,
     )
 
 pub returns-in_err-k-clause-never_falls : goal.returns-in_err-k-clause-never_falls
 returns-in_err-k-clause-never_falls g c = rises_same _ _ refl
 
 pub returns-clause-told : goal.returns-clause-told
-returns-clause-told g c = λ ok cell stands.
+returns-clause-told g c = λ ok given cell stands.
     let db = script_database g.V.Service.database g.V.WordForms.words in
     let does : List Choice → ℕ → Cell_run = λ choices k. stepped db cell (first_choice choices) (Beacon_turn k) in
     told_as g.D.Disk (λ choices. run_in db cell choices (line.Beacon c.args.server)) (λ choices. Ok (does choices c.in_ok-k.k))
-    (λ choices. c.in_ok-k.ensures.up cell (does choices) (size_of g.D.Disk c.requires.0 c.args.self.now cell c.requires.1 stands) stands)
-    db _ _ _ _ _ (c.step.ensures.told ok cell (Beacon_turn c.in_ok-k.k) stands refl)
+    (λ choices. c.in_ok-k.ensures.up cell (does choices) (size_of g.D.Disk c.requires.0 c.args.self.now cell c.requires.1 stands) stands.sites)
+    db _ _ _ _ _ (c.step.ensures.told ok given cell (Beacon_turn c.in_ok-k.k) stands refl)
 
 pub returns-clause-limit : goal.returns-clause-limit
-returns-clause-limit g c = λ which is cell stands.
+returns-clause-limit g c = λ which is given cell stands.
     let db = script_database g.V.Service.database g.V.WordForms.words in
     let does : List Choice → ℕ → Cell_run = λ choices k. stepped db cell (first_choice choices) (Beacon_turn k) in
     told_as g.D.Disk (λ choices. run_in db cell choices (line.Beacon c.args.server)) (λ choices. Ok (does choices c.in_ok-k.k))
-    (λ choices. c.in_ok-k.ensures.up cell (does choices) (size_of g.D.Disk c.requires.0 c.args.self.now cell c.requires.1 stands) stands)
-    db _ _ _ _ _ (c.step.ensures.limit which is cell (Beacon_turn c.in_ok-k.k) stands refl)
+    (λ choices. c.in_ok-k.ensures.up cell (does choices) (size_of g.D.Disk c.requires.0 c.args.self.now cell c.requires.1 stands) stands.sites)
+    db _ _ _ _ _ (c.step.ensures.limit which is given cell (Beacon_turn c.in_ok-k.k) stands refl)
 
 pub returns-clause-short : goal.returns-clause-short
-returns-clause-short g c = λ is cell stands.
+returns-clause-short g c = λ is given cell stands.
     let db = script_database g.V.Service.database g.V.WordForms.words in
     let does : List Choice → ℕ → Cell_run = λ choices k. stepped db cell (first_choice choices) (Beacon_turn k) in
     short_as g.D.Disk (λ choices. run_in db cell choices (line.Beacon c.args.server)) (λ choices. Ok (does choices c.in_ok-k.k))
-    (λ choices. c.in_ok-k.ensures.up cell (does choices) (size_of g.D.Disk c.requires.0 c.args.self.now cell c.requires.1 stands) stands)
-    cell _ _ (c.step.ensures.short is cell (Beacon_turn c.in_ok-k.k) stands refl)
+    (λ choices. c.in_ok-k.ensures.up cell (does choices) (size_of g.D.Disk c.requires.0 c.args.self.now cell c.requires.1 stands) stands.sites)
+    cell _ _ (c.step.ensures.short is given cell (Beacon_turn c.in_ok-k.k) stands refl)

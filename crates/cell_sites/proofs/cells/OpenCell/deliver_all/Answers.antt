@@ -28,15 +28,15 @@ deliver_sent-requires-clause-sent g c =
     omega (arith, w.1, c.first_waiting.ensures.each, sent)
 
 pub returns-in_default-clause-told : goal.returns-in_default-clause-told
-returns-in_default-clause-told g c = λ ok cell stands.
+returns-in_default-clause-told g c = λ ok given cell stands.
     let db = script_database g.V.Service.database g.V.WordForms.words in
     let now = with_packets c.loop.self c.first_waiting.new.self in
     all_followed g.D.Disk db MAX_PACKETS (MAX_PACKETS - c.loop.counter) c.args.self.now now (string_bytes c.args.text.now) (string_bytes c.loop.text)
     (subst (λ (p : Traffic). Follows g.D.Disk db MAX_PACKETS (MAX_PACKETS - c.loop.counter) c.args.self.now (with_packets c.loop.self p) (string_bytes c.args.text.now) (string_bytes c.loop.text)) (sym c.first_waiting.ensures.same) c.loop.invariant)
-    (ap (λ (p : Traffic). first_waiting 1 p.handed) c.first_waiting.ensures.same ∙ sym c.in_default.ensures.first) cell stands
+    (ap (λ (p : Traffic). first_waiting 1 p.handed) c.first_waiting.ensures.same ∙ sym c.in_default.ensures.first) given cell stands
 
 pub returns-in_err-deliver_sent-clause-limit : goal.returns-in_err-deliver_sent-clause-limit
-returns-in_err-deliver_sent-clause-limit g c = λ which is cell stands.
+returns-in_err-deliver_sent-clause-limit g c = λ which is given cell stands.
     let db = script_database g.V.Service.database g.V.WordForms.words in
     let now = with_packets c.loop.self c.first_waiting.new.self in
     let p = err_from_is_err_and c.from_residual.result c.from_residual.ensures.1 in
@@ -46,20 +46,20 @@ returns-in_err-deliver_sent-clause-limit g c = λ which is cell stands.
     (subst (λ (p : Traffic). Follows g.D.Disk db MAX_PACKETS (MAX_PACKETS - c.loop.counter) c.args.self.now (with_packets c.loop.self p) (string_bytes c.args.text.now) (string_bytes c.loop.text)) (sym c.first_waiting.ensures.same) c.loop.invariant)
     (omega (arith, c.loop-test.true)) c.requires.1 c.in-Some.number
     (ap (λ (p : Traffic). first_waiting 1 p.handed) c.first_waiting.ensures.same ∙ sym c.in-Some.ensures.first)
-    cell stands (ending.Limit which) (c.in_err-deliver_sent.ensures.limit which (ap Err e))
+    given cell stands (ending.Limit which) (c.in_err-deliver_sent.ensures.limit which (ap Err e) given)
 
 pub returns-in_err-deliver_sent-clause-short : goal.returns-in_err-deliver_sent-clause-short
-returns-in_err-deliver_sent-clause-short g c = λ is cell stands.
+returns-in_err-deliver_sent-clause-short g c = λ is given cell stands.
     let db = script_database g.V.Service.database g.V.WordForms.words in
     let now = with_packets c.loop.self c.first_waiting.new.self in
-    short_there g.D.Disk db MAX_PACKETS (MAX_PACKETS - c.loop.counter) c.requires.0 c.args.self.now now c.deliver_sent.new.self
+    short_there g.D.Disk db MAX_PACKETS (MAX_PACKETS - c.loop.counter) c.args.self.now now c.deliver_sent.new.self
     (string_bytes c.args.text.now) (string_bytes c.loop.text)
     (subst (λ (p : Traffic). Follows g.D.Disk db MAX_PACKETS (MAX_PACKETS - c.loop.counter) c.args.self.now (with_packets c.loop.self p) (string_bytes c.args.text.now) (string_bytes c.loop.text)) (sym c.first_waiting.ensures.same) c.loop.invariant)
-    c.requires.1 c.in_err-deliver_sent.ensures.keeps (λ choices. run_in db cell choices line.DeliverAll) cell stands
+    c.in_err-deliver_sent.ensures.keeps (λ choices. run_in db cell choices line.DeliverAll) given cell stands
 
 pub returns-in_err-deliver_sent-clause-never_falls : goal.returns-in_err-deliver_sent-clause-never_falls
 returns-in_err-deliver_sent-clause-never_falls g c =
-    rises_both 0 [] [] (helds g.D.Disk.files g.D.Disk.faults c.args.self.now) (helds g.D.Disk.files g.D.Disk.faults c.loop.self) (helds g.D.Disk.files g.D.Disk.faults c.deliver_sent.new.self) c.loop.invariant.rises c.in_err-deliver_sent.ensures.never_falls
+    rises_both 0 [] [] (helds g.D.Disk c.args.self.now) (helds g.D.Disk c.loop.self) (helds g.D.Disk c.deliver_sent.new.self) c.loop.invariant.rises c.in_err-deliver_sent.ensures.never_falls
 
 pub loop-preserved : goal.loop-preserved
 loop-preserved g c =
@@ -73,7 +73,7 @@ loop-preserved g c =
     (c.in_ok-deliver_sent.ensures.told refl) (c.in_ok-deliver_sent.ensures.sound refl) c.in_ok-deliver_sent.ensures.never_falls c.in_ok-deliver_sent.ensures.same c.in_ok-deliver_sent.ensures.keeps
 
 pub returns-clause-told : goal.returns-clause-told
-returns-clause-told g c = λ ok cell stands.
+returns-clause-told g c = λ ok given cell stands.
     let db = script_database g.V.Service.database g.V.WordForms.words in
     fuel_followed g.D.Disk db MAX_PACKETS (MAX_PACKETS - c.loop.counter) c.args.self.now c.loop.self (string_bytes c.args.text.now) (string_bytes c.loop.text) c.loop.invariant
-    (omega (arith, c.loop-test.false)) cell stands
+    (omega (arith, c.loop-test.false)) given cell stands

@@ -17,9 +17,9 @@ returns-in_err-k-clause-refused g c = λ why is.
     let p = err_from_is_err_and c.from_residual.result c.from_residual.ensures.1 in
     let same : c.in_err-k.field-0.0 ≡ why = let given = p.2 in let left = p.1 in cc (given, left, is) in (
       refl,
-      λ cell stands choices.
+      λ given cell stands choices.
           c.in_err-k.ensures.up cell (does cell)
-          (size_of g.D.Disk c.requires.0 c.args.self.now cell c.requires.1 stands) stands
+          (size_of g.D.Disk c.requires.0 c.args.self.now cell c.requires.1 stands) stands.sites
           ∙ ap Err same,
     )
 
@@ -34,7 +34,7 @@ index-host-requires g c =
     omega (arith, within, count)
 
 pub returns-clause-told : goal.returns-clause-told
-returns-clause-told g c = λ is cell text stands.
+returns-clause-told g c = λ is given cell text stands.
     let k = c.in_ok-k.k in
     let running = c.args.self.now in
     let packets = c.drop_all.new.self in
@@ -45,7 +45,7 @@ returns-clause-told g c = λ is cell text stands.
     packets_told g.D.Disk db running cell packets
     (dropped_of (host_at cell.run.world.hosts k) cell.run.world.packets cell.handed) _ text
     (λ choices. c.in_ok-k.ensures.up cell (does cell)
-    (size_of g.D.Disk c.requires.0 running cell c.requires.1 stands) stands)
+    (size_of g.D.Disk c.requires.0 running cell c.requires.1 stands) stands.sites)
     (ap (λ (t : Traffic). t.sent) c.drop_all.ensures)
     (host_handed running cell packets k host c.drop_all.ensures there stands)
     stands

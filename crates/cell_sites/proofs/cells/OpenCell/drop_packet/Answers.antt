@@ -10,7 +10,7 @@ pub returns-in_err-number-clause-never_falls : goal.returns-in_err-number-clause
 returns-in_err-number-clause-never_falls g c = rises_none 0 _
 
 pub returns-clause-told : goal.returns-clause-told
-returns-clause-told g c = λ is c' text stands.
+returns-clause-told g c = λ is given c' text stands.
     let handed = set c'.handed (c.args.number - 1) true in
     let running = c.args.self.now in
     let packets = c.hand_over.new.self in

@@ -1,9 +1,9 @@
-use Rattle.std.proofs.Common.{if◌then◌else◌, ◌≡◌, ◌∙◌, Bool, Ok, Err, ap, sym, subst, Some}
+use Rattle.std.proofs.Common.{if◌then◌else◌, ◌≡◌, ◌∙◌, Bool, Ok, Err, ap, refl, sym, subst, Some}
 use Rattle.std.specs.Prelude.{MatchResult}
 use Rattle.std.proofs.lemmas.Result.{err_from_is_err_and}
 use Rattle.cell_script.specs.declared.lines.Why.TheVariants as why
 use Rattle.cell_runs.specs.Script.{at_up, is_down_at}
-use Rattle.cell_sites.proofs.AtPlace.{down_at, up_at, site_there}
+use Rattle.cell_sites.proofs.AtPlace.{down_at, up_at}
 use Rattle.cell_sites.proofs.cells.OpenCell.place_up.Goals as goal
 
 pub returns-in_err-k-clause-up : goal.returns-in_err-k-clause-up
@@ -12,25 +12,16 @@ returns-in_err-k-clause-up g c = λ c' does same stands.
     subst (λ r. MatchResult r (λ k. at_up c' c.args.server does ≡ Ok (does k)) (λ w. at_up c' c.args.server does ≡ Err w)) (sym e.1)
     (c.in_err-k.ensures.there c' (λ k. if is_down_at c' k then Err why.State else Ok (does k)) same ∙ ap Err (sym e.2))
 
-pub returns-in-Down-clause-up : goal.returns-in-Down-clause-up
-returns-in-Down-clause-up g c = λ c' does same stands.
+pub returns-then-is_up-clause-up : goal.returns-then-is_up-clause-up
+returns-then-is_up-clause-up g c = λ c' does same stands.
+    let up = c.if-is_up.ensures in
     c.in_ok-k.ensures.there c' (λ k. if is_down_at c' k then Err why.State else Ok (does k)) same
     ∙ ap (λ (b : Bool). if b then Err why.State else Ok (does c.in_ok-k.k))
-    (down_at c.args.self.now c' c.in_ok-k.k c.index.result.now _ stands (site_there c.args.self.now.sites.items c.in_ok-k.k c.index.result.now c.in_ok-k.ensures.place.1 c.index.ensures) c.in-Down.is)
+    (up_at c.args.self.now c' c.in_ok-k.k _ up.node stands up.there refl)
 
-pub returns-in-Up-clause-place : goal.returns-in-Up-clause-place
-returns-in-Up-clause-place g c = (
-  c.in_ok-k.ensures.place.0,
-  record {
-    clock = c.index.result.now.clock;
-    node = c.in-Up.field-0;
-    there = site_there c.args.self.now.sites.items c.in_ok-k.k c.index.result.now c.in_ok-k.ensures.place.1 c.index.ensures
-        ∙ ap (λ (s : _). Some (record { clock = c.index.result.now.clock; server = s })) c.in-Up.is;
-  },
-)
-
-pub returns-in-Up-clause-up : goal.returns-in-Up-clause-up
-returns-in-Up-clause-up g c = λ c' does same stands.
+pub returns-else-is_up-clause-up : goal.returns-else-is_up-clause-up
+returns-else-is_up-clause-up g c = λ c' does same stands.
+    let down = c.if-is_up.ensures in
     c.in_ok-k.ensures.there c' (λ k. if is_down_at c' k then Err why.State else Ok (does k)) same
     ∙ ap (λ (b : Bool). if b then Err why.State else Ok (does c.in_ok-k.k))
-    (up_at c.args.self.now c' c.in_ok-k.k c.index.result.now _ stands (site_there c.args.self.now.sites.items c.in_ok-k.k c.index.result.now c.in_ok-k.ensures.place.1 c.index.ensures) c.in-Up.is)
+    (down_at c.args.self.now c' c.in_ok-k.k _ down.disk stands down.there refl)

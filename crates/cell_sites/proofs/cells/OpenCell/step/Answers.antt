@@ -1,67 +1,135 @@
-use Rattle.std.proofs.Common.{◌≡◌, ◌≢◌, ◌<◌, ◌∙◌, arith, inl, inr, refl, sym, subst}
+use Rattle.std.proofs.Common.{ap, List, ◌≡◌, ◌≢◌, ◌<◌, ◌∙◌, arith, refl, sym, subst, [], true, false}
 use Rattle.std.specs.String.{string_bytes}
 use Rattle.cell_model.specs.declared.events.NodeEvent.{NodeEvent}
-use Rattle.cell_model.specs.declared.events.NodeEvent.TheVariants as event
+use Rattle.std.specs.Prelude.{filter_map}
+use Rattle.cell_model.specs.declared.events.Output.{Output}
 use Rattle.cell_model.specs.Voters.{IsTaken}
+use Rattle.cell_model.specs.World.{packet_in}
 use Rattle.cell_runs.specs.declared.endings.Ending.TheVariants as ending
 use Rattle.cell_runs.specs.ScriptDatabase.{script_database}
-use Rattle.ubik_node.specs.declared.nodes.StepEnd.{StepEnd}
-use Rattle.ubik_node.specs.declared.nodes.StepEnd.TheVariants.{Done, Halted, NoMemory}
 use Rattle.cell_sites.specs.Stepped.{SiteStepped, member_at}
-use Rattle.cell_sites.proofs.Joined.{all_may_tell, as_many, keeps, limit_line, rises, short_line, sound_still, told_line, votes}
-use Rattle.cell_sites.proofs.Soundly.{here, host_count}
+use Rattle.cell_sites.specs.Traffic.{sent_all}
+use Rattle.cell_sites.proofs.Joined.{all_may_tell, as_many, found_halts, found_made, limit_line, rises, short_line, sound_still, stop_line, stops_quiet, tells_halts, tells_made, told_line, votes}
+use Rattle.cell_sites.proofs.Keeping.{keeps}
+use Rattle.cell_sites.proofs.Soundly.{here, host_count, none_sent}
 use Rattle.cell_sites.proofs.cells.OpenCell.step.Goals as goal
 
 pub tell_step-requires : goal.tell_step-requires
 tell_step-requires g c =
-    let db = script_database g.V.Service.database g.V.WordForms.words in
     let before = c.args.self.now in
-    let mid = c.step_site-end.new.self in
     let at = here g.D.Disk c.requires.sound.0 before c.args.k c.requires.up.clock c.requires.up.node c.requires.sound.1 c.requires.up.there in
     record {
-      place = let few = c.requires.sound.1.few in let count = host_count g.D.Disk c.requires.sound.0 before c.requires.sound.1 in omega (arith, at.me, few, count);
-      votes = all_may_tell mid.outputs before.hosts.items (votes g.D.Disk db before mid mid c.law_voters_vote.ensures c.args.k c.args.event c.step_site-end.result.0 c.step_site-end.result.1 c.args.call.now c.requires.sound.0 c.requires.sound.1 c.requires.taken c.requires.asks c.step_site-end.ensures refl refl);
+      place = let few = c.requires.sound.1.few in let count = host_count g.D.Disk c.requires.sound.0 before c.requires.sound.1 in let me = at.me in omega (arith, me, few, count);
+      votes = all_may_tell c.step_site.new.self.outputs before.hosts.items (votes g.D.Disk (script_database g.V.Service.database g.V.WordForms.words) c.args.self.now c.step_site.new.self c.step_site.new.self c.law_voters_vote.ensures c.args.k c.args.event c.step_site.result c.args.call.now c.requires.sound.0 c.requires.sound.1 c.requires.taken c.requires.asks c.step_site.ensures refl refl);
+    }
+
+pub returns-in-Made : goal.returns-in-Made
+returns-in-Made g c =
+    let hosts = c.tell_step.ensures.hosts in
+    let sites = c.tell_step.ensures.sites in
+    let end = c.step_site.result in
+    let is = c.in-Made.is in
+    record {
+      told = λ ok given cell trigger stands o.
+          told_line g.D.Disk (script_database g.V.Service.database g.V.WordForms.words) c.args.self.now c.step_site.new.self c.tell_step.new.self c.law_voters_vote.ensures c.args.k c.args.event c.step_site.result c.args.call.now c.requires.sound.0 c.requires.sound.1 c.requires.taken c.requires.asks c.step_site.ensures hosts sites
+          given cell stands trigger o false (tells_made c.args.k end is) (string_bytes c.args.text.now) (string_bytes c.tell_step.new.text) (c.tell_step.ensures.told ok) (found_made end is) (c.tell_step.ensures.found ok) (c.tell_step.ensures.sends ok);
+      limit = λ which passed given cell trigger stands o.
+          limit_line g.D.Disk (script_database g.V.Service.database g.V.WordForms.words) c.args.self.now c.step_site.new.self c.tell_step.new.self c.law_voters_vote.ensures c.args.k c.args.event c.step_site.result c.args.call.now c.requires.sound.0 c.requires.sound.1 c.requires.taken c.requires.asks c.step_site.ensures hosts sites
+          given cell stands trigger o (ending.Limit which) (string_bytes c.args.text.now) (string_bytes c.tell_step.new.text) (c.tell_step.ensures.limit which passed) (found_made end is);
+      refused = c.tell_step.ensures.refused;
+      short = λ out given cell trigger stands o. short_line g.D.Disk (script_database g.V.Service.database g.V.WordForms.words) c.args.self.now c.step_site.new.self c.tell_step.new.self c.law_voters_vote.ensures c.args.k c.args.event c.step_site.result c.args.call.now c.requires.sound.0 c.requires.sound.1 c.requires.taken c.requires.asks c.step_site.ensures hosts sites given cell stands trigger o;
+      sound = λ ok bound still. sound_still g.D.Disk (script_database g.V.Service.database g.V.WordForms.words) c.args.self.now c.step_site.new.self c.tell_step.new.self c.law_voters_vote.ensures c.args.k c.args.event c.step_site.result c.args.call.now c.requires.sound.0 c.requires.sound.1 c.requires.taken c.requires.asks c.step_site.ensures hosts sites (c.tell_step.ensures.sends ok) (c.tell_step.ensures.emptied ok) bound still;
+      never_falls = rises g.D.Disk (script_database g.V.Service.database g.V.WordForms.words) c.args.self.now c.step_site.new.self c.tell_step.new.self c.law_voters_vote.ensures c.args.k c.args.event c.step_site.result c.args.call.now c.requires.sound.0 c.requires.sound.1 c.requires.taken c.requires.asks c.step_site.ensures hosts sites;
+      keeps = λ packet sent given cell hold.
+          let taken = subst (λ (e : NodeEvent). IsTaken (member_at c.args.self.now c.args.k) e) sent c.requires.taken in
+          let ss = subst (λ (e : NodeEvent). SiteStepped g.D.Disk g.V.Service.database c.args.k e end c.args.self.now c.step_site.new.self) sent c.step_site.ensures in
+          keeps g.D.Disk (script_database g.V.Service.database g.V.WordForms.words) c.args.self.now c.step_site.new.self c.tell_step.new.self c.args.k packet end c.requires.sound.0 c.requires.sound.1 taken ss sites given cell hold;
+      same = as_many g.D.Disk (script_database g.V.Service.database g.V.WordForms.words) c.args.self.now c.step_site.new.self c.tell_step.new.self c.law_voters_vote.ensures c.args.k c.args.event c.step_site.result c.args.call.now c.requires.sound.0 c.requires.sound.1 c.requires.taken c.requires.asks c.step_site.ensures hosts sites;
+    }
+
+pub tell_step-requires-in-Halts : goal.tell_step-requires-in-Halts
+tell_step-requires-in-Halts g c =
+    let before = c.args.self.now in
+    let at = here g.D.Disk c.requires.sound.0 before c.args.k c.requires.up.clock c.requires.up.node c.requires.sound.1 c.requires.up.there in
+    record {
+      place = let few = c.requires.sound.1.few in let count = host_count g.D.Disk c.requires.sound.0 before c.requires.sound.1 in let me = at.me in omega (arith, me, few, count);
+      votes = all_may_tell c.step_site.new.self.outputs before.hosts.items (votes g.D.Disk (script_database g.V.Service.database g.V.WordForms.words) c.args.self.now c.step_site.new.self c.step_site.new.self c.law_voters_vote.ensures c.args.k c.args.event c.step_site.result c.args.call.now c.requires.sound.0 c.requires.sound.1 c.requires.taken c.requires.asks c.step_site.ensures refl refl);
+    }
+
+pub returns-in-Halts : goal.returns-in-Halts
+returns-in-Halts g c =
+    let hosts = c.tell_step-in-Halts.ensures.hosts in
+    let sites = c.tell_step-in-Halts.ensures.sites in
+    let end = c.step_site.result in
+    let is = c.in-Halts.is in
+    record {
+      told = λ ok given cell trigger stands o.
+          told_line g.D.Disk (script_database g.V.Service.database g.V.WordForms.words) c.args.self.now c.step_site.new.self c.tell_step-in-Halts.new.self c.law_voters_vote.ensures c.args.k c.args.event c.step_site.result c.args.call.now c.requires.sound.0 c.requires.sound.1 c.requires.taken c.requires.asks c.step_site.ensures hosts sites
+          given cell stands trigger o true (tells_halts c.args.k end is) (string_bytes c.args.text.now) (string_bytes c.tell_step-in-Halts.new.text) (c.tell_step-in-Halts.ensures.told ok) (found_halts end is) (c.tell_step-in-Halts.ensures.found ok) (c.tell_step-in-Halts.ensures.sends ok);
+      limit = λ which passed given cell trigger stands o.
+          limit_line g.D.Disk (script_database g.V.Service.database g.V.WordForms.words) c.args.self.now c.step_site.new.self c.tell_step-in-Halts.new.self c.law_voters_vote.ensures c.args.k c.args.event c.step_site.result c.args.call.now c.requires.sound.0 c.requires.sound.1 c.requires.taken c.requires.asks c.step_site.ensures hosts sites
+          given cell stands trigger o (ending.Limit which) (string_bytes c.args.text.now) (string_bytes c.tell_step-in-Halts.new.text) (c.tell_step-in-Halts.ensures.limit which passed) (found_halts end is);
+      refused = c.tell_step-in-Halts.ensures.refused;
+      short = λ out given cell trigger stands o. short_line g.D.Disk (script_database g.V.Service.database g.V.WordForms.words) c.args.self.now c.step_site.new.self c.tell_step-in-Halts.new.self c.law_voters_vote.ensures c.args.k c.args.event c.step_site.result c.args.call.now c.requires.sound.0 c.requires.sound.1 c.requires.taken c.requires.asks c.step_site.ensures hosts sites given cell stands trigger o;
+      sound = λ ok bound still. sound_still g.D.Disk (script_database g.V.Service.database g.V.WordForms.words) c.args.self.now c.step_site.new.self c.tell_step-in-Halts.new.self c.law_voters_vote.ensures c.args.k c.args.event c.step_site.result c.args.call.now c.requires.sound.0 c.requires.sound.1 c.requires.taken c.requires.asks c.step_site.ensures hosts sites (c.tell_step-in-Halts.ensures.sends ok) (c.tell_step-in-Halts.ensures.emptied ok) bound still;
+      never_falls = rises g.D.Disk (script_database g.V.Service.database g.V.WordForms.words) c.args.self.now c.step_site.new.self c.tell_step-in-Halts.new.self c.law_voters_vote.ensures c.args.k c.args.event c.step_site.result c.args.call.now c.requires.sound.0 c.requires.sound.1 c.requires.taken c.requires.asks c.step_site.ensures hosts sites;
+      keeps = λ packet sent given cell hold.
+          let taken = subst (λ (e : NodeEvent). IsTaken (member_at c.args.self.now c.args.k) e) sent c.requires.taken in
+          let ss = subst (λ (e : NodeEvent). SiteStepped g.D.Disk g.V.Service.database c.args.k e end c.args.self.now c.step_site.new.self) sent c.step_site.ensures in
+          keeps g.D.Disk (script_database g.V.Service.database g.V.WordForms.words) c.args.self.now c.step_site.new.self c.tell_step-in-Halts.new.self c.args.k packet end c.requires.sound.0 c.requires.sound.1 taken ss sites given cell hold;
+      same = as_many g.D.Disk (script_database g.V.Service.database g.V.WordForms.words) c.args.self.now c.step_site.new.self c.tell_step-in-Halts.new.self c.law_voters_vote.ensures c.args.k c.args.event c.step_site.result c.args.call.now c.requires.sound.0 c.requires.sound.1 c.requires.taken c.requires.asks c.step_site.ensures hosts sites;
     }
 
 pub returns-in-NoMemory-clause-short : goal.returns-in-NoMemory-clause-short
-returns-in-NoMemory-clause-short g c = λ short cell trigger stands o.
-    let mid = c.step_site-end.new.self in
-    short_line g.D.Disk (script_database g.V.Service.database g.V.WordForms.words) c.args.self.now mid mid c.law_voters_vote.ensures c.args.k c.args.event c.step_site-end.result.0 c.step_site-end.result.1 c.args.call.now c.requires.sound.0 c.requires.sound.1 c.requires.taken c.requires.asks c.step_site-end.ensures refl refl
-    cell stands trigger o
+returns-in-NoMemory-clause-short g c = λ out given cell trigger stands o. short_line g.D.Disk (script_database g.V.Service.database g.V.WordForms.words) c.args.self.now c.step_site.new.self c.step_site.new.self c.law_voters_vote.ensures c.args.k c.args.event c.step_site.result c.args.call.now c.requires.sound.0 c.requires.sound.1 c.requires.taken c.requires.asks c.step_site.ensures refl refl given cell stands trigger o
 
 pub returns-in-NoMemory-clause-never_falls : goal.returns-in-NoMemory-clause-never_falls
-returns-in-NoMemory-clause-never_falls g c =
-    let mid = c.step_site-end.new.self in
-    rises g.D.Disk (script_database g.V.Service.database g.V.WordForms.words) c.args.self.now mid mid c.law_voters_vote.ensures c.args.k c.args.event c.step_site-end.result.0 c.step_site-end.result.1 c.args.call.now c.requires.sound.0 c.requires.sound.1 c.requires.taken c.requires.asks c.step_site-end.ensures refl refl
+returns-in-NoMemory-clause-never_falls g c = rises g.D.Disk (script_database g.V.Service.database g.V.WordForms.words) c.args.self.now c.step_site.new.self c.step_site.new.self c.law_voters_vote.ensures c.args.k c.args.event c.step_site.result c.args.call.now c.requires.sound.0 c.requires.sound.1 c.requires.taken c.requires.asks c.step_site.ensures refl refl
 
 pub returns-in-NoMemory-clause-keeps : goal.returns-in-NoMemory-clause-keeps
-returns-in-NoMemory-clause-keeps g c = λ packet is models read.
-    let taken = subst (λ (e : NodeEvent). IsTaken (member_at c.args.self.now c.args.k) e) is c.requires.taken in
-    let ss = subst (λ (e : NodeEvent). SiteStepped g.D.Disk g.V.Service.database c.args.k e c.step_site-end.result.0 c.step_site-end.result.1 c.args.self.now c.step_site-end.new.self) is c.step_site-end.ensures in
-    keeps g.D.Disk (script_database g.V.Service.database g.V.WordForms.words) c.args.self.now c.step_site-end.new.self c.step_site-end.new.self c.args.k packet c.step_site-end.result.0 c.step_site-end.result.1 c.requires.sound.0 c.requires.sound.1 taken ss refl models read
+returns-in-NoMemory-clause-keeps g c = λ packet sent given cell hold.
+    let taken = subst (λ (e : NodeEvent). IsTaken (member_at c.args.self.now c.args.k) e) sent c.requires.taken in
+    let ss = subst (λ (e : NodeEvent). SiteStepped g.D.Disk g.V.Service.database c.args.k e c.step_site.result c.args.self.now c.step_site.new.self) sent c.step_site.ensures in
+    keeps g.D.Disk (script_database g.V.Service.database g.V.WordForms.words) c.args.self.now c.step_site.new.self c.step_site.new.self c.args.k packet c.step_site.result c.requires.sound.0 c.requires.sound.1 taken ss refl given cell hold
 
-pub returns-in-Done : goal.returns-in-Done
-returns-in-Done g c =
-    let after = c.tell_step.new.self in
-    let hosts = c.tell_step.ensures.hosts in
-    let sites = c.tell_step.ensures.sites in
-    let other : c.step_site-end.result.0 ≢ NoMemory = λ is. elim c.in-Done.is [ inl d ↦ let never : Done ≡ NoMemory = sym d ∙ is in cc | inr h ↦ let never : Halted ≡ NoMemory = sym h ∙ is in cc ] in
-    record {
-      told = λ ok cell trigger stands o.
-          told_line g.D.Disk (script_database g.V.Service.database g.V.WordForms.words) c.args.self.now c.step_site-end.new.self after c.law_voters_vote.ensures c.args.k c.args.event c.step_site-end.result.0 c.step_site-end.result.1 c.args.call.now c.requires.sound.0 c.requires.sound.1 c.requires.taken c.requires.asks c.step_site-end.ensures hosts sites
-          cell stands trigger o (string_bytes c.args.text.now) (string_bytes c.tell_step.new.text) (c.tell_step.ensures.told ok) other (c.tell_step.ensures.found ok) (c.tell_step.ensures.sends ok);
-      limit = λ which is cell trigger stands o.
-          limit_line g.D.Disk (script_database g.V.Service.database g.V.WordForms.words) c.args.self.now c.step_site-end.new.self after c.law_voters_vote.ensures c.args.k c.args.event c.step_site-end.result.0 c.step_site-end.result.1 c.args.call.now c.requires.sound.0 c.requires.sound.1 c.requires.taken c.requires.asks c.step_site-end.ensures hosts sites
-          cell stands trigger o (ending.Limit which) (string_bytes c.args.text.now) (string_bytes c.tell_step.new.text) (c.tell_step.ensures.limit which is) other;
-      refused = c.tell_step.ensures.refused;
-      short = λ is cell trigger stands o.
-          short_line g.D.Disk (script_database g.V.Service.database g.V.WordForms.words) c.args.self.now c.step_site-end.new.self after c.law_voters_vote.ensures c.args.k c.args.event c.step_site-end.result.0 c.step_site-end.result.1 c.args.call.now c.requires.sound.0 c.requires.sound.1 c.requires.taken c.requires.asks c.step_site-end.ensures hosts sites cell stands trigger o;
-      sound = λ ok bound still.
-          sound_still g.D.Disk (script_database g.V.Service.database g.V.WordForms.words) c.args.self.now c.step_site-end.new.self after c.law_voters_vote.ensures c.args.k c.args.event c.step_site-end.result.0 c.step_site-end.result.1 c.args.call.now c.requires.sound.0 c.requires.sound.1 c.requires.taken c.requires.asks c.step_site-end.ensures hosts sites (c.tell_step.ensures.sends ok) (c.tell_step.ensures.emptied ok) bound still;
-      never_falls = rises g.D.Disk (script_database g.V.Service.database g.V.WordForms.words) c.args.self.now c.step_site-end.new.self after c.law_voters_vote.ensures c.args.k c.args.event c.step_site-end.result.0 c.step_site-end.result.1 c.args.call.now c.requires.sound.0 c.requires.sound.1 c.requires.taken c.requires.asks c.step_site-end.ensures hosts sites;
-      keeps = λ packet is models read.
-          let taken = subst (λ (e : NodeEvent). IsTaken (member_at c.args.self.now c.args.k) e) is c.requires.taken in
-          let ss = subst (λ (e : NodeEvent). SiteStepped g.D.Disk g.V.Service.database c.args.k e c.step_site-end.result.0 c.step_site-end.result.1 c.args.self.now c.step_site-end.new.self) is c.step_site-end.ensures in
-          keeps g.D.Disk (script_database g.V.Service.database g.V.WordForms.words) c.args.self.now c.step_site-end.new.self after c.args.k packet c.step_site-end.result.0 c.step_site-end.result.1 c.requires.sound.0 c.requires.sound.1 taken ss sites models read;
-      same = as_many g.D.Disk (script_database g.V.Service.database g.V.WordForms.words) c.args.self.now c.step_site-end.new.self after c.law_voters_vote.ensures c.args.k c.args.event c.step_site-end.result.0 c.step_site-end.result.1 c.args.call.now c.requires.sound.0 c.requires.sound.1 c.requires.taken c.requires.asks c.step_site-end.ensures hosts sites;
-    }
+pub returns-in-NoMemory-clause-same : goal.returns-in-NoMemory-clause-same
+returns-in-NoMemory-clause-same g c = as_many g.D.Disk (script_database g.V.Service.database g.V.WordForms.words) c.args.self.now c.step_site.new.self c.step_site.new.self c.law_voters_vote.ensures c.args.k c.args.event c.step_site.result c.args.call.now c.requires.sound.0 c.requires.sound.1 c.requires.taken c.requires.asks c.step_site.ensures refl refl
+
+pub returns-in_err-tell_mark-in-Stops-clause-short : goal.returns-in_err-tell_mark-in-Stops-clause-short
+returns-in_err-tell_mark-in-Stops-clause-short g c = λ out given cell trigger stands o. short_line g.D.Disk (script_database g.V.Service.database g.V.WordForms.words) c.args.self.now c.step_site.new.self c.step_site.new.self c.law_voters_vote.ensures c.args.k c.args.event c.step_site.result c.args.call.now c.requires.sound.0 c.requires.sound.1 c.requires.taken c.requires.asks c.step_site.ensures refl refl given cell stands trigger o
+
+pub returns-in_err-tell_mark-in-Stops-clause-never_falls : goal.returns-in_err-tell_mark-in-Stops-clause-never_falls
+returns-in_err-tell_mark-in-Stops-clause-never_falls g c = rises g.D.Disk (script_database g.V.Service.database g.V.WordForms.words) c.args.self.now c.step_site.new.self c.step_site.new.self c.law_voters_vote.ensures c.args.k c.args.event c.step_site.result c.args.call.now c.requires.sound.0 c.requires.sound.1 c.requires.taken c.requires.asks c.step_site.ensures refl refl
+
+pub returns-in_err-tell_mark-in-Stops-clause-keeps : goal.returns-in_err-tell_mark-in-Stops-clause-keeps
+returns-in_err-tell_mark-in-Stops-clause-keeps g c = λ packet sent given cell hold.
+    let taken = subst (λ (e : NodeEvent). IsTaken (member_at c.args.self.now c.args.k) e) sent c.requires.taken in
+    let ss = subst (λ (e : NodeEvent). SiteStepped g.D.Disk g.V.Service.database c.args.k e c.step_site.result c.args.self.now c.step_site.new.self) sent c.step_site.ensures in
+    keeps g.D.Disk (script_database g.V.Service.database g.V.WordForms.words) c.args.self.now c.step_site.new.self c.step_site.new.self c.args.k packet c.step_site.result c.requires.sound.0 c.requires.sound.1 taken ss refl given cell hold
+
+pub returns-in_err-tell_mark-in-Stops-clause-same : goal.returns-in_err-tell_mark-in-Stops-clause-same
+returns-in_err-tell_mark-in-Stops-clause-same g c = as_many g.D.Disk (script_database g.V.Service.database g.V.WordForms.words) c.args.self.now c.step_site.new.self c.step_site.new.self c.law_voters_vote.ensures c.args.k c.args.event c.step_site.result c.args.call.now c.requires.sound.0 c.requires.sound.1 c.requires.taken c.requires.asks c.step_site.ensures refl refl
+
+pub returns-in_ok-tell_mark-in-Stops-clause-short : goal.returns-in_ok-tell_mark-in-Stops-clause-short
+returns-in_ok-tell_mark-in-Stops-clause-short g c = λ out given cell trigger stands o. short_line g.D.Disk (script_database g.V.Service.database g.V.WordForms.words) c.args.self.now c.step_site.new.self c.step_site.new.self c.law_voters_vote.ensures c.args.k c.args.event c.step_site.result c.args.call.now c.requires.sound.0 c.requires.sound.1 c.requires.taken c.requires.asks c.step_site.ensures refl refl given cell stands trigger o
+
+pub returns-in_ok-tell_mark-in-Stops-clause-never_falls : goal.returns-in_ok-tell_mark-in-Stops-clause-never_falls
+returns-in_ok-tell_mark-in-Stops-clause-never_falls g c = rises g.D.Disk (script_database g.V.Service.database g.V.WordForms.words) c.args.self.now c.step_site.new.self c.step_site.new.self c.law_voters_vote.ensures c.args.k c.args.event c.step_site.result c.args.call.now c.requires.sound.0 c.requires.sound.1 c.requires.taken c.requires.asks c.step_site.ensures refl refl
+
+pub returns-in_ok-tell_mark-in-Stops-clause-keeps : goal.returns-in_ok-tell_mark-in-Stops-clause-keeps
+returns-in_ok-tell_mark-in-Stops-clause-keeps g c = λ packet sent given cell hold.
+    let taken = subst (λ (e : NodeEvent). IsTaken (member_at c.args.self.now c.args.k) e) sent c.requires.taken in
+    let ss = subst (λ (e : NodeEvent). SiteStepped g.D.Disk g.V.Service.database c.args.k e c.step_site.result c.args.self.now c.step_site.new.self) sent c.step_site.ensures in
+    keeps g.D.Disk (script_database g.V.Service.database g.V.WordForms.words) c.args.self.now c.step_site.new.self c.step_site.new.self c.args.k packet c.step_site.result c.requires.sound.0 c.requires.sound.1 taken ss refl given cell hold
+
+pub returns-in_ok-tell_mark-in-Stops-clause-same : goal.returns-in_ok-tell_mark-in-Stops-clause-same
+returns-in_ok-tell_mark-in-Stops-clause-same g c = as_many g.D.Disk (script_database g.V.Service.database g.V.WordForms.words) c.args.self.now c.step_site.new.self c.step_site.new.self c.law_voters_vote.ensures c.args.k c.args.event c.step_site.result c.args.call.now c.requires.sound.0 c.requires.sound.1 c.requires.taken c.requires.asks c.step_site.ensures refl refl
+
+pub returns-in_ok-tell_mark-in-Stops-clause-told : goal.returns-in_ok-tell_mark-in-Stops-clause-told
+returns-in_ok-tell_mark-in-Stops-clause-told g c = λ ok given cell trigger stands o.
+    stop_line g.D.Disk (script_database g.V.Service.database g.V.WordForms.words) c.args.self.now c.step_site.new.self c.step_site.new.self c.law_voters_vote.ensures c.args.k c.args.event c.step_site.result c.args.call.now c.requires.sound.0 c.requires.sound.1 c.requires.taken c.requires.asks c.step_site.ensures refl refl given cell stands trigger o c.in-Stops.is (string_bytes c.args.text.now) (string_bytes c.tell_mark.new.text) c.in_ok-tell_mark-in-Stops.ensures refl
+
+pub returns-in_ok-tell_mark-in-Stops-clause-sound : goal.returns-in_ok-tell_mark-in-Stops-clause-sound
+returns-in_ok-tell_mark-in-Stops-clause-sound g c = λ ok bound still.
+    let none = stops_quiet g.D.Disk (script_database g.V.Service.database g.V.WordForms.words) c.args.self.now c.step_site.new.self c.step_site.new.self c.law_voters_vote.ensures c.args.k c.args.event c.step_site.result c.args.call.now c.requires.sound.0 c.requires.sound.1 c.requires.taken c.requires.asks c.step_site.ensures refl refl c.in-Stops.is in
+    sound_still g.D.Disk (script_database g.V.Service.database g.V.WordForms.words) c.args.self.now c.step_site.new.self c.step_site.new.self c.law_voters_vote.ensures c.args.k c.args.event c.step_site.result c.args.call.now c.requires.sound.0 c.requires.sound.1 c.requires.taken c.requires.asks c.step_site.ensures refl refl (none_sent c.step_site.new.self.packets ∙ ap (λ (out : List Output). sent_all c.step_site.new.self.packets (filter_map packet_in out)) (sym none)) none bound still

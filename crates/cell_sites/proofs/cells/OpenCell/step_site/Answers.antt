@@ -1,44 +1,18 @@
-use Rattle.std.proofs.Common.{refl, subst, sym}
-use Rattle.cell_model.specs.Step.{Member}
-use Rattle.cell_model.specs.Voters.{IsTaken}
-use Rattle.cell_sites.specs.Sound.{IsSoundNode}
-use Rattle.cell_sites.specs.Stepped.{NodeStepped}
-use Rattle.cell_sites.proofs.Soundly.{found_up, here}
-use Rattle.cell_sites.proofs.Joined.{rises}
+use Rattle.std.proofs.Common.{refl}
+use Rattle.cell_sites.proofs.Sited.{goes_down, placed, stays_up}
 use Rattle.cell_sites.proofs.cells.OpenCell.step_site.Goals as goal
 
-pub step_node-requires-clause-moment : goal.step_node-requires-clause-moment
-step_node-requires-clause-moment g c =
-    let site = c.index_mut-site.result.now in
-    let there = found_up c.args.self.now c.args.k site c.in-Up.node c.requires.up c.index_mut-site.ensures.value c.in-Up.is in
-    (here g.D.Disk c.requires.sound.0 c.args.self.now c.args.k site.clock c.in-Up.node c.requires.sound.1 there).moment
+pub take_down-requires : goal.take_down-requires
+take_down-requires g c = record {
+  place = placed g.D.Disk g.V.Service.database c.args.k c.args.event c.step_up-end.result c.args.self.now c.step_up-end.new.self c.step_up-end.ensures;
+}
 
-pub step_node-requires-clause-sound : goal.step_node-requires-clause-sound
-step_node-requires-clause-sound g c =
-    let site = c.index_mut-site.result.now in
-    let there = found_up c.args.self.now c.args.k site c.in-Up.node c.requires.up c.index_mut-site.ensures.value c.in-Up.is in
-    let at = here g.D.Disk c.requires.sound.0 c.args.self.now c.args.k site.clock c.in-Up.node c.requires.sound.1 there in
-    subst (λ (m : Member). IsSoundNode g.D.Disk m site.clock c.in-Up.node) (sym at.sound.member) at.sound
+pub returns-in-Stops : goal.returns-in-Stops
+returns-in-Stops g c =
+    let mid = c.step_up-end.new.self in
+    goes_down g.D.Disk g.V.Service.database c.args.k c.args.event c.step_up-end.result c.args.self.now mid c.step_up-end.ensures c.in-Stops.is
+    (record mid { outputs = c.drop_outputs.new.out }) c.take_down.new.self refl refl refl c.drop_outputs.ensures c.take_down.ensures
 
-pub step_node-requires-clause-taken : goal.step_node-requires-clause-taken
-step_node-requires-clause-taken g c =
-    let site = c.index_mut-site.result.now in
-    let there = found_up c.args.self.now c.args.k site c.in-Up.node c.requires.up c.index_mut-site.ensures.value c.in-Up.is in
-    let at = here g.D.Disk c.requires.sound.0 c.args.self.now c.args.k site.clock c.in-Up.node c.requires.sound.1 there in
-    subst (λ (m : Member). IsTaken m c.args.event) (sym at.sound.member) c.requires.taken
-
-pub returns : goal.returns
-returns g c =
-    let site = c.index_mut-site.result.now in
-    let there = found_up c.args.self.now c.args.k site c.in-Up.node c.requires.up c.index_mut-site.ensures.value c.in-Up.is in
-    let at = here g.D.Disk c.requires.sound.0 c.args.self.now c.args.k site.clock c.in-Up.node c.requires.sound.1 there in
-    record {
-      clock = site.clock;
-      node = c.in-Up.node;
-      later = c.step_node.new.node;
-      there = there;
-      sites = refl;
-      hosts = refl;
-      packets = refl;
-      step = subst (λ (m : Member). NodeStepped g.D.Disk g.V.Service.database m site.clock c.args.event c.step_node.result.0 c.step_node.result.1 c.in-Up.node c.step_node.new.node c.step_node.new.out) at.sound.member c.step_node.ensures;
-    }
+pub returns-in_default : goal.returns-in_default
+returns-in_default g c =
+    stays_up g.D.Disk g.V.Service.database c.args.k c.args.event c.step_up-end.result c.args.self.now c.step_up-end.new.self c.step_up-end.ensures c.in_default.not-Stops

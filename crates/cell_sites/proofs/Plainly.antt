@@ -1,0 +1,41 @@
+-- Files that a disk tells, and that stay plain.
+use Rattle.std.proofs.Common.{◌≡◌, Option, Some, None, IfSome, IsSome, IsSomeAnd, List, take, refl, sym, subst}
+use Rattle.std.proofs.lemmas.Bool.{false≢true}
+use Rattle.disk_base.specs.declared.disks.Disk.{Ghosts}
+use Rattle.disk_base.specs.Crash.{LeavesOnly}
+use Rattle.disk_base.specs.Files.{Files}
+use Rattle.ubik_store.specs.Gaps.{IsPlain}
+use Rattle.cell_model.specs.Durable.{Durable, Made, durable_after_all}
+use Rattle.ubik_node.specs.Disk.{LeavesWithin, StandsWithin}
+use Rattle.cell_sites.specs.Sound.{StandsForSome}
+
+-- ---- what is there
+
+pub some_of : {X : Type 0} (o : Option X) → IsSome o → (x : X) × (o ≡ Some x)
+some_of None some = absurd (false≢true some)
+some_of (Some x) some = (x, refl)
+
+pub of_some : {X : Type 0} (o : Option X) (x : X) (P : X → Type 0) → o ≡ Some x → IfSome o P → P x
+of_some o x P is holds = subst (λ y. IfSome y P) is holds
+
+pub and_some : {X : Type 0} (o : Option X) (x : X) (P : X → Type 0) → o ≡ Some x → IsSomeAnd o P → P x
+and_some o x P is holds = subst (λ y. IsSomeAnd y P) is holds
+
+pub make_some : {X : Type 0} (o : Option X) (x : X) (P : X → Type 0) → o ≡ Some x → P x → IsSomeAnd o P
+make_some o x P is holds = subst (λ y. IsSomeAnd y P) (sym is) holds
+
+pub make_if : {X : Type 0} (o : Option X) (x : X) (P : X → Type 0) → o ≡ Some x → P x → IfSome o P
+make_if o x P is holds = subst (λ y. IfSome y P) (sym is) holds
+
+-- plain files stay plain
+pub left_plain : {D : Type 0} (g : Ghosts D) (d : Durable) (old new : D) (calls : List Made) (fs later : Files) → g.files old ≡ Some fs → IsPlain fs → LeavesWithin g d old new calls → g.may_leave new later → IsPlain later
+left_plain g d old new calls fs later is plain leaves left =
+    let run = of_some (g.files old) fs (λ fs. IsPlain fs → LeavesOnly g.steps g.left_since old new IsPlain) is leaves.plain plain in
+    run.each later (g.counts_now new (g.steps old) later run.later left)
+
+-- and what is left stands for some durable state
+pub left_stands : {D : Type 0} (g : Ghosts D) (d : Durable) (old new : D) (calls : List Made) (fs later : Files) → g.files old ≡ Some fs → LeavesWithin g d old new calls → g.may_leave new later → StandsForSome later
+left_stands g d old new calls fs later is leaves left =
+    let run = of_some (g.files old) fs (λ _. LeavesOnly g.steps g.left_since old new (StandsWithin d calls)) is leaves.moments in
+    let stands = run.each later (g.counts_now new (g.steps old) later run.later left) in
+    (durable_after_all d (take stands.0 calls), stands.2)

@@ -1,0 +1,52 @@
+use Rattle.std.proofs.Common.{◌≡◌, ◌<◌, ◌∙◌, ℕ, zero, Bool, List, None, Some, Ok, Err, length, set, refl, sym, ap, subst, arith}
+use Rattle.std.specs.String.{string_bytes}
+use Rattle.std.proofs.lemmas.Option.{slice_get_within}
+use Rattle.std.proofs.lemmas.Result.{err_from_is_err_and}
+use Rattle.cell_model.specs.World.{Crash}
+use Rattle.cell_runs.specs.ScriptDatabase.{script_database}
+use Rattle.cell_runs.specs.Script.{Cell_run, Choice, Run_or_why, run_in, with_event}
+use Rattle.cell_script.specs.declared.lines.Line.TheVariants as line
+use Rattle.cell_sites.proofs.AtPlace.{rises_same}
+use Rattle.cell_sites.proofs.Downtimes.{before_site, crash_rises, crash_sound, crash_told, down_site, many_at}
+use Rattle.cell_sites.proofs.Lining.{size_of}
+use Rattle.cell_sites.proofs.Soundly.{disk_here}
+use Rattle.cell_sites.proofs.cells.OpenCell.crash.Goals as goal
+
+pub returns-in_err-k-clause-refused : goal.returns-in_err-k-clause-refused
+returns-in_err-k-clause-refused g c = λ why is.
+    let db = script_database g.V.Service.database g.V.WordForms.words in
+    let p = err_from_is_err_and c.from_residual.result c.from_residual.ensures.1 in
+    let same : c.in_err-k.field-0.0 ≡ why = let given = p.2 in let left = p.1 in cc (given, left, is) in (
+      refl,
+      λ given cell stands choices.
+          let does : ℕ → Cell_run = λ k. with_event db (record cell { armed = set cell.armed k None }) (Crash k) in
+          c.in_err-k.ensures.up cell does (size_of g.D.Disk c.requires.0 c.args.self.now cell c.requires.1 stands) stands.sites ∙ ap Err same,
+    )
+
+pub returns-in_err-k-clause-never_falls : goal.returns-in_err-k-clause-never_falls
+returns-in_err-k-clause-never_falls g c = rises_same _ _ refl
+
+pub take_down-requires : goal.take_down-requires
+take_down-requires g c = record { place = slice_get_within c.args.self.now.sites.items c.in_ok-k.k _ c.in_ok-k.ensures.place.1.there }
+
+pub returns-clause-told : goal.returns-clause-told
+returns-clause-told g c = λ ok given cell text stands.
+    let db = script_database g.V.Service.database g.V.WordForms.words in
+    let down = c.take_down.ensures in
+    let does : ℕ → Cell_run = λ k. with_event db (record cell { armed = set cell.armed k None }) (Crash k) in
+    crash_told g.D.Disk c.args.self.now c.take_down.new.self c.in_ok-k.k down (disk_here g.D.Disk c.requires.0 c.args.self.now c.in_ok-k.k _ c.requires.1 down.there) db given cell
+    (λ choices. run_in db cell choices (line.Crash c.args.server)) text stands
+    (λ choices. c.in_ok-k.ensures.up cell does (size_of g.D.Disk c.requires.0 c.args.self.now cell c.requires.1 stands) stands.sites)
+
+pub returns-clause-sound : goal.returns-clause-sound
+returns-clause-sound g c = λ bound still.
+    let down = c.take_down.ensures in
+    crash_sound g.D.Disk c.args.self.now c.take_down.new.self c.in_ok-k.k down (disk_here g.D.Disk c.requires.0 c.args.self.now c.in_ok-k.k _ c.requires.1 down.there) bound still
+
+pub returns-clause-never_falls : goal.returns-clause-never_falls
+returns-clause-never_falls g c =
+    let down = c.take_down.ensures in
+    crash_rises g.D.Disk c.args.self.now c.take_down.new.self c.in_ok-k.k down (disk_here g.D.Disk c.requires.0 c.args.self.now c.in_ok-k.k _ c.requires.1 down.there)
+
+pub returns-clause-same : goal.returns-clause-same
+returns-clause-same g c = many_at g.D.Disk c.args.self.now c.take_down.new.self c.in_ok-k.k _ _ c.take_down.ensures.there c.take_down.ensures.sites

@@ -1,0 +1,59 @@
+use Rattle.std.proofs.Common.{◌≡◌, ◌<◌, ◌∙◌, ℕ, zero, Bool, List, None, Some, Ok, Err, length, set, refl, sym, ap, subst, arith}
+use Rattle.std.specs.String.{string_bytes}
+use Rattle.std.proofs.lemmas.Option.{slice_get_within}
+use Rattle.std.proofs.lemmas.Result.{err_from_is_err_and}
+use Rattle.cell_model.specs.World.{Restart}
+use Rattle.cell_runs.specs.ScriptDatabase.{script_database}
+use Rattle.cell_runs.specs.Script.{Cell_run, Choice, Run_or_why, first_choice, run_in, with_event}
+use Rattle.cell_script.specs.declared.lines.Line.TheVariants as line
+use Rattle.cell_sites.specs.declared.faults.LineFault.TheVariants as fault
+use Rattle.cell_sites.proofs.AtPlace.{rises_same}
+use Rattle.cell_sites.proofs.Downtimes.{reopen_line, reopen_many, reopen_rises, reopen_short, reopen_sound}
+use Rattle.cell_sites.proofs.Lining.{short_as, size_of, told_as}
+use Rattle.cell_sites.proofs.Soundly.{disk_here}
+use Rattle.cell_sites.proofs.cells.OpenCell.restart.Goals as goal
+
+pub returns-in_err-k-clause-refused : goal.returns-in_err-k-clause-refused
+returns-in_err-k-clause-refused g c = λ why is.
+    let db = script_database g.V.Service.database g.V.WordForms.words in
+    let p = err_from_is_err_and c.from_residual.result c.from_residual.ensures.1 in
+    let same : c.in_err-k.field-0.0 ≡ why = let given = p.2 in let left = p.1 in cc (given, left, is) in (
+      refl,
+      λ given cell stands choices.
+          let does : ℕ → Cell_run = λ k. with_event db cell (Restart k (first_choice choices).fails) in
+          c.in_err-k.ensures.down cell does (size_of g.D.Disk c.requires.0 c.args.self.now cell c.requires.1 stands) stands.sites ∙ ap Err same,
+    )
+
+pub returns-in_err-k-clause-never_falls : goal.returns-in_err-k-clause-never_falls
+returns-in_err-k-clause-never_falls g c = rises_same _ _ refl
+
+pub returns-in_err-reopen-clause-short : goal.returns-in_err-reopen-clause-short
+returns-in_err-reopen-clause-short g c = λ out given cell stands.
+    let db = script_database g.V.Service.database g.V.WordForms.words in
+    let does : List Choice → ℕ → Cell_run = λ choices k. with_event db cell (Restart k (first_choice choices).fails) in
+    short_as g.D.Disk (λ choices. run_in db cell choices (line.Restart c.args.server)) (λ choices. Ok (does choices c.in_ok-k.k))
+    (λ choices. c.in_ok-k.ensures.down cell (does choices) (size_of g.D.Disk c.requires.0 c.args.self.now cell c.requires.1 stands) stands.sites)
+    cell _ _ (reopen_short g.D.Disk (script_database g.V.Service.database g.V.WordForms.words) c.args.self.now c.reopen.new.self c.in_ok-k.k _ (string_bytes c.args.text.now) (string_bytes c.reopen.new.text) c.requires.0 c.requires.1 c.in_err-reopen.ensures (disk_here g.D.Disk c.requires.0 c.args.self.now c.in_ok-k.k _ c.requires.1 c.in_err-reopen.ensures.there) given cell stands)
+
+pub returns-in_err-reopen-clause-never_falls : goal.returns-in_err-reopen-clause-never_falls
+returns-in_err-reopen-clause-never_falls g c = reopen_rises g.D.Disk (script_database g.V.Service.database g.V.WordForms.words) c.args.self.now c.reopen.new.self c.in_ok-k.k _ (string_bytes c.args.text.now) (string_bytes c.reopen.new.text) c.requires.0 c.requires.1 c.in_err-reopen.ensures (disk_here g.D.Disk c.requires.0 c.args.self.now c.in_ok-k.k _ c.requires.1 c.in_err-reopen.ensures.there)
+
+pub returns-in_err-reopen-clause-same : goal.returns-in_err-reopen-clause-same
+returns-in_err-reopen-clause-same g c = reopen_many g.D.Disk (script_database g.V.Service.database g.V.WordForms.words) c.args.self.now c.reopen.new.self c.in_ok-k.k _ (string_bytes c.args.text.now) (string_bytes c.reopen.new.text) c.requires.0 c.requires.1 c.in_err-reopen.ensures (disk_here g.D.Disk c.requires.0 c.args.self.now c.in_ok-k.k _ c.requires.1 c.in_err-reopen.ensures.there)
+
+pub returns-clause-told : goal.returns-clause-told
+returns-clause-told g c = λ ok given cell stands.
+    let db = script_database g.V.Service.database g.V.WordForms.words in
+    let does : List Choice → ℕ → Cell_run = λ choices k. with_event db cell (Restart k (first_choice choices).fails) in
+    told_as g.D.Disk (λ choices. run_in db cell choices (line.Restart c.args.server)) (λ choices. Ok (does choices c.in_ok-k.k))
+    (λ choices. c.in_ok-k.ensures.down cell (does choices) (size_of g.D.Disk c.requires.0 c.args.self.now cell c.requires.1 stands) stands.sites)
+    db _ _ _ _ _ (reopen_line g.D.Disk (script_database g.V.Service.database g.V.WordForms.words) c.args.self.now c.reopen.new.self c.in_ok-k.k (Ok tt) (string_bytes c.args.text.now) (string_bytes c.reopen.new.text) c.requires.0 c.requires.1 c.in_ok-reopen.ensures (disk_here g.D.Disk c.requires.0 c.args.self.now c.in_ok-k.k _ c.requires.1 c.in_ok-reopen.ensures.there) given cell stands refl)
+
+pub returns-clause-sound : goal.returns-clause-sound
+returns-clause-sound g c = λ ok bound still. reopen_sound g.D.Disk (script_database g.V.Service.database g.V.WordForms.words) c.args.self.now c.reopen.new.self c.in_ok-k.k (Ok tt) (string_bytes c.args.text.now) (string_bytes c.reopen.new.text) c.requires.0 c.requires.1 c.in_ok-reopen.ensures (disk_here g.D.Disk c.requires.0 c.args.self.now c.in_ok-k.k _ c.requires.1 c.in_ok-reopen.ensures.there) bound still
+
+pub returns-clause-never_falls : goal.returns-clause-never_falls
+returns-clause-never_falls g c = reopen_rises g.D.Disk (script_database g.V.Service.database g.V.WordForms.words) c.args.self.now c.reopen.new.self c.in_ok-k.k (Ok tt) (string_bytes c.args.text.now) (string_bytes c.reopen.new.text) c.requires.0 c.requires.1 c.in_ok-reopen.ensures (disk_here g.D.Disk c.requires.0 c.args.self.now c.in_ok-k.k _ c.requires.1 c.in_ok-reopen.ensures.there)
+
+pub returns-clause-same : goal.returns-clause-same
+returns-clause-same g c = reopen_many g.D.Disk (script_database g.V.Service.database g.V.WordForms.words) c.args.self.now c.reopen.new.self c.in_ok-k.k (Ok tt) (string_bytes c.args.text.now) (string_bytes c.reopen.new.text) c.requires.0 c.requires.1 c.in_ok-reopen.ensures (disk_here g.D.Disk c.requires.0 c.args.self.now c.in_ok-k.k _ c.requires.1 c.in_ok-reopen.ensures.there)

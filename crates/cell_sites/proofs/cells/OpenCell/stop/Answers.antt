@@ -1,0 +1,70 @@
+use Rattle.std.proofs.Common.{[], ◌≡◌, ◌<◌, ◌∙◌, ℕ, zero, Bool, List, None, Some, Ok, Err, length, set, refl, sym, ap, subst, arith}
+use Rattle.std.specs.String.{string_bytes}
+use Rattle.std.proofs.lemmas.Option.{slice_get_within}
+use Rattle.std.proofs.lemmas.Result.{err_from_is_err_and}
+use Rattle.cell_runs.specs.ScriptDatabase.{script_database}
+use Rattle.cell_runs.specs.Script.{Cell_run, Choice, Run_or_why, resting, run_in}
+use Rattle.cell_script.specs.declared.lines.Line.TheVariants as line
+use Rattle.cell_sites.proofs.AtPlace.{rises_same}
+use Rattle.cell_sites.proofs.Downtimes.{arm_disk, arm_node, arm_told, many_at, rises_at, sound_at_place}
+use Rattle.cell_sites.proofs.Lining.{size_of}
+use Rattle.cell_sites.proofs.Running.{rises_set}
+use Rattle.cell_sites.proofs.Soundly.{found_up, here, not_down}
+use Rattle.cell_sites.specs.Stepped.{member_at, up_site}
+use Rattle.cell_sites.proofs.cells.OpenCell.stop.Goals as goal
+
+pub returns-in_err-k-clause-refused : goal.returns-in_err-k-clause-refused
+returns-in_err-k-clause-refused g c = λ why is.
+    let db = script_database g.V.Service.database g.V.WordForms.words in
+    let p = err_from_is_err_and c.from_residual.result c.from_residual.ensures.1 in
+    let same : c.in_err-k.field-0.0 ≡ why = let given = p.2 in let left = p.1 in cc (given, left, is) in (
+      refl,
+      λ given cell stands choices.
+          let does : ℕ → Cell_run = λ k. resting (record cell { armed = set cell.armed k (Some (record { calls = c.args.calls; made = 0 })) }) in
+          c.in_err-k.ensures.up cell does (size_of g.D.Disk c.requires.0 c.args.self.now cell c.requires.1 stands) stands.sites ∙ ap Err same,
+    )
+
+pub returns-in_err-k-clause-never_falls : goal.returns-in_err-k-clause-never_falls
+returns-in_err-k-clause-never_falls g c = rises_same _ _ refl
+
+pub index_mut-requires : goal.index_mut-requires
+index_mut-requires g c =
+    let within = slice_get_within c.args.self.now.sites.items c.in_ok-k.k _ c.in_ok-k.ensures.place.1.there in
+    omega (arith, within, c.args.self.now.sites.ok.0)
+
+pub unreachable-requires : goal.unreachable-requires
+unreachable-requires g c = not_down c.args.self.now c.in_ok-k.k c.index_mut.result.now c.in_default.field-0 c.in_ok-k.ensures.place.1 c.index_mut.ensures.value c.in_default.is
+
+pub arm-requires : goal.arm-requires
+arm-requires g c =
+    let site = c.index_mut.result.now in
+    let there = found_up c.args.self.now c.in_ok-k.k site c.in-Up.node c.in_ok-k.ensures.place.1 c.index_mut.ensures.value c.in-Up.is in
+    record { stored = (here g.D.Disk c.requires.0 c.args.self.now c.in_ok-k.k site.clock c.in-Up.node c.requires.1 there).sound.stored }
+
+pub returns-clause-told : goal.returns-clause-told
+returns-clause-told g c = λ ok given cell text stands.
+    let db = script_database g.V.Service.database g.V.WordForms.words in
+    let site = c.index_mut.result.now in
+    let there = found_up c.args.self.now c.in_ok-k.k site c.in-Up.node c.in_ok-k.ensures.place.1 c.index_mut.ensures.value c.in-Up.is in
+    let does : ℕ → Cell_run = λ k. resting (record cell { armed = set cell.armed k (Some (record { calls = c.args.calls; made = 0 })) }) in
+    arm_told g.D.Disk c.args.self.now _ c.in_ok-k.k site.clock c.args.calls c.args.fill c.in-Up.node c.arm.new.self there refl refl refl c.arm.ensures.disk c.arm.ensures.same db given cell
+    (λ choices. run_in db cell choices (line.Stop c.args.server c.args.calls c.args.fill)) text stands
+    (λ choices. c.in_ok-k.ensures.up cell does (size_of g.D.Disk c.requires.0 c.args.self.now cell c.requires.1 stands) stands.sites)
+
+pub returns-clause-sound : goal.returns-clause-sound
+returns-clause-sound g c = λ bound still.
+    let site = c.index_mut.result.now in
+    let k = c.in_ok-k.k in
+    let there = found_up c.args.self.now k site c.in-Up.node c.in_ok-k.ensures.place.1 c.index_mut.ensures.value c.in-Up.is in
+    let at = here g.D.Disk bound c.args.self.now k site.clock c.in-Up.node still there in
+    sound_at_place g.D.Disk c.args.self.now _ k (up_site site.clock c.in-Up.node) (up_site site.clock c.arm.new.self) there refl bound still refl
+    (arm_node g.D.Disk site.clock c.args.calls c.args.fill c.in-Up.node c.arm.new.self c.arm.ensures.disk c.arm.ensures.same (member_at c.args.self.now k) at.sound c.arm.ensures.stored)
+    (arm_disk g.D.Disk site.clock c.args.calls c.args.fill c.in-Up.node c.arm.new.self c.arm.ensures.disk c.arm.ensures.same at.disk)
+    refl refl refl
+
+pub returns-clause-never_falls : goal.returns-clause-never_falls
+returns-clause-never_falls g c =
+    let site = c.index_mut.result.now in
+    let there = found_up c.args.self.now c.in_ok-k.k site c.in-Up.node c.in_ok-k.ensures.place.1 c.index_mut.ensures.value c.in-Up.is in
+    let same = c.arm.ensures.disk.faults in
+    rises_set g.D.Disk [] 0 c.in_ok-k.k c.args.self.now.sites.items (up_site site.clock c.in-Up.node) (up_site site.clock c.arm.new.self) there (omega (arith, same)) (λ j other. refl)
