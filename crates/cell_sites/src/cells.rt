@@ -17,8 +17,8 @@ ghost use Rattle.cell_sites.specs.Opened.{ArePartOpened, HasRoom, IsAdded, IsOpe
 ghost use Rattle.cell_sites.specs.Sites.{disks_of};
 ghost use Rattle.cell_sites.specs.declared.cells.OpenCell.{OpenCell as AnOpenCell};
 
-use crate::packets::Packets;
 use crate::openings::{OpenEnd, open_server};
+use crate::packets::Packets;
 use crate::sites::Site;
 use cell_runs::{Mark, tell_mark};
 use db_image::WordForms;

@@ -108,7 +108,13 @@ impl<D: StopDisk, V: WordForms> OpenCell<D, V> {
         let Site { clock, server } = self.sites.remove(k);
         let mut disk = server.close();
         disk.revive();
-        self.put_site(k, Site { clock, server: Server::Down(disk) });
+        self.put_site(
+            k,
+            Site {
+                clock,
+                server: Server::Down(disk),
+            },
+        );
     }
 
     /// Puts a site into the place of one that was taken out.
