@@ -29,7 +29,7 @@ sites_raised : {D V : Type 0} (g : Ghosts D) (hosts : List Host) (place bound la
     → AreSound g hosts place bound sites → AreSound g hosts place later sites
 sites_raised g hosts place bound later [] more sound = tt
 sites_raised g hosts place bound later (site ∷ sites) more sound = (
-  record { moment = sound.0.moment; within = omega (arith, sound.0.within); server = sound.0.server },
+  record { moment = sound.0.moment; within = omega (arith, sound.0.within); server = sound.0.server; disk = sound.0.disk },
   sites_raised g hosts (place + 1) bound later sites more sound.1,
 )
 
@@ -53,7 +53,7 @@ no_rises k (disk ∷ disks) = (omega arith, no_rises (k + 1) disks)
 module _ {D V : Type 0} (g : Ghosts D) (before after : OpenCell D V) where
   pub kept_of : (result : Result (Unit {0}) LineFault) (seconds : ℕ) → seconds ≤ MAX_TICK
       → (result ≡ Ok tt → (bound : ℕ) → IsSound g bound before → IsSound g (bound + seconds) after)
-      → AreRises 0 [] (helds g.files g.faults before) (helds g.files g.faults after) → length after.sites.items ≡ length before.sites.items
+      → AreRises 0 [] (helds g before) (helds g after) → length after.sites.items ≡ length before.sites.items
       → KeepsCell g result before after
   kept_of result seconds few sound rises same = record {
     sound = λ done bound is. raised g (bound + seconds) (bound + MAX_TICK) after (omega (arith, few)) (sound done bound is);
@@ -63,12 +63,12 @@ module _ {D V : Type 0} (g : Ghosts D) (before after : OpenCell D V) where
 
   -- what became of it, by its result
   pub cell_done : (db : ScriptDatabase) (run : Cell → List Choice → Run_or_why) (result : Result (Unit {0}) LineFault) (text_before text_after : List ℕ)
-      → (result ≡ Ok tt → (c : Cell) → IsModelledBy before c → CellTold g db (run c) None before after text_before text_after)
-      → ((which : Which) → result ≡ Err (Limit which) → (c : Cell) → IsModelledBy before c
-      → CellTold g db (run c) (Some (ending.Limit which)) before after text_before text_after)
-      → ((why : Why) → result ≡ Err (Refused why) → (after ≡ before) × ((c : Cell) → IsModelledBy before c → IsRefused why (run c)))
+      → (result ≡ Ok tt → (given : List ℕ) (c : Cell) → IsModelledBy g db.database given before c → CellTold g db given (run c) None before after text_before text_after)
+      → ((which : Which) → result ≡ Err (Limit which) → (given : List ℕ) (c : Cell) → IsModelledBy g db.database given before c
+      → CellTold g db given (run c) (Some (ending.Limit which)) before after text_before text_after)
+      → ((why : Why) → result ≡ Err (Refused why) → (after ≡ before) × ((given : List ℕ) (c : Cell) → IsModelledBy g db.database given before c → IsRefused why (run c)))
       → ((why : Why) → result ≡ Err (Refused why) → text_after ≡ text_before)
-      → (result ≡ Err NoMemory → (c : Cell) → IsModelledBy before c → IsShort g (run c) c before after)
+      → (result ≡ Err NoMemory → (given : List ℕ) (c : Cell) → IsModelledBy g db.database given before c → IsShort g db.database given (run c) c before after)
       → CellDone g db run result before after text_before text_after
   cell_done db run (Ok done) text_before text_after told limit refused quiet short = told refl
   cell_done db run (Err (Limit which)) text_before text_after told limit refused quiet short = limit which refl
@@ -78,27 +78,27 @@ module _ {D V : Type 0} (g : Ghosts D) (before after : OpenCell D V) where
   module _ (db : ScriptDatabase) (l k : Line) (is : l ≡ k) where
     -- a line that may refuse alone, and tells nothing
     pub refused_of : (result : Result (Unit {0}) LineFault) (why : Why) (text : List ℕ) → IsErrAnd result (λ e. e ≡ Refused why)
-        → (after ≡ before) × ((c : Cell) → IsModelledBy before c → IsRefused why (λ choices. run_in db c choices k))
+        → (after ≡ before) × ((given : List ℕ) (c : Cell) → IsModelledBy g db.database given before c → IsRefused why (λ choices. run_in db c choices k))
         → CellDone g db (λ c choices. run_in db c choices l) result before after text text
     refused_of (Ok done) why text err refused = absurd err
     refused_of (Err e) why text err refused =
         let P : LineFault → Type 0 = λ e. CellDone g db (λ c choices. run_in db c choices l) (Err e) before after text text in
-        let Q : Line → Type 0 = λ l. (after ≡ before) × (text ≡ text) × ((c : Cell) → IsModelledBy before c → IsRefused why (λ choices. run_in db c choices l)) in
+        let Q : Line → Type 0 = λ l. (after ≡ before) × (text ≡ text) × ((given : List ℕ) (c : Cell) → IsModelledBy g db.database given before c → IsRefused why (λ choices. run_in db c choices l)) in
         subst P (sym err) (subst Q (sym is) (refused.0, refl, refused.1))
 
     pub told_of : (text_before text_after : List ℕ)
-        → ((c : Cell) → IsModelledBy before c → CellTold g db (λ choices. run_in db c choices k) None before after text_before text_after)
+        → ((given : List ℕ) (c : Cell) → IsModelledBy g db.database given before c → CellTold g db given (λ choices. run_in db c choices k) None before after text_before text_after)
         → CellDone g db (λ c choices. run_in db c choices l) (Ok tt) before after text_before text_after
     told_of text_before text_after told =
-        let P : Line → Type 0 = λ l. (c : Cell) → IsModelledBy before c → CellTold g db (λ choices. run_in db c choices l) None before after text_before text_after in
+        let P : Line → Type 0 = λ l. (given : List ℕ) (c : Cell) → IsModelledBy g db.database given before c → CellTold g db given (λ choices. run_in db c choices l) None before after text_before text_after in
         subst P (sym is) told
 
     pub done_of : (result : Result (Unit {0}) LineFault) (text_before text_after : List ℕ)
-        → (result ≡ Ok tt → (c : Cell) → IsModelledBy before c → CellTold g db (λ choices. run_in db c choices k) None before after text_before text_after)
-        → ((which : Which) → result ≡ Err (Limit which) → (c : Cell) → IsModelledBy before c → CellTold g db (λ choices. run_in db c choices k) (Some (ending.Limit which)) before after text_before text_after)
-        → ((why : Why) → result ≡ Err (Refused why) → (after ≡ before) × ((c : Cell) → IsModelledBy before c → IsRefused why (λ choices. run_in db c choices k)))
+        → (result ≡ Ok tt → (given : List ℕ) (c : Cell) → IsModelledBy g db.database given before c → CellTold g db given (λ choices. run_in db c choices k) None before after text_before text_after)
+        → ((which : Which) → result ≡ Err (Limit which) → (given : List ℕ) (c : Cell) → IsModelledBy g db.database given before c → CellTold g db given (λ choices. run_in db c choices k) (Some (ending.Limit which)) before after text_before text_after)
+        → ((why : Why) → result ≡ Err (Refused why) → (after ≡ before) × ((given : List ℕ) (c : Cell) → IsModelledBy g db.database given before c → IsRefused why (λ choices. run_in db c choices k)))
         → ((why : Why) → result ≡ Err (Refused why) → text_after ≡ text_before)
-        → (result ≡ Err NoMemory → (c : Cell) → IsModelledBy before c → IsShort g (λ choices. run_in db c choices k) c before after)
+        → (result ≡ Err NoMemory → (given : List ℕ) (c : Cell) → IsModelledBy g db.database given before c → IsShort g db.database given (λ choices. run_in db c choices k) c before after)
         → CellDone g db (λ c choices. run_in db c choices l) result before after text_before text_after
     done_of result text_before text_after told limit refused quiet short =
         let P : Line → Type 0 = λ l. CellDone g db (λ c choices. run_in db c choices l) result before after text_before text_after in
@@ -108,18 +108,18 @@ module _ {D V : Type 0} (g : Ghosts D) (before after : OpenCell D V) where
 pub kept_same : {D V : Type 0} (g : Ghosts D) (result : Result (Unit {0}) LineFault) (running : OpenCell D V) → KeepsCell g result running running
 kept_same g result running =
     kept_of g running running result 0 (omega arith) (λ done bound is. raised g bound (bound + 0) running (omega arith) is)
-    (no_rises 0 (helds g.files g.faults running)) refl
+    (no_rises 0 (helds g running)) refl
 
-pub nothing_told : {D V : Type 0} (g : Ghosts D) (db : ScriptDatabase) (running : OpenCell D V) (text : List ℕ) (c : Cell)
-    → IsModelledBy running c → CellTold g db (λ choices. run_in db c choices line.Nothing) None running running text text
-nothing_told g db running text c stands = record {
+pub nothing_told : {D V : Type 0} (g : Ghosts D) (db : ScriptDatabase) (running : OpenCell D V) (text : List ℕ) (given : List ℕ) (c : Cell)
+    → IsModelledBy g db.database given running c → CellTold g db given (λ choices. run_in db c choices line.Nothing) None running running text text
+nothing_told g db running text given c stands = record {
   choices = [];
   ran = resting c;
   is = refl;
   ends = refl;
   cell = stands;
   told = sym (append-nil text);
-  causes = no_rises 0 (helds g.files g.faults running);
+  causes = no_rises 0 (helds g running);
 }
 
 -- what is handed on by `?`

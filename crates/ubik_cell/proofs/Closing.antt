@@ -15,9 +15,9 @@ cell_disks None = []
 cell_disks (Some running) = disks_of running
 
 module _ {D V : Type 0} (g : Ghosts D) where
-  helds_of : (sites : List (Site D V)) → map (held g.files g.faults) (map site_disk sites) ≡ map (λ (site : Site D V). held g.files g.faults (site_disk site)) sites
+  helds_of : (sites : List (Site D V)) → map (held g) (map site_disk sites) ≡ map (λ (site : Site D V). held g (site_disk site)) sites
   helds_of [] = refl
-  helds_of (site ∷ sites) = ap (λ (l : List Held). held g.files g.faults (site_disk site) ∷ l) (helds_of sites)
+  helds_of (site ∷ sites) = ap (λ (l : List Held). held g (site_disk site) ∷ l) (helds_of sites)
 
   count_of : (sites : List (Site D V)) → length (map site_disk sites) ≡ length sites
   count_of [] = refl
@@ -27,15 +27,15 @@ module _ {D V : Type 0} (g : Ghosts D) where
   cell_count None = refl
   cell_count (Some running) = count_of running.sites.items
 
-  cell_held : (cell : Option (OpenCell D V)) → all_held g.files g.faults (cell_disks cell) ≡ cell_helds g cell
+  cell_held : (cell : Option (OpenCell D V)) → all_held g (cell_disks cell) ≡ cell_helds g cell
   cell_held None = refl
   cell_held (Some running) = helds_of running.sites.items
 
   module _ (cell : Option (OpenCell D V)) (spare disks : List D) (is : disks ≡ cell_disks cell ++ spare) where
-    pub closed_helds : all_held g.files g.faults disks ≡ cell_helds g cell ++ all_held g.files g.faults spare
+    pub closed_helds : all_held g disks ≡ cell_helds g cell ++ all_held g spare
     closed_helds =
-        ap (all_held g.files g.faults) is ∙ map-append (held g.files g.faults) (cell_disks cell) spare
-        ∙ ap (λ (l : List Held). l ++ all_held g.files g.faults spare) (cell_held cell)
+        ap (all_held g) is ∙ map-append (held g) (cell_disks cell) spare
+        ∙ ap (λ (l : List Held). l ++ all_held g spare) (cell_held cell)
 
     pub closed_others : drop (sites_in cell) disks ≡ spare
     closed_others = ap (drop (sites_in cell)) is ∙ drop_at (cell_disks cell) spare (sites_in cell) (cell_count cell)

@@ -11,13 +11,14 @@ use Rattle.cell_runs.specs.Script.{Cell, LineRead, told}
 use Rattle.cell_runs.specs.Trace.{TraceItem, fault_count}
 use Rattle.cell_runs.specs.declared.endings.Ending.{Ending}
 use Rattle.cell_runs.specs.declared.endings.Ending.TheVariants.{Refused, Limit}
-use Rattle.cell_sites.specs.Disks.{AreCauses, Held, all_held, held}
+use Rattle.cell_sites.specs.Disks.{AreCauses, AreReadBy, Held, all_held, held}
+use Rattle.cell_sites.specs.Opened.{counts_of}
 use Rattle.script_laws.specs.Runs.{NamesCalls}
 use Rattle.script_laws.specs.Sound.{FaultsHaveServers, HasNoFault, SoundFronts, sound_lines, sites_told}
 use Rattle.script_promises.specs.Databases.{databases}
 use Rattle.ubik_cell.specs.declared.cells.CellKind.{CellKind}
 use Rattle.ubik_cell.specs.declared.cells.CellKind.TheVariants as kind
-use Rattle.ubik_cell.specs.Lines.{AreHeld, AreReadFirst, HeldCauses, sites_of}
+use Rattle.ubik_cell.specs.Lines.{AreHeld, HeldCauses, HoldStage}
 use Rattle.ubik_cell.specs.Runs.{IsDoneOrShort, IsInside, RanUntil, read_lines}
 use Rattle.ubik_cell.specs.Turns.{Ran, RanOver}
 use Rattle.ubik_cell.proofs.Telling.{read_lines-push}
@@ -36,16 +37,29 @@ NoneFailed [] = Unit {0}
 NoneFailed (disk ∷ disks) = (disk.faults ≡ 0) × NoneFailed disks
 
 none_failed : {D : Type 0} (g : Ghosts D) (disks : List D) → All (λ disk. g.faults disk ≡ 0) disks
-    → NoneFailed (all_held g.files g.faults disks)
+    → NoneFailed (all_held g disks)
 none_failed g [] sound = tt
 none_failed g (disk ∷ disks) sound =
     (All-head (λ d. g.faults d ≡ 0) disk disks sound, none_failed g disks (All-tail (λ d. g.faults d ≡ 0) disk disks sound))
 
+-- so many are there as are taken from them
+took : {X : Type 0} (n : ℕ) (xs : List X) → length (take n xs) ≡ n → n ≤ length xs
+took zero xs is = omega arith
+took (suc n) [] is = absurd (omega (arith, is))
+took (suc n) (x ∷ xs) is = let more = took n xs (omega (arith, is)) in omega (arith, more)
+
+-- as many disks as servers
+as_read : (sites : List Site) (disks : List Held) → AreReadBy sites disks → length sites ≡ length disks
+as_read [] [] read = refl
+as_read [] (disk ∷ disks) read = absurd read
+as_read (site ∷ sites) [] read = absurd read
+as_read (site ∷ sites) (disk ∷ disks) read = ap suc (as_read sites disks read.1)
+
 -- each server has a disk
-enough : (sites : List Site) (disks : List Held) → AreReadFirst sites disks → length sites ≤ length disks
-enough [] disks read = omega arith
-enough (site ∷ sites) [] read = absurd read
-enough (site ∷ sites) (disk ∷ disks) read = let more = enough sites disks read.1 in omega (arith, more)
+enough : (given : List ℕ) (short : Bool) (c : Cell) (disks : List Held) → HoldStage databases given short (Some c) disks
+    → length c.run.world.sites ≤ length disks
+enough given short c disks holds =
+    let n = length c.run.world.sites in took n disks (sym (as_read c.run.world.sites (take n disks) holds.0.read))
 
 no_fault_at : (k place n : ℕ) (items : List TraceItem) (disks : List Held) → AreCauses place items (take n disks) → NoneFailed disks
     → k < n → n ≤ length disks → fault_count (place + k) items ≡ 0
@@ -61,19 +75,19 @@ no_fault_at (suc k) place (suc n) items (disk ∷ disks) causes none inside few 
 
 -- so no fault is told
 module _ (law : FaultsHaveServers) (names : NamesCalls databases) (disks : List Held) (none : NoneFailed disks) where
-  no_fault : (readings : List LineRead) (cell : Option Cell) → (told databases readings).stage.cell ≡ cell
-      → HeldCauses cell (told databases readings).items disks → AreReadFirst (sites_of cell) disks → HasNoFault
-      (told databases readings).items
-  no_fault readings None is causes read = λ k.
+  no_fault : (given : List ℕ) (short : Bool) (readings : List LineRead) (cell : Option Cell) → (told databases readings).stage.cell ≡ cell
+      → HeldCauses cell (told databases readings).items disks → HoldStage databases given short cell disks
+      → HasNoFault (told databases readings).items
+  no_fault given short readings None is causes holds = λ k.
       law databases names readings k (subst (λ (o : Option Cell). sites_told o ≤ k) (sym is) (omega arith))
-  no_fault readings (Some c) is causes read = λ k. by k (lt_or_le k (length c.run.world.sites))
+  no_fault given short readings (Some c) is causes holds = λ k. by k (lt_or_le k (length c.run.world.sites))
     where
       by : (k : ℕ) → (k < length c.run.world.sites) ⊎ (length c.run.world.sites ≤ k) → fault_count k (told databases readings).items ≡ 0
       by k (inl inside) =
           let same : 0 + k ≡ k = omega arith in
           subst (λ (m : ℕ). fault_count m (told databases readings).items ≡ 0) same
           (no_fault_at k 0 (length c.run.world.sites) (told databases readings).items disks causes none inside
-          (enough c.run.world.sites disks read))
+          (enough given short c disks holds))
       by k (inr past) = law databases names readings k (subst (λ (o : Option Cell). sites_told o ≤ k) (sym is) past)
 
 -- ---- no line ends the script
@@ -100,27 +114,27 @@ module _ (fronts : SoundFronts) (law : FaultsHaveServers) (names : NamesCalls da
       subst (λ (l : List (List ℕ)). (told databases (sound_lines l)).ended ≡ None) all inside in
       let never = sym (fronts databases readings run.later sound whole) ∙ run.ended in cc
 
-  module _ (text : List ℕ) (left : Option (List ℕ)) (before : List ℕ) (after : Option (List ℕ)) (reached : ℕ) (disks : List Held)
-      (none : NoneFailed disks) where
-    quiet : (readings more : List LineRead) → (more ≡ []) ⊎ (read_lines more ≡ [])
+  module _ (given : List ℕ) (text : List ℕ) (left : Option (List ℕ)) (before : List ℕ) (after : Option (List ℕ)) (reached : ℕ)
+      (disks : List Held) (none : NoneFailed disks) where
+    quiet : (short : Bool) (readings more : List LineRead) → (more ≡ []) ⊎ (read_lines more ≡ [])
         → HeldCauses (told databases readings).stage.cell (told databases readings).items disks
-        → AreHeld (told databases (readings ++ more)) disks → HasNoFault (told databases readings).items
-    quiet readings more only causes held =
+        → AreHeld databases given short (told databases (readings ++ more)) disks → HasNoFault (told databases readings).items
+    quiet short readings more only causes held =
         let same : readings ++ more ≡ readings = ap (λ (l : List LineRead). readings ++ l) (none_more more only) ∙ append-nil readings in
-        let here = subst (λ (l : List LineRead). AreHeld (told databases l) disks) same held in
-        no_fault law names disks none readings (told databases readings).stage.cell refl causes here.read
+        let here = subst (λ (l : List LineRead). AreHeld databases given short (told databases l) disks) same held in
+        no_fault law names disks none given short readings (told databases readings).stage.cell refl causes here.holds
 
-    is_complete : (k : CellKind) → Ran k databases text left before after reached disks → IsInside databases text → k ≢ kind.ReadFault
+    is_complete : (k : CellKind) → Ran k databases given text left before after reached disks → IsInside databases text → k ≢ kind.ReadFault
         → k ≢ kind.WriteFault → ((place : ℕ) → k ≢ kind.Words place) → IsDoneOrShort k
     is_complete kind.Done ran inside read wrote words = tt
     is_complete (kind.ScriptRefused line why) ran inside read wrote words =
         not_until line (Refused why) ran.readings text left before after ran.run
-        (quiet ran.readings ran.more ran.run_or_not ran.causes ran.held) inside
+        (quiet false ran.readings ran.more ran.run_or_not ran.causes ran.held) inside
     is_complete kind.ReadFault ran inside read wrote words = read refl
     is_complete kind.WriteFault ran inside read wrote words = wrote refl
     is_complete (kind.Limit line which) ran inside read wrote words =
         not_until line (Limit which) ran.readings text left before after ran.run
-        (quiet ran.readings ran.more ran.run_or_not ran.causes ran.held) inside
+        (quiet false ran.readings ran.more ran.run_or_not ran.causes ran.held) inside
     is_complete kind.NoMemory ran inside read wrote words = tt
     is_complete (kind.Words place) ran inside read wrote words = words place refl
 
@@ -130,5 +144,5 @@ pub complete : SoundFronts → FaultsHaveServers → NamesCalls databases
     → RanOver g k databases script left before after disks_before disks_after → All (λ disk. g.faults disk ≡ 0) disks_after
     → IsInside databases script → k ≢ kind.ReadFault → k ≢ kind.WriteFault → ((place : ℕ) → k ≢ kind.Words place) → IsDoneOrShort k
 complete fronts law names g k script left before after disks_before disks_after over sound inside =
-    is_complete fronts law names script left before after over.reached (all_held g.files g.faults disks_after)
+    is_complete fronts law names (counts_of g disks_before) script left before after over.reached (all_held g disks_after)
     (none_failed g disks_after sound) k over.ran inside

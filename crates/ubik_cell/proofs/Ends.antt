@@ -41,36 +41,36 @@ as_written P (Some written) all = all written
 module _ {D V : Type 0} (g : Ghosts D) (dbs : Databases) (left : Option (List ℕ)) (after : Option (List ℕ))
     (run next : CellRun D V) where
   -- what a line did to a run before it
-  pub record ReadyAt (result : Result (Unit {0}) RunEnd) (bytes script before written : List ℕ) : Type 0 where
+  pub record ReadyAt (result : Result (Unit {0}) RunEnd) (bytes given script before written : List ℕ) : Type 0 where
     pub line : List ℕ
-    pub at : AtLine g dbs script left before (Some written) run line
-    pub line_told : result ≢ Err NoMemory → LineTold g dbs line (told dbs at.readings) result next [] bytes
-    pub short : result ≡ Err NoMemory → LineShort g dbs (take 1025 line) (told dbs at.readings) next
+    pub at : AtLine g dbs given script left before (Some written) run line
+    pub line_told : result ≢ Err NoMemory → LineTold g dbs given line (told dbs at.readings) result next [] bytes
+    pub short : result ≡ Err NoMemory → LineShort g dbs given (take 1025 line) (told dbs at.readings) next
 
   -- what was told, of a text that was cleared before
-  pub retold : (line : List ℕ) (t : Told) (result : Result (Unit {0}) RunEnd) (text_before text_after bytes : List ℕ) → text_before ≡ []
-      → bytes ≡ text_after → LineTold g dbs line t result next text_before text_after
-      → LineTold g dbs line t result next [] bytes
-  retold line t result text_before text_after bytes none same of =
-      subst (λ (b : List ℕ). LineTold g dbs line t result next [] b) (sym same)
-      (subst (λ (b : List ℕ). LineTold g dbs line t result next b text_after) none of)
+  pub retold : (given line : List ℕ) (t : Told) (result : Result (Unit {0}) RunEnd) (text_before text_after bytes : List ℕ) → text_before ≡ []
+      → bytes ≡ text_after → LineTold g dbs given line t result next text_before text_after
+      → LineTold g dbs given line t result next [] bytes
+  retold given line t result text_before text_after bytes none same of =
+      subst (λ (b : List ℕ). LineTold g dbs given line t result next [] b) (sym same)
+      (subst (λ (b : List ℕ). LineTold g dbs given line t result next b text_after) none of)
 
-  abbrev RanSo : (script before : List ℕ) → CellKind → Type 0
-  RanSo script before k = Ran k dbs script left before after (sites_in next.cell) (run_helds g next)
+  abbrev RanSo : (given script before : List ℕ) → CellKind → Type 0
+  RanSo given script before k = Ran k dbs given script left before after (sites_in next.cell) (run_helds g next)
 
-  module _ (number : ℕ) (next_number : number ≡ run.lines + 1) (bytes : List ℕ) (P : (script before written : List ℕ) → Type 0) where
+  module _ (number : ℕ) (next_number : number ≡ run.lines + 1) (bytes : List ℕ) (P : (given script before written : List ℕ) → Type 0) where
     abbrev AllRan : List ℕ → CellKind → Type 0
-    AllRan written k = (script before : List ℕ) → P script before written → RanSo script before k
+    AllRan written k = (given script before : List ℕ) → P given script before written → RanSo given script before k
 
     abbrev AreReady : Result (Unit {0}) RunEnd → List ℕ → Type 0
-    AreReady result written = (script before : List ℕ) → P script before written → ReadyAt result bytes script before written
+    AreReady result written = (given script before : List ℕ) → P given script before written → ReadyAt result bytes given script before written
 
     part_ends : (result : Result (Unit {0}) RunEnd) (written : List ℕ) → result ≢ Err NoMemory
         → (result ≡ Ok tt → IsSoundRun g next) → AreReady result written → AppendsPart written after bytes
         → AllRan written kind.WriteFault
-    part_ends result written goes sound ready wrote = λ script before p.
-        let r = ready script before p in
-        part_told g dbs script left before written after run next r.line r.at result bytes (r.line_told goes) sound wrote
+    part_ends result written goes sound ready wrote = λ given script before p.
+        let r = ready given script before p in
+        part_told g dbs given script left before written after run next r.line r.at result bytes (r.line_told goes) sound wrote
 
     by_part : (result : Result (Unit {0}) RunEnd) (written : List ℕ) → result ≢ Err NoMemory
         → (result ≡ Ok tt → IsSoundRun g next) → AreReady result written → (o : Option CellKind) → o ≡ Some kind.WriteFault
@@ -83,9 +83,9 @@ module _ {D V : Type 0} (g : Ghosts D) (dbs : Databases) (left : Option (List �
         → (o ≡ Some kind.WriteFault) ⊎ (o ≢ Some kind.WriteFault) → IfSome o (AllRan written)
     by_result (Err NoMemory) o written is sound ready fault =
         let none = is.unwritten refl in
-        subst (λ (x : Option CellKind). IfSome x (AllRan written)) (sym none.0) (λ script before p.
-        let r = ready script before p in
-        short_told g dbs script left before written after run next r.line r.at (r.short refl) none.1)
+        subst (λ (x : Option CellKind). IfSome x (AllRan written)) (sym none.0) (λ given script before p.
+        let r = ready given script before p in
+        short_told g dbs given script left before written after run next r.line r.at (r.short refl) none.1)
     by_result (Ok done) o written is sound ready (inl fault) =
         let part = is.part fault in by_part (Ok done) written part.0 sound ready o fault part.1
     by_result (Ok done) o written is sound ready (inr whole) =
@@ -98,9 +98,9 @@ module _ {D V : Type 0} (g : Ghosts D) (dbs : Databases) (left : Option (List �
         let result : Result (Unit {0}) RunEnd = Err (Ended ending) in
         let other : result ≢ Err NoMemory = λ same. cc in
         let wrote = is.whole other whole in
-        subst (λ (x : Option CellKind). IfSome x (AllRan written)) (sym wrote.0) (λ script before p.
-        let r = ready script before p in
-        ended_told g dbs script left before written after run next r.line r.at ending bytes (r.line_told other) number
+        subst (λ (x : Option CellKind). IfSome x (AllRan written)) (sym wrote.0) (λ given script before p.
+        let r = ready given script before p in
+        ended_told g dbs given script left before written after run next r.line r.at ending bytes (r.line_told other) number
         next_number wrote.1)
 
     none_written : (o : Option CellKind) → IfSome o (λ k. Unit {0})
@@ -118,10 +118,10 @@ module _ {D V : Type 0} (g : Ghosts D) (dbs : Databases) (left : Option (List �
 
     module _ (ended : Bool) where
       -- what a line that was read whole did
-      pub record GoesAt (result : Result (Unit {0}) RunEnd) (script before written : List ℕ) : Type 0 where
+      pub record GoesAt (result : Result (Unit {0}) RunEnd) (given script before written : List ℕ) : Type 0 where
         pub line : List ℕ
-        pub at : AtWhole g dbs script ended left before (Some written) run line
-        pub line_told : LineTold g dbs line (told dbs at.at.readings) result next [] bytes
+        pub at : AtWhole g dbs given script ended left before (Some written) run line
+        pub line_told : LineTold g dbs given line (told dbs at.at.readings) result next [] bytes
 
       goes_by : (result : Result (Unit {0}) RunEnd) (o : Option CellKind) (w : Option (List ℕ)) → o ≡ None
           → IsWritten result number bytes o w after
@@ -136,13 +136,13 @@ module _ {D V : Type 0} (g : Ghosts D) (dbs : Databases) (left : Option (List �
 
       pub goes_line : (result : Result (Unit {0}) RunEnd) (o : Option CellKind) (w : Option (List ℕ)) → o ≡ None
           → IsWritten result number bytes o w after
-          → (result ≡ Ok tt → (script before written : List ℕ) → P script before written → GoesAt result script before written)
-          → IfSome w (λ written. (script before : List ℕ) → P script before written → SoFar g dbs script ended left before
+          → (result ≡ Ok tt → (given script before written : List ℕ) → P given script before written → GoesAt result given script before written)
+          → IfSome w (λ written. (given script before : List ℕ) → P given script before written → SoFar g dbs given script ended left before
           after next)
       goes_line result o None none is ready = tt
-      goes_line result o (Some written) none is ready = λ script before p.
+      goes_line result o (Some written) none is ready = λ given script before p.
           let by = goes_by result o (Some written) none is in
-          let r = ready by.0 script before written p in
-          going_on g dbs script ended left before written after run next r.line bytes r.at
-          (subst (λ (x : Result (Unit {0}) RunEnd). LineTold g dbs r.line (told dbs r.at.at.readings) x next [] bytes) by.0
+          let r = ready by.0 given script before written p in
+          going_on g dbs given script ended left before written after run next r.line bytes r.at
+          (subst (λ (x : Result (Unit {0}) RunEnd). LineTold g dbs given r.line (told dbs r.at.at.readings) x next [] bytes) by.0
           r.line_told) by.1

@@ -1,39 +1,45 @@
 -- The opening of a cell over the disks of a run.
 use Rattle.std.proofs.Common.{◌≡◌, ℕ, zero, suc, ◌+◌, ◌<◌, List, [], ◌∷◌, ◌++◌, length, get_or, map, refl, sym, ap, subst, ◌∙◌, add-one, arith}
 use Rattle.std.proofs.lemmas.List.{get_or-drop, take_more}
-use Rattle.std.proofs.lemmas.List.Elements.{All-append, All-cons, All-nil}
 use Rattle.std.specs.Prelude.{All, take, drop}
 use Rattle.disk_base.specs.declared.disks.Disk.{Ghosts}
 use Rattle.cell_sites.specs.declared.cells.OpenCell.{OpenCell}
 use Rattle.cell_sites.specs.declared.sites.Site.{Site}
 use Rattle.cell_sites.specs.Disks.{Held, all_held, held}
-use Rattle.cell_sites.specs.Opened.{IsAdded}
+use Rattle.cell_sites.specs.Opened.{IsAdded, counts_of}
 use Rattle.cell_sites.specs.Sites.{disks_of, helds, site_disk}
-use Rattle.ubik_cell.specs.Lines.{IsUnwritten}
+use Rattle.ubik_cell.specs.Lines.{AreUnwritten, IsUnwritten}
+use Rattle.ubik_cell.proofs.LineDisks.{unwritten-append}
 
 -- what the disks of a cell read as
-sites_held : {D V : Type 0} (g : Ghosts D) (sites : List (Site D V)) → map (λ (site : Site D V). held g.files g.faults (site_disk site)) sites ≡ all_held g.files g.faults (map site_disk sites)
+sites_held : {D V : Type 0} (g : Ghosts D) (sites : List (Site D V)) → map (λ (site : Site D V). held g (site_disk site)) sites ≡ all_held g (map site_disk sites)
 sites_held g [] = refl
-sites_held g (site ∷ sites) = ap (λ (l : List Held). held g.files g.faults (site_disk site) ∷ l) (sites_held g sites)
+sites_held g (site ∷ sites) = ap (λ (l : List Held). held g (site_disk site) ∷ l) (sites_held g sites)
 
-held-append : {D : Type 0} (g : Ghosts D) (a b : List D) → all_held g.files g.faults (a ++ b) ≡ all_held g.files g.faults a ++ all_held g.files g.faults b
+held-append : {D : Type 0} (g : Ghosts D) (a b : List D) → all_held g (a ++ b) ≡ all_held g a ++ all_held g b
 held-append g [] b = refl
-held-append g (disk ∷ a) b = ap (λ (l : List Held). held g.files g.faults disk ∷ l) (held-append g a b)
+held-append g (disk ∷ a) b = ap (λ (l : List Held). held g disk ∷ l) (held-append g a b)
 
--- one more disk is empty, or failed
-pub added_unwritten : {D V : Type 0} (g : Ghosts D) (disk : D) (before after : OpenCell D V) → IsAdded g disk before after
-    → All IsUnwritten (helds g.files g.faults before) → All IsUnwritten (helds g.files g.faults after)
-added_unwritten g disk before after added empty =
-    let disks : helds g.files g.faults after ≡ helds g.files g.faults before ++ held g.files g.faults added.kept ∷ [] =
-    sites_held g after.sites.items ∙ ap (all_held g.files g.faults) added.disks ∙ held-append g (disks_of before) (added.kept ∷ [])
-    ∙ ap (λ (l : List Held). l ++ held g.files g.faults added.kept ∷ []) (sym (sites_held g before.sites.items)) in
-    subst (All IsUnwritten) (sym disks)
-    (All-append IsUnwritten (helds g.files g.faults before) (held g.files g.faults added.kept ∷ []) empty
-    (All-cons IsUnwritten (held g.files g.faults added.kept) [] added.empty (All-nil IsUnwritten)))
+-- one more disk stands for no database
+pub added_unwritten : {D V : Type 0} (g : Ghosts D) (given : List ℕ) (disk : D) (before after : OpenCell D V) → IsAdded g disk before after
+    → AreUnwritten given (helds g before) → AreUnwritten (given ++ g.steps disk ∷ []) (helds g after)
+added_unwritten g given disk before after added empty =
+    let disks : helds g after ≡ helds g before ++ held g added.kept ∷ [] =
+    sites_held g after.sites.items ∙ ap (all_held g) added.disks ∙ held-append g (disks_of before) (added.kept ∷ [])
+    ∙ ap (λ (l : List Held). l ++ held g added.kept ∷ []) (sym (sites_held g before.sites.items)) in
+    let one : IsUnwritten (g.steps disk) (held g added.kept) =
+    record { stands = added.emptied.empty; rise = added.emptied.few.0; few = added.emptied.few.1; steps = added.emptied.few.2 } in
+    subst (AreUnwritten (given ++ g.steps disk ∷ [])) (sym disks)
+    (unwritten-append given (g.steps disk ∷ []) (helds g before) (held g added.kept ∷ []) empty (one, tt))
 
-pub none_unwritten : {D V : Type 0} (g : Ghosts D) (running : OpenCell D V) → running.sites.items ≡ [] → All IsUnwritten (helds g.files g.faults running)
+pub none_unwritten : {D V : Type 0} (g : Ghosts D) (running : OpenCell D V) → running.sites.items ≡ [] → AreUnwritten [] (helds g running)
 none_unwritten {D} {V} g running none =
-    subst (λ (sites : List (Site D V)). All IsUnwritten (map (λ site. held g.files g.faults (site_disk site)) sites)) (sym none) (All-nil IsUnwritten)
+    subst (λ (sites : List (Site D V)). AreUnwritten [] (map (λ site. held g (site_disk site)) sites)) (sym none) tt
+
+-- the counts of one more disk
+pub counts-push : {D : Type 0} (g : Ghosts D) (disks : List D) (disk : D) → counts_of g (disks ++ disk ∷ []) ≡ counts_of g disks ++ g.steps disk ∷ []
+counts-push g [] disk = refl
+counts-push g (first ∷ disks) disk = ap (λ (l : List ℕ). g.steps first ∷ l) (counts-push g disks disk)
 
 -- ---- the disks that are taken, one after the other
 
@@ -61,7 +67,7 @@ next_left given left after i is removed = removed ∙ ap (λ l. take 0 l ++ drop
 
 -- the disks of a closed run
 pub closed_held : {D V : Type 0} (g : Ghosts D) (running : OpenCell D V) (all spare : List D) → all ≡ disks_of running ++ spare
-    → all_held g.files g.faults all ≡ helds g.files g.faults running ++ all_held g.files g.faults spare
+    → all_held g all ≡ helds g running ++ all_held g spare
 closed_held g running all spare is =
-    ap (all_held g.files g.faults) is ∙ held-append g (disks_of running) spare
-    ∙ ap (λ (l : List Held). l ++ all_held g.files g.faults spare) (sym (sites_held g running.sites.items))
+    ap (all_held g) is ∙ held-append g (disks_of running) spare
+    ∙ ap (λ (l : List Held). l ++ all_held g spare) (sym (sites_held g running.sites.items))

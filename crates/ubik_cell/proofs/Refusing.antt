@@ -19,18 +19,19 @@ use Rattle.cell_runs.specs.ScriptDatabase.{Databases}
 use Rattle.cell_runs.specs.Trace.{ending_text}
 use Rattle.ubik_cell.specs.declared.scripts.CellRun.{CellRun}
 use Rattle.ubik_cell.specs.declared.scripts.RunEnd.TheVariants.{Ended}
-use Rattle.ubik_cell.specs.Lines.{IsAt, IsSoundRun, LineShort, LineTold}
+use Rattle.ubik_cell.specs.Lines.{IsAt, IsSoundRun, LineShort, LineTold, run_helds}
 use Rattle.ubik_cell.proofs.Holding.{count_at, held_at}
+use Rattle.ubik_cell.proofs.LineDisks.{stage_short}
 
-module _ {D V : Type 0} (g : Ghosts D) (dbs : Databases) (run : CellRun D V) (t : Told)
-    (sound : IsSoundRun g run) (at : IsAt g run t) where
+module _ {D V : Type 0} (g : Ghosts D) (dbs : Databases) (given : List ℕ) (run : CellRun D V) (t : Told)
+    (sound : IsSoundRun g run) (at : IsAt g dbs given run t) where
   -- the end was told
   pub end_told : (line : List ℕ) (choices : List Choice) (ending : Ending) (text_before text_after : List ℕ)
       → line_result dbs t.stage (record { line = line; choices = choices }) ≡ Err ending
       → text_after ≡ text_before ++ ending_text (run.lines + 1) ending
-      → LineTold g dbs line t (Err (Ended ending)) run text_before text_after
+      → LineTold g dbs given line t (Err (Ended ending)) run text_before text_after
   end_told line choices ending text_before text_after ends told =
-      let held = held_at g run t sound at in
+      let held = held_at g dbs given run t sound at in
       let place : run.lines + 1 ≡ t.stage.lines + 1 = omega (arith, at.stage.lines) in
       record {
         choices = choices;
@@ -40,13 +41,15 @@ module _ {D V : Type 0} (g : Ghosts D) (dbs : Databases) (run : CellRun D V) (t 
         added = ending_text (t.stage.lines + 1) ending;
         told = told ∙ ap (λ (n : ℕ). text_before ++ ending_text n ending) place;
         text = refl;
-        leaves = record { read = held.read; causes = held.causes };
-        servers = count_at g run t sound at;
+        leaves = record { holds = held.holds; causes = held.causes };
+        servers = count_at g dbs given run t sound at;
       }
 
   -- memory ran out before anything was done
-  pub end_short : (line : List ℕ) → LineShort g dbs line t run
-  end_short line = let held = held_at g run t sound at in record { causes = held.causes; held = inl held.read }
+  pub end_short : (line : List ℕ) → LineShort g dbs given line t run
+  end_short line =
+      let held = held_at g dbs given run t sound at in
+      record { causes = held.causes; held = inl (stage_short dbs given t.stage.cell (run_helds g run) held.holds) }
 
 -- ---- a line that is too long
 

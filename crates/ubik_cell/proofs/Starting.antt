@@ -9,6 +9,7 @@ use Rattle.ubik_types.specs.declared.limits.TheConstants.{MAXSERVERS}
 use Rattle.cell_runs.specs.Script.{first_told}
 use Rattle.cell_runs.specs.ScriptDatabase.{Databases}
 use Rattle.cell_sites.specs.Disks.{Held, all_held}
+use Rattle.cell_sites.specs.Opened.{counts_of}
 use Rattle.ubik_cell.specs.declared.cells.CellKind.{CellKind}
 use Rattle.ubik_cell.specs.declared.cells.CellKind.TheVariants as kind
 use Rattle.ubik_cell.specs.declared.scripts.CellRun.{CellRun}
@@ -46,7 +47,7 @@ module _ {D : Type 0} (g : Ghosts D) (dbs : Databases) where
       more = [];
       run_or_not = inl refl;
       causes = refl;
-      held = record { read = unwritten g disks empty; causes = refl };
+      held = record { holds = unwritten g disks empty; causes = refl };
       servers = λ other. refl;
     };
     stay = refl;
@@ -67,9 +68,9 @@ module _ {D : Type 0} (g : Ghosts D) (dbs : Databases) where
 
 module _ {D V : Type 0} (g : Ghosts D) (dbs : Databases) where
   -- before the first line
-  pub first_so_far : (ended : Bool) (run : CellRun D V) → ended ≡ false → IsAt g run first_told → (script before : List ℕ)
-      → SoFar g dbs script ended (Some script) before (Some before) run
-  first_so_far ended run going at script before =
+  pub first_so_far : (given : List ℕ) (ended : Bool) (run : CellRun D V) → ended ≡ false → IsAt g dbs given run first_told → (script before : List ℕ)
+      → SoFar g dbs given script ended (Some script) before (Some before) run
+  first_so_far given ended run going at script before =
       let P : Bool → Type 0 = λ b. IsConsumed b script script [] in
       record {
         readings = [];
@@ -82,24 +83,24 @@ module _ {D V : Type 0} (g : Ghosts D) (dbs : Databases) where
       }
 
   -- what is told of what a sink holds, where it holds something
-  from_sink : (script : List ℕ) (ended : Bool) (left : Option (List ℕ)) (before : List ℕ) (w : Option (List ℕ)) (run : CellRun D V)
-      (Q : List ℕ → List ℕ → Type 0)
-      → IfSome w (λ written. (script before : List ℕ) → SoFar g dbs script ended left before (Some written) run → Q script
-      before)
-      → SoFar g dbs script ended left before w run → Q script before
-  from_sink script ended left before None run Q goes so = let never = so.wrote in absurd (cc)
-  from_sink script ended left before (Some written) run Q goes so = goes script before so
+  from_sink : (given script : List ℕ) (ended : Bool) (left : Option (List ℕ)) (before : List ℕ) (w : Option (List ℕ)) (run : CellRun D V)
+      (Q : (given script before : List ℕ) → Type 0)
+      → IfSome w (λ written. (given script before : List ℕ) → SoFar g dbs given script ended left before (Some written) run
+      → Q given script before)
+      → SoFar g dbs given script ended left before w run → Q given script before
+  from_sink given script ended left before None run Q goes so = let never = so.wrote in absurd (cc)
+  from_sink given script ended left before (Some written) run Q goes so = goes given script before so
 
-  -- one more turn
-  pub so_far_on : (ended : Bool) (left : Option (List ℕ)) (w : Option (List ℕ)) (run : CellRun D V) (Q : List ℕ → List ℕ → Type 0)
-      (input out : Option (List ℕ))
-      → IfSome input (λ script. IfSome out (λ before. SoFar g dbs script ended left before w run))
-      → IfSome w (λ written. (script before : List ℕ) → SoFar g dbs script ended left before (Some written) run → Q script
-      before)
-      → IfSome input (λ script. IfSome out (λ before. Q script before))
-  so_far_on ended left w run Q input out so goes =
-      over_both (λ script before. SoFar g dbs script ended left before w run) Q input out so
-      (λ script before is. from_sink script ended left before w run Q goes is)
+  -- one more turn, where disks had these counts before the script
+  pub so_far_on : (given : List ℕ) (ended : Bool) (left : Option (List ℕ)) (w : Option (List ℕ)) (run : CellRun D V)
+      (Q : (given script before : List ℕ) → Type 0) (input out : Option (List ℕ))
+      → IfSome input (λ script. IfSome out (λ before. SoFar g dbs given script ended left before w run))
+      → IfSome w (λ written. (given script before : List ℕ) → SoFar g dbs given script ended left before (Some written) run
+      → Q given script before)
+      → IfSome input (λ script. IfSome out (λ before. Q given script before))
+  so_far_on given ended left w run Q input out so goes =
+      over_both (λ script before. SoFar g dbs given script ended left before w run) (Q given) input out so
+      (λ script before is. from_sink given script ended left before w run Q goes is)
 
   -- how the disks lie that were not reached
   pub unreached : (run next : CellRun D V) (disks after : List D) → sites_in run.cell + length run.spare.items ≡ MAXSERVERS
@@ -114,12 +115,12 @@ module _ {D V : Type 0} (g : Ghosts D) (dbs : Databases) where
 
   -- the disks in their places again
   pub closed : (k : CellKind) (script : List ℕ) (left : Option (List ℕ)) (before : List ℕ) (after : Option (List ℕ)) (next : CellRun D V)
-      (disks disks_after : List D) → all_held g.files g.faults disks_after ≡ run_helds g next
+      (disks disks_after : List D) → all_held g disks_after ≡ run_helds g next
       → drop (sites_in next.cell) disks_after ≡ next.spare.items → next.spare.items ≡ drop (sites_in next.cell) disks
-      → Ran k dbs script left before after (sites_in next.cell) (run_helds g next)
+      → Ran k dbs (counts_of g disks) script left before after (sites_in next.cell) (run_helds g next)
       → RanOver g k dbs script left before after disks disks_after
   closed k script left before after next disks disks_after held others spare ran = record {
     reached = sites_in next.cell;
-    ran = subst (λ (h : List Held). Ran k dbs script left before after (sites_in next.cell) h) (sym held) ran;
+    ran = subst (λ (h : List Held). Ran k dbs (counts_of g disks) script left before after (sites_in next.cell) h) (sym held) ran;
     stay = others ∙ spare;
   }

@@ -18,15 +18,15 @@ use Rattle.ubik_cell.specs.declared.cells.CellKind.TheVariants as kind
 use Rattle.ubik_cell.specs.declared.scripts.CellRun.{CellRun}
 use Rattle.ubik_cell.specs.declared.scripts.RunEnd.{RunEnd}
 use Rattle.ubik_cell.specs.declared.scripts.RunEnd.TheVariants.{Ended}
-use Rattle.ubik_cell.specs.Lines.{AreHeld, AreReadFirst, HeldAfter, HeldCauses, IsAt, IsSoundRun, Leaves, LineShort, LineTold, run_helds, sites_in, sites_of}
+use Rattle.ubik_cell.specs.Lines.{AreHeld, HeldAfter, HeldCauses, HoldStage, IsAt, IsSoundRun, Leaves, LineShort, LineTold, run_helds, sites_in}
 use Rattle.ubik_cell.specs.Runs.{IsConsumed, RanShort, RanUntil, ReadSome, Runs, Wrote, ends_at, kind_at, read_lines}
-use Rattle.ubik_cell.specs.Turns.{Ran, SoFar}
+use Rattle.ubik_cell.specs.Turns.{Ran, SoFar, is_short}
 use Rattle.ubik_cell.proofs.Consuming.{all_lines, consumed-push, in_line, later_lines, lines_and_part, read_so_far, whole_before}
 use Rattle.ubik_cell.proofs.Holding.{count_at, held_at}
 use Rattle.ubik_cell.proofs.Telling.{read_lines-push, same_some, told-push}
 
 -- a run before a line of which at most 1025 bytes were read
-pub record AtLine {D V : Type 0} (g : Ghosts D) (dbs : Databases) (text : List ℕ) (left : Option (List ℕ))
+pub record AtLine {D V : Type 0} (g : Ghosts D) (dbs : Databases) (given : List ℕ) (text : List ℕ) (left : Option (List ℕ))
     (before : List ℕ) (after : Option (List ℕ)) (run : CellRun D V) (line : List ℕ) : Type 0 where
   pub readings : List LineRead
   pub part : ReadSome text left
@@ -34,23 +34,25 @@ pub record AtLine {D V : Type 0} (g : Ghosts D) (dbs : Databases) (text : List �
   pub later : List (List ℕ)
   pub all : lines_of text ≡ read_lines readings ++ line ∷ later
   pub good : (told dbs readings).ended ≡ None
-  pub at : IsAt g run (told dbs readings)
+  pub at : IsAt g dbs given run (told dbs readings)
   pub wrote : Wrote before after (told dbs readings).text
 
 -- ---- the end of a run
 
-module _ (dbs : Databases) (text : List ℕ) (left : Option (List ℕ)) (before : List ℕ) (after : Option (List ℕ)) (reached : ℕ)
-    (disks : List Held) where
-  -- a run all of whose lines were told
-  ran_all : (k : CellKind) (readings : List LineRead) → Runs k dbs readings text left before after → AreHeld (told dbs readings) disks
-      → reached ≡ servers_of (told dbs readings).stage.cell → Ran k dbs text left before after reached disks
-  ran_all k readings run held servers = record {
+module _ (dbs : Databases) (given : List ℕ) (text : List ℕ) (left : Option (List ℕ)) (before : List ℕ) (after : Option (List ℕ))
+    (reached : ℕ) (disks : List Held) where
+  -- a run all of whose lines were told, and in which memory did not run out
+  ran_all : (k : CellKind) (readings : List LineRead) → is_short k ≡ false → Runs k dbs readings text left before after
+      → AreHeld dbs given false (told dbs readings) disks
+      → reached ≡ servers_of (told dbs readings).stage.cell → Ran k dbs given text left before after reached disks
+  ran_all k readings enough run held servers = record {
     readings = readings;
     run = run;
     more = [];
     run_or_not = inl refl;
     causes = held.causes;
-    held = subst (λ (l : List LineRead). AreHeld (told dbs l) disks) (sym (append-nil readings)) held;
+    held = subst (λ (short : Bool). AreHeld dbs given short (told dbs (readings ++ [])) disks) (sym enough)
+        (subst (λ (l : List LineRead). AreHeld dbs given false (told dbs l) disks) (sym (append-nil readings)) held);
     servers = λ _. servers;
   }
 
@@ -59,24 +61,28 @@ module _ (dbs : Databases) (text : List ℕ) (left : Option (List ℕ)) (before 
   until_kind number (Refused why) readings run = run
   until_kind number (Limit which) readings run = run
 
+  until_enough : (number : ℕ) (ending : Ending) → is_short (kind_at number ending) ≡ false
+  until_enough number (Refused why) = refl
+  until_enough number (Limit which) = refl
+
 -- what is known of what was left, where so much is left
 of_left : (P : List ℕ → Type 0) (left : Option (List ℕ)) (rest : List ℕ) → left ≡ Some rest → IfSome left P → P rest
 of_left P left rest is h = let Q : Option (List ℕ) → Type 0 = λ l. IfSome l P in subst Q is h
 
 -- ---- after a line
 
-module _ {D V : Type 0} (g : Ghosts D) (dbs : Databases) where
+module _ {D V : Type 0} (g : Ghosts D) (dbs : Databases) (given : List ℕ) where
   leaves_held : (result : Result (Unit {0}) RunEnd) (next : CellRun D V) (later : Told) → (result ≡ Ok tt → IsSoundRun g next)
-      → Leaves g result next later → AreHeld later (run_helds g next)
-  leaves_held (Ok done) next later sound leaves = held_at g next later (sound refl) leaves
+      → Leaves g dbs given result next later → AreHeld dbs given false later (run_helds g next)
+  leaves_held (Ok done) next later sound leaves = held_at g dbs given next later (sound refl) leaves
   leaves_held (Err e) next later sound leaves = leaves
 
   module _ (text : List ℕ) (left : Option (List ℕ)) (before written : List ℕ) (after : Option (List ℕ)) (run next : CellRun D V)
-      (line : List ℕ) (at : AtLine g dbs text left before (Some written) run line) where
+      (line : List ℕ) (at : AtLine g dbs given text left before (Some written) run line) where
     abbrev t : Told
     t = told dbs at.readings
 
-    module _ (result : Result (Unit {0}) RunEnd) (bytes : List ℕ) (of : LineTold g dbs line t result next [] bytes) where
+    module _ (result : Result (Unit {0}) RunEnd) (bytes : List ℕ) (of : LineTold g dbs given line t result next [] bytes) where
       abbrev last : LineRead
       last = record { line = line; choices = of.choices }
 
@@ -100,20 +106,20 @@ module _ {D V : Type 0} (g : Ghosts D) (dbs : Databases) where
           wrote ∙ ap (λ (w : List ℕ). Some (w ++ bytes)) (same_some at.wrote) ∙ ap Some (append_assoc before t.text bytes)
           ∙ ap (λ (b : List ℕ). Some (before ++ b)) (sym all_text)
 
-      held_later : (result ≡ Ok tt → IsSoundRun g next) → AreHeld (told dbs readings) (run_helds g next)
+      held_later : (result ≡ Ok tt → IsSoundRun g next) → AreHeld dbs given false (told dbs readings) (run_helds g next)
       held_later sound =
-          later_has (λ d. AreHeld d (run_helds g next)) (leaves_held result next of.later sound of.leaves)
+          later_has (λ d. AreHeld dbs given false d (run_helds g next)) (leaves_held result next of.later sound of.leaves)
 
       servers_later : sites_in next.cell ≡ servers_of (told dbs readings).stage.cell
       servers_later = later_has (λ d. sites_in next.cell ≡ servers_of d.stage.cell) of.servers
 
       abbrev RanSo : CellKind → Type 0
-      RanSo k = Ran k dbs text left before after (sites_in next.cell) (run_helds g next)
+      RanSo k = Ran k dbs given text left before after (sites_in next.cell) (run_helds g next)
 
       -- the sink failed in what the line tells
       pub part_told : (result ≡ Ok tt → IsSoundRun g next) → AppendsPart written after bytes → RanSo kind.WriteFault
       part_told sound wrote =
-          ran_all dbs text left before after (sites_in next.cell) (run_helds g next) kind.WriteFault readings (record {
+          ran_all dbs given text left before after (sites_in next.cell) (run_helds g next) kind.WriteFault readings refl (record {
             earlier = at.readings;
             last = last;
             is = refl;
@@ -129,16 +135,17 @@ module _ {D V : Type 0} (g : Ghosts D) (dbs : Databases) where
           }) (held_later sound) servers_later
 
     -- the script ends in the line, which was told
-    pub ended_told : (ending : Ending) (bytes : List ℕ) (of : LineTold g dbs line t (Err (Ended ending)) next [] bytes)
+    pub ended_told : (ending : Ending) (bytes : List ℕ) (of : LineTold g dbs given line t (Err (Ended ending)) next [] bytes)
         (number : ℕ)
         → number ≡ run.lines + 1 → after ≡ Some (written ++ bytes)
-        → Ran (kind_at number ending) dbs text left before after (sites_in next.cell) (run_helds g next)
+        → Ran (kind_at number ending) dbs given text left before after (sites_in next.cell) (run_helds g next)
     ended_told ending bytes of number is wrote =
         let result : Result (Unit {0}) RunEnd = Err (Ended ending) in
         let all : List LineRead = readings result bytes of in
         let place : t.stage.lines + 1 ≡ number = omega (arith, at.at.stage.lines, is) in
-        ran_all dbs text left before after (sites_in next.cell) (run_helds g next) (kind_at number ending) all
-        (until_kind dbs text left before after (sites_in next.cell) (run_helds g next) number ending all (record {
+        ran_all dbs given text left before after (sites_in next.cell) (run_helds g next) (kind_at number ending) all
+        (until_enough dbs given text left before after (sites_in next.cell) (run_helds g next) number ending)
+        (until_kind dbs given text left before after (sites_in next.cell) (run_helds g next) number ending all (record {
           earlier = at.readings;
           last = last result bytes of;
           later = at.later;
@@ -166,16 +173,16 @@ module _ {D V : Type 0} (g : Ghosts D) (dbs : Databases) where
     }
 
     short_by : after ≡ Some written → HeldCauses t.stage.cell t.items disks
-        → AreReadFirst (sites_of t.stage.cell) disks ⊎ HeldAfter dbs (take 1025 line) t disks
-        → Ran kind.NoMemory dbs text left before after (sites_in next.cell) disks
-    short_by same causes (inl read) = record {
+        → HoldStage dbs given true t.stage.cell disks ⊎ HeldAfter dbs given (take 1025 line) t disks
+        → Ran kind.NoMemory dbs given text left before after (sites_in next.cell) disks
+    short_by same causes (inl holds) = record {
       readings = at.readings;
       run = ran_short same;
       more = [];
       run_or_not = inl refl;
       causes = causes;
-      held = subst (λ (l : List LineRead). AreHeld (told dbs l) disks) (sym (append-nil at.readings))
-          (record { read = read; causes = causes });
+      held = subst (λ (l : List LineRead). AreHeld dbs given true (told dbs l) disks) (sym (append-nil at.readings))
+          (record { holds = holds; causes = causes });
       servers = λ other. absurd (other refl);
     }
     short_by same causes (inr held) =
@@ -186,12 +193,12 @@ module _ {D V : Type 0} (g : Ghosts D) (dbs : Databases) where
           more = r ∷ [];
           run_or_not = inr refl;
           causes = causes;
-          held = subst (λ (d : Told). AreHeld d disks) (sym (told-push dbs at.readings r at.good)) held.held;
+          held = subst (λ (d : Told). AreHeld dbs given true d disks) (sym (told-push dbs at.readings r at.good)) held.held;
           servers = λ other. absurd (other refl);
         }
 
-    pub short_told : LineShort g dbs (take 1025 line) t next → after ≡ Some written
-        → Ran kind.NoMemory dbs text left before after (sites_in next.cell) disks
+    pub short_told : LineShort g dbs given (take 1025 line) t next → after ≡ Some written
+        → Ran kind.NoMemory dbs given text left before after (sites_in next.cell) disks
     short_told short same = short_by same short.causes short.held
 
   -- ---- before a line
@@ -199,7 +206,7 @@ module _ {D V : Type 0} (g : Ghosts D) (dbs : Databases) where
   -- a run before a line that was read whole, with which the source has ended or not
   pub record AtWhole (text : List ℕ) (ended : Bool) (left : Option (List ℕ)) (before : List ℕ) (after : Option (List ℕ))
       (run : CellRun D V) (line : List ℕ) : Type 0 where
-    pub at : AtLine g dbs text left before after run line
+    pub at : AtLine g dbs given text left before after run line
     pub bound : take 1025 line ≡ line
     pub rest : List ℕ
     pub remains : left ≡ Some rest
@@ -209,8 +216,8 @@ module _ {D V : Type 0} (g : Ghosts D) (dbs : Databases) where
   pub going_on : (text : List ℕ) (ended : Bool) (left : Option (List ℕ)) (before written : List ℕ) (after : Option (List ℕ))
       (run next : CellRun D V)
       (line bytes : List ℕ) (at : AtWhole text ended left before (Some written) run line)
-      → LineTold g dbs line (told dbs at.at.readings) (Ok tt) next [] bytes → after ≡ Some (written ++ bytes)
-      → SoFar g dbs text ended left before after next
+      → LineTold g dbs given line (told dbs at.at.readings) (Ok tt) next [] bytes → after ≡ Some (written ++ bytes)
+      → SoFar g dbs given text ended left before after next
   going_on text ended left before written after run next line bytes at of wrote =
       let all : List LineRead = readings text left before written after run next line at.at (Ok tt) bytes of in
       let same : told dbs all ≡ of.later = more text left before written after run next line at.at (Ok tt) bytes of in
@@ -221,12 +228,12 @@ module _ {D V : Type 0} (g : Ghosts D) (dbs : Databases) where
         remains = at.remains;
         consumed = subst (IsConsumed ended text at.rest) (sym (read_lines-push at.at.readings r)) at.consumed;
         good = ap (λ (d : Told). d.ended) same ∙ of.ended;
-        at = subst (λ (d : Told). IsAt g next d) (sym same) of.leaves;
+        at = subst (λ (d : Told). IsAt g dbs given next d) (sym same) of.leaves;
         wrote = whole_wrote text left before written after run next line at.at (Ok tt) bytes of wrote;
       }
 
   module _ (script : List ℕ) (was now : Bool) (left later : Option (List ℕ)) (before : List ℕ) (after : Option (List ℕ)) (run : CellRun D V)
-      (so : SoFar g dbs script was left before after run) where
+      (so : SoFar g dbs given script was left before after run) where
     abbrev lines : List (List ℕ)
     lines = read_lines so.readings
 
@@ -264,7 +271,7 @@ module _ {D V : Type 0} (g : Ghosts D) (dbs : Databases) where
       pub line : List ℕ
       pub long : MAX_LINE < length line
       pub long_part : MAX_LINE < length (take 1025 line)
-      pub at : AtLine g dbs script later before after run line
+      pub at : AtLine g dbs given script later before after run line
 
     abbrev TakesLong : List ℕ → Type 0
     TakesLong text = (now ≡ false) × (taken : TakesPart text later) × (length taken.part ≡ MAX_LINE + 1)
@@ -300,8 +307,8 @@ module _ {D V : Type 0} (g : Ghosts D) (dbs : Databases) where
     abbrev disks_now : List Held
     disks_now = run_helds g run
 
-    held_now : IsSoundRun g run → AreHeld (told dbs so.readings) disks_now
-    held_now sound = held_at g run (told dbs so.readings) sound so.at
+    held_now : IsSoundRun g run → AreHeld dbs given false (told dbs so.readings) disks_now
+    held_now sound = held_at g dbs given run (told dbs so.readings) sound so.at
 
     -- the script was read to its end, just now or before
     abbrev MeetsEnd : List ℕ → Type 0
@@ -313,31 +320,31 @@ module _ {D V : Type 0} (g : Ghosts D) (dbs : Databases) where
     end_of true ends ended consumed = (consumed.0, ended refl ∙ so.remains ∙ ap Some consumed.0)
 
     pub ran_to_the_end : IsSoundRun g run → (was ≡ false → IfSome left MeetsEnd) → (was ≡ true → later ≡ left)
-        → Ran kind.Done dbs script later before after (sites_in run.cell) disks_now
+        → Ran kind.Done dbs given script later before after (sites_in run.cell) disks_now
     ran_to_the_end sound ends ended =
         let end = end_of was ends ended so.consumed in
-        ran_all dbs script later before after (sites_in run.cell) disks_now kind.Done so.readings (record {
+        ran_all dbs given script later before after (sites_in run.cell) disks_now kind.Done so.readings refl (record {
           all = sym (all_lines was script so.rest lines so.consumed end.0);
           end = end.1;
           good = so.good;
           wrote = so.wrote;
-        }) (held_now sound) (count_at g run (told dbs so.readings) sound so.at)
+        }) (held_now sound) (count_at g dbs given run (told dbs so.readings) sound so.at)
 
     -- the source failed
     abbrev Fails : List ℕ → Type 0
     Fails text = (now ≡ false) × (taken : TakesPart text later) × (length taken.part ≤ MAX_LINE)
 
     pub ran_to_fault : IsSoundRun g run → was ≡ false → IfSome left Fails
-        → Ran kind.ReadFault dbs script later before after (sites_in run.cell) disks_now
+        → Ran kind.ReadFault dbs given script later before after (sites_in run.cell) disks_now
     ran_to_fault sound was_false fails =
         let taken = (of_left Fails left so.rest so.remains fails).1 in
         let whole = whole_before script so.rest taken.part taken.rest lines taken.no_lf taken.read (going was_false) in
-        ran_all dbs script later before after (sites_in run.cell) disks_now kind.ReadFault so.readings (record {
+        ran_all dbs given script later before after (sites_in run.cell) disks_now kind.ReadFault so.readings refl (record {
           part = record { read = whole.0; rest = taken.rest; split = whole.1; remains = taken.left };
           all = whole.2;
           good = so.good;
           wrote = so.wrote;
-        }) (held_now sound) (count_at g run (told dbs so.readings) sound so.at)
+        }) (held_now sound) (count_at g dbs given run (told dbs so.readings) sound so.at)
 
 -- a source that did not end just now had not ended before
 pub was_going : (was : Bool) (end : LineEnd) → end ≢ line_end.End → (was ≡ true → end ≡ line_end.End) → was ≡ false

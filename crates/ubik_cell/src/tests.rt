@@ -14,6 +14,7 @@ use ubik_types::{MAXSERVERS, NoMemory};
 mod cells;
 mod chance;
 mod refusals;
+mod stops;
 mod texts;
 
 /// A user is made and looked up.
@@ -76,6 +77,13 @@ fn run_on(
 fn expect(rt: &impl Abort, seen: &Seen, status: u8, kind: CellKind, text: &str) {
     assert_eq!(rt; seen.end, CellEnd { status, kind });
     assert_eq!(rt; seen.text.as_slice(), text.as_bytes());
+}
+
+/// A script that is run to its end tells this.
+fn expect_told(rt: &impl Abort, alloc: Global, script: &str, text: &str) -> Result<(), Fail> {
+    let seen = run_on(alloc, script.as_bytes(), &[], &[], &[])?;
+    expect(rt, &seen, 0, CellKind::Done, text);
+    Ok(())
 }
 
 /// A script that is refused at this line, where calls of the first disk fail, and what is told before.

@@ -1,13 +1,6 @@
 //! Cells of several servers: clocks that part, packets that are lost, repeated and dropped, beacons, votes and leases.
 use super::*;
 
-/// A script that is run to its end tells this.
-fn expect_told(rt: &impl Abort, alloc: Global, script: &str, text: &str) -> Result<(), Fail> {
-    let seen = run_on(alloc, script.as_bytes(), &[], &[], &[])?;
-    expect(rt, &seen, 0, CellKind::Done, text);
-    Ok(())
-}
-
 /// Three servers elect their sync site, though a packet is lost: the second session of the README, in `examples/`.
 #[test]
 fn three_servers_elect_their_sync_site(rt: HostRuntime) -> Result<(), Fail> {

@@ -225,6 +225,14 @@ fn tick_reason(server: &str, seconds: &str, place: Place) -> Option<Why> {
     reason
 }
 
+/// Why a line is refused that has a disk stop. Of the words above these are numbers of calls, and bytes that fill.
+fn stop_reason(server: &str, calls: &str, fill: &str, place: Place) -> Option<Why> {
+    match (value_of(calls), value_of(fill)) {
+        (Some(_), Some(0..=255)) => server_reason(server, place),
+        _ => Some(Why::Number),
+    }
+}
+
 /// Why a recovery turn is refused, which is built for a cell of one.
 fn recover_reason(server: &str, place: Place) -> Option<Why> {
     if place.servers > 1 {
@@ -269,7 +277,7 @@ fn reason_of(line: &[&str], place: Place) -> Option<Why> {
         ("beacon", 1) => server_reason(words[0], place),
         ("recover", 1) => recover_reason(words[0], place),
         ("deliverall", 0) => place_reason(place),
-        ("stop", 3) => Some(Why::Unbuilt),
+        ("stop", 3) => stop_reason(words[0], words[1], words[2], place),
         ("show", 1) => server_reason(words[0], place),
         ("ask", 2..) => ask_reason(words[0], words[1], &words[2..], place),
         _ => Some(Why::Syntax),

@@ -1,10 +1,9 @@
 use Rattle.std.proofs.Common.{◌≡◌, ◌+◌, length, take, drop}
-use Rattle.std.specs.Prelude.{All}
 use Rattle.std.specs.String.{string_bytes}
 use Rattle.cell_runs.specs.ScriptDatabase.{script_database}
-use Rattle.cell_sites.specs.Opened.{ArePartOpened, HasRoom}
+use Rattle.cell_sites.specs.Opened.{ArePartOpened, HasRoom, counts_of}
 use Rattle.cell_sites.specs.Sites.{helds}
-use Rattle.ubik_cell.specs.Lines.{IsUnwritten}
+use Rattle.ubik_cell.specs.Lines.{AreUnwritten}
 use Rattle.ubik_cell.proofs.scripts.open_servers.Given as goal
 
 abbrev pub invariant-loop : goal.invariant-loop
@@ -14,7 +13,7 @@ invariant-loop g l = record {
   count : length l.cell.sites.items ≡ l.counter;
   left : l.spare.items ≡ drop l.counter l.fn.spare.items;
   number : length l.spare.items + l.counter ≡ length l.fn.spare.items;
-  unwritten : All IsUnwritten (helds g.D.Disk.files g.D.Disk.faults l.cell);
+  unwritten : AreUnwritten (counts_of g.D.Disk (take l.counter l.fn.spare.items)) (helds g.D.Disk l.cell);
   room : HasRoom l.cell;
   hosts : l.cell.hosts.items ≡ l.fn.cell.hosts.items;
 }

@@ -24,7 +24,7 @@ returns-in-Ask-clause-kept g c =
 pub returns-in_ok-tick-in-Tick-clause-done : goal.returns-in_ok-tick-in-Tick-clause-done
 returns-in_ok-tick-in-Tick-clause-done g c =
     told_of g.D.Disk c.args.cell.now c.tick.new.self (script_database g.V.Service.database g.V.WordForms.words) _ _ c.in-Tick.is _ _
-    (λ cell stands. c.in_ok-tick-in-Tick.ensures.told refl cell _ stands)
+    (λ given cell stands. c.in_ok-tick-in-Tick.ensures.told refl given cell _ stands)
 
 pub returns-in_ok-tick-in-Tick-clause-kept : goal.returns-in_ok-tick-in-Tick-clause-kept
 returns-in_ok-tick-in-Tick-clause-kept g c =
@@ -39,7 +39,7 @@ returns-in_err-tick-in-Tick-clause-done g c =
 pub returns-in-TickAll-clause-done : goal.returns-in-TickAll-clause-done
 returns-in-TickAll-clause-done g c =
     told_of g.D.Disk c.args.cell.now c.tick_all.new.self (script_database g.V.Service.database g.V.WordForms.words) _ _ c.in-TickAll.is _ _
-    (λ cell stands. c.tick_all.ensures.told cell _ stands)
+    (λ given cell stands. c.tick_all.ensures.told given cell _ stands)
 
 pub returns-in-TickAll-clause-kept : goal.returns-in-TickAll-clause-kept
 returns-in-TickAll-clause-kept g c =
@@ -49,7 +49,7 @@ returns-in-TickAll-clause-kept g c =
 pub returns-in_ok-drop_packet-in-Drop-clause-done : goal.returns-in_ok-drop_packet-in-Drop-clause-done
 returns-in_ok-drop_packet-in-Drop-clause-done g c =
     told_of g.D.Disk c.args.cell.now c.drop_packet.new.self (script_database g.V.Service.database g.V.WordForms.words) _ _ c.in-Drop.is _ _
-    (λ cell stands. c.in_ok-drop_packet-in-Drop.ensures.told refl cell _ stands)
+    (λ given cell stands. c.in_ok-drop_packet-in-Drop.ensures.told refl given cell _ stands)
 
 pub returns-in_ok-drop_packet-in-Drop-clause-kept : goal.returns-in_ok-drop_packet-in-Drop-clause-kept
 returns-in_ok-drop_packet-in-Drop-clause-kept g c =
@@ -65,7 +65,7 @@ returns-in_err-drop_packet-in-Drop-clause-done g c =
 pub returns-in_ok-drop_all-in-DropAll-clause-done : goal.returns-in_ok-drop_all-in-DropAll-clause-done
 returns-in_ok-drop_all-in-DropAll-clause-done g c =
     told_of g.D.Disk c.args.cell.now c.drop_all.new.self (script_database g.V.Service.database g.V.WordForms.words) _ _ c.in-DropAll.is _ _
-    (λ cell stands. c.in_ok-drop_all-in-DropAll.ensures.told refl cell _ stands)
+    (λ given cell stands. c.in_ok-drop_all-in-DropAll.ensures.told refl given cell _ stands)
 
 pub returns-in_ok-drop_all-in-DropAll-clause-kept : goal.returns-in_ok-drop_all-in-DropAll-clause-kept
 returns-in_ok-drop_all-in-DropAll-clause-kept g c =
@@ -131,3 +131,47 @@ returns-in-Show-clause-done g c =
 pub returns-in-Show-clause-kept : goal.returns-in-Show-clause-kept
 returns-in-Show-clause-kept g c =
     kept_same g.D.Disk _ c.args.cell.now
+
+pub returns-in_ok-stop-in-Stop-clause-done : goal.returns-in_ok-stop-in-Stop-clause-done
+returns-in_ok-stop-in-Stop-clause-done g c =
+    told_of g.D.Disk c.args.cell.now c.stop.new.self (script_database g.V.Service.database g.V.WordForms.words) _ _ c.in-Stop.is _ _
+    (λ given cell stands. c.in_ok-stop-in-Stop.ensures.told refl given cell _ stands)
+
+pub returns-in_ok-stop-in-Stop-clause-kept : goal.returns-in_ok-stop-in-Stop-clause-kept
+returns-in_ok-stop-in-Stop-clause-kept g c =
+    kept_of g.D.Disk c.args.cell.now c.stop.new.self _ 0 (omega arith)
+    (λ done bound is. raised g.D.Disk bound (bound + 0) c.stop.new.self (omega arith) (c.stop.ensures.sound bound is))
+    c.stop.ensures.never_falls c.stop.ensures.same
+
+pub returns-in_err-stop-in-Stop-clause-done : goal.returns-in_err-stop-in-Stop-clause-done
+returns-in_err-stop-in-Stop-clause-done g c =
+    refused_of g.D.Disk c.args.cell.now c.stop.new.self (script_database g.V.Service.database g.V.WordForms.words) _ _ c.in-Stop.is _ c.in_err-stop-in-Stop.field-0.0 _
+    c.from_residual-in_err-stop-in-Stop.ensures.1 (c.stop.ensures.refused _ c.in_err-stop-in-Stop.was)
+
+pub returns-in_ok-crash-in-Crash-clause-done : goal.returns-in_ok-crash-in-Crash-clause-done
+returns-in_ok-crash-in-Crash-clause-done g c =
+    told_of g.D.Disk c.args.cell.now c.crash.new.self (script_database g.V.Service.database g.V.WordForms.words) _ _ c.in-Crash.is _ _
+    (λ given cell stands. c.in_ok-crash-in-Crash.ensures.told refl given cell _ stands)
+
+pub returns-in_ok-crash-in-Crash-clause-kept : goal.returns-in_ok-crash-in-Crash-clause-kept
+returns-in_ok-crash-in-Crash-clause-kept g c =
+    kept_of g.D.Disk c.args.cell.now c.crash.new.self _ 0 (omega arith)
+    (λ done bound is. raised g.D.Disk bound (bound + 0) c.crash.new.self (omega arith) (c.crash.ensures.sound bound is))
+    c.crash.ensures.never_falls c.crash.ensures.same
+
+pub returns-in_err-crash-in-Crash-clause-done : goal.returns-in_err-crash-in-Crash-clause-done
+returns-in_err-crash-in-Crash-clause-done g c =
+    refused_of g.D.Disk c.args.cell.now c.crash.new.self (script_database g.V.Service.database g.V.WordForms.words) _ _ c.in-Crash.is _ c.in_err-crash-in-Crash.field-0.0 _
+    c.from_residual-in_err-crash-in-Crash.ensures.1 (c.crash.ensures.refused _ c.in_err-crash-in-Crash.was)
+
+pub returns-in-Restart-clause-done : goal.returns-in-Restart-clause-done
+returns-in-Restart-clause-done g c =
+    done_of g.D.Disk c.args.cell.now c.restart.new.self (script_database g.V.Service.database g.V.WordForms.words) _ _ c.in-Restart.is c.restart.result _ _
+    c.restart.ensures.told (λ which is. absurd (c.restart.ensures.limit which is)) c.restart.ensures.refused c.restart.ensures.quiet
+    c.restart.ensures.short
+
+pub returns-in-Restart-clause-kept : goal.returns-in-Restart-clause-kept
+returns-in-Restart-clause-kept g c =
+    kept_of g.D.Disk c.args.cell.now c.restart.new.self c.restart.result 0 (omega arith)
+    (λ done bound is. raised g.D.Disk bound (bound + 0) c.restart.new.self (omega arith) (c.restart.ensures.sound done bound is))
+    c.restart.ensures.never_falls c.restart.ensures.same

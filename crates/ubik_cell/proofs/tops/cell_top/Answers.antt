@@ -2,6 +2,7 @@ use Rattle.std.proofs.Common.{◌≡◌, Some, refl, arith}
 use Rattle.std.proofs.lemmas.List.Elements.{All-weaker}
 use Rattle.disk_base.specs.Crash.{IsSettled}
 use Rattle.disk_base.specs.Files.{no_files}
+use Rattle.disk_base.specs.Stops.DiskStop.{Unarmed}
 use Rattle.script_promises.specs.Databases.{databases}
 use Rattle.ubik_cell.specs.declared.cells.CellKind.TheVariants as kind
 use Rattle.ubik_cell.specs.Disks.{IsFresh}
@@ -18,7 +19,7 @@ returns-then-not-is_empty-clause-headline g c =
     let disks = c.args.disks.now.items in
     of_both (λ script left before written. Headline g.D.Disk (kind.Words 1) script left before written disks disks) _ _
     (λ script before. headline c.law_scripts_are_runs.ensures c.law_words_are_calls.ensures c.law_scripts_keep_promises.ensures
-    c.law_database_is_durable.ensures g.D.Disk (kind.Words 1) script (Some script) before (Some before) disks disks
+    g.D.Disk (kind.Words 1) script (Some script) before (Some before) disks disks
     (at_once g.D.Disk databases (kind.Words 1) script (Some script) before (Some before) disks
     (All-weaker (λ d. IsFresh g.D.Disk.files g.D.Disk.may_leave g.D.Disk.stop g.D.Disk.faults d)
     (λ d. g.D.Disk.files d ≡ Some no_files) (λ d fresh. fresh.empty) disks c.requires.fresh)
@@ -28,6 +29,11 @@ pub run_script-kind-requires-clause-settled : goal.run_script-kind-requires-clau
 run_script-kind-requires-clause-settled g c =
     All-weaker (λ d. IsFresh g.D.Disk.files g.D.Disk.may_leave g.D.Disk.stop g.D.Disk.faults d)
     (λ d. IsSettled (g.D.Disk.files d) (g.D.Disk.may_leave d)) (λ d fresh. fresh.settled) c.args.disks.now.items c.requires.fresh
+
+pub run_script-kind-requires-clause-unarmed : goal.run_script-kind-requires-clause-unarmed
+run_script-kind-requires-clause-unarmed g c =
+    All-weaker (λ d. IsFresh g.D.Disk.files g.D.Disk.may_leave g.D.Disk.stop g.D.Disk.faults d)
+    (λ d. g.D.Disk.stop d ≡ Unarmed) (λ d fresh. fresh.unarmed) c.args.disks.now.items c.requires.fresh
 
 pub returns-clause-headline : goal.returns-clause-headline
 returns-clause-headline g c =
@@ -39,7 +45,7 @@ returns-clause-headline g c =
     over_both (λ script before. RanOver g.D.Disk k databases script left before after disks later)
     (λ script before. Headline g.D.Disk k script left before after disks later) _ _ c.run_script-kind.ensures.ran
     (λ script before ran. headline c.law_scripts_are_runs.ensures c.law_words_are_calls.ensures c.law_scripts_keep_promises.ensures
-    c.law_database_is_durable.ensures g.D.Disk k script left before after disks later ran)
+    g.D.Disk k script left before after disks later ran)
 
 pub returns-clause-complete : goal.returns-clause-complete
 returns-clause-complete g c = λ empty read wrote sound.

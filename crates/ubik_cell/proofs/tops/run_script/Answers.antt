@@ -1,6 +1,7 @@
 use Rattle.std.proofs.Common.{ℕ, List, [], IfSome, sym, ap, subst, ◌∙◌, drop, arith}
 use Rattle.cell_script.specs.Reader.{ReaderState}
 use Rattle.cell_runs.specs.ScriptDatabase.{Databases, script_database}
+use Rattle.cell_sites.specs.Opened.{counts_of}
 use Rattle.ubik_cell.specs.declared.cells.CellKind.TheVariants as kind
 use Rattle.ubik_cell.specs.Lines.{only, run_helds, sites_in}
 use Rattle.ubik_cell.specs.Turns.{Ran, RanOver, SoFar}
@@ -30,10 +31,11 @@ loop-kind-init g c =
     let dbs : Databases = only (script_database g.V.Service.database g.V.WordForms.words) in
     let run = c.in-Ok-new.run' in
     let spare = c.in-Ok-new.ensures.spare in
+    let given = counts_of g.D.Disk c.args.disks.now.items in
     record {
-      so_far = of_both (λ script left before written. SoFar g.D.Disk dbs script c.in-Ok.reader.ended left before written run) _ _
-          (first_so_far g.D.Disk dbs c.in-Ok.reader.ended run (ap (λ (r : ReaderState). r.ended) c.in-Ok.ensures)
-          c.in-Ok-new.ensures.at);
+      so_far = of_both (λ script left before written. SoFar g.D.Disk dbs given script c.in-Ok.reader.ended left before written run) _ _
+          (first_so_far g.D.Disk dbs given c.in-Ok.reader.ended run (ap (λ (r : ReaderState). r.ended) c.in-Ok.ensures)
+          (c.in-Ok-new.ensures.at dbs));
       sound = c.in-Ok-new.ensures.sound;
       spare = spare.0 ∙ ap (λ (n : ℕ). drop n c.args.disks.now.items) (sym spare.1);
       empty = c.in-Ok-new.ensures.taken.0;
@@ -52,10 +54,11 @@ returns-in-Some-clause-ran g c =
     let disks = c.args.disks.now.items in
     let spare = unreached g.D.Disk dbs l.run next disks c.close.new.disks.items l.invariant.sound.disks c.turn.ensures.disks
     l.invariant.spare c.turn.ensures.spare in
-    let ran = so_far_on g.D.Disk dbs l.reader.ended (g.S.Source.left l.input) (g.K.Sink.written l.out) l.run
-    (λ script before. Ran c.in-Some.kind dbs script left before after (sites_in next.cell) (run_helds g.D.Disk next)) _ _
+    let given = counts_of g.D.Disk disks in
+    let ran = so_far_on g.D.Disk dbs given l.reader.ended (g.S.Source.left l.input) (g.K.Sink.written l.out) l.run
+    (λ given script before. Ran c.in-Some.kind dbs given script left before after (sites_in next.cell) (run_helds g.D.Disk next)) _ _
     l.invariant.so_far c.in-Some.ensures.ends in
-    over_both (λ script before. Ran c.in-Some.kind dbs script left before after (sites_in next.cell) (run_helds g.D.Disk next))
+    over_both (λ script before. Ran c.in-Some.kind dbs given script left before after (sites_in next.cell) (run_helds g.D.Disk next))
     (λ script before. RanOver g.D.Disk c.in-Some.kind dbs script left before after disks c.close.new.disks.items) _ _ ran
     (λ script before is. closed g.D.Disk dbs c.in-Some.kind script left before after next disks c.close.new.disks.items
     c.close.ensures.held c.close.ensures.others spare is)
@@ -67,8 +70,8 @@ loop-kind-preserved g c =
     let next = c.turn.new.run in
     let none = c.in_default-turn.is in
     record {
-      so_far = so_far_on g.D.Disk dbs l.reader.ended (g.S.Source.left l.input) (g.K.Sink.written l.out) l.run
-          (λ script before. SoFar g.D.Disk dbs script c.turn.new.reader.ended (g.S.Source.left c.turn.new.input) before
+      so_far = so_far_on g.D.Disk dbs (counts_of g.D.Disk c.args.disks.now.items) l.reader.ended (g.S.Source.left l.input) (g.K.Sink.written l.out) l.run
+          (λ given script before. SoFar g.D.Disk dbs given script c.turn.new.reader.ended (g.S.Source.left c.turn.new.input) before
           (g.K.Sink.written c.turn.new.out) next)
           _ _ l.invariant.so_far (c.turn.ensures.goes none);
       sound = c.turn.ensures.sound none;

@@ -3,6 +3,7 @@ use Rattle.std.specs.Prelude.{vec_capacity}
 use Rattle.ubik_types.specs.declared.limits.TheConstants.{MAXSERVERS}
 use Rattle.cell_runs.specs.declared.limits.TheConstants.{MAX_LINES}
 use Rattle.cell_runs.specs.ScriptDatabase.{script_database}
+use Rattle.cell_sites.specs.Opened.{counts_of}
 use Rattle.ubik_cell.specs.Lines.{IsSoundRun, only, sites_in}
 use Rattle.ubik_cell.specs.Turns.{SoFar}
 use Rattle.ubik_cell.proofs.tops.run_script.Given as goal
@@ -10,7 +11,8 @@ use Rattle.ubik_cell.proofs.tops.run_script.Given as goal
 abbrev pub invariant-loop-kind : goal.invariant-loop-kind
 invariant-loop-kind g l = record {
   so_far : IfSome (g.S.Source.left l.fn.input) (λ script. IfSome (g.K.Sink.written l.fn.out) (λ before.
-      SoFar g.D.Disk (only (script_database g.V.Service.database g.V.WordForms.words)) script l.reader.ended
+      SoFar g.D.Disk (only (script_database g.V.Service.database g.V.WordForms.words)) (counts_of g.D.Disk l.fn.disks.items) script
+      l.reader.ended
       (g.S.Source.left l.input) before (g.K.Sink.written l.out) l.run));
   sound : IsSoundRun g.D.Disk l.run;
   spare : l.run.spare.items ≡ drop (sites_in l.run.cell) l.fn.disks.items;

@@ -5,9 +5,7 @@ use Rattle.cell_script.specs.declared.lines.Line.TheVariants as line
 use Rattle.cell_runs.specs.Script.{Cell, Choice, asked_at, first_choice}
 use Rattle.cell_runs.specs.ScriptDatabase.{script_database}
 use Rattle.cell_sites.specs.declared.faults.LineFault.TheVariants.{NoMemory}
-use Rattle.cell_sites.specs.Sound.{IsSound}
 use Rattle.ubik_cell.specs.LineRuns.{CellDone, LineDone}
-use Rattle.ubik_cell.specs.Lines.{CellIsSound, clock_bound}
 use Rattle.ubik_cell.proofs.CellLines.{cell_done, handed_on, kept_of, raised}
 use Rattle.ubik_cell.proofs.Lifting.{asked_err, asked_ok, kept_run, same_again, short_same, with_cell}
 use Rattle.ubik_cell.proofs.scripts.CellRun.ask.Goals as goal
@@ -50,12 +48,10 @@ returns-clause-done g c =
     let number : c.args.server ≡ Some c.in_ok-server.server = c.ok_or.ensures.ok_part ∙ ap result_ok c.in_ok-server.was in
     let named : g.V.WordForms.words.call_of c.args.words.now ≡ Some c.in-Some-2.call =
     ap g.V.WordForms.words.call_of (sym c.as_slice.ensures) ∙ sym c.in_ok-call.ensures ∙ c.in-Some-2.is in
-    let sound : IsSound g.D.Disk (clock_bound run.lines) c.in-Some.cell =
-    subst (CellIsSound g.D.Disk (clock_bound run.lines)) c.in-Some.is c.requires.sound.cell in
     subst (λ server. LineDone g.D.Disk db (line.Ask server c.args.words.now) (Ok tt) run
     (record run { cell = Some c.ask.new.self; asks = run.asks + 1 }) text later) (sym number)
     (asked_ok g.D.Disk db c.args.words.now c.in-Some-2.call c.in_ok-server.server named run c.in-Some.cell c.ask.new.self c.in-Some.is c.requires.sound
-    (clock_bound run.lines) text later (c.in_ok-ask.ensures.told refl) c.ask.ensures.same (c.in_ok-ask.ensures.sound refl (clock_bound run.lines) sound))
+    text later (c.in_ok-ask.ensures.told refl) c.ask.ensures.same)
 
 pub returns-clause-kept : goal.returns-clause-kept
 returns-clause-kept g c =

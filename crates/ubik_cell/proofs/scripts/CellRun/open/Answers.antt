@@ -1,4 +1,4 @@
-use Rattle.std.proofs.Common.{◌≡◌, None, length, take, Ok, refl, sym, ap, ◌∙◌, arith}
+use Rattle.std.proofs.Common.{◌≡◌, None, length, take, drop, Ok, refl, sym, ap, ◌∙◌, arith}
 use Rattle.std.specs.String.{string_bytes}
 use Rattle.cell_script.specs.declared.lines.Kind.TheVariants.{Protection}
 use Rattle.cell_script.specs.declared.lines.Line.TheVariants as line
@@ -37,7 +37,8 @@ returns-in_err-opened-in-None-clause-done g c = λ kind.
     c.from_residual-in_err-opened-in-None.result NoMemory c.from_residual-in_err-opened-in-None.ensures.1
     (opened_short g.D.Disk db c.args.servers c.args.clock kind run c.open_servers-opened.new.cell after c.replace.ensures.after none refl refl
     text later c.open_servers-opened.ensures.unwritten
-    (rest_empty g.D.Disk.files run.spare.items after.spare.items _ c.open_servers-opened.ensures.spare c.requires.sound.spare))
+    (rest_empty g.D.Disk.files run.spare.items after.spare.items _ c.open_servers-opened.ensures.spare c.requires.sound.spare)
+    c.open_servers-opened.ensures.spare)
 
 pub returns-clause-done : goal.returns-clause-done
 returns-clause-done g c = λ kind.
@@ -53,10 +54,11 @@ returns-clause-done g c = λ kind.
     let hosts : c.open_servers-opened.new.cell.hosts.items ≡ hosts_of c.args.servers = c.open_servers-opened.ensures.hosts ∙ c.in_ok-cell.ensures.hosts in
     let all : length given ≡ length c.open_servers-opened.new.cell.hosts.items = count ∙ sym (ap length hosts ∙ hosts_count c.args.servers) in
     opened_line g.D.Disk db c.args.servers c.args.clock kind run c.open_servers-opened.new.cell after c.replace.ensures.after none refl refl
-    given text later count
+    text later count
     (c.law_cell_opened.ensures db c.args.clock kind given c.open_servers-opened.new.cell text later c.requires.moment c.open_servers-opened.ensures.room all
     c.in_ok-opened-in-None.ensures.opened) hosts
     (rest_empty g.D.Disk.files run.spare.items after.spare.items _ c.open_servers-opened.ensures.spare c.requires.sound.spare)
+    (c.open_servers-opened.ensures.spare ∙ ap (λ n. drop n run.spare.items) c.in_ok-opened-in-None.ensures.all)
 
 pub returns-clause-kept : goal.returns-clause-kept
 returns-clause-kept g c =

@@ -1,11 +1,8 @@
 use Rattle.std.proofs.Common.{◌≡◌, inl, inr, ◌+◌, Ok, sym, subst, arith}
 use Rattle.std.specs.String.{string_bytes}
 use Rattle.cell_script.specs.declared.lines.Line.{Line}
-use Rattle.cell_script.specs.declared.lines.TheConstants.{MAX_TICK}
 use Rattle.cell_runs.specs.ScriptDatabase.{script_database}
-use Rattle.cell_sites.specs.Sound.{IsSound}
 use Rattle.ubik_cell.specs.LineRuns.{LineDone}
-use Rattle.ubik_cell.specs.Lines.{CellIsSound, clock_bound}
 use Rattle.ubik_cell.proofs.Lifting.{IsNoAsk, kept_run, lifted}
 use Rattle.ubik_cell.proofs.Opened.{nothing_keeps, nothing_line}
 use Rattle.ubik_cell.proofs.scripts.CellRun.run_line.Goals as goal
@@ -24,7 +21,6 @@ returns-in-Nothing-clause-kept g c =
 pub returns-in-Some : goal.returns-in-Some
 returns-in-Some g c =
     let run = c.args.self.now in
-    let bound = clock_bound run.lines in
     let no = λ (k : Line) (is : c.args.line.now ≡ k) (free : IsNoAsk k). subst IsNoAsk (sym is) free in
     let no_ask : IsNoAsk c.args.line.now = elim c.in-Tick.is [
       | inl a ↦ no _ a.2 tt
@@ -40,12 +36,10 @@ returns-in-Some g c =
       | inr (inr (inr (inr (inr (inr (inr (inr (inr (inr (inl a)))))))))) ↦ no _ a.1 tt
       | inr (inr (inr (inr (inr (inr (inr (inr (inr (inr (inr a)))))))))) ↦ no _ a.1 tt
     ] in
-    let sound : IsSound g.D.Disk bound c.in-Some.cell =
-    subst (CellIsSound g.D.Disk bound) c.in-Some.is c.requires.sound.cell in
     record {
       done = lifted g.D.Disk (script_database g.V.Service.database g.V.WordForms.words) c.args.line.now run c.in-Some.cell c.run_in_cell.new.cell
-          (bound + MAX_TICK) c.run_in_cell.result (string_bytes c.args.text.now) (string_bytes c.run_in_cell.new.text) no_ask c.in-Some.is c.requires.sound
-          c.run_in_cell.ensures.done (λ done. c.run_in_cell.ensures.kept.sound done bound sound) c.run_in_cell.ensures.kept;
+          c.run_in_cell.result (string_bytes c.args.text.now) (string_bytes c.run_in_cell.new.text) no_ask c.in-Some.is c.requires.sound
+          c.run_in_cell.ensures.done c.run_in_cell.ensures.kept;
       kept = kept_run g.D.Disk c.run_in_cell.result run c.in-Some.cell c.run_in_cell.new.cell run.asks c.in-Some.is c.requires.sound c.requires.room
           (omega (arith, c.requires.sound.asks)) c.run_in_cell.ensures.kept;
     }
