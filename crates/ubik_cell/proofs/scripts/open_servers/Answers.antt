@@ -1,4 +1,4 @@
-use Rattle.std.proofs.Common.{◌≡◌, ℕ, ◌+◌, ◌<◌, length, take, slice_index_or, sym, ap, subst, ◌∙◌, arith}
+use Rattle.std.proofs.Common.{◌≡◌, ℕ, ◌+◌, ◌<◌, length, take, slice_index_or, refl, sym, ap, subst, ◌∙◌, arith, rules}
 use Rattle.std.specs.String.{string_bytes}
 use Rattle.cell_runs.specs.ScriptDatabase.{script_database}
 use Rattle.cell_sites.specs.Opened.{ArePartOpened, counts_of}
@@ -7,8 +7,16 @@ use Rattle.ubik_cell.specs.Lines.{AreUnwritten}
 use Rattle.ubik_cell.proofs.Opening.{added_unwritten, counts-push, next_left, next_taken, none_unwritten}
 use Rattle.ubik_cell.proofs.scripts.open_servers.Goals as goal
 
-pub loop-init-clause-unwritten : goal.loop-init-clause-unwritten
-loop-init-clause-unwritten g c = none_unwritten g.D.Disk c.args.cell.now c.requires.none
+pub loop-init : goal.loop-init
+loop-init g c = record {
+  opened = c.requires.opened;
+  count = ap length c.requires.none;
+  left = search rules;
+  number = omega arith;
+  unwritten = none_unwritten g.D.Disk c.args.cell.now c.requires.none;
+  room = c.requires.room;
+  hosts = refl;
+}
 
 pub returns-in_err-open_next-clause-unwritten : goal.returns-in_err-open_next-clause-unwritten
 returns-in_err-open_next-clause-unwritten g c =
