@@ -18,7 +18,7 @@ asks_then m n most (Some x) (Some y) (Some z) first second fits =
 -- the image was not read
 pub reads_none : {I : Type 0} (g : Ghosts I) (most : ℕ) (image : I) (failed : Type 0) → ¬ failed → ReadsAtMost g most image image failed
 reads_none g most image failed not = record {
-  reads = record { held = refl; size = refl; never_falls = omega arith; cause = λ h. absurd (not h) };
+  reads = record { held = refl; size = refl; came = g.comes_same image; never_falls = omega arith; cause = λ h. absurd (not h) };
   asked = asks_none most (g.asked image);
 }
 
@@ -27,7 +27,7 @@ pub reads_within : {I : Type 0} (g : Ghosts I) (m most : ℕ) (old new : I) (fai
     → m ≤ most → (now → failed)
     → ReadsAtMost g most old new now
 reads_within g m most old new failed now r fits so = record {
-  reads = record { held = r.reads.held; size = r.reads.size; never_falls = r.reads.never_falls; cause = λ h. r.reads.cause (so h) };
+  reads = record { held = r.reads.held; size = r.reads.size; came = r.reads.came; never_falls = r.reads.never_falls; cause = λ h. r.reads.cause (so h) };
   asked = asks_then m 0 most (g.asked old) (g.asked new) (g.asked new) r.asked (asks_none 0 (g.asked new)) (omega arith);
 }
 
@@ -38,6 +38,7 @@ reads_then g m n most a b c first failed r s fits = record {
   reads = record {
     held = s.reads.held ∙ r.reads.held;
     size = s.reads.size ∙ r.reads.size;
+    came = g.comes_on a b c r.reads.came s.reads.came;
     never_falls = omega (arith, r.reads.never_falls, s.reads.never_falls);
     cause = λ h. omega (arith, r.reads.never_falls, s.reads.cause h);
   };

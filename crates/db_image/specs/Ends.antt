@@ -1,5 +1,7 @@
 -- How a call on a draft ends.
 use Rattle.std.specs.Prelude.{ℕ, ◌≡◌, ◌≤◌, List, Option, Some, length}
+use Rattle.db_image.specs.declared.faults.RecordFault.{RecordFault}
+use Rattle.db_image.specs.declared.faults.RecordFault.TheVariants as fault
 use Rattle.db_image.specs.declared.draft_services.CallEnd.{CallEnd}
 use Rattle.db_image.specs.declared.draft_services.CallEnd.TheVariants as end
 use Rattle.db_image.specs.declared.services.CallReply.{CallReply}
@@ -12,6 +14,12 @@ end_of (reply.Done fields) = end.Done fields
 end_of (reply.Rule number) = end.Rule number
 end_of reply.Malformed = end.Malformed
 end_of (reply.BadRecord at) = end.BadRecord at
+
+-- the end that a fault makes
+abbrev pub end_by : RecordFault → CallEnd
+end_by fault.DiskFault = end.DiskFault
+end_by (fault.BadRecord at) = end.BadRecord at
+end_by fault.NoMemory = end.NoMemory
 
 -- A call ended by this outcome, with these bytes of the draft after it. A fault of what holds the image and want of memory say
 -- nothing of the draft, which is then to be dropped.

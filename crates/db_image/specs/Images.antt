@@ -9,6 +9,7 @@ use Rattle.db_image.specs.Asked.{AsksAtMost}
 pub record OnlyReads {I : Type 0} (g : Ghosts I) (old new : I) (failed : Type 0) : Type 0 where
   pub held : g.held new ≡ g.held old
   pub size : g.size new ≡ g.size old
+  pub came : g.came old new
   pub never_falls : g.faults old ≤ g.faults new
   pub cause : failed → g.faults old < g.faults new
 

@@ -1,5 +1,5 @@
 //! A database as a server sees it, which reads of an image what it needs.
-ghost use Rattle.std.specs.Prelude.{◌≡◌, ◌≤◌, ℕ, List, [], Option, IfSome};
+ghost use Rattle.std.specs.Prelude.{◌≡◌, ◌≤◌, ℕ, List, [], Option, IfSome, length};
 ghost use Rattle.db_image.specs.Ends.{EndsBy, IsShort};
 ghost use Rattle.db_image.specs.Images.{OnlyReads};
 ghost use Rattle.db_image.specs.Standing.{Standing, IsMeantOver};
@@ -26,6 +26,11 @@ pub enum CallEnd {
 }
 
 impl From<RecordFault> for CallEnd {
+    ghost use Rattle.std.specs.Prelude.{◌≡◌};
+    ghost use Rattle.db_image.specs.Ends.{end_by};
+
+    ghost from_gives = { λ fault ended. ended ≡ end_by fault };
+
     fn from(fault: RecordFault) -> Self {
         match fault {
             RecordFault::DiskFault => CallEnd::DiskFault,
@@ -44,13 +49,15 @@ pub trait DraftService {
     fn writes(call: &[u8]) -> Option<bool>
         ensures { result ≡ standing.database.writes call.now };
 
-    /// Makes a call at a moment on a draft of at most 16,777,216 bytes. After `DiskFault` and `NoMemory` the draft may hold a part
-    /// of the call, and is to be dropped.
+    /// Makes a call at a moment on a draft of at most 16,777,216 bytes. Over an image that stands for a state it ends as the database
+    /// has it; over another one it answers anything, and `BadRecord` only there. After `DiskFault` and `NoMemory` the draft may hold
+    /// a part of the call, and is to be dropped.
     fn call<I: ImageRead>(alloc: Global, image: &mut Draft<I>, now: u32, call: &[u8]) -> CallEnd
         requires { image.old.len ≤ 16777216 }
         ensures meant { IfSome image.old.bytes (λ bytes. (s : standing.State) → standing.StandsFor bytes s
             → EndsBy (standing.database.call bytes now call.now) result image.new.bytes) }
         ensures short { IsShort result }
+        ensures longer { image.old.len ≤ image.new.len }
         ensures layout { image.new.layout ≡ image.old.layout }
         ensures reads { OnlyReads I.ImageRead image.old.image image.new.image (result ≡ CallEnd.DiskFault) };
 
@@ -68,4 +75,8 @@ pub trait DraftService {
     /// Over an image that stands for a state, the database does what the call means in it.
     ghost is_meant: { (image : List ℕ) (s : standing.State) (now : ℕ) (call : List ℕ) → standing.StandsFor image s
         → IsMeantOver standing image s (standing.database.call image now call) (standing.meaning.call s now call) };
+
+    /// No call leaves a shorter image. So the changes of a call lead to the image after it.
+    ghost never_shrinks: { (image : List ℕ) (now : ℕ) (call : List ℕ)
+        → length image ≤ length (standing.database.call image now call).image };
 }

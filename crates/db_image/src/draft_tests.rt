@@ -40,7 +40,8 @@ fn a_draft_gives_its_changes(rt: HostRuntime) -> Result<(), Fail> {
     // The same bytes again make no change; a new last block is put, and the block in which the image ended.
     draft.put(4, b"ef")?;
     draft.put(8, b"ijk")?;
-    let changes = draft.finish()?;
+    let (_, changes) = draft.finish();
+    let changes = changes?;
     match changes.as_slice() {
         [
             Change::Put { at: 7, bytes: end },

@@ -13,7 +13,7 @@ use crate::{ImageRead, Layout, ReadEnd, RecordFault};
 use std::alloc::Global;
 use std::collections::BTreeMap;
 use std::marker::Model;
-use ubik_types::Changes;
+use ubik_types::{Changes, NoMemory};
 
 /// An image with changed blocks. It reads the image beneath where no block was changed, and keeps only the blocks that were.
 #[derive(Drop)]
@@ -71,14 +71,16 @@ impl<I: ImageRead> Draft<I> {
         self.over.put(&mut self.image, at, bytes)
     }
 
-    /// One put of each whole block that is new or in which a byte is another one than beneath, ascending. The image is not read.
-    pub fn finish(self) -> Result<Changes, RecordFault>
-        ensures changes { IfOk result (λ changes. IfSome (I.held self.image) (λ old. IfSome self.bytes (λ new.
+    /// The image beneath, and one put of each whole block that is new or in which a byte is another one than beneath, ascending. The image
+    /// is not read.
+    pub fn finish(self) -> (I, Result<Changes, NoMemory>)
+        ensures image { result.0 ≡ self.image }
+        ensures changes { IfOk result.1 (λ changes. IfSome (I.held self.image) (λ old. IfSome self.bytes (λ new.
             changes ≡ changes_between self.layout.head self.layout.block old new))) }
-        ensures fault { IfErr result (λ fault. fault ≡ RecordFault.NoMemory) }
     {
-        let changes = self.over.changes(self.image.len())?;
-        Ok(changes)
+        let changes = self.over.changes(self.image.len());
+        let Self { image, over: _ } = self;
+        (image, changes)
     }
 }
 
@@ -90,6 +92,12 @@ impl<I: ImageRead> ImageRead for Draft<I> {
     ghost faults = { λ d. I.faults d.image };
 
     ghost asked = { λ d. I.asked d.image };
+
+    ghost came = { λ a b. I.came a.image b.image };
+
+    ghost comes_same = { λ d. I.comes_same d.image };
+
+    ghost comes_on = { λ a b c first second. I.comes_on a.image b.image c.image first second };
 
     fn len(&self) -> u32 {
         self.over.len

@@ -46,6 +46,15 @@ pub trait ImageRead: Drop {
     /// How many bytes its reads have asked for, where it tells it.
     ghost asked: { Self → Option ℕ };
 
+    /// It came from another one by reads alone: what holds the image is as reads leave it.
+    ghost came: { Self → Self → Type 0 };
+
+    /// No read is none.
+    ghost comes_same: { (image : Self) → came image image };
+
+    /// Reads after reads are reads.
+    ghost comes_on: { (a b c : Self) → came a b → came b c → came a c };
+
     /// Its length, in bytes.
     fn len(&self) -> u32
         ensures size { result ≡ size self.now }
@@ -58,6 +67,7 @@ pub trait ImageRead: Drop {
         ensures held { held self.new ≡ held self.old }
         ensures size { size self.new ≡ size self.old }
         ensures asked { AsksAtMost (length buf.old) (asked self.old) (asked self.new) }
+        ensures came { came self.old self.new }
         ensures never_falls { faults self.old ≤ faults self.new }
         ensures fault { result ≡ ReadEnd.DiskFault → faults self.old < faults self.new };
 }
@@ -97,6 +107,12 @@ impl ImageRead for VecImage {
     ghost faults = { λ image. 0 };
 
     ghost asked = { λ image. told_of (asked_of_image image) };
+
+    ghost came = { λ _ _. Unit {0} };
+
+    ghost comes_same = { λ _. tt };
+
+    ghost comes_on = { λ _ _ _ _ _. tt };
 
     fn len(&self) -> u32 {
         self.bytes.len() as u32

@@ -18,7 +18,7 @@ pub use drafts::Draft;
 pub use faults::RecordFault;
 pub use images::{ImageRead, ReadEnd, VecImage};
 pub use services::{CallReply, Layout, Service};
-pub use words::WordForms;
+pub use words::{DraftWords, WordForms};
 
 #[cfg(test)]
 mod draft_tests;

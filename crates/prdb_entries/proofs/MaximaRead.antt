@@ -1,11 +1,16 @@
 -- The maxima as they are read.
-use Rattle.std.proofs.Common.{◌≡◌, ℕ, ℤ, pos, negsuc, ◌<◌, List, Option, Some, None, IfSome, length, take, drop, refl, sym, ap, ◌∙◌, arith}
+use Rattle.std.proofs.Common.{◌≡◌, ℕ, ℤ, pos, negsuc, ◌<◌, List, Option, Some, None, IfSome, length, take, drop, refl, sym, ap, subst, ◌∙◌, arith}
 use Rattle.std.specs.Int.{w32, from_be_bytes, cast_signed}
 use Rattle.std.proofs.lemmas.List.{take-take, drop-take, drop-drop}
 use Rattle.prdb_entries.specs.Bytes.{words}
 use Rattle.prdb_entries.specs.Layout.{layout, head_of}
 use Rattle.prdb_entries.specs.Records.{Holds, maxima_in, signed_at, whole}
-use Rattle.prdb_entries.specs.Registry.{Registry}
+use Rattle.db_image.specs.Draft.{Drafted, StaysAsItWas}
+use Rattle.db_image.specs.Images.{ReadsAtMost}
+use Rattle.db_image.specs.declared.faults.RecordFault.TheVariants.{BadRecord}
+use Rattle.db_image.specs.declared.images.ImageRead.{Ghosts}
+use Rattle.prdb_entries.specs.RecordEnds.{HasCause, OnlyLooks}
+use Rattle.prdb_entries.specs.Registry.{Registry, AreMaxima}
 use Rattle.prdb_entries.specs.State.{initial_state}
 use Rattle.prdb_entries.proofs.Held.{maxima_of}
 use Rattle.prdb_entries.proofs.LaidOut.{whole_same, whole_empty}
@@ -34,3 +39,24 @@ maxima_read (Some image) len buf told more is =
     ap (λ (w : List ℕ). (cast_signed w32 (from_be_bytes w32 w), signed_at buf 4)) user
     ∙ ap (λ (w : List ℕ). (signed_at image 8, cast_signed w32 (from_be_bytes w32 w))) group
     ∙ ap maxima_in (sym (whole_same image (omega arith)))
+
+-- maxima out of range are of no registry
+pub maxima_bad : (bytes : Option (List ℕ)) (at : ℕ) (found : ℤ × ℤ) → IfSome bytes (λ image. found ≡ maxima_in (whole image))
+    → (AreMaxima found.0 found.1 → ⊥) → HasCause bytes Holds (BadRecord at)
+maxima_bad None at found is bad = tt
+maxima_bad (Some image) at found is bad = λ r holds.
+    bad (subst (λ (m : ℤ × ℤ). AreMaxima m.0 m.1) (sym (is ∙ maxima_of (whole image) r holds.laid holds.valid.maxima)) holds.valid.maxima)
+
+-- a read of a draft that is no failure of the call only looks
+pub looks_read : {I : Type 0} (g : Ghosts I) (old new : Drafted I) (most : ℕ) (first failed : Type 0) → StaysAsItWas old new
+    → ReadsAtMost g most old.image new.image first → (failed → ⊥) → OnlyLooks g old new failed
+looks_read g old new most first failed same reads never = record {
+  same = same;
+  reads = record {
+    held = reads.reads.held;
+    size = reads.reads.size;
+    came = reads.reads.came;
+    never_falls = reads.reads.never_falls;
+    cause = λ f. absurd (never f);
+  };
+}

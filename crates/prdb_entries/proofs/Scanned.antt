@@ -17,7 +17,7 @@ use Rattle.prdb_entries.proofs.LaidOut.{count_is}
 pub looks_none : {I : Type 0} (g : Ghosts I) (d : Drafted I) (failed : Type 0) → ¬ failed → OnlyLooks g d d failed
 looks_none g d failed not = record {
   same = record { bytes = refl; len = refl; layout = refl };
-  reads = record { held = refl; size = refl; never_falls = omega arith; cause = λ h. absurd (not h) };
+  reads = record { held = refl; size = refl; came = g.comes_same d.image; never_falls = omega arith; cause = λ h. absurd (not h) };
 }
 
 pub looks_then : {I : Type 0} (g : Ghosts I) (a b c : Drafted I) (first failed : Type 0) → OnlyLooks g a b first → OnlyLooks g b c failed
@@ -27,6 +27,7 @@ looks_then g a b c first failed r s = record {
   reads = record {
     held = s.reads.held ∙ r.reads.held;
     size = s.reads.size ∙ r.reads.size;
+    came = g.comes_on a.image b.image c.image r.reads.came s.reads.came;
     never_falls = omega (arith, r.reads.never_falls, s.reads.never_falls);
     cause = λ h. omega (arith, r.reads.never_falls, s.reads.cause h);
   };
@@ -36,7 +37,7 @@ pub looks_so : {I : Type 0} (g : Ghosts I) (a b : Drafted I) (first failed : Typ
     → OnlyLooks g a b failed
 looks_so g a b first failed r so = record {
   same = r.same;
-  reads = record { held = r.reads.held; size = r.reads.size; never_falls = r.reads.never_falls; cause = λ h. r.reads.cause (so h) };
+  reads = record { held = r.reads.held; size = r.reads.size; came = r.reads.came; never_falls = r.reads.never_falls; cause = λ h. r.reads.cause (so h) };
 }
 
 pub drafts_after : {I : Type 0} (g : Ghosts I) (a b c : Drafted I) (first failed : Type 0) → OnlyLooks g a b first → OnlyDrafts g b c failed
@@ -46,6 +47,20 @@ drafts_after g a b c first failed r s = record {
   reads = record {
     held = s.reads.held ∙ r.reads.held;
     size = s.reads.size ∙ r.reads.size;
+    came = g.comes_on a.image b.image c.image r.reads.came s.reads.came;
+    never_falls = omega (arith, r.reads.never_falls, s.reads.never_falls);
+    cause = λ h. omega (arith, r.reads.never_falls, s.reads.cause h);
+  };
+}
+
+pub drafts_then : {I : Type 0} (g : Ghosts I) (a b c : Drafted I) (first failed : Type 0) → OnlyDrafts g a b first → OnlyDrafts g b c failed
+    → OnlyDrafts g a c failed
+drafts_then g a b c first failed r s = record {
+  layout = s.layout ∙ r.layout;
+  reads = record {
+    held = s.reads.held ∙ r.reads.held;
+    size = s.reads.size ∙ r.reads.size;
+    came = g.comes_on a.image b.image c.image r.reads.came s.reads.came;
     never_falls = omega (arith, r.reads.never_falls, s.reads.never_falls);
     cause = λ h. omega (arith, r.reads.never_falls, s.reads.cause h);
   };

@@ -22,15 +22,16 @@ const FORMAT: u32 = 1;
 /// The least group id of the first entries.
 pub const MAX_GROUP: i32 = -205;
 
-const USER_FLAGS: u32 = 131_072;
+/// What a user begins with (own).
+pub const USER_FLAGS: u32 = 131_072;
 
 const GROUP_FLAGS: u32 = 131_584;
 
 /// The id of `system:administrators`, which owns what has no other owner.
-const ADMINISTRATORS: i32 = -204;
+pub const ADMINISTRATORS: i32 = -204;
 
 /// How many groups a user may still make at first.
-const USER_QUOTA: i32 = 20;
+pub const USER_QUOTA: i32 = 20;
 
 /// An entry.
 #[derive(Clone, Copy)]

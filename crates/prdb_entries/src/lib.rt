@@ -21,8 +21,9 @@ pub use laws::{
     law_empty_is_initial, law_image_tells_its_registry, law_images_never_shrink,
     law_words_name_a_call,
 };
+pub use names::is_user_name;
 pub use records::{
-    PrEntry, find_id, find_name, insert, maxima, next_id, remove, replace, set_maxima,
+    PrEntry, draft_over, find_id, find_name, insert, maxima, next_id, remove, replace, set_maxima,
 };
 pub use service::PrService;
 pub use words::{call_words, is_unbuilt, reply_words};

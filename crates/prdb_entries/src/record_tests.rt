@@ -86,7 +86,8 @@ fn the_empty_image_has_the_fixed_entries(rt: HostRuntime) -> Result<(), Fail> {
     }
     assert!(rt; draft.len() == 0);
     assert_eq!(rt; maxima(rt.alloc(), &mut draft)?, (0, -205));
-    assert_eq!(rt; draft.finish()?.as_slice().len(), 0);
+    let (_, changes) = draft.finish();
+    assert_eq!(rt; changes?.as_slice().len(), 0);
     Ok(())
 }
 
@@ -123,7 +124,8 @@ fn users_come_and_go(rt: HostRuntime) -> Result<(), Fail> {
     assert!(rt; draft.len() < 10_000);
     insert(rt.alloc(), &mut draft, &user(&rt, rt.alloc(), 3, b"brown")?)?;
     // Nothing but that block differs.
-    match draft.finish()?.as_slice() {
+    let (_, changes) = draft.finish();
+    match changes?.as_slice() {
         [Change::Put { at: 3456, bytes }] => assert_eq!(rt; bytes.as_slice().len(), 192),
         _ => panic!(rt; "other changes"),
     }

@@ -1,6 +1,6 @@
 //! The records of the protection database over a draft: its entries, found by a scan of the blocks, and the two maxima. They say
 //! nothing of pairs: an entry comes without any, and keeps those that it has.
-ghost use Rattle.std.specs.Prelude.{◌≡◌, ◌≢◌, ◌+◌, ◌++◌, ◌<◌, ◌≤◌, ◌^◌, ◌⊎◌, ℕ, IfSome, IfOk, IfErr, OnOk, OnErr, IsErrOf, length, max};
+ghost use Rattle.std.specs.Prelude.{◌≡◌, ◌≢◌, ◌+◌, ◌++◌, ◌<◌, ◌≤◌, ◌≤ℤ◌, ◌^◌, ◌⊎◌, ◌↔◌, ℕ, pos, unsigned_abs, IsTrue, IfSome, IfOk, IfErr, OnOk, OnErr, IsErrOf, length, max};
 ghost use Rattle.std.specs.Option.{option_map};
 ghost use Rattle.ubik_types.specs.Image.{changed};
 ghost use Rattle.ubik_types.specs.declared.images.Change.TheVariants.{Put};
@@ -8,14 +8,18 @@ ghost use Rattle.db_image.specs.Draft.{StaysAsItWas};
 ghost use Rattle.db_image.specs.Images.{IsOfImage};
 ghost use Rattle.prdb_entries.specs.Blocks.{block_count};
 ghost use Rattle.prdb_entries.specs.Bytes.{bits, word};
+ghost use Rattle.prdb_entries.specs.Meaning.{new_user};
 ghost use Rattle.prdb_entries.specs.RecordEnds.{Becomes, HasCause, HoldsTheSame, Makes, OnlyDrafts, OnlyLooks, seen};
 ghost use Rattle.prdb_entries.specs.Records.{Holds, IsLaidOut, after_insert, after_remove, after_replace, after_set_maxima, block_place, field_numbers, maxima_in, with_count, with_block, with_new_block, with_fields, whole};
 ghost use Rattle.prdb_entries.specs.Registry.{Registry, AreMaxima, IsRecord, IsNamed, IsNext, MayBeAdded, MayReplace, MayBeRemoved, with_entry, without_entry, with_maxima};
 
 use crate::blocks::{
-    BLOCK_COUNT_AT, BLOCK_LEN, CHAINS_AT, FIRST_LEN, MAX_USER_AT, NAME_AT, PAIR_COUNT_AT,
+    ANONYMOUS, BLOCK_COUNT_AT, BLOCK_LEN, CHAINS_AT, FIRST_LEN, HEAD_LEN, MAX_USER_AT, NAME_AT,
+    PAIR_COUNT_AT,
 };
-use crate::entries::{ENTRY, MAX_GROUP, initial_image, push_name, push_words};
+use crate::entries::{
+    ADMINISTRATORS, ENTRY, MAX_GROUP, USER_FLAGS, USER_QUOTA, initial_image, push_name, push_words,
+};
 use crate::scans::{Wanted, block_count, block_place, entry_in, find_block, find_next, signed_at};
 use db_image::{Draft, ImageRead, RecordFault};
 use std::alloc::{AllocError, Global};
@@ -32,6 +36,34 @@ pub struct PrEntry {
     /// The id of the fixed entry for which it was made.
     pub creator: i32,
     pub quota: i32,
+}
+
+impl PrEntry {
+    /// A user as a call makes it for who is not signed in, without a given owner (ptserver).
+    pub fn new_user(name: Bytes, id: i32) -> PrEntry
+        requires { pos 0 ≤ℤ id }
+        ensures { seen result ≡ new_user name (unsigned_abs id) }
+    {
+        PrEntry {
+            name,
+            flags: USER_FLAGS,
+            id,
+            owner: ADMINISTRATORS,
+            creator: ANONYMOUS,
+            quota: USER_QUOTA,
+        }
+    }
+}
+
+/// An image as a draft with the blocks of this database.
+pub fn draft_over<I: ImageRead>(alloc: Global, image: I) -> Draft<I>
+    ensures image { result.image ≡ image }
+    ensures bytes { result.bytes ≡ I.held image }
+    ensures len { result.len ≡ I.size image }
+    ensures head { result.layout.head ≡ HEAD_LEN }
+    ensures block { result.layout.block ≡ BLOCK_LEN }
+{
+    Draft::over(alloc, image, HEAD_LEN as u32, BLOCK_LEN as u32)
 }
 
 // ---- what is found
@@ -90,12 +122,20 @@ pub fn next_id<I: ImageRead>(
     }
 }
 
-/// The maximum user id and the maximum group id.
+/// Whether these are maxima that a registry may have.
+fn are_maxima(user: i32, group: i32) -> bool
+    ensures { IsTrue result ↔ AreMaxima user group }
+{
+    user >= 0 && group > i32::MIN && group < 0
+}
+
+/// The maximum user id and the maximum group id. A bad record stands at the first of them where one is out of range.
 pub fn maxima<I: ImageRead>(_alloc: Global, d: &mut Draft<I>) -> Result<(i32, i32), RecordFault>
     requires { d.old.len < 2 ^ 31 }
     ensures found { IfOk result (λ found. IfSome d.old.bytes
         (λ image. (r : Registry) → Holds image r → found ≡ (r.max_user, r.max_group))) }
     ensures exact { IfOk result (λ found. IfSome d.old.bytes (λ image. found ≡ maxima_in (whole image))) }
+    ensures range { IfOk result (λ found. AreMaxima found.0 found.1) }
     ensures fault { IfErr result (HasCause d.old.bytes Holds) }
     ensures frame { OnlyLooks I.ImageRead d.old d.new (IsErrOf result RecordFault.DiskFault) }
 {
@@ -105,7 +145,14 @@ pub fn maxima<I: ImageRead>(_alloc: Global, d: &mut Draft<I>) -> Result<(i32, i3
     block_count(d.len())?;
     let mut words = [0; 2 * WORD_LEN];
     d.read(MAX_USER_AT as u32, &mut words).done()?;
-    Ok((signed_at(&words, 0), signed_at(&words, WORD_LEN)))
+    let user = signed_at(&words, 0);
+    let group = signed_at(&words, WORD_LEN);
+    if !are_maxima(user, group) {
+        return Err(RecordFault::BadRecord {
+            at: MAX_USER_AT as u32,
+        });
+    }
+    Ok((user, group))
 }
 
 // ---- what is changed
@@ -116,6 +163,7 @@ fn make_whole<I: ImageRead>(alloc: Global, d: &mut Draft<I>) -> Result<(), Recor
     ensures bytes { OnOk result (Becomes whole d.old d.new) }
     ensures empty { OnOk result (d.old.len ≡ 0 → d.new.len ≡ FIRST_LEN) }
     ensures stays { OnOk result (0 < d.old.len → d.new.len ≡ d.old.len) }
+    ensures longer { d.old.len ≤ d.new.len }
     ensures same { OnErr result (StaysAsItWas d.old d.new) }
     ensures fault { IfErr result IsOfImage }
     ensures frame { OnlyDrafts I.ImageRead d.old d.new (IsErrOf result RecordFault.DiskFault) }
@@ -137,6 +185,7 @@ fn put_whole<I: ImageRead>(
     requires within { at + length bytes.now ≤ max d.old.len FIRST_LEN }
     ensures bytes { OnOk result (Becomes (λ image. changed (whole image) (Put at bytes.now)) d.old d.new) }
     ensures len { OnOk result (d.new.len ≤ max d.old.len FIRST_LEN) }
+    ensures longer { d.old.len ≤ d.new.len }
     ensures left { OnErr result (HoldsTheSame d.old d.new) }
     ensures fault { IfErr result IsOfImage }
     ensures frame { OnlyDrafts I.ImageRead d.old d.new (IsErrOf result RecordFault.DiskFault) }
@@ -184,6 +233,7 @@ fn add_block<I: ImageRead>(d: &mut Draft<I>, block: &[u8]) -> Result<(), RecordF
     ensures left { OnErr result ((d.new.bytes ≡ d.old.bytes)
         ⊎ Becomes (λ image. with_block (block_count image) block.now image) d.old d.new) }
     ensures len { OnOk result (d.new.len ≡ d.old.len + BLOCK_LEN) }
+    ensures longer { d.old.len ≤ d.new.len }
     ensures fault { IfErr result (HasCause d.old.bytes IsLaidOut) }
     ensures frame { OnlyDrafts I.ImageRead d.old d.new (IsErrOf result RecordFault.DiskFault) }
 {
@@ -199,6 +249,7 @@ pub fn insert<I: ImageRead>(alloc: Global, d: &mut Draft<I>, e: &PrEntry) -> Res
     ensures holds { OnOk result (Makes (MayBeAdded (seen e.now)) (with_entry (seen e.now)) d.old d.new) }
     ensures bytes { OnOk result (Becomes (after_insert (seen e.now)) d.old d.new) }
     ensures len { OnOk result (d.new.len ≤ max d.old.len FIRST_LEN + BLOCK_LEN) }
+    ensures longer { d.old.len ≤ d.new.len }
     ensures left { OnErr result (HoldsTheSame d.old d.new ⊎ Becomes (λ image. with_new_block (seen e.now) (whole image)) d.old d.new) }
     ensures fault { IfErr result (HasCause d.old.bytes Holds) }
     ensures frame { OnlyDrafts I.ImageRead d.old d.new (IsErrOf result RecordFault.DiskFault) }
@@ -224,6 +275,7 @@ pub fn replace<I: ImageRead>(
     ensures holds { OnOk result (Makes (MayReplace id (seen e.now)) (with_entry (seen e.now)) d.old d.new) }
     ensures bytes { OnOk result (Becomes (after_replace id (seen e.now)) d.old d.new) }
     ensures len { OnOk result (d.new.len ≤ max d.old.len FIRST_LEN) }
+    ensures longer { d.old.len ≤ d.new.len }
     ensures left { OnErr result (HoldsTheSame d.old d.new) }
     ensures fault { IfErr result (HasCause d.old.bytes (λ image r. Holds image r × MayReplace id (seen e.now) r)) }
     ensures frame { OnlyDrafts I.ImageRead d.old d.new (IsErrOf result RecordFault.DiskFault) }
@@ -244,6 +296,7 @@ pub fn remove<I: ImageRead>(alloc: Global, d: &mut Draft<I>, id: i32) -> Result<
     ensures holds { OnOk result (Makes (MayBeRemoved id) (without_entry id) d.old d.new) }
     ensures bytes { OnOk result (Becomes (after_remove id) d.old d.new) }
     ensures len { OnOk result (d.new.len ≤ max d.old.len FIRST_LEN) }
+    ensures longer { d.old.len ≤ d.new.len }
     ensures left { OnErr result (HoldsTheSame d.old d.new) }
     ensures fault { IfErr result (HasCause d.old.bytes (λ image r. Holds image r × MayBeRemoved id r)) }
     ensures frame { OnlyDrafts I.ImageRead d.old d.new (IsErrOf result RecordFault.DiskFault) }
@@ -276,6 +329,7 @@ pub fn set_maxima<I: ImageRead>(
     ensures holds { OnOk result (Makes (λ r. Unit {0}) (with_maxima user group) d.old d.new) }
     ensures bytes { OnOk result (Becomes (after_set_maxima user group) d.old d.new) }
     ensures len { OnOk result (d.new.len ≤ max d.old.len FIRST_LEN) }
+    ensures longer { d.old.len ≤ d.new.len }
     ensures left { OnErr result (HoldsTheSame d.old d.new) }
     ensures fault { IfErr result (HasCause d.old.bytes Holds) }
     ensures frame { OnlyDrafts I.ImageRead d.old d.new (IsErrOf result RecordFault.DiskFault) }

@@ -5,6 +5,7 @@ use Rattle.prdb_entries.specs.Records.{whole}
 use Rattle.prdb_entries.specs.RecordEnds.{seen}
 use Rattle.prdb_entries.proofs.Becoming.{inserted_ok, inserted_last_ok, inserted_left_err, insert_makes_ok, fault_of_whole_err}
 use Rattle.prdb_entries.proofs.EntryFields.{length-with_fields}
+use Rattle.prdb_entries.proofs.Scanned.{drafts_after, drafts_then}
 use Rattle.prdb_entries.proofs.records.insert.Goals as goal
 
 pub put_whole-requires-clause-within : goal.put_whole-requires-clause-within
@@ -59,3 +60,8 @@ pub returns-clause-fault : goal.returns-clause-fault
 returns-clause-fault g c =
     fault_of_whole_err c.add_block.result c.args.d.now.bytes c.make_whole.new.d.bytes
     (c.in_ok-make_whole.ensures.bytes ∙ ap (option_map whole) c.find_block.ensures.frame.same.bytes) c.add_block.ensures.fault
+
+pub returns-clause-frame : goal.returns-clause-frame
+returns-clause-frame g c =
+    drafts_after g.I.ImageRead c.args.d.now c.find_block.new.d c.add_block.new.d _ _ c.find_block.ensures.frame
+    (drafts_then g.I.ImageRead c.find_block.new.d c.make_whole.new.d c.add_block.new.d _ _ c.in_ok-make_whole.ensures.frame c.add_block.ensures.frame)
