@@ -1,9 +1,11 @@
 pub mod AnswerLaws
 pub mod Again
+pub mod BuiltKinds
+pub mod Done
 pub mod ItemsTaken
 pub mod Loop
-pub mod Named
 pub mod Taken
 pub mod WordLoop
 pub mod Skipped
 pub mod Steps
+pub mod NewUsers

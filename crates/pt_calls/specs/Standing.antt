@@ -1,7 +1,9 @@
 -- The protection database over images (layout of format 1).
-use Rattle.std.specs.Prelude.{ℕ, ℤ, pos, ◌≡◌, List, Some}
+use Rattle.std.specs.Prelude.{ℕ, ℤ, pos, ◌≡◌, List, Option, Some}
 use Rattle.std.specs.Option.{option_map}
 use Rattle.db_image.specs.Database.{Database}
+use Rattle.db_image.specs.Ends.{end_of}
+use Rattle.db_image.specs.declared.draft_services.CallEnd.{CallEnd}
 use Rattle.db_image.specs.Standing.{Standing}
 use Rattle.prdb_entries.specs.Meaning.{new_user}
 use Rattle.prdb_entries.specs.Records.{Holds, after_insert, after_set_maxima, registry_in, whole}
@@ -24,6 +26,11 @@ pub record StandsFor (image : List ℕ) (r : Registry) : Type 0 where
 abbrev pub image_by : Verdict → Registry → List ℕ → List ℕ
 image_by (Makes name id) r image = after_set_maxima (pos id) r.max_group (after_insert (new_user name id) image)
 image_by _ r image = image
+
+-- a call over an image ended as was decided of it, and left these bytes
+pub record IsDone (v : Verdict) (r : Registry) (image : List ℕ) (ended : CallEnd) (after : Option (List ℕ)) : Type 0 where
+  pub reply : ended ≡ end_of (reply_by v)
+  pub leaves : after ≡ Some (image_by v r image)
 
 abbrev pub pt_database : Database
 pt_database = record {

@@ -1,4 +1,4 @@
-//! The protection database as a service: what it makes of calls over a draft.
+//! The calls that only read, over a draft; and the id that the next user gets.
 ghost use Rattle.std.specs.Prelude.{◌≡◌, ◌≤◌, ◌<◌, ◌^◌, ◌≤ℤ◌, pos, Some, is_none, IfSome, IfOk, IfErr, IsErrOf, length, map, unsigned_abs};
 ghost use Rattle.db_image.specs.Ends.{IsShort, end_of};
 ghost use Rattle.prdb_entries.specs.RecordEnds.{HasCause, OnlyDrafts, OnlyLooks};
@@ -26,7 +26,10 @@ const ANONYMOUS: i32 = 32766;
 const MAX_ID: u32 = 2_147_483_647;
 
 /// Tells the maxima.
-fn list_max<I: ImageRead>(alloc: Global, d: &mut Draft<I>) -> Result<CallEnd, RecordFault>
+pub(crate) fn list_max<I: ImageRead>(
+    alloc: Global,
+    d: &mut Draft<I>,
+) -> Result<CallEnd, RecordFault>
     requires { d.old.len < 2 ^ 31 }
     ensures meant { IfOk result (λ end. IfSome d.old.bytes (λ image. (r : Registry) → Holds image r
         → end ≡ end_of (reply_by (Answers (answer.Maxima r.max_user r.max_group))))) }
@@ -51,7 +54,7 @@ fn is_unused<I: ImageRead>(alloc: Global, d: &mut Draft<I>, id: u32) -> Result<b
 }
 
 /// The least unused user id above one.
-fn unused_above<I: ImageRead>(
+pub(crate) fn unused_above<I: ImageRead>(
     alloc: Global,
     d: &mut Draft<I>,
     max: u32,
@@ -59,7 +62,7 @@ fn unused_above<I: ImageRead>(
     requires len { d.old.len < 2 ^ 31 }
     requires max { max ≤ 2147483648 }
     ensures found { IfOk result (λ found. IfSome d.old.bytes (λ image. (r : Registry) → Holds image r → found ≡ unused_above r max)) }
-    ensures most { IfOk result (λ found. IfSome found (λ id. id ≤ MAX_ID)) }
+    ensures range { IfOk result (λ found. IfSome found (λ id. (max < id) × (id ≤ MAX_ID))) }
     ensures fault { IfErr result (HasCause d.old.bytes Holds) }
     ensures frame { OnlyLooks I.ImageRead d.old d.new (IsErrOf result RecordFault.DiskFault) }
 {
@@ -86,14 +89,14 @@ fn id_of<I: ImageRead>(alloc: Global, d: &mut Draft<I>, name: &[u8]) -> Result<i
 }
 
 /// A name as it is stored and looked up.
-fn lowered(alloc: Global, name: &[u8]) -> Result<Vec<u8>, NoMemory>
+pub(crate) fn lowered(alloc: Global, name: &[u8]) -> Result<Vec<u8>, NoMemory>
     ensures { IfOk result (λ v. v.items ≡ lowered name.now) }
 {
     Ok(name.to_ascii_lowercase(alloc)?)
 }
 
 /// Translates names to ids.
-fn name_to_id<I: ImageRead>(
+pub(crate) fn name_to_id<I: ImageRead>(
     alloc: Global,
     d: &mut Draft<I>,
     names: &[Bytes],

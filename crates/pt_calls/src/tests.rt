@@ -241,7 +241,7 @@ const WORDS: [(&[&[u8]], &[u8]); 8] = [
     ),
 ];
 
-fn list_of(alloc: Global, words: &[&[u8]]) -> Result<Vec<Bytes>, Fail> {
+pub(crate) fn list_of(alloc: Global, words: &[&[u8]]) -> Result<Vec<Bytes>, Fail> {
     let mut list = Vec::new(alloc);
     for word in words {
         list.push(bytes_of(alloc, word)?)?;

@@ -111,7 +111,7 @@ fn unquoted(word: &[u8]) -> Option<&[u8]>
 
 /// The name that a word stands for.
 #[tactic(auto, unfolding(crate::specs::Words::name_of_word))]
-fn name_of_word(word: &[u8]) -> Option<&[u8]>
+pub(crate) fn name_of_word(word: &[u8]) -> Option<&[u8]>
     ensures { Stands (λ text. text.now) result (name_of_word word.now) }
 {
     let text = unquoted(word)?;

@@ -24,7 +24,7 @@ pub fn call_words(alloc: Global, words: &[Bytes]) -> Result<Option<Bytes>, NoMem
 }
 
 #[tactic(auto, unfolding(crate::specs::Words::call_in_words))]
-fn call_in_words(alloc: Global, words: &[Bytes]) -> Result<PtCall, NotRead>
+pub(crate) fn call_in_words(alloc: Global, words: &[Bytes]) -> Result<PtCall, NotRead>
     ensures { Shows result (call_in_words words.now) }
 {
     let mut from = WordSource { alloc, words };

@@ -1,0 +1,123 @@
+//! Makes calls of the protection database over a draft of an image, which standard input gives, for `bench/draft_calls`. Its words
+//! are `newentry` or `nametoid`, and how many calls are made. Without words it does nothing, and reads nothing.
+#![tactic(auto)]
+
+ghost use Rattle.std.specs.Prelude.{◌≡◌, ◌<◌, ◌≤◌, ◌^◌, [], ◌∷◌, IfOk, length};
+ghost use Rattle.pt_calls.specs.Calls.{spelling};
+ghost use Rattle.pt_calls.specs.declared.calls.PtCall.TheVariants as call;
+ghost use Rattle.draft_bench.specs.Asked.{user_name, call_of_turn};
+
+use db_image::{CallEnd, Draft, DraftService, ImageRead, VecImage};
+use pt_calls::{Items, PtCall, PtService, spell_call};
+use std::alloc::Global;
+use std::env;
+use std::io::Read;
+use std::process::ExitCode;
+use ubik_types::{Bytes, MAX_IMAGE, NoMemory, bytes_of};
+
+/// A call was refused, or memory ran out.
+const FAILED: u8 = 1;
+
+/// The words are none of those that the program takes.
+const WORDS: u8 = 6;
+
+/// A name that no entry of the image has, so that all blocks are looked at.
+const NOBODY: &[u8] = b"nobody";
+
+/// The moment of each call.
+const MOMENT: u32 = 1076;
+
+/// What is asked again and again.
+#[derive(Clone, Copy)]
+enum Asked {
+    /// Each time another user is made.
+    NewEntry,
+    /// A name is translated that is no entry's.
+    NameToId,
+}
+
+/// A letter for a number.
+fn letter(number: u32) -> u8
+    ensures { result ≡ 97 + number % 26 }
+{
+    b'a' + (number % 26) as u8
+}
+
+/// The call of a turn.
+fn call_of(alloc: Global, asked: Asked, turn: u32) -> Result<Bytes, NoMemory>
+    ensures { IfOk result (λ bytes. bytes ≡ spelling (call_of_turn asked turn)) }
+{
+    let call = match asked {
+        Asked::NewEntry => {
+            let name = [b'b', letter(turn / 676), letter(turn / 26), letter(turn)];
+            PtCall::NewEntry {
+                name: bytes_of(alloc, &name)?,
+                kind: 0,
+                owner: 0,
+            }
+        }
+        Asked::NameToId => PtCall::NameToId {
+            names: Items::new(vec![in alloc; bytes_of(alloc, NOBODY)?]?),
+        },
+    };
+    spell_call(alloc, &call)
+}
+
+/// Makes so many calls one after the other over a draft, and says how many of them took place.
+fn called_often<I: ImageRead>(
+    alloc: Global,
+    d: &mut Draft<I>,
+    asked: Asked,
+    times: u32,
+) -> Result<u32, NoMemory>
+    ensures { IfOk result (λ done. done ≤ times) }
+{
+    let mut done = 0;
+    for turn in 0..times {
+        if d.len() as usize > MAX_IMAGE {
+            break;
+        }
+        let call = call_of(alloc, asked, turn)?;
+        if let CallEnd::Done(_) = PtService::call(alloc, d, MOMENT, call.as_slice()) {
+            done += 1;
+        }
+    }
+    Ok(done)
+}
+
+/// Makes so many calls over an image of these bytes; whether each of them took place.
+fn is_done(alloc: Global, bytes: &[u8], asked: Asked, times: u32) -> Result<bool, NoMemory>
+    requires { length bytes.now < 2 ^ 32 }
+{
+    let image = VecImage::new(alloc, bytes)?;
+    let mut d = PtService::draft(alloc, image);
+    Ok(called_often(alloc, &mut d, asked, times)? == times)
+}
+
+fn main(rt: HostRuntime) -> ExitCode {
+    let Ok(mut words) = env::args(&rt) else {
+        return ExitCode::from(WORDS);
+    };
+    let Some(kind) = words.nth(1) else {
+        return ExitCode::SUCCESS;
+    };
+    let Some(times) = words.next() else {
+        return ExitCode::from(WORDS);
+    };
+    let Ok(times) = times.parse() else {
+        return ExitCode::from(WORDS);
+    };
+    let asked = match kind.as_str() {
+        "newentry" => Asked::NewEntry,
+        "nametoid" => Asked::NameToId,
+        _ => return ExitCode::from(WORDS),
+    };
+    let mut image = Vec::new(rt.alloc());
+    if rt.reader().read_to_end(&mut image).is_err() || image.len() > MAX_IMAGE {
+        return ExitCode::from(FAILED);
+    }
+    match is_done(rt.alloc(), &image, asked, times) {
+        Ok(true) => ExitCode::SUCCESS,
+        _ => ExitCode::from(FAILED),
+    }
+}

@@ -1,0 +1,14 @@
+use Rattle.prdb_entries.specs.RecordEnds.{seen}
+use Rattle.prdb_entries.specs.Records.{after_insert, after_set_maxima}
+use Rattle.prdb_entries.proofs.Becoming.{ok_then}
+use Rattle.pt_calls.proofs.NewUsers.{cause_then_err}
+use Rattle.pt_calls.proofs.users.add_user.Goals as goal
+
+pub returns-clause-bytes : goal.returns-clause-bytes
+returns-clause-bytes g c =
+    ok_then c.set_maxima.result (after_insert (seen c.args.user.now)) (after_set_maxima c.args.user.now.id c.args.max_group)
+    c.args.d.now.bytes c.insert.new.d.bytes c.set_maxima.new.d.bytes c.in_ok-insert.ensures.bytes c.set_maxima.ensures.bytes
+
+pub returns-clause-fault : goal.returns-clause-fault
+returns-clause-fault g c =
+    cause_then_err c.set_maxima.result c.args.d.now.bytes c.insert.new.d.bytes (seen c.args.user.now) c.in_ok-insert.ensures.holds c.set_maxima.ensures.fault
