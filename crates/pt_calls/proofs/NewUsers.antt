@@ -1,5 +1,5 @@
 -- A new user: what is decided, and what is done.
-use Rattle.std.proofs.Common.{◌≡◌, ℕ, ℤ, ◌+◌, ◌<◌, ◌≤◌, Bool, true, false, cond, List, Option, Some, None, Result, Ok, Err, IfSome, IfErr, refl, sym, ap, subst, ◌∙◌, arith}
+use Rattle.std.proofs.Common.{◌≡◌, ℕ, ℤ, ◌+◌, ◌<◌, ◌≤◌, Bool, true, false, cond, List, Option, Some, None, Result, Ok, Err, IfSome, IfOk, IfErr, refl, sym, ap, subst, ◌∙◌, arith}
 use Rattle.std.specs.Prelude.{pos, unsigned_abs, is_some, IsSomeAnd}
 use Rattle.std.specs.Option.{option_map}
 use Rattle.std.proofs.lemmas.Int.{ints}
@@ -53,39 +53,45 @@ user_number user name id is = sym (ap unsigned_abs (user_id user name id is))
 makes_is : (user : CodeEntry) (name : List ℕ) (id : ℕ) → seen user ≡ new_user name id → Makes name id ≡ Makes user.name (unsigned_abs user.id)
 makes_is user name id is = ap (λ (n : List ℕ). Makes n id) (user_name user name id is) ∙ ap (λ (i : ℕ). Makes user.name i) (user_number user name id is)
 
-left_by : (r : Registry) (u g : ℤ) (left : Option ℕ) → (u, g) ≡ (r.max_user, r.max_group) → left ≡ unused_above r (unsigned_abs u)
+left_by : (r : Registry) (u g : ℤ) (left : Option ℕ) → ◌≡◌ {A = ℤ × ℤ} (u, g) (r.max_user, r.max_group) → left ≡ unused_above r (unsigned_abs u)
     → unused_above r (unsigned_abs r.max_user) ≡ left
 left_by r u g left is found =
     let user : u ≡ r.max_user = ap (λ (p : ℤ × ℤ). p.0) is in
     sym (found ∙ ap (λ (z : ℤ). unused_above r (unsigned_abs z)) user)
 
-pub plan_added : (bytes : Option (List ℕ)) (name : List ℕ) (id : ℕ) (u g : ℤ) (user : CodeEntry) → seen user ≡ new_user name id
-    → Held bytes (λ r. (u, g) ≡ (r.max_user, r.max_group)) → Held bytes (λ r. Some id ≡ unused_above r (unsigned_abs u))
-    → Held bytes (λ r. id_named r name ≡ None → IsPlanFor (user_of name (unused_above r (unsigned_abs r.max_user))) r (plan.Add user g))
-plan_added None name id u g user is maxima found = tt
-plan_added (Some image) name id u g user is maxima found = λ r holds none.
+pub plan_added : (bytes : Option (List ℕ)) (name : List ℕ) (id : ℕ) (u g h : ℤ) (user : CodeEntry) → seen user ≡ new_user name id → h ≡ g
+    → Held bytes (λ r. ◌≡◌ {A = ℤ × ℤ} (u, g) (r.max_user, r.max_group)) → Held bytes (λ r. Some id ≡ unused_above r (unsigned_abs u))
+    → Held bytes (λ r. id_named r name ≡ None → IsPlanFor (user_of name (unused_above r (unsigned_abs r.max_user))) r (plan.Add user h))
+plan_added None name id u g h user is group maxima found = tt
+plan_added (Some image) name id u g h user is group maxima found = λ r holds none.
     let left = left_by r u g (Some id) (maxima r holds) (found r holds) in
     let free = free_id r (unsigned_abs r.max_user) id left in (
       ap (user_of name) left ∙ makes_is user name id is,
-      ap (λ (p : ℤ × ℤ). p.1) (maxima r holds),
+      group ∙ ap (λ (p : ℤ × ℤ). p.1) (maxima r holds),
       subst (λ (e : PrEntry). MayBeAdded e r) (sym is) (may_be_added r name id holds.valid none free.unused),
     )
 
+-- what was found in the draft after the maxima were read
+pub found_over : (bytes now : Option (List ℕ)) (left : Option ℕ) (k : ℕ) (u : ℤ) → now ≡ bytes → k ≡ unsigned_abs u
+    → Held now (λ r. left ≡ unused_above r k) → Held bytes (λ r. left ≡ unused_above r (unsigned_abs u))
+found_over bytes now left k u same is found =
+    subst (λ (n : ℕ). Held bytes (λ r. left ≡ unused_above r n)) is (subst (λ (b : Option (List ℕ)). Held b (λ r. left ≡ unused_above r k)) same found)
+
 pub plan_refused : (bytes : Option (List ℕ)) (name : List ℕ) (u g : ℤ)
-    → Held bytes (λ r. (u, g) ≡ (r.max_user, r.max_group)) → Held bytes (λ r. None ≡ unused_above r (unsigned_abs u))
+    → Held bytes (λ r. ◌≡◌ {A = ℤ × ℤ} (u, g) (r.max_user, r.max_group)) → Held bytes (λ r. None ≡ unused_above r (unsigned_abs u))
     → Held bytes (λ r. id_named r name ≡ None → IsPlanFor (user_of name (unused_above r (unsigned_abs r.max_user))) r (plan.Refuse 267266))
 plan_refused None name u g maxima found = tt
 plan_refused (Some image) name u g maxima found = λ r holds none. ap (user_of name) (left_by r u g None (maxima r holds) (found r holds))
 
-pub is_new_user : (user : CodeEntry) (name : List ℕ) (id : ℕ) (u g : ℤ) → seen user ≡ new_user name id → is_user_name name ≡ true → 0 < id → id ≤ 2147483647
-    → AreMaxima u g → IsNewUser user g
-is_new_user user name id u g is form more le max =
+pub is_new_user : (user : CodeEntry) (name : List ℕ) (id : ℕ) (u g h : ℤ) → seen user ≡ new_user name id → is_user_name name ≡ true → 0 < id → id ≤ 2147483647
+    → h ≡ g → AreMaxima u g → IsNewUser user h
+is_new_user user name id u g h is form more le group max =
     let at : user.id ≡ pos id = user_id user name id is in
     record {
       fields = is ∙ ap (λ (n : List ℕ). new_user n id) (user_name user name id is) ∙ ap (λ (i : ℕ). new_user user.name i) (user_number user name id is);
       good = subst (λ (e : PrEntry). IsRecord e) (sym is) (is_record name id form more le);
-      maxima = subst (λ (z : ℤ). AreMaxima z g) (sym at)
-          (record { user_low = omega (arith, ints); user_high = omega (arith, ints); group_low = max.group_low; group_high = max.group_high });
+      maxima = subst (λ (z : ℤ). AreMaxima z h) (sym at) (subst (λ (z : ℤ). AreMaxima (pos id) z) (sym group)
+          (record { user_low = omega (arith, ints); user_high = omega (arith, ints); group_low = max.group_low; group_high = max.group_high }));
     }
 
 form_is : (r : Registry) (name : List ℕ) (form taken : Bool) → is_user_name name ≡ form → is_some (id_named r name) ≡ taken
@@ -119,6 +125,15 @@ plan_goes_on (Some image) name low p is good free planned = λ r holds.
     let same : user_of low (unused_above r (unsigned_abs r.max_user)) ≡ user_verdict r (lowered name) =
     sym (form_is r low true false good (sym (free r holds))) ∙ ap (user_verdict r) is in
     subst (λ (v : Verdict). IsPlanFor v r p) same (planned r holds (no_id (id_named r low) (sym (free r holds))))
+
+pub plan_follows : {E : Type 0} (p : Result Plan E) (bytes now : Option (List ℕ)) (name low : List ℕ) → now ≡ bytes → low ≡ lowered name → is_user_name low ≡ true
+    → Held bytes (λ r. false ≡ is_some (id_named r low))
+    → IfOk p (λ plan. Held now (λ r. id_named r low ≡ None → IsPlanFor (user_of low (unused_above r (unsigned_abs r.max_user))) r plan))
+    → IfOk p (λ plan. Held bytes (λ r. IsPlanFor (user_verdict r (lowered name)) r plan))
+plan_follows (Err e) bytes now name low same is good free planned = tt
+plan_follows (Ok p) bytes now name low same is good free planned =
+    plan_goes_on bytes name low p is good free
+    (subst (λ (b : Option (List ℕ)). Held b (λ r. id_named r low ≡ None → IsPlanFor (user_of low (unused_above r (unsigned_abs r.max_user))) r p)) same planned)
 
 -- ---- the act
 

@@ -71,7 +71,7 @@ free_id r max id e =
     }
 
 some_there : {X : Type 0} (o : Option X) (P : X → Type 0) → IsSomeAnd o P → IsSome o
-some_there None P h = h
+some_there None P h = absurd h
 some_there (Some x) P h = refl
 
 administrators_there : (r : Registry) → IsRegistry r → IsSome (r.entry administrators)
@@ -153,7 +153,7 @@ not_owner : (r : Registry) (id : ℕ) (owner : ℤ) → IsOwner r.entry owner �
 not_owner r id owner (inl none) unused more e = let same : id ≡ 0 = cc in omega (arith, same)
 not_owner r id owner (inr there) unused more e =
     let gone : r.entry owner ≡ None = ap r.entry (sym e) ∙ unused in
-    let none : IsSome None = subst (λ (o : Option PrEntry). IsSome o) gone there in
+    let none : IsSome {T = PrEntry} None = subst (λ (o : Option PrEntry). IsSome o) gone there in
     absurd cc
 
 -- an entry after a user was added: the user, or one that was there
@@ -274,7 +274,7 @@ grows_put image bytes at =
       length-append (take at longer) bytes,
       length-take at longer,
       length-append image (replicate (at - length image) 0),
-      length-replicate (at - length image) 0,
+      length-replicate {A = ℕ} (at - length image) 0,
       length-drop (at + length bytes) image,
     )
 

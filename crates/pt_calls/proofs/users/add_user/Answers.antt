@@ -1,3 +1,7 @@
+use Rattle.std.proofs.Common.{arith}
+use Rattle.std.specs.Prelude.{FitsSigned}
+use Rattle.std.specs.Int.{w32}
+use Rattle.std.proofs.lemmas.Int.{ints, to_z-of_z}
 use Rattle.prdb_entries.specs.RecordEnds.{seen}
 use Rattle.prdb_entries.specs.Records.{after_insert, after_set_maxima}
 use Rattle.prdb_entries.proofs.Becoming.{ok_then}
@@ -6,8 +10,11 @@ use Rattle.pt_calls.proofs.users.add_user.Goals as goal
 
 pub returns-clause-bytes : goal.returns-clause-bytes
 returns-clause-bytes g c =
+    let maxima = c.requires.user.maxima in
+    let fits : FitsSigned w32 c.args.user.now.id = record { sfits = omega (arith, ints, maxima.user_low, maxima.user_high) } in
+    let set = c.set_maxima.ensures.bytes in
     ok_then c.set_maxima.result (after_insert (seen c.args.user.now)) (after_set_maxima c.args.user.now.id c.args.max_group)
-    c.args.d.now.bytes c.insert.new.d.bytes c.set_maxima.new.d.bytes c.in_ok-insert.ensures.bytes c.set_maxima.ensures.bytes
+    c.args.d.now.bytes c.insert.new.d.bytes c.set_maxima.new.d.bytes c.in_ok-insert.ensures.bytes (simp (to_z-of_z, fits, c.ranges.max_group) at set)
 
 pub returns-clause-fault : goal.returns-clause-fault
 returns-clause-fault g c =
