@@ -1,4 +1,5 @@
 pub mod AnswerLaws
+pub mod AnswerTexts
 pub mod Again
 pub mod BuiltKinds
 pub mod Done

@@ -1,9 +1,10 @@
 -- The protection database over images (layout of format 1).
-use Rattle.std.specs.Prelude.{ℕ, ℤ, pos, ◌≡◌, List, Option, Some}
+use Rattle.std.specs.Prelude.{ℕ, ℤ, pos, ◌≡◌, ◌≤◌, List, length, Option, Some}
 use Rattle.std.specs.Option.{option_map}
 use Rattle.db_image.specs.Database.{Database}
 use Rattle.db_image.specs.Ends.{end_of}
 use Rattle.db_image.specs.declared.draft_services.CallEnd.{CallEnd}
+use Rattle.db_image.specs.declared.draft_services.CallEnd.TheVariants as end
 use Rattle.db_image.specs.Standing.{Standing}
 use Rattle.prdb_entries.specs.Meaning.{new_user}
 use Rattle.prdb_entries.specs.Records.{Holds, after_insert, after_set_maxima, registry_in, whole}
@@ -26,6 +27,15 @@ pub record StandsFor (image : List ℕ) (r : Registry) : Type 0 where
 abbrev pub image_by : Verdict → Registry → List ℕ → List ℕ
 image_by (Makes name id) r image = after_set_maxima (pos id) r.max_group (after_insert (new_user name id) image)
 image_by _ r image = image
+
+-- a call ended by what was decided of it, and not by a fault; its answer has no more bytes than this
+abbrev pub IsDecided : CallEnd → Type 0
+IsDecided (end.Done fields) = length fields ≤ 1048576
+IsDecided (end.Rule number) = Unit {0}
+IsDecided end.Malformed = Unit {0}
+IsDecided (end.BadRecord at) = ⊥
+IsDecided end.DiskFault = ⊥
+IsDecided end.NoMemory = ⊥
 
 -- a call over an image ended as was decided of it, and left these bytes
 pub record IsDone (v : Verdict) (r : Registry) (image : List ℕ) (ended : CallEnd) (after : Option (List ℕ)) : Type 0 where

@@ -7,7 +7,7 @@ ghost use Rattle.prdb_entries.specs.Registry.{Registry};
 ghost use Rattle.pt_calls.specs.Built.{built_call, is_built};
 ghost use Rattle.pt_calls.specs.Calls.{HasSpelling};
 ghost use Rattle.pt_calls.specs.Meaning.{verdict};
-ghost use Rattle.pt_calls.specs.Standing.{IsDone};
+ghost use Rattle.pt_calls.specs.Standing.{IsDecided, IsDone};
 
 use crate::built::writes;
 use crate::calls::PtCall;
@@ -31,7 +31,7 @@ fn answer<I: ImageRead>(
     requires is_built { IsTrue (is_built call.now) }
     ensures meant { IfOk result (λ end. IfSome d.old.bytes (λ image. (r : Registry) → Holds image r
         → IsDone (verdict r (Some call.now)) r image end d.new.bytes)) }
-    ensures short { IfOk result IsShort }
+    ensures short { IfOk result IsDecided }
     ensures longer { d.old.len ≤ d.new.len }
     ensures fault { IfErr result (HasCause d.old.bytes Holds) }
     ensures frame { OnlyDrafts I.ImageRead d.old d.new (IsErrOf result RecordFault.DiskFault) }
@@ -52,7 +52,7 @@ fn evaluate<I: ImageRead>(
     requires { d.old.len ≤ 16777216 }
     ensures meant { IfOk result (λ end. IfSome d.old.bytes (λ image. (r : Registry) → Holds image r
         → IsDone (verdict r (built_call bytes.now)) r image end d.new.bytes)) }
-    ensures short { IfOk result IsShort }
+    ensures short { IfOk result IsDecided }
     ensures longer { d.old.len ≤ d.new.len }
     ensures fault { IfErr result (HasCause d.old.bytes Holds) }
     ensures frame { OnlyDrafts I.ImageRead d.old d.new (IsErrOf result RecordFault.DiskFault) }

@@ -1,13 +1,13 @@
 //! The calls that only read, over a draft; and the id that the next user gets.
 ghost use Rattle.std.specs.Prelude.{◌≡◌, ◌≤◌, ◌<◌, ◌^◌, ◌≤ℤ◌, pos, Some, is_none, IfSome, IfOk, IfErr, IsErrOf, length, map, unsigned_abs};
-ghost use Rattle.db_image.specs.Ends.{IsShort, end_of};
+ghost use Rattle.db_image.specs.Ends.{end_of};
 ghost use Rattle.prdb_entries.specs.RecordEnds.{HasCause, OnlyDrafts, OnlyLooks};
 ghost use Rattle.prdb_entries.specs.Names.{lowered};
 ghost use Rattle.prdb_entries.specs.Records.{Holds};
 ghost use Rattle.prdb_entries.specs.Registry.{Registry};
 ghost use Rattle.pt_calls.specs.Built.{built_call};
 ghost use Rattle.pt_calls.specs.Meaning.{Answers, id_or_anonymous, reply_by, unused_above, user_verdict, verdict};
-ghost use Rattle.pt_calls.specs.Standing.{image_by};
+ghost use Rattle.pt_calls.specs.Standing.{IsDecided};
 ghost use Rattle.pt_calls.specs.declared.limits.TheConstants.{MAX_LIST};
 ghost use Rattle.pt_calls.specs.declared.answers.PtAnswer.TheVariants as answer;
 
@@ -33,7 +33,7 @@ pub(crate) fn list_max<I: ImageRead>(
     requires { d.old.len < 2 ^ 31 }
     ensures meant { IfOk result (λ end. IfSome d.old.bytes (λ image. (r : Registry) → Holds image r
         → end ≡ end_of (reply_by (Answers (answer.Maxima r.max_user r.max_group))))) }
-    ensures short { IfOk result IsShort }
+    ensures short { IfOk result IsDecided }
     ensures fault { IfErr result (HasCause d.old.bytes Holds) }
     ensures frame { OnlyLooks I.ImageRead d.old d.new (IsErrOf result RecordFault.DiskFault) }
 {
@@ -105,7 +105,7 @@ pub(crate) fn name_to_id<I: ImageRead>(
     requires count { length names.now ≤ MAX_LIST }
     ensures meant { IfOk result (λ end. IfSome d.old.bytes (λ image. (r : Registry) → Holds image r
         → end ≡ end_of (reply_by (Answers (answer.Ids (map (id_or_anonymous r) names.now)))))) }
-    ensures short { IfOk result IsShort }
+    ensures short { IfOk result IsDecided }
     ensures fault { IfErr result (HasCause d.old.bytes Holds) }
     ensures frame { OnlyLooks I.ImageRead d.old d.new (IsErrOf result RecordFault.DiskFault) }
 {

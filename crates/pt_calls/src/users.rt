@@ -1,14 +1,13 @@
 //! The call that makes a user without a given owner: what is decided of it, and then what is changed.
 ghost use Rattle.std.specs.Prelude.{◌≡◌, ◌≤◌, ◌<◌, ◌^◌, IsTrue, is_some, None, IfSome, IfOk, IfErr, OnOk, IsErrOf, unsigned_abs};
 ghost use Rattle.std.specs.Option.{option_map};
-ghost use Rattle.db_image.specs.Ends.{IsShort};
 ghost use Rattle.prdb_entries.specs.Names.{is_user_name, lowered};
 ghost use Rattle.prdb_entries.specs.RecordEnds.{Becomes, HasCause, OnlyDrafts, OnlyLooks, seen};
 ghost use Rattle.prdb_entries.specs.Records.{Holds, after_insert, after_set_maxima};
 ghost use Rattle.prdb_entries.specs.Registry.{Registry, MayBeAdded};
 ghost use Rattle.pt_calls.specs.Meaning.{id_named, unused_above, user_of, user_verdict};
 ghost use Rattle.pt_calls.specs.Plans.{CanBeDone, IsNewUser, IsPlanFor};
-ghost use Rattle.pt_calls.specs.Standing.{IsDone};
+ghost use Rattle.pt_calls.specs.Standing.{IsDecided, IsDone};
 
 use crate::answer_writing::spell_answer;
 use crate::answers::PtAnswer;
@@ -116,7 +115,7 @@ pub(crate) fn new_user<I: ImageRead>(
     requires { d.old.len ≤ 16777216 }
     ensures meant { IfOk result (λ end. IfSome d.old.bytes (λ image. (r : Registry) → Holds image r
         → IsDone (user_verdict r (lowered name.now)) r image end d.new.bytes)) }
-    ensures short { IfOk result IsShort }
+    ensures short { IfOk result IsDecided }
     ensures longer { d.old.len ≤ d.new.len }
     ensures fault { IfErr result (HasCause d.old.bytes Holds) }
     ensures frame { OnlyDrafts I.ImageRead d.old d.new (IsErrOf result RecordFault.DiskFault) }
