@@ -81,8 +81,8 @@ kept_other None k e other = absurd cc
 kept_other (Some c) k e other =
     let same : k ≡ call_kind c = cc in
     kept_of (Some c) k false e (λ name kind owner is.
-        let new : c ≡ call.NewEntry name kind owner = cc in
-        absurd (other (same ∙ ap call_kind new)))
+    let new : c ≡ call.NewEntry name kind owner = cc in
+    absurd (other (same ∙ ap call_kind new)))
 
 -- what is kept of a kind, where it is built
 plain_is : (b : Bool) → then_some b kinds.NewEntry ≡ kept_kind kinds.NewEntry b

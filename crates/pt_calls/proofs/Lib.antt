@@ -6,7 +6,9 @@ pub mod Done
 pub mod ItemsTaken
 pub mod Loop
 pub mod Taken
+pub mod WordCalls
 pub mod WordLoop
 pub mod Skipped
+pub mod States
 pub mod Steps
 pub mod NewUsers

@@ -29,7 +29,10 @@ pub use answer_writing::spell_answer;
 pub use answers::{AnswerKind, Entries, PtAnswer, PtEntry};
 pub use calls::PtCall;
 pub use kinds::{CallKind, KINDS};
-pub use laws::{a_call_is_read_from_its_spelling, no_call_begins_another};
+pub use laws::{
+    a_call_is_read_from_its_spelling, an_image_stands_for_one_state, calls_are_answered,
+    calls_are_meant, no_call_begins_another, words_name_calls,
+};
 pub use limits::{MAX_ANSWER_IDS, MAX_LIST, MAX_NAME, MAX_PAGE};
 pub use lists::{Ids, Items, Names};
 pub use pt_service::PtService;

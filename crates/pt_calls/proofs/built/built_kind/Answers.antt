@@ -16,10 +16,10 @@ returns c =
     let kind = c.in_ok-kind.kind in
     let is_built = c.match-kind.is_built in
     c.then_some.ensures ∙ (elim c.match-kind.branch [
-      in-NewEntry w ↦ some_plain kind is_built w.is_plain_user-is_built.result w.in-NewEntry.is w.is_built-is
+      | in-NewEntry w ↦ some_plain kind is_built w.is_plain_user-is_built.result w.in-NewEntry.is w.is_built-is
           ∙ kept_of read kind w.is_plain_user-is_built.result c.in_ok-kind.ensures w.is_plain_user-is_built.ensures
-    | in-NameToId w ↦ some_kept kind is_built w.in-NameToId.is w.is_built-is
+      | in-NameToId w ↦ some_kept kind is_built w.in-NameToId.is w.is_built-is
           ∙ kept_other read kind c.in_ok-kind.ensures (λ is. elim w.in-NameToId.is [ inl h ↦ cc | inr h ↦ cc ])
-    | in_default w ↦ none_kept kind is_built w.in_default.not-NewEntry w.in_default.not-NameToId w.in_default.not-ListMax w.is_built-is
+      | in_default w ↦ none_kept kind is_built w.in_default.not-NewEntry w.in_default.not-NameToId w.in_default.not-ListMax w.is_built-is
           ∙ kept_other read kind c.in_ok-kind.ensures w.in_default.not-NewEntry
     ])
