@@ -26,6 +26,9 @@ const ASKED: [Asked; 9] = [
     (&[b"newentry", b"jones", b"0", b"0"], 0, b"2"),
 ];
 
+/// Calls over an image that stands for no state.
+const OVER_DAMAGE: [&[&[u8]]; 2] = [&[b"listmax"], &[b"newentry", b"a", b"0", b"0"]];
+
 fn call_of(alloc: Global, words: &[&[u8]]) -> Result<Bytes, Fail> {
     let list = list_of(alloc, words)?;
     Ok(PtService::call_words(alloc, &list)?.ok_or("no call")?)
@@ -84,10 +87,7 @@ fn calls_that_are_not_built(rt: HostRuntime) -> Result<(), Fail> {
 fn a_damaged_image(rt: HostRuntime) -> Result<(), Fail> {
     let image = VecImage::new(rt.alloc(), b"damaged")?;
     let mut d = PtService::draft(rt.alloc(), image);
-    for words in [
-        [b"listmax".as_slice()].as_slice(),
-        [b"newentry".as_slice(), b"a", b"0", b"0"].as_slice(),
-    ] {
+    for words in OVER_DAMAGE {
         let call = call_of(rt.alloc(), words)?;
         assert!(rt; d.len() as usize <= MAX_IMAGE);
         let end = PtService::call(rt.alloc(), &mut d, 1076, call.as_slice());
