@@ -2,9 +2,8 @@
 //! are `newentry` or `nametoid`, and how many calls are made. Without words it does nothing, and reads nothing.
 #![tactic(auto)]
 
-ghost use Rattle.std.specs.Prelude.{◌≡◌, ◌<◌, ◌≤◌, ◌^◌, [], ◌∷◌, IfOk, length};
-ghost use Rattle.pt_calls.specs.Calls.{spelling};
-ghost use Rattle.pt_calls.specs.declared.calls.PtCall.TheVariants as call;
+ghost use Rattle.std.specs.Prelude.{◌≡◌, ◌+◌, ◌%◌, ◌<◌, ◌≤◌, ◌^◌, IfOk, length};
+ghost use Rattle.pt_calls.specs.Calls.{HasSpelling, spelling};
 ghost use Rattle.draft_bench.specs.Asked.{user_name, call_of_turn};
 
 use db_image::{CallEnd, Draft, DraftService, ImageRead, VecImage};
@@ -43,24 +42,39 @@ fn letter(number: u32) -> u8
     b'a' + (number % 26) as u8
 }
 
+/// The name of the user of a turn.
+fn user_name(alloc: Global, turn: u32) -> Result<Bytes, NoMemory>
+    ensures { IfOk result (λ name. name ≡ user_name turn) }
+{
+    let name = [b'b', letter(turn / 676), letter(turn / 26), letter(turn)];
+    Ok(bytes_of(alloc, &name)?)
+}
+
 /// The call of a turn.
+fn call_of_turn(alloc: Global, asked: Asked, turn: u32) -> Result<PtCall, NoMemory>
+    ensures asked { IfOk result (λ call. call ≡ call_of_turn asked turn) }
+    ensures short { IfOk result HasSpelling }
+{
+    match asked {
+        Asked::NewEntry => Ok(PtCall::NewEntry {
+            name: user_name(alloc, turn)?,
+            kind: 0,
+            owner: 0,
+        }),
+        Asked::NameToId => {
+            let nobody = bytes_of(alloc, NOBODY)?;
+            Ok(PtCall::NameToId {
+                names: Items::new(vec![in alloc; nobody]?),
+            })
+        }
+    }
+}
+
+/// The bytes of the call of a turn.
 fn call_of(alloc: Global, asked: Asked, turn: u32) -> Result<Bytes, NoMemory>
     ensures { IfOk result (λ bytes. bytes ≡ spelling (call_of_turn asked turn)) }
 {
-    let call = match asked {
-        Asked::NewEntry => {
-            let name = [b'b', letter(turn / 676), letter(turn / 26), letter(turn)];
-            PtCall::NewEntry {
-                name: bytes_of(alloc, &name)?,
-                kind: 0,
-                owner: 0,
-            }
-        }
-        Asked::NameToId => PtCall::NameToId {
-            names: Items::new(vec![in alloc; bytes_of(alloc, NOBODY)?]?),
-        },
-    };
-    spell_call(alloc, &call)
+    spell_call(alloc, &call_of_turn(alloc, asked, turn)?)
 }
 
 /// Makes so many calls one after the other over a draft, and says how many of them took place.

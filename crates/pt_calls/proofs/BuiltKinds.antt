@@ -10,7 +10,7 @@ use Rattle.pt_calls.specs.declared.calls.PtCall.{PtCall}
 use Rattle.pt_calls.specs.declared.calls.PtCall.TheVariants as call
 use Rattle.pt_calls.specs.declared.kinds.CallKind.{CallKind}
 use Rattle.pt_calls.specs.declared.kinds.CallKind.TheVariants as kinds
-use Rattle.pt_calls.specs.Built.{built, built_call, is_built, is_write}
+use Rattle.pt_calls.specs.Built.{built, is_built, is_write}
 use Rattle.pt_calls.specs.Calls.{call_kind}
 use Rattle.pt_calls.specs.Laws.{IsBytes}
 use Rattle.pt_calls.specs.Reading.{call_of}

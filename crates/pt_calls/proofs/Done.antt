@@ -1,41 +1,18 @@
 -- How calls end that were made.
-use Rattle.std.proofs.Common.{◌≡◌, ℕ, ℤ, Bool, cond, List, Option, Some, None, IfSome, Result, IfOk, true, false, refl, sym, ap, subst, ◌∙◌}
+use Rattle.std.proofs.Common.{◌≡◌, ℕ, Bool, cond, List, Option, Some, None, IfSome, Result, IfOk, true, false, refl, sym, ap, subst, ◌∙◌}
 use Rattle.db_image.specs.Database.{Outcome}
-use Rattle.db_image.specs.Ends.{EndsBy, IsShort, end_by, end_of}
+use Rattle.db_image.specs.Ends.{EndsBy, IsShort, end_of}
 use Rattle.db_image.specs.Images.{OnlyReads}
 use Rattle.db_image.specs.declared.images.ImageRead.{Ghosts}
 use Rattle.db_image.specs.declared.draft_services.CallEnd.{CallEnd}
 use Rattle.db_image.specs.declared.draft_services.CallEnd.TheVariants as end
-use Rattle.db_image.specs.declared.faults.RecordFault.{RecordFault}
-use Rattle.db_image.specs.declared.faults.RecordFault.TheVariants as fault
-use Rattle.prdb_entries.specs.RecordEnds.{HasCause}
-use Rattle.prdb_entries.specs.Records.{Holds, registry_in, whole}
+use Rattle.prdb_entries.specs.Records.{Holds}
 use Rattle.prdb_entries.specs.Registry.{Registry}
 use Rattle.prdb_entries.proofs.Told.{registry_told}
-use Rattle.pt_calls.specs.declared.answers.PtAnswer.{PtAnswer}
-use Rattle.pt_calls.specs.declared.answers.PtAnswer.TheVariants as answer
 use Rattle.pt_calls.specs.declared.calls.PtCall.{PtCall}
-use Rattle.pt_calls.specs.declared.calls.PtCall.TheVariants as call
 use Rattle.pt_calls.specs.Built.{built, built_call, is_built}
-use Rattle.pt_calls.specs.Meaning.{Verdict, NoCall, Answers, reply_by, verdict}
-use Rattle.pt_calls.specs.Reading.{call_of}
+use Rattle.pt_calls.specs.Meaning.{Verdict, NoCall, reply_by, verdict}
 use Rattle.pt_calls.specs.Standing.{IsDecided, IsDone, StandsFor, image_by, pt_database}
-use Rattle.pt_calls.proofs.Steps.{Held}
-
--- a call that only looked
-pub looked : (bytes after : Option (List ℕ)) (a : Registry → PtAnswer) (ended : CallEnd) → after ≡ bytes
-    → Held bytes (λ r. ended ≡ end_of (reply_by (Answers (a r))))
-    → IfSome bytes (λ image. (r : Registry) → Holds image r → IsDone (Answers (a r)) r image ended after)
-looked None after a ended same told = tt
-looked (Some image) after a ended same told = λ r holds. record { reply = told r holds; leaves = same }
-
--- a call that is built and is no other one is listmax
-pub is_list_max : (c : PtCall) → is_built c ≡ true → ((name : List ℕ) (kind : ℕ) (owner : ℤ) → c ≡ call.NewEntry name kind owner → ⊥)
-    → ((names : List (List ℕ)) → c ≡ call.NameToId names → ⊥) → c ≡ call.ListMax
-is_list_max (call.NewEntry name kind owner) e h k = absurd (h name kind owner refl)
-is_list_max (call.NameToId names) e h k = absurd (k names refl)
-is_list_max call.ListMax e h k = refl
-is_list_max _ e h k = absurd cc
 
 -- the call that is built, of what was read
 pub built_none : (read : Option PtCall) → None ≡ read → built read ≡ None
@@ -98,12 +75,3 @@ meant (Some image) after now bytes ended done = λ r stands.
     subst (λ (t : Registry). EndsBy (record { reply = reply_by (verdict t (built_call bytes)); image = image_by (verdict t (built_call bytes)) t image }) ended after)
     (registry_told image r stands.holds)
     (ends_by (record { reply = reply_by (verdict r (built_call bytes)); image = image_by (verdict r (built_call bytes)) r image }) ended after d.reply d.leaves)
-
-pub meant_fault : (held after : Option (List ℕ)) (now : ℕ) (bytes : List ℕ) (f : RecordFault) (ended : CallEnd) → ended ≡ end_by f → HasCause held Holds f
-    → IfSome held (λ image. (r : Registry) → StandsFor image r → EndsBy (pt_database.call image now bytes) ended after)
-meant_fault None after now bytes f ended is cause = tt
-meant_fault (Some image) after now bytes fault.DiskFault ended is cause = λ r stands.
-    subst (λ (e : CallEnd). EndsBy (pt_database.call image now bytes) e after) (sym is) tt
-meant_fault (Some image) after now bytes fault.NoMemory ended is cause = λ r stands.
-    subst (λ (e : CallEnd). EndsBy (pt_database.call image now bytes) e after) (sym is) tt
-meant_fault (Some image) after now bytes (fault.BadRecord at) ended is cause = λ r stands. absurd (cause r stands.holds)

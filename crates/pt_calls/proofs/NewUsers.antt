@@ -1,27 +1,23 @@
 -- A new user: what is decided, and what is done.
-use Rattle.std.proofs.Common.{◌≡◌, ℕ, ℤ, ◌+◌, ◌<◌, ◌≤◌, Bool, true, false, cond, List, Option, Some, None, Result, Ok, Err, IfSome, IfOk, IfErr, refl, sym, ap, subst, ◌∙◌, arith}
+use Rattle.std.proofs.Common.{◌≡◌, ℕ, ℤ, ◌<◌, ◌≤◌, Bool, true, false, cond, List, Option, Some, None, Result, Ok, Err, IfSome, IfOk, IfErr, refl, sym, ap, subst, ◌∙◌, arith}
 use Rattle.std.specs.Prelude.{pos, unsigned_abs, is_some, IsSomeAnd}
 use Rattle.std.specs.Option.{option_map}
 use Rattle.std.proofs.lemmas.Int.{ints}
-use Rattle.db_image.specs.declared.draft_services.CallEnd.TheVariants as end
 use Rattle.db_image.specs.declared.faults.RecordFault.{RecordFault}
 use Rattle.db_image.specs.declared.faults.RecordFault.TheVariants as fault
 use Rattle.prdb_entries.specs.Meaning.{new_user}
 use Rattle.prdb_entries.specs.Names.{is_user_name, lowered}
 use Rattle.prdb_entries.specs.RecordEnds.{HasCause, seen}
-use Rattle.prdb_entries.specs.Records.{Holds, after_insert, after_set_maxima}
+use Rattle.prdb_entries.specs.Records.{Holds}
 use Rattle.prdb_entries.specs.Registry.{Registry, AreMaxima, IsNamed, IsRecord, MayBeAdded, with_entry}
 use Rattle.prdb_entries.specs.State.{PrEntry}
 use Rattle.prdb_entries.specs.declared.records.PrEntry.{PrEntry as CodeEntry}
-use Rattle.pt_calls.specs.declared.answers.PtAnswer.TheVariants as answer
 use Rattle.pt_calls.specs.declared.users.Plan.{Plan}
 use Rattle.pt_calls.specs.declared.users.Plan.TheVariants as plan
-use Rattle.pt_calls.specs.Answers.{answer_spelling}
 use Rattle.pt_calls.specs.Meaning.{Verdict, Refuses, Makes, id_named, unused_above, user_of, user_verdict}
 use Rattle.pt_calls.specs.NameLaws.{named_is}
 use Rattle.pt_calls.specs.Plans.{IsNewUser, IsPlanFor}
-use Rattle.pt_calls.specs.ServiceLaws.{free_id, is_record, may_be_added}
-use Rattle.pt_calls.specs.Standing.{IsDone, image_by}
+use Rattle.pt_calls.specs.ServiceLaws.{free_id, is_record, may_be_added, no_name}
 use Rattle.pt_calls.proofs.Steps.{Held, held_map}
 
 -- ---- whether a name is taken
@@ -77,12 +73,6 @@ pub found_over : (bytes now : Option (List ℕ)) (left : Option ℕ) (k : ℕ) (
 found_over bytes now left k u same is found =
     subst (λ (n : ℕ). Held bytes (λ r. left ≡ unused_above r n)) is (subst (λ (b : Option (List ℕ)). Held b (λ r. left ≡ unused_above r k)) same found)
 
-pub plan_refused : (bytes : Option (List ℕ)) (name : List ℕ) (u g : ℤ)
-    → Held bytes (λ r. ◌≡◌ {A = ℤ × ℤ} (u, g) (r.max_user, r.max_group)) → Held bytes (λ r. None ≡ unused_above r (unsigned_abs u))
-    → Held bytes (λ r. id_named r name ≡ None → IsPlanFor (user_of name (unused_above r (unsigned_abs r.max_user))) r (plan.Refuse 267266))
-plan_refused None name u g maxima found = tt
-plan_refused (Some image) name u g maxima found = λ r holds none. ap (user_of name) (left_by r u g None (maxima r holds) (found r holds))
-
 pub is_new_user : (user : CodeEntry) (name : List ℕ) (id : ℕ) (u g h : ℤ) → seen user ≡ new_user name id → is_user_name name ≡ true → 0 < id → id ≤ 2147483647
     → h ≡ g → AreMaxima u g → IsNewUser user h
 is_new_user user name id u g h is form more le group max =
@@ -99,10 +89,6 @@ form_is : (r : Registry) (name : List ℕ) (form taken : Bool) → is_user_name 
 unfolding user_verdict
 form_is r name true taken is named = rw (is, named) refl
 form_is r name false taken is named = rw is refl
-
-no_id : (o : Option ℤ) → is_some o ≡ false → o ≡ None
-no_id None e = refl
-no_id (Some id) e = absurd cc
 
 pub plan_bad_name : (bytes : Option (List ℕ)) (name low : List ℕ) → low ≡ lowered name → is_user_name low ≡ false
     → Held bytes (λ r. IsPlanFor (user_verdict r (lowered name)) r (plan.Refuse 267272))
@@ -124,7 +110,7 @@ plan_goes_on None name low p is good free planned = tt
 plan_goes_on (Some image) name low p is good free planned = λ r holds.
     let same : user_of low (unused_above r (unsigned_abs r.max_user)) ≡ user_verdict r (lowered name) =
     sym (form_is r low true false good (sym (free r holds))) ∙ ap (user_verdict r) is in
-    subst (λ (v : Verdict). IsPlanFor v r p) same (planned r holds (no_id (id_named r low) (sym (free r holds))))
+    subst (λ (v : Verdict). IsPlanFor v r p) same (planned r holds (no_name (id_named r low) (sym (free r holds))))
 
 pub plan_follows : {E : Type 0} (p : Result Plan E) (bytes now : Option (List ℕ)) (name low : List ℕ) → now ≡ bytes → low ≡ lowered name → is_user_name low ≡ true
     → Held bytes (λ r. false ≡ is_some (id_named r low))
@@ -136,13 +122,6 @@ plan_follows (Ok p) bytes now name low same is good free planned =
     (subst (λ (b : Option (List ℕ)). Held b (λ r. id_named r low ≡ None → IsPlanFor (user_of low (unused_above r (unsigned_abs r.max_user))) r p)) same planned)
 
 -- ---- the act
-
-pub cause_so : (bytes : Option (List ℕ)) (e : PrEntry) (f : RecordFault) → HasCause bytes Holds f
-    → HasCause bytes (λ image r. Holds image r × MayBeAdded e r) f
-cause_so bytes e fault.DiskFault cause = tt
-cause_so bytes e fault.NoMemory cause = tt
-cause_so None e (fault.BadRecord at) cause = tt
-cause_so (Some image) e (fault.BadRecord at) cause = λ r both. cause r both.0
 
 none_held : (made : Option (List ℕ)) (r : Registry) → IsSomeAnd made (λ a. Holds a r) → IfSome made (λ image. (s : Registry) → Holds image s → ⊥) → ⊥
 none_held None r held none = held
@@ -161,44 +140,3 @@ pub cause_then_err : {T : Type 0} (r : Result T RecordFault) (bytes made : Optio
     → IfErr r (HasCause made Holds) → IfErr r (HasCause bytes (λ image r. Holds image r × MayBeAdded e r))
 cause_then_err (Ok x) bytes made e makes cause = tt
 cause_then_err (Err f) bytes made e makes cause = cause_then bytes made e f makes cause
-
--- ---- the call
-
-pub cause_planned : (bytes now : Option (List ℕ)) (name : List ℕ) (user : CodeEntry) (g : ℤ) (f : RecordFault) → now ≡ bytes
-    → Held bytes (λ r. IsPlanFor (user_verdict r (lowered name)) r (plan.Add user g))
-    → HasCause now (λ image r. Holds image r × MayBeAdded (seen user) r) f → HasCause bytes Holds f
-cause_planned bytes now name user g fault.DiskFault same planned cause = tt
-cause_planned bytes now name user g fault.NoMemory same planned cause = tt
-cause_planned None now name user g (fault.BadRecord at) same planned cause = tt
-cause_planned (Some image) now name user g (fault.BadRecord at) same planned cause =
-    let own = subst (λ (b : Option (List ℕ)). HasCause b (λ image r. Holds image r × MayBeAdded (seen user) r) (fault.BadRecord at)) same cause in
-    λ r holds. own r (holds, (planned r holds).2)
-
-pub done_refused : (bytes after : Option (List ℕ)) (name : List ℕ) (rule : ℕ) → after ≡ bytes
-    → Held bytes (λ r. IsPlanFor (user_verdict r (lowered name)) r (plan.Refuse rule))
-    → IfSome bytes (λ image. (r : Registry) → Holds image r → IsDone (user_verdict r (lowered name)) r image (end.Rule rule) after)
-done_refused None after name rule same planned = tt
-done_refused (Some image) after name rule same planned = λ r holds.
-    subst (λ (v : Verdict). IsDone v r image (end.Rule rule) after) (sym (planned r holds)) (record { reply = refl; leaves = same })
-
-made_image : (r : Registry) (image : List ℕ) (user : CodeEntry) (g : ℤ) → IsNewUser user g → g ≡ r.max_group
-    → after_set_maxima user.id g (after_insert (seen user) image) ≡ image_by (Makes user.name (unsigned_abs user.id)) r image
-made_image r image user g is group =
-    ap (λ (z : ℤ). after_set_maxima z g (after_insert (seen user) image)) (ap (λ (e : PrEntry). e.id) is.fields)
-    ∙ ap (λ (z : ℤ). after_set_maxima (pos (unsigned_abs user.id)) z (after_insert (seen user) image)) group
-    ∙ ap (λ (e : PrEntry). after_set_maxima (pos (unsigned_abs user.id)) r.max_group (after_insert e image)) is.fields
-
-pub done_made : (bytes now after : Option (List ℕ)) (name told : List ℕ) (user : CodeEntry) (g : ℤ) → now ≡ bytes → IsNewUser user g
-    → Held bytes (λ r. IsPlanFor (user_verdict r (lowered name)) r (plan.Add user g)) → told ≡ answer_spelling (answer.Id user.id)
-    → after ≡ option_map (λ image. after_set_maxima user.id g (after_insert (seen user) image)) now
-    → IfSome bytes (λ image. (r : Registry) → Holds image r → IsDone (user_verdict r (lowered name)) r image (end.Done told) after)
-done_made None now after name told user g same is planned answered made = tt
-done_made (Some image) now after name told user g same is planned answered made = λ r holds.
-    let p = planned r holds in
-    let id : user.id ≡ pos (unsigned_abs user.id) = ap (λ (e : PrEntry). e.id) is.fields in
-    subst (λ (v : Verdict). IsDone v r image (end.Done told) after) (sym p.0)
-    (record {
-      reply = ap (λ (t : List ℕ). end.Done t) (answered ∙ ap (λ (z : ℤ). answer_spelling (answer.Id z)) id);
-      leaves = made ∙ ap (option_map (λ image. after_set_maxima user.id g (after_insert (seen user) image))) same
-          ∙ ap (λ (i : List ℕ). Some i) (made_image r image user g is p.1);
-    })

@@ -1,6 +1,5 @@
 -- An image stands for one state, and a call that leaves it leaves the state.
-use Rattle.std.proofs.Common.{◌≡◌, ℕ, List, sym, subst, ◌∙◌}
-use Rattle.prdb_entries.specs.Registry.{Registry}
+use Rattle.std.proofs.Common.{ℕ, List, sym, subst, ◌∙◌}
 use Rattle.prdb_entries.proofs.Told.{registry_told}
 use Rattle.pt_calls.specs.Laws.{LeavesStates, StandsForOne}
 use Rattle.pt_calls.specs.Meaning.{pt_meaning}

@@ -1,5 +1,5 @@
 -- Words never name bytes that are no call, and no call is answered as none.
-use Rattle.std.proofs.Common.{◌≡◌, ◌≢◌, ℕ, ℤ, Bool, true, false, cond, not, List, Option, Some, None, IsSome, refl, sym, ap, subst, ◌∙◌}
+use Rattle.std.proofs.Common.{◌≡◌, ◌≢◌, ℕ, Bool, true, false, cond, not, List, Option, Some, None, IsSome, refl, sym, ap, ◌∙◌}
 use Rattle.std.specs.Prelude.{is_some, unsigned_abs}
 use Rattle.std.specs.Option.{option_map}
 use Rattle.db_image.specs.declared.services.CallReply.TheVariants as reply
@@ -13,7 +13,6 @@ use Rattle.pt_calls.specs.Calls.{spelling}
 use Rattle.pt_calls.specs.Laws.{NamesCalls, NamesBuiltCalls, NamesCallsAlone, AnswersCalls}
 use Rattle.pt_calls.specs.Meaning.{Verdict, NoCall, Refuses, Answers, Makes, id_named, reply_by, unused_above, user_of, user_verdict, verdict}
 use Rattle.pt_calls.specs.Reading.{call_of}
-use Rattle.pt_calls.specs.ServiceWords.{built_of_words}
 use Rattle.pt_calls.specs.Words.{call_in_words}
 use Rattle.pt_calls.specs.Standing.{pt_database}
 use Rattle.pt_calls.proofs.Again.{spelling_again}

@@ -1,5 +1,5 @@
 -- Laws of the grammar, of words, and of the database.
-use Rattle.std.specs.Prelude.{◌≡◌, ◌≢◌, ℕ, ◌<◌, ◌≤◌, List, [], length, Some, IsSome, slice_index}
+use Rattle.std.specs.Prelude.{◌≡◌, ◌≢◌, ℕ, ◌<◌, ◌≤◌, List, length, Some, IsSome, slice_index}
 use Rattle.xdr_base.specs.Laws.{NoneBeginsAnother}
 use Rattle.pt_calls.specs.declared.calls.PtCall.{PtCall}
 use Rattle.pt_calls.specs.Calls.{spelling, IsCall}

@@ -1,25 +1,21 @@
 -- Laws of the database: over an image that stands for a state it does what the call means, and no call leaves a shorter image.
-use Rattle.std.specs.Prelude.{negsuc, unsigned_abs, is_none, is_some, not, nat_lt, ◌&&◌, IsSome, IsSomeAnd, FitsSigned, ◌<ℤ◌, ◌≤ℤ◌, ◌⊎◌, codes}
-use Rattle.std.proofs.Common.{◌≡◌, ◌≢◌, ℕ, ℤ, zero, suc, pos, ◌+◌, ◌-◌, ◌<◌, ◌≤◌, ◌^◌, Bool, true, false, cond, List, [], ◌∷◌, ◌++◌, length, map, take, drop, replicate, Option, Some, None, IfSome, refl, sym, ap, subst, ◌∙◌, inl, inr, arith}
-use Rattle.std.specs.Int.{w32}
+use Rattle.std.specs.Prelude.{unsigned_abs, is_none, is_some, not, nat_lt, ◌&&◌, IsSome, IsSomeAnd, ◌⊎◌, codes}
+use Rattle.std.proofs.Common.{◌≡◌, ◌≢◌, ℕ, ℤ, zero, suc, pos, ◌+◌, ◌-◌, ◌<◌, ◌≤◌, Bool, true, false, cond, List, [], ◌∷◌, ◌++◌, length, map, take, drop, replicate, Option, Some, None, IfSome, refl, sym, ap, subst, ◌∙◌, inl, inr, arith}
 use Rattle.std.specs.List.{find, range_with_len, AllByRecursion, Contains}
-use Rattle.std.specs.Option.{option_map}
 use Rattle.std.specs.Ordering.{int_eq}
 use Rattle.std.proofs.lemmas.Bool.Decides.{Decides-int_eq}
 use Rattle.std.proofs.lemmas.Int.{ints}
 use Rattle.std.proofs.lemmas.List.{length-append, length-take, length-drop, length-replicate}
 use Rattle.ubik_types.specs.Image.{changed, extended}
 use Rattle.ubik_types.specs.declared.images.Change.TheVariants.{Put}
-use Rattle.db_image.specs.Database.{Outcome}
 use Rattle.db_image.specs.Standing.{IsMeantOver}
-use Rattle.db_image.specs.declared.services.CallReply.TheVariants.{BadRecord}
 use Rattle.prdb_entries.specs.Blocks.{block_count}
-use Rattle.prdb_entries.specs.Meaning.{ids_above, new_user}
+use Rattle.prdb_entries.specs.Meaning.{new_user}
 use Rattle.prdb_entries.specs.Names.{is_user_name, lowered}
 use Rattle.prdb_entries.specs.Bytes.{bits, word}
 use Rattle.prdb_entries.specs.Records.{after_insert, after_set_maxima, block_place, maxima_in, new_block, next_block, registry_in, whole, with_count, with_new_block}
 use Rattle.prdb_entries.specs.declared.blocks.TheConstants.{MAX_USER_AT, BLOCK_COUNT_AT}
-use Rattle.prdb_entries.specs.Registry.{Registry, AreMaxima, IsAmong, IsOwner, IsRecord, IsRegistry, MayBeAdded, first_registry, with_entry, with_maxima}
+use Rattle.prdb_entries.specs.Registry.{Registry, AreMaxima, IsOwner, IsRecord, IsRegistry, MayBeAdded, first_registry, with_entry}
 use Rattle.prdb_entries.specs.State.{PrEntry, IsGroupId, IsNamedAfter, front_of, administrators, anonymous, fixed_entries}
 use Rattle.prdb_entries.proofs.FirstImage.{empty_holds}
 use Rattle.prdb_entries.proofs.Held.{holds_inserted, holds_maxima}
@@ -118,7 +114,7 @@ either : (r : Registry) (b : Bool) (v w : Verdict) → IsSound r v → (b ≡ fa
 either r true v w here there = here
 either r false v w here there = there refl
 
-no_name : (o : Option ℤ) → is_some o ≡ false → o ≡ None
+pub no_name : (o : Option ℤ) → is_some o ≡ false → o ≡ None
 no_name None e = refl
 no_name (Some id) e = absurd cc
 

@@ -1,4 +1,4 @@
-use Rattle.std.proofs.Common.{◌∙◌, sym, false, inl, inr}
+use Rattle.std.proofs.Common.{◌∙◌, sym, inl, inr}
 use Rattle.pt_calls.specs.Built.{built_call}
 use Rattle.pt_calls.specs.Reading.{call_of}
 use Rattle.pt_calls.proofs.BuiltKinds.{kept_of, kept_other, kept_none, some_plain, some_kept, none_kept}

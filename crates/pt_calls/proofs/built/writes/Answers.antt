@@ -1,4 +1,3 @@
-use Rattle.std.proofs.Common.{◌∙◌, sym, ap}
 use Rattle.pt_calls.specs.Built.{built_call}
 use Rattle.pt_calls.specs.Reading.{call_of}
 use Rattle.pt_calls.proofs.BuiltKinds.{writes_other}
