@@ -73,6 +73,12 @@ pub found_over : (bytes now : Option (List ℕ)) (left : Option ℕ) (k : ℕ) (
 found_over bytes now left k u same is found =
     subst (λ (n : ℕ). Held bytes (λ r. left ≡ unused_above r n)) is (subst (λ (b : Option (List ℕ)). Held b (λ r. left ≡ unused_above r k)) same found)
 
+pub plan_refused : (bytes : Option (List ℕ)) (name : List ℕ) (u g : ℤ)
+    → Held bytes (λ r. ◌≡◌ {A = ℤ × ℤ} (u, g) (r.max_user, r.max_group)) → Held bytes (λ r. None ≡ unused_above r (unsigned_abs u))
+    → Held bytes (λ r. id_named r name ≡ None → IsPlanFor (user_of name (unused_above r (unsigned_abs r.max_user))) r (plan.Refuse 267266))
+plan_refused None name u g maxima found = tt
+plan_refused (Some image) name u g maxima found = λ r holds none. ap (user_of name) (left_by r u g None (maxima r holds) (found r holds))
+
 pub is_new_user : (user : CodeEntry) (name : List ℕ) (id : ℕ) (u g h : ℤ) → seen user ≡ new_user name id → is_user_name name ≡ true → 0 < id → id ≤ 2147483647
     → h ≡ g → AreMaxima u g → IsNewUser user h
 is_new_user user name id u g h is form more le group max =
