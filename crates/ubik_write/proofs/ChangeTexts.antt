@@ -1,0 +1,46 @@
+-- The text of changes, written change by change.
+use Rattle.std.proofs.Common.{◌≡◌, ℕ, ◌+◌, ◌-◌, ◌%◌, ◌<◌, ◌≤◌, ◌^◌, List, [], ◌∷◌, ◌++◌, length, take, get_or, replicate, refl, ap, sym, ◌∙◌, append_assoc, arith}
+use Rattle.std.specs.List.{flat_map}
+use Rattle.std.proofs.lemmas.Grind.{flat_map-append}
+use Rattle.std.proofs.lemmas.List.{take_more, length-append, length-replicate, append-nil}
+use Rattle.std.proofs.lemmas.List.Folds.{length-flat_map-take}
+use Rattle.ubik_types.specs.declared.images.Change.{Change}
+use Rattle.ubik_types.specs.declared.images.Change.TheVariants.{Put, Cut}
+use Rattle.xdr_base.specs.ChangeText.{change_spelling, text_of}
+use Rattle.xdr_base.specs.Spelling.{word, opaque, padding}
+
+-- a change is no longer than the whole text
+pub change-fits : (changes : List Change) (i : ℕ) (d : Change) → i < length changes → length (text_of changes) < 2 ^ 32 → length (change_spelling (get_or changes i d)) < 2 ^ 32
+change-fits changes i d inside fits = omega (arith, length-flat_map-take change_spelling changes i d inside)
+
+-- one more change
+pub text-more : (changes : List Change) (text : List ℕ) (i : ℕ) (d : Change) → i < length changes → text ≡ text_of (take i changes) → text ++ change_spelling (get_or changes i d) ≡ text_of (take (i + 1) changes)
+text-more changes text i d inside so_far =
+    let next : take (i + 1) changes ≡ take i changes ++ get_or changes i d ∷ [] = take_more changes i d inside in
+    let one : flat_map change_spelling (get_or changes i d ∷ []) ≡ change_spelling (get_or changes i d) = append-nil (change_spelling (get_or changes i d)) in
+    ap (λ (those : List ℕ). those ++ change_spelling (get_or changes i d)) so_far
+    ∙ sym (ap (λ (those : List ℕ). text_of (take i changes) ++ those) one)
+    ∙ sym (flat_map-append change_spelling (take i changes) (get_or changes i d ∷ []))
+    ∙ sym (ap (λ (those : List Change). text_of those) next)
+
+-- the bytes of a put are no longer than its spelling
+pub put-fits : (at : ℕ) (bytes : List ℕ) → length (change_spelling (Put at bytes)) < 2 ^ 32 → length bytes < 2 ^ 32
+put-fits at bytes fits = omega (arith, simp length-append at fits)
+
+pub put-spelled : (before a b c : List ℕ) → ((before ++ a) ++ b) ++ c ≡ before ++ (a ++ (b ++ c))
+put-spelled before a b c = simp append_assoc
+
+-- how long the spelling of a change is
+pub length-put : (at : ℕ) (bytes : List ℕ) → length (change_spelling (Put at bytes)) ≡ 12 + length bytes + (4 - length bytes % 4) % 4
+length-put at bytes =
+    let inner : length (opaque bytes) ≡ 4 + length bytes + padding (length bytes) = omega (arith, length-append (word (length bytes) ++ bytes) (replicate (padding (length bytes)) 0), length-append (word (length bytes)) bytes, length-replicate {A = ℕ} (padding (length bytes)) 0) in
+    omega (arith, length-append (word 1) (word at ++ opaque bytes), length-append (word at) (opaque bytes), inner)
+
+pub length-cut : (len : ℕ) → length (change_spelling (Cut len)) ≡ 8
+length-cut len = refl
+
+-- one more change
+pub length-more : (changes : List Change) (i : ℕ) (d : Change) → i < length changes → length (text_of (take (i + 1) changes)) ≡ length (text_of (take i changes)) + length (change_spelling (get_or changes i d))
+length-more changes i d inside =
+    sym (ap (λ (those : List ℕ). length those) (text-more changes (text_of (take i changes)) i d inside refl))
+    ∙ length-append (text_of (take i changes)) (change_spelling (get_or changes i d))

@@ -1,0 +1,6 @@
+mod BytesBefore
+mod ChangeReading
+mod ChangeTexts
+mod ImageReads
+mod Patches
+mod PieceLists

@@ -1,0 +1,104 @@
+-- What patches have of an image, and what they leave of a buffer.
+use Rattle.std.proofs.Common.{◌≡◌, ℕ, ◌+◌, ◌-◌, ◌<◌, ◌≤◌, Bool, true, false, cond, nat_le, nat_lt, min, max, ◌⊎◌, List, [], ◌∷◌, ◌++◌, length, map, take, drop, get_or, refl, ap, sym, ◌∙◌, ⊎_elim, arith}
+use Rattle.std.proofs.lemmas.Bool.{cases_lt}
+use Rattle.std.proofs.lemmas.Bool.Decides.{nat_tests}
+use Rattle.std.proofs.lemmas.List.{take_all, take_more, map-append, length-drop, get_or-take, get_or-drop, get_or_append_left, get_or-append_right, length-append, length-take-le}
+use Rattle.ubik_types.specs.declared.images.Change.{Change}
+use Rattle.ubik_types.specs.declared.images.Change.TheVariants.{Put, Cut}
+use Rattle.ubik_write.specs.declared.undo.Patch.{Patch}
+use Rattle.ubik_write.specs.Undo.{undo_of, touched, covers, byte_laid, byte_before}
+
+-- no more of a list is taken than it has
+take-min : (n : ℕ) (xs : List ℕ) (size : ℕ) → length xs ≡ size → take (min n size) xs ≡ take n xs
+take-min n xs size is =
+    ⊎_elim
+    (λ (below : n < size). ap (λ (m : ℕ). take m xs) (let e : min n size ≡ n = omega arith in e))
+    (λ (past : size ≤ n).
+    (let e : min n size ≡ size = omega arith in
+    ap (λ (m : ℕ). take m xs) e ∙ take_all size xs (omega arith) ∙ sym (take_all n xs (omega arith))))
+    (cases_lt n size)
+
+-- the patch of what a change touches is its undo
+pub patch-is_undo : (image : List ℕ) (size : ℕ) (change : Change) (bytes : List ℕ) → length image ≡ size → bytes ≡ take (touched size change).1 (drop (touched size change).0 image) → (let patch : Patch = record { at = (touched size change).0; bytes = bytes } in patch ≡ undo_of image change)
+patch-is_undo image size (Put at put) bytes is read =
+    let all : bytes ≡ take (length put) (drop at image) = read ∙ take-min (length put) (drop at image) (size - at) (length-drop at image ∙ ap (λ (n : ℕ). n - at) is) in
+    ap (λ (those : List ℕ). record { at = at; bytes = those }) all
+patch-is_undo image size (Cut len) bytes is read =
+    let all : bytes ≡ drop len image = read ∙ take_all (size - len) (drop len image) (omega (arith, length-drop len image)) in
+    ap (λ (those : List ℕ). record { at = len; bytes = those }) all
+
+-- one more patch
+pub undo-more : (image : List ℕ) (changes : List Change) (undo : List Patch) (i : ℕ) (patch : Patch) (d : Change) → i < length changes → undo ≡ map (undo_of image) (take i changes) → patch ≡ undo_of image (get_or changes i d) → undo ++ patch ∷ [] ≡ map (undo_of image) (take (i + 1) changes)
+undo-more image changes undo i patch d inside so_far is =
+    let next : take (i + 1) changes ≡ take i changes ++ get_or changes i d ∷ [] = take_more changes i d inside in
+    ap (λ (those : List Patch). those ++ patch ∷ []) so_far
+    ∙ ap (λ (one : Patch). map (undo_of image) (take i changes) ++ one ∷ []) is
+    ∙ sym (map-append (undo_of image) (take i changes) (get_or changes i d ∷ []))
+    ∙ sym (ap (λ (those : List Change). map (undo_of image) those) next)
+
+-- the byte under one more patch
+pub byte_before-more : (undo : List Patch) (patch : Patch) (at byte : ℕ) → byte_before (undo ++ patch ∷ []) at byte ≡ byte_laid patch.at patch.bytes at (byte_before undo at byte)
+byte_before-more [] patch at byte = refl
+byte_before-more (first ∷ undo) patch at byte = byte_before-more undo patch at (byte_laid first.at first.bytes at byte)
+
+-- a part of a list is laid over a part of another one
+pub record IsLaidAt (start len : ℕ) (part before after : List ℕ) : Type 0 where
+  pub size : length part ≡ len
+  pub room : start + len ≤ length before
+  pub is : after ≡ take start before ++ (part ++ drop len (drop start before))
+
+-- a byte in front of the part, in it, and behind it
+front-of_part : (start len : ℕ) (part before after : List ℕ) (i : ℕ) → IsLaidAt start len part before after → i < start → get_or after i 0 ≡ get_or before i 0
+front-of_part start len part before after i laid below =
+    let front : length (take start before) ≡ start = length-take-le start before (omega (arith, laid.room)) in
+    ap (λ (those : List ℕ). get_or those i 0) laid.is
+    ∙ get_or_append_left (take start before) (part ++ drop len (drop start before)) 0 i (omega (arith, front))
+    ∙ get_or-take start before i 0 below
+
+in-part : (start len : ℕ) (part before after : List ℕ) (i : ℕ) → IsLaidAt start len part before after → start ≤ i → i < start + len → get_or after i 0 ≡ get_or part (i - start) 0
+in-part start len part before after i laid past below =
+    let front : length (take start before) ≡ start = length-take-le start before (omega (arith, laid.room)) in
+    ap (λ (those : List ℕ). get_or those i 0) laid.is
+    ∙ get_or-append_right (take start before) (part ++ drop len (drop start before)) start i 0 front past
+    ∙ get_or_append_left part (drop len (drop start before)) 0 (i - start) (omega (arith, laid.size))
+
+behind-part : (start len : ℕ) (part before after : List ℕ) (i : ℕ) → IsLaidAt start len part before after → start + len ≤ i → get_or after i 0 ≡ get_or before i 0
+behind-part start len part before after i laid past =
+    let front : length (take start before) ≡ start = length-take-le start before (omega (arith, laid.room)) in
+    let place : start + (len + (i - start - len)) ≡ i = omega arith in
+    ap (λ (those : List ℕ). get_or those i 0) laid.is
+    ∙ get_or-append_right (take start before) (part ++ drop len (drop start before)) start i 0 front (omega arith)
+    ∙ get_or-append_right part (drop len (drop start before)) len (i - start) 0 laid.size (omega arith)
+    ∙ get_or-drop len (drop start before) (i - start - len) 0
+    ∙ get_or-drop start before (len + (i - start - len)) 0
+    ∙ ap (λ (n : ℕ). get_or before n 0) place
+
+-- the bytes of a part are those of the patch
+pub laid-part : (bytes : List ℕ) (from at : ℕ) (before after : List ℕ) (start end : ℕ) → at ≤ start → from ≤ start → start < end → end ≤ from + length bytes → end ≤ at + length before → (start ≡ from) ⊎ (start ≡ at) → (end ≡ from + length bytes) ⊎ (end ≡ at + length before) → IsLaidAt (start - at) (end - start) (take (end - start) (drop (start - from) bytes)) before after → (i : ℕ) → i < length before → get_or after i 0 ≡ byte_laid from bytes (at + i) (get_or before i 0)
+laid-part bytes from at before after start end low_at low_from some high_bytes high_buf starts ends laid i inside =
+    ⊎_elim
+    (λ (front : i < start - at).
+    (let low : at + i < from = ⊎_elim (λ (e : start ≡ from). omega arith) (λ (e : start ≡ at). omega arith) starts in
+    let outside : covers from bytes (at + i) ≡ false = grind (arith, nat_tests) in
+    front-of_part (start - at) (end - start) (take (end - start) (drop (start - from) bytes)) before after i laid front ∙ rw outside))
+    (λ (past : start - at ≤ i).
+    ⊎_elim
+    (λ (below : i < (start - at) + (end - start)).
+    (let low : from ≤ at + i = omega arith in
+    let high : at + i < from + length bytes = omega arith in
+    let within : covers from bytes (at + i) ≡ true = grind (arith, nat_tests) in
+    let place : (start - from) + (i - (start - at)) ≡ at + i - from = omega arith in
+    let byte : get_or (take (end - start) (drop (start - from) bytes)) (i - (start - at)) 0 ≡ get_or bytes (at + i - from) 0 = get_or-take (end - start) (drop (start - from) bytes) (i - (start - at)) 0 (omega arith) ∙ get_or-drop (start - from) bytes (i - (start - at)) 0 ∙ ap (λ (n : ℕ). get_or bytes n 0) place in
+    in-part (start - at) (end - start) (take (end - start) (drop (start - from) bytes)) before after i laid past below ∙ byte ∙ rw within))
+    (λ (behind : (start - at) + (end - start) ≤ i).
+    (let high : from + length bytes ≤ at + i = ⊎_elim (λ (e : end ≡ from + length bytes). omega arith) (λ (e : end ≡ at + length before). omega arith) ends in
+    let outside : covers from bytes (at + i) ≡ false = grind (arith, nat_tests) in
+    behind-part (start - at) (end - start) (take (end - start) (drop (start - from) bytes)) before after i laid behind ∙ rw outside))
+    (cases_lt i ((start - at) + (end - start))))
+    (cases_lt i (start - at))
+
+-- nothing is laid where the bytes and the buffer do not meet
+pub laid-nothing : (bytes : List ℕ) (from at i byte room : ℕ) → i < room → min (from + length bytes) (at + room) ≤ max from at → byte ≡ byte_laid from bytes (at + i) byte
+laid-nothing bytes from at i byte room inside apart =
+    let outside : covers from bytes (at + i) ≡ false = grind (arith, nat_tests) in
+    rw outside

@@ -1,0 +1,144 @@
+//! A write from its flight to the changes at another server.
+use crate::{Flight, FlightFault, Pending, PendingEnd, text_len};
+use db_image::{ImageRead, ReadEnd, VecImage};
+use std::alloc::{AllocError, Global};
+use std::test::Fail;
+use ubik_types::{Change, Changes, NoMemory, Version, bytes_of};
+
+const OLD: Version = Version {
+    epoch: 1076,
+    counter: 1,
+};
+
+const NEW: Version = Version {
+    epoch: 1076,
+    counter: 2,
+};
+
+/// An image of three bytes whose reads fail.
+#[derive(Drop)]
+struct FailingImage {
+    faults: u64,
+}
+
+impl ImageRead for FailingImage {
+    ghost use Rattle.std.specs.Prelude.{None};
+
+    ghost held = { λ _. None };
+
+    ghost size = { λ _. 3 };
+
+    ghost faults = { λ image. image.faults };
+
+    ghost asked = { λ _. None };
+
+    fn len(&self) -> u32 {
+        3
+    }
+
+    fn read(&mut self, _at: u32, _buf: &mut [u8]) -> ReadEnd {
+        if self.faults == u64::MAX {
+            return ReadEnd::NoMemory;
+        }
+        self.faults += 1;
+        ReadEnd::DiskFault
+    }
+}
+
+fn put(alloc: Global, at: u32, bytes: &[u8]) -> Result<Change, NoMemory> {
+    let bytes = bytes_of(alloc, bytes)?;
+    Ok(Change::Put { at, bytes })
+}
+
+/// Puts within an image of eight bytes and past its end, and a cut before another put.
+fn changes(alloc: Global) -> Result<Changes, NoMemory> {
+    let mut list = Vec::new(alloc);
+    list.push(put(alloc, 1, b"XY")?)?;
+    list.push(put(alloc, 7, b"ZZ")?)?;
+    list.push(Change::Cut { len: 5 })?;
+    list.push(put(alloc, 6, b"W")?)?;
+    Ok(Changes::new(list))
+}
+
+/// What the image was, from a read of it after the changes. Of the byte behind its end then it does not matter what is there.
+#[test]
+fn a_flight_tells_the_image_before(rt: HostRuntime) -> Result<(), Fail> {
+    let changes = changes(rt.alloc())?;
+    assert!(rt; text_len(&changes) == 56);
+    let mut image = VecImage::new(rt.alloc(), b"abcdefgh")?;
+    let flight = Flight::make(rt.alloc(), 5, OLD, NEW, 1076, &changes, &mut image)?;
+    assert_eq!(rt; flight.ids(), (5, OLD, NEW, 1076));
+    assert_eq!(rt; flight.old_len(), 8);
+    let mut whole = *b"aXYde\0W?";
+    flight.undone(0, &mut whole);
+    assert!(rt; whole.as_slice() == b"abcdefgh".as_slice());
+    let mut part = *b"de\0W";
+    flight.undone(3, &mut part);
+    assert!(rt; part.as_slice() == b"defg".as_slice());
+    Ok(())
+}
+
+#[test]
+fn holders_of_a_flight(rt: HostRuntime) -> Result<(), Fail> {
+    let changes = changes(rt.alloc())?;
+    assert!(rt; text_len(&changes) < 100);
+    let mut image = VecImage::new(rt.alloc(), b"abcdefgh")?;
+    let mut flight = Flight::make(rt.alloc(), 5, OLD, NEW, 1076, &changes, &mut image)?;
+    flight.kept(1);
+    flight.kept(3);
+    assert!(rt; &flight.holders().set[..4] == [false, true, false, true].as_slice());
+    Ok(())
+}
+
+#[test]
+fn a_flight_over_reads_that_fail(rt: HostRuntime) -> Result<(), Fail> {
+    let changes = changes(rt.alloc())?;
+    assert!(rt; text_len(&changes) < 100);
+    let mut image = FailingImage { faults: 0 };
+    let made = Flight::make(rt.alloc(), 5, OLD, NEW, 1076, &changes, &mut image);
+    assert!(rt; matches!(made, Err(FlightFault::DiskFault)));
+    assert_eq!(rt; image.faults, 1);
+    Ok(())
+}
+
+fn sevens(alloc: Global, count: usize) -> Result<Vec<u8>, AllocError> {
+    let mut bytes = Vec::new(alloc);
+    for _ in 0..count {
+        bytes.push(7)?;
+    }
+    Ok(bytes)
+}
+
+/// A text of two pieces at another server: the pieces come in any order, a late one changes nothing, one past the count neither.
+#[test]
+fn pieces_in_any_order(rt: HostRuntime) -> Result<(), Fail> {
+    let sevens = sevens(rt.alloc(), 9000)?;
+    let mut list = Vec::new(rt.alloc());
+    list.push(put(rt.alloc(), 0, &sevens)?)?;
+    list.push(Change::Cut { len: 9000 })?;
+    let changes = Changes::new(list);
+    assert!(rt; text_len(&changes) < 10_000);
+    let mut image = VecImage::new(rt.alloc(), b"")?;
+    let flight = Flight::make(rt.alloc(), 5, OLD, NEW, 1076, &changes, &mut image)?;
+    assert_eq!(rt; flight.text_len(), 9020);
+    assert_eq!(rt; flight.pieces(), 2);
+    let mut write = Pending::begin(rt.alloc(), OLD, NEW, 2, 9020)?;
+    assert_eq!(rt; write.versions(), (OLD, NEW));
+    write.piece(1, flight.piece(1))?;
+    assert!(rt; matches!(write.finish(), PendingEnd::Missing));
+    write.piece(0, b"another")?;
+    assert!(rt; matches!(write.finish(), PendingEnd::Missing));
+    write.piece(0, flight.piece(0))?;
+    write.piece(2, b"late")?;
+    write.piece(1, flight.piece(1))?;
+    let PendingEnd::Whole(whole) = write.finish() else {
+        panic!(rt; "not whole");
+    };
+    match whole.as_slice() {
+        [Change::Put { at: 0, bytes }, Change::Cut { len: 9000 }] => {
+            assert!(rt; bytes.as_slice() == sevens.as_slice());
+        }
+        _ => panic!(rt; "other changes"),
+    }
+    Ok(())
+}
