@@ -1,14 +1,13 @@
 -- The calls of a recovery are the steps of the rules.
-use Rattle.std.proofs.Common.{◌≡◌, ℕ, Bool, false, List, refl, ap, sym, ◌∙◌}
+use Rattle.std.proofs.Common.{◌≡◌, false, refl}
 use Rattle.ubik_types.specs.declared.versions.Version.{Version}
 use Rattle.ubik_types.specs.declared.phases.Phase.{Phase}
 use Rattle.ubik_types.specs.declared.phases.Phase.TheVariants as phase
 use Rattle.ubik_types.specs.Phase as model
 use Rattle.ubik_types.specs.Phase.{phase_of}
-use Rattle.cell_model.specs.Node.{Server}
 use Rattle.cell_model.specs.Polls.{polling, only_holder}
 use Rattle.cell_model.specs.Recovery as rule
-use Rattle.cell_model.specs.Step.{Member, cell_size, with_phase}
+use Rattle.cell_model.specs.Step.{with_phase}
 use Rattle.ubik_recovery.specs.Record.{RecoveryRecord, record_in, phase_record, polled_of, spread_of, best_of, host_of, is_fetch, in_phase, poll_begun, with_old, held_by, held_alone}
 use Rattle.ubik_recovery.specs.Rules.{recovering, OfEach, PollBegins, PhaseLapses, FetchBegins, RelabellingWaits, SendBegins, ServingBegins, HolderIsAdded, WriteBegins}
 

@@ -1,14 +1,13 @@
 -- The calls of a recovery as steps of the rules: what each makes of the abstract server that has it.
 use Rattle.std.specs.Prelude.{◌≡◌, ℕ, false}
 use Rattle.ubik_types.specs.declared.versions.Version.{Version}
-use Rattle.ubik_types.specs.declared.phases.Phase.{Phase}
 use Rattle.ubik_types.specs.declared.phases.Phase.TheVariants as phase
 use Rattle.ubik_types.specs.Phase as model
 use Rattle.cell_model.specs.Node.{Server}
 use Rattle.cell_model.specs.Polls.{polling, only_holder}
 use Rattle.cell_model.specs.Recovery as rule
-use Rattle.cell_model.specs.Step.{Member, cell_size, with_phase, with_database}
-use Rattle.ubik_recovery.specs.Record.{RecoveryRecord, phase_record, polled_of, spread_of, best_of, host_of, is_fetch, in_phase, poll_begun, with_old, with_text, held_by, held_alone}
+use Rattle.cell_model.specs.Step.{Member, cell_size, with_phase}
+use Rattle.ubik_recovery.specs.Record.{RecoveryRecord, phase_record, polled_of, spread_of, best_of, host_of, is_fetch, in_phase, poll_begun, with_old, held_by, held_alone}
 
 -- the server that has this recovery, and has announced a version
 abbrev pub recovering : Version → RecoveryRecord → Server → Server

@@ -1,5 +1,5 @@
-use Rattle.std.proofs.Common.{rules, ◌≡◌, true, false, is_some, arith}
-use Rattle.ubik_recovery.proofs.Best.{first-step, first-here, first-end}
+use Rattle.std.proofs.Common.{rules, arith}
+use Rattle.ubik_recovery.proofs.Best.{first-step}
 use Rattle.ubik_recovery.proofs.answers.first_with.Goals as goal
 
 pub loop-i-preserved : goal.loop-i-preserved
