@@ -2,11 +2,11 @@
 use Rattle.std.proofs.Common.{◌≡◌, ℕ, zero, suc, ◌+◌, ◌-◌, ◌<◌, ◌≤◌, ◌==◌, Bool, true, false, cond, Option, Some, None, option_map, option_and_then, Result, Ok, Err, List, [], ◌∷◌, ◌++◌, length, refl, ap, sym, ◌∙◌, append_assoc, arith}
 use Rattle.std.proofs.lemmas.Bool.Decides.{nat_tests}
 use Rattle.std.proofs.lemmas.List.{append-nil}
-use Rattle.std.specs.Result.{result_ok}
+use Rattle.std.specs.Result.{result_ok, is_ok, IsOk}
 use Rattle.ubik_types.specs.declared.images.Change.{Change}
 use Rattle.ubik_types.specs.declared.images.Change.TheVariants.{Put, Cut}
 use Rattle.xdr_base.specs.declared.faults.XdrFault.{XdrFault}
-use Rattle.xdr_base.specs.Reading.{Reading, word_at, opaque_at}
+use Rattle.xdr_base.specs.Reading.{Reading, at_start, word_at, opaque_at}
 use Rattle.cell_model.specs.Pieces.{number_at, put_at, cut_at, change_of, change_at, changes_at, changes_in}
 
 -- the changes before, and those that stand from a place on
@@ -16,6 +16,19 @@ with_rest before rest = option_map (λ (changes : List Change). before ++ change
 with_rest-next : (before : List Change) (change : Change) (rest : Option (List Change)) → with_rest before (option_map (λ (changes : List Change). change ∷ changes) rest) ≡ with_rest (before ++ change ∷ []) rest
 with_rest-next before change None = refl
 with_rest-next before change (Some rest) = ap (λ (changes : List Change). Some changes) (sym (append_assoc before (change ∷ []) rest))
+
+-- no change is read yet
+pub changes-begin : (text : List ℕ) (most : ℕ) → most ≡ length text → changes_in text ≡ with_rest [] (changes_at most (at_start text))
+changes-begin text most all = begin (changes_at (length text) (at_start text)) ∙ sym (ap (λ (n : ℕ). with_rest [] (changes_at n (at_start text))) all)
+  where
+    begin : (rest : Option (List Change)) → rest ≡ with_rest [] rest
+    begin None = refl
+    begin (Some rest) = refl
+
+-- what is refused is not read to its end
+pub some-left : (ended : Result (Unit {0}) XdrFault) (rest : List ℕ) → is_ok ended ≡ false → (rest ≡ [] → IsOk ended) → rest ≡ [] → ⊥
+some-left (Ok unit) rest test done none = absurd (cc)
+some-left (Err fault) rest test done none = absurd (let e : false ≡ true = done none in cc)
 
 is_empty-test : (rest : List ℕ) → (rest ≡ [] → ⊥) → (length rest == 0) ≡ false
 is_empty-test [] some = absurd (some refl)

@@ -27,8 +27,13 @@ text-more changes text i d inside so_far =
 pub put-fits : (at : ℕ) (bytes : List ℕ) → length (change_spelling (Put at bytes)) < 2 ^ 32 → length bytes < 2 ^ 32
 put-fits at bytes fits = omega (arith, simp length-append at fits)
 
-pub put-spelled : (before a b c : List ℕ) → ((before ++ a) ++ b) ++ c ≡ before ++ (a ++ (b ++ c))
-put-spelled before a b c = simp append_assoc
+-- three parts are written, one behind the other
+pub put-spelled : (before one two three a b c : List ℕ) → one ≡ before ++ a → two ≡ one ++ b → three ≡ two ++ c → three ≡ before ++ (a ++ (b ++ c))
+put-spelled before one two three a b c first second third =
+    third
+    ∙ ap (λ (those : List ℕ). those ++ c) (second ∙ ap (λ (those : List ℕ). those ++ b) first)
+    ∙ append_assoc (before ++ a) b c
+    ∙ append_assoc before a (b ++ c)
 
 -- how long the spelling of a change is
 pub length-put : (at : ℕ) (bytes : List ℕ) → length (change_spelling (Put at bytes)) ≡ 12 + length bytes + (4 - length bytes % 4) % 4

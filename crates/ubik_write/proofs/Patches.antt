@@ -1,8 +1,9 @@
 -- What patches have of an image, and what they leave of a buffer.
-use Rattle.std.proofs.Common.{◌≡◌, ℕ, ◌+◌, ◌-◌, ◌<◌, ◌≤◌, Bool, true, false, cond, nat_le, nat_lt, min, max, ◌⊎◌, List, [], ◌∷◌, ◌++◌, length, map, take, drop, get_or, refl, ap, sym, ◌∙◌, ⊎_elim, arith}
+use Rattle.std.proofs.Common.{◌≡◌, ℕ, ◌+◌, ◌-◌, ◌<◌, ◌≤◌, Bool, true, false, cond, nat_le, nat_lt, min, max, ◌⊎◌, List, [], ◌∷◌, ◌++◌, length, map, take, drop, get_or, refl, ap, sym, ◌∙◌, ⊎_elim, inl, inr, arith}
 use Rattle.std.proofs.lemmas.Bool.{cases_lt}
 use Rattle.std.proofs.lemmas.Bool.Decides.{nat_tests}
 use Rattle.std.proofs.lemmas.List.{take_all, take_more, map-append, length-drop, get_or-take, get_or-drop, get_or_append_left, get_or-append_right, length-append, length-take-le}
+use borrow.Rule.Slice.PartMut.{put_mid}
 use Rattle.ubik_types.specs.declared.images.Change.{Change}
 use Rattle.ubik_types.specs.declared.images.Change.TheVariants.{Put, Cut}
 use Rattle.ubik_write.specs.declared.undo.Patch.{Patch}
@@ -40,6 +41,15 @@ undo-more image changes undo i patch d inside so_far is =
 pub byte_before-more : (undo : List Patch) (patch : Patch) (at byte : ℕ) → byte_before (undo ++ patch ∷ []) at byte ≡ byte_laid patch.at patch.bytes at (byte_before undo at byte)
 byte_before-more [] patch at byte = refl
 byte_before-more (first ∷ undo) patch at byte = byte_before-more undo patch at (byte_laid first.at first.bytes at byte)
+
+-- the byte under the patches so far, and then under the next one
+pub undone-more : (undo : List Patch) (patch : Patch) (n at before mid after : ℕ) → n < length undo → patch ≡ get_or undo n patch → mid ≡ byte_before (take n undo) at before → after ≡ byte_laid patch.at patch.bytes at mid → after ≡ byte_before (take (n + 1) undo) at before
+undone-more undo patch n at before mid after inside is so_far next =
+    let more : take (n + 1) undo ≡ take n undo ++ patch ∷ [] = take_more undo n patch inside ∙ ap (λ (one : Patch). take n undo ++ one ∷ []) (sym is) in
+    next
+    ∙ ap (λ (byte : ℕ). byte_laid patch.at patch.bytes at byte) so_far
+    ∙ sym (byte_before-more (take n undo) patch at before)
+    ∙ sym (ap (λ (those : List Patch). byte_before those at before) more)
 
 -- a part of a list is laid over a part of another one
 pub record IsLaidAt (start len : ℕ) (part before after : List ℕ) : Type 0 where
@@ -102,3 +112,18 @@ pub laid-nothing : (bytes : List ℕ) (from at i byte room : ℕ) → i < room �
 laid-nothing bytes from at i byte room inside apart =
     let outside : covers from bytes (at + i) ≡ false = grind (arith, nat_tests) in
     rw outside
+
+-- the part that is written where the bytes and the buffer meet
+pub laid-over : (bytes : List ℕ) (from at : ℕ) (before part : List ℕ) (start end : ℕ) → start ≡ max from at → end ≡ min (from + length bytes) (at + length before) → start < end → part ≡ take (end - from - (start - from)) (drop (start - from) bytes) → (i : ℕ) → i < length before → get_or (put_mid (start - at) (end - at - (start - at)) before part) i 0 ≡ byte_laid from bytes (at + i) (get_or before i 0)
+laid-over bytes from at before part start end start_is end_is some part_is i inside =
+    let size : end - at - (start - at) ≡ end - start = omega arith in
+    let read : end - from - (start - from) ≡ end - start = omega arith in
+    let whole : take (end - from - (start - from)) (drop (start - from) bytes) ≡ take (end - start) (drop (start - from) bytes) = ap (λ (n : ℕ). take n (drop (start - from) bytes)) read in
+    let starts : (start ≡ from) ⊎ (start ≡ at) = ⊎_elim (λ (below : from < at). inr (omega arith)) (λ (past : at ≤ from). inl (omega arith)) (cases_lt from at) in
+    let ends : (end ≡ from + length bytes) ⊎ (end ≡ at + length before) = ⊎_elim (λ (below : from + length bytes < at + length before). inl (omega arith)) (λ (past : at + length before ≤ from + length bytes). inr (omega arith)) (cases_lt (from + length bytes) (at + length before)) in
+    let laid : IsLaidAt (start - at) (end - start) (take (end - start) (drop (start - from) bytes)) before (put_mid (start - at) (end - at - (start - at)) before part) = record {
+      size = length-take-le (end - start) (drop (start - from) bytes) (omega (arith, length-drop (start - from) bytes));
+      room = omega arith;
+      is = ap (λ (n : ℕ). put_mid (start - at) n before part) size ∙ ap (λ (those : List ℕ). put_mid (start - at) (end - start) before those) (part_is ∙ whole);
+    } in
+    laid-part bytes from at before (put_mid (start - at) (end - at - (start - at)) before part) start end (omega arith) (omega arith) some (omega arith) (omega arith) starts ends laid i inside

@@ -32,6 +32,12 @@ impl ImageRead for FailingImage {
 
     ghost asked = { λ _. None };
 
+    ghost came = { λ _ _. Unit {0} };
+
+    ghost comes_same = { λ _. tt };
+
+    ghost comes_on = { λ _ _ _ _ _. tt };
+
     fn len(&self) -> u32 {
         3
     }
