@@ -23,10 +23,6 @@ text-more changes text i d inside so_far =
     ∙ sym (flat_map-append change_spelling (take i changes) (get_or changes i d ∷ []))
     ∙ sym (ap (λ (those : List Change). text_of those) next)
 
--- the bytes of a put are no longer than its spelling
-pub put-fits : (at : ℕ) (bytes : List ℕ) → length (change_spelling (Put at bytes)) < 2 ^ 32 → length bytes < 2 ^ 32
-put-fits at bytes fits = omega (arith, simp length-append at fits)
-
 -- three parts are written, one behind the other
 pub put-spelled : (before one two three a b c : List ℕ) → one ≡ before ++ a → two ≡ one ++ b → three ≡ two ++ c → three ≡ before ++ (a ++ (b ++ c))
 put-spelled before one two three a b c first second third =
@@ -34,18 +30,3 @@ put-spelled before one two three a b c first second third =
     ∙ ap (λ (those : List ℕ). those ++ c) (second ∙ ap (λ (those : List ℕ). those ++ b) first)
     ∙ append_assoc (before ++ a) b c
     ∙ append_assoc before a (b ++ c)
-
--- how long the spelling of a change is
-pub length-put : (at : ℕ) (bytes : List ℕ) → length (change_spelling (Put at bytes)) ≡ 12 + length bytes + (4 - length bytes % 4) % 4
-length-put at bytes =
-    let inner : length (opaque bytes) ≡ 4 + length bytes + padding (length bytes) = omega (arith, length-append (word (length bytes) ++ bytes) (replicate (padding (length bytes)) 0), length-append (word (length bytes)) bytes, length-replicate {A = ℕ} (padding (length bytes)) 0) in
-    omega (arith, length-append (word 1) (word at ++ opaque bytes), length-append (word at) (opaque bytes), inner)
-
-pub length-cut : (len : ℕ) → length (change_spelling (Cut len)) ≡ 8
-length-cut len = refl
-
--- one more change
-pub length-more : (changes : List Change) (i : ℕ) (d : Change) → i < length changes → length (text_of (take (i + 1) changes)) ≡ length (text_of (take i changes)) + length (change_spelling (get_or changes i d))
-length-more changes i d inside =
-    sym (ap (λ (those : List ℕ). length those) (text-more changes (text_of (take i changes)) i d inside refl))
-    ∙ length-append (text_of (take i changes)) (change_spelling (get_or changes i d))

@@ -1,6 +1,5 @@
 mod BytesBefore
 mod ChangeReading
 mod ChangeTexts
-mod ImageReads
 mod Patches
 mod PieceLists

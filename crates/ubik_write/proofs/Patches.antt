@@ -9,34 +9,6 @@ use Rattle.ubik_types.specs.declared.images.Change.TheVariants.{Put, Cut}
 use Rattle.ubik_write.specs.declared.undo.Patch.{Patch}
 use Rattle.ubik_write.specs.Undo.{undo_of, touched, covers, byte_laid, byte_before}
 
--- no more of a list is taken than it has
-take-min : (n : ℕ) (xs : List ℕ) (size : ℕ) → length xs ≡ size → take (min n size) xs ≡ take n xs
-take-min n xs size is =
-    ⊎_elim
-    (λ (below : n < size). ap (λ (m : ℕ). take m xs) (let e : min n size ≡ n = omega arith in e))
-    (λ (past : size ≤ n).
-    (let e : min n size ≡ size = omega arith in
-    ap (λ (m : ℕ). take m xs) e ∙ take_all size xs (omega arith) ∙ sym (take_all n xs (omega arith))))
-    (cases_lt n size)
-
--- the patch of what a change touches is its undo
-pub patch-is_undo : (image : List ℕ) (size : ℕ) (change : Change) (bytes : List ℕ) → length image ≡ size → bytes ≡ take (touched size change).1 (drop (touched size change).0 image) → (let patch : Patch = record { at = (touched size change).0; bytes = bytes } in patch ≡ undo_of image change)
-patch-is_undo image size (Put at put) bytes is read =
-    let all : bytes ≡ take (length put) (drop at image) = read ∙ take-min (length put) (drop at image) (size - at) (length-drop at image ∙ ap (λ (n : ℕ). n - at) is) in
-    ap (λ (those : List ℕ). record { at = at; bytes = those }) all
-patch-is_undo image size (Cut len) bytes is read =
-    let all : bytes ≡ drop len image = read ∙ take_all (size - len) (drop len image) (omega (arith, length-drop len image)) in
-    ap (λ (those : List ℕ). record { at = len; bytes = those }) all
-
--- one more patch
-pub undo-more : (image : List ℕ) (changes : List Change) (undo : List Patch) (i : ℕ) (patch : Patch) (d : Change) → i < length changes → undo ≡ map (undo_of image) (take i changes) → patch ≡ undo_of image (get_or changes i d) → undo ++ patch ∷ [] ≡ map (undo_of image) (take (i + 1) changes)
-undo-more image changes undo i patch d inside so_far is =
-    let next : take (i + 1) changes ≡ take i changes ++ get_or changes i d ∷ [] = take_more changes i d inside in
-    ap (λ (those : List Patch). those ++ patch ∷ []) so_far
-    ∙ ap (λ (one : Patch). map (undo_of image) (take i changes) ++ one ∷ []) is
-    ∙ sym (map-append (undo_of image) (take i changes) (get_or changes i d ∷ []))
-    ∙ sym (ap (λ (those : List Change). map (undo_of image) those) next)
-
 -- the byte under one more patch
 pub byte_before-more : (undo : List Patch) (patch : Patch) (at byte : ℕ) → byte_before (undo ++ patch ∷ []) at byte ≡ byte_laid patch.at patch.bytes at (byte_before undo at byte)
 byte_before-more [] patch at byte = refl
@@ -106,12 +78,6 @@ laid-part bytes from at before after start end low_at low_from some high_bytes h
     behind-part (start - at) (end - start) (take (end - start) (drop (start - from) bytes)) before after i laid behind ∙ rw outside))
     (cases_lt i ((start - at) + (end - start))))
     (cases_lt i (start - at))
-
--- nothing is laid where the bytes and the buffer do not meet
-pub laid-nothing : (bytes : List ℕ) (from at i byte room : ℕ) → i < room → min (from + length bytes) (at + room) ≤ max from at → byte ≡ byte_laid from bytes (at + i) byte
-laid-nothing bytes from at i byte room inside apart =
-    let outside : covers from bytes (at + i) ≡ false = grind (arith, nat_tests) in
-    rw outside
 
 -- the part that is written where the bytes and the buffer meet
 pub laid-over : (bytes : List ℕ) (from at : ℕ) (before part : List ℕ) (start end : ℕ) → start ≡ max from at → end ≡ min (from + length bytes) (at + length before) → start < end → part ≡ take (end - from - (start - from)) (drop (start - from) bytes) → (i : ℕ) → i < length before → get_or (put_mid (start - at) (end - at - (start - at)) before part) i 0 ≡ byte_laid from bytes (at + i) (get_or before i 0)
