@@ -1,7 +1,10 @@
 //! A write from its flight to the changes at another server.
+ghost use Rattle.std.specs.Prelude.{◌<◌, ◌^◌, length};
+
 use crate::{Flight, FlightFault, Pending, PendingEnd, text_len};
 use db_image::{ImageRead, ReadEnd, VecImage};
 use std::alloc::{AllocError, Global};
+use std::process::Abort;
 use std::test::Fail;
 use ubik_types::{Change, Changes, NoMemory, Version, bytes_of};
 
@@ -66,13 +69,27 @@ fn changes(alloc: Global) -> Result<Changes, NoMemory> {
     Ok(Changes::new(list))
 }
 
+/// A flight of changes with a short text, over an image of these bytes.
+fn short_flight(
+    rt: &impl Abort,
+    alloc: Global,
+    changes: &Changes,
+    bytes: &[u8],
+) -> Result<Flight, Fail>
+    requires { length bytes.now < 2 ^ 32 }
+{
+    assert!(rt; text_len(changes) < 10_000);
+    let mut image = VecImage::new(alloc, bytes)?;
+    let flight = Flight::make(alloc, 5, OLD, NEW, 1076, changes, &mut image)?;
+    Ok(flight)
+}
+
 /// What the image was, from a read of it after the changes. Of the byte behind its end then it does not matter what is there.
 #[test]
 fn a_flight_tells_the_image_before(rt: HostRuntime) -> Result<(), Fail> {
     let changes = changes(rt.alloc())?;
-    assert!(rt; text_len(&changes) == 56);
-    let mut image = VecImage::new(rt.alloc(), b"abcdefgh")?;
-    let flight = Flight::make(rt.alloc(), 5, OLD, NEW, 1076, &changes, &mut image)?;
+    assert_eq!(rt; text_len(&changes), 56);
+    let flight = short_flight(&rt, rt.alloc(), &changes, b"abcdefgh")?;
     assert_eq!(rt; flight.ids(), (5, OLD, NEW, 1076));
     assert_eq!(rt; flight.old_len(), 8);
     let mut whole = *b"aXYde\0W?";
@@ -87,9 +104,7 @@ fn a_flight_tells_the_image_before(rt: HostRuntime) -> Result<(), Fail> {
 #[test]
 fn holders_of_a_flight(rt: HostRuntime) -> Result<(), Fail> {
     let changes = changes(rt.alloc())?;
-    assert!(rt; text_len(&changes) < 100);
-    let mut image = VecImage::new(rt.alloc(), b"abcdefgh")?;
-    let mut flight = Flight::make(rt.alloc(), 5, OLD, NEW, 1076, &changes, &mut image)?;
+    let mut flight = short_flight(&rt, rt.alloc(), &changes, b"abcdefgh")?;
     flight.kept(1);
     flight.kept(3);
     assert!(rt; &flight.holders().set[..4] == [false, true, false, true].as_slice());
@@ -115,36 +130,47 @@ fn sevens(alloc: Global, count: usize) -> Result<Vec<u8>, AllocError> {
     Ok(bytes)
 }
 
-/// A text of two pieces at another server: the pieces come in any order, a late one changes nothing, one past the count neither.
+/// A put of nine thousand bytes and a cut, whose text has two pieces.
+fn long_changes(alloc: Global) -> Result<Changes, Fail> {
+    let sevens = sevens(alloc, 9000)?;
+    let mut list = Vec::new(alloc);
+    list.push(put(alloc, 0, &sevens)?)?;
+    list.push(Change::Cut { len: 9000 })?;
+    Ok(Changes::new(list))
+}
+
+/// Whether these are the changes of `long_changes`.
+fn are_long_changes(changes: &Changes) -> bool {
+    match changes.as_slice() {
+        [Change::Put { at: 0, bytes }, Change::Cut { len: 9000 }] => {
+            bytes.as_slice().len() == 9000 && bytes.as_slice().iter().all(|byte| *byte == 7)
+        }
+        _ => false,
+    }
+}
+
+fn is_missing(write: &Pending) -> bool {
+    matches!(write.finish(), PendingEnd::Missing)
+}
+
+/// A text of two pieces at another server: they come in any order, one takes the place of another, one past the count changes nothing.
 #[test]
 fn pieces_in_any_order(rt: HostRuntime) -> Result<(), Fail> {
-    let sevens = sevens(rt.alloc(), 9000)?;
-    let mut list = Vec::new(rt.alloc());
-    list.push(put(rt.alloc(), 0, &sevens)?)?;
-    list.push(Change::Cut { len: 9000 })?;
-    let changes = Changes::new(list);
-    assert!(rt; text_len(&changes) < 10_000);
-    let mut image = VecImage::new(rt.alloc(), b"")?;
-    let flight = Flight::make(rt.alloc(), 5, OLD, NEW, 1076, &changes, &mut image)?;
+    let changes = long_changes(rt.alloc())?;
+    let flight = short_flight(&rt, rt.alloc(), &changes, b"")?;
     assert_eq!(rt; flight.text_len(), 9020);
     assert_eq!(rt; flight.pieces(), 2);
     let mut write = Pending::begin(rt.alloc(), OLD, NEW, 2, 9020)?;
     assert_eq!(rt; write.versions(), (OLD, NEW));
     write.piece(1, flight.piece(1))?;
-    assert!(rt; matches!(write.finish(), PendingEnd::Missing));
+    assert!(rt; is_missing(&write));
     write.piece(0, b"another")?;
-    assert!(rt; matches!(write.finish(), PendingEnd::Missing));
+    assert!(rt; is_missing(&write));
     write.piece(0, flight.piece(0))?;
     write.piece(2, b"late")?;
-    write.piece(1, flight.piece(1))?;
     let PendingEnd::Whole(whole) = write.finish() else {
         panic!(rt; "not whole");
     };
-    match whole.as_slice() {
-        [Change::Put { at: 0, bytes }, Change::Cut { len: 9000 }] => {
-            assert!(rt; bytes.as_slice() == sevens.as_slice());
-        }
-        _ => panic!(rt; "other changes"),
-    }
+    assert!(rt; are_long_changes(&whole));
     Ok(())
 }
