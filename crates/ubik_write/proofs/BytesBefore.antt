@@ -1,5 +1,5 @@
 -- The undo bytes lead from the image after changes back to the one before.
-use Rattle.std.proofs.Common.{◌≡◌, ℕ, zero, suc, ◌+◌, ◌-◌, ◌<◌, ◌≤◌, Bool, true, false, cond, List, [], ◌∷◌, ◌++◌, length, map, take, drop, get_or, replicate, nat_le, nat_lt, min, ⊎_elim, refl, ap, sym, ◌∙◌, arith}
+use Rattle.std.proofs.Common.{◌≡◌, ℕ, ◌+◌, ◌-◌, ◌<◌, ◌≤◌, Bool, true, false, cond, List, [], ◌∷◌, ◌++◌, length, map, take, drop, get_or, replicate, nat_le, nat_lt, min, ⊎_elim, refl, ap, sym, ◌∙◌, arith}
 use Rattle.std.proofs.lemmas.Bool.Decides.{nat_tests}
 use Rattle.std.proofs.lemmas.Bool.{cases_lt}
 use Rattle.std.proofs.lemmas.List.{length-take, length-take-le, length-drop, length-append, length-replicate, get_or-take, get_or-drop, get_or_append_left, get_or-append_right}
@@ -8,7 +8,7 @@ use Rattle.ubik_types.specs.declared.images.Change.{Change}
 use Rattle.ubik_types.specs.declared.images.Change.TheVariants.{Put, Cut}
 use Rattle.ubik_types.specs.Image.{extended, changed, effect}
 use Rattle.ubik_write.specs.declared.undo.Patch.{Patch}
-use Rattle.ubik_write.specs.Undo.{undo_of, covers, byte_laid, byte_under, byte_before, ShowsWithin, IsUndone}
+use Rattle.ubik_write.specs.Undo.{undo_of, covers, byte_before, ShowsWithin, IsUndone}
 use Rattle.ubik_write.specs.Flight.{FlightRecord, Undoes}
 
 -- an image has this byte at a position

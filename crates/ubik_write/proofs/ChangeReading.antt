@@ -1,13 +1,12 @@
 -- A text of changes, read change by change.
-use Rattle.std.proofs.Common.{◌≡◌, ℕ, zero, suc, ◌+◌, ◌-◌, ◌<◌, ◌≤◌, ◌==◌, Bool, true, false, cond, Option, Some, None, option_map, option_and_then, Result, Ok, Err, List, [], ◌∷◌, ◌++◌, length, refl, ap, sym, ◌∙◌, append_assoc, arith}
+use Rattle.std.proofs.Common.{◌≡◌, ℕ, zero, suc, ◌==◌, true, false, Option, Some, None, option_map, Result, Ok, Err, List, [], ◌∷◌, ◌++◌, length, refl, ap, sym, ◌∙◌, append_assoc, arith}
 use Rattle.std.proofs.lemmas.Bool.Decides.{nat_tests}
 use Rattle.std.proofs.lemmas.List.{append-nil}
-use Rattle.std.specs.Result.{result_ok, is_ok, IsOk}
+use Rattle.std.specs.Result.{is_ok, IsOk}
 use Rattle.ubik_types.specs.declared.images.Change.{Change}
-use Rattle.ubik_types.specs.declared.images.Change.TheVariants.{Put, Cut}
 use Rattle.xdr_base.specs.declared.faults.XdrFault.{XdrFault}
-use Rattle.xdr_base.specs.Reading.{Reading, at_start, word_at, opaque_at}
-use Rattle.cell_model.specs.Pieces.{number_at, put_at, cut_at, change_of, change_at, changes_at, changes_in}
+use Rattle.xdr_base.specs.Reading.{Reading}
+use Rattle.cell_model.specs.Pieces.{change_at, changes_at}
 
 -- the changes before, and those that stand from a place on
 abbrev pub with_rest : List Change → Option (List Change) → Option (List Change)

@@ -1,13 +1,11 @@
 -- What patches have of an image, and what they leave of a buffer.
-use Rattle.std.proofs.Common.{◌≡◌, ℕ, ◌+◌, ◌-◌, ◌<◌, ◌≤◌, Bool, true, false, cond, nat_le, nat_lt, min, max, ◌⊎◌, List, [], ◌∷◌, ◌++◌, length, map, take, drop, get_or, refl, ap, sym, ◌∙◌, ⊎_elim, inl, inr, arith}
+use Rattle.std.proofs.Common.{◌≡◌, ℕ, ◌+◌, ◌-◌, ◌<◌, ◌≤◌, true, false, min, max, ◌⊎◌, List, [], ◌∷◌, ◌++◌, length, take, drop, get_or, refl, ap, sym, ◌∙◌, ⊎_elim, inl, inr, arith}
 use Rattle.std.proofs.lemmas.Bool.{cases_lt}
 use Rattle.std.proofs.lemmas.Bool.Decides.{nat_tests}
-use Rattle.std.proofs.lemmas.List.{take_all, take_more, map-append, length-drop, get_or-take, get_or-drop, get_or_append_left, get_or-append_right, length-append, length-take-le}
+use Rattle.std.proofs.lemmas.List.{take_more, length-drop, get_or-take, get_or-drop, get_or_append_left, get_or-append_right, length-take-le}
 use borrow.Rule.Slice.PartMut.{put_mid}
-use Rattle.ubik_types.specs.declared.images.Change.{Change}
-use Rattle.ubik_types.specs.declared.images.Change.TheVariants.{Put, Cut}
 use Rattle.ubik_write.specs.declared.undo.Patch.{Patch}
-use Rattle.ubik_write.specs.Undo.{undo_of, touched, covers, byte_laid, byte_before}
+use Rattle.ubik_write.specs.Undo.{covers, byte_laid, byte_before}
 
 -- the byte under one more patch
 pub byte_before-more : (undo : List Patch) (patch : Patch) (at byte : ℕ) → byte_before (undo ++ patch ∷ []) at byte ≡ byte_laid patch.at patch.bytes at (byte_before undo at byte)

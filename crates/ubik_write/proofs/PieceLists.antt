@@ -1,9 +1,9 @@
 -- Pieces of a text, one behind the other.
-use Rattle.std.proofs.Common.{◌≡◌, ℕ, ◌+◌, ◌-◌, ◌<◌, ◌≤◌, min, Option, Some, None, option_map, List, [], ◌∷◌, ◌++◌, length, take, drop, get_or, ⊎_elim, refl, ap, sym, ◌∙◌, append_assoc, arith}
+use Rattle.std.proofs.Common.{◌≡◌, ℕ, ◌+◌, ◌-◌, ◌<◌, ◌≤◌, min, Option, option_map, List, ◌++◌, length, take, drop, ⊎_elim, ap, sym, ◌∙◌, arith}
 use Rattle.std.proofs.lemmas.Bool.{cases_lt}
-use Rattle.std.proofs.lemmas.List.{drop_more, append-nil, drop_all, take_all, length-drop}
+use Rattle.std.proofs.lemmas.List.{take_all, length-drop}
 use Rattle.ubik_calls.specs.declared.packets.TheConstants.{MAX_PIECE}
-use Rattle.cell_model.specs.Pieces.{joined, piece_from}
+use Rattle.cell_model.specs.Pieces.{piece_from}
 
 -- the text before, and the pieces that are left
 abbrev pub with_rest : List ℕ → Option (List ℕ) → Option (List ℕ)
