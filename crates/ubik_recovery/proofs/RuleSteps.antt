@@ -1,15 +1,15 @@
 -- The calls of a recovery are the steps of the rules.
-use Rattle.std.proofs.Common.{◌≡◌, false, refl}
+use Rattle.std.proofs.Common.{◌≡◌, false, Some, None, refl}
 use Rattle.ubik_types.specs.declared.versions.Version.{Version}
 use Rattle.ubik_types.specs.declared.phases.Phase.{Phase}
 use Rattle.ubik_types.specs.declared.phases.Phase.TheVariants as phase
 use Rattle.ubik_types.specs.Phase as model
 use Rattle.ubik_types.specs.Phase.{phase_of}
-use Rattle.cell_model.specs.Polls.{polling, only_holder}
+use Rattle.cell_model.specs.Polls.{polling, with_answer, only_holder}
 use Rattle.cell_model.specs.Recovery as rule
-use Rattle.cell_model.specs.Step.{with_phase}
-use Rattle.ubik_recovery.specs.Record.{RecoveryRecord, record_in, phase_record, polled_of, spread_of, best_of, host_of, is_fetch, in_phase, poll_begun, with_old, held_by, held_alone}
-use Rattle.ubik_recovery.specs.Rules.{recovering, OfEach, PollBegins, PhaseLapses, FetchBegins, RelabellingWaits, SendBegins, ServingBegins, HolderIsAdded, WriteBegins}
+use Rattle.cell_model.specs.Step.{with_phase, with_database}
+use Rattle.ubik_recovery.specs.Record.{RecoveryRecord, record_in, phase_record, polled_of, spread_of, best_of, host_of, is_fetch, in_phase, poll_begun, answered_by, with_old, with_text, held_by, held_alone}
+use Rattle.ubik_recovery.specs.Rules.{recovering, OfEach, PollBegins, AnswerCounts, PhaseLapses, FetchBegins, RelabellingWaits, SendBegins, ServingBegins, HolderIsAdded, WriteBegins, TextGoesOn, DatabaseIsTaken}
 
 pub phase_of-record : (announced : Version) (r : RecoveryRecord) → phase_of (phase_record announced r) ≡ r.phase
 phase_of-record announced r = by_phase r.phase
@@ -113,3 +113,36 @@ write-begins m s announced r same next ready = by_phase r.phase ready
     by_phase phase.Relabel e = absurd (cc)
     by_phase phase.Send e = absurd (cc)
     by_phase phase.Ready e = rw same
+
+pub answer-counts : OfEach AnswerCounts
+answer-counts m s announced r same k version polls = by_phase r.phase polls
+  where
+    by_phase : (p : Phase) → p ≡ phase.Poll → with_phase (recovering announced (at_phase r p) s) (model.Poll (with_answer (polled_of r) k version)) ≡ recovering announced (answered_by (at_phase r p) k version) s
+    by_phase phase.None e = absurd (cc)
+    by_phase phase.Poll e = refl
+    by_phase phase.Fetch e = absurd (cc)
+    by_phase phase.Relabel e = absurd (cc)
+    by_phase phase.Send e = absurd (cc)
+    by_phase phase.Ready e = absurd (cc)
+
+pub text-goes_on : OfEach TextGoesOn
+text-goes_on m s announced r same text = by_phase r.phase
+  where
+    by_phase : (p : Phase) → (record (recovering announced (at_phase r p) s) { received = Some text }) ≡ recovering announced (with_text (at_phase r p) (Some text)) s
+    by_phase phase.None = refl
+    by_phase phase.Poll = refl
+    by_phase phase.Fetch = refl
+    by_phase phase.Relabel = refl
+    by_phase phase.Send = refl
+    by_phase phase.Ready = refl
+
+pub database-is_taken : OfEach DatabaseIsTaken
+database-is_taken m s announced r same version image = by_phase r.phase
+  where
+    by_phase : (p : Phase) → with_database (recovering announced (at_phase r p) s) version image ≡ recovering announced (with_text (at_phase r p) None) (with_database s version image)
+    by_phase phase.None = refl
+    by_phase phase.Poll = refl
+    by_phase phase.Fetch = refl
+    by_phase phase.Relabel = refl
+    by_phase phase.Send = refl
+    by_phase phase.Ready = refl

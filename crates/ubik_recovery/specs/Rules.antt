@@ -1,13 +1,13 @@
 -- The calls of a recovery as steps of the rules: what each makes of the abstract server that has it.
-use Rattle.std.specs.Prelude.{◌≡◌, ℕ, false}
+use Rattle.std.specs.Prelude.{◌≡◌, ℕ, false, Some, None, List}
 use Rattle.ubik_types.specs.declared.versions.Version.{Version}
 use Rattle.ubik_types.specs.declared.phases.Phase.TheVariants as phase
 use Rattle.ubik_types.specs.Phase as model
-use Rattle.cell_model.specs.Node.{Server}
-use Rattle.cell_model.specs.Polls.{polling, only_holder}
+use Rattle.cell_model.specs.Node.{Server, ReceivedText}
+use Rattle.cell_model.specs.Polls.{polling, with_answer, only_holder}
 use Rattle.cell_model.specs.Recovery as rule
-use Rattle.cell_model.specs.Step.{Member, cell_size, with_phase}
-use Rattle.ubik_recovery.specs.Record.{RecoveryRecord, phase_record, polled_of, spread_of, best_of, host_of, is_fetch, in_phase, poll_begun, with_old, held_by, held_alone}
+use Rattle.cell_model.specs.Step.{Member, cell_size, with_phase, with_database}
+use Rattle.ubik_recovery.specs.Record.{RecoveryRecord, phase_record, polled_of, spread_of, best_of, host_of, is_fetch, in_phase, poll_begun, answered_by, with_old, with_text, held_by, held_alone}
 
 -- the server that has this recovery, and has announced a version
 abbrev pub recovering : Version → RecoveryRecord → Server → Server
@@ -21,6 +21,12 @@ OfEach Says = (m : Member) (s : Server) (announced : Version) (r : RecoveryRecor
 abbrev pub PollBegins : Member → Server → Version → RecoveryRecord → Type 0
 PollBegins m s announced r =
     (now : ℕ) → polling m (recovering announced r s) now ≡ recovering announced (poll_begun r now m.me s.version) s
+
+-- a server answers the poll
+abbrev pub AnswerCounts : Member → Server → Version → RecoveryRecord → Type 0
+AnswerCounts m s announced r =
+    (k : ℕ) (version : Version) → r.phase ≡ phase.Poll
+    → with_phase (recovering announced r s) (model.Poll (with_answer (polled_of r) k version)) ≡ recovering announced (answered_by r k version) s
 
 -- the phase is dropped
 abbrev pub PhaseLapses : Member → Server → Version → RecoveryRecord → Type 0
@@ -62,3 +68,14 @@ WriteBegins m s announced r =
     (next : Version) → r.phase ≡ phase.Ready
     → with_phase (recovering announced r s) (model.Ready (polled_of r) (record (spread_of r) { holders = only_holder m }) next)
     ≡ recovering next (held_alone r m.me) s
+
+-- a piece of another server's image was taken
+abbrev pub TextGoesOn : Member → Server → Version → RecoveryRecord → Type 0
+TextGoesOn m s announced r =
+    (text : ReceivedText) → (record (recovering announced r s) { received = Some text }) ≡ recovering announced (with_text r (Some text)) s
+
+-- another version or image is taken over, and the text is dropped
+abbrev pub DatabaseIsTaken : Member → Server → Version → RecoveryRecord → Type 0
+DatabaseIsTaken m s announced r =
+    (version : Version) (image : List ℕ) → with_database (recovering announced r s) version image
+    ≡ recovering announced (with_text r None) (with_database s version image)
