@@ -1,0 +1,3 @@
+mod Best
+mod Places
+mod RuleSteps

@@ -1,0 +1,4 @@
+pub mod Record
+pub mod Rules
+pub mod Text
+pub mod View

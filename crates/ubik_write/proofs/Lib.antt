@@ -1,0 +1,5 @@
+mod BytesBefore
+mod ChangeReading
+mod ChangeTexts
+mod Patches
+mod PieceLists

@@ -1,0 +1,5 @@
+pub mod Flight
+pub mod Pending
+pub mod Reading
+pub mod Undo
+pub mod View
