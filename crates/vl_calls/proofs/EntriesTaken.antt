@@ -1,5 +1,5 @@
 -- Entries that stand at a reader's place are spelled there.
-use Rattle.std.proofs.Common.{◌≡◌, ℕ, List, ◌++◌, Some, subst}
+use Rattle.std.proofs.Common.{◌≡◌, ℕ, ◌++◌, Some, subst}
 use Rattle.xdr_base.specs.Reading.{Reading}
 use Rattle.xdr_base.specs.Spelling.{word}
 use Rattle.call_grammar.specs.Items as item
@@ -11,7 +11,7 @@ use Rattle.call_grammar.proofs.Taken.{bind_some, given_is, list_takes, values_ta
 use Rattle.vl_calls.specs.declared.calls.GivenEntry.{GivenEntry}
 use Rattle.vldb_records.specs.declared.entries.VlEntry.{VlEntry}
 use Rattle.vldb_records.specs.declared.entries.VlSite.{VlSite}
-use Rattle.vl_calls.specs.Entries.{site_at, site_text, SiteHasItsBits, Part, Name, Number, Sites, part_value, part_at, part_text, IsPart, PartHasItsBits, given_parts, given_values, given_from, given_at, given_text, IsGiven, GivenHasItsBits, entry_parts, entry_values, entry_from, entry_at, entry_text, IsEntryText, EntryHasItsBits}
+use Rattle.vl_calls.specs.Entries.{site_at, site_text, SiteHasItsBits, Part, Name, Number, Sites, part_value, part_at, part_text, IsPart, PartHasItsBits, given_parts, given_from, given_at, given_text, IsGiven, GivenHasItsBits, entry_parts, entry_from, entry_at, entry_text, IsEntryText, EntryHasItsBits}
 
 abbrev site_of : ℕ → ℕ → ℕ → VlSite
 site_of host partition flags = record { host = host; partition = partition; flags = flags }
