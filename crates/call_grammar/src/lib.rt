@@ -1,0 +1,20 @@
+//! The items of which the calls of a database and its answers are made, in bytes and in words, both ways.
+#![tactic(auto)]
+
+mod faults;
+mod forms;
+mod limits;
+mod lists;
+mod sinks;
+mod sources;
+mod words;
+mod xdr_items;
+
+pub use faults::{NoValue, NotRead};
+pub use forms::{Form, SkipForm, read_list, skip_list};
+pub use limits::MAX_TEXT;
+pub use lists::Items;
+pub use sinks::{Sink, Telling, write_list};
+pub use sources::Source;
+pub use words::{WordReader, WordWriter, are_visible};
+pub use xdr_items::at_end;

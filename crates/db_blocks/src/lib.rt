@@ -1,0 +1,10 @@
+//! The blocks of a database's image, over a draft: how they are read, found by a scan, and written.
+#![tactic(auto)]
+
+mod blocks;
+mod scans;
+mod writes;
+
+pub use blocks::{BLOCK_LEN, Block, block_count, block_place, word_at};
+pub use scans::{Found, Wanted, read_block, scan, scan_least};
+pub use writes::{push_filled, push_words, push_zeros};

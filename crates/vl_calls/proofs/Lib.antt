@@ -1,0 +1,8 @@
+pub mod AnswerLaws
+pub mod Again
+pub mod EntriesAgain
+pub mod EntriesTaken
+pub mod Found
+pub mod Skipped
+pub mod Taken
+pub mod WordCalls

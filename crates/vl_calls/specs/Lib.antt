@@ -1,0 +1,9 @@
+pub mod Answers
+pub mod Calls
+pub mod Entries
+pub mod Meaning
+pub mod Reading
+pub mod Refusals
+pub mod Shapes
+pub mod Words
+pub mod Writing

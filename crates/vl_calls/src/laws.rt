@@ -1,0 +1,17 @@
+//! Laws of the grammar: each is the clause of a call that does nothing.
+ghost use Rattle.std.specs.Prelude.{◌≡◌};
+ghost use Rattle.call_grammar.specs.Laws.{ReadsSpellings, ReadsSpellingsAlone};
+ghost use Rattle.xdr_base.specs.Laws.{NoneBeginsAnother};
+ghost use Rattle.vl_calls.specs.Calls.{IsCall, spelling};
+ghost use Rattle.vl_calls.specs.Reading.{call_of};
+
+/// A call is read from its spelling, and from no other bytes.
+pub fn a_call_is_read_from_its_spelling()
+    ensures read { ReadsSpellings IsCall spelling call_of }
+    ensures alone { ReadsSpellingsAlone IsCall spelling call_of }
+{}
+
+/// No call's spelling begins another's, so each spelling has one call.
+pub fn no_call_begins_another()
+    ensures { NoneBeginsAnother IsCall spelling }
+{}

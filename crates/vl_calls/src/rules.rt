@@ -1,0 +1,10 @@
+//! The rules by which calls are refused (vlserver's names, VL_..; the numbers are own).
+
+/// No entry has the name, or the id of the type.
+pub const NO_ENTRY: u32 = 363_524;
+
+/// No entry may have the name.
+pub const BAD_NAME: u32 = 363_527;
+
+/// The type of a volume is none.
+pub const BAD_VOLUME_TYPE: u32 = 363_529;

@@ -1,0 +1,86 @@
+//! Calls over an image in memory that was laid out by hand.
+use crate::{all_addresses, entry_by_id, entry_by_name};
+use db_image::{CallEnd, Draft, ImageRead, VecImage};
+use std::alloc::Global;
+use std::test::Fail;
+
+/// The answer of a call that took place, or nothing.
+fn done(end: &CallEnd) -> &[u8] {
+    match end {
+        CallEnd::Done(bytes) => bytes.as_slice(),
+        _ => &[],
+    }
+}
+
+/// The rule by which a call was refused, or 0.
+fn rule(end: &CallEnd) -> u32 {
+    match end {
+        CallEnd::Rule(number) => *number,
+        _ => 0,
+    }
+}
+
+/// One volume, `root.cell`, with the ids 5 and 6 and a site at 10.0.0.1, whose place is the second.
+fn one_volume(alloc: Global) -> Result<Draft<VecImage>, Fail> {
+    let mut draft = Draft::over(alloc, VecImage::new(alloc, &[])?, 3132, 192);
+    draft.put(
+        0,
+        &[
+            0x56, 0x4c, 0x44, 0x42, 0, 0, 0, 1, 0x20, 0, 0, 0, 0, 0, 0, 1,
+        ],
+    )?;
+    draft.put(68, &[10, 0, 0, 1])?;
+    draft.put(3132, &[0, 0, 0, 1, 0, 0, 0x10, 0, 0, 0, 0, 5, 0, 0, 0, 6])?;
+    draft.put(3132 + 32, &[0, 0, 0, 1])?;
+    draft.put(3132 + 52, b"root.cell")?;
+    draft.put(3132 + 116, &[2])?;
+    draft.put(3132 + 129, &[7])?;
+    draft.put(3132 + 142, &[4])?;
+    draft.put(3132 + 191, &[0])?;
+    Ok(draft)
+}
+
+/// That volume in an answer.
+const ROOT_CELL: &[u8] =
+    b"\0\0\0\x09root.cell\0\0\0\0\0\x10\0\0\0\0\x05\0\0\0\x06\0\0\0\0\0\0\0\0\0\0\0\x01\x0a\0\0\x01\0\0\0\x07\0\0\0\x04\0\0\0\0\0\0\0\0";
+
+#[test]
+fn an_entry_is_told_by_name_and_by_id(rt: HostRuntime) -> Result<(), Fail> {
+    let mut draft = one_volume(rt.alloc())?;
+    assert!(rt; draft.len() == 3132 + 192);
+    let end = entry_by_name(rt.alloc(), &mut draft, b"root.cell")?;
+    assert_eq!(rt; done(&end), ROOT_CELL);
+    for (name, number) in [
+        (b"root.afs".as_slice(), 363_524),
+        (b"", 363_527),
+        (b"a b", 363_527),
+    ] {
+        assert!(rt; draft.len() < 10_000);
+        assert_eq!(rt; rule(&entry_by_name(rt.alloc(), &mut draft, name)?), number);
+    }
+    for (volume_type, id, number) in [
+        (0, 5, 0),
+        (1, 6, 0),
+        (-1, 6, 0),
+        (0, 6, 363_524),
+        (2, 6, 363_524),
+        (-1, 0, 363_524),
+        (3, 6, 363_529),
+        (-2, 6, 363_529),
+    ] {
+        assert!(rt; draft.len() < 10_000);
+        let end = entry_by_id(rt.alloc(), &mut draft, volume_type, id)?;
+        assert_eq!(rt; rule(&end), number);
+        assert_eq!(rt; done(&end), if number == 0 { ROOT_CELL } else { &[] });
+    }
+    Ok(())
+}
+
+#[test]
+fn the_used_addresses_are_told(rt: HostRuntime) -> Result<(), Fail> {
+    let mut draft = one_volume(rt.alloc())?;
+    assert!(rt; draft.len() < 10_000);
+    let end = all_addresses(rt.alloc(), &mut draft)?;
+    assert_eq!(rt; done(&end), [0, 0, 0, 1, 10, 0, 0, 1].as_slice());
+    Ok(())
+}

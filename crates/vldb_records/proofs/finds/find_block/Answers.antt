@@ -1,0 +1,14 @@
+use Rattle.std.proofs.Common.{arith}
+use Rattle.vldb_records.specs.Sought.{is_sought}
+use Rattle.vldb_records.proofs.HeadRead.{err_whole}
+use Rattle.vldb_records.proofs.Lookups.{empty_none, ok_whole}
+use Rattle.vldb_records.proofs.finds.find_block.Goals as goal
+
+pub returns-then-len-eq0-clause-found : goal.returns-then-len-eq0-clause-found
+returns-then-len-eq0-clause-found g c = empty_none c.args.d.now.bytes c.len.result (is_sought c.args.sought) (rw c.len.ensures.size c.len.ensures.told) c.if-len-eq0.true
+
+pub returns-clause-found : goal.returns-clause-found
+returns-clause-found g c = ok_whole c.scan.result c.args.d.now.bytes _ _ c.len.ensures.told (omega arith) c.scan.ensures.found
+
+pub returns-clause-fault : goal.returns-clause-fault
+returns-clause-fault g c = err_whole c.scan.result c.args.d.now.bytes _ c.len.ensures.told (omega arith) c.scan.ensures.fault

@@ -1,0 +1,4 @@
+pub mod Ends
+pub mod Location
+pub mod Records
+pub mod Sought
