@@ -5,8 +5,10 @@ pub mod Openings
 pub mod Order
 pub mod Orderings
 pub mod Runs
+pub mod Serving
 pub mod Showing
 pub mod Sites
+pub mod Standing
 pub mod Steps
 pub mod Telling
 pub mod Walk

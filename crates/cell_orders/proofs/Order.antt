@@ -9,13 +9,13 @@ use Rattle.ubik_types.specs.declared.hosts.Host.{Host}
 use Rattle.ubik_types.specs.Quorum.{size, is_majority}
 use Rattle.ubik_types.specs.Phase.{Polled, Spread, PhaseRecord, NoPhase, Poll, Fetch, Relabel, Send, Ready}
 use Rattle.cell_model.specs.SingleCopy.{image_after}
-use Rattle.cell_model.specs.Step.{is_ready, leased}
+use Rattle.cell_model.specs.Step.{is_ready, leased, told_version}
 use Rattle.cell_model.specs.Writes.{image_before}
 use Rattle.cell_laws.proofs.Parts.{no, and_both}
 use Rattle.cell_pages.specs.Images.{KeepsImages, IsImageOf}
 use Rattle.cell_pages.specs.Passes.{NodeKeeps}
 use Rattle.cell_pages.proofs.Keeping.{one_list}
-use Rattle.cell_orders.proofs.Walk.{level_at}
+use Rattle.cell_orders.proofs.Standing.{level_at}
 use Rattle.db_image.specs.Database.{Database}
 use Rattle.lease_model.specs.Leases.{Leases}
 use Rattle.lease_model.specs.Rules.{AreSafe, cell_rules}
@@ -25,7 +25,7 @@ use Rattle.cell_model.specs.Book.{Book, Announcement, Run, list_of, entered, ann
 use Rattle.cell_model.specs.Book.{acknowledged, order_of, first_run, run_after, run_through}
 use Rattle.cell_model.specs.Durable.{Transaction, no_database}
 use Rattle.cell_model.specs.Node.{Up, Server, Flight, opened_server}
-use Rattle.cell_model.specs.World.{World, Site, Event, Happened, member, site_of}
+use Rattle.cell_model.specs.World.{World, Event, Happened, member}
 use Rattle.cell_model.specs.World.{IsFirst, IsRun, first_site, first_world, happens}
 use Rattle.cell_laws.specs.Invariant.{CellInvariant}
 use Rattle.cell_laws.proofs.Cells.{first_each, first_good, run_good, same_world}
@@ -37,11 +37,12 @@ use Rattle.cell_pages.proofs.Once.{OnceAndRising, both_grew}
 use Rattle.cell_pages.proofs.Runs.{happens_keeps, first_keeps}
 use Rattle.cell_orders.specs.Kept.{versions_of, ServerKeeps, OrderKept, ListsOf, versions_in}
 use Rattle.cell_model.specs.KeptLaws.{IsPlaced}
-use Rattle.cell_orders.specs.Acknowledged.{FlightMade, AllKeptAt}
+use Rattle.cell_orders.specs.Acknowledged.{IsLevel, IsFlown, FlightMade, AllKeptAt}
 use Rattle.cell_orders.specs.Laws.{AnnouncementsGrow, AcknowledgedStay, MajoritiesKeep, SitesServeTheOrder}
 use Rattle.cell_orders.specs.Orders.{IsLast, ServesLast, Premises}
 use Rattle.cell_orders.proofs.Orderings.{zero_at_most}
-use Rattle.cell_orders.proofs.Runs.{Contents, OksSeen, fresh, happens_orders}
+use Rattle.cell_orders.specs.Served.{IsNamed}
+use Rattle.cell_orders.proofs.Runs.{Contents, OksSeen, SeenServed, fresh, happens_orders}
 use Rattle.cell_orders.proofs.Lists.{grows, keeps_lists, lists_later, lists_seen}
 use Rattle.cell_orders.proofs.Acknowledging.{acks_seen, told_more, acks_later, placed, run_adds, all_of_end}
 
@@ -62,6 +63,27 @@ of_last : (book : Book) (announcements : List Announcement) (v : Version) (list 
 of_last book [] v list lists last listed = absurd last
 of_last book (a ∷ announcements) v list lists last listed =
     one_list book v list a.transactions listed (subst (λ (u : Version). list_of book u ≡ Some a.transactions) last lists.0)
+
+-- its database is the image of the announced version
+served_image : (db : Database) (book : Book) (s : Server) → is_ready s.phase ≡ true → IsLevel s.version s.phase s.flight →
+    FlightMade db book s.version s.phase s.flight → IsImageOf db book s.version s.image →
+    IsImageOf db book (told_version s.phase s.version) (site_database s)
+served_image db book s ready level made image = by s.phase refl ready
+  where
+    by : (phase : PhaseRecord) → s.phase ≡ phase → is_ready phase ≡ true →
+        IsImageOf db book (told_version phase s.version) (site_database s)
+    by NoPhase at is = no is
+    by (Poll poll) at is = no is
+    by (Fetch poll best host) at is = no is
+    by (Relabel poll) at is = no is
+    by (Send poll spread) at is = no is
+    by (Ready poll spread announced) at is = flown s.flight refl
+      where
+        flown : (o : Option Flight) → s.flight ≡ o → IsImageOf db book announced (image_before s.image o)
+        flown None none =
+            subst (λ (v : Version). IsImageOf db book v s.image)
+            (level_at s.version s.phase s.flight poll spread announced at none level) image
+        flown (Some f) some = (subst (λ (p : PhaseRecord). IsFlown db book s.version p f) at (made f some).2).1
 
 -- ---- the first world
 
@@ -88,7 +110,7 @@ all_most n some = by (nat_le (n / 2 + 1) (size (replicate n true))) refl
 
 module _ (safe : AreSafe cell_rules) (premises : Premises) (db : Database) where
   first_orders : (hosts : List Host) (clock : ℕ) (failed : List Bool) → IsFirst hosts clock failed →
-      OrderKept (first_world hosts clock failed) [] []
+      OrderKept db (first_world hosts clock failed) [] []
   first_orders hosts clock failed first = record {
     ordered = record { listed = tt; rise = tt; follow = tt };
     kept = λ p j sent. absurd sent;
@@ -104,14 +126,23 @@ module _ (safe : AreSafe cell_rules) (premises : Premises) (db : Database) where
         (λ k site. (s : Server) → site.node ≡ Up s →
         ServerKeeps hosts (versions_of (first_world hosts clock failed)) [] [] k site.clock s) failed (λ k b. one k b) k site get s up;
     flights = λ k site s get up. first_each hosts clock
-        (λ k site. (s : Server) → site.node ≡ Up s → FlightMade [] s.version s.phase s.flight) failed (λ k b. none k b) k site get s up;
+        (λ k site. (s : Server) → site.node ≡ Up s → FlightMade db [] s.version s.phase s.flight) failed (λ k b. none k b) k site get s up;
+    names = λ p sent. absurd sent;
+    beacons = λ k site s get up. first_each hosts clock
+        (λ k site. (s : Server) → site.node ≡ Up s → IsNamed [] s.beacon) failed (λ k b. unnamed k b) k site get s up;
   }
     where
-      none : (k : ℕ) (b : Bool) (s : Server) → (first_site (length hosts) clock b).node ≡ Up s → FlightMade [] s.version s.phase s.flight
+      none : (k : ℕ) (b : Bool) (s : Server) → (first_site (length hosts) clock b).node ≡ Up s → FlightMade db [] s.version s.phase s.flight
       none k true s up = absurd (cc)
       none k false s up =
           let same : opened_server (length hosts) no_database clock ≡ s = cc in
-          subst (λ (u : Server). FlightMade [] u.version u.phase u.flight) same (λ f is. absurd (cc))
+          subst (λ (u : Server). FlightMade db [] u.version u.phase u.flight) same (λ f is. absurd (cc))
+
+      unnamed : (k : ℕ) (b : Bool) (s : Server) → (first_site (length hosts) clock b).node ≡ Up s → IsNamed [] s.beacon
+      unnamed k true s up = absurd (cc)
+      unnamed k false s up =
+          let same : opened_server (length hosts) no_database clock ≡ s = cc in
+          subst (λ (u : Server). IsNamed [] u.beacon) same tt
 
       one : (k : ℕ) (b : Bool) (s : Server) → (first_site (length hosts) clock b).node ≡ Up s →
           ServerKeeps hosts (versions_of (first_world hosts clock failed)) [] [] k clock s
@@ -126,7 +157,7 @@ module _ (safe : AreSafe cell_rules) (premises : Premises) (db : Database) where
 
   record Ordered (r : Run) : Type 0 where
     contents : Contents safe premises db r.world r.book
-    kept : OrderKept r.world r.book (versions_in r.announcements)
+    kept : OrderKept db r.world r.book (versions_in r.announcements)
     lists : ListsOf r.book r.announcements
     acks : AllKeptAt r.book (versions_in r.announcements) r.acknowledged
 
@@ -141,12 +172,14 @@ module _ (safe : AreSafe cell_rules) (premises : Premises) (db : Database) where
           happens_keeps db (Both db OnceAndRising both_grew) (BothDurable db OnceAndRising both_grew) (Carries db) (Pages db OnceAndRising both_grew)
           (contents_pass db OnceAndRising both_grew) safe r.world x r.book good is.contents e
 
-      both : OrderKept (happens db r.world e).world (entered r.book (happens db r.world e).entries)
+      both : OrderKept db (happens db r.world e).world (entered r.book (happens db r.world e).entries)
           (versions_in (announced (entered r.book (happens db r.world e).entries) (happens db r.world e).seen r.announcements))
           × OksSeen (entered r.book (happens db r.world e).entries)
           (versions_in (announced (entered r.book (happens db r.world e).entries) (happens db r.world e).seen r.announcements))
           (happens db r.world e).seen
-      both = happens_orders safe premises db r.world x r.book good is.contents r.announcements is.kept e
+          × SeenServed db (entered r.book (happens db r.world e).entries) (versions_of (happens db r.world e).world)
+          (versions_in r.announcements) (versions_in r.announcements) (happens db r.world e).seen
+      both = happens_orders safe premises db r.world x r.book good is.contents r.announcements is.kept e contents.pages.0.0
 
       lists : ListsOf (entered r.book (happens db r.world e).entries)
           (announced (entered r.book (happens db r.world e).entries) (happens db r.world e).seen r.announcements)
@@ -246,17 +279,20 @@ module _ (safe : AreSafe cell_rules) (rests : (n : ℕ) (starts : List (Option �
           (length (run_of db hosts clock failed events).world.hosts) site.clock site.durable) up
           ((ordered safe premises db hosts clock failed events first run).contents.sites k site get).node).1.1.image
 
-      database : KeepsImages db → s.flight ≡ None →
-          site_database s ≡ image_after db (order_of (run_of db hosts clock failed events).announcements)
-      database good none =
+      served : IsImageOf db (run_of db hosts clock failed events).book (told_version s.phase s.version) (site_database s)
+      served =
+          served_image db (run_of db hosts clock failed events).book s tests.1 keeps.level
+          ((ordered safe premises db hosts clock failed events first run).kept.flights k site s get up) image
+
+      database : KeepsImages db → site_database s ≡ image_after db (order_of (run_of db hosts clock failed events).announcements)
+      database good =
           let phase = is_served s.phase tests.1 in
-          let level : s.version ≡ phase.2 = level_at s.version s.phase s.flight phase.0 phase.1 phase.2 phase.3 none keeps.level in
-          let order : image.list ≡ order_of (run_of db hosts clock failed events).announcements =
-          of_last (run_of db hosts clock failed events).book (run_of db hosts clock failed events).announcements phase.2 image.list
+          let order : served.list ≡ order_of (run_of db hosts clock failed events).announcements =
+          of_last (run_of db hosts clock failed events).book (run_of db hosts clock failed events).announcements phase.2 served.list
           (ordered safe premises db hosts clock failed events first run).lists (last phase.0 phase.1 phase.2 phase.3)
-          (subst (λ (v : Version). list_of (run_of db hosts clock failed events).book v ≡ Some image.list) level image.listed) in
-          subst (λ (o : Option Flight). image_before s.image o ≡ image_after db (order_of (run_of db hosts clock failed events).announcements))
-          (sym none) (image.image_is good ∙ ap (image_after db) order)
+          (subst (λ (v : Version). list_of (run_of db hosts clock failed events).book v ≡ Some served.list)
+          (ap (λ (p : PhaseRecord). told_version p s.version) phase.3) served.listed) in
+          served.image_is good ∙ ap (image_after db) order
 
   pub majorities_keep : MajoritiesKeep
   majorities_keep db hosts clock failed events first run =

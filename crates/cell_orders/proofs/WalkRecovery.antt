@@ -36,8 +36,9 @@ use Rattle.cell_pages.proofs.Leading.{bodies_if}
 use Rattle.cell_pages.proofs.Versions.{same_of_eq, lt_of_epoch}
 use Rattle.cell_orders.specs.Histories.{Stand, stand_of, History, with_book, after, IsNumbered, FitsTo, AllFit}
 use Rattle.cell_orders.specs.OrderMoves.{OrderMoves}
+use Rattle.cell_orders.proofs.Serving.{flown_held}
 use Rattle.cell_orders.proofs.Telling.{each_fits}
-use Rattle.cell_orders.proofs.Walk.{level_idle, level_held, not_both, not_itself, not_ready, ready_held, none_made, held_held}
+use Rattle.cell_orders.proofs.Standing.{level_idle, level_held, not_both, not_itself, not_ready, ready_held, none_made, held_held}
 use Rattle.cell_orders.proofs.Walk as walk
 
 module _ (db : Database) (m : Member) (now : ℕ) (starts : List (Option ℕ)) (Asked : ℕ → ℕ → Type 0)
@@ -104,7 +105,11 @@ module _ (db : Database) (m : Member) (now : ℕ) (starts : List (Option ℕ)) (
       AllBodies (FitsTo m.hosts Asked c host) (write_bodies old new text)
   write_fits = walk.write_fits db m now starts Asked Answered Kept I moves
 
-  settled_with_turns_is : (h : History) (s : Server) (short : List Bool) → Fit h s → Goes h s.version (settled_with_turns db m s now short)
+  abbrev Pure : History → Server → Type 0
+  Pure h s = walk.Pure db m now starts Asked Answered Kept I moves h s
+
+  settled_with_turns_is : (h : History) (s : Server) (short : List Bool) → Fit h s → Pure h s →
+      Goes h s.version (settled_with_turns db m s now short)
   settled_with_turns_is = walk.settled_with_turns_is db m now starts Asked Answered Kept I moves
 
   -- ---- recovery
@@ -140,6 +145,7 @@ module _ (db : Database) (m : Member) (now : ℕ) (starts : List (Option ℕ)) (
             leads = tt;
             flight = λ f is. absurd (not_both s.flight f (no_flight h (with_phase s (Relabel poll)) refl fit) is);
             level = tt;
+            beacon = fit.beacon;
           })
           (each_fits m Asked (stand_of begun.server) _
           (λ host k. answer_fits (stand_of begun.server) host begun.server poll s.version (entry_at poll.answers k) refl))
@@ -159,6 +165,7 @@ module _ (db : Database) (m : Member) (now : ℕ) (starts : List (Option ℕ)) (
         leads = fit.leads;
         flight = λ f is. absurd (not_both s.flight f (no_flight h (with_phase s (Poll poll)) refl fit) is);
         level = tt;
+        beacon = fit.beacon;
       }) ((refl, refl), tt))
       (λ least. relabelled_is h s poll lease
       (record {
@@ -168,6 +175,7 @@ module _ (db : Database) (m : Member) (now : ℕ) (starts : List (Option ℕ)) (
         leads = fit.leads;
         flight = λ f is. absurd (not_both s.flight f (no_flight h (with_phase s (Poll poll)) refl fit) is);
         level = tt;
+        beacon = fit.beacon;
       })))
       (λ _. turns h (with_phase s (Poll poll)) [] fit tt)
 
@@ -241,8 +249,9 @@ module _ (db : Database) (m : Member) (now : ℕ) (starts : List (Option ℕ)) (
         same = fit.same;
         held = fit.held;
         leads = tt;
-        flight = none_made h.book version s.phase s.flight (no_flight h s (not_ready s.phase idle) fit);
+        flight = none_made db h.book version s.phase s.flight (no_flight h s (not_ready s.phase idle) fit);
         level = level_idle version s.phase s.flight (not_ready s.phase idle);
+        beacon = fit.beacon;
       }) tt
 
   -- a fetch is over
@@ -265,7 +274,7 @@ module _ (db : Database) (m : Member) (now : ℕ) (starts : List (Option ℕ)) (
       (λ least. follows h s.version (quiet s) (λ after. relabelled m after poll now) (rests h s fit)
       (λ fit. fetched_is _ s poll best from at lease least fit)))
       (λ _. turns h (record s { received = Some text }) _
-      (record { keeps = fit.keeps; same = fit.same; held = fit.held; leads = fit.leads; flight = fit.flight; level = fit.level })
+      (record { keeps = fit.keeps; same = fit.same; held = fit.held; leads = fit.leads; flight = fit.flight; level = fit.level; beacon = fit.beacon })
       ((refl, numbered s.phase (Fetch poll best from) poll.number at refl), tt))
 
   pub piece_received_is : (h : History) (s : Server) (k number : ℕ) (version : Version) (total at : ℕ) (bytes : List ℕ) (phase : PhaseRecord) →
@@ -284,8 +293,8 @@ module _ (db : Database) (m : Member) (now : ℕ) (starts : List (Option ℕ)) (
   -- ---- holders that are told
 
   holder_is : (h : History) (s : Server) (k : ℕ) (version : Version) (short : List Bool) → Kept k version →
-      version_eq version s.version ≡ true → Fit h s → Goes h s.version (holder_added db m s now k short)
-  holder_is h s k version short kept same fit =
+      version_eq version s.version ≡ true → Fit h s → Pure h s → Goes h s.version (holder_added db m s now k short)
+  holder_is h s k version short kept same fit pure =
       settled_with_turns_is h (with_phase s (held_by s.phase k)) short
       (record {
         keeps =
@@ -293,9 +302,14 @@ module _ (db : Database) (m : Member) (now : ℕ) (starts : List (Option ℕ)) (
         same = fit.same;
         held = λ is. fit.held (sym (held_held s.phase k) ∙ is);
         leads = fit.leads;
-        flight = λ f is. (ready_held s.phase k ∙ (fit.flight f is).0, (fit.flight f is).1);
+        flight = λ f is. (
+          ready_held s.phase k ∙ (fit.flight f is).0,
+          (fit.flight f is).1,
+          flown_held db h.book s.version s.phase k f (fit.flight f is).2,
+        );
         level = level_held s.version s.phase k s.flight fit.level;
-      })
+        beacon = fit.beacon;
+      }) pure
 
   lacking_is : (h : History) (s : Server) (host : Host) (poll : Polled) (spread : Spread) (version : Version) (f : Option Flight) →
       IsNumbered s.phase poll.number → Fit h s → Goes h s.version (lacking_sent m s host poll spread version f)
@@ -304,42 +318,42 @@ module _ (db : Database) (m : Member) (now : ℕ) (starts : List (Option ℕ)) (
   lacking_is h s host poll spread version (Some f) is fit = rests h s fit
 
   told_is : (h : History) (s : Server) (host : Host) (k : ℕ) (poll : Polled) (spread : Spread) (number : ℕ) (version : Version)
-      (short : List Bool) → Kept k version → IsNumbered s.phase poll.number → Fit h s →
+      (short : List Bool) → Kept k version → IsNumbered s.phase poll.number → Fit h s → Pure h s →
       Goes h s.version (told_to_spread db m s now host k poll spread number version short)
-  told_is h s host k poll spread number version short kept is fit =
+  told_is h s host k poll spread number version short kept is fit pure =
       either h s.version (number == poll.number) _ _
-      (λ _. either h s.version (version_eq version s.version) _ _ (λ same. holder_is h s k version short kept same fit)
+      (λ _. either h s.version (version_eq version s.version) _ _ (λ same. holder_is h s k version short kept same fit pure)
       (λ _. lacking_is h s host poll spread version s.flight is fit))
       (λ _. rests h s fit)
 
   pub version_told_is : (h : History) (s : Server) (host : Host) (k number : ℕ) (version : Version) (short : List Bool)
       (phase : PhaseRecord) →
-      Answered k number version × Kept k version → s.phase ≡ phase → Fit h s →
+      Answered k number version × Kept k version → s.phase ≡ phase → Fit h s → Pure h s →
       Goes h s.version (version_is_received db m s now host k number version short phase)
-  version_told_is h s host k number version short NoPhase brings at fit = rests h s fit
-  version_told_is h s host k number version short (Poll poll) brings at fit =
+  version_told_is h s host k number version short NoPhase brings at fit pure = rests h s fit
+  version_told_is h s host k number version short (Poll poll) brings at fit pure =
       either h s.version (number == poll.number) _ _
       (λ same. polled_is h s (with_answer poll k version) (fit.held (ap is_held at))
       (to_phase h s (Poll (with_answer poll k version)) refl (fit.held (ap is_held at)) (ap is_ready at) fit
       (moves.poll.answers h (stand_of s) poll k version (fit.held (ap is_held at)) at
       (subst (λ (n : ℕ). Answered k n version) (eq_true number poll.number same) brings.0) fit.keeps)))
       (λ _. rests h s fit)
-  version_told_is h s host k number version short (Fetch poll best from) brings at fit =
+  version_told_is h s host k number version short (Fetch poll best from) brings at fit pure =
       either h s.version (from == k && not (version_eq version best)) _ _
       (λ _. turns h (polling m s now) [] (begins h s (fit.held (ap is_held at)) (no_flight h s (ap is_ready at) fit) fit) tt) (λ _. rests h s fit)
-  version_told_is h s host k number version short (Relabel poll) brings at fit = rests h s fit
-  version_told_is h s host k number version short (Send poll spread) brings at fit =
-      told_is h s host k poll spread number version short brings.1 (numbered s.phase (Send poll spread) poll.number at refl) fit
-  version_told_is h s host k number version short (Ready poll spread announced) brings at fit =
-      told_is h s host k poll spread number version short brings.1 (numbered s.phase (Ready poll spread announced) poll.number at refl) fit
+  version_told_is h s host k number version short (Relabel poll) brings at fit pure = rests h s fit
+  version_told_is h s host k number version short (Send poll spread) brings at fit pure =
+      told_is h s host k poll spread number version short brings.1 (numbered s.phase (Send poll spread) poll.number at refl) fit pure
+  version_told_is h s host k number version short (Ready poll spread announced) brings at fit pure =
+      told_is h s host k poll spread number version short brings.1 (numbered s.phase (Ready poll spread announced) poll.number at refl) fit pure
 
   pub version_kept_is : (h : History) (s : Server) (k : ℕ) (version : Version) (short : List Bool) (phase : PhaseRecord) → Kept k version →
-      Fit h s → Goes h s.version (version_kept_received db m s now k version short phase)
-  version_kept_is h s k version short NoPhase kept fit = rests h s fit
-  version_kept_is h s k version short (Poll poll) kept fit = rests h s fit
-  version_kept_is h s k version short (Fetch poll best from) kept fit = rests h s fit
-  version_kept_is h s k version short (Relabel poll) kept fit = rests h s fit
-  version_kept_is h s k version short (Send poll spread) kept fit =
-      either h s.version (version_eq version s.version) _ _ (λ same. holder_is h s k version short kept same fit) (λ _. rests h s fit)
-  version_kept_is h s k version short (Ready poll spread announced) kept fit =
-      either h s.version (version_eq version s.version) _ _ (λ same. holder_is h s k version short kept same fit) (λ _. rests h s fit)
+      Fit h s → Pure h s → Goes h s.version (version_kept_received db m s now k version short phase)
+  version_kept_is h s k version short NoPhase kept fit pure = rests h s fit
+  version_kept_is h s k version short (Poll poll) kept fit pure = rests h s fit
+  version_kept_is h s k version short (Fetch poll best from) kept fit pure = rests h s fit
+  version_kept_is h s k version short (Relabel poll) kept fit pure = rests h s fit
+  version_kept_is h s k version short (Send poll spread) kept fit pure =
+      either h s.version (version_eq version s.version) _ _ (λ same. holder_is h s k version short kept same fit pure) (λ _. rests h s fit)
+  version_kept_is h s k version short (Ready poll spread announced) kept fit pure =
+      either h s.version (version_eq version s.version) _ _ (λ same. holder_is h s k version short kept same fit pure) (λ _. rests h s fit)

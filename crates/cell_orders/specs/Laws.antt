@@ -1,5 +1,5 @@
 -- Announced transactions have one order, and acknowledged ones stay in it, in cells of every size (own).
-use Rattle.std.specs.Prelude.{◌≡◌, ℕ, Bool, true, Some, None, List, All, Contains, length}
+use Rattle.std.specs.Prelude.{◌≡◌, ℕ, Bool, true, Some, List, All, Contains, length}
 use Rattle.db_image.specs.Database.{Database}
 use Rattle.ubik_types.specs.declared.hosts.Host.{Host}
 use Rattle.ubik_types.specs.declared.versions.Version.{Version}
@@ -39,12 +39,12 @@ MajoritiesKeep =
     let r = run_of db hosts clock failed events in
     HasMajority (length r.world.hosts) (versions_of r.world) (versions_in r.announcements)
 
--- A ready sync site: its announced version is the last one, and without a write in flight its database, where the database keeps its
--- images, is the image of the single copy after the order.
+-- A ready sync site: its announced version is the last one, and its database, where the database keeps its images, is the image of the
+-- single copy after the order. While a write is in flight that is the one before it.
 pub record ServesOrder (db : Database) (r : Run) (s : Server) : Type 0 where
   pub last : (poll : Polled) (spread : Spread) (announced : Version) → s.phase ≡ Ready poll spread announced →
       IsLast (versions_in r.announcements) announced
-  pub database : KeepsImages db → s.flight ≡ None → site_database s ≡ image_after db (order_of r.announcements)
+  pub database : KeepsImages db → site_database s ≡ image_after db (order_of r.announcements)
 
 -- In each cell, after each run, so of each ready sync site.
 abbrev pub SitesServeTheOrder : Type 0

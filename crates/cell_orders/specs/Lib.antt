@@ -5,3 +5,4 @@ pub mod Laws
 pub mod Midst
 pub mod OrderMoves
 pub mod Orders
+pub mod Served

@@ -31,8 +31,8 @@ pub fn law_majorities_keep()
     lease_rests_on_greatest_start();
 }
 
-/// In each cell, whatever happens, each ready sync site serves the version that was announced last; without a write in flight its database,
-/// where no call makes an image shorter, is that of the single copy after the order.
+/// In each cell, whatever happens, each ready sync site serves the version that was announced last, and its database, where no call makes
+/// an image shorter, is that of the single copy after the order. While a write is in flight, its database is the one before that.
 pub fn law_sites_serve_the_order()
     ensures { SitesServeTheOrder }
 {
