@@ -4,6 +4,7 @@ pub mod Moving
 pub mod Openings
 pub mod Order
 pub mod Orderings
+pub mod Replying
 pub mod Runs
 pub mod Serving
 pub mod Showing

@@ -3,7 +3,7 @@ use Rattle.std.proofs.Common.{Bool, true, false, cond, ◌≡◌, inl, inr, ℕ,
 use Rattle.std.proofs.Common.{refl, sym, ap, subst, ◌∙◌, arith}
 use Rattle.std.proofs.lemmas.Bool.Decides.{nat_tests}
 use Rattle.std.proofs.lemmas.List.Sums.{sum_by-cons}
-use Rattle.std.specs.Prelude.{Option, Some, None, replicate, nat_le}
+use Rattle.std.specs.Prelude.{Option, Some, None, All, replicate, nat_le}
 use Rattle.ubik_types.specs.declared.versions.Version.{Version}
 use Rattle.ubik_types.specs.declared.hosts.Host.{Host}
 use Rattle.ubik_types.specs.Quorum.{size, is_majority}
@@ -14,16 +14,15 @@ use Rattle.cell_model.specs.Writes.{image_before}
 use Rattle.cell_laws.proofs.Parts.{no, and_both}
 use Rattle.cell_pages.specs.Images.{KeepsImages, IsImageOf}
 use Rattle.cell_pages.specs.Passes.{NodeKeeps}
-use Rattle.cell_pages.proofs.Keeping.{one_list}
 use Rattle.cell_orders.proofs.Standing.{level_at}
 use Rattle.db_image.specs.Database.{Database}
 use Rattle.lease_model.specs.Leases.{Leases}
 use Rattle.lease_model.specs.Rules.{AreSafe, cell_rules}
 use Rattle.lease_model.specs.Runs as runs
 use Rattle.ubik_votes.specs.Greatest.{RestsOnGreatest}
-use Rattle.cell_model.specs.Book.{Book, Announcement, Run, list_of, entered, announced, site_database}
-use Rattle.cell_model.specs.Book.{acknowledged, order_of, first_run, run_after, run_through}
-use Rattle.cell_model.specs.Durable.{Transaction, no_database}
+use Rattle.cell_model.specs.Book.{Book, Given, Run, list_of, entered, announced, site_database}
+use Rattle.cell_model.specs.Book.{acknowledged, given, order_of, first_run, run_after, run_through}
+use Rattle.cell_model.specs.Durable.{no_database}
 use Rattle.cell_model.specs.Node.{Up, Server, Flight, opened_server}
 use Rattle.cell_model.specs.World.{World, Event, Happened, member}
 use Rattle.cell_model.specs.World.{IsFirst, IsRun, first_site, first_world, happens}
@@ -37,14 +36,23 @@ use Rattle.cell_pages.proofs.Once.{OnceAndRising, both_grew}
 use Rattle.cell_pages.proofs.Runs.{happens_keeps, first_keeps}
 use Rattle.cell_orders.specs.Kept.{versions_of, ServerKeeps, OrderKept, ListsOf, versions_in}
 use Rattle.cell_model.specs.KeptLaws.{IsPlaced}
+use Rattle.cell_model.specs.Laws.{Begins}
 use Rattle.cell_orders.specs.Acknowledged.{IsLevel, IsFlown, FlightMade, AllKeptAt}
-use Rattle.cell_orders.specs.Laws.{AnnouncementsGrow, AcknowledgedStay, MajoritiesKeep, SitesServeTheOrder}
+use Rattle.cell_orders.specs.Laws.{AnnouncementsGrow, AcknowledgedStay, MajoritiesKeep, RepliesAreSingle, RepliesAreGiven}
+use Rattle.cell_orders.specs.Laws.{RepliesHaveAcknowledged, RepliesGrow, SitesServeTheOrder}
 use Rattle.cell_orders.specs.Orders.{IsLast, ServesLast, Premises}
+use Rattle.std.specs.List.{AllByRecursion}
+use Rattle.std.proofs.lemmas.List.Elements.{All-from_recursion}
+use Rattle.cell_pages.specs.Parts.{AtMost}
+use Rattle.cell_orders.specs.Replies.{IsSingleReply, IsAtSync, HasEvaluation, IsGivenAt, ServedRise}
+use Rattle.cell_orders.proofs.Replying.{of_last, givens_map, givens_later, single_reply, givens_seen, Behind, Newer, newer_seen, newer_both}
+use Rattle.cell_orders.proofs.Replying.{order_begins, prefixes_stay, evaluated, placed_on}
+use Rattle.cell_orders.proofs.Serving.{ends_itself}
 use Rattle.cell_orders.proofs.Orderings.{zero_at_most}
 use Rattle.cell_orders.specs.Served.{IsNamed}
 use Rattle.cell_orders.proofs.Runs.{Contents, OksSeen, SeenServed, fresh, happens_orders}
 use Rattle.cell_orders.proofs.Lists.{grows, keeps_lists, lists_later, lists_seen}
-use Rattle.cell_orders.proofs.Acknowledging.{acks_seen, told_more, acks_later, placed, run_adds, all_of_end}
+use Rattle.cell_orders.proofs.Acknowledging.{acks_seen, told_more, acks_later, all_placed, placed, run_adds, all_of_end}
 
 -- ---- ready sync sites
 
@@ -56,13 +64,6 @@ is_served (Fetch poll best host) is = no is
 is_served (Relabel poll) is = no is
 is_served (Send poll spread) is = no is
 is_served (Ready poll spread announced) is = (poll, spread, announced, refl)
-
--- the list of the version that was announced last is the order
-of_last : (book : Book) (announcements : List Announcement) (v : Version) (list : List Transaction) → ListsOf book announcements →
-    IsLast (versions_in announcements) v → list_of book v ≡ Some list → list ≡ order_of announcements
-of_last book [] v list lists last listed = absurd last
-of_last book (a ∷ announcements) v list lists last listed =
-    one_list book v list a.transactions listed (subst (λ (u : Version). list_of book u ≡ Some a.transactions) last lists.0)
 
 -- its database is the image of the announced version
 served_image : (db : Database) (book : Book) (s : Server) → is_ready s.phase ≡ true → IsLevel s.version s.phase s.flight →
@@ -160,9 +161,18 @@ module _ (safe : AreSafe cell_rules) (premises : Premises) (db : Database) where
     kept : OrderKept db r.world r.book (versions_in r.announcements)
     lists : ListsOf r.book r.announcements
     acks : AllKeptAt r.book (versions_in r.announcements) r.acknowledged
+    given : AllByRecursion (IsGivenAt db r.book (versions_in r.announcements) (versions_of r.world)) r.given
+    rise : ServedRise r.given
 
   one_event : (r : Run) (x : Leases) (e : Event) → CellInvariant r.world x r.book → Ordered r → Ordered (run_after db r e)
-  one_event r x e good is = record { contents = contents; kept = both.0; lists = lists; acks = acks }
+  one_event r x e good is = record {
+    contents = contents;
+    kept = both.0;
+    lists = lists;
+    acks = acks;
+    given = givens.0;
+    rise = givens.1;
+  }
     where
       h : Happened
       h = happens db r.world e
@@ -179,6 +189,7 @@ module _ (safe : AreSafe cell_rules) (premises : Premises) (db : Database) where
           (happens db r.world e).seen
           × SeenServed db (entered r.book (happens db r.world e).entries) (versions_of (happens db r.world e).world)
           (versions_in r.announcements) (versions_in r.announcements) (happens db r.world e).seen
+          × ((j : ℕ) → AtMost (versions_of r.world j) (versions_of (happens db r.world e).world j))
       both = happens_orders safe premises db r.world x r.book good is.contents r.announcements is.kept e contents.pages.0.0
 
       lists : ListsOf (entered r.book (happens db r.world e).entries)
@@ -200,6 +211,22 @@ module _ (safe : AreSafe cell_rules) (premises : Premises) (db : Database) where
           (keeps_lists r.book (happens db r.world e).entries contents.pages.0.0)
           (told_more (entered r.book (happens db r.world e).entries) (happens db r.world e).seen r.announcements) is.acks)
 
+      givens : AllByRecursion
+          (IsGivenAt db (entered r.book (happens db r.world e).entries)
+          (versions_in (announced (entered r.book (happens db r.world e).entries) (happens db r.world e).seen r.announcements))
+          (versions_of (happens db r.world e).world))
+          (given (entered r.book (happens db r.world e).entries) (happens db r.world e).seen r.announcements r.given)
+          × ServedRise (given (entered r.book (happens db r.world e).entries) (happens db r.world e).seen r.announcements r.given)
+      givens =
+          givens_seen db (entered r.book (happens db r.world e).entries) (versions_of (happens db r.world e).world) contents.pages.0.0
+          contents.pages.0.1 contents.pages.1 (happens db r.world e).seen (versions_in r.announcements) r.announcements r.given
+          (lists_later r.book (entered r.book (happens db r.world e).entries) r.announcements
+          (keeps_lists r.book (happens db r.world e).entries contents.pages.0.0) is.lists) both.0.ordered.listed both.0.ordered.follow
+          both.0.ordered.rise (ends_itself (versions_in r.announcements)) both.2
+          (givens_later db r.book (entered r.book (happens db r.world e).entries) (versions_in r.announcements) (versions_in r.announcements)
+          (versions_of r.world) (versions_of (happens db r.world e).world) r.given
+          (keeps_lists r.book (happens db r.world e).entries contents.pages.0.0) (λ v told. told) both.3 is.given) is.rise
+
   along : (r : Run) (x : Leases) (events : List Event) → CellInvariant r.world x r.book → Ordered r → IsRun db r.world events →
       Ordered (run_through db r events)
   along r x [] good is run = is
@@ -213,6 +240,47 @@ module _ (safe : AreSafe cell_rules) (premises : Premises) (db : Database) where
       by (inl next) rest = rest x next
       by (inr next) rest = rest (runs.after cell_rules x next.0) next.2
 
+  -- what is given later, and what was announced by then
+  abbrev NewerAlong : Run → Run → Type 0
+  NewerAlong r later = Newer (order_of r.announcements) r.given later.given
+
+  newer_one : (r : Run) (x : Leases) (e : Event) → CellInvariant r.world x r.book → Ordered r →
+      Begins (order_of r.announcements) (order_of (run_after db r e).announcements) × NewerAlong r (run_after db r e)
+  newer_one r x e good is =
+      let next : Ordered (run_after db r e) = one_event r x e good is in
+      let both =
+      happens_orders safe premises db r.world x r.book good is.contents r.announcements is.kept e next.contents.pages.0.0 in
+      let lists : ListsOf (run_after db r e).book r.announcements =
+      lists_later r.book (run_after db r e).book r.announcements
+      (keeps_lists r.book (happens db r.world e).entries next.contents.pages.0.0) is.lists in (
+        order_begins db (run_after db r e).book (versions_of (run_after db r e).world) next.contents.pages.0.0 next.contents.pages.0.1
+            next.contents.pages.1 (happens db r.world e).seen r.announcements lists next.lists next.kept.ordered.follow next.kept.ordered.rise,
+        newer_seen db (run_after db r e).book (versions_of (run_after db r e).world) next.contents.pages.0.0 next.contents.pages.0.1
+            next.contents.pages.1 r.announcements lists (happens db r.world e).seen (versions_in r.announcements) r.announcements r.given lists
+            next.kept.ordered.listed next.kept.ordered.follow next.kept.ordered.rise (ends_itself (versions_in r.announcements))
+            (ends_itself (versions_in r.announcements)) both.2,
+      )
+
+  newer_along : (r : Run) (x : Leases) (events : List Event) → CellInvariant r.world x r.book → Ordered r → IsRun db r.world events →
+      NewerAlong r (run_through db r events)
+  newer_along r x [] good is run = ([], refl, tt)
+  newer_along r x (e ∷ events) good is run =
+      by (happens_good safe db r.world x r.book good e run.0)
+      (λ y next. newer_along (run_after db r e) y events next (one_event r x e good is) run.1)
+    where
+      one : Begins (order_of r.announcements) (order_of (run_after db r e).announcements) × NewerAlong r (run_after db r e)
+      one = newer_one r x e good is
+
+      both : NewerAlong (run_after db r e) (run_through db (run_after db r e) events) → NewerAlong r (run_through db r (e ∷ events))
+      both rest = newer_both (order_of r.announcements) (order_of (run_after db r e).announcements) r.given (run_after db r e).given
+          (run_through db (run_after db r e) events).given one.0 one.1 rest
+
+      by : Result (happens db r.world e).world x (run_after db r e).book →
+          ((y : Leases) → CellInvariant (happens db r.world e).world y (run_after db r e).book →
+          NewerAlong (run_after db r e) (run_through db (run_after db r e) events)) → NewerAlong r (run_through db r (e ∷ events))
+      by (inl next) rest = both (rest x next)
+      by (inr next) rest = both (rest (runs.after cell_rules x next.0) next.2)
+
   ordered : (hosts : List Host) (clock : ℕ) (failed : List Bool) (events : List Event) → IsFirst hosts clock failed →
       IsRun db (first_world hosts clock failed) events → Ordered (run_of db hosts clock failed events)
   ordered hosts clock failed events first run =
@@ -225,6 +293,8 @@ module _ (safe : AreSafe cell_rules) (premises : Premises) (db : Database) where
         kept = first_orders hosts clock failed first;
         lists = tt;
         acks = tt;
+        given = tt;
+        rise = tt;
       }) run
 
 module _ (safe : AreSafe cell_rules) (rests : (n : ℕ) (starts : List (Option ℕ)) → RestsOnGreatest n starts) where
@@ -250,6 +320,60 @@ module _ (safe : AreSafe cell_rules) (rests : (n : ℕ) (starts : List (Option �
       added.1
       (placed (run_through db r more).book (run_through db r more).announcements (run_through db r more).acknowledged
       is.contents.pages.0.0 is.contents.pages.0.1 is.contents.pages.1 is.lists is.kept.ordered.follow is.kept.ordered.rise is.acks)
+
+  -- a reply of a run, as a single copy gives it
+  pub replies_are_single : RepliesAreSingle
+  replies_are_single db hosts clock failed events first run =
+      let r = run_of db hosts clock failed events in
+      let is = ordered safe premises db hosts clock failed events first run in
+      All-from_recursion (IsSingleReply db r.book (order_of r.announcements)) r.given
+      (givens_map (IsGivenAt db r.book (versions_in r.announcements) (versions_of r.world)) (IsSingleReply db r.book (order_of r.announcements))
+      r.given
+      (λ g given. single_reply db r.book (versions_of r.world) is.contents.pages.0.0 is.contents.pages.0.1 is.contents.pages.1 r.announcements
+      is.lists is.kept.ordered.follow is.kept.ordered.rise g given) is.given)
+
+  pub replies_are_given : RepliesAreGiven
+  replies_are_given db hosts clock failed events e first run =
+      let r = run_of db hosts clock failed events in
+      let good = run_good safe db hosts clock failed events first run in
+      let is = ordered safe premises db hosts clock failed events first run in
+      let next =
+      happens_keeps db (Both db OnceAndRising both_grew) (BothDurable db OnceAndRising both_grew) (Carries db) (Pages db OnceAndRising both_grew)
+      (contents_pass db OnceAndRising both_grew) safe r.world (runs.after_all cell_rules (runs.first cell_rules clock failed) good.0) r.book
+      good.2 is.contents e in
+      let seen =
+      happens_orders safe premises db r.world (runs.after_all cell_rules (runs.first cell_rules clock failed) good.0) r.book good.2 is.contents
+      r.announcements is.kept e next.pages.0.0 in
+      All-from_recursion HasEvaluation (happens db r.world e).seen
+      (evaluated db (entered r.book (happens db r.world e).entries) (versions_of (happens db r.world e).world) (happens db r.world e).seen
+      (versions_in r.announcements) (versions_in r.announcements) seen.2)
+
+  pub replies_have_acknowledged : RepliesHaveAcknowledged
+  replies_have_acknowledged db hosts clock failed events more first run then =
+      let r = run_of db hosts clock failed events in
+      let good = run_good safe db hosts clock failed events first run in
+      let is = ordered safe premises db hosts clock failed events first run in
+      let newer =
+      newer_along safe premises db r (runs.after_all cell_rules (runs.first cell_rules clock failed) good.0) more good.2 is
+      (subst (λ (w : World). IsRun db w more) (sym (same_world db (first_run (first_world hosts clock failed)) events)) then) in
+      let acks : AllByRecursion (IsPlaced (order_of r.announcements)) r.acknowledged =
+      all_placed r.book r.announcements r.acknowledged is.contents.pages.0.0 is.contents.pages.0.1 is.contents.pages.1 is.lists
+      is.kept.ordered.follow is.kept.ordered.rise is.acks in (
+        newer.0,
+        newer.1,
+        All-from_recursion (λ (g : Given). IsAtSync g.evaluation.basis → All (IsPlaced g.order) r.acknowledged) newer.0
+            (givens_map (Behind (order_of r.announcements)) (λ (g : Given). IsAtSync g.evaluation.basis → All (IsPlaced g.order) r.acknowledged)
+            newer.0
+            (λ g behind sync. All-from_recursion (IsPlaced g.order) r.acknowledged
+            (placed_on (order_of r.announcements) g.order r.acknowledged (behind sync) acks)) newer.2),
+      )
+
+  pub replies_grow : RepliesGrow
+  replies_grow db hosts clock failed events first run =
+      let r = run_of db hosts clock failed events in
+      let is = ordered safe premises db hosts clock failed events first run in
+      prefixes_stay db r.book (versions_of r.world) is.contents.pages.0.0 is.contents.pages.0.1 is.contents.pages.1 (versions_in r.announcements)
+      is.kept.ordered.follow r.given is.given is.rise
 
   pub sites_serve_the_order : SitesServeTheOrder
   sites_serve_the_order db hosts clock failed events first run k site s get up ready = record { last = last; database = database }

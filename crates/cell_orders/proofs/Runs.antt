@@ -48,7 +48,7 @@ use Rattle.cell_orders.proofs.Orderings.{sent_get, kept_map, majority_map}
 use Rattle.cell_orders.specs.Acknowledged.{FlightMade, IsOk, AllOks}
 use Rattle.cell_orders.specs.Served.{IsNamed, Beyond, IsServed, since_after, AllServed}
 use Rattle.cell_orders.proofs.Serving.{ends_itself}
-use Rattle.cell_orders.proofs.Sites.{set_same, server_map, Leaves, happened_keeps, quiet_leaves}
+use Rattle.cell_orders.proofs.Sites.{set_same, server_map, Leaves, version_rises, happened_keeps, quiet_leaves}
 use Rattle.cell_orders.proofs.Steps.{Comes, up_leaves, broken_leaves}
 
 -- ---- what is seen
@@ -238,6 +238,7 @@ module _ (safe : AreSafe cell_rules) (premises : Premises) (db : Database) where
         OrderKept db h.world (entered book h.entries) (versions_in (announced (entered book h.entries) h.seen before))
         × OksSeen (entered book h.entries) (versions_in (announced (entered book h.entries) h.seen before)) h.seen
         × SeenServed db (entered book h.entries) (versions_of h.world) (versions_in before) (versions_in before) h.seen
+        × ((j : ℕ) → AtMost (versions_of w j) (versions_of h.world j))
 
     abbrev LeavesHere : ℕ → Site → SiteHappened → Type 0
     LeavesHere k site h = Leaves db w book (versions_in before) keeps alone k site h × IsSilent h.marks
@@ -248,7 +249,8 @@ module _ (safe : AreSafe cell_rules) (premises : Premises) (db : Database) where
         (λ (a : List Version). OrderKept db (happened_at w k h).world (entered book h.entries) a
         × OksSeen (entered book h.entries) a (seen_from k (length w.packets + 1) h.shown ++ h.marks)
         × SeenServed db (entered book h.entries) (versions_of (happened_at w k h).world) (versions_in before) (versions_in before)
-        (seen_from k (length w.packets + 1) h.shown ++ h.marks))
+        (seen_from k (length w.packets + 1) h.shown ++ h.marks)
+        × ((j : ℕ) → AtMost (versions_of w j) (versions_of (happened_at w k h).world j)))
         (sym (seen_announced (entered book h.entries) k (length w.packets + 1) h.shown h.marks before leaves.1)) (
           happened_keeps db w book (versions_in before) keeps alone k site h get leaves.0 once,
           seen_oks (entered book h.entries) (announced_with h.shown (versions_in before)) k (length w.packets + 1) h.shown h.marks
@@ -260,6 +262,7 @@ module _ (safe : AreSafe cell_rules) (premises : Premises) (db : Database) where
               AllServed db (record { book = entered book h.entries; top = v }) (versions_in before) (versions_in before) h.shown)
               (sym (ap version_in (set_same w.sites k site h.site get)))
               (leaves.0.served once (versions_in before) (ends_itself (versions_in before)))),
+          version_rises db w book (versions_in before) keeps alone k site h get leaves.0,
         )
 
     at_server : (k : ℕ) (f : Site → SiteHappened) → ((site : Site) → site_of w k ≡ Some site → LeavesHere k site (f site)) →
@@ -267,7 +270,7 @@ module _ (safe : AreSafe cell_rules) (premises : Premises) (db : Database) where
     at_server k f leaves = by (site_of w k) refl
       where
         by : (o : Option Site) → site_of w k ≡ o → Keeps (happens_at w k f o)
-        by None is = λ once. (keeps, tt, tt)
+        by None is = λ once. (keeps, tt, tt, λ j. at_most_same (versions_of w j))
         by (Some site) is = at_site k site (f site) is (leaves site is)
 
     -- ---- one server
@@ -434,8 +437,8 @@ module _ (safe : AreSafe cell_rules) (premises : Premises) (db : Database) where
           )
           by (Up s) is = (
             broken_leaves db w book (versions_in before) keeps alone k site s get is here.moment premises here.own (version_is s is)
-                (pure_is s is) (held s is).kept (is_ahead s is) e short made (stop_at db (member w k) e short made site (Up s)) (arrives s is e comes) refl refl refl refl
-                refl (λ u up. not_up Down u refl up) tt (λ x since. tt),
+                (pure_is s is) (held s is).kept (is_ahead s is) e short made (stop_at db (member w k) e short made site (Up s))
+                (arrives s is e comes) refl refl refl refl refl (λ u up. not_up Down u refl up) tt (λ x since. tt),
             tt,
           )
 
@@ -456,8 +459,8 @@ module _ (safe : AreSafe cell_rules) (premises : Premises) (db : Database) where
           )
           by (Up s) is = (
             broken_leaves db w book (versions_in before) keeps alone k site s get is here.moment premises here.own (version_is s is)
-                (pure_is s is) (held s is).kept (is_ahead s is) e short made (fault_at db (member w k) e short made site (Up s)) (arrives s is e comes) refl refl refl
-                (refused_silent e) (refused_none e) (λ u up. not_halted (Halted (halted_from s)) (halted_from s) u refl up)
+                (pure_is s is) (held s is).kept (is_ahead s is) e short made (fault_at db (member w k) e short made site (Up s))
+                (arrives s is e comes) refl refl refl (refused_silent e) (refused_none e) (λ u up. not_halted (Halted (halted_from s)) (halted_from s) u refl up)
                 (refused_oks (entered book (fault_at db (member w k) e short made site (Up s)).entries)
                 (announced_with (refusals e) (versions_in before)) e) (refused_served e),
             tt,
@@ -529,7 +532,7 @@ module _ (safe : AreSafe cell_rules) (premises : Premises) (db : Database) where
     at_trigger trigger f leaves = by (occasion w trigger) refl
       where
         by : (o : Option (ℕ × NodeEvent)) → occasion w trigger ≡ o → Keeps (triggered w f o)
-        by None is = λ once. (keeps, tt, tt)
+        by None is = λ once. (keeps, tt, tt, λ j. at_most_same (versions_of w j))
         by (Some o) is =
             at_server o.0 (f (member w o.0) o.1) (λ site get. leaves o.0 o.1 site get (arrives_by trigger o.0 o.1 site get is))
 
@@ -601,12 +604,14 @@ module _ (safe : AreSafe cell_rules) (premises : Premises) (db : Database) where
           (tick_clock w.sites server seconds),
       tt,
       tt,
+      λ j. subst (AtMost (versions_of w j)) (sym (tick_version w.sites server seconds j)) (at_most_same (versions_of w j)),
     )
     happens_orders (Tick_all seconds) = λ once. (
       ticked_keeps (map (ticked seconds) w.sites) (ticked_each w.sites seconds) (each_version w.sites seconds)
           (each_clock w.sites seconds),
       tt,
       tt,
+      λ j. subst (AtMost (versions_of w j)) (sym (each_version w.sites seconds j)) (at_most_same (versions_of w j)),
     )
     happens_orders (Step trigger short) =
         at_trigger trigger (λ m e site. step_at db m trigger e short site site.node)

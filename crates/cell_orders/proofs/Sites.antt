@@ -141,7 +141,7 @@ module _ (db : Database) (w : World) (book : Book) (announced : List Version) (k
             subst (λ (o : Option Site). AtMost (versions_of w j) (version_in o)) (sym (set_other w.sites k j h.site (eq_false j k is)))
             (at_most_same (versions_of w j))
 
-    version_rises : (j : ℕ) → AtMost (versions_of w j) (versions_of later j)
+    pub version_rises : (j : ℕ) → AtMost (versions_of w j) (versions_of later j)
     version_rises j =
         at_most_then (versions_of w j) (version_at (versions_of w) k h.site.durable.version j) (versions_of later j) (by (j == k) refl)
         (version_later j)

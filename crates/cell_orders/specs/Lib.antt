@@ -5,4 +5,5 @@ pub mod Laws
 pub mod Midst
 pub mod OrderMoves
 pub mod Orders
+pub mod Replies
 pub mod Served
