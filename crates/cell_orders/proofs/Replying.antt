@@ -4,16 +4,19 @@ use Rattle.std.specs.Prelude.{Option, Some, None, slice_get}
 use Rattle.std.specs.List.{AllByRecursion}
 use Rattle.ubik_types.specs.declared.versions.Version.{Version}
 use Rattle.ubik_calls.specs.declared.replies.Reply.{Reply}
-use Rattle.db_image.specs.Database.{Database}
+use Rattle.ubik_calls.specs.declared.replies.Reply.TheVariants as reply
+use Rattle.db_image.specs.Database.{Database, changes_of}
 use Rattle.cell_model.specs.Book.{Acknowledgement}
 use Rattle.cell_model.specs.Book.{Book, Announcement, Given, list_of, list_or_none, announced, order_of, order_at, given}
 use Rattle.cell_model.specs.Durable.{Transaction}
-use Rattle.cell_model.specs.KeptLaws.{IsPlaced, version_under, IsReplyOf, order_behind}
+use Rattle.cell_model.specs.KeptLaws.{ChangesNothing, IsPlaced, version_under, IsReplyOf, order_behind}
 use Rattle.cell_model.specs.Laws.{Begins}
+use Rattle.cell_model.specs.SingleCopy.{image_after}
 use Rattle.cell_model.specs.Step.{Basis, Announced_image, Beacon_image, Commit_on, Evaluation}
 use Rattle.cell_model.specs.World.{Happening, Sent, Announced, Replied, Lost, Stops, Halts, Restarts, Stays_down}
 use Rattle.cell_model.specs.Writes.{next_version}
-use Rattle.cell_model.proofs.BookVersions.{newest, list_is}
+use Rattle.cell_model.proofs.BookVersions.{newest, list_is, image_from-append}
+use Rattle.cell_model.proofs.BlockChanges.{same_image}
 use Rattle.cell_pages.specs.Laws.{MadeOnce, KeepsLists}
 use Rattle.cell_pages.specs.Moves.{transaction_of}
 use Rattle.cell_pages.specs.Pages.{GoesOnFrom, VersionsRise, IsPageOn, PagesFollow, taken}
@@ -23,9 +26,9 @@ use Rattle.cell_pages.proofs.Versions.{at_most_same}
 use Rattle.cell_orders.specs.Acknowledged.{IsAnnounced, IsMade}
 use Rattle.cell_orders.specs.Kept.{ListsOf, versions_in}
 use Rattle.cell_orders.specs.Orders.{AllAnnounced, IsListed, FollowFrom, AnnouncedRise, IsLast}
-use Rattle.cell_orders.specs.Replies.{HasEvaluation, served_list, PrefixesStay}
+use Rattle.cell_orders.specs.Replies.{LeavesCopy, transaction_in, HasEvaluation, served_list, PrefixesStay}
 use Rattle.cell_orders.specs.Replies.{version_in_reply, order_with, IsOrderAt, IsSingleReply, IsAtSync, IsGivenAt, ServedRise}
-use Rattle.cell_orders.specs.Served.{EndsIn, Beyond, IsServedOn, IsServedReply}
+use Rattle.cell_orders.specs.Served.{LeavesBlocks, EndsIn, Beyond, IsServedOn, IsServedReply}
 use Rattle.cell_orders.proofs.Acknowledging.{at_front, announced_get}
 use Rattle.cell_orders.proofs.Lists.{kept_behind, begins, listed_or_none, all_less}
 use Rattle.cell_orders.proofs.Orderings.{at_most_then, all_at_most}
@@ -141,6 +144,7 @@ given_map db book later told after V W g keeps more rise is = record {
   upper_announced = more is.upper is.upper_announced;
   upper_listed = keeps is.upper (order_with g) is.upper_listed;
   reached = at_most_then (version_in_reply g) (V g.server) (W g.server) is.reached (rise g.server);
+  leaves = is.leaves;
 }
 
 pub givens_map : (P Q : Given → Type 0) (gs : List Given) → ((g : Given) → P g → Q g) → AllByRecursion P gs → AllByRecursion Q gs
@@ -202,6 +206,31 @@ evaluated db book V (Stops server ∷ seen) since a served = (tt, evaluated db b
 evaluated db book V (Halts server ∷ seen) since a served = (tt, evaluated db book V seen since a served)
 evaluated db book V (Restarts server version ∷ seen) since a served = (tt, evaluated db book V seen since a served)
 evaluated db book V (Stays_down server ∷ seen) since a served = (tt, evaluated db book V seen since a served)
+
+-- ---- an Ok that is no commit's
+
+no_change : (db : Database) (image : List ℕ) (list : List Transaction) (t : Transaction) → image ≡ image_after db list →
+    changes_of db image (db.call image t.moment t.call).image ≡ [] → ChangesNothing db list t
+no_change db image list t is none =
+    (unchanged, λ some longer. same_image db.head db.block (image_after db list) (image_after db (list ++ t ∷ [])) unchanged some longer)
+  where
+    after : (db.call image t.moment t.call).image ≡ image_after db (list ++ t ∷ [])
+    after = ap (λ (i : List ℕ). (db.call i t.moment t.call).image) is ∙ sym (image_from-append db [] list (t ∷ []))
+
+    unchanged : changes_of db (image_after db list) (image_after db (list ++ t ∷ [])) ≡ []
+    unchanged =
+        subst (λ (i : List ℕ). changes_of db (image_after db list) i ≡ []) after
+        (subst (λ (i : List ℕ). changes_of db i (db.call image t.moment t.call).image ≡ []) is none)
+
+copy_left : (db : Database) (image : List ℕ) (list : List Transaction) → image ≡ image_after db list → (g : Given) (b : Basis) (r : Reply) →
+    LeavesBlocks db image g.evaluation b r → LeavesCopy db list g b r
+copy_left db image list is g (Commit_on old new) r leaves = tt
+copy_left db image list is g (Announced_image v) (reply.Ok fields) leaves =
+    λ writes. no_change db image list (transaction_in g) is (leaves writes)
+copy_left db image list is g (Beacon_image v) (reply.Ok fields) leaves =
+    λ writes. no_change db image list (transaction_in g) is (leaves writes)
+copy_left db image list is g (Announced_image v) _ leaves = tt
+copy_left db image list is g (Beacon_image v) _ leaves = tt
 
 -- ---- one reply
 
@@ -299,6 +328,7 @@ module _ (db : Database) (book : Book) (V : ℕ → Version) (once : MadeOnce bo
       upper_announced = one_stands.upper_told;
       upper_listed = one_stands.upper_listed;
       reached = served.reached;
+      leaves = λ good. copy_left db served.image served.of.list (served.of.image_is good) one e.basis r served.leaves;
     }
 
     one_rises : (before : List Given) → AllByRecursion (IsGivenAt db book since V) before → ServedRise before → ServedRise (one ∷ before)
@@ -340,6 +370,7 @@ module _ (db : Database) (book : Book) (V : ℕ → Version) (once : MadeOnce bo
     listed = is.listed;
     replied = is.replied;
     at = is.at;
+    leaves = is.leaves;
     begins = begins_order ann is.upper (order_with g) lists follow rise is.upper_announced is.upper_listed;
   }
 

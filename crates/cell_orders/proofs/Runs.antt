@@ -460,7 +460,8 @@ module _ (safe : AreSafe cell_rules) (premises : Premises) (db : Database) where
           by (Up s) is = (
             broken_leaves db w book (versions_in before) keeps alone k site s get is here.moment premises here.own (version_is s is)
                 (pure_is s is) (held s is).kept (is_ahead s is) e short made (fault_at db (member w k) e short made site (Up s))
-                (arrives s is e comes) refl refl refl (refused_silent e) (refused_none e) (λ u up. not_halted (Halted (halted_from s)) (halted_from s) u refl up)
+                (arrives s is e comes) refl refl refl (refused_silent e) (refused_none e)
+                (λ u up. not_halted (Halted (halted_from s)) (halted_from s) u refl up)
                 (refused_oks (entered book (fault_at db (member w k) e short made site (Up s)).entries)
                 (announced_with (refusals e) (versions_in before)) e) (refused_served e),
             tt,

@@ -1,5 +1,5 @@
 -- What is served in parts of a step that follow one another, and what a commit makes of an image.
-use Rattle.std.proofs.Common.{false, ◌≡◌, inl, inr, ℕ, List, [], ◌∷◌, ◌++◌, refl, sym, ap, subst, ◌∙◌, append_assoc, arith}
+use Rattle.std.proofs.Common.{Bool, true, false, ◌≡◌, inl, inr, ℕ, List, [], ◌∷◌, ◌++◌, refl, sym, ap, subst, ◌∙◌, append_assoc, arith}
 use Rattle.std.proofs.lemmas.Bool.Decides.{nat_tests}
 use Rattle.std.specs.Prelude.{Option, Some, None}
 use Rattle.std.specs.List.{cons_option}
@@ -9,6 +9,8 @@ use Rattle.ubik_types.specs.Version.{version_eq}
 use Rattle.ubik_calls.specs.declared.packets.Body.{Body}
 use Rattle.ubik_calls.specs.declared.packets.Body.TheVariants as body
 use Rattle.ubik_calls.specs.declared.packets.Packet.{Packet}
+use Rattle.ubik_calls.specs.declared.replies.Reply.{Reply}
+use Rattle.ubik_calls.specs.declared.replies.Reply.TheVariants as reply
 use Rattle.db_image.specs.Database.{Database}
 use Rattle.cell_model.specs.declared.events.NodeEvent.{NodeEvent}
 use Rattle.cell_model.specs.declared.events.NodeEvent.TheVariants as event
@@ -18,7 +20,7 @@ use Rattle.cell_model.specs.Book.{Book, BookVersion, list_of, list_or_none, ente
 use Rattle.cell_model.specs.Durable.{Made, Transaction, Reason, Own_relabelling, Committed, Received, version_after}
 use Rattle.cell_model.specs.Node.{ReadyBeacon, Flight}
 use Rattle.cell_model.specs.Recovery.{held_by}
-use Rattle.cell_model.specs.Step.{Member, Evaluation, Shown}
+use Rattle.cell_model.specs.Step.{Member, Basis, Announced_image, Beacon_image, Commit_on, Evaluation, Shown}
 use Rattle.cell_model.specs.World.{Entry, packet_in, packets_of}
 use Rattle.cell_model.specs.Writes.{next_version}
 use Rattle.cell_model.proofs.BookVersions.{newest, older, list_is, image_from-append}
@@ -30,7 +32,7 @@ use Rattle.cell_pages.proofs.Versions.{at_most_same}
 use Rattle.cell_orders.specs.Acknowledged.{IsAnnounced, IsMade, IsFlown}
 use Rattle.cell_orders.specs.Histories.{Stand, announced_in, announced_with, IsServing, FitsTo, OutputFits, AllFit}
 use Rattle.cell_orders.specs.Orders.{IsLast, WasSent}
-use Rattle.cell_orders.specs.Served.{Names, IsNamed, EndsIn, Beyond, IsBeyond, IsServed, since_after, AllServed}
+use Rattle.cell_orders.specs.Served.{LeavesBlocks, Names, IsNamed, EndsIn, Beyond, IsBeyond, IsServed, since_after, AllServed}
 use Rattle.cell_orders.proofs.Lists.{kept_behind}
 use Rattle.cell_orders.proofs.Orderings.{at_most_then, at_most_lt}
 use Rattle.cell_orders.proofs.Telling.{Rising, announced_more}
@@ -134,6 +136,18 @@ flown_later db book later v (Relabel poll) f keeps is = tt
 flown_later db book later v (Send poll spread) f keeps is = tt
 flown_later db book later v (Ready poll spread announced) f keeps is =
     (is.0, image_later db book later announced f.old_image keeps is.1, is.2)
+
+-- a call that reads
+never_both : (o : Option Bool) → o ≡ Some false → o ≡ Some true → ⊥
+never_both o one other = absurd (cc)
+
+pub reads_leave : (db : Database) (image : List ℕ) (e : Evaluation) (b : Basis) (r : Reply) → db.writes e.call ≡ Some false →
+    LeavesBlocks db image e b r
+reads_leave db image e (Commit_on old new) r reads = tt
+reads_leave db image e (Announced_image v) (reply.Ok fields) reads = λ writes. absurd (never_both (db.writes e.call) reads writes)
+reads_leave db image e (Beacon_image v) (reply.Ok fields) reads = λ writes. absurd (never_both (db.writes e.call) reads writes)
+reads_leave db image e (Announced_image v) _ reads = tt
+reads_leave db image e (Beacon_image v) _ reads = tt
 
 -- ---- versions that rise
 

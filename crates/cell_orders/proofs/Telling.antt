@@ -1,5 +1,5 @@
 -- What is put out one behind the other, and durable calls that follow one another.
-use Rattle.std.proofs.Common.{Bool, true, false, cond, ◌==◌, ◌≡◌, inr, ℕ, ◌+◌, List, [], ◌∷◌, ◌++◌, map, refl}
+use Rattle.std.proofs.Common.{Bool, true, false, cond, ◌==◌, ◌≡◌, inr, ℕ, zero, suc, ◌+◌, List, [], ◌∷◌, ◌++◌, map, refl}
 use Rattle.std.proofs.Common.{sym, ap, subst, ◌∙◌}
 use Rattle.std.proofs.Common.{append_assoc}
 use Rattle.std.proofs.lemmas.List.Elements.{filter_map-append}
@@ -21,6 +21,10 @@ use Rattle.cell_model.specs.Lapse.{no_quorum, flight_refused, waiting_refused, w
 use Rattle.cell_model.specs.Node.{Server, Flight, Waiting}
 use Rattle.cell_model.specs.Step.{Member, Basis, Announced_image, Beacon_image, Commit_on, Evaluation, Shown, Stepped, packet_to}
 use Rattle.cell_model.specs.Step.{sent, sends_from, sends_to_each}
+use Rattle.cell_model.specs.Pieces.{piece_count}
+use Rattle.cell_model.specs.Writes.{put_pieces, write_bodies}
+use Rattle.cell_pages.proofs.Leading.{bodies_append}
+use Rattle.ubik_calls.specs.declared.packets.Body.TheVariants as body
 use Rattle.cell_model.specs.World.{Entry, entries_from, packet_of, packets_of}
 use Rattle.cell_pages.specs.Moves.{AllBodies, transaction_of}
 use Rattle.cell_orders.specs.Histories.{Stand, History, announced_in, announced_with, with_book, with_shown, after, IsBeside, FitsTo}
@@ -190,3 +194,15 @@ module _ (m : Member) (Asked : ℕ → ℕ → Type 0) (c : Stand) where
   pub refused_fit : (s : Server) (now : ℕ) (phase : Phase) → AllFit m Asked c (writes_refused m s now phase)
   refused_fit s now phase =
       fit_append (flight_refused s.flight (no_quorum m s now phase applied.Unknown)) _ (flight_fits s.flight _ tt) (waiting_fit s.waiting _ tt)
+
+  pieces_fit : (host : Host) (new : Version) (text : List ℕ) (number left : ℕ) →
+      AllBodies (FitsTo m.hosts Asked c host) (put_pieces new text number left)
+  pieces_fit host new text number zero = tt
+  pieces_fit host new text number (suc left) = (tt, pieces_fit host new text (number + 1) left)
+
+  pub write_fits : (host : Host) (old new : Version) (text : List ℕ) → AllBodies (FitsTo m.hosts Asked c host) (write_bodies old new text)
+  write_fits host old new text = (
+    tt,
+    bodies_append (FitsTo m.hosts Asked c host) (put_pieces new text 0 (piece_count text)) (body.Commit old new ∷ [])
+        (pieces_fit host new text 0 (piece_count text)) (tt, tt),
+  )

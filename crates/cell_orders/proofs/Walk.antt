@@ -1,10 +1,9 @@
 -- What each move keeps, each step of a server keeps: one lemma for each rule and each kind of packet.
-use Rattle.std.proofs.Common.{Bool, true, false, cond, ◌==◌, ◌≡◌, inl, inr, ℕ, zero, suc, ◌+◌, List, [], ◌∷◌, ◌++◌, length, refl, sym, ap}
+use Rattle.std.proofs.Common.{Bool, true, false, cond, ◌==◌, ◌≡◌, inl, inr, ℕ, List, [], ◌∷◌, ◌++◌, length, refl, sym, ap}
 use Rattle.std.proofs.Common.{subst, ◌∙◌, append_assoc}
 use Rattle.std.proofs.lemmas.Bool.{cond_both}
 use Rattle.std.specs.Prelude.{Option, Some, None, nat_le}
 use Rattle.lock_table.specs.declared.tables.TheConstants.{MAX_WAITING}
-use Rattle.ubik_types.specs.declared.hosts.Host.{Host}
 use Rattle.ubik_types.specs.declared.images.Change.{Change}
 use Rattle.ubik_types.specs.declared.versions.TheConstants.{MAX_COUNTER}
 use Rattle.ubik_types.specs.declared.versions.Version.{Version}
@@ -14,7 +13,6 @@ use Rattle.ubik_types.specs.Phase.{Polled, Spread, PhaseRecord, NoPhase, Poll, F
 use Rattle.ubik_types.specs.Quorum.{is_majority}
 use Rattle.ubik_types.specs.Version.{version_lt}
 use Rattle.ubik_types.specs.Votes.{VoteState, sync_heard}
-use Rattle.ubik_calls.specs.declared.packets.Body.TheVariants as body
 use Rattle.ubik_calls.specs.declared.replies.Reply.{Reply}
 use Rattle.ubik_calls.specs.declared.replies.Reply.TheVariants as reply
 use Rattle.xdr_base.specs.ChangeText.{text_of}
@@ -26,33 +24,31 @@ use Rattle.cell_model.specs.Book.{Book, BookVersion, entered, with_version}
 use Rattle.cell_model.specs.Durable.{Made, Committed, version_after}
 use Rattle.cell_model.specs.KeptLaws.{IsReplyOf, IsUngiven}
 use Rattle.cell_model.specs.Node.{Server, Flight, Waiting}
-use Rattle.cell_model.specs.Pieces.{piece_count}
 use Rattle.cell_model.specs.Polls.{new_poll, polling}
 use Rattle.cell_model.specs.World.{entries_from}
 use Rattle.cell_model.specs.Step.{Member, cell_size, Basis, Announced_image, Beacon_image, Commit_on, Evaluation, replying, Shown, Stepped}
 use Rattle.cell_model.specs.Step.{quiet, showing, followed}
 use Rattle.cell_model.specs.Step.{leased, is_ready, told_version, with_phase, is_short, short_after, announcing, refusing}
-use Rattle.cell_model.specs.Writes.{announced_image, next_version, put_pieces, write_bodies, flight_of, own_write_begun, own_commit, ended_write}
+use Rattle.cell_model.specs.Writes.{announced_image, next_version, flight_of, own_write_begun, own_commit, ended_write}
 use Rattle.cell_model.specs.Writes.{flight_settled, settled_in, settled, written_in, written_changes, written_small, written_within, turned}
 use Rattle.cell_model.specs.Writes.{image_before, answered_on, write_turn, is_free, next_turns, settled_with_turns}
 use Rattle.cell_laws.proofs.Parts.{no}
-use Rattle.cell_pages.specs.Moves.{AllBodies, transaction_of}
+use Rattle.cell_pages.specs.Moves.{transaction_of}
 use Rattle.cell_pages.specs.Images.{IsImageOf}
 use Rattle.cell_pages.specs.Parts.{AtMost, KeptLeadsOn}
 use Rattle.cell_pages.specs.Passes.{is_held}
-use Rattle.cell_pages.proofs.Leading.{bodies_append}
 use Rattle.cell_pages.proofs.Versions.{lt_of_next, at_most_same}
 use Rattle.cell_orders.specs.Histories.{Stand, stand_of, History, announced_with, with_book, after, IsBeside, IsServing, IsNumbered}
-use Rattle.cell_orders.specs.Histories.{FitsTo, AllFit}
+use Rattle.cell_orders.specs.Histories.{AllFit}
 use Rattle.cell_orders.specs.Acknowledged.{IsAnnounced, IsLevel, IsMade, IsFlown, FlightMade, IsOkBy, AllOks}
 use Rattle.cell_orders.specs.OrderMoves.{OrderMoves}
 use Rattle.cell_orders.specs.Orders.{IsLast}
-use Rattle.cell_orders.specs.Served.{IsNamed, EndsIn, Beyond, IsBeyond, IsServedReply, AllServed}
+use Rattle.cell_orders.specs.Served.{LeavesBlocks, IsNamed, EndsIn, Beyond, IsBeyond, IsServedReply, AllServed}
 use Rattle.cell_orders.proofs.Orderings.{at_most_then}
-use Rattle.cell_orders.proofs.Serving.{entered_newer, made_beyond, image_beyond, image_before_commit, image_of_commit, rising_most, last_told}
+use Rattle.cell_orders.proofs.Serving.{reads_leave, entered_newer, made_beyond, image_beyond, image_before_commit, image_of_commit, rising_most, last_told}
 use Rattle.cell_orders.proofs.Serving.{since_with, since_with_ends, named_later, named_with, served_append, fits_served}
 use Rattle.cell_orders.proofs.Telling.{oks_append, fits_oks, oks_more, entered_made, announced_more, Rising, rising_append, after_both}
-use Rattle.cell_orders.proofs.Telling.{beside_ok, each_fits, waiting_fit}
+use Rattle.cell_orders.proofs.Telling.{write_fits, beside_ok, each_fits, waiting_fit}
 use Rattle.cell_orders.proofs.Standing.{allowed}
 use Rattle.cell_orders.proofs.Standing.{free_held, free_ready, free_none}
 use Rattle.cell_orders.proofs.Standing.{level_idle, level_same, level_at, none_made}
@@ -390,6 +386,7 @@ module _ (db : Database) (m : Member) (now : ℕ) (starts : List (Option ℕ)) (
             reached =
                 at_most_then announced s.version x.top
                 (moves.serves h (stand_of s) poll spread announced (fit.held (ap is_held at)) at fit.keeps).1 beyond.most;
+            leaves = tt;
           }
 
   settled_in_is : (h : History) (s : Server) (phase : PhaseRecord) → s.phase ≡ phase → Fit h s → Goes h s.version (settled_in m s phase)
@@ -439,19 +436,6 @@ module _ (db : Database) (m : Member) (now : ℕ) (starts : List (Option ℕ)) (
 
   -- ---- writes
 
-  pieces_fit : (c : Stand) (host : Host) (new : Version) (text : List ℕ) (number left : ℕ) →
-      AllBodies (FitsTo m.hosts Asked c host) (put_pieces new text number left)
-  pieces_fit c host new text number zero = tt
-  pieces_fit c host new text number (suc left) = (tt, pieces_fit c host new text (number + 1) left)
-
-  pub write_fits : (c : Stand) (host : Host) (old new : Version) (text : List ℕ) →
-      AllBodies (FitsTo m.hosts Asked c host) (write_bodies old new text)
-  write_fits c host old new text = (
-    tt,
-    bodies_append (FitsTo m.hosts Asked c host) (put_pieces new text 0 (piece_count text)) (body.Commit old new ∷ [])
-        (pieces_fit c host new text 0 (piece_count text)) (tt, tt),
-  )
-
   -- a call is served from the announced image
   announced_of : (h : History) (s : Server) → is_ready s.phase ≡ true → Fit h s → Pure h s →
       IsImageOf db h.book (told_version s.phase s.version) (announced_image s)
@@ -487,25 +471,34 @@ module _ (db : Database) (m : Member) (now : ℕ) (starts : List (Option ℕ)) (
       by (Ready poll spread announced) at is = moves.serves h (stand_of s) poll spread announced lease at fit.keeps
 
   announced_reply : (h : History) (s : Server) (call : List ℕ) (r : Reply) → Lease → is_ready s.phase ≡ true → Fit h s → Pure h s →
-      IsReplyOf (db.call (announced_image s) now call).reply r → (x : Beyond) (since : List Version) → IsBeyond x h.book s.version →
-      IsServedReply db x since h.announced
-      (record { call = call; moment = now; basis = Announced_image (told_version s.phase s.version) }) r
-  announced_reply h s call r lease ready fit pure replied x since beyond = record {
+      IsReplyOf (db.call (announced_image s) now call).reply r →
+      LeavesBlocks db (announced_image s) (answered_on (told_version s.phase s.version) now call)
+      (Announced_image (told_version s.phase s.version)) r →
+      (x : Beyond) (since : List Version) → IsBeyond x h.book s.version →
+      IsServedReply db x since h.announced (answered_on (told_version s.phase s.version) now call) r
+  announced_reply h s call r lease ready fit pure replied leaves x since beyond = record {
     served_on = (announced_last h s lease ready fit).0;
     image = announced_image s;
     of = image_beyond db x h.book s.version (told_version s.phase s.version) (announced_image s) beyond (announced_of h s ready fit pure);
     replied = replied;
     reached =
         at_most_then (told_version s.phase s.version) s.version x.top (announced_last h s lease ready fit).1 beyond.most;
+    leaves = leaves;
   }
 
   -- so where no write is in flight
   own_reply : (h : History) (s : Server) (call : List ℕ) (r : Reply) → Lease → is_ready s.phase ≡ true → s.flight ≡ None → Fit h s →
-      Pure h s → IsReplyOf (db.call s.image now call).reply r → (x : Beyond) (since : List Version) → IsBeyond x h.book s.version →
+      Pure h s → IsReplyOf (db.call s.image now call).reply r →
+      LeavesBlocks db s.image (answered_on (told_version s.phase s.version) now call)
+      (Announced_image (told_version s.phase s.version)) r → (x : Beyond) (since : List Version) → IsBeyond x h.book s.version →
       IsServedReply db x since h.announced (answered_on (told_version s.phase s.version) now call) r
-  own_reply h s call r lease ready free fit pure replied =
+  own_reply h s call r lease ready free fit pure replied leaves =
       announced_reply h s call r lease ready fit pure
       (subst (λ (o : Option Flight). IsReplyOf (db.call (image_before s.image o) now call).reply r) (sym free) replied)
+      (subst
+      (λ (o : Option Flight).
+      LeavesBlocks db (image_before s.image o) (answered_on (told_version s.phase s.version) now call)
+      (Announced_image (told_version s.phase s.version)) r) (sym free) leaves)
 
   written_in_is : (h : History) (s : Server) (id : ℕ) (call answer image : List ℕ) (changes : List Change) (phase : PhaseRecord) →
       s.phase ≡ phase → s.flight ≡ None → image ≡ (db.call s.image now call).image →
@@ -560,7 +553,7 @@ module _ (db : Database) (m : Member) (now : ℕ) (starts : List (Option ℕ)) (
             beacon = fit.beacon;
           })
           (each_fits m Asked (stand_of begun.server) _
-          (λ host k. write_fits (stand_of begun.server) host s.version (next_version s.version) (text_of changes)))
+          (λ host k. write_fits m Asked (stand_of begun.server) host s.version (next_version s.version) (text_of changes)))
 
   written_changes_is : (h : History) (s : Server) (id : ℕ) (call answer image : List ℕ) (changes : List Change) → Lease → s.flight ≡ None →
       image ≡ (db.call s.image now call).image → (db.call s.image now call).reply ≡ call_reply.Done answer → Fit h s → Pure h s →
@@ -585,24 +578,25 @@ module _ (db : Database) (m : Member) (now : ℕ) (starts : List (Option ℕ)) (
       (λ _. written_in_is h s id call answer image changes s.phase refl free same done fit pure)
 
   written_small_is : (h : History) (s : Server) (id : ℕ) (call answer image : List ℕ) (changes : List Change) → Lease →
-      is_ready s.phase ≡ true → s.flight ≡ None → image ≡ (db.call s.image now call).image →
+      is_ready s.phase ≡ true → s.flight ≡ None → image ≡ (db.call s.image now call).image → changes ≡ changes_of db s.image image →
       (db.call s.image now call).reply ≡ call_reply.Done answer → Fit h s → Pure h s →
       GoesPure h s.version (written_small m s now id call answer image changes)
-  written_small_is h s id call answer image [] lease ready free same done fit pure = (
+  written_small_is h s id call answer image [] lease ready free same changes_are done fit pure = (
     replies h s id (reply.Ok answer) (answered_on (told_version s.phase s.version) now call) fit tt
-        (own_reply h s call (reply.Ok answer) lease ready free fit pure done),
+        (own_reply h s call (reply.Ok answer) lease ready free fit pure done
+        (λ writes. ap (changes_of db s.image) (sym same) ∙ sym changes_are)),
     pure,
   )
-  written_small_is h s id call answer image (change ∷ changes) lease ready free same done fit pure =
+  written_small_is h s id call answer image (change ∷ changes) lease ready free same changes_are done fit pure =
       written_changes_is h s id call answer image (change ∷ changes) lease free same done fit pure
 
   written_within_is : (h : History) (s : Server) (id : ℕ) (call answer image : List ℕ) (changes : List Change) (passed : Option ℕ) →
-      Lease → is_ready s.phase ≡ true → s.flight ≡ None → image ≡ (db.call s.image now call).image →
+      Lease → is_ready s.phase ≡ true → s.flight ≡ None → image ≡ (db.call s.image now call).image → changes ≡ changes_of db s.image image →
       (db.call s.image now call).reply ≡ call_reply.Done answer → Fit h s → Pure h s →
       GoesPure h s.version (written_within m s now id call answer image changes passed)
-  written_within_is h s id call answer image changes None lease ready free same done fit pure =
-      written_small_is h s id call answer image changes lease ready free same done fit pure
-  written_within_is h s id call answer image changes (Some bytes) lease ready free same done fit pure =
+  written_within_is h s id call answer image changes None lease ready free same changes_are done fit pure =
+      written_small_is h s id call answer image changes lease ready free same changes_are done fit pure
+  written_within_is h s id call answer image changes (Some bytes) lease ready free same changes_are done fit pure =
       (turns h s _ fit ((refl, tt), tt), pure)
 
   turned_is : (h : History) (s : Server) (id : ℕ) (call image : List ℕ) (r : CallReply) → Lease → is_ready s.phase ≡ true →
@@ -610,10 +604,10 @@ module _ (db : Database) (m : Member) (now : ℕ) (starts : List (Option ℕ)) (
       GoesPure h s.version (turned db m s now id call image r)
   turned_is h s id call image (call_reply.Done answer) lease ready free same is fit pure =
       written_within_is h s id call answer image (changes_of db s.image image)
-      (too_large 0 (length s.image) (changes_of db s.image image)) lease ready free same is fit pure
+      (too_large 0 (length s.image) (changes_of db s.image image)) lease ready free same refl is fit pure
   turned_is h s id call image (call_reply.Rule number) lease ready free same is fit pure = (
     replies h s id (reply.Rule number) (answered_on (told_version s.phase s.version) now call) fit tt
-        (own_reply h s call (reply.Rule number) lease ready free fit pure is),
+        (own_reply h s call (reply.Rule number) lease ready free fit pure is tt),
     pure,
   )
   turned_is h s id call image call_reply.Malformed lease ready free same is fit pure = (turns h s _ fit ((refl, tt), tt), pure)
@@ -692,12 +686,14 @@ module _ (db : Database) (m : Member) (now : ℕ) (starts : List (Option ℕ)) (
         beacon = fit.beacon;
       }) tt))
 
-  served_is : (h : History) (s : Server) (id : ℕ) (call : List ℕ) (writes short : Bool) → Lease → is_ready s.phase ≡ true → Fit h s →
-      Pure h s → Goes h s.version (served db m s now id call writes short)
-  served_is h s id call writes short lease ready fit pure =
+  served_is : (h : History) (s : Server) (id : ℕ) (call : List ℕ) (writes short : Bool) → db.writes call ≡ Some writes → Lease →
+      is_ready s.phase ≡ true → Fit h s → Pure h s → Goes h s.version (served db m s now id call writes short)
+  served_is h s id call writes short known lease ready fit pure =
       either h s.version writes _ _ (λ _. write_asked_is h s id call short s.flight refl lease ready fit pure)
-      (λ _. read_is h s id call (announced_image s) (Announced_image (told_version s.phase s.version)) short tt fit
-      (λ r is. announced_reply h s call r lease ready fit pure is))
+      (λ reads. read_is h s id call (announced_image s) (Announced_image (told_version s.phase s.version)) short tt fit
+      (λ r is. announced_reply h s call r lease ready fit pure is
+      (reads_leave db (announced_image s) (answered_on (told_version s.phase s.version) now call)
+      (Announced_image (told_version s.phase s.version)) r (known ∙ ap (λ (b : Bool). Some b) reads))))
 
   -- ---- a whole step
 
@@ -730,10 +726,11 @@ module _ (db : Database) (m : Member) (now : ℕ) (starts : List (Option ℕ)) (
   either_ends h v test x y = cond_both test x y (Ends h v)
 
   -- a reply from the own image, by a kept beacon
-  beacon_reply : (h : History) (s : Server) (id : ℕ) (call : List ℕ) (r : Reply) → Fit h s → Pure h s → IsAnnounced h.announced s.version →
+  beacon_reply : (h : History) (s : Server) (id : ℕ) (call : List ℕ) (r : Reply) → db.writes call ≡ Some false → Fit h s → Pure h s →
+      IsAnnounced h.announced s.version →
       IsReplyOf (db.call s.image now call).reply r →
       Ends h s.version (showing s (replying id r (record { call = call; moment = now; basis = Beacon_image s.version }) ∷ []))
-  beacon_reply h s id call r fit pure told is = record {
+  beacon_reply h s id call r reads fit pure told is = record {
     keeps = moves.shows h (stand_of s) [] tt fit.keeps;
     held = fit.held;
     rising = refl;
@@ -748,31 +745,34 @@ module _ (db : Database) (m : Member) (now : ℕ) (starts : List (Option ℕ)) (
         of = image_beyond db x h.book s.version s.version s.image beyond pure;
         replied = is;
         reached = beyond.most;
+        leaves =
+            reads_leave db s.image (record { call = call; moment = now; basis = Beacon_image s.version }) (Beacon_image s.version) r reads;
       },
       tt,
     );
   }
 
-  beacon_read_is : (h : History) (s : Server) (id : ℕ) (call : List ℕ) (short : Bool) → Fit h s → Pure h s →
+  beacon_read_is : (h : History) (s : Server) (id : ℕ) (call : List ℕ) (short : Bool) → db.writes call ≡ Some false → Fit h s → Pure h s →
       IsAnnounced h.announced s.version → Ends h s.version (read db s now id call s.image (Beacon_image s.version) short)
-  beacon_read_is h s id call short fit pure told =
+  beacon_read_is h s id call short reads fit pure told =
       either_ends h s.version short _ _ (λ _. ended h s.version _ (turns h s _ fit ((refl, tt), tt)))
       (λ _. by (db.call s.image now call).reply refl)
     where
       by : (given : CallReply) → (db.call s.image now call).reply ≡ given →
           Ends h s.version
           (showing s (read_reply id (record { call = call; moment = now; basis = Beacon_image s.version }) given ∷ []))
-      by (call_reply.Done answer) is = beacon_reply h s id call (reply.Ok answer) fit pure told is
-      by (call_reply.Rule number) is = beacon_reply h s id call (reply.Rule number) fit pure told is
+      by (call_reply.Done answer) is = beacon_reply h s id call (reply.Ok answer) reads fit pure told is
+      by (call_reply.Rule number) is = beacon_reply h s id call (reply.Rule number) reads fit pure told is
       by call_reply.Malformed is = ended h s.version _ (turns h s _ fit ((refl, tt), tt))
       by (call_reply.BadRecord at) is = ended h s.version _ (turns h s _ fit ((refl, tt), tt))
 
   elsewhere_is : (h : History) (s : Server) (id : ℕ) (call : List ℕ) (writes short may_read : Bool) →
-      (may_read ≡ true → IsAnnounced h.announced s.version) → Fit h s → Pure h s →
+      db.writes call ≡ Some writes → (may_read ≡ true → IsAnnounced h.announced s.version) → Fit h s → Pure h s →
       Ends h s.version (asked_elsewhere db m s now id call writes short may_read)
-  elsewhere_is h s id call writes short may_read told fit pure =
+  elsewhere_is h s id call writes short may_read known told fit pure =
       either_ends h s.version writes _ _ (λ _. ended h s.version _ (not_served_is s.votes))
-      (λ _. either_ends h s.version may_read _ _ (λ is. beacon_read_is h s id call short fit pure (told is))
+      (λ reads. either_ends h s.version may_read _ _
+      (λ is. beacon_read_is h s id call short (known ∙ ap (λ (b : Bool). Some b) reads) fit pure (told is))
       (λ _. ended h s.version _ (not_served_is s.votes)))
     where
       not_served_is : (votes : VoteState) → Goes h s.version (showing s (refusing id (not_served m s now (sync_heard now votes)) ∷ []))
@@ -782,13 +782,13 @@ module _ (db : Database) (m : Member) (now : ℕ) (starts : List (Option ℕ)) (
           ungiven None = tt
           ungiven (Some heard) = cond_both (heard.0 == m.me) _ _ IsUngiven (λ _. tt) (λ _. tt)
 
-  pub asked_as_is : (h : History) (s : Server) (id : ℕ) (call : List ℕ) (short : Bool) (o : Option Bool) → Fit h s → Pure h s →
-      Ends h s.version (asked_as db m s now id call short o)
-  asked_as_is h s id call short None fit pure = ended h s.version _ (turns h s _ fit ((refl, tt), tt))
-  asked_as_is h s id call short (Some writes) fit pure =
+  pub asked_as_is : (h : History) (s : Server) (id : ℕ) (call : List ℕ) (short : Bool) (o : Option Bool) → db.writes call ≡ o → Fit h s →
+      Pure h s → Ends h s.version (asked_as db m s now id call short o)
+  asked_as_is h s id call short None known fit pure = ended h s.version _ (turns h s _ fit ((refl, tt), tt))
+  asked_as_is h s id call short (Some writes) known fit pure =
       either_ends h s.version (leased m s now) _ _
       (λ is. either_ends h s.version (is_ready s.phase) _ _
-      (λ ready. ended h s.version _ (served_is h s id call writes short (lease_of h s fit is) ready fit pure))
+      (λ ready. ended h s.version _ (served_is h s id call writes short known (lease_of h s fit is) ready fit pure))
       (λ _. ended h s.version _ (turns h s _ fit ((refl, tt), tt))))
-      (λ _. elsewhere_is h s id call writes short (allows_reads s.version now s.beacon)
+      (λ _. elsewhere_is h s id call writes short (allows_reads s.version now s.beacon) known
       (λ is. allowed now h.announced s.version s.beacon is fit.beacon) fit pure)

@@ -127,8 +127,8 @@ module _ (db : Database) (m : Member) (now : ℕ) (starts : List (Option ℕ)) (
   begins : (h : History) (s : Server) → Lease → s.flight ≡ None → Fit h s → Fit h (polling m s now)
   begins = walk.begins db m now starts Asked Answered Kept I moves
 
-  asked_as_is : (h : History) (s : Server) (id : ℕ) (call : List ℕ) (short : Bool) (o : Option Bool) → Fit h s → Pure h s →
-      Ends h s.version (asked_as db m s now id call short o)
+  asked_as_is : (h : History) (s : Server) (id : ℕ) (call : List ℕ) (short : Bool) (o : Option Bool) → db.writes call ≡ o → Fit h s →
+      Pure h s → Ends h s.version (asked_as db m s now id call short o)
   asked_as_is = walk.asked_as_is db m now starts Asked Answered Kept I moves
 
   recovered_is : (h : History) (s : Server) (phase : PhaseRecord) → s.phase ≡ phase → Fit h s → Goes h s.version (recovered m s now phase)
@@ -489,7 +489,7 @@ module _ (db : Database) (m : Member) (now : ℕ) (starts : List (Option ℕ)) (
   handled_is h s (event.Packet p) short brings names fit pure = packet_is h s p short (place_of m.hosts p.from) refl brings names fit pure
   handled_is h s event.BeaconTurn short brings names fit pure = beacon_turn_is h s fit
   handled_is h s event.RecoverTurn short brings names fit pure = ended h s.version _ (recovered_is h s s.phase refl fit)
-  handled_is h s (event.Ask id call) short brings names fit pure = asked_as_is h s id call (is_short short) (db.writes call) fit pure
+  handled_is h s (event.Ask id call) short brings names fit pure = asked_as_is h s id call (is_short short) (db.writes call) refl fit pure
 
   pub step_ends : (h : History) (s : Server) (e : NodeEvent) (short : List Bool) → s.starts ≡ starts → KeptLeadsOn s.version s.kept →
       FlightMade db h.book s.version s.phase s.flight → IsLevel s.version s.phase s.flight → IsNamed h.announced s.beacon →

@@ -26,7 +26,6 @@ use Rattle.cell_model.specs.Recovery.{fetch_went_on, piece_received}
 use Rattle.cell_model.specs.Step.{Member, cell_size, Shown, Stepped}
 use Rattle.cell_model.specs.Step.{quiet, showing, followed}
 use Rattle.cell_model.specs.Step.{leased, is_ready, with_phase, with_database}
-use Rattle.cell_model.specs.Writes.{write_bodies}
 use Rattle.cell_model.specs.Writes.{settled}
 use Rattle.cell_model.specs.Writes.{settled_with_turns}
 use Rattle.cell_laws.proofs.Parts.{lt_true, eq_true}
@@ -37,7 +36,7 @@ use Rattle.cell_pages.proofs.Versions.{same_of_eq, lt_of_epoch}
 use Rattle.cell_orders.specs.Histories.{Stand, stand_of, History, with_book, after, IsNumbered, FitsTo, AllFit}
 use Rattle.cell_orders.specs.OrderMoves.{OrderMoves}
 use Rattle.cell_orders.proofs.Serving.{flown_held}
-use Rattle.cell_orders.proofs.Telling.{each_fits}
+use Rattle.cell_orders.proofs.Telling.{each_fits, write_fits}
 use Rattle.cell_orders.proofs.Standing.{level_idle, level_held, not_both, not_itself, not_ready, ready_held, none_made, held_held}
 use Rattle.cell_orders.proofs.Walk as walk
 
@@ -100,10 +99,6 @@ module _ (db : Database) (m : Member) (now : ℕ) (starts : List (Option ℕ)) (
 
   settled_is : (h : History) (s : Server) → Fit h s → Goes h s.version (settled m s)
   settled_is = walk.settled_is db m now starts Asked Answered Kept I moves
-
-  write_fits : (c : Stand) (host : Host) (old new : Version) (text : List ℕ) →
-      AllBodies (FitsTo m.hosts Asked c host) (write_bodies old new text)
-  write_fits = walk.write_fits db m now starts Asked Answered Kept I moves
 
   abbrev Pure : History → Server → Type 0
   Pure h s = walk.Pure db m now starts Asked Answered Kept I moves h s
@@ -196,7 +191,7 @@ module _ (db : Database) (m : Member) (now : ℕ) (starts : List (Option ℕ)) (
   again_fits : (c : Stand) (host : Host) (s : Server) (poll : Polled) (announced : Version) (f : Option Flight) →
       IsNumbered c.phase poll.number → AllBodies (FitsTo m.hosts Asked c host) (spread_bodies s poll announced f)
   again_fits c host s poll announced None is = (is, tt)
-  again_fits c host s poll announced (Some f) is = write_fits c host announced s.version (text_of f.changes)
+  again_fits c host s poll announced (Some f) is = write_fits m Asked c host announced s.version (text_of f.changes)
 
   again_is : (h : History) (s : Server) (poll : Polled) (spread : Spread) (announced : Version) → IsNumbered s.phase poll.number →
       Fit h s → Goes h s.version (spread_again m s poll spread announced)

@@ -1,14 +1,16 @@
 -- Replies that a database gave in a run: on which list each was evaluated, and how these lists grow (own).
-use Rattle.std.specs.Prelude.{◌≡◌, ℕ, Some, None, List, [], ◌∷◌}
+use Rattle.std.specs.Prelude.{◌≡◌, ℕ, true, Some, None, List, [], ◌∷◌}
 use Rattle.std.specs.List.{AllByRecursion}
 use Rattle.db_image.specs.Database.{Database}
+use Rattle.ubik_calls.specs.declared.replies.Reply.{Reply}
+use Rattle.ubik_calls.specs.declared.replies.Reply.TheVariants as reply
 use Rattle.ubik_types.specs.declared.versions.Version.{Version}
 use Rattle.cell_model.specs.Book.{Book, Given, list_of, list_or_none}
 use Rattle.cell_model.specs.Durable.{Transaction}
-use Rattle.cell_model.specs.KeptLaws.{version_under, IsReplyOf, IsUngiven, order_behind}
+use Rattle.cell_model.specs.KeptLaws.{ChangesNothing, version_under, IsReplyOf, IsUngiven, order_behind}
 use Rattle.cell_model.specs.Laws.{Begins}
 use Rattle.cell_model.specs.SingleCopy.{reply_after}
-use Rattle.cell_model.specs.Step.{Basis, Beacon_image}
+use Rattle.cell_model.specs.Step.{Basis, Beacon_image, Commit_on}
 use Rattle.cell_model.specs.World.{Happening, Replied}
 use Rattle.cell_pages.specs.Images.{KeepsImages}
 use Rattle.cell_pages.specs.Moves.{transaction_of}
@@ -32,16 +34,23 @@ abbrev pub IsOrderAt : Basis → (list order : List Transaction) → Type 0
 IsOrderAt (Beacon_image version) list order = Begins list order
 IsOrderAt _ list order = list ≡ order
 
+-- an Ok to a call that writes, which is no commit's, changes nothing of the single copy
+abbrev pub LeavesCopy : Database → List Transaction → Given → Basis → Reply → Type 0
+LeavesCopy db list g (Commit_on old new) r = Unit {0}
+LeavesCopy db list g _ (reply.Ok fields) = db.writes g.evaluation.call ≡ Some true → ChangesNothing db list (transaction_in g)
+LeavesCopy db list g _ r = Unit {0}
+
 -- A reply that a database gave, in a run with this book and this order: the version under it has a list. What the single copy replies to the
 -- call after that list, at the moment of the evaluation, is this reply, where the database keeps its images. At the sync site the list is
 -- the order at which it was evaluated, at another server a front of that; and that order is a front of this one, with the transaction of
--- a commit as its next one.
+-- a commit as its next one. Any other Ok to a call that writes changes nothing.
 pub record IsSingleReply (db : Database) (book : Book) (order : List Transaction) (g : Given) : Type 0 where
   pub list : List Transaction
   pub listed : list_of book (version_in_reply g) ≡ Some list
   pub replied : KeepsImages db → IsReplyOf (reply_after db list g.evaluation.moment g.evaluation.call) g.reply
   pub at : IsOrderAt g.evaluation.basis list g.order
   pub begins : Begins (order_with g) order
+  pub leaves : KeepsImages db → LeavesCopy db list g g.evaluation.basis g.reply
 
 -- it was given at the sync site
 abbrev pub IsAtSync : Basis → Type 0
@@ -78,6 +87,7 @@ pub record IsGivenAt (db : Database) (book : Book) (told : List Version) (V : �
   pub upper_announced : IsAnnounced told upper
   pub upper_listed : list_of book upper ≡ Some (order_with g)
   pub reached : AtMost (version_in_reply g) (V g.server)
+  pub leaves : KeepsImages db → LeavesCopy db list g g.evaluation.basis g.reply
 
 -- replies, the newest first: no server serves a version below one that it served before
 abbrev pub ServedRise : List Given → Type 0

@@ -1,10 +1,11 @@
 -- Replies: on the image of which version each was evaluated, and that this version was announced; and what ready beacons name (own).
 use Rattle.std.specs.Prelude.{◌≡◌, ℕ, true, Option, Some, None, List, [], ◌∷◌, ◌++◌}
-use Rattle.db_image.specs.Database.{Database}
+use Rattle.db_image.specs.Database.{Database, changes_of}
 use Rattle.ubik_types.specs.declared.versions.Version.{Version}
 use Rattle.ubik_calls.specs.declared.packets.Body.{Body}
 use Rattle.ubik_calls.specs.declared.packets.Body.TheVariants as body
 use Rattle.ubik_calls.specs.declared.replies.Reply.{Reply}
+use Rattle.ubik_calls.specs.declared.replies.Reply.TheVariants as reply
 use Rattle.cell_model.specs.declared.events.Output.{Output}
 use Rattle.cell_model.specs.declared.events.Output.TheVariants as output
 use Rattle.cell_model.specs.Book.{BookVersion, Book}
@@ -55,6 +56,13 @@ IsServedOn x since announced e (Commit_on old new) =
     (before : List Version) × (announced ≡ new ∷ before) × IsLast before old × EndsIn since before × (new ≡ next_version old)
     × IsMade x.book new (transaction_of e.moment e.call)
 
+-- an Ok to a call that writes, which is no commit's, changes no block
+abbrev pub LeavesBlocks : Database → List ℕ → Evaluation → Basis → Reply → Type 0
+LeavesBlocks db image e (Commit_on old new) r = Unit {0}
+LeavesBlocks db image e _ (reply.Ok fields) =
+    db.writes e.call ≡ Some true → changes_of db image (db.call image e.moment e.call).image ≡ []
+LeavesBlocks db image e _ r = Unit {0}
+
 -- A reply that a database gave: it is what the database replies on the image of the version under it.
 pub record IsServedReply (db : Database) (x : Beyond) (since announced : List Version) (e : Evaluation) (r : Reply) : Type 0 where
   pub served_on : IsServedOn x since announced e e.basis
@@ -62,6 +70,7 @@ pub record IsServedReply (db : Database) (x : Beyond) (since announced : List Ve
   pub of : IsImageOf db x.book (version_under e.basis) image
   pub replied : IsReplyOf (db.call image e.moment e.call).reply r
   pub reached : AtMost (version_under e.basis) x.top
+  pub leaves : LeavesBlocks db image e e.basis r
 
 abbrev pub IsServed : Database → Beyond → (since announced : List Version) → Output → Option Evaluation → Type 0
 IsServed db x since announced (output.Send packet) e = Names announced packet.body
