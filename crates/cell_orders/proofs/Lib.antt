@@ -1,4 +1,5 @@
 pub mod Acknowledging
+pub mod Calling
 pub mod Lists
 pub mod Moving
 pub mod Openings

@@ -32,7 +32,7 @@ use Rattle.cell_orders.specs.Served.{LeavesBlocks, EndsIn, Beyond, IsServedOn, I
 use Rattle.cell_orders.proofs.Acknowledging.{at_front, announced_get}
 use Rattle.cell_orders.proofs.Lists.{kept_behind, begins, listed_or_none, all_less}
 use Rattle.cell_orders.proofs.Orderings.{at_most_then, all_at_most}
-use Rattle.cell_orders.proofs.Runs.{SeenServed}
+use Rattle.cell_orders.proofs.Runs.{SeenServed, SeenCalled}
 use Rattle.cell_orders.proofs.Serving.{last_told, told_newer, ends_itself, ends_then}
 
 -- the list of the version that was announced last is the order
@@ -206,6 +206,25 @@ evaluated db book V (Stops server ∷ seen) since a served = (tt, evaluated db b
 evaluated db book V (Halts server ∷ seen) since a served = (tt, evaluated db book V seen since a served)
 evaluated db book V (Restarts server version ∷ seen) since a served = (tt, evaluated db book V seen since a served)
 evaluated db book V (Stays_down server ∷ seen) since a served = (tt, evaluated db book V seen since a served)
+
+-- each reply is to a call that was asked
+pub givens_called : (Called : ℕ → ℕ → List ℕ → Type 0) (book : Book) (seen : List Happening) (ann : List Announcement)
+    (before : List Given) → SeenCalled Called seen → AllByRecursion (λ (g : Given). Called g.server g.id g.evaluation.call) before →
+    AllByRecursion (λ (g : Given). Called g.server g.id g.evaluation.call) (given book seen ann before)
+givens_called Called book [] ann before called all = all
+givens_called Called book (Announced server version ∷ seen) ann before called all =
+    givens_called Called book seen (announced book (Announced server version ∷ []) ann) before called all
+givens_called Called book (Replied server id r None ∷ seen) ann before called all =
+    givens_called Called book seen ann before called.1 all
+givens_called Called book (Replied server id r (Some e) ∷ seen) ann before called all =
+    givens_called Called book seen ann
+    (record { server = server; id = id; reply = r; evaluation = e; order = order_at e.basis ann } ∷ before) called.1 (called.0, all)
+givens_called Called book (Sent number packet ∷ seen) ann before called all = givens_called Called book seen ann before called all
+givens_called Called book (Lost number ∷ seen) ann before called all = givens_called Called book seen ann before called all
+givens_called Called book (Stops server ∷ seen) ann before called all = givens_called Called book seen ann before called all
+givens_called Called book (Halts server ∷ seen) ann before called all = givens_called Called book seen ann before called all
+givens_called Called book (Restarts server version ∷ seen) ann before called all = givens_called Called book seen ann before called all
+givens_called Called book (Stays_down server ∷ seen) ann before called all = givens_called Called book seen ann before called all
 
 -- ---- an Ok that is no commit's
 

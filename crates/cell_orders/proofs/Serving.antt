@@ -1,10 +1,12 @@
 -- What is served in parts of a step that follow one another, and what a commit makes of an image.
 use Rattle.std.proofs.Common.{Bool, true, false, ◌≡◌, inl, inr, ℕ, List, [], ◌∷◌, ◌++◌, refl, sym, ap, subst, ◌∙◌, append_assoc, arith}
+use Rattle.std.proofs.lemmas.Bool.{cond_both}
 use Rattle.std.proofs.lemmas.Bool.Decides.{nat_tests}
 use Rattle.std.specs.Prelude.{Option, Some, None}
 use Rattle.std.specs.List.{cons_option}
 use Rattle.ubik_types.specs.declared.versions.Version.{Version}
-use Rattle.ubik_types.specs.Phase.{PhaseRecord, NoPhase, Poll, Fetch, Relabel, Send, Ready}
+use Rattle.ubik_types.specs.Phase.{Polled, Spread, PhaseRecord, NoPhase, Poll, Fetch, Relabel, Send, Ready}
+use Rattle.ubik_types.specs.Quorum.{is_majority}
 use Rattle.ubik_types.specs.Version.{version_eq}
 use Rattle.ubik_calls.specs.declared.packets.Body.{Body}
 use Rattle.ubik_calls.specs.declared.packets.Body.TheVariants as body
@@ -18,11 +20,12 @@ use Rattle.cell_model.specs.declared.events.Output.{Output}
 use Rattle.cell_model.specs.declared.events.Output.TheVariants as output
 use Rattle.cell_model.specs.Book.{Book, BookVersion, list_of, list_or_none, entered, with_version}
 use Rattle.cell_model.specs.Durable.{Made, Transaction, Reason, Own_relabelling, Committed, Received, version_after}
-use Rattle.cell_model.specs.Node.{ReadyBeacon, Flight}
+use Rattle.cell_model.specs.Node.{Server, ReadyBeacon, Flight}
 use Rattle.cell_model.specs.Recovery.{held_by}
+use Rattle.cell_model.specs.Step.{cell_size, Stepped, quiet, showing, with_phase, announcing}
 use Rattle.cell_model.specs.Step.{Member, Basis, Announced_image, Beacon_image, Commit_on, Evaluation, Shown}
 use Rattle.cell_model.specs.World.{Entry, packet_in, packets_of}
-use Rattle.cell_model.specs.Writes.{next_version}
+use Rattle.cell_model.specs.Writes.{next_version, ended_write, flight_settled, settled_in, settled}
 use Rattle.cell_model.proofs.BookVersions.{newest, older, list_is, image_from-append}
 use Rattle.cell_pages.specs.Images.{IsImageOf}
 use Rattle.cell_pages.specs.Laws.{MadeOnce, KeepsLists}
@@ -30,7 +33,7 @@ use Rattle.cell_pages.specs.Moves.{transaction_of}
 use Rattle.cell_pages.specs.Parts.{AtMost}
 use Rattle.cell_pages.proofs.Versions.{at_most_same}
 use Rattle.cell_orders.specs.Acknowledged.{IsAnnounced, IsMade, IsFlown}
-use Rattle.cell_orders.specs.Histories.{Stand, announced_in, announced_with, IsServing, FitsTo, OutputFits, AllFit}
+use Rattle.cell_orders.specs.Histories.{History, after, Stand, announced_in, announced_with, IsServing, FitsTo, OutputFits, AllFit}
 use Rattle.cell_orders.specs.Orders.{IsLast, WasSent}
 use Rattle.cell_orders.specs.Served.{LeavesBlocks, Names, IsNamed, EndsIn, Beyond, IsBeyond, IsServed, since_after, AllServed}
 use Rattle.cell_orders.proofs.Lists.{kept_behind}
@@ -275,3 +278,26 @@ names_on announced shown (event.Packet p) names =
 names_on announced shown event.BeaconTurn names = tt
 names_on announced shown event.RecoverTurn names = tt
 names_on announced shown (event.Ask id call) names = tt
+
+-- what is settled leaves version, image and book
+pub settled_pure : (db : Database) (m : Member) (h : History) (s : Server) → IsImageOf db h.book s.version s.image →
+    IsImageOf db (after h m.me s.version (settled m s)).book (settled m s).server.version (settled m s).server.image
+settled_pure db m h s pure = by s.phase
+  where
+    P : Stepped → Type 0
+    P t = IsImageOf db (after h m.me s.version t).book t.server.version t.server.image
+
+    flown : (poll : Polled) (spread : Spread) (announced : Version) (f : Option Flight) → P (flight_settled m s poll spread announced f)
+    flown poll spread announced None = pure
+    flown poll spread announced (Some f) =
+        cond_both (is_majority (cell_size m) spread.holders) (ended_write s f poll spread announced) (quiet s) P (λ _. pure) (λ _. pure)
+
+    by : (phase : PhaseRecord) → P (settled_in m s phase)
+    by NoPhase = pure
+    by (Poll poll) = pure
+    by (Fetch poll best host) = pure
+    by (Relabel poll) = pure
+    by (Send poll spread) =
+        cond_both (is_majority (cell_size m) spread.holders)
+        (showing (with_phase s (Ready poll spread s.version)) (announcing s.version ∷ [])) (quiet s) P (λ _. pure) (λ _. pure)
+    by (Ready poll spread announced) = flown poll spread announced s.flight

@@ -19,6 +19,7 @@ use Rattle.cell_pages.specs.Passes.{is_held}
 use Rattle.cell_pages.proofs.Versions.{at_most_same}
 use Rattle.cell_pages.specs.Laws.{MadeOnce, KeepsLists}
 use Rattle.cell_pages.specs.Moves.{transaction_of}
+use Rattle.cell_orders.specs.Asked.{CallsKnown, AllCalled}
 use Rattle.cell_orders.specs.Acknowledged.{IsAnnounced, FlightMade, IsLevel, AllOks}
 use Rattle.cell_orders.specs.Histories.{stand_of, History, announced_with, number_of}
 use Rattle.cell_orders.specs.Kept.{version_in, versions_of, ServerKeeps, OrderKept}
@@ -97,7 +98,7 @@ numbers_from : (A B : ℕ → Type 0) (opened now : ℕ) (o : Option ℕ) → ((
 numbers_from A B opened now None f is = λ number asked. is number (f number asked)
 numbers_from A B opened now (Some p) f is = λ number asked. is number (f number asked)
 
-module _ (db : Database) (w : World) (book : Book) (announced : List Version) (keeps : OrderKept db w book announced)
+module _ (db : Database) (Called : ℕ → ℕ → List ℕ → Type 0) (w : World) (book : Book) (announced : List Version) (keeps : OrderKept db Called w book announced)
     (alone : (j k : ℕ) (y z : Site) (s u : Server) → site_of w j ≡ Some y → site_of w k ≡ Some z → y.node ≡ Up s → z.node ≡ Up u →
     (j ≡ k → ⊥) → is_in_lease (length w.hosts) s.starts y.clock ≡ true → is_in_lease (length w.hosts) u.starts z.clock ≡ true → ⊥) where
   abbrev n : ℕ
@@ -121,6 +122,8 @@ module _ (db : Database) (w : World) (book : Book) (announced : List Version) (k
     pub flight : (s : Server) → h.site.node ≡ Up s → FlightMade db (entered book h.entries) s.version s.phase s.flight
     pub oks : AllOks (entered book h.entries) (announced_with h.shown announced) h.shown
     pub beacon : (s : Server) → h.site.node ≡ Up s → IsNamed (announced_with h.shown announced) s.beacon
+    pub calls : (s : Server) → h.site.node ≡ Up s → CallsKnown (Called k) s.flight s.waiting
+    pub called : AllCalled (Called k) h.shown
     pub served : MadeOnce (entered book h.entries) → (since : List Version) → EndsIn since announced →
         AllServed db (record { book = entered book h.entries; top = h.site.durable.version }) since announced h.shown
 
@@ -254,7 +257,7 @@ module _ (db : Database) (w : World) (book : Book) (announced : List Version) (k
     more_told v told = announced_more h.shown announced v told
 
     pub happened_keeps : MadeOnce (entered book h.entries) →
-        OrderKept db (happened_at w k h).world (entered book h.entries) (announced_with h.shown announced)
+        OrderKept db Called (happened_at w k h).world (entered book h.entries) (announced_with h.shown announced)
     happened_keeps once = record {
       ordered = leaves.ordered;
       kept = kept_map w.hosts packets (version_at (versions_of w) k h.site.durable.version) (versions_of later) version_later leaves.kept;
@@ -269,6 +272,7 @@ module _ (db : Database) (w : World) (book : Book) (announced : List Version) (k
       flights = λ j z s at up. flown j z s up (site_either w.sites k j h.site z at);
       names = λ p sent. named p (sent_cases w.packets (packets_of h.shown) p sent);
       beacons = λ j z s at up. beacon j z s up (site_either w.sites k j h.site z at);
+      calls = λ j z s at up. calls j z s up (site_either w.sites k j h.site z at);
     }
       where
         flown : (j : ℕ) (z : Site) (s : Server) → z.node ≡ Up s →
@@ -283,6 +287,13 @@ module _ (db : Database) (w : World) (book : Book) (announced : List Version) (k
         named p (inr new) =
             served_names db (record { book = entered book h.entries; top = h.site.durable.version }) announced announced h.shown p
             (leaves.served once announced (ends_itself announced)) new
+
+        calls : (j : ℕ) (z : Site) (s : Server) → z.node ≡ Up s →
+            ((j ≡ k) × (z ≡ h.site)) ⊎ ((j ≡ k → ⊥) × (slice_get w.sites j ≡ Some z)) → CallsKnown (Called j) s.flight s.waiting
+        calls j z s up (inl own) =
+            subst (λ (i : ℕ). CallsKnown (Called i) s.flight s.waiting) (sym own.0)
+            (leaves.calls s (ap (λ (y : Site). y.node) (sym own.1) ∙ up))
+        calls j z s up (inr other) = keeps.calls j z s other.1 up
 
         beacon : (j : ℕ) (z : Site) (s : Server) → z.node ≡ Up s →
             ((j ≡ k) × (z ≡ h.site)) ⊎ ((j ≡ k → ⊥) × (slice_get w.sites j ≡ Some z)) →
@@ -307,8 +318,9 @@ module _ (db : Database) (w : World) (book : Book) (announced : List Version) (k
         ((s : Server) → h.site.node ≡ Up s → FlightMade db (entered book h.entries) s.version s.phase s.flight) →
         AllOks (entered book h.entries) (announced_with h.shown announced) h.shown →
         ((s : Server) → h.site.node ≡ Up s → IsNamed announced s.beacon) →
+        ((s : Server) → h.site.node ≡ Up s → CallsKnown (Called k) s.flight s.waiting) → AllCalled (Called k) h.shown →
         ((x : Beyond) (since : List Version) → AllServed db x since announced h.shown) → Leaves k site h
-    quiet_leaves clock ordered more same_announced same_packets server flight oks beacon served =
+    quiet_leaves clock ordered more same_announced same_packets server flight oks beacon calls called served =
         whole (subst (λ (a : List Version). Of a (w.packets ++ packets_of h.shown)) (sym same_announced)
         (subst (λ (p : List Packet). Of announced p) (sym same_packets) here))
       where
@@ -368,6 +380,8 @@ module _ (db : Database) (w : World) (book : Book) (announced : List Version) (k
           flight = flight;
           oks = oks;
           beacon = λ s up. named_with h.shown announced s.beacon (beacon s up);
+          calls = calls;
+          called = called;
           served = λ once since ends. served (record { book = entered book h.entries; top = h.site.durable.version }) since;
         }
 

@@ -41,11 +41,14 @@ use Rattle.cell_pages.proofs.Versions.{lt_of_next, at_most_same}
 use Rattle.cell_orders.specs.Histories.{Stand, stand_of, History, announced_with, with_book, after, IsBeside, IsServing, IsNumbered}
 use Rattle.cell_orders.specs.Histories.{AllFit}
 use Rattle.cell_orders.specs.Acknowledged.{IsAnnounced, IsLevel, IsMade, IsFlown, FlightMade, IsOkBy, AllOks}
+use Rattle.cell_orders.specs.Asked.{AllWait, CallsKnown, AllCalled}
 use Rattle.cell_orders.specs.OrderMoves.{OrderMoves}
 use Rattle.cell_orders.specs.Orders.{IsLast}
 use Rattle.cell_orders.specs.Served.{LeavesBlocks, IsNamed, EndsIn, Beyond, IsBeyond, IsServedReply, AllServed}
 use Rattle.cell_orders.proofs.Orderings.{at_most_then}
-use Rattle.cell_orders.proofs.Serving.{reads_leave, entered_newer, made_beyond, image_beyond, image_before_commit, image_of_commit, rising_most, last_told}
+use Rattle.cell_orders.proofs.Calling.{fits_called, called_append, none_called, wait_more}
+use Rattle.cell_orders.proofs.Serving.{settled_pure, reads_leave, entered_newer, made_beyond}
+use Rattle.cell_orders.proofs.Serving.{image_beyond, image_before_commit, image_of_commit, rising_most, last_told}
 use Rattle.cell_orders.proofs.Serving.{since_with, since_with_ends, named_later, named_with, served_append, fits_served}
 use Rattle.cell_orders.proofs.Telling.{oks_append, fits_oks, oks_more, entered_made, announced_more, Rising, rising_append, after_both}
 use Rattle.cell_orders.proofs.Telling.{write_fits, beside_ok, each_fits, waiting_fit}
@@ -53,7 +56,7 @@ use Rattle.cell_orders.proofs.Standing.{allowed}
 use Rattle.cell_orders.proofs.Standing.{free_held, free_ready, free_none}
 use Rattle.cell_orders.proofs.Standing.{level_idle, level_same, level_at, none_made}
 
-module _ (db : Database) (m : Member) (now : ℕ) (starts : List (Option ℕ)) (Asked : ℕ → ℕ → Type 0)
+module _ (db : Database) (m : Member) (now : ℕ) (starts : List (Option ℕ)) (Called : ℕ → List ℕ → Type 0) (Asked : ℕ → ℕ → Type 0)
     (Answered : ℕ → ℕ → Version → Type 0) (Kept : ℕ → Version → Type 0) (I : History → Stand → Type 0)
     (moves : OrderMoves m now (is_in_lease (cell_size m) starts now) Asked Answered Kept I) where
   abbrev pub in_lease : Bool
@@ -72,6 +75,7 @@ module _ (db : Database) (m : Member) (now : ℕ) (starts : List (Option ℕ)) (
     pub flight : FlightMade db h.book s.version s.phase s.flight
     pub level : IsLevel s.version s.phase s.flight
     pub beacon : IsNamed h.announced s.beacon
+    pub calls : CallsKnown Called s.flight s.waiting
 
   -- a part of a step that leaves the votes
   pub record Goes (h : History) (v : Version) (t : Stepped) : Type 0 where
@@ -80,6 +84,7 @@ module _ (db : Database) (m : Member) (now : ℕ) (starts : List (Option ℕ)) (
     pub oks : AllOks (after h m.me v t).book (after h m.me v t).announced t.shown
     pub served : (x : Beyond) (since : List Version) → IsBeyond x (after h m.me v t).book t.server.version → EndsIn since h.announced →
         AllServed db x since h.announced t.shown
+    pub called : AllCalled Called t.shown
 
   -- the image is that of the own version
   abbrev pub Pure : History → Server → Type 0
@@ -125,10 +130,12 @@ module _ (db : Database) (m : Member) (now : ℕ) (starts : List (Option ℕ)) (
       flight = fit.flight;
       level = fit.level;
       beacon = named_with shown h.announced u.beacon fit.beacon;
+      calls = fit.calls;
     };
     rising = refl;
     oks = fits_oks m Asked (stand_of u) h.book (announced_with shown h.announced) shown all;
     served = λ x since _ _. fits_served db m Asked (stand_of u) x since h.announced shown (serving h u fit) all;
+    called = fits_called m Asked Called (stand_of u) shown all;
   }
 
   pub rests : (h : History) (s : Server) → Fit h s → Goes h s.version (quiet s)
@@ -150,6 +157,7 @@ module _ (db : Database) (m : Member) (now : ℕ) (starts : List (Option ℕ)) (
       flight = fit.flight;
       level = fit.level;
       beacon = named_with shown h.announced u.beacon fit.beacon;
+      calls = fit.calls;
     };
     rising = (less, same);
     oks =
@@ -158,6 +166,7 @@ module _ (db : Database) (m : Member) (now : ℕ) (starts : List (Option ℕ)) (
     served = λ x since _ _.
         fits_served db m Asked (stand_of u) x since h.announced shown
         (serving (with_book h (with_version h.book m.me s.version (version_after made.call) made.reason)) u fit) all;
+    called = fits_called m Asked Called (stand_of u) shown all;
   }
 
   -- the own version is announced, and then this is shown
@@ -172,6 +181,7 @@ module _ (db : Database) (m : Member) (now : ℕ) (starts : List (Option ℕ)) (
       flight = fit.flight;
       level = fit.level;
       beacon = named_with more (u.version ∷ h.announced) u.beacon fit.beacon;
+      calls = fit.calls;
     };
     rising = refl;
     oks = (tt, fits_oks m Asked (stand_of u) h.book (announced_with more (u.version ∷ h.announced)) more all);
@@ -180,14 +190,16 @@ module _ (db : Database) (m : Member) (now : ℕ) (starts : List (Option ℕ)) (
       fits_served db m Asked (stand_of u) x since (u.version ∷ h.announced) more
           (serving (record h { announced = u.version ∷ h.announced }) u fit) all,
     );
+    called = (tt, fits_called m Asked Called (stand_of u) more all);
   }
 
   -- and then a commit is answered
   answers : (h : History) (u : Server) (id : ℕ) (r : Reply) (e : Evaluation) → Fit (record h { announced = u.version ∷ h.announced }) u →
       IsOkBy h.book (u.version ∷ h.announced) e e.basis →
       ((x : Beyond) (since : List Version) → IsBeyond x h.book u.version → EndsIn since h.announced →
-      IsServedReply db x since (u.version ∷ h.announced) e r) → Goes h u.version (showing u (announcing u.version ∷ replying id r e ∷ []))
-  answers h u id r e fit ok told = record {
+      IsServedReply db x since (u.version ∷ h.announced) e r) → Called id e.call →
+      Goes h u.version (showing u (announcing u.version ∷ replying id r e ∷ []))
+  answers h u id r e fit ok told asked = record {
     fit = record {
       keeps = moves.shows (record h { announced = u.version ∷ h.announced }) (stand_of u) [] tt fit.keeps;
       same = fit.same;
@@ -196,17 +208,19 @@ module _ (db : Database) (m : Member) (now : ℕ) (starts : List (Option ℕ)) (
       flight = fit.flight;
       level = fit.level;
       beacon = fit.beacon;
+      calls = fit.calls;
     };
     rising = refl;
     oks = (tt, (ok, tt));
     served = λ x since beyond ends. (tt, (told x since beyond ends, tt));
+    called = (tt, (asked, tt));
   }
 
   -- a reply of the database, that is for no commit
   replies : (h : History) (u : Server) (id : ℕ) (r : Reply) (e : Evaluation) → Fit h u → IsBeside e.basis →
-      ((x : Beyond) (since : List Version) → IsBeyond x h.book u.version → IsServedReply db x since h.announced e r) →
+      ((x : Beyond) (since : List Version) → IsBeyond x h.book u.version → IsServedReply db x since h.announced e r) → Called id e.call →
       Goes h u.version (showing u (replying id r e ∷ []))
-  replies h u id r e fit beside told = record {
+  replies h u id r e fit beside told asked = record {
     fit = record {
       keeps = moves.shows h (stand_of u) [] tt fit.keeps;
       same = fit.same;
@@ -215,10 +229,12 @@ module _ (db : Database) (m : Member) (now : ℕ) (starts : List (Option ℕ)) (
       flight = fit.flight;
       level = fit.level;
       beacon = fit.beacon;
+      calls = fit.calls;
     };
     rising = refl;
     oks = (beside_ok h.book h.announced e e.basis beside, tt);
     served = λ x since beyond ends. (told x since beyond, tt);
+    called = (asked, tt);
   }
 
   pub both_oks : (h : History) (v : Version) (t : Stepped) (middle : Version) (u : Stepped) →
@@ -280,6 +296,7 @@ module _ (db : Database) (m : Member) (now : ℕ) (starts : List (Option ℕ)) (
             (λ later is. then.served x later
             (subst (λ (g : History). IsBeyond x g.book (next t.server).server.version)
             (sym (after_both h m.me v t.server.version t (next t.server) first.rising)) beyond) is);
+        called = called_append Called t.shown (next t.server).shown first.called then.called;
       }
 
   follows_pure : (h : History) (v : Version) (t : Stepped) (next : Server → Stepped) → GoesPure h v t →
@@ -305,6 +322,7 @@ module _ (db : Database) (m : Member) (now : ℕ) (starts : List (Option ℕ)) (
     flight = subst (λ (p : PhaseRecord). FlightMade db h.book s.version p s.flight) at fit.flight;
     level = subst (λ (p : PhaseRecord). IsLevel s.version p s.flight) at fit.level;
     beacon = fit.beacon;
+    calls = fit.calls;
   }
 
   -- no write is in flight but in Ready
@@ -326,6 +344,7 @@ module _ (db : Database) (m : Member) (now : ℕ) (starts : List (Option ℕ)) (
     flight = none_made db h.book s.version phase s.flight (no_flight h s idle fit);
     level = level_idle s.version phase s.flight quiet;
     beacon = fit.beacon;
+    calls = fit.calls;
   }
 
   -- a poll begins
@@ -338,6 +357,7 @@ module _ (db : Database) (m : Member) (now : ℕ) (starts : List (Option ℕ)) (
     flight = none_made db h.book s.version (Poll (new_poll m s now)) s.flight none;
     level = tt;
     beacon = fit.beacon;
+    calls = fit.calls;
   }
 
   pub numbered : (phase : PhaseRecord) (p : PhaseRecord) (number : ℕ) → phase ≡ p → IsNumbered p number → IsNumbered phase number
@@ -363,7 +383,8 @@ module _ (db : Database) (m : Member) (now : ℕ) (starts : List (Option ℕ)) (
             flight = none_made db h.book s.version (Ready poll spread s.version) None refl;
             level = refl;
             beacon = named_later h.announced (s.version ∷ h.announced) s.beacon (λ v told. inr told) fit.beacon;
-          }) (inl refl, (fit.flight f flown).1) told
+            calls = (none_called Called None refl, fit.calls.1);
+          }) (inl refl, (fit.flight f flown).1) told (fit.calls.0 f flown)
         where
           of : IsFlown db h.book s.version (Ready poll spread announced) f
           of = subst (λ (p : PhaseRecord). IsFlown db h.book s.version p f) at (fit.flight f flown).2
@@ -405,6 +426,7 @@ module _ (db : Database) (m : Member) (now : ℕ) (starts : List (Option ℕ)) (
         flight = none_made db h.book s.version (Ready poll spread s.version) s.flight (no_flight h s (ap is_ready at) fit);
         level = level_same s.version poll spread s.flight;
         beacon = named_later h.announced (s.version ∷ h.announced) s.beacon (λ v told. inr told) fit.beacon;
+        calls = fit.calls;
       }) tt)
       (λ _. rests h s fit)
   settled_in_is h s (Ready poll spread announced) at fit = flight_settled_is h s poll spread announced s.flight at refl fit
@@ -412,27 +434,19 @@ module _ (db : Database) (m : Member) (now : ℕ) (starts : List (Option ℕ)) (
   pub settled_is : (h : History) (s : Server) → Fit h s → Goes h s.version (settled m s)
   settled_is h s fit = settled_in_is h s s.phase refl fit
 
-  -- neither version nor image nor book is another one
-  settled_pure : (h : History) (s : Server) → Pure h s → Pure (after h m.me s.version (settled m s)) (settled m s).server
-  settled_pure h s pure = by s.phase
-    where
-      P : Stepped → Type 0
-      P t = Pure (after h m.me s.version t) t.server
-
-      flown : (poll : Polled) (spread : Spread) (announced : Version) (f : Option Flight) → P (flight_settled m s poll spread announced f)
-      flown poll spread announced None = pure
-      flown poll spread announced (Some f) =
-          cond_both (is_majority (cell_size m) spread.holders) (ended_write s f poll spread announced) (quiet s) P (λ _. pure) (λ _. pure)
-
-      by : (phase : PhaseRecord) → P (settled_in m s phase)
-      by NoPhase = pure
-      by (Poll poll) = pure
-      by (Fetch poll best host) = pure
-      by (Relabel poll) = pure
-      by (Send poll spread) =
-          cond_both (is_majority (cell_size m) spread.holders)
-          (showing (with_phase s (Ready poll spread s.version)) (announcing s.version ∷ [])) (quiet s) P (λ _. pure) (λ _. pure)
-      by (Ready poll spread announced) = flown poll spread announced s.flight
+  -- others wait
+  with_waiting : (h : History) (s : Server) (waiting : List Waiting) → AllWait Called waiting → Fit h s →
+      Fit h (record s { waiting = waiting })
+  with_waiting h s waiting all fit = record {
+    keeps = fit.keeps;
+    same = fit.same;
+    held = fit.held;
+    leads = fit.leads;
+    flight = fit.flight;
+    level = fit.level;
+    beacon = fit.beacon;
+    calls = (fit.calls.0, all);
+  }
 
   -- ---- writes
 
@@ -502,19 +516,19 @@ module _ (db : Database) (m : Member) (now : ℕ) (starts : List (Option ℕ)) (
 
   written_in_is : (h : History) (s : Server) (id : ℕ) (call answer image : List ℕ) (changes : List Change) (phase : PhaseRecord) →
       s.phase ≡ phase → s.flight ≡ None → image ≡ (db.call s.image now call).image →
-      (db.call s.image now call).reply ≡ call_reply.Done answer → Fit h s → Pure h s →
+      (db.call s.image now call).reply ≡ call_reply.Done answer → Called id call → Fit h s → Pure h s →
       GoesPure h s.version (written_in m s now id call answer image changes phase)
-  written_in_is h s id call answer image changes NoPhase at free same done fit pure = (rests h s fit, pure)
-  written_in_is h s id call answer image changes (Poll poll) at free same done fit pure = (rests h s fit, pure)
-  written_in_is h s id call answer image changes (Fetch poll best host) at free same done fit pure = (rests h s fit, pure)
-  written_in_is h s id call answer image changes (Relabel poll) at free same done fit pure = (rests h s fit, pure)
-  written_in_is h s id call answer image changes (Send poll spread) at free same done fit pure = (rests h s fit, pure)
-  written_in_is h s id call answer image changes (Ready poll spread announced) at free same done fit pure =
+  written_in_is h s id call answer image changes NoPhase at free same done asked fit pure = (rests h s fit, pure)
+  written_in_is h s id call answer image changes (Poll poll) at free same done asked fit pure = (rests h s fit, pure)
+  written_in_is h s id call answer image changes (Fetch poll best host) at free same done asked fit pure = (rests h s fit, pure)
+  written_in_is h s id call answer image changes (Relabel poll) at free same done asked fit pure = (rests h s fit, pure)
+  written_in_is h s id call answer image changes (Send poll spread) at free same done asked fit pure = (rests h s fit, pure)
+  written_in_is h s id call answer image changes (Ready poll spread announced) at free same done asked fit pure =
       follows_pure h s.version begun (settled m)
       (made, image_of_commit db h.book m.me now call s.version s.image pure image same)
       (λ fit pure. (
         settled_is (after h m.me s.version begun) begun.server fit,
-        settled_pure (after h m.me s.version begun) begun.server pure,
+        settled_pure db m (after h m.me s.version begun) begun.server pure,
       ))
     where
       begun : Stepped
@@ -537,6 +551,10 @@ module _ (db : Database) (m : Member) (now : ℕ) (starts : List (Option ℕ)) (
           subst Flown same
           (refl, inl (refl, refl), (refl, image_before_commit db h.book m.me now call s.version s.image pure, done))
 
+      begun_called : (f : Flight) → Some (flight_of s now id call answer changes) ≡ Some f → Called f.id f.call
+      begun_called f is =
+          let same : flight_of s now id call answer changes ≡ f = cc in subst (λ (g : Flight). Called g.id g.call) same asked
+
       made : Goes h s.version begun
       made =
           makes h s begun.server (own_commit (next_version s.version) changes image (transaction_of now call)) begun.shown
@@ -551,94 +569,79 @@ module _ (db : Database) (m : Member) (now : ℕ) (starts : List (Option ℕ)) (
             flight = flown;
             level = tt;
             beacon = fit.beacon;
+            calls = (begun_called, fit.calls.1);
           })
           (each_fits m Asked (stand_of begun.server) _
           (λ host k. write_fits m Asked (stand_of begun.server) host s.version (next_version s.version) (text_of changes)))
 
   written_changes_is : (h : History) (s : Server) (id : ℕ) (call answer image : List ℕ) (changes : List Change) → Lease → s.flight ≡ None →
-      image ≡ (db.call s.image now call).image → (db.call s.image now call).reply ≡ call_reply.Done answer → Fit h s → Pure h s →
+      image ≡ (db.call s.image now call).image → (db.call s.image now call).reply ≡ call_reply.Done answer → Called id call → Fit h s → Pure h s →
       GoesPure h s.version (written_changes m s now id call answer image changes)
-  written_changes_is h s id call answer image changes lease free same done fit pure =
+  written_changes_is h s id call answer image changes lease free same done asked fit pure =
       either_pure h s.version (s.version.counter == MAX_COUNTER) _ _
       (λ _. (
         turns h (polling m (record s { waiting = [] }) now) _
             (begins h (record s { waiting = [] }) lease free
-            (record {
-              keeps = fit.keeps;
-              same = fit.same;
-              held = fit.held;
-              leads = fit.leads;
-              flight = fit.flight;
-              level = fit.level;
-              beacon = fit.beacon;
-            }))
+            (with_waiting h s [] tt fit))
             ((refl, tt), waiting_fit m Asked (stand_of (polling m (record s { waiting = [] }) now)) s.waiting _ tt),
         pure,
       ))
-      (λ _. written_in_is h s id call answer image changes s.phase refl free same done fit pure)
+      (λ _. written_in_is h s id call answer image changes s.phase refl free same done asked fit pure)
 
   written_small_is : (h : History) (s : Server) (id : ℕ) (call answer image : List ℕ) (changes : List Change) → Lease →
       is_ready s.phase ≡ true → s.flight ≡ None → image ≡ (db.call s.image now call).image → changes ≡ changes_of db s.image image →
-      (db.call s.image now call).reply ≡ call_reply.Done answer → Fit h s → Pure h s →
+      (db.call s.image now call).reply ≡ call_reply.Done answer → Called id call → Fit h s → Pure h s →
       GoesPure h s.version (written_small m s now id call answer image changes)
-  written_small_is h s id call answer image [] lease ready free same changes_are done fit pure = (
+  written_small_is h s id call answer image [] lease ready free same changes_are done asked fit pure = (
     replies h s id (reply.Ok answer) (answered_on (told_version s.phase s.version) now call) fit tt
         (own_reply h s call (reply.Ok answer) lease ready free fit pure done
-        (λ writes. ap (changes_of db s.image) (sym same) ∙ sym changes_are)),
+        (λ writes. ap (changes_of db s.image) (sym same) ∙ sym changes_are)) asked,
     pure,
   )
-  written_small_is h s id call answer image (change ∷ changes) lease ready free same changes_are done fit pure =
-      written_changes_is h s id call answer image (change ∷ changes) lease free same done fit pure
+  written_small_is h s id call answer image (change ∷ changes) lease ready free same changes_are done asked fit pure =
+      written_changes_is h s id call answer image (change ∷ changes) lease free same done asked fit pure
 
   written_within_is : (h : History) (s : Server) (id : ℕ) (call answer image : List ℕ) (changes : List Change) (passed : Option ℕ) →
       Lease → is_ready s.phase ≡ true → s.flight ≡ None → image ≡ (db.call s.image now call).image → changes ≡ changes_of db s.image image →
-      (db.call s.image now call).reply ≡ call_reply.Done answer → Fit h s → Pure h s →
+      (db.call s.image now call).reply ≡ call_reply.Done answer → Called id call → Fit h s → Pure h s →
       GoesPure h s.version (written_within m s now id call answer image changes passed)
-  written_within_is h s id call answer image changes None lease ready free same changes_are done fit pure =
-      written_small_is h s id call answer image changes lease ready free same changes_are done fit pure
-  written_within_is h s id call answer image changes (Some bytes) lease ready free same changes_are done fit pure =
+  written_within_is h s id call answer image changes None lease ready free same changes_are done asked fit pure =
+      written_small_is h s id call answer image changes lease ready free same changes_are done asked fit pure
+  written_within_is h s id call answer image changes (Some bytes) lease ready free same changes_are done asked fit pure =
       (turns h s _ fit ((refl, tt), tt), pure)
 
   turned_is : (h : History) (s : Server) (id : ℕ) (call image : List ℕ) (r : CallReply) → Lease → is_ready s.phase ≡ true →
-      s.flight ≡ None → image ≡ (db.call s.image now call).image → (db.call s.image now call).reply ≡ r → Fit h s → Pure h s →
+      s.flight ≡ None → image ≡ (db.call s.image now call).image → (db.call s.image now call).reply ≡ r → Called id call → Fit h s → Pure h s →
       GoesPure h s.version (turned db m s now id call image r)
-  turned_is h s id call image (call_reply.Done answer) lease ready free same is fit pure =
+  turned_is h s id call image (call_reply.Done answer) lease ready free same is asked fit pure =
       written_within_is h s id call answer image (changes_of db s.image image)
-      (too_large 0 (length s.image) (changes_of db s.image image)) lease ready free same refl is fit pure
-  turned_is h s id call image (call_reply.Rule number) lease ready free same is fit pure = (
+      (too_large 0 (length s.image) (changes_of db s.image image)) lease ready free same refl is asked fit pure
+  turned_is h s id call image (call_reply.Rule number) lease ready free same is asked fit pure = (
     replies h s id (reply.Rule number) (answered_on (told_version s.phase s.version) now call) fit tt
-        (own_reply h s call (reply.Rule number) lease ready free fit pure is tt),
+        (own_reply h s call (reply.Rule number) lease ready free fit pure is tt) asked,
     pure,
   )
-  turned_is h s id call image call_reply.Malformed lease ready free same is fit pure = (turns h s _ fit ((refl, tt), tt), pure)
-  turned_is h s id call image (call_reply.BadRecord at) lease ready free same is fit pure = (turns h s _ fit ((refl, tt), tt), pure)
+  turned_is h s id call image call_reply.Malformed lease ready free same is asked fit pure = (turns h s _ fit ((refl, tt), tt), pure)
+  turned_is h s id call image (call_reply.BadRecord at) lease ready free same is asked fit pure = (turns h s _ fit ((refl, tt), tt), pure)
 
   turn_is : (h : History) (s : Server) (id : ℕ) (call : List ℕ) (short : Bool) → Lease → is_ready s.phase ≡ true → s.flight ≡ None →
-      Fit h s → Pure h s → GoesPure h s.version (write_turn db m s now id call short)
-  turn_is h s id call short lease ready free fit pure =
+      Called id call → Fit h s → Pure h s → GoesPure h s.version (write_turn db m s now id call short)
+  turn_is h s id call short lease ready free asked fit pure =
       either_pure h s.version short _ _ (λ _. (turns h s _ fit ((refl, tt), tt), pure))
-      (λ _. turned_is h s id call (db.call s.image now call).image (db.call s.image now call).reply lease ready free refl refl fit pure)
+      (λ _. turned_is h s id call (db.call s.image now call).image (db.call s.image now call).reply lease ready free refl refl asked fit pure)
 
-  next_turns_is : (waiting : List Waiting) (h : History) (s : Server) (short : List Bool) → Fit h s → Pure h s →
+  next_turns_is : (waiting : List Waiting) (h : History) (s : Server) (short : List Bool) → AllWait Called waiting → Fit h s → Pure h s →
       GoesPure h s.version (next_turns db m now waiting s short)
-  next_turns_is [] h s short fit pure = (rests h s fit, pure)
-  next_turns_is (w ∷ waiting) h s short fit pure =
+  next_turns_is [] h s short all fit pure = (rests h s fit, pure)
+  next_turns_is (w ∷ waiting) h s short all fit pure =
       either_pure h s.version (is_free s) _ _
       (λ free. follows_pure h s.version (write_turn db m (record s { waiting = waiting }) now w.id w.call (is_short short))
       (λ after. next_turns db m now waiting after
       (short_after (write_turn db m (record s { waiting = waiting }) now w.id w.call (is_short short)).shown short))
       (turn_is h (record s { waiting = waiting }) w.id w.call (is_short short) (fit.held (free_held s.phase s.flight free))
-      (free_ready s.phase s.flight free) (free_none s.phase s.flight free)
-      (record {
-        keeps = fit.keeps;
-        same = fit.same;
-        held = fit.held;
-        leads = fit.leads;
-        flight = fit.flight;
-        level = fit.level;
-        beacon = fit.beacon;
-      }) pure)
-      (λ fit pure. next_turns_is waiting _ _ _ fit pure))
+      (free_ready s.phase s.flight free) (free_none s.phase s.flight free) all.0
+      (with_waiting h s waiting all.1 fit) pure)
+      (λ fit pure. next_turns_is waiting _ _ _ all.1 fit pure))
       (λ _. (rests h s fit, pure))
 
   pub settled_with_turns_is : (h : History) (s : Server) (short : List Bool) → Fit h s → Pure h s →
@@ -646,15 +649,15 @@ module _ (db : Database) (m : Member) (now : ℕ) (starts : List (Option ℕ)) (
   settled_with_turns_is h s short fit pure =
       follows h s.version (settled m s) (λ after. next_turns db m now after.waiting after (short_after (settled m s).shown short))
       (settled_is h s fit)
-      (λ fit. (next_turns_is (settled m s).server.waiting _ (settled m s).server _ fit (settled_pure h s pure)).0)
+      (λ fit. (next_turns_is (settled m s).server.waiting _ (settled m s).server _ fit.calls.1 fit (settled_pure db m h s pure)).0)
 
   -- ---- asks
 
   read_is : (h : History) (s : Server) (id : ℕ) (call image : List ℕ) (basis : Basis) (short : Bool) → IsBeside basis → Fit h s →
       ((r : Reply) → IsReplyOf (db.call image now call).reply r → (x : Beyond) (since : List Version) → IsBeyond x h.book s.version →
-      IsServedReply db x since h.announced (record { call = call; moment = now; basis = basis }) r) →
+      IsServedReply db x since h.announced (record { call = call; moment = now; basis = basis }) r) → Called id call →
       Goes h s.version (read db s now id call image basis short)
-  read_is h s id call image basis short beside fit told =
+  read_is h s id call image basis short beside fit told asked =
       either h s.version short _ _ (λ _. turns h s _ fit ((refl, tt), tt)) (λ _. by (db.call image now call).reply (λ r is. told r is))
     where
       by : (given : CallReply) →
@@ -662,38 +665,32 @@ module _ (db : Database) (m : Member) (now : ℕ) (starts : List (Option ℕ)) (
           IsServedReply db x since h.announced (record { call = call; moment = now; basis = basis }) r) →
           Goes h s.version (showing s (read_reply id (record { call = call; moment = now; basis = basis }) given ∷ []))
       by (call_reply.Done answer) told =
-          replies h s id (reply.Ok answer) (record { call = call; moment = now; basis = basis }) fit beside (told (reply.Ok answer) refl)
+          replies h s id (reply.Ok answer) (record { call = call; moment = now; basis = basis }) fit beside (told (reply.Ok answer) refl) asked
       by (call_reply.Rule number) told =
           replies h s id (reply.Rule number) (record { call = call; moment = now; basis = basis }) fit beside
-          (told (reply.Rule number) refl)
+          (told (reply.Rule number) refl) asked
       by call_reply.Malformed told = turns h s _ fit ((refl, tt), tt)
       by (call_reply.BadRecord at) told = turns h s _ fit ((refl, tt), tt)
 
   write_asked_is : (h : History) (s : Server) (id : ℕ) (call : List ℕ) (short : Bool) (f : Option Flight) → s.flight ≡ f → Lease →
-      is_ready s.phase ≡ true → Fit h s → Pure h s → Goes h s.version (write_asked db m s now id call short f)
-  write_asked_is h s id call short None free lease ready fit pure = (turn_is h s id call short lease ready free fit pure).0
-  write_asked_is h s id call short (Some f) free lease ready fit pure =
+      is_ready s.phase ≡ true → Called id call → Fit h s → Pure h s →
+      Goes h s.version (write_asked db m s now id call short f)
+  write_asked_is h s id call short None free lease ready asked fit pure =
+      (turn_is h s id call short lease ready free asked fit pure).0
+  write_asked_is h s id call short (Some f) free lease ready asked fit pure =
       either h s.version (nat_le MAX_WAITING (length s.waiting)) _ _ (λ _. turns h s _ fit ((refl, tt), tt))
       (λ _. either h s.version short _ _ (λ _. turns h s _ fit ((refl, tt), tt))
       (λ _. turns h (record s { waiting = s.waiting ++ record { id = id; call = call } ∷ [] }) []
-      (record {
-        keeps = fit.keeps;
-        same = fit.same;
-        held = fit.held;
-        leads = fit.leads;
-        flight = fit.flight;
-        level = fit.level;
-        beacon = fit.beacon;
-      }) tt))
+      (with_waiting h s (s.waiting ++ record { id = id; call = call } ∷ []) (wait_more Called s.waiting id call fit.calls.1 asked) fit) tt))
 
   served_is : (h : History) (s : Server) (id : ℕ) (call : List ℕ) (writes short : Bool) → db.writes call ≡ Some writes → Lease →
-      is_ready s.phase ≡ true → Fit h s → Pure h s → Goes h s.version (served db m s now id call writes short)
-  served_is h s id call writes short known lease ready fit pure =
-      either h s.version writes _ _ (λ _. write_asked_is h s id call short s.flight refl lease ready fit pure)
+      is_ready s.phase ≡ true → Called id call → Fit h s → Pure h s → Goes h s.version (served db m s now id call writes short)
+  served_is h s id call writes short known lease ready asked fit pure =
+      either h s.version writes _ _ (λ _. write_asked_is h s id call short s.flight refl lease ready asked fit pure)
       (λ reads. read_is h s id call (announced_image s) (Announced_image (told_version s.phase s.version)) short tt fit
       (λ r is. announced_reply h s call r lease ready fit pure is
       (reads_leave db (announced_image s) (answered_on (told_version s.phase s.version) now call)
-      (Announced_image (told_version s.phase s.version)) r (known ∙ ap (λ (b : Bool). Some b) reads))))
+      (Announced_image (told_version s.phase s.version)) r (known ∙ ap (λ (b : Bool). Some b) reads))) asked)
 
   -- ---- a whole step
 
@@ -708,6 +705,8 @@ module _ (db : Database) (m : Member) (now : ℕ) (starts : List (Option ℕ)) (
     pub oks : AllOks (after h m.me v t).book (after h m.me v t).announced t.shown
     pub served : (x : Beyond) (since : List Version) → IsBeyond x (after h m.me v t).book t.server.version →
         AtMost x.top t.server.version → EndsIn since h.announced → AllServed db x since h.announced t.shown
+    pub calls : CallsKnown Called t.server.flight t.server.waiting
+    pub called : AllCalled Called t.shown
 
   pub ended : (h : History) (v : Version) (t : Stepped) → Goes h v t → Ends h v t
   ended h v t goes = record {
@@ -717,6 +716,8 @@ module _ (db : Database) (m : Member) (now : ℕ) (starts : List (Option ℕ)) (
     flight = goes.fit.flight;
     level = goes.fit.level;
     beacon = goes.fit.beacon;
+    calls = goes.fit.calls;
+    called = goes.called;
     oks = goes.oks;
     served = λ x since beyond _ ends. goes.served x since beyond ends;
   }
@@ -726,17 +727,19 @@ module _ (db : Database) (m : Member) (now : ℕ) (starts : List (Option ℕ)) (
   either_ends h v test x y = cond_both test x y (Ends h v)
 
   -- a reply from the own image, by a kept beacon
-  beacon_reply : (h : History) (s : Server) (id : ℕ) (call : List ℕ) (r : Reply) → db.writes call ≡ Some false → Fit h s → Pure h s →
+  beacon_reply : (h : History) (s : Server) (id : ℕ) (call : List ℕ) (r : Reply) → db.writes call ≡ Some false → Called id call → Fit h s → Pure h s →
       IsAnnounced h.announced s.version →
       IsReplyOf (db.call s.image now call).reply r →
       Ends h s.version (showing s (replying id r (record { call = call; moment = now; basis = Beacon_image s.version }) ∷ []))
-  beacon_reply h s id call r reads fit pure told is = record {
+  beacon_reply h s id call r reads asked fit pure told is = record {
+    called = (asked, tt);
     keeps = moves.shows h (stand_of s) [] tt fit.keeps;
     held = fit.held;
     rising = refl;
     flight = fit.flight;
     level = fit.level;
     beacon = fit.beacon;
+    calls = fit.calls;
     oks = (tt, tt);
     served = λ x since beyond last ends. (
       record {
@@ -752,27 +755,27 @@ module _ (db : Database) (m : Member) (now : ℕ) (starts : List (Option ℕ)) (
     );
   }
 
-  beacon_read_is : (h : History) (s : Server) (id : ℕ) (call : List ℕ) (short : Bool) → db.writes call ≡ Some false → Fit h s → Pure h s →
+  beacon_read_is : (h : History) (s : Server) (id : ℕ) (call : List ℕ) (short : Bool) → db.writes call ≡ Some false → Called id call → Fit h s → Pure h s →
       IsAnnounced h.announced s.version → Ends h s.version (read db s now id call s.image (Beacon_image s.version) short)
-  beacon_read_is h s id call short reads fit pure told =
+  beacon_read_is h s id call short reads asked fit pure told =
       either_ends h s.version short _ _ (λ _. ended h s.version _ (turns h s _ fit ((refl, tt), tt)))
       (λ _. by (db.call s.image now call).reply refl)
     where
       by : (given : CallReply) → (db.call s.image now call).reply ≡ given →
           Ends h s.version
           (showing s (read_reply id (record { call = call; moment = now; basis = Beacon_image s.version }) given ∷ []))
-      by (call_reply.Done answer) is = beacon_reply h s id call (reply.Ok answer) reads fit pure told is
-      by (call_reply.Rule number) is = beacon_reply h s id call (reply.Rule number) reads fit pure told is
+      by (call_reply.Done answer) is = beacon_reply h s id call (reply.Ok answer) reads asked fit pure told is
+      by (call_reply.Rule number) is = beacon_reply h s id call (reply.Rule number) reads asked fit pure told is
       by call_reply.Malformed is = ended h s.version _ (turns h s _ fit ((refl, tt), tt))
       by (call_reply.BadRecord at) is = ended h s.version _ (turns h s _ fit ((refl, tt), tt))
 
   elsewhere_is : (h : History) (s : Server) (id : ℕ) (call : List ℕ) (writes short may_read : Bool) →
-      db.writes call ≡ Some writes → (may_read ≡ true → IsAnnounced h.announced s.version) → Fit h s → Pure h s →
+      db.writes call ≡ Some writes → (may_read ≡ true → IsAnnounced h.announced s.version) → Called id call → Fit h s → Pure h s →
       Ends h s.version (asked_elsewhere db m s now id call writes short may_read)
-  elsewhere_is h s id call writes short may_read known told fit pure =
+  elsewhere_is h s id call writes short may_read known told asked fit pure =
       either_ends h s.version writes _ _ (λ _. ended h s.version _ (not_served_is s.votes))
       (λ reads. either_ends h s.version may_read _ _
-      (λ is. beacon_read_is h s id call short (known ∙ ap (λ (b : Bool). Some b) reads) fit pure (told is))
+      (λ is. beacon_read_is h s id call short (known ∙ ap (λ (b : Bool). Some b) reads) asked fit pure (told is))
       (λ _. ended h s.version _ (not_served_is s.votes)))
     where
       not_served_is : (votes : VoteState) → Goes h s.version (showing s (refusing id (not_served m s now (sync_heard now votes)) ∷ []))
@@ -782,13 +785,13 @@ module _ (db : Database) (m : Member) (now : ℕ) (starts : List (Option ℕ)) (
           ungiven None = tt
           ungiven (Some heard) = cond_both (heard.0 == m.me) _ _ IsUngiven (λ _. tt) (λ _. tt)
 
-  pub asked_as_is : (h : History) (s : Server) (id : ℕ) (call : List ℕ) (short : Bool) (o : Option Bool) → db.writes call ≡ o → Fit h s →
+  pub asked_as_is : (h : History) (s : Server) (id : ℕ) (call : List ℕ) (short : Bool) (o : Option Bool) → db.writes call ≡ o → Called id call → Fit h s →
       Pure h s → Ends h s.version (asked_as db m s now id call short o)
-  asked_as_is h s id call short None known fit pure = ended h s.version _ (turns h s _ fit ((refl, tt), tt))
-  asked_as_is h s id call short (Some writes) known fit pure =
+  asked_as_is h s id call short None known asked fit pure = ended h s.version _ (turns h s _ fit ((refl, tt), tt))
+  asked_as_is h s id call short (Some writes) known asked fit pure =
       either_ends h s.version (leased m s now) _ _
       (λ is. either_ends h s.version (is_ready s.phase) _ _
-      (λ ready. ended h s.version _ (served_is h s id call writes short known (lease_of h s fit is) ready fit pure))
+      (λ ready. ended h s.version _ (served_is h s id call writes short known (lease_of h s fit is) ready asked fit pure))
       (λ _. ended h s.version _ (turns h s _ fit ((refl, tt), tt))))
       (λ _. elsewhere_is h s id call writes short (allows_reads s.version now s.beacon) known
-      (λ is. allowed now h.announced s.version s.beacon is fit.beacon) fit pure)
+      (λ is. allowed now h.announced s.version s.beacon is fit.beacon) asked fit pure)

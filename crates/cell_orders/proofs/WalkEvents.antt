@@ -48,6 +48,8 @@ use Rattle.cell_orders.specs.Histories.{Stand, stand_of, History, with_book, aft
 use Rattle.cell_orders.specs.Acknowledged.{IsAnnounced, IsLevel, FlightMade, AllOks}
 use Rattle.cell_orders.specs.OrderMoves.{OrderMoves}
 use Rattle.cell_orders.specs.Served.{Names, IsNamed, EndsIn, Beyond, IsBeyond, AllServed}
+use Rattle.cell_orders.specs.Asked.{CallsKnown}
+use Rattle.cell_orders.proofs.Calling.{fits_called, called_append, none_called}
 use Rattle.cell_orders.proofs.Serving.{EventNames, names_on, named_with, fits_served}
 use Rattle.cell_orders.proofs.Telling.{fits_oks, Rising, rising_append, after_both}
 use Rattle.cell_orders.proofs.Telling.{fit_append, each_fits, refused_fit}
@@ -55,7 +57,7 @@ use Rattle.cell_orders.proofs.Standing.{level_idle, not_ready, none_made}
 use Rattle.cell_orders.proofs.Walk as walk
 use Rattle.cell_orders.proofs.WalkRecovery as recovery
 
-module _ (db : Database) (m : Member) (now : ℕ) (starts : List (Option ℕ)) (Asked : ℕ → ℕ → Type 0)
+module _ (db : Database) (m : Member) (now : ℕ) (starts : List (Option ℕ)) (Called : ℕ → List ℕ → Type 0) (Asked : ℕ → ℕ → Type 0)
     (Answered : ℕ → ℕ → Version → Type 0) (Kept : ℕ → Version → Type 0) (I : History → Stand → Type 0)
     (moves : OrderMoves m now (is_in_lease (cell_size m) starts now) Asked Answered Kept I) where
   abbrev in_lease : Bool
@@ -65,46 +67,46 @@ module _ (db : Database) (m : Member) (now : ℕ) (starts : List (Option ℕ)) (
   Lease = is_in_lease (cell_size m) starts now ≡ true
 
   abbrev Fit : History → Server → Type 0
-  Fit h s = walk.Fit db m now starts Asked Answered Kept I moves h s
+  Fit h s = walk.Fit db m now starts Called Asked Answered Kept I moves h s
 
   abbrev Goes : History → Version → Stepped → Type 0
-  Goes h v t = walk.Goes db m now starts Asked Answered Kept I moves h v t
+  Goes h v t = walk.Goes db m now starts Called Asked Answered Kept I moves h v t
 
   abbrev Fits : Server → List Shown → Type 0
   Fits s shown = AllFit m Asked (stand_of s) shown
 
   abbrev Pure : History → Server → Type 0
-  Pure h s = walk.Pure db m now starts Asked Answered Kept I moves h s
+  Pure h s = walk.Pure db m now starts Called Asked Answered Kept I moves h s
 
   -- a whole step
   abbrev pub Ends : History → Version → Stepped → Type 0
-  Ends h v t = walk.Ends db m now starts Asked Answered Kept I moves h v t
+  Ends h v t = walk.Ends db m now starts Called Asked Answered Kept I moves h v t
 
   either : (h : History) (v : Version) (test : Bool) (x y : Stepped) → (test ≡ true → Goes h v x) → (test ≡ false → Goes h v y) →
       Goes h v (cond test x y)
-  either = walk.either db m now starts Asked Answered Kept I moves
+  either = walk.either db m now starts Called Asked Answered Kept I moves
 
   turns : (h : History) (u : Server) (shown : List Shown) → Fit h u → Fits u shown → Goes h u.version (showing u shown)
-  turns = walk.turns db m now starts Asked Answered Kept I moves
+  turns = walk.turns db m now starts Called Asked Answered Kept I moves
 
   rests : (h : History) (s : Server) → Fit h s → Goes h s.version (quiet s)
-  rests = walk.rests db m now starts Asked Answered Kept I moves
+  rests = walk.rests db m now starts Called Asked Answered Kept I moves
 
   makes : (h : History) (s u : Server) (made : Made) (shown : List Shown) → version_lt s.version (version_after made.call) ≡ true →
       version_after made.call ≡ u.version →
       Fit (with_book h (with_version h.book m.me s.version (version_after made.call) made.reason)) u → Fits u shown →
       Goes h s.version (record { server = u; calls = made ∷ []; shown = shown })
-  makes = walk.makes db m now starts Asked Answered Kept I moves
+  makes = walk.makes db m now starts Called Asked Answered Kept I moves
 
   both_oks : (h : History) (v : Version) (t : Stepped) (middle : Version) (u : Stepped) →
       AllOks (after h m.me v t).book (after h m.me v t).announced t.shown →
       AllOks (after (after h m.me v t) m.me middle u).book (after (after h m.me v t) m.me middle u).announced u.shown →
       AllOks (after (after h m.me v t) m.me middle u).book (after (after h m.me v t) m.me middle u).announced (t.shown ++ u.shown)
-  both_oks = walk.both_oks db m now starts Asked Answered Kept I moves
+  both_oks = walk.both_oks db m now starts Called Asked Answered Kept I moves
 
   follows : (h : History) (v : Version) (t : Stepped) (next : Server → Stepped) → Goes h v t →
       (Fit (after h m.me v t) t.server → Goes (after h m.me v t) t.server.version (next t.server)) → Goes h v (followed t next)
-  follows = walk.follows db m now starts Asked Answered Kept I moves
+  follows = walk.follows db m now starts Called Asked Answered Kept I moves
 
   both_served : (h : History) (v : Version) (t u : Stepped) → Rising t.server.version u.calls u.server.version →
       ((x : Beyond) (since : List Version) → IsBeyond x (after h m.me v t).book t.server.version → EndsIn since h.announced →
@@ -113,48 +115,48 @@ module _ (db : Database) (m : Member) (now : ℕ) (starts : List (Option ℕ)) (
       EndsIn since h.announced →
       ((since : List Version) → EndsIn since (after h m.me v t).announced → AllServed db x since (after h m.me v t).announced u.shown) →
       AllServed db x since h.announced (t.shown ++ u.shown)
-  both_served = walk.both_served db m now starts Asked Answered Kept I moves
+  both_served = walk.both_served db m now starts Called Asked Answered Kept I moves
 
   serving : (h : History) (u : Server) → Fit h u → (v : Version) → IsServing u.phase v → IsAnnounced h.announced v
-  serving = walk.serving db m now starts Asked Answered Kept I moves
+  serving = walk.serving db m now starts Called Asked Answered Kept I moves
 
   ended : (h : History) (v : Version) (t : Stepped) → Goes h v t → Ends h v t
-  ended = walk.ended db m now starts Asked Answered Kept I moves
+  ended = walk.ended db m now starts Called Asked Answered Kept I moves
 
   no_flight : (h : History) (s : Server) → is_ready s.phase ≡ false → Fit h s → s.flight ≡ None
-  no_flight = walk.no_flight db m now starts Asked Answered Kept I moves
+  no_flight = walk.no_flight db m now starts Called Asked Answered Kept I moves
 
   begins : (h : History) (s : Server) → Lease → s.flight ≡ None → Fit h s → Fit h (polling m s now)
-  begins = walk.begins db m now starts Asked Answered Kept I moves
+  begins = walk.begins db m now starts Called Asked Answered Kept I moves
 
-  asked_as_is : (h : History) (s : Server) (id : ℕ) (call : List ℕ) (short : Bool) (o : Option Bool) → db.writes call ≡ o → Fit h s →
+  asked_as_is : (h : History) (s : Server) (id : ℕ) (call : List ℕ) (short : Bool) (o : Option Bool) → db.writes call ≡ o → Called id call → Fit h s →
       Pure h s → Ends h s.version (asked_as db m s now id call short o)
-  asked_as_is = walk.asked_as_is db m now starts Asked Answered Kept I moves
+  asked_as_is = walk.asked_as_is db m now starts Called Asked Answered Kept I moves
 
   recovered_is : (h : History) (s : Server) (phase : PhaseRecord) → s.phase ≡ phase → Fit h s → Goes h s.version (recovered m s now phase)
-  recovered_is = recovery.recovered_is db m now starts Asked Answered Kept I moves
+  recovered_is = recovery.recovered_is db m now starts Called Asked Answered Kept I moves
 
   piece_kept_is : (h : History) (s : Server) (host : Host) (version : Version) (next : ℕ) (phase : PhaseRecord) → s.phase ≡ phase →
       Fit h s → Goes h s.version (piece_kept_received m s host version next phase)
-  piece_kept_is = recovery.piece_kept_is db m now starts Asked Answered Kept I moves
+  piece_kept_is = recovery.piece_kept_is db m now starts Called Asked Answered Kept I moves
 
   installed_is : (h : History) (s : Server) (version : Version) (bytes : List ℕ) → is_sending s.phase ≡ false →
       version_lt s.version version ≡ true → Fit h s → Goes h s.version (installed s version bytes)
-  installed_is = recovery.installed_is db m now starts Asked Answered Kept I moves
+  installed_is = recovery.installed_is db m now starts Called Asked Answered Kept I moves
 
   piece_received_is : (h : History) (s : Server) (k number : ℕ) (version : Version) (total at : ℕ) (bytes : List ℕ) (phase : PhaseRecord) →
       s.phase ≡ phase → Fit h s → Goes h s.version (piece_received m s now k number version total at bytes phase)
-  piece_received_is = recovery.piece_received_is db m now starts Asked Answered Kept I moves
+  piece_received_is = recovery.piece_received_is db m now starts Called Asked Answered Kept I moves
 
   version_told_is : (h : History) (s : Server) (host : Host) (k number : ℕ) (version : Version) (short : List Bool)
       (phase : PhaseRecord) →
       Answered k number version × Kept k version → s.phase ≡ phase → Fit h s → Pure h s →
       Goes h s.version (version_is_received db m s now host k number version short phase)
-  version_told_is = recovery.version_told_is db m now starts Asked Answered Kept I moves
+  version_told_is = recovery.version_told_is db m now starts Called Asked Answered Kept I moves
 
   version_kept_is : (h : History) (s : Server) (k : ℕ) (version : Version) (short : List Bool) (phase : PhaseRecord) → Kept k version →
       Fit h s → Pure h s → Goes h s.version (version_kept_received db m s now k version short phase)
-  version_kept_is = recovery.version_kept_is db m now starts Asked Answered Kept I moves
+  version_kept_is = recovery.version_kept_is db m now starts Called Asked Answered Kept I moves
 
   -- ---- the receiver
 
@@ -192,6 +194,7 @@ module _ (db : Database) (m : Member) (now : ℕ) (starts : List (Option ℕ)) (
             flight = none_made db h.book new s.phase s.flight (no_flight h s (not_ready s.phase idle) fit);
             level = level_idle new s.phase s.flight (not_ready s.phase idle);
             beacon = fit.beacon;
+            calls = fit.calls;
           }) tt
 
   text_is : (h : History) (s : Server) (host : Host) (k poll : ℕ) (version : Version) (total at : ℕ) (bytes : List ℕ)
@@ -213,6 +216,7 @@ module _ (db : Database) (m : Member) (now : ℕ) (starts : List (Option ℕ)) (
         flight = fit.flight;
         level = fit.level;
         beacon = fit.beacon;
+        calls = fit.calls;
       }) ((refl, tt), tt))
 
   piece_taken_is : (h : History) (s : Server) (host : Host) (k poll : ℕ) (version : Version) (total at : ℕ) (bytes : List ℕ) →
@@ -240,6 +244,7 @@ module _ (db : Database) (m : Member) (now : ℕ) (starts : List (Option ℕ)) (
         flight = fit.flight;
         level = fit.level;
         beacon = fit.beacon;
+        calls = fit.calls;
       }) tt)
       (λ _. rests h s fit))
 
@@ -256,6 +261,7 @@ module _ (db : Database) (m : Member) (now : ℕ) (starts : List (Option ℕ)) (
         flight = fit.flight;
         level = fit.level;
         beacon = fit.beacon;
+        calls = fit.calls;
       }) tt)
 
   taken_is : (h : History) (s : Server) (host : Host) (old new : Version) (changes : Option (List Change)) → is_sending s.phase ≡ false →
@@ -285,6 +291,7 @@ module _ (db : Database) (m : Member) (now : ℕ) (starts : List (Option ℕ)) (
             flight = none_made db h.book new s.phase s.flight (no_flight h s (not_ready s.phase idle) fit);
             level = level_idle new s.phase s.flight (not_ready s.phase idle);
             beacon = fit.beacon;
+            calls = fit.calls;
           }) tt
 
   write_committed_is : (h : History) (s : Server) (host : Host) (old new : Version) → Fit h s →
@@ -307,6 +314,7 @@ module _ (db : Database) (m : Member) (now : ℕ) (starts : List (Option ℕ)) (
         flight = fit.flight;
         level = fit.level;
         beacon = fit.beacon;
+        calls = fit.calls;
       }) tt)
 
   piece_asked_is : (h : History) (s : Server) (host : Host) (poll : ℕ) (version : Version) (at : ℕ) → AskedBy host poll → Fit h s →
@@ -319,8 +327,8 @@ module _ (db : Database) (m : Member) (now : ℕ) (starts : List (Option ℕ)) (
 
   lapsed_is : (h : History) (s : Server) → s.starts ≡ starts → KeptLeadsOn s.version s.kept →
       FlightMade db h.book s.version s.phase s.flight → IsLevel s.version s.phase s.flight → IsNamed h.announced s.beacon →
-      I h (stand_of s) → Goes h s.version (lapsed m s now)
-  lapsed_is h s same leads flown level beacon keeps =
+      CallsKnown Called s.flight s.waiting → I h (stand_of s) → Goes h s.version (lapsed m s now)
+  lapsed_is h s same leads flown level beacon calls keeps =
       cond_both (leased m s now) (write_lapsed m s now s.flight) (phase_dropped m s now) (Goes h s.version)
       (λ is. held_by_lease (subst (λ (c : List (Option ℕ)). is_in_lease (cell_size m) c now ≡ true) same is) s.flight)
       (λ is. dropped (subst (λ (c : List (Option ℕ)). is_in_lease (cell_size m) c now ≡ false) same is))
@@ -336,12 +344,13 @@ module _ (db : Database) (m : Member) (now : ℕ) (starts : List (Option ℕ)) (
             flight = none_made db h.book s.version NoPhase None refl;
             level = tt;
             beacon = beacon;
+            calls = (none_called Called None refl, tt);
           })
           (refused_fit m Asked (stand_of (with_phase (without_writes s) NoPhase)) s now phases.None)
 
       as_before : Lease → Fit h s
       as_before lease =
-          record { keeps = keeps; same = same; held = λ _. lease; leads = leads; flight = flown; level = level; beacon = beacon }
+          record { keeps = keeps; same = same; held = λ _. lease; leads = leads; flight = flown; level = level; beacon = beacon; calls = calls }
 
       held_by_lease : Lease → (f : Option Flight) → Goes h s.version (write_lapsed m s now f)
       held_by_lease lease None = rests h s (as_before lease)
@@ -356,6 +365,7 @@ module _ (db : Database) (m : Member) (now : ℕ) (starts : List (Option ℕ)) (
             flight = none_made db h.book s.version (Poll (new_poll m (without_writes s) now)) None refl;
             level = tt;
             beacon = beacon;
+            calls = (none_called Called None refl, tt);
           })
           (fit_append m Asked (stand_of (polling m (without_writes s) now)) (writes_refused m s now phases.Poll) _
           (refused_fit m Asked (stand_of (polling m (without_writes s) now)) s now phases.Poll)
@@ -387,6 +397,8 @@ module _ (db : Database) (m : Member) (now : ℕ) (starts : List (Option ℕ)) (
         flight = fit.flight;
         level = fit.level;
         beacon = named_with (beacon_taken m s now (leased m s now)).shown h.announced s.beacon fit.beacon;
+        calls = fit.calls;
+        called = fits_called m Asked Called (stand_of (beacon_taken m s now (leased m s now)).server) _ all;
         oks = fits_oks m Asked (stand_of (beacon_taken m s now (leased m s now)).server) h.book _ _ all;
         served = λ x since _ _ _.
             fits_served db m Asked (stand_of (beacon_taken m s now (leased m s now)).server) x since h.announced _ (serving h s fit) all;
@@ -440,6 +452,8 @@ module _ (db : Database) (m : Member) (now : ℕ) (starts : List (Option ℕ)) (
         flight = fit.flight;
         level = fit.level;
         beacon = kept claim ready version names;
+        calls = fit.calls;
+        called = (tt, tt);
         oks = (tt, tt);
         served = λ x since _ _ _. (tt, tt);
       }
@@ -452,6 +466,8 @@ module _ (db : Database) (m : Member) (now : ℕ) (starts : List (Option ℕ)) (
         flight = fit.flight;
         level = fit.level;
         beacon = fit.beacon;
+        calls = fit.calls;
+        called = tt;
         oks = tt;
         served = λ x since _ _ _. tt;
       }
@@ -482,6 +498,7 @@ module _ (db : Database) (m : Member) (now : ℕ) (starts : List (Option ℕ)) (
   -- what an event brings
   abbrev pub EventBrings : NodeEvent → Type 0
   EventBrings (event.Packet p) = (k : ℕ) → place_of m.hosts p.from ≡ Some k → Brings Asked Answered Kept k p.body
+  EventBrings (event.Ask id call) = Called id call
   EventBrings _ = Unit {0}
 
   handled_is : (h : History) (s : Server) (e : NodeEvent) (short : List Bool) → EventBrings e → EventNames h.announced e → Fit h s →
@@ -489,15 +506,15 @@ module _ (db : Database) (m : Member) (now : ℕ) (starts : List (Option ℕ)) (
   handled_is h s (event.Packet p) short brings names fit pure = packet_is h s p short (place_of m.hosts p.from) refl brings names fit pure
   handled_is h s event.BeaconTurn short brings names fit pure = beacon_turn_is h s fit
   handled_is h s event.RecoverTurn short brings names fit pure = ended h s.version _ (recovered_is h s s.phase refl fit)
-  handled_is h s (event.Ask id call) short brings names fit pure = asked_as_is h s id call (is_short short) (db.writes call) refl fit pure
+  handled_is h s (event.Ask id call) short brings names fit pure = asked_as_is h s id call (is_short short) (db.writes call) refl brings fit pure
 
   pub step_ends : (h : History) (s : Server) (e : NodeEvent) (short : List Bool) → s.starts ≡ starts → KeptLeadsOn s.version s.kept →
       FlightMade db h.book s.version s.phase s.flight → IsLevel s.version s.phase s.flight → IsNamed h.announced s.beacon →
-      IsImageOf db h.book s.version s.image → EventBrings e → EventNames h.announced e → I h (stand_of s) →
+      CallsKnown Called s.flight s.waiting → IsImageOf db h.book s.version s.image → EventBrings e → EventNames h.announced e → I h (stand_of s) →
       Ends h s.version (step_of db m s now e short)
   unfolding step_of
-  step_ends h s e short same leads flown level beacon pure brings names keeps =
-      then (lapsed_is h s same leads flown level beacon keeps)
+  step_ends h s e short same leads flown level beacon calls pure brings names keeps =
+      then (lapsed_is h s same leads flown level beacon calls keeps)
     where
       t : Stepped
       t = lapsed m s now
@@ -516,6 +533,8 @@ module _ (db : Database) (m : Member) (now : ℕ) (starts : List (Option ℕ)) (
                 (after_both h m.me s.version t.server.version t (next t.server) first.rising) second.keeps;
             held = second.held;
             level = second.level;
+            calls = second.calls;
+            called = called_append Called t.shown (next t.server).shown first.called second.called;
             beacon =
                 subst (λ (g : History). IsNamed g.announced (next t.server).server.beacon)
                 (after_both h m.me s.version t.server.version t (next t.server) first.rising) second.beacon;

@@ -40,7 +40,7 @@ use Rattle.cell_orders.proofs.Telling.{each_fits, write_fits}
 use Rattle.cell_orders.proofs.Standing.{level_idle, level_held, not_both, not_itself, not_ready, ready_held, none_made, held_held}
 use Rattle.cell_orders.proofs.Walk as walk
 
-module _ (db : Database) (m : Member) (now : ℕ) (starts : List (Option ℕ)) (Asked : ℕ → ℕ → Type 0)
+module _ (db : Database) (m : Member) (now : ℕ) (starts : List (Option ℕ)) (Called : ℕ → List ℕ → Type 0) (Asked : ℕ → ℕ → Type 0)
     (Answered : ℕ → ℕ → Version → Type 0) (Kept : ℕ → Version → Type 0) (I : History → Stand → Type 0)
     (moves : OrderMoves m now (is_in_lease (cell_size m) starts now) Asked Answered Kept I) where
   abbrev in_lease : Bool
@@ -50,62 +50,62 @@ module _ (db : Database) (m : Member) (now : ℕ) (starts : List (Option ℕ)) (
   Lease = is_in_lease (cell_size m) starts now ≡ true
 
   abbrev Fit : History → Server → Type 0
-  Fit h s = walk.Fit db m now starts Asked Answered Kept I moves h s
+  Fit h s = walk.Fit db m now starts Called Asked Answered Kept I moves h s
 
   abbrev Goes : History → Version → Stepped → Type 0
-  Goes h v t = walk.Goes db m now starts Asked Answered Kept I moves h v t
+  Goes h v t = walk.Goes db m now starts Called Asked Answered Kept I moves h v t
 
   abbrev Fits : Server → List Shown → Type 0
   Fits s shown = AllFit m Asked (stand_of s) shown
 
   either : (h : History) (v : Version) (test : Bool) (x y : Stepped) → (test ≡ true → Goes h v x) → (test ≡ false → Goes h v y) →
       Goes h v (cond test x y)
-  either = walk.either db m now starts Asked Answered Kept I moves
+  either = walk.either db m now starts Called Asked Answered Kept I moves
 
   turns : (h : History) (u : Server) (shown : List Shown) → Fit h u → Fits u shown → Goes h u.version (showing u shown)
-  turns = walk.turns db m now starts Asked Answered Kept I moves
+  turns = walk.turns db m now starts Called Asked Answered Kept I moves
 
   rests : (h : History) (s : Server) → Fit h s → Goes h s.version (quiet s)
-  rests = walk.rests db m now starts Asked Answered Kept I moves
+  rests = walk.rests db m now starts Called Asked Answered Kept I moves
 
   makes : (h : History) (s u : Server) (made : Made) (shown : List Shown) → version_lt s.version (version_after made.call) ≡ true →
       version_after made.call ≡ u.version →
       Fit (with_book h (with_version h.book m.me s.version (version_after made.call) made.reason)) u → Fits u shown →
       Goes h s.version (record { server = u; calls = made ∷ []; shown = shown })
-  makes = walk.makes db m now starts Asked Answered Kept I moves
+  makes = walk.makes db m now starts Called Asked Answered Kept I moves
 
   follows : (h : History) (v : Version) (t : Stepped) (next : Server → Stepped) → Goes h v t →
       (Fit (after h m.me v t) t.server → Goes (after h m.me v t) t.server.version (next t.server)) → Goes h v (followed t next)
-  follows = walk.follows db m now starts Asked Answered Kept I moves
+  follows = walk.follows db m now starts Called Asked Answered Kept I moves
 
   lease_of : (h : History) (s : Server) → Fit h s → leased m s now ≡ true → Lease
-  lease_of = walk.lease_of db m now starts Asked Answered Kept I moves
+  lease_of = walk.lease_of db m now starts Called Asked Answered Kept I moves
 
   in_phase : (h : History) (s : Server) (phase : PhaseRecord) → s.phase ≡ phase → Fit h s → Fit h (with_phase s phase)
-  in_phase = walk.in_phase db m now starts Asked Answered Kept I moves
+  in_phase = walk.in_phase db m now starts Called Asked Answered Kept I moves
 
   no_flight : (h : History) (s : Server) → is_ready s.phase ≡ false → Fit h s → s.flight ≡ None
-  no_flight = walk.no_flight db m now starts Asked Answered Kept I moves
+  no_flight = walk.no_flight db m now starts Called Asked Answered Kept I moves
 
   to_phase : (h : History) (s : Server) (phase : PhaseRecord) → is_ready phase ≡ false → Lease → is_ready s.phase ≡ false → Fit h s →
       I h (record (stand_of s) { phase = phase }) → Fit h (with_phase s phase)
-  to_phase = walk.to_phase db m now starts Asked Answered Kept I moves
+  to_phase = walk.to_phase db m now starts Called Asked Answered Kept I moves
 
   begins : (h : History) (s : Server) → Lease → s.flight ≡ None → Fit h s → Fit h (polling m s now)
-  begins = walk.begins db m now starts Asked Answered Kept I moves
+  begins = walk.begins db m now starts Called Asked Answered Kept I moves
 
   numbered : (phase : PhaseRecord) (p : PhaseRecord) (number : ℕ) → phase ≡ p → IsNumbered p number → IsNumbered phase number
-  numbered = walk.numbered db m now starts Asked Answered Kept I moves
+  numbered = walk.numbered db m now starts Called Asked Answered Kept I moves
 
   settled_is : (h : History) (s : Server) → Fit h s → Goes h s.version (settled m s)
-  settled_is = walk.settled_is db m now starts Asked Answered Kept I moves
+  settled_is = walk.settled_is db m now starts Called Asked Answered Kept I moves
 
   abbrev Pure : History → Server → Type 0
-  Pure h s = walk.Pure db m now starts Asked Answered Kept I moves h s
+  Pure h s = walk.Pure db m now starts Called Asked Answered Kept I moves h s
 
   settled_with_turns_is : (h : History) (s : Server) (short : List Bool) → Fit h s → Pure h s →
       Goes h s.version (settled_with_turns db m s now short)
-  settled_with_turns_is = walk.settled_with_turns_is db m now starts Asked Answered Kept I moves
+  settled_with_turns_is = walk.settled_with_turns_is db m now starts Called Asked Answered Kept I moves
 
   -- ---- recovery
 
@@ -141,6 +141,7 @@ module _ (db : Database) (m : Member) (now : ℕ) (starts : List (Option ℕ)) (
             flight = λ f is. absurd (not_both s.flight f (no_flight h (with_phase s (Relabel poll)) refl fit) is);
             level = tt;
             beacon = fit.beacon;
+            calls = fit.calls;
           })
           (each_fits m Asked (stand_of begun.server) _
           (λ host k. answer_fits (stand_of begun.server) host begun.server poll s.version (entry_at poll.answers k) refl))
@@ -161,6 +162,7 @@ module _ (db : Database) (m : Member) (now : ℕ) (starts : List (Option ℕ)) (
         flight = λ f is. absurd (not_both s.flight f (no_flight h (with_phase s (Poll poll)) refl fit) is);
         level = tt;
         beacon = fit.beacon;
+        calls = fit.calls;
       }) ((refl, refl), tt))
       (λ least. relabelled_is h s poll lease
       (record {
@@ -171,6 +173,7 @@ module _ (db : Database) (m : Member) (now : ℕ) (starts : List (Option ℕ)) (
         flight = λ f is. absurd (not_both s.flight f (no_flight h (with_phase s (Poll poll)) refl fit) is);
         level = tt;
         beacon = fit.beacon;
+        calls = fit.calls;
       })))
       (λ _. turns h (with_phase s (Poll poll)) [] fit tt)
 
@@ -247,6 +250,7 @@ module _ (db : Database) (m : Member) (now : ℕ) (starts : List (Option ℕ)) (
         flight = none_made db h.book version s.phase s.flight (no_flight h s (not_ready s.phase idle) fit);
         level = level_idle version s.phase s.flight (not_ready s.phase idle);
         beacon = fit.beacon;
+        calls = fit.calls;
       }) tt
 
   -- a fetch is over
@@ -269,7 +273,16 @@ module _ (db : Database) (m : Member) (now : ℕ) (starts : List (Option ℕ)) (
       (λ least. follows h s.version (quiet s) (λ after. relabelled m after poll now) (rests h s fit)
       (λ fit. fetched_is _ s poll best from at lease least fit)))
       (λ _. turns h (record s { received = Some text }) _
-      (record { keeps = fit.keeps; same = fit.same; held = fit.held; leads = fit.leads; flight = fit.flight; level = fit.level; beacon = fit.beacon })
+      (record {
+        keeps = fit.keeps;
+        same = fit.same;
+        held = fit.held;
+        leads = fit.leads;
+        flight = fit.flight;
+        level = fit.level;
+        beacon = fit.beacon;
+        calls = fit.calls;
+      })
       ((refl, numbered s.phase (Fetch poll best from) poll.number at refl), tt))
 
   pub piece_received_is : (h : History) (s : Server) (k number : ℕ) (version : Version) (total at : ℕ) (bytes : List ℕ) (phase : PhaseRecord) →
@@ -304,6 +317,7 @@ module _ (db : Database) (m : Member) (now : ℕ) (starts : List (Option ℕ)) (
         );
         level = level_held s.version s.phase k s.flight fit.level;
         beacon = fit.beacon;
+        calls = fit.calls;
       }) pure
 
   lacking_is : (h : History) (s : Server) (host : Host) (poll : Polled) (spread : Spread) (version : Version) (f : Option Flight) →

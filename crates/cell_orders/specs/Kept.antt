@@ -9,6 +9,7 @@ use Rattle.cell_model.specs.Book.{Book, Announcement, clock_at, list_of}
 use Rattle.cell_model.specs.Node.{Up, Server}
 use Rattle.cell_model.specs.World.{World, Site, site_of}
 use Rattle.ubik_types.specs.declared.hosts.Host.{Host}
+use Rattle.cell_orders.specs.Asked.{CallsKnown}
 use Rattle.cell_orders.specs.Acknowledged.{FlightMade, IsLevel}
 use Rattle.cell_orders.specs.Histories.{number_of}
 use Rattle.cell_orders.specs.Orders.{IsOrdered, HasMajority, WasSent, IsAsked, IsAnswered, KeptIsKept, AnswersAsked, NumbersPast, HasOpened}
@@ -35,7 +36,8 @@ pub record ServerKeeps (hosts : List Host) (V : ℕ → Version) (packets : List
       IsLeading (length hosts) k V (IsAnswered hosts packets k) announced s.version s.phase
   pub level : IsLevel s.version s.phase s.flight
 
-pub record OrderKept (db : Database) (w : World) (book : Book) (announced : List Version) : Type 0 where
+-- `Called`: which calls were asked at which server, under which ids.
+pub record OrderKept (db : Database) (Called : ℕ → ℕ → List ℕ → Type 0) (w : World) (book : Book) (announced : List Version) : Type 0 where
   pub ordered : IsOrdered book announced
   pub kept : KeptIsKept w.hosts w.packets (versions_of w)
   pub asked : AnswersAsked w.hosts w.packets
@@ -47,6 +49,7 @@ pub record OrderKept (db : Database) (w : World) (book : Book) (announced : List
       FlightMade db book s.version s.phase s.flight
   pub names : (p : Packet) → WasSent w.packets p → Names announced p.body
   pub beacons : (k : ℕ) (site : Site) (s : Server) → site_of w k ≡ Some site → site.node ≡ Up s → IsNamed announced s.beacon
+  pub calls : (k : ℕ) (site : Site) (s : Server) → site_of w k ≡ Some site → site.node ≡ Up s → CallsKnown (Called k) s.flight s.waiting
 
 -- the announcements of a run: each has the list of its version
 abbrev pub ListsOf : Book → List Announcement → Type 0

@@ -12,6 +12,7 @@ use Rattle.cell_model.specs.SingleCopy.{image_after}
 use Rattle.cell_model.specs.World.{Site, Event, IsFirst, IsRun, first_world, world_after, member, site_of, happens}
 use Rattle.cell_pages.specs.Images.{KeepsImages}
 use Rattle.cell_pages.specs.Laws.{run_of}
+use Rattle.cell_orders.specs.Asked.{AnswersAsk}
 use Rattle.cell_orders.specs.Kept.{versions_of, versions_in}
 use Rattle.cell_orders.specs.Orders.{HasMajority, IsLast}
 use Rattle.cell_orders.specs.Replies.{IsSingleReply, IsAtSync, HasEvaluation, PrefixesStay}
@@ -89,3 +90,10 @@ RepliesGrow =
     (db : Database) (hosts : List Host) (clock : ℕ) (failed : List Bool) (events : List Event) →
     IsFirst hosts clock failed → IsRun db (first_world hosts clock failed) events →
     let r = run_of db hosts clock failed events in PrefixesStay r.book r.given
+
+-- In each cell, after each run, each reply that a database gave is to a call that was asked at its server, under its id.
+abbrev pub RepliesAnswerAsks : Type 0
+RepliesAnswerAsks =
+    (db : Database) (hosts : List Host) (clock : ℕ) (failed : List Bool) (events : List Event) →
+    IsFirst hosts clock failed → IsRun db (first_world hosts clock failed) events →
+    All (AnswersAsk events) (run_of db hosts clock failed events).given

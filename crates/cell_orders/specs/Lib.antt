@@ -1,4 +1,5 @@
 pub mod Acknowledged
+pub mod Asked
 pub mod Histories
 pub mod Kept
 pub mod Laws

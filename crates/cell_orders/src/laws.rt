@@ -3,6 +3,7 @@ ghost use Rattle.cell_orders.specs.Laws.{
   AcknowledgedStay,
   AnnouncementsGrow,
   MajoritiesKeep,
+  RepliesAnswerAsks,
   RepliesAreGiven,
   RepliesAreSingle,
   RepliesGrow,
@@ -49,14 +50,15 @@ pub fn law_sites_serve_the_order()
     lease_rests_on_greatest_start();
 }
 
-/// In each cell, whatever happens, each Ok and each Rule is a reply of the database, and each such reply is that of the single copy after a
-/// list of transactions, where no call makes an image shorter: at the sync site after the order of that moment, with all that was
-/// acknowledged before; at another server after a front of it, the list of the version that its kept ready beacon names. The order of that
-/// moment is a front of each later one, and the transaction of a commit that is answered Ok is its next one; any other Ok to a call that
-/// writes changes nothing.
+/// In each cell, whatever happens, each Ok and each Rule is a reply of the database to a call that was asked there under its id, and each
+/// such reply is that of the single copy after a list of transactions, where no call makes an image shorter: at the sync site after the
+/// order of that moment, with all that was acknowledged before; at another server after a front of it, the list of the version that its
+/// kept ready beacon names. The order of that moment is a front of each later one, and the transaction of a commit that is answered Ok is
+/// its next one; any other Ok to a call that writes changes nothing.
 pub fn law_replies()
     ensures single { RepliesAreSingle }
     ensures given { RepliesAreGiven }
+    ensures asked { RepliesAnswerAsks }
     ensures acknowledged { RepliesHaveAcknowledged }
 {
     law_rules_are_safe();

@@ -40,6 +40,7 @@ pub record OrderLaws : Type 0 where
   pub sites : laws.SitesServeTheOrder
   pub single : laws.RepliesAreSingle
   pub given : laws.RepliesAreGiven
+  pub asked : laws.RepliesAnswerAsks
   pub acknowledged : laws.RepliesHaveAcknowledged
   pub prefixes : laws.RepliesGrow
 
@@ -84,6 +85,8 @@ module _ (laws_hold : OrderLaws) (db : Database) (keeps : KeepsImages db) (c : C
         ready).database keeps;
     given = λ front back e split.
         laws_hold.given db c.run.world.hosts c.opening.clock c.opening.failed front e first (front_legal front (e ∷ back) split);
+    asked = λ front back split.
+        laws_hold.asked db c.run.world.hosts c.opening.clock c.opening.failed front first (front_legal front back split);
     replies = λ front back split.
         laws_hold.single db c.run.world.hosts c.opening.clock c.opening.failed front first (front_legal front back split);
     acknowledged = λ front middle back split.

@@ -13,6 +13,7 @@ use Rattle.cell_model.specs.SingleCopy.{image_after}
 use Rattle.cell_model.specs.Step.{Basis, Commit_on}
 use Rattle.cell_model.specs.World.{Site, Event, member, site_of, happens}
 use Rattle.cell_pages.specs.Images.{KeepsImages}
+use Rattle.cell_orders.specs.Asked.{AnswersAsk}
 use Rattle.cell_orders.specs.Replies.{transaction_in, version_in_reply, IsSingleReply, IsAtSync, HasEvaluation, PrefixesStay}
 use Rattle.prdb_entries.specs.ByteMeaning.{protection_meaning}
 use Rattle.prdb_entries.specs.Layout.{StandsFor}
@@ -39,7 +40,9 @@ pub record HasOrder (db : Database) (c : Cell) : Type 0 where
   -- each Ok and each Rule of an event is a reply that the database gave
   pub given : (front back : List Event) (e : Event) → c.events ≡ front ++ e ∷ back →
       All HasEvaluation (happens db (run_of db c front).world e).seen
-  -- each such reply is the single copy's after a front of the order, by any place of the run
+  -- each such reply is to a call that was asked at its server before, under its id
+  pub asked : (front back : List Event) → c.events ≡ front ++ back → All (AnswersAsk front) (run_of db c front).given
+  -- and is the single copy's after a front of the order, by any place of the run
   pub replies : (front back : List Event) → c.events ≡ front ++ back →
       let r = run_of db c front in All (IsSingleReply db r.book (order_of r.announcements)) r.given
   -- each reply that the sync site gave behind a place was evaluated on an order that has all that was acknowledged there

@@ -9,6 +9,7 @@ returns c =
       sites = c.law_sites_serve_the_order.ensures;
       single = c.law_replies.ensures.single;
       given = c.law_replies.ensures.given;
+      asked = c.law_replies.ensures.asked;
       acknowledged = c.law_replies.ensures.acknowledged;
       prefixes = c.law_prefixes_stay.ensures;
     }) c.law_scripts_are_runs.ensures
