@@ -39,7 +39,7 @@ before_end front t =
     let whole : length (front ++ t ∷ []) ≡ length front + 1 = length-append front (t ∷ []) in
     omega arith
 
-at_front : (front rest : List Transaction) (place : ℕ) (t : Transaction) → slice_get front place ≡ Some t →
+pub at_front : (front rest : List Transaction) (place : ℕ) (t : Transaction) → slice_get front place ≡ Some t →
     slice_get (front ++ rest) place ≡ Some t
 at_front [] rest place t is = absurd (cc)
 at_front (u ∷ front) rest zero t is = is
@@ -47,7 +47,7 @@ at_front (u ∷ front) rest (suc place) t is = at_front front rest place t is
 
 -- ---- the list of a version that a transaction made
 
-made_list : (book : Book) (v : Version) (t : Transaction) → MadeOnce book → PagesFollow book → IsMade book v t →
+pub made_list : (book : Book) (v : Version) (t : Transaction) → MadeOnce book → PagesFollow book → IsMade book v t →
     (front : List Transaction) × (list_of book v ≡ Some (front ++ t ∷ []))
 made_list [] v t once pages is = absurd is
 made_list (b ∷ book) v t once pages (inl is) =
@@ -131,7 +131,7 @@ acks_later book later told after (a ∷ acks) keeps more all = (
 
 -- ---- the order
 
-announced_get : (P : Version → Type 0) (announced : List Version) (v : Version) → AllAnnounced P announced → IsAnnounced announced v → P v
+pub announced_get : (P : Version → Type 0) (announced : List Version) (v : Version) → AllAnnounced P announced → IsAnnounced announced v → P v
 announced_get P [] v all is = absurd is
 announced_get P (u ∷ announced) v all (inl same) = subst P same all.0
 announced_get P (u ∷ announced) v all (inr is) = announced_get P announced v all.1 is
@@ -150,7 +150,7 @@ is_placed book (newest_one ∷ earlier) a once rise pages lists follow rising is
     subst (λ (l : List Transaction). slice_get l a.place ≡ Some a.transaction) (sym front.1)
     (at_front is.list front.0 a.place a.transaction is.placed)
 
-all_placed : (book : Book) (announcements : List Announcement) (acks : List Acknowledgement) → MadeOnce book → VersionsRise book →
+pub all_placed : (book : Book) (announcements : List Announcement) (acks : List Acknowledgement) → MadeOnce book → VersionsRise book →
     PagesFollow book → ListsOf book announcements → AllAnnounced (FollowFrom book) (versions_in announcements) →
     AnnouncedRise (versions_in announcements) → AllKeptAt book (versions_in announcements) acks →
     AllByRecursion (IsPlaced (order_of announcements)) acks

@@ -1,12 +1,16 @@
 pub mod Acknowledging
+pub mod Calling
 pub mod Lists
 pub mod Moving
 pub mod Openings
 pub mod Order
 pub mod Orderings
+pub mod Replying
 pub mod Runs
+pub mod Serving
 pub mod Showing
 pub mod Sites
+pub mod Standing
 pub mod Steps
 pub mod Telling
 pub mod Walk

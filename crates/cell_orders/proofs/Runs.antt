@@ -31,6 +31,8 @@ use Rattle.cell_laws.proofs.Parts.{eq_true}
 use Rattle.cell_laws.proofs.Sites.{Here}
 use Rattle.cell_laws.proofs.Worlds.{here_of, LaterSites, ticked_one, ticked_each}
 use Rattle.cell_pages.specs.Parts.{AtMost, IsReached, MakesVersions, OthersBelow}
+use Rattle.cell_pages.specs.Images.{IsImageOf}
+use Rattle.cell_pages.specs.Laws.{MadeOnce}
 use Rattle.cell_pages.specs.Passes.{NodeKeeps, WorldKeeps}
 use Rattle.cell_pages.specs.Contents.{Carries}
 use Rattle.cell_pages.proofs.Holding.{Both, BothDurable, Pages, contents_pass}
@@ -44,7 +46,12 @@ use Rattle.cell_orders.specs.Midst.{IsAhead}
 use Rattle.cell_orders.specs.Orders.{IsOrdered, IsListed, WasSent, IsAsked, NumbersUpTo, HeldSince, Premises}
 use Rattle.cell_orders.proofs.Orderings.{sent_get, kept_map, majority_map}
 use Rattle.cell_orders.specs.Acknowledged.{FlightMade, IsOk, AllOks}
-use Rattle.cell_orders.proofs.Sites.{flight_more, server_map, Leaves, happened_keeps, quiet_leaves}
+use Rattle.cell_model.specs.Causes.{Asks}
+use Rattle.cell_orders.specs.Asked.{AsksIn, CallsKnown, IsCalled, AllCalled}
+use Rattle.cell_orders.proofs.Calling.{none_called}
+use Rattle.cell_orders.specs.Served.{IsNamed, Beyond, IsServed, since_after, AllServed}
+use Rattle.cell_orders.proofs.Serving.{ends_itself}
+use Rattle.cell_orders.proofs.Sites.{set_same, server_map, Leaves, version_rises, happened_keeps, quiet_leaves}
 use Rattle.cell_orders.proofs.Steps.{Comes, up_leaves, broken_leaves}
 
 -- ---- what is seen
@@ -117,6 +124,73 @@ seen_oks book a k number (one ∷ shown) marks silent oks =
     by (output.Reply id r) e ok rest = (ok, rest)
     by (output.Announce version) e ok rest = rest
 
+-- Replies, among what is seen: `V` tells the durable version of each server after the event.
+abbrev pub SeenServed : Database → Book → (ℕ → Version) → (since announced : List Version) → List Happening → Type 0
+SeenServed db book V since a [] = Unit {0}
+SeenServed db book V since a (Announced server version ∷ seen) = SeenServed db book V since (version ∷ a) seen
+SeenServed db book V since a (Replied server id r e ∷ seen) =
+    IsServed db (record { book = book; top = V server }) since a (output.Reply id r) e × SeenServed db book V a a seen
+SeenServed db book V since a (_ ∷ seen) = SeenServed db book V since a seen
+
+module _ (db : Database) (book : Book) (V : ℕ → Version) where
+  silent_served : (since a : List Version) (marks : List Happening) → IsSilent marks → SeenServed db book V since a marks
+  silent_served since a [] silent = tt
+  silent_served since a (Sent number packet ∷ marks) silent = silent_served since a marks silent
+  silent_served since a (Announced server version ∷ marks) silent = absurd silent
+  silent_served since a (Replied server id r evaluation ∷ marks) silent = absurd silent
+  silent_served since a (Lost number ∷ marks) silent = silent_served since a marks silent
+  silent_served since a (Stops server ∷ marks) silent = silent_served since a marks silent
+  silent_served since a (Halts server ∷ marks) silent = silent_served since a marks silent
+  silent_served since a (Restarts server version ∷ marks) silent = silent_served since a marks silent
+  silent_served since a (Stays_down server ∷ marks) silent = silent_served since a marks silent
+
+  seen_served : (k number : ℕ) (since a : List Version) (shown : List Shown) (marks : List Happening) → IsSilent marks →
+      AllServed db (record { book = book; top = V k }) since a shown → SeenServed db book V since a (seen_from k number shown ++ marks)
+  seen_served k number since a [] marks silent all = silent_served since a marks silent
+  seen_served k number since a (one ∷ shown) marks silent all =
+      by one.output one.evaluation all.0
+      (seen_served k (number_after number (packet_of one)) (since_after one.output since a) (announced_in one.output a) shown marks silent
+      all.1)
+    where
+      by : (o : Output) (e : Option Evaluation) → IsServed db (record { book = book; top = V k }) since a o e →
+          SeenServed db book V (since_after o since a) (announced_in o a)
+          (seen_from k (number_after number (packet_of one)) shown ++ marks) →
+          SeenServed db book V since a (seen_of_output k number o e ∷ (seen_from k (number_after number (packet_of one)) shown ++ marks))
+      by (output.Send packet) e served rest = rest
+      by (output.Reply id r) e served rest = (served, rest)
+      by (output.Announce version) e served rest = rest
+
+-- calls that are replied to, among what is seen
+abbrev pub SeenCalled : (ℕ → ℕ → List ℕ → Type 0) → List Happening → Type 0
+SeenCalled Called [] = Unit {0}
+SeenCalled Called (Replied server id r e ∷ seen) = IsCalled (Called server) (output.Reply id r) e × SeenCalled Called seen
+SeenCalled Called (_ ∷ seen) = SeenCalled Called seen
+
+module _ (Called : ℕ → ℕ → List ℕ → Type 0) where
+  silent_called : (marks : List Happening) → IsSilent marks → SeenCalled Called marks
+  silent_called [] silent = tt
+  silent_called (Sent number packet ∷ marks) silent = silent_called marks silent
+  silent_called (Announced server version ∷ marks) silent = absurd silent
+  silent_called (Replied server id r evaluation ∷ marks) silent = absurd silent
+  silent_called (Lost number ∷ marks) silent = silent_called marks silent
+  silent_called (Stops server ∷ marks) silent = silent_called marks silent
+  silent_called (Halts server ∷ marks) silent = silent_called marks silent
+  silent_called (Restarts server version ∷ marks) silent = silent_called marks silent
+  silent_called (Stays_down server ∷ marks) silent = silent_called marks silent
+
+  seen_called : (k number : ℕ) (shown : List Shown) (marks : List Happening) → IsSilent marks → AllCalled (Called k) shown →
+      SeenCalled Called (seen_from k number shown ++ marks)
+  seen_called k number [] marks silent all = silent_called marks silent
+  seen_called k number (one ∷ shown) marks silent all =
+      by one.output one.evaluation all.0 (seen_called k (number_after number (packet_of one)) shown marks silent all.1)
+    where
+      by : (o : Output) (e : Option Evaluation) → IsCalled (Called k) o e →
+          SeenCalled Called (seen_from k (number_after number (packet_of one)) shown ++ marks) →
+          SeenCalled Called (seen_of_output k number o e ∷ (seen_from k (number_after number (packet_of one)) shown ++ marks))
+      by (output.Send packet) e called rest = rest
+      by (output.Reply id r) e called rest = (called, rest)
+      by (output.Announce version) e called rest = rest
+
 -- ---- a server that is opened
 
 pub fresh : (n clock : ℕ) (d : Durable) (hosts : List Host) (V : ℕ → Version) (packets : List Packet) (announced : List Version) (k : ℕ) →
@@ -177,13 +251,13 @@ clock_on hosts V packets announced k now later s more is = record {
 abbrev packet_at : Packet → ℕ → ℕ × NodeEvent
 packet_at p k = (k, event.Packet p)
 
-module _ (safe : AreSafe cell_rules) (premises : Premises) (db : Database) where
+module _ (safe : AreSafe cell_rules) (premises : Premises) (db : Database) (Called : ℕ → ℕ → List ℕ → Type 0) where
   abbrev pub Contents : World → Book → Type 0
   Contents w book =
       WorldKeeps (Both db OnceAndRising both_grew) (BothDurable db OnceAndRising both_grew) (Carries db) (Pages db OnceAndRising both_grew) w book
 
   module _ (w : World) (x : Leases) (book : Book) (good : CellInvariant w x book) (contents : Contents w book)
-      (before : List Announcement) (keeps : OrderKept w book (versions_in before)) where
+      (before : List Announcement) (keeps : OrderKept db Called w book (versions_in before)) where
     alone : (j k : ℕ) (y z : Site) (s u : Server) → site_of w j ≡ Some y → site_of w k ≡ Some z → y.node ≡ Up s → z.node ≡ Up u →
         (j ≡ k → ⊥) → is_in_lease (length w.hosts) s.starts y.clock ≡ true → is_in_lease (length w.hosts) u.starts z.clock ≡ true → ⊥
     alone j k y z s u at_j at_k up_j up_k other leased_j leased_k =
@@ -194,21 +268,38 @@ module _ (safe : AreSafe cell_rules) (premises : Premises) (db : Database) where
     -- what is kept of what happened; commits that are answered are those of their versions
     abbrev Keeps : Happened → Type 0
     Keeps h =
-        OrderKept h.world (entered book h.entries) (versions_in (announced (entered book h.entries) h.seen before))
+        MadeOnce (entered book h.entries) →
+        OrderKept db Called h.world (entered book h.entries) (versions_in (announced (entered book h.entries) h.seen before))
         × OksSeen (entered book h.entries) (versions_in (announced (entered book h.entries) h.seen before)) h.seen
+        × SeenServed db (entered book h.entries) (versions_of h.world) (versions_in before) (versions_in before) h.seen
+        × ((j : ℕ) → AtMost (versions_of w j) (versions_of h.world j))
+        × SeenCalled Called h.seen
 
     abbrev LeavesHere : ℕ → Site → SiteHappened → Type 0
-    LeavesHere k site h = Leaves w book (versions_in before) keeps alone k site h × IsSilent h.marks
+    LeavesHere k site h = Leaves db Called w book (versions_in before) keeps alone k site h × IsSilent h.marks
 
     at_site : (k : ℕ) (site : Site) (h : SiteHappened) → site_of w k ≡ Some site → LeavesHere k site h → Keeps (happened_at w k h)
-    at_site k site h get leaves =
+    at_site k site h get leaves once =
         subst
-        (λ (a : List Version). OrderKept (happened_at w k h).world (entered book h.entries) a
-        × OksSeen (entered book h.entries) a (seen_from k (length w.packets + 1) h.shown ++ h.marks))
+        (λ (a : List Version). OrderKept db Called (happened_at w k h).world (entered book h.entries) a
+        × OksSeen (entered book h.entries) a (seen_from k (length w.packets + 1) h.shown ++ h.marks)
+        × SeenServed db (entered book h.entries) (versions_of (happened_at w k h).world) (versions_in before) (versions_in before)
+        (seen_from k (length w.packets + 1) h.shown ++ h.marks)
+        × ((j : ℕ) → AtMost (versions_of w j) (versions_of (happened_at w k h).world j))
+        × SeenCalled Called (seen_from k (length w.packets + 1) h.shown ++ h.marks))
         (sym (seen_announced (entered book h.entries) k (length w.packets + 1) h.shown h.marks before leaves.1)) (
-          happened_keeps w book (versions_in before) keeps alone k site h get leaves.0,
+          happened_keeps db Called w book (versions_in before) keeps alone k site h get leaves.0 once,
           seen_oks (entered book h.entries) (announced_with h.shown (versions_in before)) k (length w.packets + 1) h.shown h.marks
               leaves.1 leaves.0.oks,
+          seen_served db (entered book h.entries) (versions_of (happened_at w k h).world) k (length w.packets + 1) (versions_in before)
+              (versions_in before) h.shown h.marks leaves.1
+              (subst
+              (λ (v : Version).
+              AllServed db (record { book = entered book h.entries; top = v }) (versions_in before) (versions_in before) h.shown)
+              (sym (ap version_in (set_same w.sites k site h.site get)))
+              (leaves.0.served once (versions_in before) (ends_itself (versions_in before)))),
+          version_rises db Called w book (versions_in before) keeps alone k site h get leaves.0,
+          seen_called Called k (length w.packets + 1) h.shown h.marks leaves.1 leaves.0.called,
         )
 
     at_server : (k : ℕ) (f : Site → SiteHappened) → ((site : Site) → site_of w k ≡ Some site → LeavesHere k site (f site)) →
@@ -216,7 +307,7 @@ module _ (safe : AreSafe cell_rules) (premises : Premises) (db : Database) where
     at_server k f leaves = by (site_of w k) refl
       where
         by : (o : Option Site) → site_of w k ≡ o → Keeps (happens_at w k f o)
-        by None is = (keeps, tt)
+        by None is = λ once. (keeps, tt, tt, λ j. at_most_same (versions_of w j), tt)
         by (Some site) is = at_site k site (f site) is (leaves site is)
 
     -- ---- one server
@@ -230,15 +321,19 @@ module _ (safe : AreSafe cell_rules) (premises : Premises) (db : Database) where
           announced_with h.shown (versions_in before) ≡ versions_in before → packets_of h.shown ≡ [] →
           ((s : Server) → h.site.node ≡ Up s →
           ServerKeeps w.hosts (versions_of w) w.packets (versions_in before) k site.clock s) →
-          ((s : Server) → h.site.node ≡ Up s → FlightMade book s.version s.phase s.flight) →
+          ((s : Server) → h.site.node ≡ Up s → FlightMade db book s.version s.phase s.flight) →
           AllOks (entered book h.entries) (announced_with h.shown (versions_in before)) h.shown →
-          Leaves w book (versions_in before) keeps alone k site h
-      stays h entries durable clock same_announced no_packets server flight oks =
-          quiet_leaves w book (versions_in before) keeps alone k site h get clock
+          ((s : Server) → h.site.node ≡ Up s → IsNamed (versions_in before) s.beacon) →
+          ((s : Server) → h.site.node ≡ Up s → CallsKnown (Called k) s.flight s.waiting) → AllCalled (Called k) h.shown →
+          ((x : Beyond) (since : List Version) → AllServed db x since (versions_in before) h.shown) →
+          Leaves db Called w book (versions_in before) keeps alone k site h
+      stays h entries durable clock same_announced no_packets server flight oks beacon calls called served =
+          quiet_leaves db Called w book (versions_in before) keeps alone k site h get clock
           (subst (λ (es : List Entry). IsOrdered (entered book es) (versions_in before)) (sym entries) keeps.ordered)
           (subst (λ (d : Durable). AtMost site.durable.version d.version) (sym durable) (at_most_same site.durable.version))
           same_announced (ap (λ (ps : List Packet). w.packets ++ ps) no_packets ∙ append-nil w.packets) server
-          (λ s up. flight_more book h.entries s.version s.phase s.flight (flight s up)) oks
+          (λ s up. subst (λ (es : List Entry). FlightMade db (entered book es) s.version s.phase s.flight) (sym entries) (flight s up)) oks
+          beacon calls called served
 
       as_before : (s : Server) → site.node ≡ Up s → ServerKeeps w.hosts (versions_of w) w.packets (versions_in before) k site.clock s
       as_before s up = keeps.servers k site s get up
@@ -254,6 +349,18 @@ module _ (safe : AreSafe cell_rules) (premises : Premises) (db : Database) where
       refused_oks g a event.BeaconTurn = tt
       refused_oks g a event.RecoverTurn = tt
       refused_oks g a (event.Ask id call) = (tt, tt)
+
+      refused_served : (e : NodeEvent) (x : Beyond) (since : List Version) → AllServed db x since (versions_in before) (refusals e)
+      refused_served (event.Packet p) x since = tt
+      refused_served event.BeaconTurn x since = tt
+      refused_served event.RecoverTurn x since = tt
+      refused_served (event.Ask id call) x since = (tt, tt)
+
+      refused_called : (e : NodeEvent) → AllCalled (Called k) (refusals e)
+      refused_called (event.Packet p) = tt
+      refused_called event.BeaconTurn = tt
+      refused_called event.RecoverTurn = tt
+      refused_called (event.Ask id call) = (tt, tt)
 
       refused_none : (e : NodeEvent) → packets_of (refusals e) ≡ []
       refused_none (event.Packet p) = refl
@@ -280,6 +387,12 @@ module _ (safe : AreSafe cell_rules) (premises : Premises) (db : Database) where
             (subst
             (NodeKeeps (λ lease. Both db OnceAndRising both_grew k lease book) (length w.hosts) site.clock site.durable) is_up
             (contents.sites k site get).node).1.0
+
+        pure_is : IsImageOf db book s.version s.image
+        pure_is =
+            (subst
+            (NodeKeeps (λ lease. Both db OnceAndRising both_grew k lease book) (length w.hosts) site.clock site.durable) is_up
+            (contents.sites k site get).node).1.1.image
 
         contained : IsListed book s.version
         contained =
@@ -319,15 +432,16 @@ module _ (safe : AreSafe cell_rules) (premises : Premises) (db : Database) where
       -- what comes to it
       abbrev Arrives : NodeEvent → Type 0
       Arrives (event.Packet p) = WasSent w.packets p × (place_of w.hosts p.to ≡ Some k)
+      Arrives (event.Ask id call) = Called k id call
       Arrives _ = Unit {0}
 
       arrives : (s : Server) (is_up : site.node ≡ Up s) (e : NodeEvent) → Arrives e →
-          Comes w book (versions_in before) keeps alone db k site s get is_up here.moment premises here.own (version_is s is_up) (held s is_up).kept
-          (is_ahead s is_up) e
+          Comes db Called w book (versions_in before) keeps alone k site s get is_up here.moment premises here.own (version_is s is_up)
+          (pure_is s is_up) (held s is_up).kept (is_ahead s is_up) e
       arrives s is_up (event.Packet p) is = is
       arrives s is_up event.BeaconTurn is = tt
       arrives s is_up event.RecoverTurn is = tt
-      arrives s is_up (event.Ask id call) is = tt
+      arrives s is_up (event.Ask id call) is = is
 
       step_leaves : (trigger : Trigger) (e : NodeEvent) (short : List Bool) → Arrives e →
           LeavesHere k site (step_at db (member w k) trigger e short site site.node)
@@ -336,17 +450,20 @@ module _ (safe : AreSafe cell_rules) (premises : Premises) (db : Database) where
           by : (node : Node) → site.node ≡ node → LeavesHere k site (step_at db (member w k) trigger e short site node)
           by Down is = (
             stays (only_marks site (lost_at trigger)) refl refl refl refl refl (λ s up. absurd (not_up site.node s is up))
-                (λ s up. absurd (not_up site.node s is up)) tt,
+                (λ s up. absurd (not_up site.node s is up)) tt (λ s up. absurd (not_up site.node s is up))
+                (λ s up. absurd (not_up site.node s is up)) tt (λ x since. tt),
             lost_silent trigger,
           )
           by (Halted r) is = (
             stays (halted_step site e) refl refl refl (refused_silent e) (refused_none e) (λ s up. absurd (not_halted site.node r s is up))
-                (λ s up. absurd (not_halted site.node r s is up)) (refused_oks book (announced_with (refusals e) (versions_in before)) e),
+                (λ s up. absurd (not_halted site.node r s is up)) (refused_oks book (announced_with (refusals e) (versions_in before)) e)
+                (λ s up. absurd (not_halted site.node r s is up))
+                (λ s up. absurd (not_halted site.node r s is up)) (refused_called e) (refused_served e),
             tt,
           )
           by (Up s) is = (
-            up_leaves w book (versions_in before) keeps alone db k site s get is here.moment premises here.own (version_is s is) (held s is).kept
-                (is_ahead s is) e short (arrives s is e comes),
+            up_leaves db Called w book (versions_in before) keeps alone k site s get is here.moment premises here.own (version_is s is)
+                (pure_is s is) (held s is).kept (is_ahead s is) e short (arrives s is e comes),
             tt,
           )
 
@@ -357,18 +474,20 @@ module _ (safe : AreSafe cell_rules) (premises : Premises) (db : Database) where
           by : (node : Node) → site.node ≡ node → LeavesHere k site (stop_at db (member w k) e short made site node)
           by Down is = (
             stays (only_marks site []) refl refl refl refl refl (λ s up. absurd (not_up site.node s is up))
-                (λ s up. absurd (not_up site.node s is up)) tt,
+                (λ s up. absurd (not_up site.node s is up)) tt (λ s up. absurd (not_up site.node s is up))
+                (λ s up. absurd (not_up site.node s is up)) tt (λ x since. tt),
             tt,
           )
           by (Halted r) is = (
             stays (stop_at db (member w k) e short made site (Halted r)) refl refl refl refl refl (λ s up. absurd (not_up Down s refl up))
-                (λ s up. absurd (not_up Down s refl up)) tt,
+                (λ s up. absurd (not_up Down s refl up)) tt (λ s up. absurd (not_up Down s refl up))
+                (λ s up. absurd (not_up Down s refl up)) tt (λ x since. tt),
             tt,
           )
           by (Up s) is = (
-            broken_leaves w book (versions_in before) keeps alone db k site s get is here.moment premises here.own (version_is s is) (held s is).kept
-                (is_ahead s is) e short made (stop_at db (member w k) e short made site (Up s)) (arrives s is e comes) refl refl refl refl
-                refl (λ u up. not_up Down u refl up) tt,
+            broken_leaves db Called w book (versions_in before) keeps alone k site s get is here.moment premises here.own (version_is s is)
+                (pure_is s is) (held s is).kept (is_ahead s is) e short made (stop_at db (member w k) e short made site (Up s))
+                (arrives s is e comes) refl refl refl refl refl (λ u up. not_up Down u refl up) tt tt (λ x since. tt),
             tt,
           )
 
@@ -379,32 +498,40 @@ module _ (safe : AreSafe cell_rules) (premises : Premises) (db : Database) where
           by : (node : Node) → site.node ≡ node → LeavesHere k site (fault_at db (member w k) e short made site node)
           by Down is = (
             stays (only_marks site []) refl refl refl refl refl (λ s up. absurd (not_up site.node s is up))
-                (λ s up. absurd (not_up site.node s is up)) tt,
+                (λ s up. absurd (not_up site.node s is up)) tt (λ s up. absurd (not_up site.node s is up))
+                (λ s up. absurd (not_up site.node s is up)) tt (λ x since. tt),
             tt,
           )
           by (Halted r) is = (
             stays (only_marks site []) refl refl refl refl refl (λ s up. absurd (not_halted site.node r s is up))
-                (λ s up. absurd (not_halted site.node r s is up)) tt,
+                (λ s up. absurd (not_halted site.node r s is up)) tt (λ s up. absurd (not_halted site.node r s is up))
+                (λ s up. absurd (not_halted site.node r s is up)) tt (λ x since. tt),
             tt,
           )
           by (Up s) is = (
-            broken_leaves w book (versions_in before) keeps alone db k site s get is here.moment premises here.own (version_is s is) (held s is).kept
-                (is_ahead s is) e short made (fault_at db (member w k) e short made site (Up s)) (arrives s is e comes) refl refl refl
-                (refused_silent e) (refused_none e) (λ u up. not_halted (Halted (halted_from s)) (halted_from s) u refl up)
+            broken_leaves db Called w book (versions_in before) keeps alone k site s get is here.moment premises here.own (version_is s is)
+                (pure_is s is) (held s is).kept (is_ahead s is) e short made (fault_at db (member w k) e short made site (Up s))
+                (arrives s is e comes) refl refl refl (refused_silent e) (refused_none e)
+                (λ u up. not_halted (Halted (halted_from s)) (halted_from s) u refl up)
                 (refused_oks (entered book (fault_at db (member w k) e short made site (Up s)).entries)
-                (announced_with (refusals e) (versions_in before)) e),
+                (announced_with (refusals e) (versions_in before)) e) (refused_called e) (refused_served e),
             tt,
           )
 
       crash_leaves : LeavesHere k site (crash_at site)
       crash_leaves = (
-        stays (crash_at site) refl refl refl refl refl (λ s up. absurd (not_up Down s refl up)) (λ s up. absurd (not_up Down s refl up)) tt,
+        stays (crash_at site) refl refl refl refl refl (λ s up. absurd (not_up Down s refl up)) (λ s up. absurd (not_up Down s refl up)) tt
+            (λ s up. absurd (not_up Down s refl up))
+            (λ s up. absurd (not_up Down s refl up)) tt (λ x since. tt),
         tt,
       )
 
       restart_leaves : (failed : Bool) → LeavesHere k site (restart_at (length w.hosts) k failed site)
-      restart_leaves true =
-          (stays (restart_at (length w.hosts) k true site) refl refl refl refl refl as_before (λ s up. keeps.flights k site s get up) tt, tt)
+      restart_leaves true = (
+        stays (restart_at (length w.hosts) k true site) refl refl refl refl refl as_before (λ s up. keeps.flights k site s get up) tt
+            (λ s up. keeps.beacons k site s get up) (λ s up. keeps.calls k site s get up) tt (λ x since. tt),
+        tt,
+      )
       restart_leaves false = (
         stays (restart_at (length w.hosts) k false site) refl refl refl refl refl
             (λ s up. let same : opened_server (length w.hosts) site.durable site.clock ≡ s = cc in
@@ -412,7 +539,12 @@ module _ (safe : AreSafe cell_rules) (premises : Premises) (db : Database) where
             (fresh (length w.hosts) site.clock site.durable w.hosts (versions_of w) w.packets (versions_in before) k refl
             (λ number asked. subst (λ (c : ℕ). number ≤ c) (ap clock_in get) (keeps.numbers k number asked))))
             (λ s up. let same : opened_server (length w.hosts) site.durable site.clock ≡ s = cc in
-            subst (λ (u : Server). FlightMade book u.version u.phase u.flight) same (λ f none. absurd (cc))) tt,
+            subst (λ (u : Server). FlightMade db book u.version u.phase u.flight) same (λ f none. absurd (cc))) tt
+            (λ s up. let same : opened_server (length w.hosts) site.durable site.clock ≡ s = cc in
+            subst (λ (u : Server). IsNamed (versions_in before) u.beacon) same tt)
+            (λ s up. let same : opened_server (length w.hosts) site.durable site.clock ≡ s = cc in
+            subst (λ (u : Server). CallsKnown (Called k) u.flight u.waiting) same (none_called (Called k) None refl, tt)) tt
+            (λ x since. tt),
         tt,
       )
 
@@ -437,28 +569,30 @@ module _ (safe : AreSafe cell_rules) (premises : Premises) (db : Database) where
         by None found is = absurd (cc)
         by (Some p) found is = at p found (place_of w.hosts p.to) refl is
 
-    arrives_by : (trigger : Trigger) (k : ℕ) (e : NodeEvent) (site : Site) (get : site_of w k ≡ Some site) →
-        occasion w trigger ≡ Some (k, e) → Arrives k site get e
-    arrives_by (Delivery number) k e site get is = delivers number k e site get is
-    arrives_by (Beacon_turn server) k e site get is =
+    arrives_by : (trigger : Trigger) → ((k id : ℕ) (call : List ℕ) → Asks trigger k id call → Called k id call) →
+        (k : ℕ) (e : NodeEvent) (site : Site) (get : site_of w k ≡ Some site) → occasion w trigger ≡ Some (k, e) → Arrives k site get e
+    arrives_by (Delivery number) asks k e site get is = delivers number k e site get is
+    arrives_by (Beacon_turn server) asks k e site get is =
         let pair : ◌≡◌ {A = ℕ × NodeEvent} (server, event.BeaconTurn) (k, e) = cc in
         subst (Arrives k site get) (ap (λ (q : ℕ × NodeEvent). q.1) pair) tt
-    arrives_by (Recover_turn server) k e site get is =
+    arrives_by (Recover_turn server) asks k e site get is =
         let pair : ◌≡◌ {A = ℕ × NodeEvent} (server, event.RecoverTurn) (k, e) = cc in
         subst (Arrives k site get) (ap (λ (q : ℕ × NodeEvent). q.1) pair) tt
-    arrives_by (Asking server id call) k e site get is =
+    arrives_by (Asking server id call) asks k e site get is =
         let pair : ◌≡◌ {A = ℕ × NodeEvent} (server, event.Ask id call) (k, e) = cc in
-        subst (Arrives k site get) (ap (λ (q : ℕ × NodeEvent). q.1) pair) tt
+        subst (Arrives k site get) (ap (λ (q : ℕ × NodeEvent). q.1) pair)
+        (subst (λ (i : ℕ). Called i id call) (ap (λ (q : ℕ × NodeEvent). q.0) pair) (asks server id call (refl, refl, refl)))
 
-    at_trigger : (trigger : Trigger) (f : Member → NodeEvent → Site → SiteHappened) →
+    at_trigger : (trigger : Trigger) → ((k id : ℕ) (call : List ℕ) → Asks trigger k id call → Called k id call) →
+        (f : Member → NodeEvent → Site → SiteHappened) →
         ((k : ℕ) (e : NodeEvent) (site : Site) (get : site_of w k ≡ Some site) → Arrives k site get e →
         LeavesHere k site (f (member w k) e site)) → Keeps (triggered w f (occasion w trigger))
-    at_trigger trigger f leaves = by (occasion w trigger) refl
+    at_trigger trigger asks f leaves = by (occasion w trigger) refl
       where
         by : (o : Option (ℕ × NodeEvent)) → occasion w trigger ≡ o → Keeps (triggered w f o)
-        by None is = (keeps, tt)
+        by None is = λ once. (keeps, tt, tt, λ j. at_most_same (versions_of w j), tt)
         by (Some o) is =
-            at_server o.0 (f (member w o.0) o.1) (λ site get. leaves o.0 o.1 site get (arrives_by trigger o.0 o.1 site get is))
+            at_server o.0 (f (member w o.0) o.1) (λ site get. leaves o.0 o.1 site get (arrives_by trigger asks o.0 o.1 site get is))
 
     -- ---- later clocks
 
@@ -492,7 +626,7 @@ module _ (safe : AreSafe cell_rules) (premises : Premises) (db : Database) where
     ticked_keeps : (sites : List Site) → LaterSites w.sites sites →
         ((j : ℕ) → version_in (slice_get sites j) ≡ version_in (slice_get w.sites j)) →
         ((j : ℕ) → clock_in (slice_get w.sites j) ≤ clock_in (slice_get sites j)) →
-        OrderKept (record w { sites = sites }) book (versions_in before)
+        OrderKept db Called (record w { sites = sites }) book (versions_in before)
     ticked_keeps sites later same clocks = record {
       ordered = keeps.ordered;
       kept = kept_map w.hosts w.packets (versions_of w) (versions_of (record w { sites = sites })) more keeps.kept;
@@ -506,6 +640,11 @@ module _ (safe : AreSafe cell_rules) (premises : Premises) (db : Database) where
       servers = λ k z s get up. by k z s up (later k z get);
       flights = λ k z s get up.
           (let old = later k z get in keeps.flights k old.0 s old.1 (sym old.4 ∙ up));
+      names = keeps.names;
+      beacons = λ k z s get up.
+          (let old = later k z get in keeps.beacons k old.0 s old.1 (sym old.4 ∙ up));
+      calls = λ k z s get up.
+          (let old = later k z get in keeps.calls k old.0 s old.1 (sym old.4 ∙ up));
     }
       where
         more : (j : ℕ) → AtMost (versions_of w j) (versions_of (record w { sites = sites }) j)
@@ -519,26 +658,32 @@ module _ (safe : AreSafe cell_rules) (premises : Premises) (db : Database) where
             (server_map w.hosts (versions_of w) (versions_of (record w { sites = sites })) w.packets (versions_in before) k old.0.clock s
             more (keeps.servers k old.0 s old.1 (sym old.4 ∙ up)))
 
-    pub happens_orders : (e : Event) → Keeps (happens db w e)
-    happens_orders (Tick server seconds) = (
+    pub happens_orders : (e : Event) → ((k id : ℕ) (call : List ℕ) → AsksIn e k id call → Called k id call) → Keeps (happens db w e)
+    happens_orders (Tick server seconds) asks = λ once. (
       ticked_keeps (tick_at w.sites server seconds) (ticked_one w.sites server seconds) (tick_version w.sites server seconds)
           (tick_clock w.sites server seconds),
       tt,
+      tt,
+      λ j. subst (AtMost (versions_of w j)) (sym (tick_version w.sites server seconds j)) (at_most_same (versions_of w j)),
+      tt,
     )
-    happens_orders (Tick_all seconds) = (
+    happens_orders (Tick_all seconds) asks = λ once. (
       ticked_keeps (map (ticked seconds) w.sites) (ticked_each w.sites seconds) (each_version w.sites seconds)
           (each_clock w.sites seconds),
       tt,
+      tt,
+      λ j. subst (AtMost (versions_of w j)) (sym (each_version w.sites seconds j)) (at_most_same (versions_of w j)),
+      tt,
     )
-    happens_orders (Step trigger short) =
-        at_trigger trigger (λ m e site. step_at db m trigger e short site site.node)
+    happens_orders (Step trigger short) asks =
+        at_trigger trigger asks (λ m e site. step_at db m trigger e short site site.node)
         (λ k e site get comes. step_leaves k site get trigger e short comes)
-    happens_orders (Stop trigger short made) =
-        at_trigger trigger (λ m e site. stop_at db m e short made site site.node)
+    happens_orders (Stop trigger short made) asks =
+        at_trigger trigger asks (λ m e site. stop_at db m e short made site site.node)
         (λ k e site get comes. stop_leaves k site get e short made comes)
-    happens_orders (Fault trigger short made) =
-        at_trigger trigger (λ m e site. fault_at db m e short made site site.node)
+    happens_orders (Fault trigger short made) asks =
+        at_trigger trigger asks (λ m e site. fault_at db m e short made site site.node)
         (λ k e site get comes. fault_leaves k site get e short made comes)
-    happens_orders (Crash server) = at_server server crash_at (λ site get. crash_leaves server site get)
-    happens_orders (Restart server failed) =
+    happens_orders (Crash server) asks = at_server server crash_at (λ site get. crash_leaves server site get)
+    happens_orders (Restart server failed) asks =
         at_server server (restart_at (length w.hosts) server failed) (λ site get. restart_leaves server site get failed)

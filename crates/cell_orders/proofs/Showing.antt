@@ -1,5 +1,5 @@
 -- What is put out keeps what holds in the midst of a step; and so do all moves.
-use Rattle.std.proofs.Common.{Bool, true, ◌≡◌, ◌⊎◌, inl, inr, ℕ, ◌<◌, ◌≤◌, List, ◌++◌}
+use Rattle.std.proofs.Common.{Bool, true, ◌≡◌, ◌⊎◌, inl, inr, ℕ, ◌<◌, ◌≤◌, List, [], ◌∷◌, ◌++◌}
 use Rattle.std.proofs.Common.{refl, sym, ap, subst, ◌∙◌, arith}
 use Rattle.std.specs.Prelude.{Option, Some, None, slice_get}
 use Rattle.ubik_types.specs.declared.versions.Version.{Version}
@@ -17,9 +17,14 @@ use Rattle.cell_orders.specs.Midst.{version_at, HeldInStep, HasGrown, MidStep}
 use Rattle.cell_orders.specs.OrderMoves.{OrderMoves}
 use Rattle.cell_orders.specs.Orders.{last_announced, WasSent}
 use Rattle.cell_orders.specs.Orders.{AsksUnder, IsAsked, IsAnswered, NamesAtMost, KeptIsKept, IsTo, AnswersAsked, NumbersPast, Premises}
-use Rattle.cell_orders.specs.Orders.{NumbersUpTo, PollKeeps, IsCounted, LeaderStands}
+use Rattle.cell_orders.specs.Orders.{NumbersUpTo, PollKeeps, IsCounted, LeaderStands, IsLast, ServesLast}
 use Rattle.cell_orders.proofs.Orderings.{sent_left, sent_cases, shown_fits, nothing_announced, answers_map}
 use Rattle.cell_orders.proofs.Moving as moving
+
+serves_last : (announced : List Version) (own v : Version) → IsLast announced v → AtMost (last_announced announced) own →
+    IsLast announced v × AtMost v own
+serves_last [] own v last most = absurd last
+serves_last (u ∷ earlier) own v last most = (last, subst (λ (x : Version). AtMost x own) last most)
 
 -- ---- packets that are put out
 
@@ -259,4 +264,7 @@ module _ (m : Member) (now : ℕ) (lease : Bool) (V : ℕ → Version) (C : ℕ 
         poll = moving.poll_moves m now lease V C before some premises clock own_place;
         version = moving.version_moves m now lease V C before some premises clock own_place;
         shows = λ h c shown all is. shows_in h c shown all is;
+        serves = λ h c poll spread announced leased at is. serves_last h.announced c.version announced
+            (subst (ServesLast h.announced) at (is.leading leased).serves)
+            (subst (LeaderStands m.me (IsAnswered m.hosts h.packets m.me) h.announced c.version) at (is.leading leased).stands);
       }

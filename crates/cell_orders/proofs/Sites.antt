@@ -8,6 +8,7 @@ use Rattle.ubik_types.specs.declared.versions.Version.{Version}
 use Rattle.ubik_types.specs.Lease.{is_in_lease, lease_end}
 use Rattle.ubik_types.specs.Phase.{PhaseRecord, NoPhase, Poll, Fetch, Relabel, Send, Ready}
 use Rattle.ubik_calls.specs.declared.packets.Packet.{Packet}
+use Rattle.db_image.specs.Database.{Database}
 use Rattle.cell_model.specs.Book.{Book, entered, clock_in, clock_at}
 use Rattle.cell_model.specs.Node.{Up, Server, Flight}
 use Rattle.cell_model.specs.World.{World, Site, Entry, SiteHappened, packets_of, happened_at, member, site_of}
@@ -16,16 +17,21 @@ use Rattle.cell_laws.proofs.Worlds.{site_either}
 use Rattle.cell_pages.specs.Parts.{AtMost}
 use Rattle.cell_pages.specs.Passes.{is_held}
 use Rattle.cell_pages.proofs.Versions.{at_most_same}
+use Rattle.cell_pages.specs.Laws.{MadeOnce, KeepsLists}
 use Rattle.cell_pages.specs.Moves.{transaction_of}
-use Rattle.cell_orders.specs.Acknowledged.{FlightMade, IsLevel, AllOks}
+use Rattle.cell_orders.specs.Asked.{CallsKnown, AllCalled}
+use Rattle.cell_orders.specs.Acknowledged.{IsAnnounced, FlightMade, IsLevel, AllOks}
 use Rattle.cell_orders.specs.Histories.{stand_of, History, announced_with, number_of}
 use Rattle.cell_orders.specs.Kept.{version_in, versions_of, ServerKeeps, OrderKept}
 use Rattle.cell_orders.specs.Midst.{version_at, HeldInStep, HasGrown, MidStep}
-use Rattle.cell_orders.specs.Orders.{last_announced, IsOrdered, HasMajority, IsAsked, IsAnswered, KeptIsKept, AnswersAsked, NumbersPast}
+use Rattle.cell_orders.specs.Orders.{last_announced, IsOrdered, HasMajority, WasSent, IsAsked, IsAnswered, KeptIsKept, AnswersAsked, NumbersPast}
 use Rattle.cell_orders.specs.Orders.{NumbersUpTo, HeldSince, PhaseKeeps, PollKeeps, IsCounted, LeaderStands, IsLeading}
+use Rattle.cell_orders.specs.Served.{Names, IsNamed, EndsIn, Beyond, AllServed}
+use Rattle.cell_orders.proofs.Lists.{keeps_lists}
 use Rattle.cell_orders.proofs.Moving.{leads_on}
-use Rattle.cell_orders.proofs.Telling.{entered_made}
-use Rattle.cell_orders.proofs.Orderings.{at_most_then, kept_map, majority_map, answers_map}
+use Rattle.cell_orders.proofs.Serving.{flown_later, ends_itself, names_later, named_later, named_with, served_names}
+use Rattle.cell_orders.proofs.Telling.{announced_more, entered_made}
+use Rattle.cell_orders.proofs.Orderings.{sent_cases, at_most_then, kept_map, majority_map, answers_map}
 
 -- ---- durable versions that rise
 
@@ -59,7 +65,7 @@ server_map hosts V W packets announced k clock s more is = record {
 
 -- ---- one server is another one
 
-set_same : (sites : List Site) (k : ℕ) (y z : Site) → slice_get sites k ≡ Some y → slice_get (set sites k z) k ≡ Some z
+pub set_same : (sites : List Site) (k : ℕ) (y z : Site) → slice_get sites k ≡ Some y → slice_get (set sites k z) k ≡ Some z
 set_same [] k y z is = absurd (cc)
 set_same (x ∷ sites) zero y z is = refl
 set_same (x ∷ sites) (suc k) y z is = set_same sites k y z is
@@ -75,10 +81,13 @@ eq_false : (a b : ℕ) → (a == b) ≡ false → a ≡ b → ⊥
 eq_false a b is same = grind (arith, nat_tests)
 
 -- a flight made its version in a longer book too
-pub flight_more : (book : Book) (entries : List Entry) (v : Version) (phase : PhaseRecord) (flight : Option Flight) →
-    FlightMade book v phase flight → FlightMade (entered book entries) v phase flight
-flight_more book entries v phase flight is f some =
-    ((is f some).0, entered_made book entries v (transaction_of f.began f.call) (is f some).1)
+pub flight_more : (db : Database) (book : Book) (entries : List Entry) (v : Version) (phase : PhaseRecord) (flight : Option Flight) →
+    KeepsLists book (entered book entries) → FlightMade db book v phase flight → FlightMade db (entered book entries) v phase flight
+flight_more db book entries v phase flight keeps is f some = (
+  (is f some).0,
+  entered_made book entries v (transaction_of f.began f.call) (is f some).1,
+  flown_later db book (entered book entries) v phase f keeps (is f some).2,
+)
 
 within : (p now until : ℕ) → p ≤ now → now ≤ until → (p ≤ now) × (p ≤ until)
 within p now until first second = (first, omega arith)
@@ -89,7 +98,7 @@ numbers_from : (A B : ℕ → Type 0) (opened now : ℕ) (o : Option ℕ) → ((
 numbers_from A B opened now None f is = λ number asked. is number (f number asked)
 numbers_from A B opened now (Some p) f is = λ number asked. is number (f number asked)
 
-module _ (w : World) (book : Book) (announced : List Version) (keeps : OrderKept w book announced)
+module _ (db : Database) (Called : ℕ → ℕ → List ℕ → Type 0) (w : World) (book : Book) (announced : List Version) (keeps : OrderKept db Called w book announced)
     (alone : (j k : ℕ) (y z : Site) (s u : Server) → site_of w j ≡ Some y → site_of w k ≡ Some z → y.node ≡ Up s → z.node ≡ Up u →
     (j ≡ k → ⊥) → is_in_lease (length w.hosts) s.starts y.clock ≡ true → is_in_lease (length w.hosts) u.starts z.clock ≡ true → ⊥) where
   abbrev n : ℕ
@@ -110,8 +119,13 @@ module _ (w : World) (book : Book) (announced : List Version) (keeps : OrderKept
     pub server : (s : Server) → h.site.node ≡ Up s →
         ServerKeeps w.hosts (version_at (versions_of w) k h.site.durable.version) (w.packets ++ packets_of h.shown)
         (announced_with h.shown announced) k site.clock s
-    pub flight : (s : Server) → h.site.node ≡ Up s → FlightMade (entered book h.entries) s.version s.phase s.flight
+    pub flight : (s : Server) → h.site.node ≡ Up s → FlightMade db (entered book h.entries) s.version s.phase s.flight
     pub oks : AllOks (entered book h.entries) (announced_with h.shown announced) h.shown
+    pub beacon : (s : Server) → h.site.node ≡ Up s → IsNamed (announced_with h.shown announced) s.beacon
+    pub calls : (s : Server) → h.site.node ≡ Up s → CallsKnown (Called k) s.flight s.waiting
+    pub called : AllCalled (Called k) h.shown
+    pub served : MadeOnce (entered book h.entries) → (since : List Version) → EndsIn since announced →
+        AllServed db (record { book = entered book h.entries; top = h.site.durable.version }) since announced h.shown
 
   module _ (k : ℕ) (site : Site) (h : SiteHappened) (get : site_of w k ≡ Some site) (leaves : Leaves k site h) where
     abbrev later : World
@@ -130,7 +144,7 @@ module _ (w : World) (book : Book) (announced : List Version) (keeps : OrderKept
             subst (λ (o : Option Site). AtMost (versions_of w j) (version_in o)) (sym (set_other w.sites k j h.site (eq_false j k is)))
             (at_most_same (versions_of w j))
 
-    version_rises : (j : ℕ) → AtMost (versions_of w j) (versions_of later j)
+    pub version_rises : (j : ℕ) → AtMost (versions_of w j) (versions_of later j)
     version_rises j =
         at_most_then (versions_of w j) (version_at (versions_of w) k h.site.durable.version j) (versions_of later j) (by (j == k) refl)
         (version_later j)
@@ -239,8 +253,12 @@ module _ (w : World) (book : Book) (announced : List Version) (keeps : OrderKept
         (server_map w.hosts (version_at (versions_of w) k h.site.durable.version) (versions_of later) packets after k site.clock s
         version_later (leaves.server s (ap (λ (y : Site). y.node) (sym is) ∙ up))))
 
-    pub happened_keeps : OrderKept (happened_at w k h).world (entered book h.entries) (announced_with h.shown announced)
-    happened_keeps = record {
+    more_told : (v : Version) → IsAnnounced announced v → IsAnnounced (announced_with h.shown announced) v
+    more_told v told = announced_more h.shown announced v told
+
+    pub happened_keeps : MadeOnce (entered book h.entries) →
+        OrderKept db Called (happened_at w k h).world (entered book h.entries) (announced_with h.shown announced)
+    happened_keeps once = record {
       ordered = leaves.ordered;
       kept = kept_map w.hosts packets (version_at (versions_of w) k h.site.durable.version) (versions_of later) version_later leaves.kept;
       asked = leaves.asked;
@@ -252,14 +270,37 @@ module _ (w : World) (book : Book) (announced : List Version) (keeps : OrderKept
           majority_map n (version_at (versions_of w) k h.site.durable.version) (versions_of later) after version_later leaves.majority;
       servers = λ j z s at up. by j z s up (site_either w.sites k j h.site z at);
       flights = λ j z s at up. flown j z s up (site_either w.sites k j h.site z at);
+      names = λ p sent. named p (sent_cases w.packets (packets_of h.shown) p sent);
+      beacons = λ j z s at up. beacon j z s up (site_either w.sites k j h.site z at);
+      calls = λ j z s at up. calls j z s up (site_either w.sites k j h.site z at);
     }
       where
         flown : (j : ℕ) (z : Site) (s : Server) → z.node ≡ Up s →
             ((j ≡ k) × (z ≡ h.site)) ⊎ ((j ≡ k → ⊥) × (slice_get w.sites j ≡ Some z)) →
-            FlightMade (entered book h.entries) s.version s.phase s.flight
+            FlightMade db (entered book h.entries) s.version s.phase s.flight
         flown j z s up (inl own) = leaves.flight s (ap (λ (y : Site). y.node) (sym own.1) ∙ up)
         flown j z s up (inr other) =
-            flight_more book h.entries s.version s.phase s.flight (keeps.flights j z s other.1 up)
+            flight_more db book h.entries s.version s.phase s.flight (keeps_lists book h.entries once) (keeps.flights j z s other.1 up)
+
+        named : (p : Packet) → WasSent w.packets p ⊎ WasSent (packets_of h.shown) p → Names (announced_with h.shown announced) p.body
+        named p (inl old) = names_later announced (announced_with h.shown announced) p.body more_told (keeps.names p old)
+        named p (inr new) =
+            served_names db (record { book = entered book h.entries; top = h.site.durable.version }) announced announced h.shown p
+            (leaves.served once announced (ends_itself announced)) new
+
+        calls : (j : ℕ) (z : Site) (s : Server) → z.node ≡ Up s →
+            ((j ≡ k) × (z ≡ h.site)) ⊎ ((j ≡ k → ⊥) × (slice_get w.sites j ≡ Some z)) → CallsKnown (Called j) s.flight s.waiting
+        calls j z s up (inl own) =
+            subst (λ (i : ℕ). CallsKnown (Called i) s.flight s.waiting) (sym own.0)
+            (leaves.calls s (ap (λ (y : Site). y.node) (sym own.1) ∙ up))
+        calls j z s up (inr other) = keeps.calls j z s other.1 up
+
+        beacon : (j : ℕ) (z : Site) (s : Server) → z.node ≡ Up s →
+            ((j ≡ k) × (z ≡ h.site)) ⊎ ((j ≡ k → ⊥) × (slice_get w.sites j ≡ Some z)) →
+            IsNamed (announced_with h.shown announced) s.beacon
+        beacon j z s up (inl own) = leaves.beacon s (ap (λ (y : Site). y.node) (sym own.1) ∙ up)
+        beacon j z s up (inr other) =
+            named_later announced (announced_with h.shown announced) s.beacon more_told (keeps.beacons j z s other.1 up)
 
         by : (j : ℕ) (z : Site) (s : Server) → z.node ≡ Up s →
             ((j ≡ k) × (z ≡ h.site)) ⊎ ((j ≡ k → ⊥) × (slice_get w.sites j ≡ Some z)) →
@@ -274,9 +315,12 @@ module _ (w : World) (book : Book) (announced : List Version) (keeps : OrderKept
         AtMost site.durable.version h.site.durable.version → announced_with h.shown announced ≡ announced →
         w.packets ++ packets_of h.shown ≡ w.packets →
         ((s : Server) → h.site.node ≡ Up s → ServerKeeps w.hosts (versions_of w) w.packets announced k site.clock s) →
-        ((s : Server) → h.site.node ≡ Up s → FlightMade (entered book h.entries) s.version s.phase s.flight) →
-        AllOks (entered book h.entries) (announced_with h.shown announced) h.shown → Leaves k site h
-    quiet_leaves clock ordered more same_announced same_packets server flight oks =
+        ((s : Server) → h.site.node ≡ Up s → FlightMade db (entered book h.entries) s.version s.phase s.flight) →
+        AllOks (entered book h.entries) (announced_with h.shown announced) h.shown →
+        ((s : Server) → h.site.node ≡ Up s → IsNamed announced s.beacon) →
+        ((s : Server) → h.site.node ≡ Up s → CallsKnown (Called k) s.flight s.waiting) → AllCalled (Called k) h.shown →
+        ((x : Beyond) (since : List Version) → AllServed db x since announced h.shown) → Leaves k site h
+    quiet_leaves clock ordered more same_announced same_packets server flight oks beacon calls called served =
         whole (subst (λ (a : List Version). Of a (w.packets ++ packets_of h.shown)) (sym same_announced)
         (subst (λ (p : List Packet). Of announced p) (sym same_packets) here))
       where
@@ -335,6 +379,10 @@ module _ (w : World) (book : Book) (announced : List Version) (keeps : OrderKept
           server = all.6;
           flight = flight;
           oks = oks;
+          beacon = λ s up. named_with h.shown announced s.beacon (beacon s up);
+          calls = calls;
+          called = called;
+          served = λ once since ends. served (record { book = entered book h.entries; top = h.site.durable.version }) since;
         }
 
   -- ---- a step of a server that is up

@@ -24,6 +24,7 @@ use Rattle.cell_model.specs.Step.{Shown, Stepped, host_at}
 use Rattle.cell_model.specs.World.{World, Site, Entry, SiteHappened, entries_from, packets_of, step_up, member, site_of}
 use Rattle.cell_laws.specs.Invariant.{AllVersions}
 use Rattle.cell_laws.proofs.Parts.{eq_true}
+use Rattle.cell_pages.specs.Images.{IsImageOf}
 use Rattle.cell_pages.specs.Parts.{AtMost, KeptLeadsOn}
 use Rattle.cell_pages.proofs.Leading.{after_version}
 use Rattle.cell_pages.proofs.Versions.{at_most_same}
@@ -34,6 +35,9 @@ use Rattle.cell_orders.specs.Midst.{version_at, IsAhead, HeldInStep, HasGrown, M
 use Rattle.cell_orders.specs.OrderMoves.{OrderMoves}
 use Rattle.cell_orders.specs.Orders.{AllAnnounced, IsListed, FollowFrom, IsOrdered, HasMajority, WasSent, AsksUnder, IsAsked, IsAnswered}
 use Rattle.cell_orders.specs.Orders.{NamesAtMost, KeptIsKept, HeldSince, Premises}
+use Rattle.cell_orders.specs.Asked.{CallsKnown, AllCalled}
+use Rattle.cell_orders.specs.Served.{IsNamed, Beyond, AllServed}
+use Rattle.cell_orders.proofs.Serving.{EventNames}
 use Rattle.cell_orders.proofs.Showing.{order_moves}
 use Rattle.cell_orders.proofs.Orderings.{at_most_then, at_most_lt, announced_map, listed_more, kept_map, majority_map}
 use Rattle.cell_orders.proofs.Sites.{server_map, Leaves, quiet_leaves, mid_server}
@@ -130,7 +134,8 @@ ordered_first book announced k v t count old new = record {
 -- ---- packets that come
 
 -- what a packet of server j brings to server k
-module _ (w : World) (book : Book) (announced : List Version) (keeps : OrderKept w book announced) (k : ℕ) (p : Packet)
+module _ (db : Database) (Called : ℕ → ℕ → List ℕ → Type 0) (w : World) (book : Book) (announced : List Version)
+    (keeps : OrderKept db Called w book announced) (k : ℕ) (p : Packet)
     (sent : WasSent w.packets p) (to : place_of w.hosts p.to ≡ Some k) (j : ℕ) (from : place_of w.hosts p.from ≡ Some j) where
   abbrev Brought : Body → Type 0
   Brought b =
@@ -167,14 +172,14 @@ held_at_first now until lease None over held = tt
 held_at_first now until lease (Some p) over held =
     (held.0, λ is. (let first : p ≤ until = held.1 in let second : until < now = over is in omega arith))
 
-module _ (w : World) (book : Book) (announced : List Version) (keeps : OrderKept w book announced)
+module _ (db : Database) (Called : ℕ → ℕ → List ℕ → Type 0) (w : World) (book : Book) (announced : List Version) (keeps : OrderKept db Called w book announced)
     (alone : (j k : ℕ) (y z : Site) (s u : Server) → site_of w j ≡ Some y → site_of w k ≡ Some z → y.node ≡ Up s → z.node ≡ Up u →
     (j ≡ k → ⊥) → is_in_lease (length w.hosts) s.starts y.clock ≡ true → is_in_lease (length w.hosts) u.starts z.clock ≡ true → ⊥)
-    (db : Database) (k : ℕ) (site : Site) (s : Server) (get : site_of w k ≡ Some site) (is_up : site.node ≡ Up s)
+    (k : ℕ) (site : Site) (s : Server) (get : site_of w k ≡ Some site) (is_up : site.node ≡ Up s)
     (moment : 0 < site.clock) (premises : Premises) (own : place_of w.hosts (host_at w.hosts k) ≡ Some k) (version : site.durable.version ≡ s.version)
-    (leads : KeptLeadsOn s.version s.kept)
+    (pure : IsImageOf db book s.version s.image) (leads : KeptLeadsOn s.version s.kept)
     (ahead : is_in_lease (length w.hosts) s.starts site.clock ≡ true → IsAhead site.clock book s.version s.phase) where
-  flown : FlightMade book s.version s.phase s.flight
+  flown : FlightMade db book s.version s.phase s.flight
   flown = keeps.flights k site s get is_up
 
   abbrev lease : Bool
@@ -247,45 +252,53 @@ module _ (w : World) (book : Book) (announced : List Version) (keeps : OrderKept
   -- what an event brings
   abbrev pub Comes : NodeEvent → Type 0
   Comes (event.Packet p) = WasSent w.packets p × (place_of w.hosts p.to ≡ Some k)
+  Comes (event.Ask id call) = Called k id call
   Comes _ = Unit {0}
 
   abbrev Ending : Stepped → Type 0
   Ending t =
-      Ends db (member w k) site.clock s.starts (λ i number. IsAsked w.hosts w.packets i number)
+      Ends db (member w k) site.clock s.starts (Called k) (λ i number. IsAsked w.hosts w.packets i number)
       (λ i number v. IsAnswered w.hosts w.packets k i number v) (λ i v. AtMost v (versions_of w i))
       (MidStep (member w k) site.clock (is_in_lease (length w.hosts) s.starts site.clock) (versions_of w) (clock_at w)
       (record { book = book; announced = announced; packets = w.packets })) moves
       (record { book = book; announced = announced; packets = w.packets }) s.version t
 
   comes : (e : NodeEvent) → Comes e →
-      EventBrings db (member w k) site.clock s.starts (λ i number. IsAsked w.hosts w.packets i number)
+      EventBrings db (member w k) site.clock s.starts (Called k) (λ i number. IsAsked w.hosts w.packets i number)
       (λ i number v. IsAnswered w.hosts w.packets k i number v) (λ i v. AtMost v (versions_of w i))
       (MidStep (member w k) site.clock (is_in_lease (length w.hosts) s.starts site.clock) (versions_of w) (clock_at w)
       (record { book = book; announced = announced; packets = w.packets })) moves e
-  comes (event.Packet p) is = λ j from. brought w book announced keeps k p is.0 is.1 j from p.body refl
+  comes (event.Packet p) is = λ j from. brought db Called w book announced keeps k p is.0 is.1 j from p.body refl
   comes event.BeaconTurn is = tt
   comes event.RecoverTurn is = tt
-  comes (event.Ask id call) is = tt
+  comes (event.Ask id call) is = is
+
+  comes_named : (e : NodeEvent) → Comes e → EventNames announced e
+  comes_named (event.Packet p) is = keeps.names p is.0
+  comes_named event.BeaconTurn is = tt
+  comes_named event.RecoverTurn is = tt
+  comes_named (event.Ask id call) is = tt
 
   ends : (e : NodeEvent) (short : List Bool) → Comes e → Ending (step_of db (member w k) s site.clock e short)
   ends e short is =
-      step_ends db (member w k) site.clock s.starts (λ i number. IsAsked w.hosts w.packets i number)
+      step_ends db (member w k) site.clock s.starts (Called k) (λ i number. IsAsked w.hosts w.packets i number)
       (λ i number v. IsAnswered w.hosts w.packets k i number v) (λ i v. AtMost v (versions_of w i))
       (MidStep (member w k) site.clock (is_in_lease (length w.hosts) s.starts site.clock) (versions_of w) (clock_at w)
       (record { book = book; announced = announced; packets = w.packets })) moves
-      (record { book = book; announced = announced; packets = w.packets }) s e short refl leads flown before.level (comes e is) begun
+      (record { book = book; announced = announced; packets = w.packets }) s e short refl leads flown before.level
+      (keeps.beacons k site s get is_up) (keeps.calls k site s get is_up) pure (comes e is) (comes_named e is) begun
 
   rising_here : (calls : List Made) (last : Version) → Rising s.version calls last → Rising site.durable.version calls last
   rising_here calls last rising = subst (λ (v : Version). Rising v calls last) (sym version) rising
 
   pub up_leaves : (e : NodeEvent) (short : List Bool) → Comes e →
-      Leaves w book announced keeps alone k site (step_up k site e s.version (step_of db (member w k) s site.clock e short))
+      Leaves db Called w book announced keeps alone k site (step_up k site e s.version (step_of db (member w k) s site.clock e short))
   up_leaves e short is = whole (ends e short is)
     where
       t : Stepped
       t = step_of db (member w k) s site.clock e short
 
-      whole : Ending t → Leaves w book announced keeps alone k site (step_up k site e s.version t)
+      whole : Ending t → Leaves db Called w book announced keeps alone k site (step_up k site e s.version t)
       whole end = record {
         clock = refl;
         ordered = end.keeps.ordered;
@@ -308,11 +321,25 @@ module _ (w : World) (book : Book) (announced : List Version) (keeps : OrderKept
             subst
             (λ (u : Server). ServerKeeps w.hosts (version_at (versions_of w) k (durable_after_all site.durable t.calls).version)
             (w.packets ++ packets_of t.shown) (announced_with t.shown announced) k site.clock u) same
-            (mid_server w book announced keeps alone k site.clock (is_in_lease (length w.hosts) s.starts site.clock) _ t.server
+            (mid_server db Called w book announced keeps alone k site.clock (is_in_lease (length w.hosts) s.starts site.clock) _ t.server
             (durable_after_all site.durable t.calls).version (sym last) end.held end.level end.keeps);
         flight = λ u up. let same : t.server ≡ u = cc in
-            subst (λ (u : Server). FlightMade (entered book (entries_from k s.version t.calls)) u.version u.phase u.flight) same end.flight;
+            subst (λ (u : Server). FlightMade db (entered book (entries_from k s.version t.calls)) u.version u.phase u.flight) same end.flight;
         oks = end.oks;
+        beacon = λ u up. let same : t.server ≡ u = cc in
+            subst (λ (u : Server). IsNamed (announced_with t.shown announced) u.beacon) same end.beacon;
+        calls = λ u up. let same : t.server ≡ u = cc in
+            subst (λ (u : Server). CallsKnown (Called k) u.flight u.waiting) same end.calls;
+        called = end.called;
+        served = λ once since ends.
+            end.served
+            (record { book = entered book (entries_from k s.version t.calls); top = (durable_after_all site.durable t.calls).version }) since
+            (record {
+              once = once;
+              newer = [];
+              grew = refl;
+              most = subst (AtMost t.server.version) (sym last) (at_most_same t.server.version);
+            }) (subst (λ (v : Version). AtMost v t.server.version) (sym last) (at_most_same t.server.version)) ends;
       }
         where
           last : (durable_after_all site.durable t.calls).version ≡ t.server.version
@@ -325,18 +352,20 @@ module _ (w : World) (book : Book) (announced : List Version) (keeps : OrderKept
       after.site.durable ≡ durable_after_all site.durable (take made (step_of db (member w k) s site.clock e short).calls) →
       announced_with after.shown announced ≡ announced → packets_of after.shown ≡ [] →
       ((u : Server) → after.site.node ≡ Up u → ⊥) → AllOks (entered book after.entries) (announced_with after.shown announced) after.shown →
-      Leaves w book announced keeps alone k site after
-  broken_leaves e short made after is clock entries durable same_announced no_packets down oks = whole (ends e short is)
+      AllCalled (Called k) after.shown → ((x : Beyond) (since : List Version) → AllServed db x since announced after.shown) →
+      Leaves db Called w book announced keeps alone k site after
+  broken_leaves e short made after is clock entries durable same_announced no_packets down oks called served = whole (ends e short is)
     where
       t : Stepped
       t = step_of db (member w k) s site.clock e short
 
-      whole : Ending t → Leaves w book announced keeps alone k site after
+      whole : Ending t → Leaves db Called w book announced keeps alone k site after
       whole end =
-          quiet_leaves w book announced keeps alone k site after get clock
+          quiet_leaves db Called w book announced keeps alone k site after get clock
           (subst (λ (es : List Entry). IsOrdered (entered book es) announced) (sym entries)
           (ordered_first book announced k s.version t made keeps.ordered end.keeps.ordered))
           (subst (λ (d : Durable). AtMost site.durable.version d.version) (sym durable)
           (risen_first site.durable t.calls t.server.version made (rising_here t.calls t.server.version end.rising)))
           same_announced (ap (λ (ps : List Packet). w.packets ++ ps) no_packets ∙ append-nil w.packets)
-          (λ u up. absurd (down u up)) (λ u up. absurd (down u up)) oks
+          (λ u up. absurd (down u up)) (λ u up. absurd (down u up)) oks (λ u up. absurd (down u up))
+          (λ u up. absurd (down u up)) called served

@@ -1,5 +1,5 @@
 -- What is put out one behind the other, and durable calls that follow one another.
-use Rattle.std.proofs.Common.{Bool, true, false, cond, ◌==◌, ◌≡◌, inr, ℕ, ◌+◌, List, [], ◌∷◌, ◌++◌, map, refl}
+use Rattle.std.proofs.Common.{Bool, true, false, cond, ◌==◌, ◌≡◌, inr, ℕ, zero, suc, ◌+◌, List, [], ◌∷◌, ◌++◌, map, refl}
 use Rattle.std.proofs.Common.{sym, ap, subst, ◌∙◌}
 use Rattle.std.proofs.Common.{append_assoc}
 use Rattle.std.proofs.lemmas.List.Elements.{filter_map-append}
@@ -12,17 +12,19 @@ use Rattle.ubik_types.specs.Version.{version_lt}
 use Rattle.ubik_calls.specs.declared.packets.Body.{Body}
 use Rattle.ubik_calls.specs.declared.packets.Packet.{Packet}
 use Rattle.ubik_calls.specs.declared.replies.Reply.{Reply}
-use Rattle.db_image.specs.declared.services.CallReply.{CallReply}
-use Rattle.db_image.specs.declared.services.CallReply.TheVariants as call_reply
 use Rattle.cell_model.specs.declared.events.Output.{Output}
 use Rattle.cell_model.specs.declared.events.Output.TheVariants as output
-use Rattle.cell_model.specs.Asks.{read_reply}
 use Rattle.cell_model.specs.Book.{Book, BookVersion, entered, with_version}
 use Rattle.cell_model.specs.Durable.{Made, Transaction, Reason, Own_relabelling, Committed, Received, version_after}
+use Rattle.cell_model.specs.KeptLaws.{IsUngiven}
 use Rattle.cell_model.specs.Lapse.{no_quorum, flight_refused, waiting_refused, writes_refused}
 use Rattle.cell_model.specs.Node.{Server, Flight, Waiting}
 use Rattle.cell_model.specs.Step.{Member, Basis, Announced_image, Beacon_image, Commit_on, Evaluation, Shown, Stepped, packet_to}
 use Rattle.cell_model.specs.Step.{sent, sends_from, sends_to_each}
+use Rattle.cell_model.specs.Pieces.{piece_count}
+use Rattle.cell_model.specs.Writes.{put_pieces, write_bodies}
+use Rattle.cell_pages.proofs.Leading.{bodies_append}
+use Rattle.ubik_calls.specs.declared.packets.Body.TheVariants as body
 use Rattle.cell_model.specs.World.{Entry, entries_from, packet_of, packets_of}
 use Rattle.cell_pages.specs.Moves.{AllBodies, transaction_of}
 use Rattle.cell_orders.specs.Histories.{Stand, History, announced_in, announced_with, with_book, with_shown, after, IsBeside, FitsTo}
@@ -85,6 +87,12 @@ pub oks_append : (book : Book) (announced : List Version) (shown more : List Sho
 oks_append book announced [] more all rest = rest
 oks_append book announced (one ∷ shown) more all rest = (all.0, oks_append book announced shown more all.1 rest)
 
+-- a reply that is for no commit
+pub beside_ok : (book : Book) (announced : List Version) (e : Evaluation) (b : Basis) → IsBeside b → IsOkBy book announced e b
+beside_ok book announced e (Announced_image version) is = tt
+beside_ok book announced e (Beacon_image version) is = tt
+beside_ok book announced e (Commit_on old new) is = absurd is
+
 -- what fits answers no commit
 pub fits_oks : (m : Member) (Asked : ℕ → ℕ → Type 0) (c : Stand) (book : Book) (announced : List Version) (shown : List Shown) →
     AllFit m Asked c shown → AllOks book announced shown
@@ -92,15 +100,10 @@ fits_oks m Asked c book announced [] all = tt
 fits_oks m Asked c book announced (one ∷ shown) all =
     (by one.output one.evaluation all.0, fits_oks m Asked c book announced shown all.1)
   where
-    beside : (e : Evaluation) (b : Basis) → IsBeside b → IsOkBy book announced e b
-    beside e (Announced_image version) is = tt
-    beside e (Beacon_image version) is = tt
-    beside e (Commit_on old new) is = absurd is
-
     by : (o : Output) (e : Option Evaluation) → OutputFits m Asked c o e → IsOk book announced o e
     by (output.Send packet) e fits = tt
     by (output.Reply id r) None fits = tt
-    by (output.Reply id r) (Some e) fits = beside e e.basis fits
+    by (output.Reply id r) (Some e) fits = let none : Some e ≡ None = fits.0 in absurd (cc)
     by (output.Announce version) e fits = tt
 
 -- so they are after more versions were made and announced
@@ -180,20 +183,26 @@ module _ (m : Member) (Asked : ℕ → ℕ → Type 0) (c : Stand) where
       AllFit m Asked c (sends_to_each m bodies)
   each_fits bodies all = from_fit 0 m.hosts bodies all
 
-  pub waiting_fit : (waiting : List Waiting) (r : Reply) → AllFit m Asked c (waiting_refused waiting r)
-  waiting_fit [] r = tt
-  waiting_fit (w ∷ waiting) r = (tt, waiting_fit waiting r)
+  pub waiting_fit : (waiting : List Waiting) (r : Reply) → IsUngiven r → AllFit m Asked c (waiting_refused waiting r)
+  waiting_fit [] r ungiven = tt
+  waiting_fit (w ∷ waiting) r ungiven = ((refl, ungiven), waiting_fit waiting r ungiven)
 
-  flight_fits : (f : Option Flight) (r : Reply) → AllFit m Asked c (flight_refused f r)
-  flight_fits None r = tt
-  flight_fits (Some f) r = (tt, tt)
+  flight_fits : (f : Option Flight) (r : Reply) → IsUngiven r → AllFit m Asked c (flight_refused f r)
+  flight_fits None r ungiven = tt
+  flight_fits (Some f) r ungiven = ((refl, ungiven), tt)
 
   pub refused_fit : (s : Server) (now : ℕ) (phase : Phase) → AllFit m Asked c (writes_refused m s now phase)
   refused_fit s now phase =
-      fit_append (flight_refused s.flight (no_quorum m s now phase applied.Unknown)) _ (flight_fits s.flight _) (waiting_fit s.waiting _)
+      fit_append (flight_refused s.flight (no_quorum m s now phase applied.Unknown)) _ (flight_fits s.flight _ tt) (waiting_fit s.waiting _ tt)
 
-  pub read_fits : (id : ℕ) (e : Evaluation) (r : CallReply) → IsBeside e.basis → AllFit m Asked c (read_reply id e r ∷ [])
-  read_fits id e (call_reply.Done answer) beside = (beside, tt)
-  read_fits id e (call_reply.Rule number) beside = (beside, tt)
-  read_fits id e call_reply.Malformed beside = (tt, tt)
-  read_fits id e (call_reply.BadRecord at) beside = (tt, tt)
+  pieces_fit : (host : Host) (new : Version) (text : List ℕ) (number left : ℕ) →
+      AllBodies (FitsTo m.hosts Asked c host) (put_pieces new text number left)
+  pieces_fit host new text number zero = tt
+  pieces_fit host new text number (suc left) = (tt, pieces_fit host new text (number + 1) left)
+
+  pub write_fits : (host : Host) (old new : Version) (text : List ℕ) → AllBodies (FitsTo m.hosts Asked c host) (write_bodies old new text)
+  write_fits host old new text = (
+    tt,
+    bodies_append (FitsTo m.hosts Asked c host) (put_pieces new text 0 (piece_count text)) (body.Commit old new ∷ [])
+        (pieces_fit host new text 0 (piece_count text)) (tt, tt),
+  )

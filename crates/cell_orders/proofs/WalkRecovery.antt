@@ -26,7 +26,6 @@ use Rattle.cell_model.specs.Recovery.{fetch_went_on, piece_received}
 use Rattle.cell_model.specs.Step.{Member, cell_size, Shown, Stepped}
 use Rattle.cell_model.specs.Step.{quiet, showing, followed}
 use Rattle.cell_model.specs.Step.{leased, is_ready, with_phase, with_database}
-use Rattle.cell_model.specs.Writes.{write_bodies}
 use Rattle.cell_model.specs.Writes.{settled}
 use Rattle.cell_model.specs.Writes.{settled_with_turns}
 use Rattle.cell_laws.proofs.Parts.{lt_true, eq_true}
@@ -36,11 +35,12 @@ use Rattle.cell_pages.proofs.Leading.{bodies_if}
 use Rattle.cell_pages.proofs.Versions.{same_of_eq, lt_of_epoch}
 use Rattle.cell_orders.specs.Histories.{Stand, stand_of, History, with_book, after, IsNumbered, FitsTo, AllFit}
 use Rattle.cell_orders.specs.OrderMoves.{OrderMoves}
-use Rattle.cell_orders.proofs.Telling.{each_fits}
-use Rattle.cell_orders.proofs.Walk.{level_idle, level_held, not_both, not_itself, not_ready, ready_held, none_made, held_held}
+use Rattle.cell_orders.proofs.Serving.{flown_held}
+use Rattle.cell_orders.proofs.Telling.{each_fits, write_fits}
+use Rattle.cell_orders.proofs.Standing.{level_idle, level_held, not_both, not_itself, not_ready, ready_held, none_made, held_held}
 use Rattle.cell_orders.proofs.Walk as walk
 
-module _ (db : Database) (m : Member) (now : ℕ) (starts : List (Option ℕ)) (Asked : ℕ → ℕ → Type 0)
+module _ (db : Database) (m : Member) (now : ℕ) (starts : List (Option ℕ)) (Called : ℕ → List ℕ → Type 0) (Asked : ℕ → ℕ → Type 0)
     (Answered : ℕ → ℕ → Version → Type 0) (Kept : ℕ → Version → Type 0) (I : History → Stand → Type 0)
     (moves : OrderMoves m now (is_in_lease (cell_size m) starts now) Asked Answered Kept I) where
   abbrev in_lease : Bool
@@ -50,62 +50,62 @@ module _ (db : Database) (m : Member) (now : ℕ) (starts : List (Option ℕ)) (
   Lease = is_in_lease (cell_size m) starts now ≡ true
 
   abbrev Fit : History → Server → Type 0
-  Fit h s = walk.Fit db m now starts Asked Answered Kept I moves h s
+  Fit h s = walk.Fit db m now starts Called Asked Answered Kept I moves h s
 
   abbrev Goes : History → Version → Stepped → Type 0
-  Goes h v t = walk.Goes db m now starts Asked Answered Kept I moves h v t
+  Goes h v t = walk.Goes db m now starts Called Asked Answered Kept I moves h v t
 
   abbrev Fits : Server → List Shown → Type 0
   Fits s shown = AllFit m Asked (stand_of s) shown
 
   either : (h : History) (v : Version) (test : Bool) (x y : Stepped) → (test ≡ true → Goes h v x) → (test ≡ false → Goes h v y) →
       Goes h v (cond test x y)
-  either = walk.either db m now starts Asked Answered Kept I moves
+  either = walk.either db m now starts Called Asked Answered Kept I moves
 
   turns : (h : History) (u : Server) (shown : List Shown) → Fit h u → Fits u shown → Goes h u.version (showing u shown)
-  turns = walk.turns db m now starts Asked Answered Kept I moves
+  turns = walk.turns db m now starts Called Asked Answered Kept I moves
 
   rests : (h : History) (s : Server) → Fit h s → Goes h s.version (quiet s)
-  rests = walk.rests db m now starts Asked Answered Kept I moves
+  rests = walk.rests db m now starts Called Asked Answered Kept I moves
 
   makes : (h : History) (s u : Server) (made : Made) (shown : List Shown) → version_lt s.version (version_after made.call) ≡ true →
       version_after made.call ≡ u.version →
       Fit (with_book h (with_version h.book m.me s.version (version_after made.call) made.reason)) u → Fits u shown →
       Goes h s.version (record { server = u; calls = made ∷ []; shown = shown })
-  makes = walk.makes db m now starts Asked Answered Kept I moves
+  makes = walk.makes db m now starts Called Asked Answered Kept I moves
 
   follows : (h : History) (v : Version) (t : Stepped) (next : Server → Stepped) → Goes h v t →
       (Fit (after h m.me v t) t.server → Goes (after h m.me v t) t.server.version (next t.server)) → Goes h v (followed t next)
-  follows = walk.follows db m now starts Asked Answered Kept I moves
+  follows = walk.follows db m now starts Called Asked Answered Kept I moves
 
   lease_of : (h : History) (s : Server) → Fit h s → leased m s now ≡ true → Lease
-  lease_of = walk.lease_of db m now starts Asked Answered Kept I moves
+  lease_of = walk.lease_of db m now starts Called Asked Answered Kept I moves
 
   in_phase : (h : History) (s : Server) (phase : PhaseRecord) → s.phase ≡ phase → Fit h s → Fit h (with_phase s phase)
-  in_phase = walk.in_phase db m now starts Asked Answered Kept I moves
+  in_phase = walk.in_phase db m now starts Called Asked Answered Kept I moves
 
   no_flight : (h : History) (s : Server) → is_ready s.phase ≡ false → Fit h s → s.flight ≡ None
-  no_flight = walk.no_flight db m now starts Asked Answered Kept I moves
+  no_flight = walk.no_flight db m now starts Called Asked Answered Kept I moves
 
   to_phase : (h : History) (s : Server) (phase : PhaseRecord) → is_ready phase ≡ false → Lease → is_ready s.phase ≡ false → Fit h s →
       I h (record (stand_of s) { phase = phase }) → Fit h (with_phase s phase)
-  to_phase = walk.to_phase db m now starts Asked Answered Kept I moves
+  to_phase = walk.to_phase db m now starts Called Asked Answered Kept I moves
 
   begins : (h : History) (s : Server) → Lease → s.flight ≡ None → Fit h s → Fit h (polling m s now)
-  begins = walk.begins db m now starts Asked Answered Kept I moves
+  begins = walk.begins db m now starts Called Asked Answered Kept I moves
 
   numbered : (phase : PhaseRecord) (p : PhaseRecord) (number : ℕ) → phase ≡ p → IsNumbered p number → IsNumbered phase number
-  numbered = walk.numbered db m now starts Asked Answered Kept I moves
+  numbered = walk.numbered db m now starts Called Asked Answered Kept I moves
 
   settled_is : (h : History) (s : Server) → Fit h s → Goes h s.version (settled m s)
-  settled_is = walk.settled_is db m now starts Asked Answered Kept I moves
+  settled_is = walk.settled_is db m now starts Called Asked Answered Kept I moves
 
-  write_fits : (c : Stand) (host : Host) (old new : Version) (text : List ℕ) →
-      AllBodies (FitsTo m.hosts Asked c host) (write_bodies old new text)
-  write_fits = walk.write_fits db m now starts Asked Answered Kept I moves
+  abbrev Pure : History → Server → Type 0
+  Pure h s = walk.Pure db m now starts Called Asked Answered Kept I moves h s
 
-  settled_with_turns_is : (h : History) (s : Server) (short : List Bool) → Fit h s → Goes h s.version (settled_with_turns db m s now short)
-  settled_with_turns_is = walk.settled_with_turns_is db m now starts Asked Answered Kept I moves
+  settled_with_turns_is : (h : History) (s : Server) (short : List Bool) → Fit h s → Pure h s →
+      Goes h s.version (settled_with_turns db m s now short)
+  settled_with_turns_is = walk.settled_with_turns_is db m now starts Called Asked Answered Kept I moves
 
   -- ---- recovery
 
@@ -140,6 +140,8 @@ module _ (db : Database) (m : Member) (now : ℕ) (starts : List (Option ℕ)) (
             leads = tt;
             flight = λ f is. absurd (not_both s.flight f (no_flight h (with_phase s (Relabel poll)) refl fit) is);
             level = tt;
+            beacon = fit.beacon;
+            calls = fit.calls;
           })
           (each_fits m Asked (stand_of begun.server) _
           (λ host k. answer_fits (stand_of begun.server) host begun.server poll s.version (entry_at poll.answers k) refl))
@@ -159,6 +161,8 @@ module _ (db : Database) (m : Member) (now : ℕ) (starts : List (Option ℕ)) (
         leads = fit.leads;
         flight = λ f is. absurd (not_both s.flight f (no_flight h (with_phase s (Poll poll)) refl fit) is);
         level = tt;
+        beacon = fit.beacon;
+        calls = fit.calls;
       }) ((refl, refl), tt))
       (λ least. relabelled_is h s poll lease
       (record {
@@ -168,6 +172,8 @@ module _ (db : Database) (m : Member) (now : ℕ) (starts : List (Option ℕ)) (
         leads = fit.leads;
         flight = λ f is. absurd (not_both s.flight f (no_flight h (with_phase s (Poll poll)) refl fit) is);
         level = tt;
+        beacon = fit.beacon;
+        calls = fit.calls;
       })))
       (λ _. turns h (with_phase s (Poll poll)) [] fit tt)
 
@@ -188,7 +194,7 @@ module _ (db : Database) (m : Member) (now : ℕ) (starts : List (Option ℕ)) (
   again_fits : (c : Stand) (host : Host) (s : Server) (poll : Polled) (announced : Version) (f : Option Flight) →
       IsNumbered c.phase poll.number → AllBodies (FitsTo m.hosts Asked c host) (spread_bodies s poll announced f)
   again_fits c host s poll announced None is = (is, tt)
-  again_fits c host s poll announced (Some f) is = write_fits c host announced s.version (text_of f.changes)
+  again_fits c host s poll announced (Some f) is = write_fits m Asked c host announced s.version (text_of f.changes)
 
   again_is : (h : History) (s : Server) (poll : Polled) (spread : Spread) (announced : Version) → IsNumbered s.phase poll.number →
       Fit h s → Goes h s.version (spread_again m s poll spread announced)
@@ -241,8 +247,10 @@ module _ (db : Database) (m : Member) (now : ℕ) (starts : List (Option ℕ)) (
         same = fit.same;
         held = fit.held;
         leads = tt;
-        flight = none_made h.book version s.phase s.flight (no_flight h s (not_ready s.phase idle) fit);
+        flight = none_made db h.book version s.phase s.flight (no_flight h s (not_ready s.phase idle) fit);
         level = level_idle version s.phase s.flight (not_ready s.phase idle);
+        beacon = fit.beacon;
+        calls = fit.calls;
       }) tt
 
   -- a fetch is over
@@ -265,7 +273,16 @@ module _ (db : Database) (m : Member) (now : ℕ) (starts : List (Option ℕ)) (
       (λ least. follows h s.version (quiet s) (λ after. relabelled m after poll now) (rests h s fit)
       (λ fit. fetched_is _ s poll best from at lease least fit)))
       (λ _. turns h (record s { received = Some text }) _
-      (record { keeps = fit.keeps; same = fit.same; held = fit.held; leads = fit.leads; flight = fit.flight; level = fit.level })
+      (record {
+        keeps = fit.keeps;
+        same = fit.same;
+        held = fit.held;
+        leads = fit.leads;
+        flight = fit.flight;
+        level = fit.level;
+        beacon = fit.beacon;
+        calls = fit.calls;
+      })
       ((refl, numbered s.phase (Fetch poll best from) poll.number at refl), tt))
 
   pub piece_received_is : (h : History) (s : Server) (k number : ℕ) (version : Version) (total at : ℕ) (bytes : List ℕ) (phase : PhaseRecord) →
@@ -284,8 +301,8 @@ module _ (db : Database) (m : Member) (now : ℕ) (starts : List (Option ℕ)) (
   -- ---- holders that are told
 
   holder_is : (h : History) (s : Server) (k : ℕ) (version : Version) (short : List Bool) → Kept k version →
-      version_eq version s.version ≡ true → Fit h s → Goes h s.version (holder_added db m s now k short)
-  holder_is h s k version short kept same fit =
+      version_eq version s.version ≡ true → Fit h s → Pure h s → Goes h s.version (holder_added db m s now k short)
+  holder_is h s k version short kept same fit pure =
       settled_with_turns_is h (with_phase s (held_by s.phase k)) short
       (record {
         keeps =
@@ -293,9 +310,15 @@ module _ (db : Database) (m : Member) (now : ℕ) (starts : List (Option ℕ)) (
         same = fit.same;
         held = λ is. fit.held (sym (held_held s.phase k) ∙ is);
         leads = fit.leads;
-        flight = λ f is. (ready_held s.phase k ∙ (fit.flight f is).0, (fit.flight f is).1);
+        flight = λ f is. (
+          ready_held s.phase k ∙ (fit.flight f is).0,
+          (fit.flight f is).1,
+          flown_held db h.book s.version s.phase k f (fit.flight f is).2,
+        );
         level = level_held s.version s.phase k s.flight fit.level;
-      })
+        beacon = fit.beacon;
+        calls = fit.calls;
+      }) pure
 
   lacking_is : (h : History) (s : Server) (host : Host) (poll : Polled) (spread : Spread) (version : Version) (f : Option Flight) →
       IsNumbered s.phase poll.number → Fit h s → Goes h s.version (lacking_sent m s host poll spread version f)
@@ -304,42 +327,42 @@ module _ (db : Database) (m : Member) (now : ℕ) (starts : List (Option ℕ)) (
   lacking_is h s host poll spread version (Some f) is fit = rests h s fit
 
   told_is : (h : History) (s : Server) (host : Host) (k : ℕ) (poll : Polled) (spread : Spread) (number : ℕ) (version : Version)
-      (short : List Bool) → Kept k version → IsNumbered s.phase poll.number → Fit h s →
+      (short : List Bool) → Kept k version → IsNumbered s.phase poll.number → Fit h s → Pure h s →
       Goes h s.version (told_to_spread db m s now host k poll spread number version short)
-  told_is h s host k poll spread number version short kept is fit =
+  told_is h s host k poll spread number version short kept is fit pure =
       either h s.version (number == poll.number) _ _
-      (λ _. either h s.version (version_eq version s.version) _ _ (λ same. holder_is h s k version short kept same fit)
+      (λ _. either h s.version (version_eq version s.version) _ _ (λ same. holder_is h s k version short kept same fit pure)
       (λ _. lacking_is h s host poll spread version s.flight is fit))
       (λ _. rests h s fit)
 
   pub version_told_is : (h : History) (s : Server) (host : Host) (k number : ℕ) (version : Version) (short : List Bool)
       (phase : PhaseRecord) →
-      Answered k number version × Kept k version → s.phase ≡ phase → Fit h s →
+      Answered k number version × Kept k version → s.phase ≡ phase → Fit h s → Pure h s →
       Goes h s.version (version_is_received db m s now host k number version short phase)
-  version_told_is h s host k number version short NoPhase brings at fit = rests h s fit
-  version_told_is h s host k number version short (Poll poll) brings at fit =
+  version_told_is h s host k number version short NoPhase brings at fit pure = rests h s fit
+  version_told_is h s host k number version short (Poll poll) brings at fit pure =
       either h s.version (number == poll.number) _ _
       (λ same. polled_is h s (with_answer poll k version) (fit.held (ap is_held at))
       (to_phase h s (Poll (with_answer poll k version)) refl (fit.held (ap is_held at)) (ap is_ready at) fit
       (moves.poll.answers h (stand_of s) poll k version (fit.held (ap is_held at)) at
       (subst (λ (n : ℕ). Answered k n version) (eq_true number poll.number same) brings.0) fit.keeps)))
       (λ _. rests h s fit)
-  version_told_is h s host k number version short (Fetch poll best from) brings at fit =
+  version_told_is h s host k number version short (Fetch poll best from) brings at fit pure =
       either h s.version (from == k && not (version_eq version best)) _ _
       (λ _. turns h (polling m s now) [] (begins h s (fit.held (ap is_held at)) (no_flight h s (ap is_ready at) fit) fit) tt) (λ _. rests h s fit)
-  version_told_is h s host k number version short (Relabel poll) brings at fit = rests h s fit
-  version_told_is h s host k number version short (Send poll spread) brings at fit =
-      told_is h s host k poll spread number version short brings.1 (numbered s.phase (Send poll spread) poll.number at refl) fit
-  version_told_is h s host k number version short (Ready poll spread announced) brings at fit =
-      told_is h s host k poll spread number version short brings.1 (numbered s.phase (Ready poll spread announced) poll.number at refl) fit
+  version_told_is h s host k number version short (Relabel poll) brings at fit pure = rests h s fit
+  version_told_is h s host k number version short (Send poll spread) brings at fit pure =
+      told_is h s host k poll spread number version short brings.1 (numbered s.phase (Send poll spread) poll.number at refl) fit pure
+  version_told_is h s host k number version short (Ready poll spread announced) brings at fit pure =
+      told_is h s host k poll spread number version short brings.1 (numbered s.phase (Ready poll spread announced) poll.number at refl) fit pure
 
   pub version_kept_is : (h : History) (s : Server) (k : ℕ) (version : Version) (short : List Bool) (phase : PhaseRecord) → Kept k version →
-      Fit h s → Goes h s.version (version_kept_received db m s now k version short phase)
-  version_kept_is h s k version short NoPhase kept fit = rests h s fit
-  version_kept_is h s k version short (Poll poll) kept fit = rests h s fit
-  version_kept_is h s k version short (Fetch poll best from) kept fit = rests h s fit
-  version_kept_is h s k version short (Relabel poll) kept fit = rests h s fit
-  version_kept_is h s k version short (Send poll spread) kept fit =
-      either h s.version (version_eq version s.version) _ _ (λ same. holder_is h s k version short kept same fit) (λ _. rests h s fit)
-  version_kept_is h s k version short (Ready poll spread announced) kept fit =
-      either h s.version (version_eq version s.version) _ _ (λ same. holder_is h s k version short kept same fit) (λ _. rests h s fit)
+      Fit h s → Pure h s → Goes h s.version (version_kept_received db m s now k version short phase)
+  version_kept_is h s k version short NoPhase kept fit pure = rests h s fit
+  version_kept_is h s k version short (Poll poll) kept fit pure = rests h s fit
+  version_kept_is h s k version short (Fetch poll best from) kept fit pure = rests h s fit
+  version_kept_is h s k version short (Relabel poll) kept fit pure = rests h s fit
+  version_kept_is h s k version short (Send poll spread) kept fit pure =
+      either h s.version (version_eq version s.version) _ _ (λ same. holder_is h s k version short kept same fit pure) (λ _. rests h s fit)
+  version_kept_is h s k version short (Ready poll spread announced) kept fit pure =
+      either h s.version (version_eq version s.version) _ _ (λ same. holder_is h s k version short kept same fit pure) (λ _. rests h s fit)

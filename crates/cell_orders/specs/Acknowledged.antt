@@ -2,12 +2,16 @@
 use Rattle.std.specs.Prelude.{◌≡◌, ◌⊎◌, true, Option, Some, None, List, [], ◌∷◌, slice_get}
 use Rattle.ubik_types.specs.declared.versions.Version.{Version}
 use Rattle.ubik_types.specs.Phase.{PhaseRecord, Ready}
+use Rattle.db_image.specs.Database.{Database}
+use Rattle.db_image.specs.declared.services.CallReply.TheVariants as call_reply
 use Rattle.cell_model.specs.declared.events.Output.{Output}
 use Rattle.cell_model.specs.declared.events.Output.TheVariants as output
 use Rattle.cell_model.specs.Book.{Book, Acknowledgement, list_of}
 use Rattle.cell_model.specs.Durable.{Transaction}
 use Rattle.cell_model.specs.Node.{Flight}
 use Rattle.cell_model.specs.Step.{Basis, Commit_on, Evaluation, Shown, is_ready}
+use Rattle.cell_model.specs.Writes.{next_version}
+use Rattle.cell_pages.specs.Images.{IsImageOf}
 use Rattle.cell_pages.specs.Moves.{transaction_of}
 
 -- the version was announced
@@ -20,10 +24,18 @@ abbrev pub IsMade : Book → Version → Transaction → Type 0
 IsMade [] v t = ⊥
 IsMade (b ∷ book) v t = ((b.version ≡ v) × (b.transaction ≡ Some t)) ⊎ IsMade book v t
 
+-- The write was evaluated on the image of the announced version, which its own one is next to, and its answer is what the database replied.
+abbrev pub IsFlown : Database → Book → Version → PhaseRecord → Flight → Type 0
+IsFlown db book v (Ready poll spread announced) f =
+    (v ≡ next_version announced) × IsImageOf db book announced f.old_image
+    × ((db.call f.old_image f.began f.call).reply ≡ call_reply.Done f.answer)
+IsFlown db book v _ f = Unit {0}
+
 -- Flights: a write is in flight in Ready alone, and it made the own version.
-abbrev pub FlightMade : Book → Version → PhaseRecord → Option Flight → Type 0
-FlightMade book v phase flight =
-    (f : Flight) → flight ≡ Some f → (is_ready phase ≡ true) × IsMade book v (transaction_of f.began f.call)
+abbrev pub FlightMade : Database → Book → Version → PhaseRecord → Option Flight → Type 0
+FlightMade db book v phase flight =
+    (f : Flight) → flight ≡ Some f →
+    (is_ready phase ≡ true) × IsMade book v (transaction_of f.began f.call) × IsFlown db book v phase f
 
 -- where no write is in flight, a server that serves has the announced version
 abbrev pub IsLevel : Version → PhaseRecord → Option Flight → Type 0

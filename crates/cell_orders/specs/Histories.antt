@@ -1,5 +1,5 @@
 -- What the order rests on: of a server how it stands, and of the past the book, the announced versions and all packets (own).
-use Rattle.std.specs.Prelude.{◌≡◌, ℕ, Option, Some, None, List, [], ◌∷◌, ◌++◌}
+use Rattle.std.specs.Prelude.{◌≡◌, ℕ, true, Option, Some, None, List, [], ◌∷◌, ◌++◌}
 use Rattle.ubik_types.specs.declared.hosts.Host.{Host}
 use Rattle.ubik_types.specs.declared.versions.Version.{Version}
 use Rattle.ubik_types.specs.Phase.{PhaseRecord, NoPhase, Poll, Fetch, Relabel, Send, Ready}
@@ -10,6 +10,7 @@ use Rattle.ubik_calls.specs.declared.packets.Body.TheVariants as body
 use Rattle.cell_model.specs.declared.events.Output.{Output}
 use Rattle.cell_model.specs.declared.events.Output.TheVariants as output
 use Rattle.cell_model.specs.Book.{Book, entered}
+use Rattle.cell_model.specs.KeptLaws.{IsUngiven}
 use Rattle.cell_model.specs.Node.{Server}
 use Rattle.cell_model.specs.NodeRule.{place_of}
 use Rattle.cell_model.specs.Step.{Member, Basis, Commit_on, Evaluation, Shown, Stepped, host_at}
@@ -63,8 +64,13 @@ number_of (Ready poll spread announced) = Some poll.number
 abbrev pub IsNumbered : PhaseRecord → ℕ → Type 0
 IsNumbered phase number = number_of phase ≡ Some number
 
--- What a packet of a server tells of it: a question, or an image or version that is sent, has the number of its poll; an answer names
--- the own version, and the number under which that was asked.
+-- calls are served under this version
+abbrev pub IsServing : PhaseRecord → Version → Type 0
+IsServing (Ready poll spread announced) v = announced ≡ v
+IsServing _ v = ⊥
+
+-- What a packet of a server tells of it: a ready beacon names the version under which calls are served; a question, or an image or version
+-- that is sent, has the number of its poll; an answer names the own version, and the number under which that was asked.
 abbrev pub BodyFits : (ℕ → Type 0) → Stand → Body → Type 0
 BodyFits Asked c (body.GetVersion poll) = IsNumbered c.phase poll
 BodyFits Asked c (body.GetPiece poll version offset) = IsNumbered c.phase poll
@@ -72,6 +78,7 @@ BodyFits Asked c (body.SetVersion poll old new) = IsNumbered c.phase poll
 BodyFits Asked c (body.SendPiece poll version total offset bytes) = IsNumbered c.phase poll
 BodyFits Asked c (body.VersionIs poll version) = (version ≡ c.version) × Asked poll
 BodyFits Asked c (body.VersionKept version) = version ≡ c.version
+BodyFits Asked c (body.Beacon start claim ready version) = ready ≡ true → IsServing c.phase version
 BodyFits Asked c _ = Unit {0}
 
 -- of a packet to a host: `Asked` says which server asked under which number
@@ -83,16 +90,12 @@ abbrev pub IsBeside : Basis → Type 0
 IsBeside (Commit_on old new) = ⊥
 IsBeside _ = Unit {0}
 
-abbrev pub IsUncommitted : Option Evaluation → Type 0
-IsUncommitted None = Unit {0}
-IsUncommitted (Some e) = IsBeside e.basis
-
 abbrev pub OutputFits : Member → (ℕ → ℕ → Type 0) → Stand → Output → Option Evaluation → Type 0
 OutputFits m Asked c (output.Send packet) e = (packet.from ≡ host_at m.hosts m.me) × FitsTo m.hosts Asked c packet.to packet.body
-OutputFits m Asked c (output.Reply id r) e = IsUncommitted e
+OutputFits m Asked c (output.Reply id r) e = (e ≡ None) × IsUngiven r
 OutputFits m Asked c (output.Announce version) e = ⊥
 
--- so of each packet that is shown; nothing is announced, and no commit is answered
+-- so of each packet that is shown; nothing is announced, and no reply is that of a database
 abbrev pub AllFit : Member → (ℕ → ℕ → Type 0) → Stand → List Shown → Type 0
 AllFit m Asked c [] = Unit {0}
 AllFit m Asked c (one ∷ shown) = OutputFits m Asked c one.output one.evaluation × AllFit m Asked c shown

@@ -4,15 +4,18 @@ use Rattle.ubik_types.specs.declared.versions.Version.{Version}
 use Rattle.ubik_types.specs.Lease.{is_in_lease, lease_end}
 use Rattle.ubik_types.specs.Version.{zero_version}
 use Rattle.ubik_calls.specs.declared.packets.Packet.{Packet}
+use Rattle.db_image.specs.Database.{Database}
 use Rattle.cell_model.specs.Book.{Book, Announcement, clock_at, list_of}
 use Rattle.cell_model.specs.Node.{Up, Server}
 use Rattle.cell_model.specs.World.{World, Site, site_of}
 use Rattle.ubik_types.specs.declared.hosts.Host.{Host}
+use Rattle.cell_orders.specs.Asked.{CallsKnown}
 use Rattle.cell_orders.specs.Acknowledged.{FlightMade, IsLevel}
 use Rattle.cell_orders.specs.Histories.{number_of}
-use Rattle.cell_orders.specs.Orders.{IsOrdered, HasMajority, IsAsked, IsAnswered, KeptIsKept, AnswersAsked, NumbersPast, HasOpened}
+use Rattle.cell_orders.specs.Orders.{IsOrdered, HasMajority, WasSent, IsAsked, IsAnswered, KeptIsKept, AnswersAsked, NumbersPast, HasOpened}
 use Rattle.cell_orders.specs.Orders.{NumbersUpTo, HeldSince}
 use Rattle.cell_orders.specs.Orders.{PhaseKeeps, IsLeading}
+use Rattle.cell_orders.specs.Served.{Names, IsNamed}
 
 abbrev pub version_in : Option Site → Version
 version_in None = zero_version
@@ -33,7 +36,8 @@ pub record ServerKeeps (hosts : List Host) (V : ℕ → Version) (packets : List
       IsLeading (length hosts) k V (IsAnswered hosts packets k) announced s.version s.phase
   pub level : IsLevel s.version s.phase s.flight
 
-pub record OrderKept (w : World) (book : Book) (announced : List Version) : Type 0 where
+-- `Called`: which calls were asked at which server, under which ids.
+pub record OrderKept (db : Database) (Called : ℕ → ℕ → List ℕ → Type 0) (w : World) (book : Book) (announced : List Version) : Type 0 where
   pub ordered : IsOrdered book announced
   pub kept : KeptIsKept w.hosts w.packets (versions_of w)
   pub asked : AnswersAsked w.hosts w.packets
@@ -42,7 +46,10 @@ pub record OrderKept (w : World) (book : Book) (announced : List Version) : Type
   pub servers : (k : ℕ) (site : Site) (s : Server) → site_of w k ≡ Some site → site.node ≡ Up s →
       ServerKeeps w.hosts (versions_of w) w.packets announced k site.clock s
   pub flights : (k : ℕ) (site : Site) (s : Server) → site_of w k ≡ Some site → site.node ≡ Up s →
-      FlightMade book s.version s.phase s.flight
+      FlightMade db book s.version s.phase s.flight
+  pub names : (p : Packet) → WasSent w.packets p → Names announced p.body
+  pub beacons : (k : ℕ) (site : Site) (s : Server) → site_of w k ≡ Some site → site.node ≡ Up s → IsNamed announced s.beacon
+  pub calls : (k : ℕ) (site : Site) (s : Server) → site_of w k ≡ Some site → site.node ≡ Up s → CallsKnown (Called k) s.flight s.waiting
 
 -- the announcements of a run: each has the list of its version
 abbrev pub ListsOf : Book → List Announcement → Type 0

@@ -1,7 +1,10 @@
 pub mod Acknowledged
+pub mod Asked
 pub mod Histories
 pub mod Kept
 pub mod Laws
 pub mod Midst
 pub mod OrderMoves
 pub mod Orders
+pub mod Replies
+pub mod Served

@@ -14,7 +14,9 @@ use Rattle.cell_model.specs.Receiver.{is_sending}
 use Rattle.cell_model.specs.Recovery.{first_of_epoch, held_by}
 use Rattle.cell_model.specs.Step.{Member, cell_size, Shown}
 use Rattle.cell_model.specs.Writes.{next_version}
+use Rattle.cell_pages.specs.Parts.{AtMost}
 use Rattle.cell_orders.specs.Histories.{Stand, History, with_book, with_shown, AllFit}
+use Rattle.cell_orders.specs.Orders.{IsLast}
 
 -- a poll begins, which knows the own version alone
 abbrev pub poll_of : Member → Stand → ℕ → Polled
@@ -67,7 +69,7 @@ pub record VersionMoves (m : Member) (now : ℕ) (lease : Bool) (Kept : ℕ → 
       c.phase ≡ Ready poll spread announced → is_majority (cell_size m) spread.holders ≡ true → I h c →
       I (record h { announced = c.version ∷ h.announced }) (record c { phase = Ready poll spread c.version })
 
--- all of them; and packets are put out
+-- all of them; packets are put out, and calls are served
 pub record OrderMoves (m : Member) (now : ℕ) (lease : Bool) (Asked : ℕ → ℕ → Type 0) (Answered : ℕ → ℕ → Version → Type 0)
     (Kept : ℕ → Version → Type 0) (I : History → Stand → Type 0) :
     Type 0 where
@@ -75,3 +77,6 @@ pub record OrderMoves (m : Member) (now : ℕ) (lease : Bool) (Asked : ℕ → �
   pub poll : PollMoves m now lease Answered I
   pub version : VersionMoves m now lease Kept I
   pub shows : (h : History) (c : Stand) (shown : List Shown) → AllFit m Asked c shown → I h c → I (with_shown h shown) c
+  -- who serves has the version that was announced last, or one above it
+  pub serves : (h : History) (c : Stand) (poll : Polled) (spread : Spread) (announced : Version) → lease ≡ true →
+      c.phase ≡ Ready poll spread announced → I h c → IsLast h.announced announced × AtMost announced c.version

@@ -1,0 +1,189 @@
+-- A cell that stands after the lines of a script is a run of the world, and so the laws of such runs are its.
+use Rattle.std.proofs.Common.{◌≡◌, ◌≤◌, ℕ, List, [], ◌∷◌, ◌++◌, length, Option, Some, None, IfSome, refl, sym, ap, subst, arith}
+use Rattle.std.proofs.lemmas.List.Elements.{All-weaker}
+use Rattle.std.specs.Prelude.{All, Contains}
+use Rattle.db_image.specs.Database.{Database, Outcome}
+use Rattle.db_image.specs.declared.services.CallReply.TheVariants.{Malformed}
+use Rattle.ubik_calls.specs.declared.replies.Reply.{Reply}
+use Rattle.ubik_calls.specs.declared.replies.Reply.TheVariants as reply
+use Rattle.cell_model.specs.Book.{Book, Given, Run, order_of, first_run, run_through}
+use Rattle.cell_model.specs.Durable.{Transaction}
+use Rattle.cell_model.specs.KeptLaws.{ChangesNothing, IsPlaced, IsReplyOf}
+use Rattle.cell_model.specs.SingleCopy.{image_after}
+use Rattle.cell_model.proofs.BookVersions.{image_from-append}
+use Rattle.cell_model.specs.Step.{Basis, Announced_image, Beacon_image, Commit_on}
+use Rattle.cell_model.specs.World.{World, Event, IsRun, IsFirst, happens, world_after}
+use Rattle.cell_pages.specs.Images.{KeepsImages}
+use Rattle.cell_orders.specs.Laws as laws
+use Rattle.cell_orders.specs.Replies.{transaction_in, LeavesCopy, IsSingleReply, IsAtSync}
+use Rattle.prdb_entries.specs.Agreement.{IsMeant}
+use Rattle.prdb_entries.specs.ByteMeaning.{meant, protection_meaning}
+use Rattle.prdb_entries.specs.Call.{PrCall}
+use Rattle.prdb_entries.specs.Layout.{StandsFor}
+use Rattle.prdb_entries.specs.Meaning.{meaning}
+use Rattle.prdb_entries.specs.Protection.{protection, outcome}
+use Rattle.prdb_entries.specs.Reading.{call_of}
+use Rattle.prdb_entries.specs.State.{PrState, initial_state}
+use Rattle.cell_script.specs.declared.lines.Kind.{Kind}
+use Rattle.cell_runs.specs.Script.{Cell, Told, told}
+use Rattle.cell_runs.specs.ScriptDatabase.{Databases}
+use Rattle.script_laws.specs.Runs.{NamesCalls, IsRunOfCell, ScriptsAreRuns, database_of, run_of, first_of}
+use Rattle.script_laws.proofs.Parts.{run-append}
+use Rattle.script_promises.specs.Databases.{databases}
+use Rattle.cell_promises.specs.Promises.{HasOrder, ScriptsHaveOrder, meant_state, LeavesState, IsMeantReply, HasMeaning, CellsKeepPromises}
+use Rattle.cell_promises.proofs.Standing.{IsMeantAt, image_stands, reply_meant, state_left}
+
+-- the laws of runs, of every cell
+pub record OrderLaws : Type 0 where
+  pub order : laws.AnnouncementsGrow
+  pub stay : laws.AcknowledgedStay
+  pub sites : laws.SitesServeTheOrder
+  pub single : laws.RepliesAreSingle
+  pub given : laws.RepliesAreGiven
+  pub asked : laws.RepliesAnswerAsks
+  pub acknowledged : laws.RepliesHaveAcknowledged
+  pub prefixes : laws.RepliesGrow
+
+-- ---- parts of a run
+
+front_run : (db : Database) (w : World) (front back : List Event) → IsRun db w (front ++ back) → IsRun db w front
+front_run db w [] back run = tt
+front_run db w (e ∷ front) back run = (run.0, front_run db (happens db w e).world front back run.1)
+
+back_run : (db : Database) (w : World) (front back : List Event) → IsRun db w (front ++ back) → IsRun db (world_after db w front) back
+back_run db w [] back run = run
+back_run db w (e ∷ front) back run = back_run db (happens db w e).world front back run.1
+
+module _ (laws_hold : OrderLaws) (db : Database) (keeps : KeepsImages db) (c : Cell)
+    (first : IsFirst c.run.world.hosts c.opening.clock c.opening.failed) (legal : IsRun db (first_of c) c.events) where
+  front_legal : (front back : List Event) → c.events ≡ front ++ back → IsRun db (first_of c) front
+  front_legal front back split = front_run db (first_of c) front back (subst (IsRun db (first_of c)) split legal)
+
+  middle_legal : (front middle back : List Event) → c.events ≡ (front ++ middle) ++ back →
+      IsRun db (world_after db (first_of c) front) middle
+  middle_legal front middle back split = back_run db (first_of c) front middle (front_legal (front ++ middle) back split)
+
+  before_legal : (front middle back : List Event) → c.events ≡ (front ++ middle) ++ back → IsRun db (first_of c) front
+  before_legal front middle back split = front_run db (first_of c) front middle (front_legal (front ++ middle) back split)
+
+  whole : (front middle : List Event) → run_through db (run_of db c front) middle ≡ run_of db c (front ++ middle)
+  whole front middle = sym (run-append db (first_run (first_of c)) front middle)
+
+  pub has_order : HasOrder db c
+  has_order = record {
+    order = laws_hold.order db c.run.world.hosts c.opening.clock c.opening.failed c.events first legal;
+    stays = λ front middle back split.
+        subst (λ (x : Run). All (IsPlaced (order_of x.announcements)) (run_of db c front).acknowledged) (whole front middle)
+        (All-weaker
+        (λ a. Contains (run_through db (run_of db c front) middle).acknowledged a
+        × IsPlaced (order_of (run_through db (run_of db c front) middle).announcements) a)
+        (IsPlaced (order_of (run_through db (run_of db c front) middle).announcements)) (λ a both. both.1) (run_of db c front).acknowledged
+        (laws_hold.stay db c.run.world.hosts c.opening.clock c.opening.failed front middle first (before_legal front middle back split)
+        (middle_legal front middle back split)));
+    sites = λ front back split k site s get up ready.
+        (laws_hold.sites db c.run.world.hosts c.opening.clock c.opening.failed front first (front_legal front back split) k site s get up
+        ready).database keeps;
+    given = λ front back e split.
+        laws_hold.given db c.run.world.hosts c.opening.clock c.opening.failed front e first (front_legal front (e ∷ back) split);
+    asked = λ front back split.
+        laws_hold.asked db c.run.world.hosts c.opening.clock c.opening.failed front first (front_legal front back split);
+    replies = λ front back split.
+        laws_hold.single db c.run.world.hosts c.opening.clock c.opening.failed front first (front_legal front back split);
+    acknowledged = λ front middle back split.
+        subst
+        (λ (x : Run). (new : List Given) × (x.given ≡ new ++ (run_of db c front).given)
+        × All (λ (g : Given). IsAtSync g.evaluation.basis → All (IsPlaced g.order) (run_of db c front).acknowledged) new)
+        (whole front middle)
+        (laws_hold.acknowledged db c.run.world.hosts c.opening.clock c.opening.failed front middle first
+        (before_legal front middle back split) (middle_legal front middle back split));
+    prefixes = laws_hold.prefixes db c.run.world.hosts c.opening.clock c.opening.failed c.events first legal;
+  }
+
+cell_order : OrderLaws → (dbs : Databases) → ((k : Kind) → KeepsImages (dbs k).database) → (t : Told) (cell : Option Cell) →
+    IsRunOfCell dbs t cell → IfSome cell (λ c. HasOrder (database_of dbs c) c)
+cell_order laws_hold dbs keep t None run = tt
+cell_order laws_hold dbs keep t (Some c) run = has_order laws_hold (database_of dbs c) (keep c.opening.kind) c run.first run.legal
+
+pub scripts_have_order : OrderLaws → ScriptsAreRuns → ScriptsHaveOrder
+scripts_have_order laws_hold runs dbs names keep readings =
+    cell_order laws_hold dbs keep (told dbs readings) (told dbs readings).stage.cell (runs dbs names readings)
+
+-- ---- the protection database
+
+pub record ProtectionLaws : Type 0 where
+  pub means : (s : PrState) (image bytes : List ℕ) (now : ℕ) (call : PrCall) → StandsFor image s → call_of bytes ≡ Some call →
+      IsMeant (protection.call image now bytes) image s (meaning s now call)
+  pub no_call : (image bytes : List ℕ) (now : ℕ) → call_of bytes ≡ None → protection.call image now bytes ≡ outcome image (Malformed, None)
+  pub never_shrinks : (image bytes : List ℕ) (now : ℕ) → length image ≤ length (protection.call image now bytes).image
+  pub first : StandsFor [] initial_state
+
+module _ (of : ProtectionLaws) where
+  pub keeps_images : KeepsImages protection
+  keeps_images = record { block = (λ is. absurd (omega arith)); grows = λ image now call. of.never_shrinks image call now }
+
+  means_at : (image : List ℕ) (s : PrState) (now : ℕ) (bytes : List ℕ) (call : Option PrCall) → call_of bytes ≡ call → StandsFor image s →
+      ((protection.call image now bytes).reply ≡ (meant s now call).reply)
+      × StandsFor (protection.call image now bytes).image (meant s now call).state
+      × ((protection.call image now bytes).image ≡ image → (meant s now call).state ≡ s)
+  means_at image s now bytes None is stands = (
+    ap (λ (o : Outcome). o.reply) (of.no_call image bytes now is),
+    subst (λ (o : Outcome). StandsFor o.image s) (sym (of.no_call image bytes now is)) stands,
+    λ _. refl,
+  )
+  means_at image s now bytes (Some call) is stands =
+      let m = of.means s image bytes now call stands is in (m.reply, m.stands, m.moves)
+
+  means : (image : List ℕ) (s : PrState) (now : ℕ) (bytes : List ℕ) → StandsFor image s →
+      IsMeantAt protection protection_meaning StandsFor image s now bytes
+  means image s now bytes stands =
+      let all = means_at image s now bytes (call_of bytes) refl stands in record { reply = all.0; stands = all.1; moves = all.2 }
+
+  -- a transaction that changes nothing of the single copy leaves the state
+  left : (list : List Transaction) (t : Transaction) → ChangesNothing protection list t → meant_state (list ++ t ∷ []) ≡ meant_state list
+  left list t none =
+      state_left protection protection_meaning StandsFor of.first means list t (none.1 (omega arith) longer)
+    where
+      longer : length (image_after protection list) ≤ length (image_after protection (list ++ t ∷ []))
+      longer =
+          subst (λ (image : List ℕ). length (image_after protection list) ≤ length image) (sym (image_from-append protection [] list (t ∷ [])))
+          (of.never_shrinks (image_after protection list) t.call t.moment)
+
+  leaves_state : (list : List Transaction) (g : Given) (b : Basis) (r : Reply) → LeavesCopy protection list g b r → LeavesState list g b r
+  leaves_state list g (Commit_on old new) r is = tt
+  leaves_state list g (Announced_image v) (reply.Ok fields) is = λ writes. left list (transaction_in g) (is writes)
+  leaves_state list g (Beacon_image v) (reply.Ok fields) is = λ writes. left list (transaction_in g) (is writes)
+  leaves_state list g (Announced_image v) _ is = tt
+  leaves_state list g (Beacon_image v) _ is = tt
+
+  meant_reply : (book : Book) (order : List Transaction) (g : Given) → IsSingleReply protection book order g → IsMeantReply book g
+  meant_reply book order g is = record {
+    list = is.list;
+    listed = is.listed;
+    meant =
+        subst (λ r. IsReplyOf r g.reply)
+        (reply_meant protection protection_meaning StandsFor of.first means is.list g.evaluation.moment g.evaluation.call)
+        (is.replied keeps_images);
+    leaves = leaves_state is.list g g.evaluation.basis g.reply (is.leaves keeps_images);
+  }
+
+  has_meaning : (c : Cell) → HasOrder protection c → HasMeaning c
+  has_meaning c is = record {
+    order = is;
+    states = λ front back split k site s get up ready.
+        subst (λ (image : List ℕ). StandsFor image (meant_state (order_of (run_of protection c front).announcements)))
+        (sym (is.sites front back split k site s get up ready))
+        (image_stands protection protection_meaning StandsFor of.first means (order_of (run_of protection c front).announcements));
+    replies = λ front back split.
+        All-weaker (IsSingleReply protection (run_of protection c front).book (order_of (run_of protection c front).announcements))
+        (IsMeantReply (run_of protection c front).book)
+        (λ g single. meant_reply (run_of protection c front).book (order_of (run_of protection c front).announcements) g single)
+        (run_of protection c front).given (is.replies front back split);
+  }
+
+  over_cell : (cell : Option Cell) → IfSome cell (λ c. HasOrder (database_of databases c) c) → IfSome cell HasMeaning
+  over_cell None is = tt
+  over_cell (Some c) is = has_meaning c is
+
+  pub cells_keep_promises : ScriptsHaveOrder → NamesCalls databases → CellsKeepPromises
+  cells_keep_promises has names readings =
+      over_cell (told databases readings).stage.cell (has databases names (λ k. keeps_images) readings)
