@@ -1,4 +1,4 @@
-use Rattle.std.proofs.Common.{◌≡◌, sym, ap, ◌∙◌, refl}
+use Rattle.std.proofs.Common.{sym, ap, ◌∙◌, refl}
 use Rattle.std.specs.Option.{option_map}
 use Rattle.vldb_records.specs.Records.{after_set_next}
 use Rattle.vl_calls.proofs.Done.{volumes_done, volumes_refused}
