@@ -174,3 +174,17 @@ pub hosts_meant : (bytes : Option (List ℕ)) (places hosts : List ℕ) (ended :
 hosts_meant None places hosts ended are is meant = tt
 hosts_meant (Some image) places hosts ended are is meant = λ s holds.
     meant ∙ ap (λ (h : List ℕ). end_of (reply_by (Answers (answer.Hosts h)))) (is ∙ ap (filter (λ host. not (eqb host 0))) (are s holds))
+
+-- an entry that was found is there
+through : {X Y : Type 0} (f : X → Option Y) (o : Option X) (y : Y) → option_and_then f o ≡ Some y → (x : X) × (f x ≡ Some y)
+through f None y is = absurd cc
+through f (Some x) y is = (x, is)
+
+first_there : (s : Location) (most : ℕ) (test : VlEntry → Bool) (e : VlEntry) → first_to most test s ≡ Some e → (k : ℕ) × (s.entry k ≡ Some e)
+unfolding first_to
+first_there s most test e is = through s.entry (find (λ k. meets test (s.entry k)) (range_with_len 1 most)) e is
+
+pub typed_there : (s : Location) (volume_type : ℤ) (id : ℕ) (e : VlEntry) → IsLocation s → entry_of_type s volume_type id ≡ Some e → s.entry e.rw ≡ Some e
+typed_there s volume_type id e valid is =
+    let at = first_there s 2147483647 (is_of_type volume_type id) e is in
+    ap s.entry (valid.ids at.0 e at.1) ∙ at.1

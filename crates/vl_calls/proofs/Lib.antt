@@ -1,5 +1,6 @@
 pub mod AnswerLaws
 pub mod Again
+pub mod Done
 pub mod EntriesAgain
 pub mod EntriesTaken
 pub mod Found

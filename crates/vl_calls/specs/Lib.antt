@@ -5,5 +5,6 @@ pub mod Meaning
 pub mod Reading
 pub mod Refusals
 pub mod Shapes
+pub mod Standing
 pub mod Words
 pub mod Writing

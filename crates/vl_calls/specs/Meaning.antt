@@ -8,7 +8,7 @@ use Rattle.db_image.specs.declared.services.CallReply.TheVariants as reply
 use Rattle.db_image.specs.Meaning.{Meaning}
 use Rattle.vldb_records.specs.declared.entries.VlEntry.{VlEntry}
 use Rattle.vldb_records.specs.declared.entries.VlSite.{VlSite}
-use Rattle.vldb_records.specs.Location.{Location, first_location, is_name, has_repeat, has_id, has_equal_ids, placed, with_entry, without_entry, with_addresses, with_next_volume}
+use Rattle.vldb_records.specs.Location.{Location, first_location, is_name, has_repeat, has_id, has_equal_ids, placed, with_entered, without_entry, with_addresses, with_next_volume}
 use Rattle.vl_calls.specs.declared.answers.VlAnswer.{VlAnswer}
 use Rattle.vl_calls.specs.declared.answers.VlAnswer.TheVariants as answer
 use Rattle.vl_calls.specs.declared.calls.GivenEntry.{GivenEntry}
@@ -136,28 +136,36 @@ entry_faults s own e = record {
 
 -- ---- verdicts
 
+-- what a call changes
+pub data Change : Type 0 where
+  NextVolume : (id : ℕ) → Change
+  -- an entry comes in, in place of that of the read-write id `own` (0: of none), and these are the addresses then
+  Enter : (own : ℕ) → VlEntry → (addresses : List ℕ) → Change
+  Leave : (rw : ℕ) → Change
+  -- a server's address is another one, or, 0, none
+  Move : (old new : ℕ) → Change
+
 -- what is decided of a call
 pub data Verdict : Type 0 where
   -- the bytes are no call
   NoCall : Verdict
   Refuses : (rule : ℕ) → Verdict
   Answers : VlAnswer → Verdict
-  -- the answer, and the state after
-  Makes : VlAnswer → Location → Verdict
+  -- the answer, and what is changed
+  Makes : VlAnswer → Change → Verdict
 
 -- an entry is put in, with this lock, in place of the one of the read-write id `own`
-abbrev pub entered : Location → (own operation moment : ℕ) → GivenEntry → Location
-entered s own operation moment e =
-    with_entry (with_lock operation moment e) (without_entry own (with_addresses (unwrap_or (placed e.sites s.addresses) s.addresses) s))
+abbrev pub entered : Location → (own operation moment : ℕ) → GivenEntry → Change
+entered s own operation moment e = Enter own (with_lock operation moment e) (unwrap_or (placed e.sites s.addresses) s.addresses)
 
-abbrev pub entered_unless : Option ℕ → Location → Verdict
-entered_unless None s = Makes answer.Done s
-entered_unless (Some fault) s = Refuses fault
+abbrev pub entered_unless : Option ℕ → Change → Verdict
+entered_unless None change = Makes answer.Done change
+entered_unless (Some fault) change = Refuses fault
 
 abbrev pub new_volume_id : Location → ℕ → Verdict
 new_volume_id s bump =
     if nat_lt 20 bump || nat_lt max_id (s.next_volume + bump) then Refuses rule.bad_bump
-    else Makes (answer.Id s.next_volume) (with_next_volume (s.next_volume + bump) s)
+    else Makes (answer.Id s.next_volume) (NextVolume (s.next_volume + bump))
 
 abbrev pub created : Location → GivenEntry → Verdict
 created s e = entered_unless (first_fault (entry_faults s 0 e)) (entered s 0 0 0 e)
@@ -170,6 +178,10 @@ of_entry (Some e) goes = goes e
 -- the entry is told
 abbrev pub told : VlEntry → Verdict
 told e = Answers (answer.Entry e)
+
+-- the entry leaves
+abbrev pub leaves : VlEntry → Verdict
+leaves e = Makes answer.Done (Leave e.rw)
 
 -- of the entry of a name, which is to be one
 abbrev pub named_verdict : Location → List ℕ → Verdict
@@ -197,7 +209,7 @@ is_operation operation = operation == 0x10 || operation == 0x20 || operation == 
 
 abbrev pub locked_by : Location → (operation now : ℕ) → VlEntry → Verdict
 locked_by s operation now e =
-    if e.lock_op == 0 then Makes answer.Done (with_entry (record e { lock_op = operation; lock_moment = now }) s) else Refuses rule.entry_locked
+    if e.lock_op == 0 then Makes answer.Done (Enter e.rw (record e { lock_op = operation; lock_moment = now }) s.addresses) else Refuses rule.entry_locked
 
 abbrev pub lock_set : Location → ℤ → ℕ → (operation now : ℕ) → Verdict
 lock_set s volume_type id operation now =
@@ -206,7 +218,7 @@ lock_set s volume_type id operation now =
     else of_entry (entry_of_type s volume_type id) (locked_by s operation now)
 
 abbrev pub lock_released : Location → (mask : ℕ) → VlEntry → Verdict
-lock_released s mask e = Makes answer.Done (with_entry (record e { lock_op = operation_left mask e; lock_moment = moment_left mask e }) s)
+lock_released s mask e = Makes answer.Done (Enter e.rw (record e { lock_op = operation_left mask e; lock_moment = moment_left mask e }) s.addresses)
 
 -- a site of this server, 0 for any, and this partition, -1 for any
 abbrev pub is_site : (host : ℕ) → (partition : ℤ) → VlSite → Bool
@@ -250,12 +262,18 @@ has_site_at host e = list_any (λ site. site.host == host) e.sites
 
 abbrev pub address_changed : Location → (old new : ℕ) → Verdict
 address_changed s old new =
-    let after = with_addresses (with_place_of old new s.addresses) s in
     if not (has_address s old) then Refuses rule.no_entry
     else if has_address s new then Refuses rule.bad_server
-    else if not (new == 0) then Makes answer.Done (with_moved_sites old new after)
-    else if list_any (has_site_at old) (entries s) then Refuses rule.bad_entry
-    else Makes answer.Done after
+    else if new == 0 && list_any (has_site_at old) (entries s) then Refuses rule.bad_entry
+    else Makes answer.Done (Move old new)
+
+-- ---- what is changed
+
+abbrev pub state_after : Change → Location → Location
+state_after (NextVolume id) s = with_next_volume id s
+state_after (Enter own e addresses) s = with_entered own e (with_addresses addresses s)
+state_after (Leave rw) s = without_entry rw s
+state_after (Move old new) s = with_moved_sites old new (with_addresses (with_place_of old new s.addresses) s)
 
 -- ---- one case a call
 
@@ -263,7 +281,7 @@ unfoldable pub verdict : Location → (now : ℕ) → Option VlCall → Verdict
 verdict s now None = NoCall
 verdict s now (Some (call.GetNewVolumeId bump)) = new_volume_id s bump
 verdict s now (Some (call.CreateEntry e)) = created s e
-verdict s now (Some (call.DeleteEntry id volume_type)) = of_id s volume_type id (λ e. Makes answer.Done (without_entry e.rw s))
+verdict s now (Some (call.DeleteEntry id volume_type)) = of_id s volume_type id leaves
 verdict s now (Some (call.GetEntryById id volume_type)) = of_id s volume_type id told
 verdict s now (Some (call.GetEntryByName name)) = named_verdict s name
 verdict s now (Some (call.ReplaceEntry id volume_type e mask)) = of_masked s volume_type id mask (replaced s e mask)
@@ -278,11 +296,11 @@ abbrev pub reply_by : Verdict → CallReply
 reply_by NoCall = reply.Malformed
 reply_by (Refuses rule) = reply.Rule rule
 reply_by (Answers a) = reply.Done (answer_spelling a)
-reply_by (Makes a s) = reply.Done (answer_spelling a)
+reply_by (Makes a change) = reply.Done (answer_spelling a)
 
 -- a refusal leaves the state
 abbrev pub state_by : Verdict → Location → Location
-state_by (Makes a after) s = after
+state_by (Makes a change) s = state_after change s
 state_by _ s = s
 
 abbrev pub vl_meaning : Meaning Location

@@ -8,3 +8,6 @@ pub const BAD_NAME: u32 = 363_527;
 
 /// The type of a volume is none.
 pub const BAD_VOLUME_TYPE: u32 = 363_529;
+
+/// More volume ids are taken than a call may take, or than there are.
+pub const BAD_BUMP: u32 = 363_539;

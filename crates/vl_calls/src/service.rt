@@ -20,7 +20,7 @@ use ubik_types::NoMemory;
 use vldb_records::{PLACES, VlEntry, addresses, find_id, find_name, is_name};
 
 /// Tells an answer.
-fn tell(alloc: Global, answer: &VlAnswer) -> Result<CallEnd, NoMemory>
+pub(crate) fn tell(alloc: Global, answer: &VlAnswer) -> Result<CallEnd, NoMemory>
     requires { AnswerHasSpelling answer.now }
     ensures { IfOk result (λ end. end ≡ end_of (reply_by (Answers answer.now))) }
 {
@@ -60,7 +60,7 @@ pub fn entry_by_name<I: ImageRead>(
 }
 
 /// Whether a volume type is one: 0 read-write, 1 read-only, 2 backup, -1 any of the three.
-fn is_volume_type(volume_type: i32) -> bool
+pub(crate) fn is_volume_type(volume_type: i32) -> bool
     ensures { result ≡ is_volume_type volume_type }
 {
     volume_type == -1 || volume_type == 0 || volume_type == 1 || volume_type == 2
@@ -82,7 +82,7 @@ fn is_of_type(volume_type: i32, id: u32, e: &VlEntry) -> bool
 }
 
 /// The entry that has an id as its id of a type.
-fn find_typed<I: ImageRead>(
+pub(crate) fn find_typed<I: ImageRead>(
     alloc: Global,
     d: &mut Draft<I>,
     volume_type: i32,

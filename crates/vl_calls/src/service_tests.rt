@@ -1,5 +1,5 @@
 //! Calls over an image in memory that was laid out by hand.
-use crate::{all_addresses, entry_by_id, entry_by_name};
+use crate::{all_addresses, delete_entry, entry_by_id, entry_by_name, take_volume_ids};
 use db_image::{CallEnd, Draft, ImageRead, VecImage};
 use std::alloc::Global;
 use std::test::Fail;
@@ -82,5 +82,61 @@ fn the_used_addresses_are_told(rt: HostRuntime) -> Result<(), Fail> {
     assert!(rt; draft.len() < 10_000);
     let end = all_addresses(rt.alloc(), &mut draft)?;
     assert_eq!(rt; done(&end), [0, 0, 0, 1, 10, 0, 0, 1].as_slice());
+    Ok(())
+}
+
+#[test]
+fn volume_ids_are_taken(rt: HostRuntime) -> Result<(), Fail> {
+    let alloc = rt.alloc();
+    let mut draft = Draft::over(alloc, VecImage::new(alloc, &[])?, 3132, 192);
+    assert!(rt; draft.len() == 0);
+    assert_eq!(rt;
+        done(&take_volume_ids(alloc, &mut draft, 0)?),
+        [0x20, 0, 0, 0].as_slice()
+    );
+    // Nothing was taken, so nothing is written.
+    assert!(rt; draft.len() == 0);
+    assert_eq!(rt; rule(&take_volume_ids(alloc, &mut draft, 21)?), 363_539);
+    assert!(rt; draft.len() == 0);
+    assert_eq!(rt;
+        done(&take_volume_ids(alloc, &mut draft, 20)?),
+        [0x20, 0, 0, 0].as_slice()
+    );
+    assert!(rt; draft.len() == 3132);
+    assert_eq!(rt;
+        done(&take_volume_ids(alloc, &mut draft, 1)?),
+        [0x20, 0, 0, 20].as_slice()
+    );
+    draft.put(8, &[0x7f, 0xff, 0xff, 0xff])?;
+    assert!(rt; draft.len() < 10_000);
+    assert_eq!(rt; rule(&take_volume_ids(alloc, &mut draft, 1)?), 363_539);
+    assert!(rt; draft.len() < 10_000);
+    assert_eq!(rt;
+        done(&take_volume_ids(alloc, &mut draft, 0)?),
+        [0x7f, 0xff, 0xff, 0xff].as_slice()
+    );
+    Ok(())
+}
+
+#[test]
+fn an_entry_is_deleted(rt: HostRuntime) -> Result<(), Fail> {
+    let mut draft = one_volume(rt.alloc())?;
+    for (volume_type, id, number) in [
+        (4, 6, 363_529),
+        (0, 6, 363_524),
+        (1, 6, 0),
+        (1, 6, 363_524),
+    ] {
+        assert!(rt; draft.len() < 10_000);
+        assert_eq!(rt;
+            rule(&delete_entry(rt.alloc(), &mut draft, volume_type, id)?),
+            number
+        );
+    }
+    assert!(rt; draft.len() == 3132 + 192);
+    assert_eq!(rt;
+        rule(&entry_by_name(rt.alloc(), &mut draft, b"root.cell")?),
+        363_524
+    );
     Ok(())
 }
