@@ -3,6 +3,7 @@ use Rattle.std.proofs.Common.{◌≡◌, ℕ, List, [], ◌++◌, Option, Some, 
 use Rattle.disk_base.specs.declared.disks.Disk.{Ghosts}
 use Rattle.cell_runs.specs.Script.{Cell, LineRead, told}
 use Rattle.script_laws.specs.Runs.{NamesCalls, ScriptsAreRuns}
+use Rattle.cell_promises.specs.Promises.{CellsKeepPromises}
 use Rattle.script_promises.specs.Databases.{databases}
 use Rattle.script_promises.specs.Kept.{IsKept}
 use Rattle.script_promises.specs.Order.{HasOneOrder}
@@ -36,10 +37,10 @@ untold_more (kind.Words place) readings script left before after run = refl
 
 -- ---- the headline
 
-pub headline : ScriptsAreRuns → NamesCalls databases → ScriptsKeepPromises → {D : Type 0} (g : Ghosts D) (k : CellKind) (script : List ℕ) (left : Option (List ℕ)) (before : List ℕ) (after : Option (List ℕ))
+pub headline : ScriptsAreRuns → NamesCalls databases → ScriptsKeepPromises → CellsKeepPromises → {D : Type 0} (g : Ghosts D) (k : CellKind) (script : List ℕ) (left : Option (List ℕ)) (before : List ℕ) (after : Option (List ℕ))
     (disks_before disks_after : List D) → RanOver g k databases script left before after disks_before disks_after
     → Headline g k script left before after disks_before disks_after
-headline runs names promises g k script left before after disks_before disks_after over =
+headline runs names promises every g k script left before after disks_before disks_after over =
     let ran = over.ran in
     let readings : List LineRead = ran.readings in
     let with_more : List LineRead = readings ++ ran.more in
@@ -49,6 +50,7 @@ headline runs names promises g k script left before after disks_before disks_aft
       readings = readings;
       run = ran.run;
       world = runs databases names readings;
+      every_cell = every readings;
       one_order = of_one HasOneOrder (λ c has. has.order) cell keeps;
       kept = of_one IsKept (λ c has. has.kept) cell keeps;
       single_copy = of_one HasSingleReplies (λ c has. has.replies) cell keeps;
@@ -59,6 +61,7 @@ headline runs names promises g k script left before after disks_before disks_aft
             (untold_more k readings script left before after ran.run) ran.run_or_not;
         causes = ran.held.causes;
         holds = ran.held.holds;
+        every_cell = every with_more;
         kept = of_one IsKept (λ c has. has.kept) (told databases with_more).stage.cell (promises with_more);
       };
       others = record { reached = over.reached; stay = over.stay; exact = ran.servers };

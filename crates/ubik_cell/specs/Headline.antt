@@ -1,5 +1,5 @@
 -- The headline: what was read and written is the trace of one run of the world, and that run keeps what it promises.
-use Rattle.std.specs.Prelude.{◌≡◌, ◌≢◌, ◌⊎◌, ℕ, Bool, Option, Some, None, List, [], ◌++◌, drop}
+use Rattle.std.specs.Prelude.{◌≡◌, ◌≢◌, ◌⊎◌, ℕ, Bool, Option, Some, None, IfSome, List, [], ◌++◌, drop}
 use Rattle.disk_base.specs.declared.disks.Disk.{Ghosts}
 use Rattle.cell_runs.specs.Script.{Cell, LineRead, cell_size_of, servers_of, told}
 use Rattle.script_laws.specs.Runs.{IsRunOfTold}
@@ -7,6 +7,7 @@ use Rattle.script_promises.specs.Databases.{databases}
 use Rattle.script_promises.specs.Order.{HasOneOrder}
 use Rattle.script_promises.specs.Kept.{IsKept}
 use Rattle.script_promises.specs.Replies.{HasSingleReplies}
+use Rattle.cell_promises.specs.Promises.{HasMeaning}
 use Rattle.cell_sites.specs.Disks.{Held, all_held}
 use Rattle.cell_sites.specs.Opened.{counts_of}
 use Rattle.ubik_cell.specs.Lines.{HeldCauses, HoldStage}
@@ -31,6 +32,7 @@ pub record DisksHold (readings : List LineRead) (untold : List (List ℕ)) (give
   pub run_or_not : (more ≡ []) ⊎ (read_lines more ≡ untold)
   pub causes : HeldCauses (told databases (readings ++ more)).stage.cell (told databases (readings ++ more)).items disks
   pub holds : HoldStage databases given short (told databases (readings ++ more)).stage.cell disks
+  pub every_cell : IfSome (told databases (readings ++ more)).stage.cell HasMeaning
   pub kept : OfOneAfter IsKept (readings ++ more)
 
 -- the line in which memory ran out, if it did in one
@@ -45,14 +47,16 @@ pub record OthersStay {D : Type 0} (k : CellKind) (servers : ℕ) (before after 
   pub stay : drop reached after ≡ drop reached before
   pub exact : k ≢ kind.NoMemory → reached ≡ servers
 
--- One run: its bytes are those that were written, it is a run of the world, and in a cell of one server its committed transactions
--- have one order, what was acknowledged is kept, its replies are those of the single copy; each stop, halt and failed opening that it
--- tells is a fault of that server's disk; and the disks hold the run.
+-- One run: its bytes are those that were written, it is a run of the world; in a cell of any size its committed transactions have one
+-- order, what was acknowledged is kept, and its replies are those of the single copy. In a cell of one server they are those of the order
+-- before their event, at its moment, and nothing is seen that such a cell cannot show. Each stop, halt and failed opening that it tells
+-- is a fault of that server's disk; and the disks hold the run.
 pub record Headline {D : Type 0} (g : Ghosts D) (k : CellKind) (script : List ℕ) (left : Option (List ℕ))
     (before : List ℕ) (after : Option (List ℕ)) (disks_before disks_after : List D) : Type 0 where
   pub readings : List LineRead
   pub run : Runs k databases readings script left before after
   pub world : IsRunOfTold databases (told databases readings)
+  pub every_cell : IfSome (told databases readings).stage.cell HasMeaning
   pub one_order : OfOneAfter HasOneOrder readings
   pub kept : OfOneAfter IsKept readings
   pub single_copy : OfOneAfter HasSingleReplies readings

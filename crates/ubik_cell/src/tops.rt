@@ -20,6 +20,7 @@ ghost use Rattle.ubik_cell.specs.Turns.{Ran, RanOver, SoFar, end_after};
 
 use crate::cells::{CellEnd, CellKind};
 use crate::scripts::{CellRun, RunEnd};
+use cell_promises::law_cells_keep_promises;
 use cell_runs::Ending;
 use cell_script::{LineEnd, LineReader, write_whole};
 use db_image::WordForms;
@@ -171,6 +172,7 @@ pub fn cell_top<S: Source, K: Sink, D: StopDisk>(
     law_sound_fronts();
     law_faults_have_servers();
     law_scripts_keep_promises();
+    law_cells_keep_promises();
     law_words_are_calls();
     if !words.is_empty() {
         let kind = CellKind::Words { place: 1 };
