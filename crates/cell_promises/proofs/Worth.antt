@@ -2,8 +2,7 @@
 use Rattle.std.proofs.Common.{◌≡◌, ◌≤◌, ℕ, List, [], ◌∷◌, ◌++◌, length, Option, Some, None, IfSome, refl, sym, ap, subst, arith}
 use Rattle.std.proofs.lemmas.List.Elements.{All-weaker}
 use Rattle.std.specs.Prelude.{All, Contains}
-use Rattle.db_image.specs.Database.{Database, Outcome}
-use Rattle.db_image.specs.declared.services.CallReply.TheVariants.{Malformed}
+use Rattle.db_image.specs.Database.{Database}
 use Rattle.ubik_calls.specs.declared.replies.Reply.{Reply}
 use Rattle.ubik_calls.specs.declared.replies.Reply.TheVariants as reply
 use Rattle.cell_model.specs.Book.{Book, Given, Run, order_of, first_run, run_through}
@@ -16,14 +15,10 @@ use Rattle.cell_model.specs.World.{World, Event, IsRun, IsFirst, happens, world_
 use Rattle.cell_pages.specs.Images.{KeepsImages}
 use Rattle.cell_orders.specs.Laws as laws
 use Rattle.cell_orders.specs.Replies.{transaction_in, LeavesCopy, IsSingleReply, IsAtSync}
-use Rattle.prdb_entries.specs.Agreement.{IsMeant}
-use Rattle.prdb_entries.specs.ByteMeaning.{meant, protection_meaning}
-use Rattle.prdb_entries.specs.Call.{PrCall}
-use Rattle.prdb_entries.specs.Layout.{StandsFor}
-use Rattle.prdb_entries.specs.Meaning.{meaning}
-use Rattle.prdb_entries.specs.Protection.{protection, outcome}
-use Rattle.prdb_entries.specs.Reading.{call_of}
-use Rattle.prdb_entries.specs.State.{PrState, initial_state}
+use Rattle.prdb_entries.specs.Registry.{Registry}
+use Rattle.pt_calls.specs.Laws.{DoesWhatIsMeant, LeavesStates, NeverShrinks}
+use Rattle.pt_calls.specs.Meaning.{pt_meaning}
+use Rattle.pt_calls.specs.Standing.{StandsFor, pt_database}
 use Rattle.cell_script.specs.declared.lines.Kind.{Kind}
 use Rattle.cell_runs.specs.Script.{Cell, Told, told}
 use Rattle.cell_runs.specs.ScriptDatabase.{Databases}
@@ -111,73 +106,60 @@ scripts_have_order laws_hold runs dbs names keep readings =
 -- ---- the protection database
 
 pub record ProtectionLaws : Type 0 where
-  pub means : (s : PrState) (image bytes : List ℕ) (now : ℕ) (call : PrCall) → StandsFor image s → call_of bytes ≡ Some call →
-      IsMeant (protection.call image now bytes) image s (meaning s now call)
-  pub no_call : (image bytes : List ℕ) (now : ℕ) → call_of bytes ≡ None → protection.call image now bytes ≡ outcome image (Malformed, None)
-  pub never_shrinks : (image bytes : List ℕ) (now : ℕ) → length image ≤ length (protection.call image now bytes).image
-  pub first : StandsFor [] initial_state
+  pub means : DoesWhatIsMeant
+  pub leaves : LeavesStates
+  pub never_shrinks : NeverShrinks
+  pub first : StandsFor [] pt_meaning.first
 
 module _ (of : ProtectionLaws) where
-  pub keeps_images : KeepsImages protection
-  keeps_images = record { block = (λ is. absurd (omega arith)); grows = λ image now call. of.never_shrinks image call now }
+  pub keeps_images : KeepsImages pt_database
+  keeps_images = record { block = (λ is. absurd (omega arith)); grows = of.never_shrinks }
 
-  means_at : (image : List ℕ) (s : PrState) (now : ℕ) (bytes : List ℕ) (call : Option PrCall) → call_of bytes ≡ call → StandsFor image s →
-      ((protection.call image now bytes).reply ≡ (meant s now call).reply)
-      × StandsFor (protection.call image now bytes).image (meant s now call).state
-      × ((protection.call image now bytes).image ≡ image → (meant s now call).state ≡ s)
-  means_at image s now bytes None is stands = (
-    ap (λ (o : Outcome). o.reply) (of.no_call image bytes now is),
-    subst (λ (o : Outcome). StandsFor o.image s) (sym (of.no_call image bytes now is)) stands,
-    λ _. refl,
-  )
-  means_at image s now bytes (Some call) is stands =
-      let m = of.means s image bytes now call stands is in (m.reply, m.stands, m.moves)
-
-  means : (image : List ℕ) (s : PrState) (now : ℕ) (bytes : List ℕ) → StandsFor image s →
-      IsMeantAt protection protection_meaning StandsFor image s now bytes
+  means : (image : List ℕ) (s : Registry) (now : ℕ) (bytes : List ℕ) → StandsFor image s → IsMeantAt pt_database pt_meaning StandsFor image s now bytes
   means image s now bytes stands =
-      let all = means_at image s now bytes (call_of bytes) refl stands in record { reply = all.0; stands = all.1; moves = all.2 }
+      let m = of.means image s now bytes stands in
+      record { reply = m.reply; stands = m.stands; moves = of.leaves image s now bytes stands }
 
   -- a transaction that changes nothing of the single copy leaves the state
-  left : (list : List Transaction) (t : Transaction) → ChangesNothing protection list t → meant_state (list ++ t ∷ []) ≡ meant_state list
+  left : (list : List Transaction) (t : Transaction) → ChangesNothing pt_database list t → meant_state (list ++ t ∷ []) ≡ meant_state list
   left list t none =
-      state_left protection protection_meaning StandsFor of.first means list t (none.1 (omega arith) longer)
+      state_left pt_database pt_meaning StandsFor of.first means list t (none.1 (omega arith) longer)
     where
-      longer : length (image_after protection list) ≤ length (image_after protection (list ++ t ∷ []))
+      longer : length (image_after pt_database list) ≤ length (image_after pt_database (list ++ t ∷ []))
       longer =
-          subst (λ (image : List ℕ). length (image_after protection list) ≤ length image) (sym (image_from-append protection [] list (t ∷ [])))
-          (of.never_shrinks (image_after protection list) t.call t.moment)
+          subst (λ (image : List ℕ). length (image_after pt_database list) ≤ length image) (sym (image_from-append pt_database [] list (t ∷ [])))
+          (of.never_shrinks (image_after pt_database list) t.moment t.call)
 
-  leaves_state : (list : List Transaction) (g : Given) (b : Basis) (r : Reply) → LeavesCopy protection list g b r → LeavesState list g b r
+  leaves_state : (list : List Transaction) (g : Given) (b : Basis) (r : Reply) → LeavesCopy pt_database list g b r → LeavesState list g b r
   leaves_state list g (Commit_on old new) r is = tt
   leaves_state list g (Announced_image v) (reply.Ok fields) is = λ writes. left list (transaction_in g) (is writes)
   leaves_state list g (Beacon_image v) (reply.Ok fields) is = λ writes. left list (transaction_in g) (is writes)
   leaves_state list g (Announced_image v) _ is = tt
   leaves_state list g (Beacon_image v) _ is = tt
 
-  meant_reply : (book : Book) (order : List Transaction) (g : Given) → IsSingleReply protection book order g → IsMeantReply book g
+  meant_reply : (book : Book) (order : List Transaction) (g : Given) → IsSingleReply pt_database book order g → IsMeantReply book g
   meant_reply book order g is = record {
     list = is.list;
     listed = is.listed;
     meant =
         subst (λ r. IsReplyOf r g.reply)
-        (reply_meant protection protection_meaning StandsFor of.first means is.list g.evaluation.moment g.evaluation.call)
+        (reply_meant pt_database pt_meaning StandsFor of.first means is.list g.evaluation.moment g.evaluation.call)
         (is.replied keeps_images);
     leaves = leaves_state is.list g g.evaluation.basis g.reply (is.leaves keeps_images);
   }
 
-  has_meaning : (c : Cell) → HasOrder protection c → HasMeaning c
+  has_meaning : (c : Cell) → HasOrder pt_database c → HasMeaning c
   has_meaning c is = record {
     order = is;
     states = λ front back split k site s get up ready.
-        subst (λ (image : List ℕ). StandsFor image (meant_state (order_of (run_of protection c front).announcements)))
+        subst (λ (image : List ℕ). StandsFor image (meant_state (order_of (run_of pt_database c front).announcements)))
         (sym (is.sites front back split k site s get up ready))
-        (image_stands protection protection_meaning StandsFor of.first means (order_of (run_of protection c front).announcements));
+        (image_stands pt_database pt_meaning StandsFor of.first means (order_of (run_of pt_database c front).announcements));
     replies = λ front back split.
-        All-weaker (IsSingleReply protection (run_of protection c front).book (order_of (run_of protection c front).announcements))
-        (IsMeantReply (run_of protection c front).book)
-        (λ g single. meant_reply (run_of protection c front).book (order_of (run_of protection c front).announcements) g single)
-        (run_of protection c front).given (is.replies front back split);
+        All-weaker (IsSingleReply pt_database (run_of pt_database c front).book (order_of (run_of pt_database c front).announcements))
+        (IsMeantReply (run_of pt_database c front).book)
+        (λ g single. meant_reply (run_of pt_database c front).book (order_of (run_of pt_database c front).announcements) g single)
+        (run_of pt_database c front).given (is.replies front back split);
   }
 
   over_cell : (cell : Option Cell) → IfSome cell (λ c. HasOrder (database_of databases c) c) → IfSome cell HasMeaning

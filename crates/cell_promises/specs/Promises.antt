@@ -15,10 +15,9 @@ use Rattle.cell_model.specs.World.{Site, Event, member, site_of, happens}
 use Rattle.cell_pages.specs.Images.{KeepsImages}
 use Rattle.cell_orders.specs.Asked.{AnswersAsk}
 use Rattle.cell_orders.specs.Replies.{transaction_in, version_in_reply, IsSingleReply, IsAtSync, HasEvaluation, PrefixesStay}
-use Rattle.prdb_entries.specs.ByteMeaning.{protection_meaning}
-use Rattle.prdb_entries.specs.Layout.{StandsFor}
-use Rattle.prdb_entries.specs.Protection.{protection}
-use Rattle.prdb_entries.specs.State.{PrState}
+use Rattle.prdb_entries.specs.Registry.{Registry}
+use Rattle.pt_calls.specs.Meaning.{pt_meaning}
+use Rattle.pt_calls.specs.Standing.{StandsFor, pt_database}
 use Rattle.cell_script.specs.declared.lines.Kind.{Kind}
 use Rattle.cell_runs.specs.Script.{LineRead, Cell, told}
 use Rattle.cell_runs.specs.ScriptDatabase.{Databases}
@@ -63,32 +62,32 @@ ScriptsHaveOrder =
 -- ---- the protection database
 
 -- the state of the single copy after these transactions
-abbrev pub meant_state : List Transaction → PrState
-meant_state transactions = state_of protection_meaning transactions
+abbrev pub meant_state : List Transaction → Registry
+meant_state transactions = state_of pt_meaning transactions
 
 -- an Ok to a call that writes, which is no commit's, leaves the state
 abbrev pub LeavesState : List Transaction → Given → Basis → Reply → Type 0
 LeavesState list g (Commit_on old new) r = Unit {0}
 LeavesState list g _ (reply.Ok fields) =
-    protection.writes g.evaluation.call ≡ Some true → meant_state (list ++ transaction_in g ∷ []) ≡ meant_state list
+    pt_database.writes g.evaluation.call ≡ Some true → meant_state (list ++ transaction_in g ∷ []) ≡ meant_state list
 LeavesState list g _ r = Unit {0}
 
 -- the reply is what its call means for the state of the list of the version under it
 pub record IsMeantReply (book : Book) (g : Given) : Type 0 where
   pub list : List Transaction
   pub listed : list_of book (version_in_reply g) ≡ Some list
-  pub meant : IsReplyOf (reply_of protection_meaning list g.evaluation.moment g.evaluation.call) g.reply
+  pub meant : IsReplyOf (reply_of pt_meaning list g.evaluation.moment g.evaluation.call) g.reply
   pub leaves : LeavesState list g g.evaluation.basis g.reply
 
 pub record HasMeaning (c : Cell) : Type 0 where
-  pub order : HasOrder protection c
+  pub order : HasOrder pt_database c
   -- the database of each ready sync site stands for the state of the order
   pub states : (front back : List Event) → c.events ≡ front ++ back →
-      let r = run_of protection c front in
+      let r = run_of pt_database c front in
       (k : ℕ) (site : Site) (s : Server) → site_of r.world k ≡ Some site → site.node ≡ Up s →
       is_ready_site (member r.world k) site.clock (Up s) ≡ true → StandsFor (site_database s) (meant_state (order_of r.announcements))
   pub replies : (front back : List Event) → c.events ≡ front ++ back →
-      let r = run_of protection c front in All (IsMeantReply r.book) r.given
+      let r = run_of pt_database c front in All (IsMeantReply r.book) r.given
 
 -- Whatever the lines, and whatever the disks do: a cell that stands after them has this.
 abbrev pub CellsKeepPromises : Type 0

@@ -5,7 +5,7 @@ use cell_orders::{
     law_acknowledged_stay, law_announcements_grow, law_prefixes_stay, law_replies,
     law_sites_serve_the_order,
 };
-use prdb_entries::{law_call_means, law_empty_is_initial, law_images_never_shrink};
+use pt_calls::{an_image_stands_for_one_state, calls_are_meant};
 use script_laws::law_scripts_are_runs;
 use script_promises::law_words_are_calls;
 
@@ -31,7 +31,6 @@ pub fn law_cells_keep_promises()
 {
     law_scripts_have_order();
     law_words_are_calls();
-    law_call_means();
-    law_images_never_shrink();
-    law_empty_is_initial();
+    calls_are_meant();
+    an_image_stands_for_one_state();
 }

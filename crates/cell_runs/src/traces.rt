@@ -10,7 +10,7 @@ ghost use Rattle.cell_runs.specs.Trace.{FitsCall, FitsReply, Tells, Shows, phase
 use crate::endings::{Ending, Which};
 use cell_model::Output;
 use cell_script::Why;
-use db_image::WordForms;
+use db_image::DraftWords;
 use ubik_calls::{Body, Packet, Reply};
 use ubik_types::{Applied, Host, NoMemory, Phase, Version};
 
@@ -124,14 +124,14 @@ fn tell_packet(
 }
 
 /// Adds a reply, as it stands behind the number of its call and its server. `call` has the bytes of the call that an Ok answers.
-fn tell_reply<V: WordForms>(
+fn tell_reply<V: DraftWords>(
     text: &mut String,
     hosts: &[Host],
     reply: &Reply,
     call: &[u8],
 ) -> Result<(), NoMemory>
     ensures { OnOk result ((e : Option Evaluation) → FitsReply reply.now call.now e →
-        string_bytes text.new ≡ string_bytes text.old ++ reply_text (script_database V.database V.words) hosts.now reply.now e) }
+        string_bytes text.new ≡ string_bytes text.old ++ reply_text (script_database V.standing.database V.words) hosts.now reply.now e) }
 {
     match reply {
         Reply::Ok(answer) => {
@@ -166,7 +166,7 @@ fn tell_reply<V: WordForms>(
 /// Adds the line of an output of a server of the cell of these hosts. The server is counted from 0 and printed by its number
 /// from 1; a packet has the number that is given; `call` has the bytes of the call that an Ok answers. After an `Err` a part of
 /// the line may stand at the end.
-pub fn tell_output<V: WordForms>(
+pub fn tell_output<V: DraftWords>(
     text: &mut String,
     hosts: &[Host],
     server: u32,
@@ -176,7 +176,7 @@ pub fn tell_output<V: WordForms>(
 ) -> Result<(), NoMemory>
     requires { server < 20 }
     ensures { OnOk result ((e : Option Evaluation) → FitsCall output.now call.now e → string_bytes text.new ≡ string_bytes text.old
-        ++ item_text (script_database V.database V.words) hosts.now (Tells (seen_of_output server packet output.now e))) }
+        ++ item_text (script_database V.standing.database V.words) hosts.now (Tells (seen_of_output server packet output.now e))) }
 {
     let number = server + 1;
     match output {
@@ -262,7 +262,7 @@ fn tell_showing(text: &mut String, showing: Option<Showing>) -> Result<(), NoMem
 }
 
 /// Adds the line that shows a server, counted from 0, at its clock in seconds. After an `Err` a part of it may stand at the end.
-pub fn tell_show<V: WordForms>(
+pub fn tell_show<V: DraftWords>(
     text: &mut String,
     hosts: &[Host],
     server: u32,
@@ -271,7 +271,7 @@ pub fn tell_show<V: WordForms>(
 ) -> Result<(), NoMemory>
     requires { server < 20 }
     ensures { OnOk result (string_bytes text.new ≡ string_bytes text.old
-        ++ item_text (script_database V.database V.words) hosts.now (Shows server clock showing)) }
+        ++ item_text (script_database V.standing.database V.words) hosts.now (Shows server clock showing)) }
 {
     write!(text, "show {} clock {clock}", server + 1)?;
     tell_showing(text, showing)?;

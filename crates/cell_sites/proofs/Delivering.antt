@@ -5,6 +5,7 @@ use Rattle.std.specs.Option.{option_and_then, option_map}
 use Rattle.std.proofs.lemmas.List.{append-nil}
 use Rattle.std.proofs.lemmas.Option.{get_or_from_slice_get, slice_get_read, slice_get_within}
 use Rattle.db_image.specs.Database.{Database}
+use Rattle.db_image.specs.Standing.{Standing}
 use Rattle.disk_base.specs.declared.disks.Disk.{Ghosts}
 use Rattle.disk_base.specs.Files.{Files}
 use Rattle.ubik_types.specs.declared.hosts.Host.{Host}
@@ -59,7 +60,7 @@ stands_with running c p handed stands sent is =
       disks = hold_as _ c (with_handed c handed) _ false _ (same_run c (with_handed c handed) refl refl refl) stands.disks;
     }
 
-pub sound_with : {D V : Type 0} (g : Ghosts D) (bound : ℕ) (running : OpenCell D V) (p : Traffic) → IsSound g bound running → p.sent ≡ running.packets.sent → IsSound g bound (with_packets running p)
+pub sound_with : {D V : Type 0} {standing : Standing} (g : Ghosts D) (bound : ℕ) (running : OpenCell D V) (p : Traffic) → IsSound g standing bound running → p.sent ≡ running.packets.sent → IsSound g standing bound (with_packets running p)
 sound_with g bound running p sound sent =
     record {
       some = sound.some;

@@ -56,6 +56,7 @@ use Rattle.cell_sites.proofs.Plainly.{and_some, make_if, make_some, of_some, som
 use Rattle.cell_sites.proofs.Reading.{read_at}
 use Rattle.cell_sites.proofs.Running.{held_at, moved_set, reads_both, reads_set, rises_set, short_after, whole}
 use Rattle.cell_sites.proofs.Soundly.{none_sent, sound_after}
+use Rattle.db_image.specs.Standing.{Standing}
 
 -- what a call says that did not find memory wanting
 pub ok_says : {P : Type 0} (r : Result (Unit {0}) NoMemory) → r ≡ Ok tt → OnOk r P → P
@@ -77,8 +78,8 @@ module _ {D V : Type 0} (g : Ghosts D) (running after : OpenCell D V) (k : ℕ) 
   pub many_at : length after.sites.items ≡ length running.sites.items
   many_at = ap length sites ∙ length-set running.sites.items k later
 
-  pub sound_at_place : (bound : ℕ) → IsSound g bound running → later.clock ≡ site.clock → IsSoundServer g (member_at running k) later.clock later.server → IsSoundDisk g (site_disk later)
-      → after.hosts.items ≡ running.hosts.items → after.packets ≡ running.packets → after.outputs ≡ running.outputs → IsSound g bound after
+  pub sound_at_place : {standing : Standing} (bound : ℕ) → IsSound g standing bound running → later.clock ≡ site.clock → IsSoundServer g (member_at running k) later.clock later.server → IsSoundDisk g standing (site_disk later)
+      → after.hosts.items ≡ running.hosts.items → after.packets ≡ running.packets → after.outputs ≡ running.outputs → IsSound g standing bound after
   sound_at_place bound sound clock is disk hosts packets outputs =
       sound_after g bound running after k site later [] sound there clock is disk sites hosts (packets ∙ none_sent running.packets) (All-nil _) (outputs ∙ sound.told)
 
@@ -139,8 +140,8 @@ module _ {D V : Type 0} (g : Ghosts D) (running after : OpenCell D V) (k clock c
 
 module _ {D V : Type 0} (g : Ghosts D) (clock calls : ℕ) (fill : Fill) (node later : Node D V) (disk : IsArmed g calls fill node.store.disk later.store.disk) (same : (later.state ≡ node.state) × (later.halted ≡ node.halted) × (later.last ≡ node.last)) where
   -- it stays sound
-  pub arm_disk : IsSoundDisk g node.store.disk → IsSoundDisk g later.store.disk
-  arm_disk sound =
+  pub arm_disk : {standing : Standing} → IsSoundDisk g standing node.store.disk → IsSoundDisk g standing later.store.disk
+  arm_disk {standing} sound =
       let at = some_of (g.files node.store.disk) sound.told in
       let is : g.files later.store.disk ≡ Some at.0 = disk.files ∙ at.1 in
       record {
@@ -148,7 +149,7 @@ module _ {D V : Type 0} (g : Ghosts D) (clock calls : ℕ) (fill : Fill) (node l
         settled = make_if (g.files later.store.disk) at.0 (λ fs. Only fs (g.may_leave later.store.disk)) is
             (λ c left. of_some (g.files node.store.disk) at.0 (λ fs. Only fs (g.may_leave node.store.disk)) at.1 sound.settled c (disk.crash.no_more c left));
         plain = make_if (g.files later.store.disk) at.0 IsPlain is (of_some (g.files node.store.disk) at.0 IsPlain at.1 sound.plain);
-        stands = make_if (g.files later.store.disk) at.0 StandsForSome is (of_some (g.files node.store.disk) at.0 StandsForSome at.1 sound.stands);
+        stands = make_if (g.files later.store.disk) at.0 (StandsForSome standing) is (of_some (g.files node.store.disk) at.0 (StandsForSome standing) at.1 sound.stands);
       }
 
   pub arm_node : (m : Member) → IsSoundNode g m clock node → IsStored g later → IsSoundNode g m clock later
@@ -164,7 +165,7 @@ module _ {D V : Type 0} (g : Ghosts D) (clock calls : ℕ) (fill : Fill) (node l
 -- ---- a server that goes down
 
 -- a settled disk is revived as it is
-pub revived_read : {D : Type 0} (g : Ghosts D) (old new : D) (d : Durable) → IsSoundDisk g old → IsRevived g old new → IsSomeAnd (g.files old) (StandsAs d) → IsSomeAnd (g.files new) (StandsAs d)
+pub revived_read : {D : Type 0} {standing : Standing} (g : Ghosts D) (old new : D) (d : Durable) → IsSoundDisk g standing old → IsRevived g old new → IsSomeAnd (g.files old) (StandsAs d) → IsSomeAnd (g.files new) (StandsAs d)
 revived_read g old new d sound revived read =
     let at = some_of (g.files old) sound.told in
     let there = some_of (g.files new) (revived.told (g.tells_now old sound.told)) in
@@ -172,8 +173,8 @@ revived_read g old new d sound revived read =
     let same : there.0 ≡ at.0 = of_some (g.files old) at.0 (λ fs. Only fs (g.may_leave old)) at.1 sound.settled there.0 left.0 in
     make_some (g.files new) there.0 (StandsAs d) there.1 (subst (StandsAs d) (sym same) (and_some (g.files old) at.0 (StandsAs d) at.1 read))
 
-pub revived_sound : {D : Type 0} (g : Ghosts D) (old new : D) → IsSoundDisk g old → IsRevived g old new → IsSoundDisk g new
-revived_sound g old new sound revived =
+pub revived_sound : {D : Type 0} {standing : Standing} (g : Ghosts D) (old new : D) → IsSoundDisk g standing old → IsRevived g old new → IsSoundDisk g standing new
+revived_sound {D} {standing} g old new sound revived =
     let at = some_of (g.files old) sound.told in
     let some = revived.told (g.tells_now old sound.told) in
     let there = some_of (g.files new) some in
@@ -183,10 +184,10 @@ revived_sound g old new sound revived =
       told = some;
       settled = make_if (g.files new) there.0 (λ fs. Only fs (g.may_leave new)) there.1 left.1;
       plain = make_if (g.files new) there.0 IsPlain there.1 (subst IsPlain (sym same) (of_some (g.files old) at.0 IsPlain at.1 sound.plain));
-      stands = make_if (g.files new) there.0 StandsForSome there.1 (subst StandsForSome (sym same) (of_some (g.files old) at.0 StandsForSome at.1 sound.stands));
+      stands = make_if (g.files new) there.0 (StandsForSome standing) there.1 (subst (StandsForSome standing) (sym same) (of_some (g.files old) at.0 (StandsForSome standing) at.1 sound.stands));
     }
 
-module _ {D V : Type 0} (g : Ghosts D) (running after : OpenCell D V) (k : ℕ) (down : TakenDown g k running after) (disk : IsSoundDisk g (server_disk down.server)) where
+module _ {D V : Type 0} {standing : Standing} (g : Ghosts D) (running after : OpenCell D V) (k : ℕ) (down : TakenDown g k running after) (disk : IsSoundDisk g standing (server_disk down.server)) where
   abbrev pub before_site : Site D V
   before_site = record { clock = down.clock; server = down.server }
 
@@ -215,7 +216,7 @@ module _ {D V : Type 0} (g : Ghosts D) (running after : OpenCell D V) (k : ℕ) 
   pub crash_rises : AreRises 0 [] (helds g running) (helds g after)
   crash_rises = rises_at g running after k before_site down_site down.there down.sites (let f = down.revived.faults in omega (arith, f))
 
-  pub crash_sound : (bound : ℕ) → IsSound g bound running → IsSound g bound after
+  pub crash_sound : (bound : ℕ) → IsSound g standing bound running → IsSound g standing bound after
   crash_sound bound sound =
       sound_at_place g running after k before_site down_site down.there down.sites bound sound refl tt (revived_sound g (server_disk down.server) down.disk disk down.revived) down.hosts down.packets down.outputs
 
@@ -230,7 +231,7 @@ down_sound g m clock (Up n) is = absurd (by n.halted is)
     by true is = cc
     by false is = cc
 
-module _ {D V : Type 0} (g : Ghosts D) (script_db : ScriptDatabase) (running after : OpenCell D V) (k : ℕ) (result : Result (Unit {0}) NoMemory) (tb ta : List ℕ) (bound : ℕ) (sound : IsSound g bound running) (re : SiteReopened g script_db k result running after tb ta) (disk : IsSoundDisk g re.disk) where
+module _ {D V : Type 0} {standing : Standing} (g : Ghosts D) (script_db : ScriptDatabase) (running after : OpenCell D V) (k : ℕ) (result : Result (Unit {0}) NoMemory) (tb ta : List ℕ) (bound : ℕ) (sound : IsSound g standing bound running) (re : SiteReopened g standing script_db k result running after tb ta) (disk : IsSoundDisk g standing re.disk) where
   abbrev pub closed_site : Site D V
   closed_site = record { clock = re.clock; server = Down re.disk }
 
@@ -238,10 +239,10 @@ module _ {D V : Type 0} (g : Ghosts D) (script_db : ScriptDatabase) (running aft
   open_site = record { clock = re.clock; server = re.server }
 
   -- what is known of it whatever its files stand for
-  some_durable : (d : Durable) × ServerOpens g (member_at running k) re.clock d re.end re.disk re.server
+  some_durable : (d : Durable) × ServerOpens g standing (member_at running k) re.clock d re.end re.disk re.server
   some_durable =
       let at = some_of (g.files re.disk) disk.told in
-      let stands = of_some (g.files re.disk) at.0 StandsForSome at.1 disk.stands in
+      let stands = of_some (g.files re.disk) at.0 (StandsForSome standing) at.1 disk.stands in
       (stands.0, re.opens stands.0 (make_some (g.files re.disk) at.0 (StandsAs stands.0) at.1 stands.1))
 
   pub reopen_rises : AreRises 0 [] (helds g running) (helds g after)
@@ -252,7 +253,7 @@ module _ {D V : Type 0} (g : Ghosts D) (script_db : ScriptDatabase) (running aft
   server_sound opened.StaysDown d is = down_sound g (member_at running k) re.clock re.server is.0
   server_sound opened.NoMemory d is = down_sound g (member_at running k) re.clock re.server is
 
-  pub reopen_sound : (other : ℕ) → IsSound g other running → IsSound g other after
+  pub reopen_sound : (other : ℕ) → IsSound g standing other running → IsSound g standing other after
   reopen_sound other still =
       sound_at_place g running after k closed_site open_site re.there re.sites other still refl (server_sound re.end some_durable.0 some_durable.1.is) some_durable.1.sound re.hosts re.packets re.outputs
 
@@ -266,7 +267,7 @@ module _ {D V : Type 0} (g : Ghosts D) (script_db : ScriptDatabase) (running aft
     read : IsReadBy site.s (held g re.disk)
     read = read_at g c.run.world.sites running.sites.items k site.s closed_site stands.disks.read site.there re.there
 
-    opens : ServerOpens g (member_at running k) re.clock site.s.durable re.end re.disk re.server
+    opens : ServerOpens g standing (member_at running k) re.clock site.s.durable re.end re.disk re.server
     opens = re.opens site.s.durable read
 
     -- the calls of the opening

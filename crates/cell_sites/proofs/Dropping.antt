@@ -4,6 +4,7 @@ use Rattle.std.specs.Prelude.{slice_get, unwrap_or}
 use Rattle.std.proofs.lemmas.List.{append-nil}
 use Rattle.std.proofs.lemmas.Option.{slice_get_within}
 use Rattle.db_image.specs.Database.{Database}
+use Rattle.db_image.specs.Standing.{Standing}
 use Rattle.disk_base.specs.declared.disks.Disk.{Ghosts}
 use Rattle.disk_base.specs.Files.{Files}
 use Rattle.ubik_calls.specs.declared.packets.Packet.{Packet}
@@ -62,7 +63,7 @@ host_handed running c packets k host is there stands =
     ∙ ap (λ (l : List Bool). dropped_of (host_at c.run.world.hosts k) c.run.world.packets l) (sym stands.handed)
 
 -- a server that is up has a host
-pub host_within : {D V : Type 0} (g : Ghosts D) (bound : ℕ) (running : OpenCell D V) (k : ℕ) → IsSound g bound running → IsUpAt running k → k < length running.hosts.items
+pub host_within : {D V : Type 0} {standing : Standing} (g : Ghosts D) (bound : ℕ) (running : OpenCell D V) (k : ℕ) → IsSound g standing bound running → IsUpAt running k → k < length running.hosts.items
 host_within g bound running k sound up =
     let within = slice_get_within running.sites.items k _ up.there in
     let count = host_count g bound running sound in

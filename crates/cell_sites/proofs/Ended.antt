@@ -33,14 +33,15 @@ use Rattle.cell_sites.specs.declared.steps.SiteEnd.TheVariants as ended
 use Rattle.cell_sites.proofs.Counting.{each_on}
 use Rattle.cell_sites.proofs.FewCalls.{packet_none}
 use Rattle.cell_sites.proofs.Made.{end_marks, marks_one}
-use Rattle.cell_sites.proofs.Nodes.{halted_leaves, halted_rests, is_up, plain_left, sound_revived}
+use Rattle.cell_sites.proofs.Nodes.{halted_rests, is_up, sound_revived}
 use Rattle.cell_sites.proofs.Plainly.{and_some, make_some}
 use Rattle.cell_sites.proofs.Serving.{FilesAt, failed_in, files_at, one_durable, served_rise}
 use Rattle.cell_sites.proofs.Shortage.{CameShort}
+use Rattle.db_image.specs.Standing.{Standing}
 
 module _ {D V : Type 0} (g : Ghosts D) (db : Database) (m : Member) (clock : ℕ) (e : NodeEvent) where
   -- a fault that is told is one of its disk
-  pub faults_made : (k : ℕ) (end : SiteEnd) (node later : Node D V) (out : List Output) (server : Server D V) (left : List Output) → NodeStepped g db m clock e end node later out → Becomes g end later out server left
+  pub faults_made : {standing : Standing} (k : ℕ) (end : SiteEnd) (node later : Node D V) (out : List Output) (server : Server D V) (left : List Output) → NodeStepped g standing db m clock e end node later out → Becomes g end later out server left
       → g.faults node.store.disk + fault_count k (map Tells (end_marks k end)) ≤ g.faults (server_disk server)
   faults_made k ended.Made node later out server left step becomes =
       let kept = step.calls.1.cause.never_falls in
@@ -64,23 +65,22 @@ module _ {D V : Type 0} (g : Ghosts D) (db : Database) (m : Member) (clock : ℕ
       omega (arith, kept, is)
 
   -- the server and its disk stay sound
-  as_up : (later : Node D V) (server : Server D V) → server ≡ Up later → StaysSound g m clock later → IsSoundServer g m clock server × IsSoundDisk g (server_disk server)
-  as_up later server is sound = subst (λ (s : Server D V). IsSoundServer g m clock s × IsSoundDisk g (server_disk s)) (sym is) (sound.node, sound.disk)
+  as_up : {standing : Standing} (later : Node D V) (server : Server D V) → server ≡ Up later → StaysSound g standing m clock later → IsSoundServer g m clock server × IsSoundDisk g standing (server_disk server)
+  as_up {standing} later server is sound = subst (λ (s : Server D V). IsSoundServer g m clock s × IsSoundDisk g standing (server_disk s)) (sym is) (sound.node, sound.disk)
 
-  pub stays_sound : (end : SiteEnd) (node later : Node D V) (out : List Output) (server : Server D V) (left : List Output) → IsSoundDisk g node.store.disk → NodeStepped g db m clock e end node later out → Becomes g end later out server left
-      → IsSoundServer g m clock server × IsSoundDisk g (server_disk server)
-  stays_sound ended.Made node later out server left disk step becomes = as_up later server becomes.0 step.sound
-  stays_sound ended.Halts node later out server left disk step becomes = as_up later server becomes.0 step.sound
-  stays_sound ended.Stops node later out server left disk step becomes =
+  pub stays_sound : {standing : Standing} (end : SiteEnd) (node later : Node D V) (out : List Output) (server : Server D V) (left : List Output) → IsSoundDisk g standing node.store.disk → NodeStepped g standing db m clock e end node later out → Becomes g end later out server left
+      → IsSoundServer g m clock server × IsSoundDisk g standing (server_disk server)
+  stays_sound {standing} ended.Made node later out server left disk step becomes = as_up later server becomes.0 step.sound
+  stays_sound {standing} ended.Halts node later out server left disk step becomes = as_up later server becomes.0 step.sound
+  stays_sound {standing} ended.Stops node later out server left disk step becomes =
       let revived = becomes.0.2 in
       let tells = step.calls.1.tells ∙ g.tells_now node.store.disk disk.told in
-      let leaves = halted_leaves g db m e clock node (node_of later) out node.store.disk later.store.disk step.was step.steps in
-      subst (λ (s : Server D V). IsSoundServer g m clock s × IsSoundDisk g (server_disk s)) (sym becomes.0.1)
-      (tt, sound_revived g later.store.disk becomes.0.0 revived tells (plain_left g node.store.disk later.store.disk disk leaves))
-  stays_sound ended.NoMemory node later out server left disk step becomes = as_up later server becomes.0 step.sound
+      subst (λ (s : Server D V). IsSoundServer g m clock s × IsSoundDisk g standing (server_disk s)) (sym becomes.0.1)
+      (tt, sound_revived g later.store.disk becomes.0.0 revived tells step.left)
+  stays_sound {standing} ended.NoMemory node later out server left disk step becomes = as_up later server becomes.0 step.sound
 
   -- a step that made no durable call, and left version and image
-  pub rests_made : (node later : Node D V) (s : model.Server) (t : Stepped) (out : List Output) → node_of node ≡ model.Up s → IsSoundNode g m clock node → IsSoundDisk g node.store.disk → StaysSound g m clock later
+  pub rests_made : {standing : Standing} (node later : Node D V) (s : model.Server) (t : Stepped) (out : List Output) → node_of node ≡ model.Up s → IsSoundNode g m clock node → IsSoundDisk g standing node.store.disk → StaysSound g standing m clock later
       → Makes t (node_of later) out (Serves g (durable_in s) node.store.disk later.store.disk) → t.calls ≡ [] → durable_in t.server ≡ durable_in s
       → (d : Durable) → IsSomeAnd (g.files node.store.disk) (StandsAs d) → IsSomeAnd (g.files later.store.disk) (StandsAs d) × (g.steps later.store.disk ≡ g.steps node.store.disk)
   rests_made node later s t out up was disk sound makes none same d read =
@@ -93,7 +93,7 @@ module _ {D V : Type 0} (g : Ghosts D) (db : Database) (m : Member) (clock : ℕ
         omega (arith, rise, zero_calls),
       )
 
-  pub disk_made : (node later : Node D V) (s : model.Server) (t : Stepped) (site : ModelSite) (out : List Output) → node_of node ≡ model.Up s → IsSoundNode g m clock node → IsSoundDisk g node.store.disk → StaysSound g m clock later
+  pub disk_made : {standing : Standing} (node later : Node D V) (s : model.Server) (t : Stepped) (site : ModelSite) (out : List Output) → node_of node ≡ model.Up s → IsSoundNode g m clock node → IsSoundDisk g standing node.store.disk → StaysSound g standing m clock later
       → IsReadBy site (held g node.store.disk) → Makes t (node_of later) out (Serves g (durable_in s) node.store.disk later.store.disk) → CameShort s t
       → IsReadBy site (held g later.store.disk) × (g.steps later.store.disk ≡ g.steps node.store.disk)
   disk_made node later s t site out up was disk sound read makes came =
@@ -101,7 +101,7 @@ module _ {D V : Type 0} (g : Ghosts D) (db : Database) (m : Member) (clock : ℕ
       (ap (λ v. durable v t.server.image) came.version ∙ ap (λ i. durable s.version i) came.image_is) site.durable read
 
 -- a packet of votes leaves what the disk holds
-module _ {D V : Type 0} (g : Ghosts D) (db : Database) (m : Member) (clock : ℕ) (p : Packet) (votes : IsOfVotes p.body) (node later : Node D V) (out : List Output) (server : Server D V) (left : List Output) (was : IsSoundNode g m clock node) (disk : IsSoundDisk g node.store.disk) where
+module _ {D V : Type 0} {standing : Standing} (g : Ghosts D) (db : Database) (m : Member) (clock : ℕ) (p : Packet) (votes : IsOfVotes p.body) (node later : Node D V) (out : List Output) (server : Server D V) (left : List Output) (was : IsSoundNode g m clock node) (disk : IsSoundDisk g standing node.store.disk) where
   -- no durable call
   calls_none : (s : model.Server) (short : List Bool) → (step_of db m s clock (event.Packet p) short).calls ≡ []
   calls_none s short = packet_none db m s clock p short votes
@@ -144,7 +144,7 @@ module _ {D V : Type 0} (g : Ghosts D) (db : Database) (m : Member) (clock : ℕ
   server_holds : (other : D) → server_disk server ≡ other → Holds other → Holds (server_disk server)
   server_holds other is holds = subst Holds (sym is) holds
 
-  pub packet_holds : (end : SiteEnd) → NodeStepped g db m clock (event.Packet p) end node later out → Becomes g end later out server left → Holds (server_disk server)
+  pub packet_holds : (end : SiteEnd) → NodeStepped g standing db m clock (event.Packet p) end node later out → Becomes g end later out server left → Holds (server_disk server)
   packet_holds ended.Made step becomes = server_holds later.store.disk (ap (λ (s : Server D V). server_disk s) becomes.0) (ends step.ends)
     where
       made : (x y : model.Node) → node_of node ≡ x → node_of later ≡ y → Steps g db m Done (event.Packet p) clock x y out node.store.disk later.store.disk → Holds later.store.disk

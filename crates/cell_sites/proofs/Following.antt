@@ -18,6 +18,7 @@ use Rattle.cell_sites.specs.Sound.{IsSound}
 use Rattle.cell_sites.specs.Told.{CellTold, IsShort}
 use Rattle.cell_sites.proofs.Opening.{count_append}
 use Rattle.cell_sites.proofs.Counting.{hold_short}
+use Rattle.db_image.specs.Standing.{Standing}
 
 -- ---- joining what is told
 
@@ -52,9 +53,9 @@ pub record SoFar {D V : Type 0} (g : Ghosts D) (script_db : ScriptDatabase) (giv
   pub causes : AreRises 0 items (helds g start) (helds g now)
   pub hosts : now.hosts.items ≡ start.hosts.items
 
-pub record Follows {D V : Type 0} (g : Ghosts D) (script_db : ScriptDatabase) (most fuel : ℕ) (start now : OpenCell D V) (text_before text : List ℕ) : Type 0 where
+pub record Follows {D V : Type 0} (g : Ghosts D) (standing : Standing) (script_db : ScriptDatabase) (most fuel : ℕ) (start now : OpenCell D V) (text_before text : List ℕ) : Type 0 where
   pub runs : (given : List ℕ) (c : Cell) → IsModelledBy g script_db.database given start c → SoFar g script_db given most fuel c start now text_before text
-  pub sound : (bound : ℕ) → IsSound g bound start → IsSound g bound now
+  pub sound : (bound : ℕ) → IsSound g standing bound start → IsSound g standing bound now
   pub rises : AreRises 0 [] (helds g start) (helds g now)
   pub same : length now.sites.items ≡ length start.sites.items
   pub keeps : (given : List ℕ) (c : Cell) → HoldRun script_db.database given false c (helds g start) → HoldRun script_db.database given false c (helds g now)
@@ -63,7 +64,7 @@ no_rise : (k : ℕ) (disks : List Held) → AreRises k [] disks disks
 no_rise k [] = tt
 no_rise k (disk ∷ disks) = (omega arith, no_rise (k + 1) disks)
 
-pub follows_none : {D V : Type 0} (g : Ghosts D) (script_db : ScriptDatabase) (most fuel : ℕ) (start : OpenCell D V) (text : List ℕ) → fuel ≡ most → Follows g script_db most fuel start start text text
+pub follows_none : {D V : Type 0} {standing : Standing} (g : Ghosts D) (script_db : ScriptDatabase) (most fuel : ℕ) (start : OpenCell D V) (text : List ℕ) → fuel ≡ most → Follows g standing script_db most fuel start start text text
 follows_none g script_db most fuel start text same =
     record {
       runs = λ given c stands. record {
@@ -167,18 +168,18 @@ is_waiting k (true ∷ handed) number waits =
     let later = is_waiting (k + 1) handed number waits in (omega (arith, later.0), omega (arith, later.1))
 
 -- sound cells of as many servers have the same hosts
-pub same_hosts : {D V : Type 0} (g : Ghosts D) (bound other : ℕ) (now later : OpenCell D V) → IsSound g bound now → IsSound g other later → length later.sites.items ≡ length now.sites.items → later.hosts.items ≡ now.hosts.items
+pub same_hosts : {D V : Type 0} {standing : Standing} (g : Ghosts D) (bound other : ℕ) (now later : OpenCell D V) → IsSound g standing bound now → IsSound g standing other later → length later.sites.items ≡ length now.sites.items → later.hosts.items ≡ now.hosts.items
 same_hosts g bound other now later sound sounds same = sounds.hosts ∙ ap hosts_of same ∙ sym sound.hosts
 
-module _ {D V : Type 0} (g : Ghosts D) (script_db : ScriptDatabase) (most n fuel bound : ℕ) (start now later : OpenCell D V) (tb text after : List ℕ) (follows : Follows g script_db most n start now tb text) (less : n ≡ suc fuel) (sound : IsSound g bound start) (number : ℕ) (waits : first_waiting 1 now.packets.handed ≡ Some number) where
+module _ {D V : Type 0} {standing : Standing} (g : Ghosts D) (script_db : ScriptDatabase) (most n fuel bound : ℕ) (start now later : OpenCell D V) (tb text after : List ℕ) (follows : Follows g standing script_db most n start now tb text) (less : n ≡ suc fuel) (sound : IsSound g standing bound start) (number : ℕ) (waits : first_waiting 1 now.packets.handed ≡ Some number) where
   before : (given : List ℕ) (c : Cell) → IsModelledBy g script_db.database given start c → SoFar g script_db given most (suc fuel) c start now tb text
   before given c stands = subst (λ (m : ℕ). SoFar g script_db given most m c start now tb text) less (follows.runs given c stands)
 
   -- one more packet was handed over
   pub follows_more : ((given : List ℕ) (c : Cell) → IsModelledBy g script_db.database given now c → CellTold g script_db given (λ choices. Ok (delivered script_db c (first_choice choices) number)) None now later text after)
-      → ((b : ℕ) → IsSound g b now → IsSound g b later) → AreRises 0 [] (helds g now) (helds g later) → length later.sites.items ≡ length now.sites.items
+      → ((b : ℕ) → IsSound g standing b now → IsSound g standing b later) → AreRises 0 [] (helds g now) (helds g later) → length later.sites.items ≡ length now.sites.items
       → ((given : List ℕ) (c : Cell) → HoldRun script_db.database given false c (helds g now) → HoldRun script_db.database given false c (helds g later))
-      → Follows g script_db most fuel start later tb after
+      → Follows g standing script_db most fuel start later tb after
   follows_more told sounds rises same keeps =
       record {
         runs = λ given c stands.
@@ -201,7 +202,7 @@ module _ {D V : Type 0} (g : Ghosts D) (script_db : ScriptDatabase) (most n fuel
       ends_there g script_db given most fuel c start now later tb text after so number (ap (first_waiting 1) so.stands.handed ∙ waits) (Some ending) t ending refl t.cell
 
 -- none waits any more
-pub all_followed : {D V : Type 0} (g : Ghosts D) (script_db : ScriptDatabase) (most fuel : ℕ) (start now : OpenCell D V) (tb text : List ℕ) → Follows g script_db most fuel start now tb text
+pub all_followed : {D V : Type 0} {standing : Standing} (g : Ghosts D) (script_db : ScriptDatabase) (most fuel : ℕ) (start now : OpenCell D V) (tb text : List ℕ) → Follows g standing script_db most fuel start now tb text
     → first_waiting 1 now.packets.handed ≡ None → (given : List ℕ) (c : Cell) → IsModelledBy g script_db.database given start c
     → CellTold g script_db given (λ choices. Ok (all_delivered script_db most c choices (first_waiting 1 c.handed))) None start now tb text
 all_followed g script_db most fuel start now tb text follows none given c stands =
@@ -209,7 +210,7 @@ all_followed g script_db most fuel start now tb text follows none given c stands
     followed g script_db given most fuel c start now tb text so (none_left script_db fuel so.cell (ap (first_waiting 1) so.stands.handed ∙ none))
 
 -- as many were handed over as a script may send
-pub fuel_followed : {D V : Type 0} (g : Ghosts D) (script_db : ScriptDatabase) (most fuel : ℕ) (start now : OpenCell D V) (tb text : List ℕ) → Follows g script_db most fuel start now tb text
+pub fuel_followed : {D V : Type 0} {standing : Standing} (g : Ghosts D) (script_db : ScriptDatabase) (most fuel : ℕ) (start now : OpenCell D V) (tb text : List ℕ) → Follows g standing script_db most fuel start now tb text
     → fuel ≡ zero → (given : List ℕ) (c : Cell) → IsModelledBy g script_db.database given start c
     → CellTold g script_db given (λ choices. Ok (all_delivered script_db most c choices (first_waiting 1 c.handed))) None start now tb text
 fuel_followed g script_db most fuel start now tb text follows none given c stands =
@@ -217,7 +218,7 @@ fuel_followed g script_db most fuel start now tb text follows none given c stand
     followed g script_db given most fuel c start now tb text so (ap (λ (m : ℕ). all_delivered script_db m so.cell [] (first_waiting 1 so.cell.handed)) none ∙ no_fuel script_db so.cell (first_waiting 1 so.cell.handed))
 
 -- memory ran out in the next one
-pub short_there : {D V : Type 0} (g : Ghosts D) (script_db : ScriptDatabase) (most fuel : ℕ) (start now later : OpenCell D V) (tb text : List ℕ) → Follows g script_db most fuel start now tb text
+pub short_there : {D V : Type 0} {standing : Standing} (g : Ghosts D) (script_db : ScriptDatabase) (most fuel : ℕ) (start now later : OpenCell D V) (tb text : List ℕ) → Follows g standing script_db most fuel start now tb text
     → ((given : List ℕ) (c : Cell) → HoldRun script_db.database given false c (helds g now) → HoldRun script_db.database given false c (helds g later))
     → (run : List Choice → Run_or_why) (given : List ℕ) (c : Cell) → IsModelledBy g script_db.database given start c → IsShort g script_db.database given run c start later
 short_there g script_db most fuel start now later tb text follows keeps run given c stands =

@@ -59,6 +59,7 @@ use Rattle.cell_sites.proofs.Running.{held_at, moved_set, part, reads_both, read
 use Rattle.cell_sites.proofs.Serving.{files_at, one_durable, served_rise}
 use Rattle.cell_sites.proofs.Shortage.{CameShort, IsEither}
 use Rattle.cell_sites.proofs.Soundly.{IsHere, here, sound_after}
+use Rattle.db_image.specs.Standing.{Standing}
 
 -- ---- outputs
 
@@ -129,8 +130,8 @@ found_made end is short = let never : ended.Made ≡ ended.NoMemory = sym is ∙
 pub found_halts : (end : SiteEnd) → end ≡ ended.Halts → end ≢ ended.NoMemory
 found_halts end is short = let never : ended.Halts ≡ ended.NoMemory = sym is ∙ short in cc
 
-module _ {D V : Type 0} (g : Ghosts D) (script_db : ScriptDatabase) (before mid after : OpenCell D V) (law : VotersVote) (k : ℕ) (e : NodeEvent) (end : SiteEnd) (call : List ℕ) (bound : ℕ) (sound : IsSound g bound before) (taken : IsTaken (member_at before k) e) (asks : AsksNoOther e call) (ss : SiteStepped g script_db.database k e end before mid) (hosts : after.hosts.items ≡ mid.hosts.items) (sites : after.sites.items ≡ mid.sites.items) where
-  at : IsHere g bound before k ss.clock ss.node
+module _ {D V : Type 0} {standing : Standing} (g : Ghosts D) (script_db : ScriptDatabase) (before mid after : OpenCell D V) (law : VotersVote) (k : ℕ) (e : NodeEvent) (end : SiteEnd) (call : List ℕ) (bound : ℕ) (sound : IsSound g standing bound before) (taken : IsTaken (member_at before k) e) (asks : AsksNoOther e call) (ss : SiteStepped g standing script_db.database k e end before mid) (hosts : after.hosts.items ≡ mid.hosts.items) (sites : after.sites.items ≡ mid.sites.items) where
+  at : IsHere g standing bound before k ss.clock ss.node
   at = here g bound before k ss.clock ss.node sound ss.there
 
   -- the site after the step
@@ -181,7 +182,7 @@ module _ {D V : Type 0} (g : Ghosts D) (script_db : ScriptDatabase) (before mid 
       of_left : (left : List Output) → mid.outputs ≡ left → All (IsVotePacket before.hosts.items) (filter_map packet_in left) → All (IsVotePacket before.hosts.items) (filter_map packet_in mid.outputs)
       of_left left is all = subst (λ (o : List Output). All (IsVotePacket before.hosts.items) (filter_map packet_in o)) (sym is) all
 
-      by : (x : SiteEnd) → NodeStepped g script_db.database (member_at before k) ss.clock e x ss.node ss.later ss.out → Becomes g x ss.later ss.out ss.server mid.outputs → All (IsVotePacket before.hosts.items) (filter_map packet_in mid.outputs)
+      by : (x : SiteEnd) → NodeStepped g standing script_db.database (member_at before k) ss.clock e x ss.node ss.later ss.out → Becomes g x ss.later ss.out ss.server mid.outputs → All (IsVotePacket before.hosts.items) (filter_map packet_in mid.outputs)
       by ended.Made step becomes = of_left ss.out becomes.1 (ends step.ends)
         where
           ends : (step.end ≡ Done) ⊎ ((step.end ≡ Halted) × (ss.node.halted ≡ true)) → All (IsVotePacket before.hosts.items) (filter_map packet_in ss.out)
@@ -202,7 +203,7 @@ module _ {D V : Type 0} (g : Ghosts D) (script_db : ScriptDatabase) (before mid 
   pub stops_quiet : end ≡ ended.Stops → mid.outputs ≡ []
   stops_quiet is = (subst (λ (x : SiteEnd). Becomes g x ss.later ss.out ss.server mid.outputs) is ss.becomes).1
 
-  pub sound_still : (packets : after.packets ≡ sent_all mid.packets (filter_map packet_in mid.outputs)) → after.outputs ≡ [] → (other : ℕ) → IsSound g other before → IsSound g other after
+  pub sound_still : (packets : after.packets ≡ sent_all mid.packets (filter_map packet_in mid.outputs)) → after.outputs ≡ [] → (other : ℕ) → IsSound g standing other before → IsSound g standing other after
   sound_still packets empty other still =
       let kept = stays_sound g script_db.database (member_at before k) ss.clock e end ss.node ss.later ss.out ss.server mid.outputs at.disk ss.step ss.becomes in
       sound_after g other before after k (up_site ss.clock ss.node) later_site (filter_map packet_in mid.outputs) still ss.there refl kept.0 kept.1 all_sites (hosts ∙ ss.hosts)
@@ -247,10 +248,10 @@ module _ {D V : Type 0} (g : Ghosts D) (script_db : ScriptDatabase) (before mid 
             (subst (λ (y : Server D V). StepMade g script_db c before k trigger call (end_marks k x) (up_site ss.clock ss.node) (record { clock = ss.clock; server = y }) mid.outputs) (sym same)
             (subst (λ (y : List Output). StepMade g script_db c before k trigger call (end_marks k x) (up_site ss.clock ss.node) (record { clock = ss.clock; server = server }) y) (sym outputs) m)))
 
-        steps_as : (step : IsMade g script_db.database (member_at before k) ss.clock e ss.node ss.later ss.out) (x : StepEnd) → step.end ≡ x → Steps g script_db.database (member_at before k) x e ss.clock (node_of ss.node) (node_of ss.later) ss.out ss.node.store.disk ss.later.store.disk
+        steps_as : (step : IsMade g standing script_db.database (member_at before k) ss.clock e ss.node ss.later ss.out) (x : StepEnd) → step.end ≡ x → Steps g script_db.database (member_at before k) x e ss.clock (node_of ss.node) (node_of ss.later) ss.out ss.node.store.disk ss.later.store.disk
         steps_as step x is = subst (λ (y : StepEnd). Steps g script_db.database (member_at before k) y e ss.clock (node_of ss.node) (node_of ss.later) ss.out ss.node.store.disk ss.later.store.disk) is step.steps
 
-        by : (x : SiteEnd) → NodeStepped g script_db.database (member_at before k) ss.clock e x ss.node ss.later ss.out → Becomes g x ss.later ss.out ss.server mid.outputs → end ≡ x → Comes
+        by : (x : SiteEnd) → NodeStepped g standing script_db.database (member_at before k) ss.clock e x ss.node ss.later ss.out → Becomes g x ss.later ss.out ss.server mid.outputs → end ≡ x → Comes
         by ended.Made step becomes is = ends step.ends
           where
             ends : (step.end ≡ Done) ⊎ ((step.end ≡ Halted) × (ss.node.halted ≡ true)) → Comes

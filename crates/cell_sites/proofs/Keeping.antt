@@ -22,6 +22,7 @@ use Rattle.cell_sites.proofs.Counting.{AreMoved, hold_still}
 use Rattle.cell_sites.proofs.Ended.{packet_holds}
 use Rattle.cell_sites.proofs.Running.{held_at}
 use Rattle.cell_sites.proofs.Soundly.{IsHere, here}
+use Rattle.db_image.specs.Standing.{Standing}
 
 -- a disk holds what another one held
 abbrev HoldsFor : Held → Held → Type 0
@@ -54,8 +55,8 @@ module _ {D V : Type 0} (g : Ghosts D) where
       let rest = reads_keep ss sites k site later there one read.1 in
       ((read.0, rest.0), (refl, moved_first k (suc k + 1) (map (held_at {V = V} g) sites) (map (held_at {V = V} g) (set sites k later)) rest.1))
 
-  pub keeps : (script_db : ScriptDatabase) (before mid after : OpenCell D V) (k : ℕ) (p : Packet) (end : SiteEnd) (bound : ℕ) → IsSound g bound before → IsTaken (member_at before k) (event.Packet p)
-      → SiteStepped g script_db.database k (event.Packet p) end before mid → after.sites.items ≡ mid.sites.items
+  pub keeps : {standing : Standing} (script_db : ScriptDatabase) (before mid after : OpenCell D V) (k : ℕ) (p : Packet) (end : SiteEnd) (bound : ℕ) → IsSound g standing bound before → IsTaken (member_at before k) (event.Packet p)
+      → SiteStepped g standing script_db.database k (event.Packet p) end before mid → after.sites.items ≡ mid.sites.items
       → (given : List ℕ) (c : Cell) → HoldRun script_db.database given false c (helds g before) → HoldRun script_db.database given false c (helds g after)
   keeps script_db before mid after k p end bound sound taken ss sites given c hold =
       let at = here g bound before k ss.clock ss.node sound ss.there in

@@ -12,8 +12,10 @@ pub mod Happening
 pub mod Hosts
 pub mod Joined
 pub mod Keeping
+pub mod Leading
 pub mod Lining
 pub mod Made
+pub mod Meant
 pub mod Near
 pub mod Nodes
 pub mod Opened

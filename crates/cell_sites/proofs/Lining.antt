@@ -1,6 +1,7 @@
 -- A line that comes to a step, or is refused.
 use Rattle.std.proofs.Common.{◌≡◌, ◌⊎◌, inl, inr, ◌-◌, ℕ, Option, Some, Result, Ok, Err, List, [], length, sym, ap, subst, ◌∙◌}
 use Rattle.db_image.specs.Database.{Database}
+use Rattle.db_image.specs.Standing.{Standing}
 use Rattle.disk_base.specs.declared.disks.Disk.{Ghosts}
 use Rattle.disk_base.specs.Files.{Files}
 use Rattle.cell_runs.specs.declared.endings.Ending.{Ending}
@@ -13,7 +14,7 @@ use Rattle.cell_sites.specs.Told.{CellTold, IsShort, IsShortAfter}
 use Rattle.cell_sites.proofs.Soundly.{host_count}
 
 -- how many servers the cell has that it stands for
-pub size_of : {D V : Type 0} {database : Database} {given : List ℕ} (g : Ghosts D) (bound : ℕ) (running : OpenCell D V) (c : Cell) → IsSound g bound running → IsModelledBy g database given running c → cell_size_of c ≡ length running.sites.items
+pub size_of : {D V : Type 0} {standing : Standing} {database : Database} {given : List ℕ} (g : Ghosts D) (bound : ℕ) (running : OpenCell D V) (c : Cell) → IsSound g standing bound running → IsModelledBy g database given running c → cell_size_of c ≡ length running.sites.items
 size_of g bound running c sound stands = ap length stands.hosts ∙ host_count g bound running sound
 
 module _ {D V : Type 0} (g : Ghosts D) (line run : List Choice → Run_or_why) (is : (choices : List Choice) → line choices ≡ run choices) where

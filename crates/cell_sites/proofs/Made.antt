@@ -51,6 +51,7 @@ use Rattle.cell_sites.proofs.Nodes.{is_up, made_up}
 use Rattle.cell_sites.proofs.Plainly.{and_some, make_some}
 use Rattle.cell_sites.proofs.Serving.{Failed, FilesAt, failed_in, files_at, one_durable, rise_most, runs_still, served_rise}
 use Rattle.cell_sites.proofs.Shortage.{IsEither, step_either}
+use Rattle.db_image.specs.Standing.{Standing}
 
 -- what is seen behind the outputs of a step
 abbrev pub end_marks : ℕ → SiteEnd → List Happening
@@ -108,7 +109,7 @@ refusals_rest event.BeaconTurn hosts = All-nil _
 refusals_rest event.RecoverTurn hosts = All-nil _
 refusals_rest (event.Ask id call) hosts = All-nil _
 
-module _ {D V : Type 0} (g : Ghosts D) (script_db : ScriptDatabase) (given : List ℕ) (before : OpenCell D V) (c : Cell) (stands : IsModelledBy g script_db.database given before c) (law : VotersVote) (k : ℕ) (e : NodeEvent) (trigger : Trigger) (o : occasion c.run.world trigger ≡ Some (k, e)) (site : ModelSite) (there : slice_get c.run.world.sites k ≡ Some site) (call : List ℕ) (clock : ℕ) (node : Node D V) (placed : slice_get before.sites.items k ≡ Some (up_site clock node)) (clocks : site.clock ≡ clock) (stood : site.node ≡ node_of node) (me : k < length before.hosts.items) (taken : IsTaken (member_at before k) e) (asks : AsksNoOther e call) (was : IsSoundNode g (member_at before k) clock node) (disk : IsSoundDisk g node.store.disk) (read : IsReadBy site (held g node.store.disk)) where
+module _ {D V : Type 0} {standing : Standing} (g : Ghosts D) (script_db : ScriptDatabase) (given : List ℕ) (before : OpenCell D V) (c : Cell) (stands : IsModelledBy g script_db.database given before c) (law : VotersVote) (k : ℕ) (e : NodeEvent) (trigger : Trigger) (o : occasion c.run.world trigger ≡ Some (k, e)) (site : ModelSite) (there : slice_get c.run.world.sites k ≡ Some site) (call : List ℕ) (clock : ℕ) (node : Node D V) (placed : slice_get before.sites.items k ≡ Some (up_site clock node)) (clocks : site.clock ≡ clock) (stood : site.node ≡ node_of node) (me : k < length before.hosts.items) (taken : IsTaken (member_at before k) e) (asks : AsksNoOther e call) (was : IsSoundNode g (member_at before k) clock node) (disk : IsSoundDisk g standing node.store.disk) (read : IsReadBy site (held g node.store.disk)) where
   -- the server in its cell, as the model has it
   same_member : member c.run.world k ≡ member_at before k
   same_member = ap (λ (hosts : List Host). record { hosts = hosts; me = k }) stands.hosts
@@ -174,7 +175,7 @@ module _ {D V : Type 0} (g : Ghosts D) (script_db : ScriptDatabase) (given : Lis
 
   -- ---- a step for which memory was found
 
-  module _ (later : Node D V) (out : List Output) (done : DoneBy later out node.store.disk later.store.disk) (same : made_of done.s done.short ≡ made_of done.s []) (calls : Calls g node later Done) (sound_later : StaysSound g (member_at before k) clock later) where
+  module _ (later : Node D V) (out : List Output) (done : DoneBy later out node.store.disk later.store.disk) (same : made_of done.s done.short ≡ made_of done.s []) (calls : Calls g node later Done) (sound_later : StaysSound g standing (member_at before k) clock later) where
     abbrev t : Stepped
     t = model_of done.s
 

@@ -5,6 +5,7 @@ use Rattle.std.proofs.lemmas.List.{append_assoc, length-map, map-append}
 use Rattle.std.proofs.lemmas.Grind.{flat_map-append}
 use Rattle.std.specs.declared.alloc.Global.{Global}
 use Rattle.db_image.specs.Database.{Database}
+use Rattle.db_image.specs.Standing.{Standing}
 use Rattle.disk_base.specs.declared.disks.Disk.{Ghosts}
 use Rattle.disk_base.specs.Crash.{IsSettled}
 use Rattle.disk_base.specs.Files.{Files, no_files}
@@ -32,7 +33,7 @@ use Rattle.cell_sites.specs.Disks.{AreReadBy, AreRises, Held, IsReadBy, all_held
 use Rattle.cell_sites.specs.Opened.{AreFirstCounts, ArePartOpened, AreUnarmed, HasRoom, IsAdded, IsOpened, counts_of, opening_items}
 use Rattle.cell_sites.specs.OpenedServer.{IsEmptied, OpensDisk, ServerIs, ServerOpens, is_cut_short, opened_marks}
 use Rattle.cell_sites.specs.Sites.{AreArmed, AreSitesOf, IsArmedAs, IsModelledBy, helds, server_disk, server_node, site_disk}
-use Rattle.cell_sites.specs.Sound.{AreSound, IsSoundDisk, IsSoundServer, IsSoundSite, StandsForSome}
+use Rattle.cell_sites.specs.Sound.{AreSound, IsMeantImage, IsSoundDisk, IsSoundServer, IsSoundSite, StandsForSome}
 use Rattle.cell_sites.specs.Traffic.{Traffic}
 use Rattle.cell_sites.specs.declared.cells.OpenCell.{OpenCell}
 use Rattle.cell_sites.specs.declared.openings.OpenEnd.{OpenEnd}
@@ -62,12 +63,12 @@ fresh_plain : IsPlain no_files
 fresh_plain = discarded_is_plain no_files (short_log_is_discarded [] (omega arith)) (λ _. refl)
 
 -- a server can be opened over it
-pub fresh_sound : {D : Type 0} (g : Ghosts D) (disk : D) → g.files disk ≡ Some no_files → IsSettled (g.files disk) (g.may_leave disk) → IsSoundDisk g disk
-fresh_sound g disk empty settled = record {
+pub fresh_sound : {D : Type 0} {standing : Standing} (g : Ghosts D) (disk : D) → g.files disk ≡ Some no_files → IsSettled (g.files disk) (g.may_leave disk) → IsMeantImage standing [] → IsSoundDisk g standing disk
+fresh_sound {D} {standing} g disk empty settled meant = record {
   told = some_told (g.files disk) no_files empty;
   settled = settled;
   plain = if_told (g.files disk) no_files IsPlain empty fresh_plain;
-  stands = if_told (g.files disk) no_files StandsForSome empty (no_database, fresh_stands);
+  stands = if_told (g.files disk) no_files (StandsForSome standing) empty (no_database, fresh_stands, meant);
 }
 
 -- it stands for no database
@@ -77,11 +78,11 @@ fresh_told g disk empty = told_at (g.files disk) no_files (StandsAs no_database)
 -- ---- one server
 
 -- it was opened on no database, or stays down and tells so
-pub record OneOpened {D V : Type 0} (g : Ghosts D) (db : ScriptDatabase) (hosts : List Host) (me clock : ℕ) (disk : D) (s : Server D V) (text_before text_after : List ℕ) : Type 0 where
+pub record OneOpened {D V : Type 0} (g : Ghosts D) (standing : Standing) (db : ScriptDatabase) (hosts : List Host) (me clock : ℕ) (disk : D) (s : Server D V) (text_before text_after : List ℕ) : Type 0 where
   pub fails : Bool
   pub node : server_node s ≡ (first_site (length hosts) clock fails).node
   pub sound : IsSoundServer g (record { hosts = hosts; me = me }) clock s
-  pub disk_sound : IsSoundDisk g (server_disk s)
+  pub disk_sound : IsSoundDisk g standing (server_disk s)
   pub stands : IsSomeAnd (g.files (server_disk s)) (StandsAs no_database)
   pub opening : ℕ
   pub opens : OpensFirst fails opening
@@ -107,8 +108,8 @@ down_is g hosts me clock (server.Up n) is = absurd (never_down n.halted (model.h
 
 module _ {D V : Type 0} (g : Ghosts D) (db : ScriptDatabase) (hosts : List Host) (me clock : ℕ) (disk : D) (s : Server D V) (text_before text_after : List ℕ)
     (empty : g.files disk ≡ Some no_files) (unarmed : g.stop disk ≡ Unarmed) where
-  pub one_opened : (end : OpenEnd) → ServerOpens g (record { hosts = hosts; me = me }) clock no_database end disk s → end ≢ opened.NoMemory
-      → text_after ≡ text_before ++ marks_text (opened_marks me end) → OneOpened g db hosts me clock disk s text_before text_after
+  pub one_opened : {standing : Standing} (end : OpenEnd) → ServerOpens g standing (record { hosts = hosts; me = me }) clock no_database end disk s → end ≢ opened.NoMemory
+      → text_after ≡ text_before ++ marks_text (opened_marks me end) → OneOpened g standing db hosts me clock disk s text_before text_after
   one_opened (opened.Up version) one other text = record {
     fails = false;
     node = one.is.0;
@@ -142,8 +143,8 @@ rises_short : (failed : Bool) (rise : ℕ) → OpensFirst failed rise → OpensF
 rises_short true rise opens = opens
 rises_short false rise opens = let is = opens.2 in (opens.0, opens.1, omega (arith, is))
 
-pub one_emptied : {D V : Type 0} (g : Ghosts D) (hosts : List Host) (me clock : ℕ) (disk : D) (s : Server D V) (end : OpenEnd) → g.files disk ≡ Some no_files
-    → ServerOpens g (record { hosts = hosts; me = me }) clock no_database end disk s → IsEmptied g disk (server_disk s)
+pub one_emptied : {D V : Type 0} {standing : Standing} (g : Ghosts D) (hosts : List Host) (me clock : ℕ) (disk : D) (s : Server D V) (end : OpenEnd) → g.files disk ≡ Some no_files
+    → ServerOpens g standing (record { hosts = hosts; me = me }) clock no_database end disk s → IsEmptied g disk (server_disk s)
 one_emptied g hosts me clock disk s end empty one = record {
   never_falls = one.never_falls;
   empty = one.stands;
@@ -171,8 +172,8 @@ unarmed_push : {D V : Type 0} (g : Ghosts D) (sites : List (Site D V)) (site : S
 unarmed_push g [] site are is = (is, tt)
 unarmed_push g (x ∷ sites) site are is = (are.0, unarmed_push g sites site are.1 is)
 
-pub next_opened : {D V : Type 0} (g : Ghosts D) (db : ScriptDatabase) (clock : ℕ) (given : List D) (running : OpenCell D V) (before told after : List ℕ) (disk : D) (s : Server D V) (sites : Vec (Site D V) Global) → IsMoment clock → sites.items ≡ running.sites.items ++ record { clock = clock; server = s } ∷ [] → OneOpened g db running.hosts.items (length running.sites.items) clock disk s told after → ArePartOpened g db clock given running before told → ArePartOpened g db clock (given ++ disk ∷ []) (record running { sites = sites }) before after
-next_opened {D} {V} g db clock given running before told after disk s sites moment pushed one p =
+pub next_opened : {D V : Type 0} {standing : Standing} (g : Ghosts D) (db : ScriptDatabase) (clock : ℕ) (given : List D) (running : OpenCell D V) (before told after : List ℕ) (disk : D) (s : Server D V) (sites : Vec (Site D V) Global) → IsMoment clock → sites.items ≡ running.sites.items ++ record { clock = clock; server = s } ∷ [] → OneOpened g standing db running.hosts.items (length running.sites.items) clock disk s told after → ArePartOpened g standing db clock given running before told → ArePartOpened g standing db clock (given ++ disk ∷ []) (record running { sites = sites }) before after
+next_opened {D} {V} {standing} g db clock given running before told after disk s sites moment pushed one p =
     let items = running.sites.items in
     let site : Site D V = record { clock = clock; server = s } in
     let first = first_site (length running.hosts.items) clock in
@@ -189,9 +190,9 @@ next_opened {D} {V} g db clock given running before told after disk s sites mome
       sites = subst (λ (l : List (Site D V)). AreSitesOf l (map first (failed ++ one.fails ∷ []))) (sym pushed)
           (subst (λ (l : List ModelSite). AreSitesOf (items ++ site ∷ []) l) (sym (map-append first failed (one.fails ∷ [])))
           (sites_push items (map first failed) site (first one.fails) p.sites (record { clock = refl; node = sym one.node })));
-      sound = subst (λ (l : List (Site D V)). AreSound g hosts 0 clock l) (sym pushed)
+      sound = subst (λ (l : List (Site D V)). AreSound g standing hosts 0 clock l) (sym pushed)
           (sound_push g hosts 0 clock items site p.sound
-          (subst (λ (n : ℕ). IsSoundSite g (record { hosts = hosts; me = n }) clock site) (omega arith)
+          (subst (λ (n : ℕ). IsSoundSite g standing (record { hosts = hosts; me = n }) clock site) (omega arith)
           (record { moment = moment; within = omega arith; server = one.sound; disk = one.disk_sound })));
       packets = p.packets;
       outputs = p.outputs;
@@ -223,15 +224,15 @@ next_added {D} {V} g clock running disk s sites pushed kept =
     }
 
 -- the same where hosts and place are those that were handed over, and the call did not fail
-pub next_opened_at : {D V T E : Type 0} (r : Result T E) (g : Ghosts D) (db : ScriptDatabase) (clock : ℕ) (running : OpenCell D V) (told after : List ℕ) (disk : D) (s : Server D V) (end : OpenEnd) (sites : Vec (Site D V) Global) (hosts : List Host) (me : ℕ) → hosts ≡ running.hosts.items → me ≡ length running.sites.items → IsMoment clock → sites.items ≡ running.sites.items ++ record { clock = clock; server = s } ∷ []
-    → g.files disk ≡ Some no_files → g.stop disk ≡ Unarmed → ServerOpens g (record { hosts = hosts; me = me }) clock no_database end disk s
+pub next_opened_at : {standing : Standing} {D V T E : Type 0} (r : Result T E) (g : Ghosts D) (db : ScriptDatabase) (clock : ℕ) (running : OpenCell D V) (told after : List ℕ) (disk : D) (s : Server D V) (end : OpenEnd) (sites : Vec (Site D V) Global) (hosts : List Host) (me : ℕ) → hosts ≡ running.hosts.items → me ≡ length running.sites.items → IsMoment clock → sites.items ≡ running.sites.items ++ record { clock = clock; server = s } ∷ []
+    → g.files disk ≡ Some no_files → g.stop disk ≡ Unarmed → ServerOpens g standing (record { hosts = hosts; me = me }) clock no_database end disk s
     → OnOk r ((end ≢ opened.NoMemory) × (after ≡ told ++ marks_text (opened_marks me end)))
-    → OnOk r ((given : List D) (before : List ℕ) → ArePartOpened g db clock given running before told → ArePartOpened g db clock (given ++ disk ∷ []) (record running { sites = sites }) before after)
+    → OnOk r ((given : List D) (before : List ℕ) → ArePartOpened g standing db clock given running before told → ArePartOpened g standing db clock (given ++ disk ∷ []) (record running { sites = sites }) before after)
 next_opened_at (Err e) g db clock running told after disk s end sites hosts me same place moment pushed empty unarmed one tells = tt
-next_opened_at {D} {V} (Ok x) g db clock running told after disk s end sites hosts me same place moment pushed empty unarmed one tells = λ given before p.
+next_opened_at {standing} {D} {V} (Ok x) g db clock running told after disk s end sites hosts me same place moment pushed empty unarmed one tells = λ given before p.
     next_opened g db clock given running before told after disk s sites moment pushed
-    (subst (λ (n : ℕ). OneOpened g db running.hosts.items n clock disk s told after) place
-    (subst (λ (l : List Host). OneOpened g db l me clock disk s told after) same
+    (subst (λ (n : ℕ). OneOpened g standing db running.hosts.items n clock disk s told after) place
+    (subst (λ (l : List Host). OneOpened g standing db l me clock disk s told after) same
     (one_opened g db hosts me clock disk s told after empty unarmed end one tells.0 tells.1))) p
 
 -- ---- all of them
@@ -274,7 +275,7 @@ first_counts db c k (f ∷ failed) (b ∷ given) (x ∷ disks) none are = (
   first_counts db c (k + 1) failed given disks none are.1,
 )
 
-pub all_opened : {D V : Type 0} (g : Ghosts D) (db : ScriptDatabase) (clock : ℕ) (k : Kind) (given : List D) (running : OpenCell D V) (before after : List ℕ) → HasRoom running → length given ≡ length running.hosts.items → ArePartOpened g db clock given running before after → IsOpened g db clock k given running before after
+pub all_opened : {D V : Type 0} {standing : Standing} (g : Ghosts D) (db : ScriptDatabase) (clock : ℕ) (k : Kind) (given : List D) (running : OpenCell D V) (before after : List ℕ) → HasRoom running → length given ≡ length running.hosts.items → ArePartOpened g standing db clock given running before after → IsOpened g standing db clock k given running before after
 all_opened {D} {V} g db clock k given running before after room same p =
     let items = running.sites.items in
     let hosts = running.hosts.items in

@@ -34,6 +34,7 @@ use Rattle.cell_sites.proofs.Counting.{each_on, sum_cons}
 use Rattle.cell_sites.proofs.Nodes.{is_up}
 use Rattle.cell_sites.proofs.Plainly.{make_some, of_some, some_of}
 use Rattle.cell_sites.proofs.Standing.{stands_once}
+use Rattle.db_image.specs.Standing.{Standing}
 
 -- files stand for one durable state at most
 pub one_durable : (fs : Files) (d e : Durable) → StandsAs d fs → StandsAs e fs → d ≡ e
@@ -111,7 +112,7 @@ pub record FilesAt {D V : Type 0} (g : Ghosts D) (node : Node D V) (s : model.Se
   pub label : has_label files.database ≡ not (version_eq s.version zero_version)
   pub runs : IsStopped (g.stop node.store.disk) → ⊥
 
-pub files_at : {D V : Type 0} (g : Ghosts D) (m : Member) (clock : ℕ) (node : Node D V) (s : model.Server) → IsSoundNode g m clock node → IsSoundDisk g node.store.disk → node_of node ≡ model.Up s → FilesAt g node s
+pub files_at : {D V : Type 0} {standing : Standing} (g : Ghosts D) (m : Member) (clock : ℕ) (node : Node D V) (s : model.Server) → IsSoundNode g m clock node → IsSoundDisk g standing node.store.disk → node_of node ≡ model.Up s → FilesAt g node s
 files_at {D} {V} g m clock node s sound disk up =
     let is_it = is_up node s up in
     let there = some_of (g.files node.store.disk) disk.told in

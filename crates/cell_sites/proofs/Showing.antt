@@ -3,6 +3,7 @@ use Rattle.std.proofs.Common.{if◌then◌else◌, ◌≡◌, ◌+◌, ◌++◌,
 use Rattle.std.specs.Prelude.{slice_get, IsErrAnd}
 use Rattle.std.proofs.lemmas.List.{append-nil}
 use Rattle.db_image.specs.Database.{Database}
+use Rattle.db_image.specs.Standing.{Standing}
 use Rattle.disk_base.specs.declared.disks.Disk.{Ghosts}
 use Rattle.disk_base.specs.Files.{Files}
 use Rattle.ubik_types.specs.declared.hosts.Host.{Host}
@@ -69,7 +70,7 @@ showing_up false n u = refl
 mine : {D V : Type 0} (g : Ghosts D) (m : Member) (clock : ℕ) (s : Server D V) (n : Node D V) → s ≡ server.Up n → IsSoundServer g m clock s → own_member n ≡ m
 mine {D} {V} g m clock s n is sound = (subst (λ (t : Server D V). IsSoundServer g m clock t) is sound).member
 
-pub shown_up : {D V : Type 0} {database : Database} {given : List ℕ} (g : Ghosts D) (bound : ℕ) (running : OpenCell D V) (c : Cell) (k : ℕ) (site : Site D V) (n : Node D V) (showing : Option Showing) → IsSound g bound running → IsModelledBy g database given running c → slice_get running.sites.items k ≡ Some site → site.server ≡ server.Up n → showing ≡ Some (record { version = (up_server n).version; phase = phase_of (up_server n).phase; until = lease_end (member_size (own_member n)) (up_server n).starts; len = length (up_server n).image }) → showing ≡ showing_of (cell_size_of c) (server_node site.server)
+pub shown_up : {D V : Type 0} {standing : Standing} {database : Database} {given : List ℕ} (g : Ghosts D) (bound : ℕ) (running : OpenCell D V) (c : Cell) (k : ℕ) (site : Site D V) (n : Node D V) (showing : Option Showing) → IsSound g standing bound running → IsModelledBy g database given running c → slice_get running.sites.items k ≡ Some site → site.server ≡ server.Up n → showing ≡ Some (record { version = (up_server n).version; phase = phase_of (up_server n).phase; until = lease_end (member_size (own_member n)) (up_server n).starts; len = length (up_server n).image }) → showing ≡ showing_of (cell_size_of c) (server_node site.server)
 shown_up {D} {V} g bound running c k site n showing sound stands there is told =
     let u = up_server n in
     let at = sound_at g running.hosts.items 0 bound running.sites.items k site sound.sites there in

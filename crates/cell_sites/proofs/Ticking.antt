@@ -6,6 +6,7 @@ use Rattle.std.proofs.lemmas.List.{append-nil, length-set, length-map, map-set}
 use Rattle.std.proofs.Math.Seq.{map-set_same}
 use Rattle.std.proofs.lemmas.Option.{get_or_from_slice_get, slice_get_within}
 use Rattle.db_image.specs.Database.{Database}
+use Rattle.db_image.specs.Standing.{Standing}
 use Rattle.disk_base.specs.declared.disks.Disk.{Ghosts}
 use Rattle.disk_base.specs.Files.{Files}
 use Rattle.ubik_types.specs.declared.hosts.Host.{Host}
@@ -40,7 +41,7 @@ server_later g m clock later (server.Up n) le sound =
     let last = sound.last in
     record { last = omega (arith, last, le); member = sound.member; voter = sound.voter; stored = sound.stored }
 
-pub site_later : {D V : Type 0} (g : Ghosts D) (m : Member) (bound seconds : ℕ) (site : Site D V) → site.clock + seconds ≤ MAX_MOMENT → IsSoundSite g m bound site → IsSoundSite g m (bound + seconds) (ticked_on seconds site)
+pub site_later : {D V : Type 0} {standing : Standing} (g : Ghosts D) (m : Member) (bound seconds : ℕ) (site : Site D V) → site.clock + seconds ≤ MAX_MOMENT → IsSoundSite g standing m bound site → IsSoundSite g standing m (bound + seconds) (ticked_on seconds site)
 site_later g m bound seconds site fits sound =
     let some = sound.moment.some in
     let within = sound.within in
@@ -52,7 +53,7 @@ site_later g m bound seconds site fits sound =
       disk = sound.disk;
     }
 
-pub sound_weaker : {D V : Type 0} (g : Ghosts D) (hosts : List Host) (place bound more : ℕ) (sites : List (Site D V)) → bound ≤ more → AreSound g hosts place bound sites → AreSound g hosts place more sites
+pub sound_weaker : {D V : Type 0} {standing : Standing} (g : Ghosts D) (hosts : List Host) (place bound more : ℕ) (sites : List (Site D V)) → bound ≤ more → AreSound g standing hosts place bound sites → AreSound g standing hosts place more sites
 sound_weaker g hosts place bound more [] le sound = tt
 sound_weaker g hosts place bound more (site ∷ sites) le sound =
     let within = sound.0.within in (
@@ -60,7 +61,7 @@ sound_weaker g hosts place bound more (site ∷ sites) le sound =
       sound_weaker g hosts (place + 1) bound more sites le sound.1,
     )
 
-sound_ticked : {D V : Type 0} (g : Ghosts D) (hosts : List Host) (place bound bound' seconds : ℕ) (sites : List (Site D V)) → bound + seconds ≤ MAX_MOMENT → AreSound g hosts place bound sites → AreSound g hosts place bound' sites → AreSound g hosts place (bound' + seconds) (map (ticked_on seconds) sites)
+sound_ticked : {D V : Type 0} {standing : Standing} (g : Ghosts D) (hosts : List Host) (place bound bound' seconds : ℕ) (sites : List (Site D V)) → bound + seconds ≤ MAX_MOMENT → AreSound g standing hosts place bound sites → AreSound g standing hosts place bound' sites → AreSound g standing hosts place (bound' + seconds) (map (ticked_on seconds) sites)
 sound_ticked g hosts place bound bound' seconds [] fits sound sound' = tt
 sound_ticked g hosts place bound bound' seconds (site ∷ sites) fits sound sound' =
     let within = sound.0.within in (
@@ -70,7 +71,7 @@ sound_ticked g hosts place bound bound' seconds (site ∷ sites) fits sound soun
 
 -- ---- clocks
 
-moments_in : {D V : Type 0} (g : Ghosts D) (hosts : List Host) (place bound : ℕ) (sites : List (Site D V)) → AreSound g hosts place bound sites → (k : ℕ) → k < length (clocks_in sites) → (0 < get_or (clocks_in sites) k 0) × (get_or (clocks_in sites) k 0 ≤ MAX_MOMENT)
+moments_in : {D V : Type 0} {standing : Standing} (g : Ghosts D) (hosts : List Host) (place bound : ℕ) (sites : List (Site D V)) → AreSound g standing hosts place bound sites → (k : ℕ) → k < length (clocks_in sites) → (0 < get_or (clocks_in sites) k 0) × (get_or (clocks_in sites) k 0 ≤ MAX_MOMENT)
 moments_in g hosts place bound [] sound k less = absurd (omega arith)
 moments_in g hosts place bound (site ∷ sites) sound zero less =
     let fits = sound.0.moment.fits in
@@ -102,7 +103,7 @@ left_of true b is = refl
 left_of false b is = is
 
 -- clocks of a sound cell may be those after a tick
-pub may : {D V : Type 0} (g : Ghosts D) (bound : ℕ) (after : OpenCell D V) (ss : List ModelSite) → IsSound g bound after → AreSitesOf after.sites.items ss → may_tick ss ≡ true
+pub may : {D V : Type 0} {standing : Standing} (g : Ghosts D) (bound : ℕ) (after : OpenCell D V) (ss : List ModelSite) → IsSound g standing bound after → AreSitesOf after.sites.items ss → may_tick ss ≡ true
 may g bound after ss sound are =
     let clocks = sites_clocks after.sites.items ss are in
     subst (λ (l : List ℕ). (are_near l && are_moments l) ≡ true) (sym clocks)
@@ -114,7 +115,7 @@ may g bound after ss sound are =
 abbrev pub ticked_at : {D V : Type 0} → OpenCell D V → ℕ → ℕ → Site D V → OpenCell D V
 ticked_at running k seconds site = record running { sites = with_item running.sites k (ticked_on seconds site) }
 
-pub tick_sound : {D V : Type 0} (g : Ghosts D) (bound most : ℕ) (running : OpenCell D V) (k seconds : ℕ) (site : Site D V) → IsSound g bound running → site.clock + seconds ≤ MAX_MOMENT → slice_get running.sites.items k ≡ Some site → IsNearAt running.sites.items k (site.clock + seconds) → IsSound g (bound + seconds) (ticked_at running k seconds site)
+pub tick_sound : {D V : Type 0} {standing : Standing} (g : Ghosts D) (bound most : ℕ) (running : OpenCell D V) (k seconds : ℕ) (site : Site D V) → IsSound g standing bound running → site.clock + seconds ≤ MAX_MOMENT → slice_get running.sites.items k ≡ Some site → IsNearAt running.sites.items k (site.clock + seconds) → IsSound g standing (bound + seconds) (ticked_at running k seconds site)
 tick_sound {D} {V} g bound most running k seconds site sound fits there near =
     let items = running.sites.items in
     let x = ticked_on seconds site in
@@ -193,7 +194,7 @@ tick_stands {D} {V} {given} gs db running c k seconds site stands there =
           (moved_same _ 0 (helds gs running) (λ j x. (0, refl, omega arith))));
     }
 
-pub tick_told : {D V : Type 0} {given : List ℕ} (g : Ghosts D) (db : ScriptDatabase) (bound : ℕ) (running : OpenCell D V) (c : Cell) (k seconds : ℕ) (site : Site D V) (run : Run_or_why) (text : List ℕ) → IsSound g bound running → bound + seconds ≤ MAX_MOMENT → IsModelledBy g db.database given running c → slice_get running.sites.items k ≡ Some site → IsNearAt running.sites.items k (site.clock + seconds) → run ≡ unless_skewed db c (tick_at c.run.world.sites k seconds) (Tick k seconds) → CellTold g db given (λ choices. run) None running (ticked_at running k seconds site) text text
+pub tick_told : {D V : Type 0} {standing : Standing} {given : List ℕ} (g : Ghosts D) (db : ScriptDatabase) (bound : ℕ) (running : OpenCell D V) (c : Cell) (k seconds : ℕ) (site : Site D V) (run : Run_or_why) (text : List ℕ) → IsSound g standing bound running → bound + seconds ≤ MAX_MOMENT → IsModelledBy g db.database given running c → slice_get running.sites.items k ≡ Some site → IsNearAt running.sites.items k (site.clock + seconds) → run ≡ unless_skewed db c (tick_at c.run.world.sites k seconds) (Tick k seconds) → CellTold g db given (λ choices. run) None running (ticked_at running k seconds site) text text
 tick_told g db bound running c k seconds site run text sound fits stands there near is =
     let at = sound_at g running.hosts.items 0 bound running.sites.items k site sound.sites there in
     let within = at.within in
@@ -258,8 +259,8 @@ helds_all {D} {V} g running sites seconds are =
     ap (map (λ (s : Site D V). held g (site_disk s))) (all_items running sites seconds are)
     ∙ helds_of_ticked g running.sites.items seconds
 
-pub all_sound : {D V : Type 0} (g : Ghosts D) (bound bound' : ℕ) (running : OpenCell D V) (sites : List (Site D V)) (seconds : ℕ) → sites ≡ map (ticked_on seconds) running.sites.items → IsSound g bound running → bound + seconds ≤ MAX_MOMENT → IsSound g bound' running → IsSound g (bound' + seconds) (all_ticked running sites)
-all_sound {D} {V} g bound bound' running sites seconds are sound fits sound' =
+pub all_sound : {D V : Type 0} {standing : Standing} (g : Ghosts D) (bound bound' : ℕ) (running : OpenCell D V) (sites : List (Site D V)) (seconds : ℕ) → sites ≡ map (ticked_on seconds) running.sites.items → IsSound g standing bound running → bound + seconds ≤ MAX_MOMENT → IsSound g standing bound' running → IsSound g standing (bound' + seconds) (all_ticked running sites)
+all_sound {D} {V} {standing} g bound bound' running sites seconds are sound fits sound' =
     let items = running.sites.items in
     let after = map (ticked_on seconds) items in
     let is = all_items running sites seconds are in
@@ -270,7 +271,7 @@ all_sound {D} {V} g bound bound' running sites seconds are sound fits sound' =
       some = omega (arith, some, same);
       few = omega (arith, few, same);
       hosts = sound.hosts ∙ ap hosts_of (sym same);
-      sites = subst (λ (l : List (Site D V)). AreSound g running.hosts.items 0 (bound' + seconds) l) (sym is)
+      sites = subst (λ (l : List (Site D V)). AreSound g standing running.hosts.items 0 (bound' + seconds) l) (sym is)
           (sound_ticked g running.hosts.items 0 bound bound' seconds items fits sound.sites sound'.sites);
       near = ap (λ (l : List (Site D V)). are_near (clocks_in l)) is ∙ ap are_near (clocks_ticked items seconds)
           ∙ near_make (map (λ (n : ℕ). n + seconds) (clocks_in items)) (near_all (clocks_in items) seconds (near_read (clocks_in items) sound.near));
@@ -278,7 +279,7 @@ all_sound {D} {V} g bound bound' running sites seconds are sound fits sound' =
       told = sound.told;
     }
 
-pub all_told : {D V : Type 0} {given : List ℕ} (g : Ghosts D) (db : ScriptDatabase) (bound : ℕ) (running : OpenCell D V) (sites : List (Site D V)) (c : Cell) (seconds : ℕ) (text : List ℕ) → sites ≡ map (ticked_on seconds) running.sites.items → IsSound g bound running → bound + seconds ≤ MAX_MOMENT → IsModelledBy g db.database given running c → CellTold g db given (λ choices. unless_skewed db c (map (ticked seconds) c.run.world.sites) (Tick_all seconds)) None running (all_ticked running sites) text text
+pub all_told : {D V : Type 0} {standing : Standing} {given : List ℕ} (g : Ghosts D) (db : ScriptDatabase) (bound : ℕ) (running : OpenCell D V) (sites : List (Site D V)) (c : Cell) (seconds : ℕ) (text : List ℕ) → sites ≡ map (ticked_on seconds) running.sites.items → IsSound g standing bound running → bound + seconds ≤ MAX_MOMENT → IsModelledBy g db.database given running c → CellTold g db given (λ choices. unless_skewed db c (map (ticked seconds) c.run.world.sites) (Tick_all seconds)) None running (all_ticked running sites) text text
 all_told {D} {V} {given} g db bound running sites c seconds text are sound fits stands =
     let is = all_items running sites seconds are in
     let ss = subst (λ (l : List (Site D V)). AreSitesOf l (map (ticked seconds) c.run.world.sites)) (sym is) (sites_all_ticked running.sites.items c.run.world.sites seconds stands.sites) in
@@ -303,7 +304,7 @@ all_told {D} {V} {given} g db bound running sites c seconds text are sound fits 
       causes = rises_same (helds g running) (helds g (all_ticked running sites)) (helds_all g running sites seconds are);
     }
 
-pub fits_at : {D V : Type 0} (g : Ghosts D) (bound seconds : ℕ) (running : OpenCell D V) (k : ℕ) (site : Site D V) → IsSound g bound running → bound + seconds ≤ MAX_MOMENT → slice_get running.sites.items k ≡ Some site → site.clock + seconds ≤ MAX_MOMENT
+pub fits_at : {D V : Type 0} {standing : Standing} (g : Ghosts D) (bound seconds : ℕ) (running : OpenCell D V) (k : ℕ) (site : Site D V) → IsSound g standing bound running → bound + seconds ≤ MAX_MOMENT → slice_get running.sites.items k ≡ Some site → site.clock + seconds ≤ MAX_MOMENT
 fits_at g bound seconds running k site sound fits there =
     let at = sound_at g running.hosts.items 0 bound running.sites.items k site sound.sites there in
     let within = at.within in

@@ -21,10 +21,10 @@ use crate::openings::{OpenEnd, open_server};
 use crate::packets::Packets;
 use crate::sites::Site;
 use cell_runs::{Mark, tell_mark};
-use db_image::WordForms;
+use db_image::DraftWords;
 use disk_base::StopDisk;
 use std::alloc::Global;
-use ubik_node::Outputs;
+use ubik_node::{Outputs, SteadyDisk};
 use ubik_types::{Host, NoMemory};
 
 /// The host of the first server of a cell, 10.0.0.1. The others follow it.
@@ -33,7 +33,7 @@ const FIRST_HOST: u32 = 167_772_161;
 /// A cell that stands: its servers with their clocks and disks, and the packets between them. It runs one line of a script after
 /// the other. Servers are numbered from 1, as packets are.
 #[derive(Drop)]
-pub struct OpenCell<D: StopDisk, V: WordForms> {
+pub struct OpenCell<D: SteadyDisk + StopDisk, V: DraftWords> {
     pub alloc: Global,
     pub hosts: Vec<Host>,
     pub sites: Vec<Site<D, V>>,
@@ -41,7 +41,7 @@ pub struct OpenCell<D: StopDisk, V: WordForms> {
     pub outputs: Outputs,
 }
 
-impl<D: StopDisk, V: WordForms> OpenCell<D, V> {
+impl<D: SteadyDisk + StopDisk, V: DraftWords> OpenCell<D, V> {
     /// A cell of so many servers, none of which is opened. Room for all of them is taken here.
     pub fn new(alloc: Global, servers: usize) -> Result<OpenCell<D, V>, NoMemory>
         requires some { 1 ≤ servers }
@@ -50,7 +50,7 @@ impl<D: StopDisk, V: WordForms> OpenCell<D, V> {
         ensures hosts { IfOk result (λ running. running.hosts.items ≡ hosts_of servers) }
         ensures none { IfOk result (λ running. running.sites.items ≡ []) }
         ensures opened { IfOk result (λ running. (clock : ℕ) (text : List ℕ) →
-            ArePartOpened D.Disk (script_database V.database V.words) clock [] running text text) }
+            ArePartOpened D.Disk V.standing (script_database V.standing.database V.words) clock [] running text text) }
     {
         let hosts = first_hosts(alloc, servers)?;
         let packets = Packets::new(alloc, &hosts)?;
@@ -82,8 +82,8 @@ impl<D: StopDisk, V: WordForms> OpenCell<D, V> {
         requires settled { IsSettled (D.files disk) (D.may_leave disk) }
         requires unarmed { D.stop disk ≡ Unarmed }
         ensures opened { OnOk result ((given : List D) (text_before : List ℕ) →
-            ArePartOpened D.Disk (script_database V.database V.words) clock given self.old text_before (string_bytes text.old) →
-            ArePartOpened D.Disk (script_database V.database V.words) clock (given ++ disk ∷ []) self.new
+            ArePartOpened D.Disk V.standing (script_database V.standing.database V.words) clock given self.old text_before (string_bytes text.old) →
+            ArePartOpened D.Disk V.standing (script_database V.standing.database V.words) clock (given ++ disk ∷ []) self.new
             text_before (string_bytes text.new)) }
         ensures added { IsAdded D.Disk disk self.old self.new }
         ensures room { HasRoom self.new }
@@ -144,9 +144,9 @@ fn tell_opened(server: u32, end: OpenEnd, text: &mut String) -> Result<(), NoMem
 }
 
 /// A cell all of whose servers were opened stands for the opened cell of some choices.
-pub fn law_cell_opened<D: StopDisk, V: WordForms>()
+pub fn law_cell_opened<D: SteadyDisk + StopDisk, V: DraftWords>()
     ensures { (db : ScriptDatabase) (clock : ℕ) (k : Kind) (given : List D) (running : AnOpenCell D V) (text_before text_after : List ℕ) →
         IsMoment clock → HasRoom running → length given ≡ length running.hosts.items →
-        ArePartOpened D.Disk db clock given running text_before text_after →
-        IsOpened D.Disk db clock k given running text_before text_after }
+        ArePartOpened D.Disk V.standing db clock given running text_before text_after →
+        IsOpened D.Disk V.standing db clock k given running text_before text_after }
 {}

@@ -11,10 +11,11 @@ ghost use Rattle.cell_sites.specs.Told.{CellTold, IsRefused};
 
 use crate::cells::OpenCell;
 use cell_script::Why;
-use db_image::WordForms;
+use db_image::DraftWords;
 use disk_base::StopDisk;
+use ubik_node::SteadyDisk;
 
-impl<D: StopDisk, V: WordForms> OpenCell<D, V> {
+impl<D: SteadyDisk + StopDisk, V: DraftWords> OpenCell<D, V> {
     /// The number of a packet that was sent.
     pub(crate) fn sent_number(&self, number: u64) -> Result<u32, Why>
         ensures sent { IfOk result (λ n. (n ≡ number) × (0 < n) × (n ≤ length self.now.packets.sent)) }
@@ -29,15 +30,15 @@ impl<D: StopDisk, V: WordForms> OpenCell<D, V> {
 
     /// The packet of a number waits no longer.
     pub fn drop_packet(&mut self, number: u64) -> Result<(), Why>
-        requires { (bound : ℕ) × IsSound D.Disk bound self.old }
-        ensures told { result ≡ Ok tt → (given : List ℕ) (c : Cell) (text : List ℕ) → IsModelledBy D.Disk V.database given self.old c →
-            CellTold D.Disk (script_database V.database V.words) given
-            (λ choices. run_in (script_database V.database V.words) c choices (line.Drop number))
+        requires { (bound : ℕ) × IsSound D.Disk V.standing bound self.old }
+        ensures told { result ≡ Ok tt → (given : List ℕ) (c : Cell) (text : List ℕ) → IsModelledBy D.Disk V.standing.database given self.old c →
+            CellTold D.Disk (script_database V.standing.database V.words) given
+            (λ choices. run_in (script_database V.standing.database V.words) c choices (line.Drop number))
             None self.old self.new text text }
         ensures refused { (why : AWhy) → result ≡ Err why → (self.new ≡ self.old)
-            × ((given : List ℕ) (c : Cell) → IsModelledBy D.Disk V.database given self.old c → IsRefused why
-            (λ choices. run_in (script_database V.database V.words) c choices (line.Drop number))) }
-        ensures sound { (bound : ℕ) → IsSound D.Disk bound self.old → IsSound D.Disk bound self.new }
+            × ((given : List ℕ) (c : Cell) → IsModelledBy D.Disk V.standing.database given self.old c → IsRefused why
+            (λ choices. run_in (script_database V.standing.database V.words) c choices (line.Drop number))) }
+        ensures sound { (bound : ℕ) → IsSound D.Disk V.standing bound self.old → IsSound D.Disk V.standing bound self.new }
         ensures never_falls { AreRises 0 [] (helds D.Disk self.old) (helds D.Disk self.new) }
         ensures same { length self.new.sites.items ≡ length self.old.sites.items }
     {
@@ -48,15 +49,15 @@ impl<D: StopDisk, V: WordForms> OpenCell<D, V> {
 
     /// The packets to and from a server that is up wait no longer.
     pub fn drop_all(&mut self, server: u64) -> Result<(), Why>
-        requires { (bound : ℕ) × IsSound D.Disk bound self.old }
-        ensures told { result ≡ Ok tt → (given : List ℕ) (c : Cell) (text : List ℕ) → IsModelledBy D.Disk V.database given self.old c →
-            CellTold D.Disk (script_database V.database V.words) given
-            (λ choices. run_in (script_database V.database V.words) c choices (line.DropAll server))
+        requires { (bound : ℕ) × IsSound D.Disk V.standing bound self.old }
+        ensures told { result ≡ Ok tt → (given : List ℕ) (c : Cell) (text : List ℕ) → IsModelledBy D.Disk V.standing.database given self.old c →
+            CellTold D.Disk (script_database V.standing.database V.words) given
+            (λ choices. run_in (script_database V.standing.database V.words) c choices (line.DropAll server))
             None self.old self.new text text }
         ensures refused { (why : AWhy) → result ≡ Err why → (self.new ≡ self.old)
-            × ((given : List ℕ) (c : Cell) → IsModelledBy D.Disk V.database given self.old c → IsRefused why
-            (λ choices. run_in (script_database V.database V.words) c choices (line.DropAll server))) }
-        ensures sound { (bound : ℕ) → IsSound D.Disk bound self.old → IsSound D.Disk bound self.new }
+            × ((given : List ℕ) (c : Cell) → IsModelledBy D.Disk V.standing.database given self.old c → IsRefused why
+            (λ choices. run_in (script_database V.standing.database V.words) c choices (line.DropAll server))) }
+        ensures sound { (bound : ℕ) → IsSound D.Disk V.standing bound self.old → IsSound D.Disk V.standing bound self.new }
         ensures never_falls { AreRises 0 [] (helds D.Disk self.old) (helds D.Disk self.new) }
         ensures same { length self.new.sites.items ≡ length self.old.sites.items }
     {

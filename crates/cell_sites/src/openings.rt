@@ -11,10 +11,10 @@ ghost use Rattle.ubik_node.specs.Disk.{StandsAs};
 
 use crate::sites::Server;
 use cell_model::law_voters_vote;
-use db_image::WordForms;
+use db_image::DraftWords;
 use disk_base::{Refused, StopDisk};
 use std::alloc::Global;
-use ubik_node::{Node, StoreFault};
+use ubik_node::{Node, SteadyDisk, StoreFault};
 use ubik_types::{Cell, Host, Version};
 
 /// How the opening of a server ended.
@@ -29,7 +29,7 @@ pub enum OpenEnd {
 }
 
 /// Opens the server at a place of the cell of these hosts over its disk, at a moment in seconds. Where it stays down, the disk is revived.
-pub(crate) fn open_server<D: StopDisk, V: WordForms>(
+pub(crate) fn open_server<D: SteadyDisk + StopDisk, V: DraftWords>(
     alloc: Global,
     hosts: &[Host],
     me: usize,
@@ -40,9 +40,9 @@ pub(crate) fn open_server<D: StopDisk, V: WordForms>(
     requires few { length hosts.now ≤ MAXSERVERS }
     requires me { me < length hosts.now }
     requires moment { IsMoment clock }
-    requires sound { IsSoundDisk D.Disk disk }
+    requires sound { IsSoundDisk D.Disk V.standing disk }
     ensures { (d : Durable) → IsSomeAnd (D.files disk) (StandsAs d)
-        → ServerOpens D.Disk (record { hosts = hosts.now; me = me }) clock d result.1 disk result.0 }
+        → ServerOpens D.Disk V.standing (record { hosts = hosts.now; me = me }) clock d result.1 disk result.0 }
 {
     law_voters_vote();
     let Ok(cell) = Cell::new(alloc, hosts) else {

@@ -22,22 +22,23 @@ use crate::openings::{OpenEnd, open_server};
 use crate::sites::{Server, Site};
 use cell_runs::{Mark, tell_mark};
 use cell_script::Why;
-use db_image::WordForms;
+use db_image::DraftWords;
 use disk_base::{Fill, StopDisk};
+use ubik_node::SteadyDisk;
 use ubik_types::NoMemory;
 
-impl<D: StopDisk, V: WordForms> OpenCell<D, V> {
+impl<D: SteadyDisk + StopDisk, V: DraftWords> OpenCell<D, V> {
     /// Has the disk of a server that is up stop after so many further changing calls, and then leave its files so.
     pub fn stop(&mut self, server: u64, calls: u32, fill: Fill) -> Result<(), Why>
-        requires { (bound : ℕ) × IsSound D.Disk bound self.old }
-        ensures told { result ≡ Ok tt → (given : List ℕ) (c : Cell) (text : List ℕ) → IsModelledBy D.Disk V.database given self.old c →
-            CellTold D.Disk (script_database V.database V.words) given
-            (λ choices. run_in (script_database V.database V.words) c choices (line.Stop server calls fill))
+        requires { (bound : ℕ) × IsSound D.Disk V.standing bound self.old }
+        ensures told { result ≡ Ok tt → (given : List ℕ) (c : Cell) (text : List ℕ) → IsModelledBy D.Disk V.standing.database given self.old c →
+            CellTold D.Disk (script_database V.standing.database V.words) given
+            (λ choices. run_in (script_database V.standing.database V.words) c choices (line.Stop server calls fill))
             None self.old self.new text text }
         ensures refused { (why : AWhy) → result ≡ Err why → (self.new ≡ self.old)
-            × ((given : List ℕ) (c : Cell) → IsModelledBy D.Disk V.database given self.old c → IsRefused why
-            (λ choices. run_in (script_database V.database V.words) c choices (line.Stop server calls fill))) }
-        ensures sound { (bound : ℕ) → IsSound D.Disk bound self.old → IsSound D.Disk bound self.new }
+            × ((given : List ℕ) (c : Cell) → IsModelledBy D.Disk V.standing.database given self.old c → IsRefused why
+            (λ choices. run_in (script_database V.standing.database V.words) c choices (line.Stop server calls fill))) }
+        ensures sound { (bound : ℕ) → IsSound D.Disk V.standing bound self.old → IsSound D.Disk V.standing bound self.new }
         ensures never_falls { AreRises 0 [] (helds D.Disk self.old) (helds D.Disk self.new) }
         ensures same { length self.new.sites.items ≡ length self.old.sites.items }
     {
@@ -51,15 +52,15 @@ impl<D: StopDisk, V: WordForms> OpenCell<D, V> {
 
     /// Takes a server that is up down; its disk is revived.
     pub fn crash(&mut self, server: u64) -> Result<(), Why>
-        requires { (bound : ℕ) × IsSound D.Disk bound self.old }
-        ensures told { result ≡ Ok tt → (given : List ℕ) (c : Cell) (text : List ℕ) → IsModelledBy D.Disk V.database given self.old c →
-            CellTold D.Disk (script_database V.database V.words) given
-            (λ choices. run_in (script_database V.database V.words) c choices (line.Crash server))
+        requires { (bound : ℕ) × IsSound D.Disk V.standing bound self.old }
+        ensures told { result ≡ Ok tt → (given : List ℕ) (c : Cell) (text : List ℕ) → IsModelledBy D.Disk V.standing.database given self.old c →
+            CellTold D.Disk (script_database V.standing.database V.words) given
+            (λ choices. run_in (script_database V.standing.database V.words) c choices (line.Crash server))
             None self.old self.new text text }
         ensures refused { (why : AWhy) → result ≡ Err why → (self.new ≡ self.old)
-            × ((given : List ℕ) (c : Cell) → IsModelledBy D.Disk V.database given self.old c → IsRefused why
-            (λ choices. run_in (script_database V.database V.words) c choices (line.Crash server))) }
-        ensures sound { (bound : ℕ) → IsSound D.Disk bound self.old → IsSound D.Disk bound self.new }
+            × ((given : List ℕ) (c : Cell) → IsModelledBy D.Disk V.standing.database given self.old c → IsRefused why
+            (λ choices. run_in (script_database V.standing.database V.words) c choices (line.Crash server))) }
+        ensures sound { (bound : ℕ) → IsSound D.Disk V.standing bound self.old → IsSound D.Disk V.standing bound self.new }
         ensures never_falls { AreRises 0 [] (helds D.Disk self.old) (helds D.Disk self.new) }
         ensures same { length self.new.sites.items ≡ length self.old.sites.items }
     {
@@ -71,16 +72,16 @@ impl<D: StopDisk, V: WordForms> OpenCell<D, V> {
     /// Opens a server that is down at its clock, and tells its version. Where the disk fails in that, the server stays down, which is told, and
     /// its disk is revived.
     pub fn restart(&mut self, server: u64, text: &mut String) -> Result<(), LineFault>
-        requires { (bound : ℕ) × IsSound D.Disk bound self.old }
-        ensures told { result ≡ Ok tt → (given : List ℕ) (c : Cell) → IsModelledBy D.Disk V.database given self.old c →
-            CellTold D.Disk (script_database V.database V.words) given (λ choices. run_in (script_database V.database V.words) c choices (line.Restart server)) None self.old self.new (string_bytes text.old) (string_bytes text.new) }
+        requires { (bound : ℕ) × IsSound D.Disk V.standing bound self.old }
+        ensures told { result ≡ Ok tt → (given : List ℕ) (c : Cell) → IsModelledBy D.Disk V.standing.database given self.old c →
+            CellTold D.Disk (script_database V.standing.database V.words) given (λ choices. run_in (script_database V.standing.database V.words) c choices (line.Restart server)) None self.old self.new (string_bytes text.old) (string_bytes text.new) }
         ensures limit { (which : AWhich) → result ≢ Err (LineFault.Limit which) }
         ensures refused { (why : AWhy) → result ≡ Err (LineFault.Refused why) → (self.new ≡ self.old)
-            × ((given : List ℕ) (c : Cell) → IsModelledBy D.Disk V.database given self.old c → IsRefused why (λ choices. run_in (script_database V.database V.words) c choices (line.Restart server))) }
+            × ((given : List ℕ) (c : Cell) → IsModelledBy D.Disk V.standing.database given self.old c → IsRefused why (λ choices. run_in (script_database V.standing.database V.words) c choices (line.Restart server))) }
         ensures quiet { (why : AWhy) → result ≡ Err (LineFault.Refused why) → string_bytes text.new ≡ string_bytes text.old }
-        ensures short { result ≡ Err LineFault.NoMemory → (given : List ℕ) (c : Cell) → IsModelledBy D.Disk V.database given self.old c →
-            IsShort D.Disk V.database given (λ choices. run_in (script_database V.database V.words) c choices (line.Restart server)) c self.old self.new }
-        ensures sound { result ≡ Ok tt → (bound : ℕ) → IsSound D.Disk bound self.old → IsSound D.Disk bound self.new }
+        ensures short { result ≡ Err LineFault.NoMemory → (given : List ℕ) (c : Cell) → IsModelledBy D.Disk V.standing.database given self.old c →
+            IsShort D.Disk V.standing.database given (λ choices. run_in (script_database V.standing.database V.words) c choices (line.Restart server)) c self.old self.new }
+        ensures sound { result ≡ Ok tt → (bound : ℕ) → IsSound D.Disk V.standing bound self.old → IsSound D.Disk V.standing bound self.new }
         ensures never_falls { AreRises 0 [] (helds D.Disk self.old) (helds D.Disk self.new) }
         ensures same { length self.new.sites.items ≡ length self.old.sites.items }
     {
@@ -90,9 +91,9 @@ impl<D: StopDisk, V: WordForms> OpenCell<D, V> {
 
     /// Opens the server at a place, which is down.
     fn reopen(&mut self, k: usize, text: &mut String) -> Result<(), NoMemory>
-        requires sound { (bound : ℕ) × IsSound D.Disk bound self.old }
+        requires sound { (bound : ℕ) × IsSound D.Disk V.standing bound self.old }
         requires down { IsDownAt self.old k }
-        ensures { SiteReopened D.Disk (script_database V.database V.words) k result self.old self.new (string_bytes text.old) (string_bytes text.new) }
+        ensures { SiteReopened D.Disk V.standing (script_database V.standing.database V.words) k result self.old self.new (string_bytes text.old) (string_bytes text.new) }
     {
         let Site { clock, server } = self.sites.remove(k);
         let (server, end) = open_server(self.alloc, &self.hosts, k, server.close(), clock);

@@ -14,25 +14,26 @@ use crate::cells::OpenCell;
 use crate::faults::LineFault;
 use crate::sites::Server;
 use cell_runs::{Showing, tell_show};
-use db_image::WordForms;
+use db_image::DraftWords;
 use disk_base::StopDisk;
+use ubik_node::SteadyDisk;
 
-impl<D: StopDisk, V: WordForms> OpenCell<D, V> {
+impl<D: SteadyDisk + StopDisk, V: DraftWords> OpenCell<D, V> {
     /// Tells the state of a server: of a halted one what it kept.
     pub fn show(&self, server: u64, text: &mut String) -> Result<(), LineFault>
-        requires { (bound : ℕ) × IsSound D.Disk bound self.now }
-        ensures told { result ≡ Ok tt → (given : List ℕ) (c : Cell) → IsModelledBy D.Disk V.database given self.now c →
-            CellTold D.Disk (script_database V.database V.words) given
-            (λ choices. run_in (script_database V.database V.words) c choices (line.Show server)) None self.now self.now
+        requires { (bound : ℕ) × IsSound D.Disk V.standing bound self.now }
+        ensures told { result ≡ Ok tt → (given : List ℕ) (c : Cell) → IsModelledBy D.Disk V.standing.database given self.now c →
+            CellTold D.Disk (script_database V.standing.database V.words) given
+            (λ choices. run_in (script_database V.standing.database V.words) c choices (line.Show server)) None self.now self.now
             (string_bytes text.old) (string_bytes text.new) }
         ensures limit { (which : Which) → result ≢ Err (LineFault.Limit which) }
         ensures refused { (why : Why) → result ≡ Err (LineFault.Refused why) →
-            (given : List ℕ) (c : Cell) → IsModelledBy D.Disk V.database given self.now c → IsRefused why
-            (λ choices. run_in (script_database V.database V.words) c choices (line.Show server)) }
+            (given : List ℕ) (c : Cell) → IsModelledBy D.Disk V.standing.database given self.now c → IsRefused why
+            (λ choices. run_in (script_database V.standing.database V.words) c choices (line.Show server)) }
         ensures quiet { (why : Why) → result ≡ Err (LineFault.Refused why) → string_bytes text.new ≡ string_bytes text.old }
-        ensures short { result ≡ Err LineFault.NoMemory → (given : List ℕ) (c : Cell) → IsModelledBy D.Disk V.database given self.now c →
-            IsShort D.Disk V.database given
-            (λ choices. run_in (script_database V.database V.words) c choices (line.Show server)) c self.now self.now }
+        ensures short { result ≡ Err LineFault.NoMemory → (given : List ℕ) (c : Cell) → IsModelledBy D.Disk V.standing.database given self.now c →
+            IsShort D.Disk V.standing.database given
+            (λ choices. run_in (script_database V.standing.database V.words) c choices (line.Show server)) c self.now self.now }
     {
         let k = self.place(server)?;
         let site = &self.sites[k];

@@ -2,20 +2,20 @@
 ghost use Rattle.std.specs.Prelude.{◌≡◌};
 ghost use Rattle.cell_sites.specs.Sites.{server_disk};
 
-use db_image::WordForms;
+use db_image::DraftWords;
 use disk_base::StopDisk;
-use ubik_node::Node;
+use ubik_node::{Node, SteadyDisk};
 
 /// A server, with its disk.
 #[derive(Drop)]
-pub enum Server<D: StopDisk, V: WordForms> {
+pub enum Server<D: SteadyDisk + StopDisk, V: DraftWords> {
     /// It is down.
     Down(D),
     /// It is up, or halted.
     Up(Node<D, V>),
 }
 
-impl<D: StopDisk, V: WordForms> Server<D, V> {
+impl<D: SteadyDisk + StopDisk, V: DraftWords> Server<D, V> {
     /// The disk, with the server taken down.
     pub(crate) fn close(self) -> D
         ensures { result ≡ server_disk self }
@@ -29,7 +29,7 @@ impl<D: StopDisk, V: WordForms> Server<D, V> {
 
 /// A server with its clock, in seconds.
 #[derive(Drop)]
-pub struct Site<D: StopDisk, V: WordForms> {
+pub struct Site<D: SteadyDisk + StopDisk, V: DraftWords> {
     pub clock: u32,
     pub server: Server<D, V>,
 }

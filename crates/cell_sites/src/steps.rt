@@ -29,25 +29,25 @@ use crate::sites::Server;
 use crate::telling::tell_outputs;
 use cell_model::law_voters_vote;
 use cell_runs::{Mark, tell_mark};
-use db_image::WordForms;
+use db_image::DraftWords;
 use disk_base::StopDisk;
-use ubik_node::{Node, NodeEvent, Outputs, StepEnd};
+use ubik_node::{Node, NodeEvent, Outputs, SteadyDisk, StepEnd};
 use ubik_types::{Bytes, bytes_of};
 
-impl<D: StopDisk, V: WordForms> OpenCell<D, V> {
+impl<D: SteadyDisk + StopDisk, V: DraftWords> OpenCell<D, V> {
     /// A beacon turn of a server, which is counted from 1.
     pub fn beacon(&mut self, server: u64, text: &mut String) -> Result<(), LineFault>
-        requires { (bound : ℕ) × IsSound D.Disk bound self.old }
-        ensures told { result ≡ Ok tt → (given : List ℕ) (c : Cell) → IsModelledBy D.Disk V.database given self.old c →
-            CellTold D.Disk (script_database V.database V.words) given (λ choices. run_in (script_database V.database V.words) c choices (line.Beacon server)) None self.old self.new (string_bytes text.old) (string_bytes text.new) }
-        ensures limit { (which : AWhich) → result ≡ Err (LineFault.Limit which) → (given : List ℕ) (c : Cell) → IsModelledBy D.Disk V.database given self.old c →
-            CellTold D.Disk (script_database V.database V.words) given (λ choices. run_in (script_database V.database V.words) c choices (line.Beacon server)) (Some (ending.Limit which)) self.old self.new (string_bytes text.old) (string_bytes text.new) }
+        requires { (bound : ℕ) × IsSound D.Disk V.standing bound self.old }
+        ensures told { result ≡ Ok tt → (given : List ℕ) (c : Cell) → IsModelledBy D.Disk V.standing.database given self.old c →
+            CellTold D.Disk (script_database V.standing.database V.words) given (λ choices. run_in (script_database V.standing.database V.words) c choices (line.Beacon server)) None self.old self.new (string_bytes text.old) (string_bytes text.new) }
+        ensures limit { (which : AWhich) → result ≡ Err (LineFault.Limit which) → (given : List ℕ) (c : Cell) → IsModelledBy D.Disk V.standing.database given self.old c →
+            CellTold D.Disk (script_database V.standing.database V.words) given (λ choices. run_in (script_database V.standing.database V.words) c choices (line.Beacon server)) (Some (ending.Limit which)) self.old self.new (string_bytes text.old) (string_bytes text.new) }
         ensures refused { (why : AWhy) → result ≡ Err (LineFault.Refused why) → (self.new ≡ self.old)
-            × ((given : List ℕ) (c : Cell) → IsModelledBy D.Disk V.database given self.old c → IsRefused why (λ choices. run_in (script_database V.database V.words) c choices (line.Beacon server))) }
+            × ((given : List ℕ) (c : Cell) → IsModelledBy D.Disk V.standing.database given self.old c → IsRefused why (λ choices. run_in (script_database V.standing.database V.words) c choices (line.Beacon server))) }
         ensures quiet { (why : AWhy) → result ≡ Err (LineFault.Refused why) → string_bytes text.new ≡ string_bytes text.old }
-        ensures short { result ≡ Err LineFault.NoMemory → (given : List ℕ) (c : Cell) → IsModelledBy D.Disk V.database given self.old c →
-            IsShort D.Disk V.database given (λ choices. run_in (script_database V.database V.words) c choices (line.Beacon server)) c self.old self.new }
-        ensures sound { result ≡ Ok tt → (bound : ℕ) → IsSound D.Disk bound self.old → IsSound D.Disk bound self.new }
+        ensures short { result ≡ Err LineFault.NoMemory → (given : List ℕ) (c : Cell) → IsModelledBy D.Disk V.standing.database given self.old c →
+            IsShort D.Disk V.standing.database given (λ choices. run_in (script_database V.standing.database V.words) c choices (line.Beacon server)) c self.old self.new }
+        ensures sound { result ≡ Ok tt → (bound : ℕ) → IsSound D.Disk V.standing bound self.old → IsSound D.Disk V.standing bound self.new }
         ensures never_falls { AreRises 0 [] (helds D.Disk self.old) (helds D.Disk self.new) }
         ensures same { length self.new.sites.items ≡ length self.old.sites.items }
     {
@@ -57,18 +57,18 @@ impl<D: StopDisk, V: WordForms> OpenCell<D, V> {
 
     /// A recovery turn of the server of a cell of one.
     pub fn recover(&mut self, server: u64, text: &mut String) -> Result<(), LineFault>
-        requires sound { (bound : ℕ) × IsSound D.Disk bound self.old }
+        requires sound { (bound : ℕ) × IsSound D.Disk V.standing bound self.old }
         requires alone { length self.old.sites.items ≡ 1 }
-        ensures told { result ≡ Ok tt → (given : List ℕ) (c : Cell) → IsModelledBy D.Disk V.database given self.old c →
-            CellTold D.Disk (script_database V.database V.words) given (λ choices. run_in (script_database V.database V.words) c choices (line.Recover server)) None self.old self.new (string_bytes text.old) (string_bytes text.new) }
-        ensures limit { (which : AWhich) → result ≡ Err (LineFault.Limit which) → (given : List ℕ) (c : Cell) → IsModelledBy D.Disk V.database given self.old c →
-            CellTold D.Disk (script_database V.database V.words) given (λ choices. run_in (script_database V.database V.words) c choices (line.Recover server)) (Some (ending.Limit which)) self.old self.new (string_bytes text.old) (string_bytes text.new) }
+        ensures told { result ≡ Ok tt → (given : List ℕ) (c : Cell) → IsModelledBy D.Disk V.standing.database given self.old c →
+            CellTold D.Disk (script_database V.standing.database V.words) given (λ choices. run_in (script_database V.standing.database V.words) c choices (line.Recover server)) None self.old self.new (string_bytes text.old) (string_bytes text.new) }
+        ensures limit { (which : AWhich) → result ≡ Err (LineFault.Limit which) → (given : List ℕ) (c : Cell) → IsModelledBy D.Disk V.standing.database given self.old c →
+            CellTold D.Disk (script_database V.standing.database V.words) given (λ choices. run_in (script_database V.standing.database V.words) c choices (line.Recover server)) (Some (ending.Limit which)) self.old self.new (string_bytes text.old) (string_bytes text.new) }
         ensures refused { (why : AWhy) → result ≡ Err (LineFault.Refused why) → (self.new ≡ self.old)
-            × ((given : List ℕ) (c : Cell) → IsModelledBy D.Disk V.database given self.old c → IsRefused why (λ choices. run_in (script_database V.database V.words) c choices (line.Recover server))) }
+            × ((given : List ℕ) (c : Cell) → IsModelledBy D.Disk V.standing.database given self.old c → IsRefused why (λ choices. run_in (script_database V.standing.database V.words) c choices (line.Recover server))) }
         ensures quiet { (why : AWhy) → result ≡ Err (LineFault.Refused why) → string_bytes text.new ≡ string_bytes text.old }
-        ensures short { result ≡ Err LineFault.NoMemory → (given : List ℕ) (c : Cell) → IsModelledBy D.Disk V.database given self.old c →
-            IsShort D.Disk V.database given (λ choices. run_in (script_database V.database V.words) c choices (line.Recover server)) c self.old self.new }
-        ensures sound { result ≡ Ok tt → (bound : ℕ) → IsSound D.Disk bound self.old → IsSound D.Disk bound self.new }
+        ensures short { result ≡ Err LineFault.NoMemory → (given : List ℕ) (c : Cell) → IsModelledBy D.Disk V.standing.database given self.old c →
+            IsShort D.Disk V.standing.database given (λ choices. run_in (script_database V.standing.database V.words) c choices (line.Recover server)) c self.old self.new }
+        ensures sound { result ≡ Ok tt → (bound : ℕ) → IsSound D.Disk V.standing bound self.old → IsSound D.Disk V.standing bound self.new }
         ensures never_falls { AreRises 0 [] (helds D.Disk self.old) (helds D.Disk self.new) }
         ensures same { length self.new.sites.items ≡ length self.old.sites.items }
     {
@@ -84,17 +84,17 @@ impl<D: StopDisk, V: WordForms> OpenCell<D, V> {
         call: Bytes,
         text: &mut String,
     ) -> Result<(), LineFault>
-        requires { (bound : ℕ) × IsSound D.Disk bound self.old }
-        ensures told { result ≡ Ok tt → (given : List ℕ) (c : Cell) → IsModelledBy D.Disk V.database given self.old c →
-            CellTold D.Disk (script_database V.database V.words) given (λ choices. asked_at (script_database V.database V.words) c (first_choice choices) id call (Some server)) None self.old self.new (string_bytes text.old) (string_bytes text.new) }
-        ensures limit { (which : AWhich) → result ≡ Err (LineFault.Limit which) → (given : List ℕ) (c : Cell) → IsModelledBy D.Disk V.database given self.old c →
-            CellTold D.Disk (script_database V.database V.words) given (λ choices. asked_at (script_database V.database V.words) c (first_choice choices) id call (Some server)) (Some (ending.Limit which)) self.old self.new (string_bytes text.old) (string_bytes text.new) }
+        requires { (bound : ℕ) × IsSound D.Disk V.standing bound self.old }
+        ensures told { result ≡ Ok tt → (given : List ℕ) (c : Cell) → IsModelledBy D.Disk V.standing.database given self.old c →
+            CellTold D.Disk (script_database V.standing.database V.words) given (λ choices. asked_at (script_database V.standing.database V.words) c (first_choice choices) id call (Some server)) None self.old self.new (string_bytes text.old) (string_bytes text.new) }
+        ensures limit { (which : AWhich) → result ≡ Err (LineFault.Limit which) → (given : List ℕ) (c : Cell) → IsModelledBy D.Disk V.standing.database given self.old c →
+            CellTold D.Disk (script_database V.standing.database V.words) given (λ choices. asked_at (script_database V.standing.database V.words) c (first_choice choices) id call (Some server)) (Some (ending.Limit which)) self.old self.new (string_bytes text.old) (string_bytes text.new) }
         ensures refused { (why : AWhy) → result ≡ Err (LineFault.Refused why) → (self.new ≡ self.old)
-            × ((given : List ℕ) (c : Cell) → IsModelledBy D.Disk V.database given self.old c → IsRefused why (λ choices. asked_at (script_database V.database V.words) c (first_choice choices) id call (Some server))) }
+            × ((given : List ℕ) (c : Cell) → IsModelledBy D.Disk V.standing.database given self.old c → IsRefused why (λ choices. asked_at (script_database V.standing.database V.words) c (first_choice choices) id call (Some server))) }
         ensures quiet { (why : AWhy) → result ≡ Err (LineFault.Refused why) → string_bytes text.new ≡ string_bytes text.old }
-        ensures short { result ≡ Err LineFault.NoMemory → (given : List ℕ) (c : Cell) → IsModelledBy D.Disk V.database given self.old c →
-            IsShort D.Disk V.database given (λ choices. asked_at (script_database V.database V.words) c (first_choice choices) id call (Some server)) c self.old self.new }
-        ensures sound { result ≡ Ok tt → (bound : ℕ) → IsSound D.Disk bound self.old → IsSound D.Disk bound self.new }
+        ensures short { result ≡ Err LineFault.NoMemory → (given : List ℕ) (c : Cell) → IsModelledBy D.Disk V.standing.database given self.old c →
+            IsShort D.Disk V.standing.database given (λ choices. asked_at (script_database V.standing.database V.words) c (first_choice choices) id call (Some server)) c self.old self.new }
+        ensures sound { result ≡ Ok tt → (bound : ℕ) → IsSound D.Disk V.standing bound self.old → IsSound D.Disk V.standing bound self.new }
         ensures never_falls { AreRises 0 [] (helds D.Disk self.old) (helds D.Disk self.new) }
         ensures same { length self.new.sites.items ≡ length self.old.sites.items }
     {
@@ -111,21 +111,21 @@ impl<D: StopDisk, V: WordForms> OpenCell<D, V> {
         call: &[u8],
         text: &mut String,
     ) -> Result<(), LineFault>
-        requires sound { (bound : ℕ) × IsSound D.Disk bound self.old }
+        requires sound { (bound : ℕ) × IsSound D.Disk V.standing bound self.old }
         requires up { IsUpAt self.old k }
         requires taken { IsTaken (member_at self.old k) event }
         requires asks { AsksNoOther event call.now }
-        ensures told { result ≡ Ok tt → (given : List ℕ) (c : Cell) (trigger : Trigger) → IsModelledBy D.Disk V.database given self.old c → occasion c.run.world trigger ≡ Some (k, event) →
-            CellTold D.Disk (script_database V.database V.words) given (λ choices. Ok (stepped (script_database V.database V.words) c (first_choice choices) trigger)) None self.old self.new (string_bytes text.old) (string_bytes text.new) }
-        ensures limit { (which : AWhich) → result ≡ Err (LineFault.Limit which) → (given : List ℕ) (c : Cell) (trigger : Trigger) → IsModelledBy D.Disk V.database given self.old c → occasion c.run.world trigger ≡ Some (k, event) →
-            CellTold D.Disk (script_database V.database V.words) given (λ choices. Ok (stepped (script_database V.database V.words) c (first_choice choices) trigger)) (Some (ending.Limit which)) self.old self.new (string_bytes text.old) (string_bytes text.new) }
+        ensures told { result ≡ Ok tt → (given : List ℕ) (c : Cell) (trigger : Trigger) → IsModelledBy D.Disk V.standing.database given self.old c → occasion c.run.world trigger ≡ Some (k, event) →
+            CellTold D.Disk (script_database V.standing.database V.words) given (λ choices. Ok (stepped (script_database V.standing.database V.words) c (first_choice choices) trigger)) None self.old self.new (string_bytes text.old) (string_bytes text.new) }
+        ensures limit { (which : AWhich) → result ≡ Err (LineFault.Limit which) → (given : List ℕ) (c : Cell) (trigger : Trigger) → IsModelledBy D.Disk V.standing.database given self.old c → occasion c.run.world trigger ≡ Some (k, event) →
+            CellTold D.Disk (script_database V.standing.database V.words) given (λ choices. Ok (stepped (script_database V.standing.database V.words) c (first_choice choices) trigger)) (Some (ending.Limit which)) self.old self.new (string_bytes text.old) (string_bytes text.new) }
         ensures refused { (why : AWhy) → result ≢ Err (LineFault.Refused why) }
-        ensures short { result ≡ Err LineFault.NoMemory → (given : List ℕ) (c : Cell) (trigger : Trigger) → IsModelledBy D.Disk V.database given self.old c → occasion c.run.world trigger ≡ Some (k, event) →
-            IsShort D.Disk V.database given (λ choices. Ok (stepped (script_database V.database V.words) c (first_choice choices) trigger)) c self.old self.new }
-        ensures sound { result ≡ Ok tt → (bound : ℕ) → IsSound D.Disk bound self.old → IsSound D.Disk bound self.new }
+        ensures short { result ≡ Err LineFault.NoMemory → (given : List ℕ) (c : Cell) (trigger : Trigger) → IsModelledBy D.Disk V.standing.database given self.old c → occasion c.run.world trigger ≡ Some (k, event) →
+            IsShort D.Disk V.standing.database given (λ choices. Ok (stepped (script_database V.standing.database V.words) c (first_choice choices) trigger)) c self.old self.new }
+        ensures sound { result ≡ Ok tt → (bound : ℕ) → IsSound D.Disk V.standing bound self.old → IsSound D.Disk V.standing bound self.new }
         ensures never_falls { AreRises 0 [] (helds D.Disk self.old) (helds D.Disk self.new) }
         // A packet of votes leaves what the disks hold.
-        ensures keeps { (packet : APacket) → event ≡ NodeEvent.Packet packet → (given : List ℕ) (c : Cell) → HoldRun V.database given false c (helds D.Disk self.old) → HoldRun V.database given false c (helds D.Disk self.new) }
+        ensures keeps { (packet : APacket) → event ≡ NodeEvent.Packet packet → (given : List ℕ) (c : Cell) → HoldRun V.standing.database given false c (helds D.Disk self.old) → HoldRun V.standing.database given false c (helds D.Disk self.new) }
         ensures same { length self.new.sites.items ≡ length self.old.sites.items }
     {
         law_voters_vote();
@@ -151,9 +151,9 @@ impl<D: StopDisk, V: WordForms> OpenCell<D, V> {
         requires place { k < 20 }
         requires votes { All MayBeTold self.old.outputs }
         ensures told { result ≡ Ok tt → (shown : List Shown) → outputs_of shown ≡ self.old.outputs → All (λ one. AnswersCall call.now one) shown →
-            WholeTold (script_database V.database V.words) self.old.hosts.items k halts (record { text = string_bytes text.old; sent = self.old.packets.sent }) shown (string_bytes text.new) self.new.packets.sent }
+            WholeTold (script_database V.standing.database V.words) self.old.hosts.items k halts (record { text = string_bytes text.old; sent = self.old.packets.sent }) shown (string_bytes text.new) self.new.packets.sent }
         ensures limit { (which : AWhich) → result ≡ Err (LineFault.Limit which) → (shown : List Shown) → outputs_of shown ≡ self.old.outputs → All (λ one. AnswersCall call.now one) shown →
-            told_of (script_database V.database V.words) self.old.hosts.items k (record { text = string_bytes text.old; sent = self.old.packets.sent }) shown
+            told_of (script_database V.standing.database V.words) self.old.hosts.items k (record { text = string_bytes text.old; sent = self.old.packets.sent }) shown
             ≡ record { after = record { text = string_bytes text.new; sent = self.new.packets.sent }; ending = Some (ending.Limit which) } }
         ensures refused { (why : AWhy) → result ≢ Err (LineFault.Refused why) }
         ensures found { result ≡ Ok tt → All IsNotShort self.old.outputs }
@@ -180,10 +180,10 @@ impl<D: StopDisk, V: WordForms> OpenCell<D, V> {
     /// A step of a server that is up, at its clock, which leaves what it put out. Where its disk fails, the files are opened anew; where that
     /// stopped, the server is down, and what it put out is dropped.
     fn step_site(&mut self, k: usize, event: NodeEvent) -> SiteEnd
-        requires sound { (bound : ℕ) × IsSound D.Disk bound self.old }
+        requires sound { (bound : ℕ) × IsSound D.Disk V.standing bound self.old }
         requires up { IsUpAt self.old k }
         requires taken { IsTaken (member_at self.old k) event }
-        ensures { SiteStepped D.Disk V.database k event result self.old self.new }
+        ensures { SiteStepped D.Disk V.standing V.standing.database k event result self.old self.new }
     {
         let end = self.step_up(k, event);
         if let SiteEnd::Stops = end {
@@ -195,10 +195,10 @@ impl<D: StopDisk, V: WordForms> OpenCell<D, V> {
 
     /// The step alone: a server whose disk stopped is up still.
     fn step_up(&mut self, k: usize, event: NodeEvent) -> SiteEnd
-        requires sound { (bound : ℕ) × IsSound D.Disk bound self.old }
+        requires sound { (bound : ℕ) × IsSound D.Disk V.standing bound self.old }
         requires up { IsUpAt self.old k }
         requires taken { IsTaken (member_at self.old k) event }
-        ensures { UpStepped D.Disk V.database k event result self.old self.new }
+        ensures { UpStepped D.Disk V.standing V.standing.database k event result self.old self.new }
     {
         let site = &mut self.sites[k];
         let clock = site.clock;
@@ -230,7 +230,7 @@ pub enum SiteEnd {
 }
 
 /// A step of a server that is up, at a moment. Where it is halted in it by a fault of the disk that is no stop, the files are opened anew.
-fn step_node<D: StopDisk, V: WordForms>(
+fn step_node<D: SteadyDisk + StopDisk, V: DraftWords>(
     node: &mut Node<D, V>,
     clock: u32,
     event: NodeEvent,
@@ -239,9 +239,9 @@ fn step_node<D: StopDisk, V: WordForms>(
     requires moment { IsMoment clock }
     requires sound { IsSoundNode D.Disk (own_member node.old) clock node.old }
     requires taken { IsTaken (own_member node.old) event }
-    requires disk { IsSoundDisk D.Disk node.old.store.disk }
+    requires disk { IsSoundDisk D.Disk V.standing node.old.store.disk }
     requires empty { out.old ≡ [] }
-    ensures { NodeStepped D.Disk V.database (own_member node.old) clock event result node.old node.new out.new }
+    ensures { NodeStepped D.Disk V.standing V.standing.database (own_member node.old) clock event result node.old node.new out.new }
 {
     let was_halted = node.halted();
     match node.step(clock, event, out) {

@@ -15,14 +15,14 @@ use crate::faults::LineFault;
 use crate::packets::Packets;
 use cell_model::Output;
 use cell_runs::tell_output;
-use db_image::WordForms;
+use db_image::DraftWords;
 use ubik_calls::Reply;
 use ubik_node::Outputs;
 use ubik_types::{Host, NoMemory};
 
 /// Tells what a server puts out, where `call` is the call that was asked of it, if one was; packets are sent. Where a packet passes a
 /// limit, what stands before it was told. A call that found no memory is want of memory.
-pub fn tell_outputs<V: WordForms>(
+pub fn tell_outputs<V: DraftWords>(
     text: &mut String,
     hosts: &[Host],
     server: u32,
@@ -33,10 +33,10 @@ pub fn tell_outputs<V: WordForms>(
     requires server { server < 20 }
     requires votes { All MayBeTold out.old }
     ensures told { OnOk result ((shown : List Shown) → outputs_of shown ≡ out.old → All (λ one. AnswersCall call.now one) shown →
-        told_of (script_database V.database V.words) hosts.now server (record { text = string_bytes text.old; sent = packets.old.sent }) shown
+        told_of (script_database V.standing.database V.words) hosts.now server (record { text = string_bytes text.old; sent = packets.old.sent }) shown
         ≡ record { after = record { text = string_bytes text.new; sent = packets.new.sent }; ending = None }) }
     ensures limit { (which : Which) → result ≡ Err (LineFault.Limit which) → (shown : List Shown) → outputs_of shown ≡ out.old → All (λ one. AnswersCall call.now one) shown →
-        told_of (script_database V.database V.words) hosts.now server (record { text = string_bytes text.old; sent = packets.old.sent }) shown
+        told_of (script_database V.standing.database V.words) hosts.now server (record { text = string_bytes text.old; sent = packets.old.sent }) shown
         ≡ record { after = record { text = string_bytes text.new; sent = packets.new.sent }; ending = Some (ending.Limit which) } }
     ensures refused { (why : Why) → result ≢ Err (LineFault.Refused why) }
     ensures found { OnOk result (All IsNotShort out.old) }
@@ -50,7 +50,7 @@ pub fn tell_outputs<V: WordForms>(
 }
 
 /// Tells one output, and sends the packet that it may be.
-fn tell_one<V: WordForms>(
+fn tell_one<V: DraftWords>(
     text: &mut String,
     hosts: &[Host],
     server: u32,
@@ -63,7 +63,7 @@ fn tell_one<V: WordForms>(
     ensures told { OnOk result ((one : Shown) → one.output ≡ output → AnswersCall call.now one →
         (passed_in (record { text = string_bytes text.old; sent = packets.old.sent }) (packet_in output) ≡ None)
         × (record { text = string_bytes text.new; sent = packets.new.sent }
-        ≡ with_shown (script_database V.database V.words) hosts.now server (record { text = string_bytes text.old; sent = packets.old.sent }) one)) }
+        ≡ with_shown (script_database V.standing.database V.words) hosts.now server (record { text = string_bytes text.old; sent = packets.old.sent }) one)) }
     ensures limit { (which : Which) → result ≡ Err (LineFault.Limit which) →
         (passed_in (record { text = string_bytes text.old; sent = packets.old.sent }) (packet_in output) ≡ Some (ending.Limit which))
         × (string_bytes text.new ≡ string_bytes text.old) × (packets.new ≡ packets.old) }

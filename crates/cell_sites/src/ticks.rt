@@ -15,23 +15,24 @@ ghost use Rattle.cell_sites.specs.declared.sites.Site.{Site as ASite};
 use crate::cells::OpenCell;
 use crate::sites::Site;
 use cell_script::Why;
-use db_image::WordForms;
+use db_image::DraftWords;
 use disk_base::StopDisk;
+use ubik_node::SteadyDisk;
 use ubik_types::SKEW;
 
-impl<D: StopDisk, V: WordForms> OpenCell<D, V> {
+impl<D: SteadyDisk + StopDisk, V: DraftWords> OpenCell<D, V> {
     /// The clock of a server goes forward. That is refused where it would be more than 7 seconds past another one.
     pub fn tick(&mut self, server: u64, seconds: u32) -> Result<(), Why>
-        requires { (bound : ℕ) × IsSound D.Disk bound self.old × (bound + seconds ≤ MAX_MOMENT) }
-        ensures told { result ≡ Ok tt → (given : List ℕ) (c : Cell) (text : List ℕ) → IsModelledBy D.Disk V.database given self.old c →
-            CellTold D.Disk (script_database V.database V.words) given
-            (λ choices. run_in (script_database V.database V.words) c choices (line.Tick server seconds))
+        requires { (bound : ℕ) × IsSound D.Disk V.standing bound self.old × (bound + seconds ≤ MAX_MOMENT) }
+        ensures told { result ≡ Ok tt → (given : List ℕ) (c : Cell) (text : List ℕ) → IsModelledBy D.Disk V.standing.database given self.old c →
+            CellTold D.Disk (script_database V.standing.database V.words) given
+            (λ choices. run_in (script_database V.standing.database V.words) c choices (line.Tick server seconds))
             None self.old self.new text text }
         ensures refused { (why : AWhy) → result ≡ Err why → (self.new ≡ self.old)
-            × ((given : List ℕ) (c : Cell) → IsModelledBy D.Disk V.database given self.old c → IsRefused why
-            (λ choices. run_in (script_database V.database V.words) c choices (line.Tick server seconds))) }
-        ensures sound { result ≡ Ok tt → (bound : ℕ) → IsSound D.Disk bound self.old
-            → IsSound D.Disk (bound + seconds) self.new }
+            × ((given : List ℕ) (c : Cell) → IsModelledBy D.Disk V.standing.database given self.old c → IsRefused why
+            (λ choices. run_in (script_database V.standing.database V.words) c choices (line.Tick server seconds))) }
+        ensures sound { result ≡ Ok tt → (bound : ℕ) → IsSound D.Disk V.standing bound self.old
+            → IsSound D.Disk V.standing (bound + seconds) self.new }
         ensures never_falls { AreRises 0 [] (helds D.Disk self.old) (helds D.Disk self.new) }
         ensures same { length self.new.sites.items ≡ length self.old.sites.items }
     {
@@ -46,12 +47,12 @@ impl<D: StopDisk, V: WordForms> OpenCell<D, V> {
 
     /// All clocks go forward.
     pub fn tick_all(&mut self, seconds: u32)
-        requires { (bound : ℕ) × IsSound D.Disk bound self.old × (bound + seconds ≤ MAX_MOMENT) }
-        ensures told { (given : List ℕ) (c : Cell) (text : List ℕ) → IsModelledBy D.Disk V.database given self.old c →
-            CellTold D.Disk (script_database V.database V.words) given
-            (λ choices. run_in (script_database V.database V.words) c choices (line.TickAll seconds))
+        requires { (bound : ℕ) × IsSound D.Disk V.standing bound self.old × (bound + seconds ≤ MAX_MOMENT) }
+        ensures told { (given : List ℕ) (c : Cell) (text : List ℕ) → IsModelledBy D.Disk V.standing.database given self.old c →
+            CellTold D.Disk (script_database V.standing.database V.words) given
+            (λ choices. run_in (script_database V.standing.database V.words) c choices (line.TickAll seconds))
             None self.old self.new text text }
-        ensures sound { (bound : ℕ) → IsSound D.Disk bound self.old → IsSound D.Disk (bound + seconds) self.new }
+        ensures sound { (bound : ℕ) → IsSound D.Disk V.standing bound self.old → IsSound D.Disk V.standing (bound + seconds) self.new }
         ensures never_falls { AreRises 0 [] (helds D.Disk self.old) (helds D.Disk self.new) }
         ensures same { length self.new.sites.items ≡ length self.old.sites.items }
     {
@@ -60,7 +61,7 @@ impl<D: StopDisk, V: WordForms> OpenCell<D, V> {
 }
 
 /// The clocks of these servers go forward.
-fn tick_sites<D: StopDisk, V: WordForms>(sites: &mut [Site<D, V>], seconds: u32)
+fn tick_sites<D: SteadyDisk + StopDisk, V: DraftWords>(sites: &mut [Site<D, V>], seconds: u32)
     requires { (k : ℕ) (site : ASite D V) → slice_get sites.old k ≡ Some site → site.clock + seconds ≤ MAX_MOMENT }
     ensures { sites.new ≡ map (ticked_on seconds) sites.old }
 {
@@ -70,7 +71,11 @@ fn tick_sites<D: StopDisk, V: WordForms>(sites: &mut [Site<D, V>], seconds: u32)
 }
 
 /// Whether a clock at a place is not more than 7 seconds past any other one.
-fn is_near<D: StopDisk, V: WordForms>(sites: &[Site<D, V>], k: usize, now: u32) -> bool
+fn is_near<D: SteadyDisk + StopDisk, V: DraftWords>(
+    sites: &[Site<D, V>],
+    k: usize,
+    now: u32,
+) -> bool
     ensures { IsTrue result ↔ IsNearAt sites.now k now }
 {
     for j in 0..sites.len() {

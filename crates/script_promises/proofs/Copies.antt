@@ -13,10 +13,7 @@ use Rattle.cell_model.specs.Node.{Node, Down, Halted, Up}
 use Rattle.cell_model.specs.SingleCopy as single
 use Rattle.cell_model.specs.Step.{Member, Evaluation}
 use Rattle.cell_model.specs.World.{Site, World, Trigger, Delivery, Beacon_turn, Recover_turn, Asking, Event, Tick, Tick_all, Step, Stop, Fault, Crash, Restart, Happening, Sent, Announced, Replied, Lost, Stops, Halts, Restarts, Stays_down, member, site_of, happens, first_world}
-use Rattle.prdb_entries.specs.Call.{PrCall, is_write}
-use Rattle.prdb_entries.specs.Layout.{StandsFor}
-use Rattle.prdb_entries.specs.Protection.{protection}
-use Rattle.prdb_entries.specs.Reading.{call_of}
+use Rattle.pt_calls.specs.Standing.{StandsFor, pt_database}
 use Rattle.cell_runs.specs.Script.{Cell}
 use Rattle.script_laws.specs.Runs.{first_of, IsScripted}
 use Rattle.script_laws.proofs.Parts.{run-append}
@@ -24,7 +21,7 @@ use Rattle.script_promises.specs.Kept.{HasState, IsCounted, IsKept, IsSiteOf, tr
 use Rattle.script_promises.specs.Order.{HasOneOrder, order_in, run_at}
 use Rattle.script_promises.specs.Replies.{HasSingleReplies, IsProper, IsSeenOf, meant_reply, single_in}
 use Rattle.script_promises.proofs.Proper.{FineSeen, FineWorld, GoodCall, first_fine, fine_run, the_host}
-use Rattle.script_promises.proofs.SingleStates.{DatabaseLaws, image_stands, reply_meant, never_bad, over_call, counted}
+use Rattle.script_promises.proofs.SingleStates.{DatabaseLaws, image_stands, reply_meant, never_bad, counted}
 
 over_some : {X : Type 0} (P Q : X → Type 0) (o : Option X) → IfSome o P → ((x : X) → P x → Q x) → IfSome o Q
 over_some P Q None is goes = tt
@@ -62,25 +59,19 @@ module _ (f g : ℕ → List ℕ → CallReply) (same : (now : ℕ) (call : List
 
 -- ---- calls and replies
 
--- bytes that are read as a call are a good call
-good_read : (call : List ℕ) (read : Option PrCall) → call_of call ≡ read → IsSome (option_map is_write read) → GoodCall protection call
-good_read call None is some = absurd (cc)
-good_read call (Some c) is some =
-    let P : Option Bool → Type 0 = λ o. IsSome o in
-    record {
-      some = subst P (sym (ap (option_map is_write) is)) refl;
-      answers = λ image now malformed. over_call image now call c is malformed;
-    }
+-- bytes that are a call are a good call
+good_call : DatabaseLaws → (call : List ℕ) → IsSome (pt_database.writes call) → GoodCall pt_database call
+good_call laws call some = record { some = some; answers = λ image now malformed. laws.answers image now call some malformed }
 
 -- nothing that is told by the meaning of calls is that the database is bad
-module _ (transactions : List Transaction) (w : World) (server id at : ℕ) where
+module _ (laws : DatabaseLaws) (transactions : List Transaction) (w : World) (server id at : ℕ) where
   abbrev BadAnswer : Option Answered → Type 0
   BadAnswer o = o ≡ Some (answered_with server id (call_reply.BadRecord at))
 
   bad_site : (asked i : ℕ) (call : List ℕ) (found : Option Site)
       → BadAnswer (option_map (λ (site : Site). answered_with asked i (meant_reply transactions site.clock call)) found) → ⊥
   bad_site asked i call None is = cc
-  bad_site asked i call (Some site) is = never_bad transactions site.clock call at (ap (λ (s : Answered). s.reply) (same_some is))
+  bad_site asked i call (Some site) is = never_bad laws transactions site.clock call at (ap (λ (s : Answered). s.reply) (same_some is))
 
   bad_trigger : (trigger : Trigger) (short : List Bool) → BadAnswer (answered_by (meant_reply transactions) w (Step trigger short)) → ⊥
   bad_trigger (Delivery number) short is = cc
@@ -98,7 +89,7 @@ module _ (transactions : List Transaction) (w : World) (server id at : ℕ) wher
   never_bad_record (Restart asked failed) is = cc
 
 -- what is seen is proper
-module _ (transactions : List Transaction) (w : World) (event : Event) where
+module _ (laws : DatabaseLaws) (transactions : List Transaction) (w : World) (event : Event) where
   abbrev Seen : Happening → Type 0
   Seen seen = IsSeenOf (answered_by (meant_reply transactions) w event) seen
 
@@ -113,7 +104,7 @@ module _ (transactions : List Transaction) (w : World) (event : Event) where
   proper (Replied server id (reply.TooLarge bytes) evaluation) fine is = tt
   proper (Replied server id reply.Malformed evaluation) fine is = fine
   proper (Replied server id reply.DiskFault evaluation) fine is = tt
-  proper (Replied server id (reply.BadRecord at) evaluation) fine is = absurd (never_bad_record transactions w server id at event is)
+  proper (Replied server id (reply.BadRecord at) evaluation) fine is = absurd (never_bad_record laws transactions w server id at event is)
   proper (Replied server id reply.NoMemory evaluation) fine is = fine
   proper (Lost number) fine is = fine
   proper (Stops server) fine is = tt
@@ -122,8 +113,8 @@ module _ (transactions : List Transaction) (w : World) (event : Event) where
   proper (Stays_down server) fine is = tt
 
 -- what is seen of a reply is the single copy's answer
-seen_of_single : (r later : Run) (e : Event) (answer : Option Answered) → single_answer protection (order_in r) r.world e ≡ answer
-    → (seen : Happening) → IsSeenSingle protection r later e seen → IsSeenOf answer seen
+seen_of_single : (r later : Run) (e : Event) (answer : Option Answered) → single_answer pt_database (order_in r) r.world e ≡ answer
+    → (seen : Happening) → IsSeenSingle pt_database r later e seen → IsSeenOf answer seen
 seen_of_single r later e answer is (Replied server id replied evaluation) told =
     subst (λ (o : Option Answered). IsAnsweredBy o server id replied) is told.0
 seen_of_single r later e answer is (Sent number packet) told = tt
@@ -135,7 +126,7 @@ seen_of_single r later e answer is (Restarts server version) told = tt
 seen_of_single r later e answer is (Stays_down server) told = tt
 
 -- a ready sync site's image stands for the state of the order
-has_state : DatabaseLaws → (order : List Transaction) (m : Member) (clock : ℕ) (node : Node) → IsSingle protection order m clock node
+has_state : DatabaseLaws → (order : List Transaction) (m : Member) (clock : ℕ) (node : Node) → IsSingle pt_database order m clock node
     → HasState order m clock node
 has_state laws order m clock Down is = tt
 has_state laws order m clock (Halted h) is = tt
@@ -150,24 +141,24 @@ pub record IsOfOne (c : Cell) : Type 0 where
 
 module _ (c : Cell) (one : IsOfOne c) where
   -- its run is one of the runs that the laws speak of
-  same_run : (events : List Event) → run_of_one protection the_host c.opening.clock one.failed events ≡ run_at c events
-  same_run events = ap (λ (w : World). run_through protection (first_run w) events) (sym one.first)
+  same_run : (events : List Event) → run_of_one pt_database the_host c.opening.clock one.failed events ≡ run_at c events
+  same_run events = ap (λ (w : World). run_through pt_database (first_run w) events) (sym one.first)
 
   pub one_order : AnnouncementsGrow → HasOneOrder c
   one_order law =
-      subst (λ (r : Run). Grows r.announcements) (same_run c.events) (law protection the_host c.opening.clock one.failed c.events)
+      subst (λ (r : Run). Grows r.announcements) (same_run c.events) (law pt_database the_host c.opening.clock one.failed c.events)
 
   -- ---- what is kept
 
   abbrev Stays : List Event → Run → Type 0
   Stays middle r =
-      let later = run_through protection r middle in
+      let later = run_through pt_database r middle in
       All (λ a. Contains later.acknowledged a × IsPlaced (order_in later) a) r.acknowledged
 
   stays_placed : (middle : List Event) (r : Run) → Stays middle r
-      → All (IsPlaced (order_in (run_through protection r middle))) r.acknowledged
+      → All (IsPlaced (order_in (run_through pt_database r middle))) r.acknowledged
   stays_placed middle r stays =
-      let later = run_through protection r middle in
+      let later = run_through pt_database r middle in
       All-weaker (λ a. Contains later.acknowledged a × IsPlaced (order_in later) a) (IsPlaced (order_in later)) (λ a both. both.1)
       r.acknowledged stays
 
@@ -175,22 +166,22 @@ module _ (c : Cell) (one : IsOfOne c) where
       → All (IsPlaced (order_in (run_at c (front ++ middle)))) (run_at c front).acknowledged
   kept_stays law front middle =
       let r = run_at c front in
-      let whole : run_through protection r middle ≡ run_at c (front ++ middle) =
-      sym (run-append protection (first_run (first_of c)) front middle) in
+      let whole : run_through pt_database r middle ≡ run_at c (front ++ middle) =
+      sym (run-append pt_database (first_run (first_of c)) front middle) in
       subst (λ (x : Run). All (IsPlaced (order_in x)) r.acknowledged) whole
       (stays_placed middle r
-      (subst (Stays middle) (same_run front) (law protection the_host c.opening.clock one.failed front middle)))
+      (subst (Stays middle) (same_run front) (law pt_database the_host c.opening.clock one.failed front middle)))
 
   abbrev SingleAt : ℕ → Run → Type 0
-  SingleAt k r = IfSome (site_of r.world k) (λ site. IsSingle protection (order_in r) (member r.world k) site.clock site.node)
+  SingleAt k r = IfSome (site_of r.world k) (λ site. IsSingle pt_database (order_in r) (member r.world k) site.clock site.node)
 
   kept_sites : DatabaseLaws → SitesAreSingle → (front : List Event) (k : ℕ)
       → IfSome (site_of (run_at c front).world k) (IsSiteOf (order_in (run_at c front)) (member (run_at c front).world k))
   kept_sites laws law front k =
       let r = run_at c front in
       let m = member r.world k in
-      over_some (λ site. IsSingle protection (order_in r) m site.clock site.node) (IsSiteOf (order_in r) m) (site_of r.world k)
-      (subst (SingleAt k) (same_run front) (law protection the_host c.opening.clock one.failed front k))
+      over_some (λ site. IsSingle pt_database (order_in r) m site.clock site.node) (IsSiteOf (order_in r) m) (site_of r.world k)
+      (subst (SingleAt k) (same_run front) (law pt_database the_host c.opening.clock one.failed front k))
       (λ site is. (is, has_state laws (order_in r) m site.clock site.node is))
 
   module _ (server id : ℕ) (call fields : List ℕ) (evaluation : Option Evaluation) (short : List Bool) where
@@ -199,20 +190,20 @@ module _ (c : Cell) (one : IsOfOne c) where
 
     abbrev Recorded : Run → Type 0
     Recorded r =
-        Contains (happens protection r.world asking).seen (Replied server id (reply.Ok fields) evaluation) →
-        IfSome (site_of r.world server) (λ site. IsRecorded protection r (run_after protection r asking) (transaction_at call site))
+        Contains (happens pt_database r.world asking).seen (Replied server id (reply.Ok fields) evaluation) →
+        IfSome (site_of r.world server) (λ site. IsRecorded pt_database r (run_after pt_database r asking) (transaction_at call site))
 
-    kept_recorded : DatabaseLaws → OksAreAcknowledged → (front : List Event) → protection.writes call ≡ Some true
-        → Contains (happens protection (run_at c front).world asking).seen (Replied server id (reply.Ok fields) evaluation)
+    kept_recorded : DatabaseLaws → OksAreAcknowledged → (front : List Event) → pt_database.writes call ≡ Some true
+        → Contains (happens pt_database (run_at c front).world asking).seen (Replied server id (reply.Ok fields) evaluation)
         → IfSome (site_of (run_at c front).world server)
-        (λ site. IsCounted (run_at c front) (run_after protection (run_at c front) asking) (transaction_at call site))
+        (λ site. IsCounted (run_at c front) (run_after pt_database (run_at c front) asking) (transaction_at call site))
     kept_recorded laws law front writes seen =
         let r = run_at c front in
-        let later = run_after protection r asking in
-        over_some (λ site. IsRecorded protection r later (transaction_at call site)) (λ site. IsCounted r later (transaction_at call site))
+        let later = run_after pt_database r asking in
+        over_some (λ site. IsRecorded pt_database r later (transaction_at call site)) (λ site. IsCounted r later (transaction_at call site))
         (site_of r.world server)
         (subst Recorded (same_run front)
-        (λ shown. law protection the_host c.opening.clock one.failed front server id call fields evaluation short writes shown) seen)
+        (λ shown. law pt_database the_host c.opening.clock one.failed front server id call fields evaluation short writes shown) seen)
         (λ site. counted laws r later (transaction_at call site))
 
   pub kept : DatabaseLaws → AcknowledgedStay → SitesAreSingle → OksAreAcknowledged → IsKept c
@@ -226,20 +217,20 @@ module _ (c : Cell) (one : IsOfOne c) where
   -- ---- single replies
 
   abbrev AllSingle : Event → Run → Type 0
-  AllSingle e r = All (IsSeenSingle protection r (run_after protection r e) e) (happens protection r.world e).seen
+  AllSingle e r = All (IsSeenSingle pt_database r (run_after pt_database r e) e) (happens pt_database r.world e).seen
 
-  pub single_replies : DatabaseLaws → RepliesAreSingle → All (IsScripted protection) c.events → HasSingleReplies c
+  pub single_replies : DatabaseLaws → RepliesAreSingle → All (IsScripted pt_database) c.events → HasSingleReplies c
   single_replies laws law scripted = λ front back e split.
       let r = run_at c front in
-      let later = run_after protection r e in
+      let later = run_after pt_database r e in
       let order = order_in r in
-      let same : single_answer protection order r.world e ≡ single_in r e =
-      same_answer (single.reply_after protection order) (meant_reply order) (reply_meant laws order) r.world e in
+      let same : single_answer pt_database order r.world e ≡ single_in r e =
+      same_answer (single.reply_after pt_database order) (meant_reply order) (reply_meant laws order) r.world e in
       let first : FineWorld (first_of c) = subst FineWorld (sym one.first) (first_fine c.opening.clock one.failed) in
-      let fine : All FineSeen (happens protection r.world e).seen =
-      fine_run protection (λ call some. good_read call (call_of call) refl some) (first_run (first_of c)) front back e first
-      (subst (All (IsScripted protection)) split scripted) in
-      all_both (IsSeenSingle protection r later e) FineSeen (λ seen. IsSeenOf (single_in r e) seen × IsProper seen)
-      (λ seen told good. let is = seen_of_single r later e (single_in r e) same seen told in (is, proper order r.world e seen good is))
-      (happens protection r.world e).seen
-      (subst (AllSingle e) (same_run front) (law protection the_host c.opening.clock one.failed front e)) fine
+      let fine : All FineSeen (happens pt_database r.world e).seen =
+      fine_run pt_database (good_call laws) (first_run (first_of c)) front back e first
+      (subst (All (IsScripted pt_database)) split scripted) in
+      all_both (IsSeenSingle pt_database r later e) FineSeen (λ seen. IsSeenOf (single_in r e) seen × IsProper seen)
+      (λ seen told good. let is = seen_of_single r later e (single_in r e) same seen told in (is, proper laws order r.world e seen good is))
+      (happens pt_database r.world e).seen
+      (subst (AllSingle e) (same_run front) (law pt_database the_host c.opening.clock one.failed front e)) fine

@@ -1,14 +1,10 @@
 -- The cell that stands after the lines of a script is a run of the world; where it has one server, the laws of such runs are its.
-use Rattle.std.proofs.Common.{◌≡◌, ℕ, Bool, List, [], ◌∷◌, length, Option, Some, None, IsSome, IfSome, refl, sym, ap, subst, ◌∙◌, arith}
-use Rattle.std.specs.Prelude.{option_map}
+use Rattle.std.proofs.Common.{◌≡◌, ℕ, Bool, List, [], ◌∷◌, length, Option, Some, None, IfSome, refl, sym, ap, subst, ◌∙◌, arith}
 use Rattle.ubik_types.specs.declared.hosts.Host.{Host}
 use Rattle.cell_model.specs.KeptLaws.{AcknowledgedStay, OksAreAcknowledged, RepliesAreSingle, SitesAreSingle}
 use Rattle.cell_model.specs.Laws.{AnnouncementsGrow}
 use Rattle.cell_model.specs.World.{first_world}
-use Rattle.prdb_entries.specs.Call.{PrCall, is_write, spelling}
-use Rattle.prdb_entries.specs.Protection.{protection}
-use Rattle.prdb_entries.specs.Reading.{call_of}
-use Rattle.prdb_entries.specs.Words.{call_in}
+use Rattle.pt_calls.specs.Laws.{NamesCallsAlone}
 use Rattle.cell_runs.specs.Script.{Cell, Told, cell_size_of, hosts_of, told}
 use Rattle.script_laws.specs.Runs.{NamesCalls, IsRunOf, IsRunOfCell, ScriptsAreRuns}
 use Rattle.script_promises.specs.Databases.{databases}
@@ -16,13 +12,10 @@ use Rattle.script_promises.specs.Promises.{KeepsPromises, ScriptsKeepPromises}
 use Rattle.script_promises.proofs.Copies.{IsOfOne, kept, one_order, single_replies}
 use Rattle.script_promises.proofs.SingleStates.{DatabaseLaws}
 
-abbrev pub NamesItsCalls : Type 0
-NamesItsCalls = (words : List (List ℕ)) (call : PrCall) → call_in words ≡ Some call → call_of (spelling call) ≡ Some call
-
 -- the laws of runs of one server, of the protection database, and of scripts
 pub record Laws : Type 0 where
   pub database : DatabaseLaws
-  pub names : NamesItsCalls
+  pub names : NamesCallsAlone
   pub order : AnnouncementsGrow
   pub stay : AcknowledgedStay
   pub acknowledged : OksAreAcknowledged
@@ -30,21 +23,9 @@ pub record Laws : Type 0 where
   pub replies : RepliesAreSingle
   pub runs : ScriptsAreRuns
 
--- ---- words name calls
-
-same_some : {X : Type 0} {a b : X} → Some a ≡ Some b → a ≡ b
-same_some e = cc
-
-named : NamesItsCalls → (words : List (List ℕ)) (read : Option PrCall) → call_in words ≡ read → (call : List ℕ)
-    → option_map spelling read ≡ Some call → IsSome (protection.writes call)
-named law words None at call is = absurd (cc)
-named law words (Some c) at call is =
-    let P : Option PrCall → Type 0 = λ o. IsSome (option_map is_write o) in
-    let Q : List ℕ → Type 0 = λ bytes. P (call_of bytes) in
-    subst Q (same_some is) (subst P (sym (law words c at)) refl)
-
-pub names_calls : NamesItsCalls → NamesCalls databases
-names_calls law k words call is = named law words (call_in words) refl call is
+-- words name calls
+pub names_calls : NamesCallsAlone → NamesCalls databases
+names_calls law k words call is = law words call is
 
 -- ---- a cell of one server
 

@@ -9,16 +9,15 @@ use Rattle.cell_model.specs.KeptLaws.{IsAcknowledged, IsPlaced, IsSingle}
 use Rattle.cell_model.specs.Node.{Node, Down, Halted, Up}
 use Rattle.cell_model.specs.Step.{Member, Evaluation}
 use Rattle.cell_model.specs.World.{Site, Event, Asking, Step, Replied, member, site_of, happens}
-use Rattle.prdb_entries.specs.ByteMeaning.{protection_meaning}
-use Rattle.prdb_entries.specs.Layout.{StandsFor}
-use Rattle.prdb_entries.specs.Protection.{protection}
-use Rattle.prdb_entries.specs.State.{PrState}
+use Rattle.prdb_entries.specs.Registry.{Registry}
+use Rattle.pt_calls.specs.Meaning.{pt_meaning}
+use Rattle.pt_calls.specs.Standing.{StandsFor, pt_database}
 use Rattle.cell_runs.specs.Script.{Cell}
 use Rattle.script_promises.specs.Order.{run_at, order_in}
 
 -- the state of the single copy after these transactions
-abbrev pub state_after : List Transaction → PrState
-state_after order = state_of protection_meaning order
+abbrev pub state_after : List Transaction → Registry
+state_after order = state_of pt_meaning order
 
 -- the database of a server that is a ready sync site stands for the state after these transactions
 abbrev pub HasState : List Transaction → Member → ℕ → Node → Type 0
@@ -28,7 +27,7 @@ HasState order m clock (Up s) = is_ready_site m clock (Up s) ≡ true → Stands
 
 -- the database of a ready sync site is the single copy's image after these transactions, and stands for their state
 abbrev pub IsSiteOf : List Transaction → Member → Site → Type 0
-IsSiteOf order m site = IsSingle protection order m site.clock site.node × HasState order m site.clock site.node
+IsSiteOf order m site = IsSingle pt_database order m site.clock site.node × HasState order m site.clock site.node
 
 -- between two runs the transaction is the one that is acknowledged, and the order goes on with it; or it leaves the state of the
 -- order as it is
@@ -50,7 +49,7 @@ pub record IsKept (c : Cell) : Type 0 where
   -- each Ok to a call that writes
   pub recorded : (front back : List Event) (server id : ℕ) (call fields : List ℕ) (evaluation : Option Evaluation) (short : List Bool) →
       let e = Step (Asking server id call) short in
-      c.events ≡ front ++ e ∷ back → protection.writes call ≡ Some true →
+      c.events ≡ front ++ e ∷ back → pt_database.writes call ≡ Some true →
       let r = run_at c front in
-      Contains (happens protection r.world e).seen (Replied server id (reply.Ok fields) evaluation) →
-      IfSome (site_of r.world server) (λ site. IsCounted r (run_after protection r e) (transaction_at call site))
+      Contains (happens pt_database r.world e).seen (Replied server id (reply.Ok fields) evaluation) →
+      IfSome (site_of r.world server) (λ site. IsCounted r (run_after pt_database r e) (transaction_at call site))

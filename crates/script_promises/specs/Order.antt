@@ -4,13 +4,13 @@ use Rattle.cell_model.specs.Book.{Run, order_of}
 use Rattle.cell_model.specs.Durable.{Transaction}
 use Rattle.cell_model.specs.Laws.{Grows}
 use Rattle.cell_model.specs.World.{Event}
-use Rattle.prdb_entries.specs.Protection.{protection}
+use Rattle.pt_calls.specs.Standing.{pt_database}
 use Rattle.cell_runs.specs.Script.{Cell}
 use Rattle.script_laws.specs.Runs.{run_of}
 
 -- the run of a cell through these of its events, from its opening on
 abbrev pub run_at : Cell → List Event → Run
-run_at c events = run_of protection c events
+run_at c events = run_of pt_database c events
 
 -- the order of the committed transactions in a run
 abbrev pub order_in : Run → List Transaction

@@ -8,14 +8,14 @@ use Rattle.cell_model.specs.Book.{Run}
 use Rattle.cell_model.specs.Durable.{Transaction}
 use Rattle.cell_model.specs.KeptLaws.{Answered, IsAnsweredBy, answered_by}
 use Rattle.cell_model.specs.World.{Event, Happening, Announced, Replied, Stops, Halts, Restarts, Stays_down, happens}
-use Rattle.prdb_entries.specs.ByteMeaning.{protection_meaning}
-use Rattle.prdb_entries.specs.Protection.{protection}
+use Rattle.pt_calls.specs.Meaning.{pt_meaning}
+use Rattle.pt_calls.specs.Standing.{pt_database}
 use Rattle.cell_runs.specs.Script.{Cell}
 use Rattle.script_promises.specs.Order.{run_at, order_in}
 
 -- what the single copy replies to a call after these transactions
 abbrev pub meant_reply : List Transaction → (now : ℕ) → List ℕ → CallReply
-meant_reply order = reply_of protection_meaning order
+meant_reply order = reply_of pt_meaning order
 
 -- No reply is that the bytes asked are no call, that the database is bad, that memory ran out, that another server is the sync
 -- site, or that a line is full.
@@ -51,4 +51,4 @@ single_in r e = answered_by (meant_reply (order_in r)) r.world e
 abbrev pub HasSingleReplies : Cell → Type 0
 HasSingleReplies c =
     (front back : List Event) (e : Event) → c.events ≡ front ++ e ∷ back →
-    let r = run_at c front in All (λ seen. IsSeenOf (single_in r e) seen × IsProper seen) (happens protection r.world e).seen
+    let r = run_at c front in All (λ seen. IsSeenOf (single_in r e) seen × IsProper seen) (happens pt_database r.world e).seen

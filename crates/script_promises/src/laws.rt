@@ -7,8 +7,8 @@ use cell_model::{
     law_acknowledged_stay, law_announcements_grow, law_ok_is_acknowledged, law_replies_are_single,
     law_sites_are_single,
 };
-use prdb_entries::{
-    law_call_means, law_empty_is_initial, law_images_never_shrink, law_words_name_a_call,
+use pt_calls::{
+    an_image_stands_for_one_state, calls_are_answered, calls_are_meant, words_name_calls,
 };
 use script_laws::law_scripts_are_runs;
 
@@ -20,10 +20,10 @@ use script_laws::law_scripts_are_runs;
 pub fn law_scripts_keep_promises()
     ensures { ScriptsKeepPromises }
 {
-    law_call_means();
-    law_images_never_shrink();
-    law_empty_is_initial();
-    law_words_name_a_call();
+    calls_are_meant();
+    calls_are_answered();
+    an_image_stands_for_one_state();
+    words_name_calls();
     law_announcements_grow();
     law_acknowledged_stay();
     law_ok_is_acknowledged();
@@ -36,5 +36,5 @@ pub fn law_scripts_keep_promises()
 pub fn law_words_are_calls()
     ensures { NamesCalls databases }
 {
-    law_words_name_a_call();
+    words_name_calls();
 }

@@ -22,18 +22,19 @@ use Rattle.cell_sites.specs.Sites.{IsModelledBy, helds}
 use Rattle.cell_sites.specs.Sound.{AreSound, IsSound}
 use Rattle.cell_sites.specs.Told.{CellTold, IsRefused, IsShort}
 use Rattle.ubik_cell.specs.LineRuns.{CellDone, KeepsCell}
+use Rattle.db_image.specs.Standing.{Standing}
 
 -- ---- what stays sound
 
-sites_raised : {D V : Type 0} (g : Ghosts D) (hosts : List Host) (place bound later : ℕ) (sites : List (Site D V)) → bound ≤ later
-    → AreSound g hosts place bound sites → AreSound g hosts place later sites
+sites_raised : {D V : Type 0} {standing : Standing} (g : Ghosts D) (hosts : List Host) (place bound later : ℕ) (sites : List (Site D V)) → bound ≤ later
+    → AreSound g standing hosts place bound sites → AreSound g standing hosts place later sites
 sites_raised g hosts place bound later [] more sound = tt
 sites_raised g hosts place bound later (site ∷ sites) more sound = (
   record { moment = sound.0.moment; within = omega (arith, sound.0.within); server = sound.0.server; disk = sound.0.disk },
   sites_raised g hosts (place + 1) bound later sites more sound.1,
 )
 
-pub raised : {D V : Type 0} (g : Ghosts D) (bound later : ℕ) (running : OpenCell D V) → bound ≤ later → IsSound g bound running → IsSound g later running
+pub raised : {D V : Type 0} {standing : Standing} (g : Ghosts D) (bound later : ℕ) (running : OpenCell D V) → bound ≤ later → IsSound g standing bound running → IsSound g standing later running
 raised g bound later running more sound = record {
   some = sound.some;
   few = sound.few;
@@ -51,10 +52,10 @@ no_rises k (disk ∷ disks) = (omega arith, no_rises (k + 1) disks)
 -- ---- what a line does
 
 module _ {D V : Type 0} (g : Ghosts D) (before after : OpenCell D V) where
-  pub kept_of : (result : Result (Unit {0}) LineFault) (seconds : ℕ) → seconds ≤ MAX_TICK
-      → (result ≡ Ok tt → (bound : ℕ) → IsSound g bound before → IsSound g (bound + seconds) after)
+  pub kept_of : {standing : Standing} (result : Result (Unit {0}) LineFault) (seconds : ℕ) → seconds ≤ MAX_TICK
+      → (result ≡ Ok tt → (bound : ℕ) → IsSound g standing bound before → IsSound g standing (bound + seconds) after)
       → AreRises 0 [] (helds g before) (helds g after) → length after.sites.items ≡ length before.sites.items
-      → KeepsCell g result before after
+      → KeepsCell g standing result before after
   kept_of result seconds few sound rises same = record {
     sound = λ done bound is. raised g (bound + seconds) (bound + MAX_TICK) after (omega (arith, few)) (sound done bound is);
     never_falls = rises;
@@ -105,7 +106,7 @@ module _ {D V : Type 0} (g : Ghosts D) (before after : OpenCell D V) where
         subst P (sym is) (cell_done db (λ c choices. run_in db c choices k) result text_before text_after told limit refused quiet short)
 
 -- a line that does nothing
-pub kept_same : {D V : Type 0} (g : Ghosts D) (result : Result (Unit {0}) LineFault) (running : OpenCell D V) → KeepsCell g result running running
+pub kept_same : {D V : Type 0} {standing : Standing} (g : Ghosts D) (result : Result (Unit {0}) LineFault) (running : OpenCell D V) → KeepsCell g standing result running running
 kept_same g result running =
     kept_of g running running result 0 (omega arith) (λ done bound is. raised g bound (bound + 0) running (omega arith) is)
     (no_rises 0 (helds g running)) refl

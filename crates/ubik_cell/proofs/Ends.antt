@@ -13,6 +13,7 @@ use Rattle.ubik_cell.specs.Lines.{IsSoundRun, LineShort, LineTold, run_helds, si
 use Rattle.ubik_cell.specs.Runs.{kind_at}
 use Rattle.ubik_cell.specs.Turns.{Ran, SoFar, end_after}
 use Rattle.ubik_cell.proofs.Turning.{AtLine, AtWhole, ended_told, going_on, part_told, short_told}
+use Rattle.db_image.specs.Standing.{Standing}
 
 is_fault : (o : Option CellKind) → (o ≡ Some kind.WriteFault) ⊎ (o ≢ Some kind.WriteFault)
 is_fault None = inr (λ is. cc)
@@ -65,21 +66,21 @@ module _ {D V : Type 0} (g : Ghosts D) (dbs : Databases) (left : Option (List �
     abbrev AreReady : Result (Unit {0}) RunEnd → List ℕ → Type 0
     AreReady result written = (given script before : List ℕ) → P given script before written → ReadyAt result bytes given script before written
 
-    part_ends : (result : Result (Unit {0}) RunEnd) (written : List ℕ) → result ≢ Err NoMemory
-        → (result ≡ Ok tt → IsSoundRun g next) → AreReady result written → AppendsPart written after bytes
+    part_ends : {standing : Standing} (result : Result (Unit {0}) RunEnd) (written : List ℕ) → result ≢ Err NoMemory
+        → (result ≡ Ok tt → IsSoundRun g standing next) → AreReady result written → AppendsPart written after bytes
         → AllRan written kind.WriteFault
     part_ends result written goes sound ready wrote = λ given script before p.
         let r = ready given script before p in
         part_told g dbs given script left before written after run next r.line r.at result bytes (r.line_told goes) sound wrote
 
-    by_part : (result : Result (Unit {0}) RunEnd) (written : List ℕ) → result ≢ Err NoMemory
-        → (result ≡ Ok tt → IsSoundRun g next) → AreReady result written → (o : Option CellKind) → o ≡ Some kind.WriteFault
+    by_part : {standing : Standing} (result : Result (Unit {0}) RunEnd) (written : List ℕ) → result ≢ Err NoMemory
+        → (result ≡ Ok tt → IsSoundRun g standing next) → AreReady result written → (o : Option CellKind) → o ≡ Some kind.WriteFault
         → AppendsPart written after bytes → IfSome o (AllRan written)
     by_part result written goes sound ready o is wrote =
         subst (λ (x : Option CellKind). IfSome x (AllRan written)) (sym is) (part_ends result written goes sound ready wrote)
 
-    by_result : (result : Result (Unit {0}) RunEnd) (o : Option CellKind) (written : List ℕ)
-        → IsWritten result number bytes o (Some written) after → (result ≡ Ok tt → IsSoundRun g next) → AreReady result written
+    by_result : {standing : Standing} (result : Result (Unit {0}) RunEnd) (o : Option CellKind) (written : List ℕ)
+        → IsWritten result number bytes o (Some written) after → (result ≡ Ok tt → IsSoundRun g standing next) → AreReady result written
         → (o ≡ Some kind.WriteFault) ⊎ (o ≢ Some kind.WriteFault) → IfSome o (AllRan written)
     by_result (Err NoMemory) o written is sound ready fault =
         let none = is.unwritten refl in
@@ -107,9 +108,9 @@ module _ {D V : Type 0} (g : Ghosts D) (dbs : Databases) (left : Option (List �
     none_written None = tt
     none_written (Some k) = tt
 
-    pub ends_line : (result : Result (Unit {0}) RunEnd) (o : Option CellKind) (w : Option (List ℕ))
+    pub ends_line : {standing : Standing} (result : Result (Unit {0}) RunEnd) (o : Option CellKind) (w : Option (List ℕ))
         → IsWritten result number bytes o w after
-        → (result ≡ Ok tt → IsSoundRun g next) → ((written : List ℕ) → AreReady result written)
+        → (result ≡ Ok tt → IsSoundRun g standing next) → ((written : List ℕ) → AreReady result written)
         → IfSome o (λ k. IfSome w (λ written. AllRan written k))
     ends_line result o None is sound ready = none_written o
     ends_line result o (Some written) is sound ready = by_result result o written is sound (ready written) (is_fault o)

@@ -28,6 +28,7 @@ use Rattle.ubik_cell.specs.LineRuns.{CellDone, KeepsCell, KeepsRun, LineDone, ru
 use Rattle.ubik_cell.specs.Lines.{AreUnwritten, CellIsSound, CellStandsFor, HasCauses, HeldCauses, HoldStage, IsNear, IsRefusedLine, IsSoundRun, ShortAfter, StageShort, StageTold, cell_helds, clock_bound, only, run_helds, sites_in}
 use Rattle.ubik_cell.proofs.KeptHosts.{ask_stays, line_stays}
 use Rattle.ubik_cell.proofs.LineDisks.{counted_causes, fewer_rises, first_causes, hold_cell, hosts_count, length-helds, length-read, more_causes, same_causes, stage_short, unwritten}
+use Rattle.db_image.specs.Standing.{Standing}
 
 -- the cell of a stage at which a run stands
 pub cell_of : {D V : Type 0} (g : Ghosts D) (db : ScriptDatabase) (given : List ℕ) (running : OpenCell D V) (cell : Option Cell)
@@ -47,10 +48,10 @@ ok_of P (Ok y) x is holds = subst P (cc) holds
 ok_of P (Err e) x is holds = absurd (cc)
 
 -- A line l that runs so in each cell that stands, and leaves the stage with so many asks. The run stands over a cell.
-module _ {D V : Type 0} (g : Ghosts D) (db : ScriptDatabase) (l : Line) (run : Stage → Cell → List Choice → Run_or_why) (later : Stage → Stage)
+module _ {D V : Type 0} {standing : Standing} (g : Ghosts D) (db : ScriptDatabase) (l : Line) (run : Stage → Cell → List Choice → Run_or_why) (later : Stage → Stage)
     (run_is : (st : Stage) (c : Cell) (choices : List Choice) → st.cell ≡ Some c → run_of_line db l st choices ≡ in_stage (later st) (run st c choices))
     (hosts : (st : Stage) (c : Cell) (choices : List Choice) → IfOk (run st c choices) (λ r. r.cell.run.world.hosts ≡ c.run.world.hosts))
-    (before : CellRun D V) (running : OpenCell D V) (here : before.cell ≡ Some running) (sound : IsSoundRun g before)
+    (before : CellRun D V) (running : OpenCell D V) (here : before.cell ≡ Some running) (sound : IsSoundRun g standing before)
     (given : List ℕ) (st : Stage) (near : IsNear g (only db) given 0 before st) where
   -- the counts of the disks of the cell before the script
   abbrev own : List ℕ
@@ -86,7 +87,7 @@ module _ {D V : Type 0} (g : Ghosts D) (db : ScriptDatabase) (l : Line) (run : S
   -- as many disks as hosts
   count_before : length running.hosts.items ≡ length running.sites.items
   count_before =
-      let is_sound : IsSound g (clock_bound before.lines) running = subst (CellIsSound g (clock_bound before.lines)) here sound.cell in
+      let is_sound : IsSound g standing (clock_bound before.lines) running = subst (CellIsSound g standing (clock_bound before.lines)) here sound.cell in
       ap length is_sound.hosts ∙ hosts_count (length running.sites.items)
 
   -- the disks behind those of the cell
@@ -167,33 +168,33 @@ abbrev pub IsNoAsk : Line → Type 0
 IsNoAsk (line.Ask server words) = ⊥
 IsNoAsk _ = Unit {0}
 
-standing : (dbs : Databases) (st : Stage) (choices : List Choice) (c : Cell) (l : Line) → IsNoAsk l → run_standing dbs st choices c l ≡ in_stage st (run_in (dbs (kind_of_cell c)) c choices l)
-standing dbs st choices c line.Nothing no_ask = refl
-standing dbs st choices c (line.Cell servers clock k) no_ask = refl
-standing dbs st choices c (line.Tick server seconds) no_ask = refl
-standing dbs st choices c (line.TickAll seconds) no_ask = refl
-standing dbs st choices c (line.Beacon server) no_ask = refl
-standing dbs st choices c (line.Recover server) no_ask = refl
-standing dbs st choices c (line.Deliver packet) no_ask = refl
-standing dbs st choices c (line.Drop packet) no_ask = refl
-standing dbs st choices c (line.DropAll server) no_ask = refl
-standing dbs st choices c line.DeliverAll no_ask = refl
-standing dbs st choices c (line.Ask server words) no_ask = absurd no_ask
-standing dbs st choices c (line.Stop server calls f) no_ask = refl
-standing dbs st choices c (line.Crash server) no_ask = refl
-standing dbs st choices c (line.Restart server) no_ask = refl
-standing dbs st choices c (line.Show server) no_ask = refl
+run_there : (dbs : Databases) (st : Stage) (choices : List Choice) (c : Cell) (l : Line) → IsNoAsk l → run_standing dbs st choices c l ≡ in_stage st (run_in (dbs (kind_of_cell c)) c choices l)
+run_there dbs st choices c line.Nothing no_ask = refl
+run_there dbs st choices c (line.Cell servers clock k) no_ask = refl
+run_there dbs st choices c (line.Tick server seconds) no_ask = refl
+run_there dbs st choices c (line.TickAll seconds) no_ask = refl
+run_there dbs st choices c (line.Beacon server) no_ask = refl
+run_there dbs st choices c (line.Recover server) no_ask = refl
+run_there dbs st choices c (line.Deliver packet) no_ask = refl
+run_there dbs st choices c (line.Drop packet) no_ask = refl
+run_there dbs st choices c (line.DropAll server) no_ask = refl
+run_there dbs st choices c line.DeliverAll no_ask = refl
+run_there dbs st choices c (line.Ask server words) no_ask = absurd no_ask
+run_there dbs st choices c (line.Stop server calls f) no_ask = refl
+run_there dbs st choices c (line.Crash server) no_ask = refl
+run_there dbs st choices c (line.Restart server) no_ask = refl
+run_there dbs st choices c (line.Show server) no_ask = refl
 
 pub no_ask_is : (db : ScriptDatabase) (l : Line) → IsNoAsk l → (st : Stage) (c : Cell) (choices : List Choice) → st.cell ≡ Some c → run_of_line db l st choices ≡ in_stage (next_line st) (run_in db c choices l)
 no_ask_is db l no_ask st c choices is =
-    ap (λ (o : Option Cell). line_run (only db) (next_line st) choices l o) is ∙ standing (only db) (next_line st) choices c l no_ask
+    ap (λ (o : Option Cell). line_run (only db) (next_line st) choices l o) is ∙ run_there (only db) (next_line st) choices c l no_ask
 
 -- ---- what stays
 
-pub kept_run : {D V : Type 0} (g : Ghosts D) (result : Result (Unit {0}) LineFault) (before : CellRun D V) (running after : OpenCell D V) (asks : ℕ)
-    → before.cell ≡ Some running → IsSoundRun g before → before.lines < MAX_LINES → asks ≤ before.lines + 1
-    → KeepsCell g result running after → KeepsRun g result before (record before { cell = Some after; asks = asks })
-kept_run g result before running after asks here sound room few keeps =
+pub kept_run : {D V : Type 0} {standing : Standing} (g : Ghosts D) (result : Result (Unit {0}) LineFault) (before : CellRun D V) (running after : OpenCell D V) (asks : ℕ)
+    → before.cell ≡ Some running → IsSoundRun g standing before → before.lines < MAX_LINES → asks ≤ before.lines + 1
+    → KeepsCell g standing result running after → KeepsRun g standing result before (record before { cell = Some after; asks = asks })
+kept_run {D} {V} {standing} g result before running after asks here sound room few keeps =
     let count : sites_in before.cell ≡ length running.sites.items = ap sites_in here in
     record {
       lines = refl;
@@ -201,8 +202,8 @@ kept_run g result before running after asks here sound room few keeps =
       spare = let none : length after.sites.items - sites_in before.cell ≡ 0 = omega (arith, count, keeps.same) in sym (ap (λ n. drop n before.spare.items) none);
       sound = λ done. record {
         cell =
-            let cell : IsSound g (clock_bound before.lines) running = subst (CellIsSound g (clock_bound before.lines)) here sound.cell in
-            subst (λ (bound : ℕ). IsSound g bound after) (omega arith) (keeps.sound done (clock_bound before.lines) cell);
+            let cell : IsSound g standing (clock_bound before.lines) running = subst (CellIsSound g standing (clock_bound before.lines)) here sound.cell in
+            subst (λ (bound : ℕ). IsSound g standing bound after) (omega arith) (keeps.sound done (clock_bound before.lines) cell);
         spare = sound.spare;
         settled = sound.settled;
         unarmed = sound.unarmed;
@@ -223,9 +224,9 @@ same_again {D} {V} before running after here same =
     ap (λ (r : OpenCell D V). record before { cell = Some r }) same ∙ ap (λ (o : Option (OpenCell D V)). record before { cell = o }) (sym here)
 
 -- of a line that is no ask
-pub lifted : {D V : Type 0} (g : Ghosts D) (db : ScriptDatabase) (l : Line) (before : CellRun D V) (running after : OpenCell D V)
-    (result : Result (Unit {0}) LineFault) (text_before text_after : List ℕ) → IsNoAsk l → before.cell ≡ Some running → IsSoundRun g before
-    → CellDone g db (λ c choices. run_in db c choices l) result running after text_before text_after → KeepsCell g result running after
+pub lifted : {D V : Type 0} {standing : Standing} (g : Ghosts D) (db : ScriptDatabase) (l : Line) (before : CellRun D V) (running after : OpenCell D V)
+    (result : Result (Unit {0}) LineFault) (text_before text_after : List ℕ) → IsNoAsk l → before.cell ≡ Some running → IsSoundRun g standing before
+    → CellDone g db (λ c choices. run_in db c choices l) result running after text_before text_after → KeepsCell g standing result running after
     → LineDone g db l result before (with_cell before after) text_before text_after
 lifted g db l before running after (Ok done) text_before text_after no_ask here sound cell keeps =
     λ given st near. told_line g db l (λ st c choices. run_in db c choices l) next_line (no_ask_is db l no_ask) (λ st c choices. line_stays db c choices l)
@@ -246,8 +247,8 @@ lifted g db l before running after (Err NoMemory) text_before text_after no_ask 
 
 -- ---- an ask
 
-module _ {D V : Type 0} (g : Ghosts D) (db : ScriptDatabase) (words : List (List ℕ)) (call : List ℕ) (number : ℕ) (named : db.words.call_of words ≡ Some call)
-    (before : CellRun D V) (running after : OpenCell D V) (here : before.cell ≡ Some running) (sound : IsSoundRun g before) where
+module _ {D V : Type 0} {standing : Standing} (g : Ghosts D) (db : ScriptDatabase) (words : List (List ℕ)) (call : List ℕ) (number : ℕ) (named : db.words.call_of words ≡ Some call)
+    (before : CellRun D V) (running after : OpenCell D V) (here : before.cell ≡ Some running) (sound : IsSoundRun g standing before) where
   abbrev ask : Line
   ask = line.Ask (Some number) words
 
@@ -344,21 +345,21 @@ run_causes g dbs given (Some running) (Some c) items behind at causes =
     first_causes c.run.world.sites items (helds g running) behind at.disks.read causes
 
 -- as many servers as the cell of the stage has
-pub servers_match : {D V : Type 0} (g : Ghosts D) (dbs : Databases) (given : List ℕ) (bound : ℕ) (cell : Option (OpenCell D V)) (c : Option Cell)
-    → CellIsSound g bound cell → CellStandsFor g dbs given cell c → servers_of c ≡ sites_in cell
+pub servers_match : {D V : Type 0} {standing : Standing} (g : Ghosts D) (dbs : Databases) (given : List ℕ) (bound : ℕ) (cell : Option (OpenCell D V)) (c : Option Cell)
+    → CellIsSound g standing bound cell → CellStandsFor g dbs given cell c → servers_of c ≡ sites_in cell
 servers_match g dbs given bound None None sound at = refl
 servers_match g dbs given bound None (Some c) sound at = absurd at
 servers_match g dbs given bound (Some running) None sound at = absurd at
 servers_match g dbs given bound (Some running) (Some c) sound at = ap length (at.hosts ∙ sound.hosts) ∙ hosts_count (length running.sites.items)
 
 -- the disks of a run that stays hold the stage at which it stands
-pub near_holds : {D V : Type 0} (g : Ghosts D) (dbs : Databases) (given : List ℕ) (ahead : ℕ) (run : CellRun D V) (st : Stage) → IsSoundRun g run
+pub near_holds : {D V : Type 0} {standing : Standing} (g : Ghosts D) (dbs : Databases) (given : List ℕ) (ahead : ℕ) (run : CellRun D V) (st : Stage) → IsSoundRun g standing run
     → IsNear g dbs given ahead run st → HoldStage dbs given false st.cell (run_helds g run)
 near_holds g dbs given ahead run st sound near = run_holds g dbs given run.cell st.cell run.spare.items near.cell sound.spare near.spare
 
 -- memory ran out before anything was done
-pub short_same : {D V : Type 0} (g : Ghosts D) (db : ScriptDatabase) (l : Line) (before : CellRun D V) (text_before text_after : List ℕ)
-    → IsSoundRun g before → LineDone g db l (Err NoMemory) before before text_before text_after
+pub short_same : {D V : Type 0} {standing : Standing} (g : Ghosts D) (db : ScriptDatabase) (l : Line) (before : CellRun D V) (text_before text_after : List ℕ)
+    → IsSoundRun g standing before → LineDone g db l (Err NoMemory) before before text_before text_after
 short_same g db l before text_before text_after sound = λ given st near. record {
   causes = λ items causes. run_causes g (only db) given before.cell st.cell items (all_held g before.spare.items) near.cell causes;
   held = inl (stage_short (only db) given st.cell (run_helds g before) (near_holds g (only db) given 0 before st sound near));

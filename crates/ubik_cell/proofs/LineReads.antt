@@ -27,6 +27,7 @@ use Rattle.ubik_cell.specs.Lines.{AreHeld, HeldAfter, HoldStage, IsAt, IsNear, I
 use Rattle.ubik_cell.proofs.Holding.{count_at, held_at}
 use Rattle.ubik_cell.proofs.LineDisks.{stage_short}
 use Rattle.ubik_cell.proofs.Lifting.{near_holds, run_causes, servers_match}
+use Rattle.db_image.specs.Standing.{Standing}
 
 -- ---- what the bytes mean
 
@@ -42,7 +43,7 @@ over_long : (b : Bool) (x y : Result Line Why) → b ≡ true → cond b x y ≡
 over_long true x y is = refl
 over_long false x y is = absurd (cc)
 
-module _ {D V : Type 0} (g : Ghosts D) (db : ScriptDatabase) (bytes : List ℕ) (before : CellRun D V) (sound : IsSoundRun g before) where
+module _ {D V : Type 0} {standing : Standing} (g : Ghosts D) (db : ScriptDatabase) (bytes : List ℕ) (before : CellRun D V) (sound : IsSoundRun g standing before) where
   -- the bytes of a line that stands for this, where lines are left
   result_is : (given : List ℕ) (st : Stage) → IsNear g (only db) given 0 before st → before.lines < MAX_LINES → (m : Result Line Why) → line_of (sites_in before.cell) bytes ≡ m → (choices : List Choice)
       → result_of db bytes st choices ≡ or_refused (meaning_run (only db) (next_line st) choices m)
@@ -158,7 +159,7 @@ module _ {D V : Type 0} (g : Ghosts D) (db : ScriptDatabase) (bytes : List ℕ) 
     line_number = omega (arith, at.stage.lines)
 
     -- a line at which it ends before it does anything
-    ended_told : (e : Ending) (after : CellRun D V) (text_before middle text_after : List ℕ) → IsSoundRun g before
+    ended_told : {standing : Standing} (e : Ending) (after : CellRun D V) (text_before middle text_after : List ℕ) → IsSoundRun g standing before
         → IsEnded g db bytes e before after text_before middle
         → text_after ≡ middle ++ ending_text (before.lines + 1) e → LineTold g (only db) given bytes t (Err (run_end.Ended e)) after text_before text_after
     ended_told e after text_before middle text_after sound ends told =
@@ -222,7 +223,7 @@ module _ {D V : Type 0} (g : Ghosts D) (db : ScriptDatabase) (bytes : List ℕ) 
           (record { holds = ran.holds; causes = ran.causes t.items at.causes });
     })
 
-  pub line_ended : (e : Ending) (result : Result (Unit {0}) RunEnd) (after : CellRun D V) (text_before middle text_after : List ℕ) → IsSoundRun g before
+  pub line_ended : {standing : Standing} (e : Ending) (result : Result (Unit {0}) RunEnd) (after : CellRun D V) (text_before middle text_after : List ℕ) → IsSoundRun g standing before
       → IsEnded g db bytes e before after text_before middle → EndTold (before.lines + 1) e result middle text_after
       → LineEnds g db bytes result before after text_before text_after
   line_ended e (Ok done) after text_before middle text_after sound ends told = absurd told
@@ -253,8 +254,8 @@ module _ {D V : Type 0} (g : Ghosts D) (db : ScriptDatabase) (bytes : List ℕ) 
 
 -- ---- what stays
 
-pub places_of : {D V : Type 0} (g : Ghosts D) (fault : LineFault) (result : Result (Unit {0}) RunEnd) (before after : CellRun D V)
-    → KeepsRun g (Err fault) before after → (result ≡ Ok tt → ⊥) → KeepsPlaces g result before after
+pub places_of : {D V : Type 0} {standing : Standing} (g : Ghosts D) (fault : LineFault) (result : Result (Unit {0}) RunEnd) (before after : CellRun D V)
+    → KeepsRun g standing (Err fault) before after → (result ≡ Ok tt → ⊥) → KeepsPlaces g standing result before after
 places_of g fault result before after keeps never = record {
   disks = keeps.disks;
   spare = keeps.spare;
@@ -262,14 +263,14 @@ places_of g fault result before after keeps never = record {
   lines = λ done. absurd (never done);
 }
 
-pub places_ok : {D V : Type 0} (g : Ghosts D) (before after : CellRun D V) → KeepsRun g (Ok tt) before after
-    → KeepsPlaces g (Ok tt) before (record after { lines = after.lines + 1 })
-places_ok g before after keeps =
+pub places_ok : {D V : Type 0} {standing : Standing} (g : Ghosts D) (before after : CellRun D V) → KeepsRun g standing (Ok tt) before after
+    → KeepsPlaces g standing (Ok tt) before (record after { lines = after.lines + 1 })
+places_ok {D} {V} {standing} g before after keeps =
     let sound = keeps.sound refl in
     record {
       disks = keeps.disks;
       spare = keeps.spare;
-      sound = λ done. subst (λ n. IsSoundBy g n (record after { lines = after.lines + 1 })) (ap (λ n. n + 1) (sym keeps.lines))
+      sound = λ done. subst (λ n. IsSoundBy g standing n (record after { lines = after.lines + 1 })) (ap (λ n. n + 1) (sym keeps.lines))
           (record {
             cell = sound.cell;
             spare = sound.spare;

@@ -30,6 +30,7 @@ use Rattle.ubik_cell.specs.Lines.{AreUnwritten, CellIsSound, CellStandsFor, HasC
 use Rattle.ubik_cell.proofs.CellLines.{raised}
 use Rattle.ubik_cell.proofs.LineDisks.{hosts_count, more_causes, unwritten, unwritten-append}
 use Rattle.ubik_cell.proofs.Lifting.{near_holds, run_causes, run_holds, servers_match}
+use Rattle.db_image.specs.Standing.{Standing}
 
 -- the cell of a stage at which a run stands that has none
 none_of : {D V : Type 0} (g : Ghosts D) (dbs : Databases) (given : List ℕ) (cell : Option (OpenCell D V)) (c : Option Cell) → cell ≡ None
@@ -67,7 +68,7 @@ module _ {D V : Type 0} (g : Ghosts D) (db : ScriptDatabase) (servers clock : �
   opens_is st is choices = ap (λ (o : Option Cell). line_run (only db) (next_line st) choices opens o) is
 
   -- each failed opening is a fault of its disk
-  told_causes : {text_before text_after : List ℕ} (given : List D) (items : List TraceItem) (is : IsOpened g db clock k given running text_before text_after)
+  told_causes : {standing : Standing} {text_before text_after : List ℕ} (given : List D) (items : List TraceItem) (is : IsOpened g standing db clock k given running text_before text_after)
       → length given ≡ servers → HasCauses g before.cell items → HasCauses g after.cell (items ++ opening_items (fails_at servers is.choices))
   told_causes given items is count causes =
       let failed = fails_at servers is.choices in
@@ -82,8 +83,8 @@ module _ {D V : Type 0} (g : Ghosts D) (db : ScriptDatabase) (servers clock : �
   all_given given st near = near.spare ∙ ap (λ (o : Option (OpenCell D V)). drop (sites_in o) given) none
 
   -- all servers were opened
-  pub opened_line : (text_before text_after : List ℕ) → length (take servers before.spare.items) ≡ servers
-      → IsOpened g db clock k (take servers before.spare.items) running text_before text_after
+  pub opened_line : {standing : Standing} (text_before text_after : List ℕ) → length (take servers before.spare.items) ≡ servers
+      → IsOpened g standing db clock k (take servers before.spare.items) running text_before text_after
       → running.hosts.items ≡ hosts_of servers → All (λ disk. g.files disk ≡ Some no_files) after.spare.items
       → after.spare.items ≡ drop servers before.spare.items
       → LineDone g db opens (Ok tt) before after text_before text_after
@@ -153,10 +154,10 @@ module _ {D V : Type 0} (g : Ghosts D) (db : ScriptDatabase) (servers clock : �
       }
 
   -- what stays
-  pub opened_keeps : (result : Result (Unit {0}) LineFault) → IsSoundRun g before → before.lines < MAX_LINES → length running.sites.items ≤ MAXSERVERS
-      → after.spare.items ≡ drop (length running.sites.items) before.spare.items → (result ≡ Ok tt → IsSound g clock running) → clock ≤ MAX_CLOCK
-      → KeepsRun g result before after
-  opened_keeps result sound room few spare is_sound early =
+  pub opened_keeps : {standing : Standing} (result : Result (Unit {0}) LineFault) → IsSoundRun g standing before → before.lines < MAX_LINES → length running.sites.items ≤ MAXSERVERS
+      → after.spare.items ≡ drop (length running.sites.items) before.spare.items → (result ≡ Ok tt → IsSound g standing clock running) → clock ≤ MAX_CLOCK
+      → KeepsRun g standing result before after
+  opened_keeps {standing} result sound room few spare is_sound early =
       let count : sites_in after.cell ≡ length running.sites.items = ap sites_in here in
       let no_sites : sites_in before.cell ≡ 0 = ap sites_in none in
       let left : length after.spare.items ≡ length before.spare.items - length running.sites.items = ap length spare ∙ length-drop (length running.sites.items) before.spare.items in
@@ -168,7 +169,7 @@ module _ {D V : Type 0} (g : Ghosts D) (db : ScriptDatabase) (servers clock : �
             let all : sites_in after.cell - sites_in before.cell ≡ length running.sites.items = omega (arith, count, no_sites) in
             spare ∙ sym (ap (λ n. drop n before.spare.items) all);
         sound = λ done. record {
-          cell = subst (CellIsSound g (clock_bound (before.lines + 1))) (sym here)
+          cell = subst (CellIsSound g standing (clock_bound (before.lines + 1))) (sym here)
               (raised g clock (clock_bound (before.lines + 1)) running (omega (arith, early)) (is_sound done));
           spare = subst (All (λ disk. g.files disk ≡ Some no_files)) (sym spare) (All-drop (λ disk. g.files disk ≡ Some no_files) (length running.sites.items) before.spare.items sound.spare);
           settled = subst (All (λ disk. IsSettled (g.files disk) (g.may_leave disk))) (sym spare)
@@ -183,7 +184,7 @@ module _ {D V : Type 0} (g : Ghosts D) (db : ScriptDatabase) (servers clock : �
 
 -- ---- an empty line
 
-module _ {D V : Type 0} (g : Ghosts D) (db : ScriptDatabase) (before : CellRun D V) (sound : IsSoundRun g before) where
+module _ {D V : Type 0} {standing : Standing} (g : Ghosts D) (db : ScriptDatabase) (before : CellRun D V) (sound : IsSoundRun g standing before) where
   nothing_in : (st : Stage) (cell : Option Cell) → st.cell ≡ cell → (choices : List Choice)
       → run_of_line db line.Nothing st choices ≡ Ok (record { stage = record (next_line st) { cell = cell }; items = []; ending = None })
   nothing_in st None is choices =
@@ -212,7 +213,7 @@ module _ {D V : Type 0} (g : Ghosts D) (db : ScriptDatabase) (before : CellRun D
         (run_causes g (only db) given before.cell st.cell items (all_held g before.spare.items) near.cell causes);
   }
 
-  pub nothing_keeps : before.lines < MAX_LINES → KeepsRun g (Ok tt) before before
+  pub nothing_keeps : before.lines < MAX_LINES → KeepsRun g standing (Ok tt) before before
   nothing_keeps room = record {
     lines = refl;
     disks = sound.disks;
@@ -228,7 +229,7 @@ module _ {D V : Type 0} (g : Ghosts D) (db : ScriptDatabase) (before : CellRun D
     };
   }
     where
-      by : (cell : Option (OpenCell D V)) → CellIsSound g (clock_bound before.lines) cell → CellIsSound g (clock_bound (before.lines + 1)) cell
+      by : (cell : Option (OpenCell D V)) → CellIsSound g standing (clock_bound before.lines) cell → CellIsSound g standing (clock_bound (before.lines + 1)) cell
       by None is = tt
       by (Some running) is = raised g (clock_bound before.lines) (clock_bound (before.lines + 1)) running (omega arith) is
 

@@ -22,9 +22,10 @@ use Rattle.ubik_cell.specs.declared.scripts.RunEnd.TheVariants.{Ended}
 use Rattle.ubik_cell.specs.Lines.{IsAt, IsSoundRun, LineShort, LineTold, run_helds}
 use Rattle.ubik_cell.proofs.Holding.{count_at, held_at}
 use Rattle.ubik_cell.proofs.LineDisks.{stage_short}
+use Rattle.db_image.specs.Standing.{Standing}
 
-module _ {D V : Type 0} (g : Ghosts D) (dbs : Databases) (given : List ℕ) (run : CellRun D V) (t : Told)
-    (sound : IsSoundRun g run) (at : IsAt g dbs given run t) where
+module _ {D V : Type 0} {standing : Standing} (g : Ghosts D) (dbs : Databases) (given : List ℕ) (run : CellRun D V) (t : Told)
+    (sound : IsSoundRun g standing run) (at : IsAt g dbs given run t) where
   -- the end was told
   pub end_told : (line : List ℕ) (choices : List Choice) (ending : Ending) (text_before text_after : List ℕ)
       → line_result dbs t.stage (record { line = line; choices = choices }) ≡ Err ending

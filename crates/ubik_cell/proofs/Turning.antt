@@ -24,6 +24,7 @@ use Rattle.ubik_cell.specs.Turns.{Ran, SoFar, is_short}
 use Rattle.ubik_cell.proofs.Consuming.{all_lines, consumed-push, in_line, later_lines, lines_and_part, read_so_far, whole_before}
 use Rattle.ubik_cell.proofs.Holding.{count_at, held_at}
 use Rattle.ubik_cell.proofs.Telling.{read_lines-push, same_some, told-push}
+use Rattle.db_image.specs.Standing.{Standing}
 
 -- a run before a line of which at most 1025 bytes were read
 pub record AtLine {D V : Type 0} (g : Ghosts D) (dbs : Databases) (given : List ℕ) (text : List ℕ) (left : Option (List ℕ))
@@ -72,7 +73,7 @@ of_left P left rest is h = let Q : Option (List ℕ) → Type 0 = λ l. IfSome l
 -- ---- after a line
 
 module _ {D V : Type 0} (g : Ghosts D) (dbs : Databases) (given : List ℕ) where
-  leaves_held : (result : Result (Unit {0}) RunEnd) (next : CellRun D V) (later : Told) → (result ≡ Ok tt → IsSoundRun g next)
+  leaves_held : {standing : Standing} (result : Result (Unit {0}) RunEnd) (next : CellRun D V) (later : Told) → (result ≡ Ok tt → IsSoundRun g standing next)
       → Leaves g dbs given result next later → AreHeld dbs given false later (run_helds g next)
   leaves_held (Ok done) next later sound leaves = held_at g dbs given next later (sound refl) leaves
   leaves_held (Err e) next later sound leaves = leaves
@@ -106,7 +107,7 @@ module _ {D V : Type 0} (g : Ghosts D) (dbs : Databases) (given : List ℕ) wher
           wrote ∙ ap (λ (w : List ℕ). Some (w ++ bytes)) (same_some at.wrote) ∙ ap Some (append_assoc before t.text bytes)
           ∙ ap (λ (b : List ℕ). Some (before ++ b)) (sym all_text)
 
-      held_later : (result ≡ Ok tt → IsSoundRun g next) → AreHeld dbs given false (told dbs readings) (run_helds g next)
+      held_later : {standing : Standing} → (result ≡ Ok tt → IsSoundRun g standing next) → AreHeld dbs given false (told dbs readings) (run_helds g next)
       held_later sound =
           later_has (λ d. AreHeld dbs given false d (run_helds g next)) (leaves_held result next of.later sound of.leaves)
 
@@ -117,7 +118,7 @@ module _ {D V : Type 0} (g : Ghosts D) (dbs : Databases) (given : List ℕ) wher
       RanSo k = Ran k dbs given text left before after (sites_in next.cell) (run_helds g next)
 
       -- the sink failed in what the line tells
-      pub part_told : (result ≡ Ok tt → IsSoundRun g next) → AppendsPart written after bytes → RanSo kind.WriteFault
+      pub part_told : {standing : Standing} → (result ≡ Ok tt → IsSoundRun g standing next) → AppendsPart written after bytes → RanSo kind.WriteFault
       part_told sound wrote =
           ran_all dbs given text left before after (sites_in next.cell) (run_helds g next) kind.WriteFault readings refl (record {
             earlier = at.readings;
@@ -307,7 +308,7 @@ module _ {D V : Type 0} (g : Ghosts D) (dbs : Databases) (given : List ℕ) wher
     abbrev disks_now : List Held
     disks_now = run_helds g run
 
-    held_now : IsSoundRun g run → AreHeld dbs given false (told dbs so.readings) disks_now
+    held_now : {standing : Standing} → IsSoundRun g standing run → AreHeld dbs given false (told dbs so.readings) disks_now
     held_now sound = held_at g dbs given run (told dbs so.readings) sound so.at
 
     -- the script was read to its end, just now or before
@@ -319,7 +320,7 @@ module _ {D V : Type 0} (g : Ghosts D) (dbs : Databases) (given : List ℕ) wher
     end_of false ends ended consumed = let end = of_left MeetsEnd left so.rest so.remains (ends refl) in (end.1, end.2)
     end_of true ends ended consumed = (consumed.0, ended refl ∙ so.remains ∙ ap Some consumed.0)
 
-    pub ran_to_the_end : IsSoundRun g run → (was ≡ false → IfSome left MeetsEnd) → (was ≡ true → later ≡ left)
+    pub ran_to_the_end : {standing : Standing} → IsSoundRun g standing run → (was ≡ false → IfSome left MeetsEnd) → (was ≡ true → later ≡ left)
         → Ran kind.Done dbs given script later before after (sites_in run.cell) disks_now
     ran_to_the_end sound ends ended =
         let end = end_of was ends ended so.consumed in
@@ -334,7 +335,7 @@ module _ {D V : Type 0} (g : Ghosts D) (dbs : Databases) (given : List ℕ) wher
     abbrev Fails : List ℕ → Type 0
     Fails text = (now ≡ false) × (taken : TakesPart text later) × (length taken.part ≤ MAX_LINE)
 
-    pub ran_to_fault : IsSoundRun g run → was ≡ false → IfSome left Fails
+    pub ran_to_fault : {standing : Standing} → IsSoundRun g standing run → was ≡ false → IfSome left Fails
         → Ran kind.ReadFault dbs given script later before after (sites_in run.cell) disks_now
     ran_to_fault sound was_false fails =
         let taken = (of_left Fails left so.rest so.remains fails).1 in

@@ -1,6 +1,7 @@
 -- What a line that was understood does in a run.
 use Rattle.std.specs.Prelude.{◌≡◌, ◌⊎◌, ◌+◌, ◌-◌, ◌++◌, ℕ, Some, None, Result, Ok, Err, List, [], drop, length}
 use Rattle.disk_base.specs.declared.disks.Disk.{Ghosts}
+use Rattle.db_image.specs.Standing.{Standing}
 use Rattle.ubik_types.specs.declared.limits.TheConstants.{MAXSERVERS}
 use Rattle.cell_script.specs.declared.lines.Line.{Line}
 use Rattle.cell_script.specs.declared.lines.TheConstants.{MAX_TICK}
@@ -40,11 +41,11 @@ LineDone g db l (Err NoMemory) before after text_before text_after =
     (given : List ℕ) (st : Stage) → IsNear g (only db) given 0 before st → StageShort g (only db) given (run_of_line db l st) st before after
 
 -- what a line keeps of a run: how many lines there were, and each disk in its place
-pub record KeepsRun {D V : Type 0} (g : Ghosts D) (result : Result (Unit {0}) LineFault) (before after : CellRun D V) : Type 0 where
+pub record KeepsRun {D V : Type 0} (g : Ghosts D) (standing : Standing) (result : Result (Unit {0}) LineFault) (before after : CellRun D V) : Type 0 where
   pub lines : after.lines ≡ before.lines
   pub disks : sites_in after.cell + length after.spare.items ≡ MAXSERVERS
   pub spare : after.spare.items ≡ drop (sites_in after.cell - sites_in before.cell) before.spare.items
-  pub sound : result ≡ Ok tt → IsSoundBy g (before.lines + 1) after
+  pub sound : result ≡ Ok tt → IsSoundBy g standing (before.lines + 1) after
 
 -- what the bytes of a line do to a stage, by its choices
 abbrev pub result_of : ScriptDatabase → List ℕ → Stage → List Choice → Result Line_run Ending
@@ -88,10 +89,10 @@ EndTold line e (Err (run_end.Ended other)) text_before text_after = (other ≡ e
 EndTold line e (Err run_end.NoMemory) text_before text_after = Unit {0}
 
 -- what the bytes of a line keep of a run
-pub record KeepsPlaces {D V : Type 0} (g : Ghosts D) (result : Result (Unit {0}) RunEnd) (before after : CellRun D V) : Type 0 where
+pub record KeepsPlaces {D V : Type 0} (g : Ghosts D) (standing : Standing) (result : Result (Unit {0}) RunEnd) (before after : CellRun D V) : Type 0 where
   pub disks : sites_in after.cell + length after.spare.items ≡ MAXSERVERS
   pub spare : after.spare.items ≡ drop (sites_in after.cell - sites_in before.cell) before.spare.items
-  pub sound : result ≡ Ok tt → IsSoundRun g after
+  pub sound : result ≡ Ok tt → IsSoundRun g standing after
   pub lines : result ≡ Ok tt → after.lines ≡ before.lines + 1
 
 -- the same of a line in a cell that stands
@@ -106,7 +107,7 @@ CellDone g db run (Err (Refused why)) before after text_before text_after =
 CellDone g db run (Err NoMemory) before after text_before text_after =
     (given : List ℕ) (c : Cell) → IsModelledBy g db.database given before c → IsShort g db.database given (run c) c before after
 
-pub record KeepsCell {D V : Type 0} (g : Ghosts D) (result : Result (Unit {0}) LineFault) (before after : OpenCell D V) : Type 0 where
-  pub sound : result ≡ Ok tt → (bound : ℕ) → IsSound g bound before → IsSound g (bound + MAX_TICK) after
+pub record KeepsCell {D V : Type 0} (g : Ghosts D) (standing : Standing) (result : Result (Unit {0}) LineFault) (before after : OpenCell D V) : Type 0 where
+  pub sound : result ≡ Ok tt → (bound : ℕ) → IsSound g standing bound before → IsSound g standing (bound + MAX_TICK) after
   pub never_falls : AreRises 0 [] (helds g before) (helds g after)
   pub same : length after.sites.items ≡ length before.sites.items

@@ -7,6 +7,7 @@ use Rattle.disk_base.specs.Stops.DiskStop.{Unarmed}
 use Rattle.ubik_types.specs.declared.limits.TheConstants.{MAXSERVERS}
 use Rattle.cell_model.specs.Durable.{no_database}
 use Rattle.db_image.specs.Database.{Database}
+use Rattle.db_image.specs.Standing.{Standing}
 use Rattle.cell_script.specs.declared.lines.TheConstants.{MAX_CLOCK, MAX_TICK}
 use Rattle.cell_runs.specs.declared.endings.Ending.{Ending}
 use Rattle.cell_runs.specs.declared.limits.TheConstants.{MAX_LINES}
@@ -34,9 +35,9 @@ abbrev pub clock_bound : ℕ → ℕ
 clock_bound lines = MAX_CLOCK + MAX_TICK * lines
 
 -- a cell stands, and is sound
-abbrev pub CellIsSound : {D V : Type 0} → Ghosts D → (bound : ℕ) → Option (OpenCell D V) → Type 0
-CellIsSound g bound None = Unit {0}
-CellIsSound g bound (Some running) = IsSound g bound running
+abbrev pub CellIsSound : {D V : Type 0} → Ghosts D → Standing → (bound : ℕ) → Option (OpenCell D V) → Type 0
+CellIsSound g standing bound None = Unit {0}
+CellIsSound g standing bound (Some running) = IsSound g standing bound running
 
 abbrev pub sites_in : {D V : Type 0} → Option (OpenCell D V) → ℕ
 sites_in None = 0
@@ -44,8 +45,8 @@ sites_in (Some running) = length running.sites.items
 
 -- A run that was sound after so many lines: its cell is sound, the disks that no cell has are empty, with nothing pending, and not to
 -- stop, there are 20 in all, no more calls were asked than there were lines, and these are within their limit.
-pub record IsSoundBy {D V : Type 0} (g : Ghosts D) (lines : ℕ) (run : CellRun D V) : Type 0 where
-  pub cell : CellIsSound g (clock_bound lines) run.cell
+pub record IsSoundBy {D V : Type 0} (g : Ghosts D) (standing : Standing) (lines : ℕ) (run : CellRun D V) : Type 0 where
+  pub cell : CellIsSound g standing (clock_bound lines) run.cell
   pub spare : All (λ disk. g.files disk ≡ Some no_files) run.spare.items
   pub settled : All (λ disk. IsSettled (g.files disk) (g.may_leave disk)) run.spare.items
   pub unarmed : All (λ disk. g.stop disk ≡ Unarmed) run.spare.items
@@ -54,8 +55,8 @@ pub record IsSoundBy {D V : Type 0} (g : Ghosts D) (lines : ℕ) (run : CellRun 
   pub few : lines ≤ MAX_LINES
 
 -- a run between two lines
-abbrev pub IsSoundRun : {D V : Type 0} → Ghosts D → CellRun D V → Type 0
-IsSoundRun g run = IsSoundBy g run.lines run
+abbrev pub IsSoundRun : {D V : Type 0} → Ghosts D → Standing → CellRun D V → Type 0
+IsSoundRun g standing run = IsSoundBy g standing run.lines run
 
 -- the database of a cell
 abbrev pub database_in : Databases → Cell → Database

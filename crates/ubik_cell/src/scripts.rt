@@ -27,10 +27,11 @@ ghost use Rattle.ubik_cell.specs.Lines.{IsAt, IsSoundBy, IsSoundRun, LineTold, L
 use cell_runs::{Ending, MAX_LINES, Which, tell_ending};
 use cell_script::{Line, Why, Words, line_meaning};
 use cell_sites::{LineFault, OpenCell, law_cell_opened};
-use db_image::WordForms;
+use db_image::DraftWords;
 use disk_base::StopDisk;
 use script_laws::law_lines_are_built;
 use std::alloc::Global;
+use ubik_node::SteadyDisk;
 use ubik_types::NoMemory;
 
 /// Why a script goes no further.
@@ -44,7 +45,7 @@ pub enum RunEnd {
 
 /// What the lines of a script so far left: a cell, once one is opened.
 #[derive(Drop)]
-pub struct CellRun<D: StopDisk, V: WordForms> {
+pub struct CellRun<D: SteadyDisk + StopDisk, V: DraftWords> {
     alloc: Global,
     lines: u32,
     asks: u32,
@@ -52,7 +53,7 @@ pub struct CellRun<D: StopDisk, V: WordForms> {
     spare: Vec<D>,
 }
 
-impl<D: StopDisk, V: WordForms> CellRun<D, V> {
+impl<D: SteadyDisk + StopDisk, V: DraftWords> CellRun<D, V> {
     /// A run before its first line. It takes the disks out of their list, disk i for server i + 1.
     pub fn new(alloc: Global, disks: &mut Vec<D>) -> Result<CellRun<D, V>, NoMemory>
         requires twenty { vec_len disks.old ≡ MAXSERVERS }
@@ -60,7 +61,7 @@ impl<D: StopDisk, V: WordForms> CellRun<D, V> {
         requires settled { All (λ disk. IsSettled (D.files disk) (D.may_leave disk)) disks.old.items }
         requires unarmed { All (λ disk. D.stop disk ≡ Unarmed) disks.old.items }
         ensures at { IfOk result (λ run. (dbs : Databases) → IsAt D.Disk dbs (counts_of D.Disk disks.old.items) run first_told) }
-        ensures sound { IfOk result (λ run. IsSoundRun D.Disk run) }
+        ensures sound { IfOk result (λ run. IsSoundRun D.Disk V.standing run) }
         ensures taken { IfOk result (λ run. (disks.new.items ≡ []) × (vec_capacity disks.new ≡ vec_capacity disks.old)) }
         ensures spare { IfOk result (λ run. (run.spare.items ≡ disks.old.items) × (sites_in run.cell ≡ 0)) }
         ensures kept { OnErr result (disks.new ≡ disks.old) }
@@ -121,10 +122,10 @@ impl<D: StopDisk, V: WordForms> CellRun<D, V> {
         requires moment { IsMoment clock }
         requires early { clock ≤ MAX_CLOCK }
         requires room { self.old.lines < MAX_LINES }
-        requires sound { IsSoundRun D.Disk self.old }
-        ensures done { (k : Kind) → LineDone D.Disk (script_database V.database V.words) (line.Cell servers clock k) result
+        requires sound { IsSoundRun D.Disk V.standing self.old }
+        ensures done { (k : Kind) → LineDone D.Disk (script_database V.standing.database V.words) (line.Cell servers clock k) result
             self.old self.new (string_bytes text.old) (string_bytes text.new) }
-        ensures kept { KeepsRun D.Disk result self.old self.new }
+        ensures kept { KeepsRun D.Disk V.standing result self.old self.new }
     {
         if self.cell.is_some() {
             return Err(Why::Cell.into());
@@ -146,10 +147,10 @@ impl<D: StopDisk, V: WordForms> CellRun<D, V> {
         text: &mut String,
     ) -> Result<(), LineFault>
         requires room { self.old.lines < MAX_LINES }
-        requires sound { IsSoundRun D.Disk self.old }
-        ensures done { LineDone D.Disk (script_database V.database V.words) (line.Ask server words.now) result
+        requires sound { IsSoundRun D.Disk V.standing self.old }
+        ensures done { LineDone D.Disk (script_database V.standing.database V.words) (line.Ask server words.now) result
             self.old self.new (string_bytes text.old) (string_bytes text.new) }
-        ensures kept { KeepsRun D.Disk result self.old self.new }
+        ensures kept { KeepsRun D.Disk V.standing result self.old self.new }
     {
         let Some(cell) = &mut self.cell else {
             return Err(server.map_or(Why::Number, |_| Why::Cell).into());
@@ -169,10 +170,10 @@ impl<D: StopDisk, V: WordForms> CellRun<D, V> {
         requires bounds { HasBounds line.now }
         requires built { IsBuiltLine (sites_in self.old.cell) line.now }
         requires room { self.old.lines < MAX_LINES }
-        requires sound { IsSoundRun D.Disk self.old }
-        ensures done { LineDone D.Disk (script_database V.database V.words) line.now result
+        requires sound { IsSoundRun D.Disk V.standing self.old }
+        ensures done { LineDone D.Disk (script_database V.standing.database V.words) line.now result
             self.old self.new (string_bytes text.old) (string_bytes text.new) }
-        ensures kept { KeepsRun D.Disk result self.old self.new }
+        ensures kept { KeepsRun D.Disk V.standing result self.old self.new }
     {
         match line {
             Line::Nothing => Ok(()),
@@ -198,10 +199,10 @@ impl<D: StopDisk, V: WordForms> CellRun<D, V> {
 
     /// A line as it was read. A script has 20,000 of them at most.
     fn read_line(&mut self, line: &[u8], text: &mut String) -> Result<(), LineFault>
-        requires sound { IsSoundRun D.Disk self.old }
-        ensures done { ReadDone D.Disk (script_database V.database V.words) line.now result
+        requires sound { IsSoundRun D.Disk V.standing self.old }
+        ensures done { ReadDone D.Disk (script_database V.standing.database V.words) line.now result
             self.old self.new (string_bytes text.old) (string_bytes text.new) }
-        ensures kept { KeepsRun D.Disk result self.old self.new }
+        ensures kept { KeepsRun D.Disk V.standing result self.old self.new }
     {
         if self.lines >= MAX_LINES {
             return Err(LineFault::Limit(Which::Lines));
@@ -214,12 +215,12 @@ impl<D: StopDisk, V: WordForms> CellRun<D, V> {
 
     /// The next line of the script, without its LF: what is told of it is added to the text, and, where the script ends in it, why.
     pub fn line(&mut self, line: &[u8], text: &mut String) -> Result<(), RunEnd>
-        requires sound { IsSoundRun D.Disk self.old }
-        ensures told { result ≢ Err RunEnd.NoMemory → (given : List ℕ) (t : Told) → IsAt D.Disk (only (script_database V.database V.words)) given self.old t → t.ended ≡ None →
-            LineTold D.Disk (only (script_database V.database V.words)) given line.now t result self.new (string_bytes text.old) (string_bytes text.new) }
-        ensures short { result ≡ Err RunEnd.NoMemory → (given : List ℕ) (t : Told) → IsAt D.Disk (only (script_database V.database V.words)) given self.old t → t.ended ≡ None →
-            LineShort D.Disk (only (script_database V.database V.words)) given line.now t self.new }
-        ensures sound { result ≡ Ok tt → IsSoundRun D.Disk self.new }
+        requires sound { IsSoundRun D.Disk V.standing self.old }
+        ensures told { result ≢ Err RunEnd.NoMemory → (given : List ℕ) (t : Told) → IsAt D.Disk (only (script_database V.standing.database V.words)) given self.old t → t.ended ≡ None →
+            LineTold D.Disk (only (script_database V.standing.database V.words)) given line.now t result self.new (string_bytes text.old) (string_bytes text.new) }
+        ensures short { result ≡ Err RunEnd.NoMemory → (given : List ℕ) (t : Told) → IsAt D.Disk (only (script_database V.standing.database V.words)) given self.old t → t.ended ≡ None →
+            LineShort D.Disk (only (script_database V.standing.database V.words)) given line.now t self.new }
+        ensures sound { result ≡ Ok tt → IsSoundRun D.Disk V.standing self.new }
         ensures longer { result ≡ Ok tt → self.new.lines ≡ self.old.lines + 1 }
         ensures disks { sites_in self.new.cell + length self.new.spare.items ≡ MAXSERVERS }
         ensures spare { self.new.spare.items ≡ drop (sites_in self.new.cell - sites_in self.old.cell) self.old.spare.items }
@@ -237,11 +238,11 @@ impl<D: StopDisk, V: WordForms> CellRun<D, V> {
 
     /// The next line of the script where it has more bytes than a line may have.
     pub fn long_line(&self, text: &mut String) -> Result<(), RunEnd>
-        requires sound { IsSoundRun D.Disk self.now }
-        ensures told { result ≢ Err RunEnd.NoMemory → (given : List ℕ) (line : List ℕ) (t : Told) → MAX_LINE < length line → IsAt D.Disk (only (script_database V.database V.words)) given self.now t → t.ended ≡ None →
-            LineTold D.Disk (only (script_database V.database V.words)) given line t result self.now (string_bytes text.old) (string_bytes text.new) }
-        ensures short { result ≡ Err RunEnd.NoMemory → (given : List ℕ) (line : List ℕ) (t : Told) → IsAt D.Disk (only (script_database V.database V.words)) given self.now t →
-            LineShort D.Disk (only (script_database V.database V.words)) given line t self.now }
+        requires sound { IsSoundRun D.Disk V.standing self.now }
+        ensures told { result ≢ Err RunEnd.NoMemory → (given : List ℕ) (line : List ℕ) (t : Told) → MAX_LINE < length line → IsAt D.Disk (only (script_database V.standing.database V.words)) given self.now t → t.ended ≡ None →
+            LineTold D.Disk (only (script_database V.standing.database V.words)) given line t result self.now (string_bytes text.old) (string_bytes text.new) }
+        ensures short { result ≡ Err RunEnd.NoMemory → (given : List ℕ) (line : List ℕ) (t : Told) → IsAt D.Disk (only (script_database V.standing.database V.words)) given self.now t →
+            LineShort D.Disk (only (script_database V.standing.database V.words)) given line t self.now }
         ensures ends { result ≢ Ok tt }
     {
         let ending = self.long_ending();
@@ -275,7 +276,7 @@ impl<D: StopDisk, V: WordForms> CellRun<D, V> {
 }
 
 /// Opens the servers of a cell over these disks, one after the other. Each disk has its place in the cell also where memory ran out.
-fn open_servers<D: StopDisk, V: WordForms>(
+fn open_servers<D: SteadyDisk + StopDisk, V: DraftWords>(
     cell: &mut OpenCell<D, V>,
     spare: &mut Vec<D>,
     servers: u32,
@@ -290,8 +291,8 @@ fn open_servers<D: StopDisk, V: WordForms>(
     requires empty { All (λ disk. D.files disk ≡ Some no_files) spare.old.items }
     requires settled { All (λ disk. IsSettled (D.files disk) (D.may_leave disk)) spare.old.items }
     requires unarmed { All (λ disk. D.stop disk ≡ Unarmed) spare.old.items }
-    requires opened { ArePartOpened D.Disk (script_database V.database V.words) clock [] cell.old (string_bytes text.old) (string_bytes text.old) }
-    ensures opened { OnOk result (ArePartOpened D.Disk (script_database V.database V.words) clock (take servers spare.old.items)
+    requires opened { ArePartOpened D.Disk V.standing (script_database V.standing.database V.words) clock [] cell.old (string_bytes text.old) (string_bytes text.old) }
+    ensures opened { OnOk result (ArePartOpened D.Disk V.standing (script_database V.standing.database V.words) clock (take servers spare.old.items)
         cell.new (string_bytes text.old) (string_bytes text.new)) }
     ensures all { OnOk result (length cell.new.sites.items ≡ servers) }
     ensures spare { spare.new.items ≡ drop (length cell.new.sites.items) spare.old.items }
@@ -308,18 +309,18 @@ fn open_servers<D: StopDisk, V: WordForms>(
 }
 
 /// A line in a cell that stands, but for an ask.
-fn run_in_cell<D: StopDisk, V: WordForms>(
+fn run_in_cell<D: SteadyDisk + StopDisk, V: DraftWords>(
     cell: &mut OpenCell<D, V>,
     line: &Line,
     text: &mut String,
 ) -> Result<(), LineFault>
     requires bounds { HasBounds line.now }
     requires built { IsBuiltLine (length cell.old.sites.items) line.now }
-    requires sound { (bound : ℕ) × IsSound D.Disk bound cell.old × (bound + MAX_TICK ≤ MAX_MOMENT) }
-    ensures done { CellDone D.Disk (script_database V.database V.words)
-        (λ c choices. run_in (script_database V.database V.words) c choices line.now) result
+    requires sound { (bound : ℕ) × IsSound D.Disk V.standing bound cell.old × (bound + MAX_TICK ≤ MAX_MOMENT) }
+    ensures done { CellDone D.Disk (script_database V.standing.database V.words)
+        (λ c choices. run_in (script_database V.standing.database V.words) c choices line.now) result
         cell.old cell.new (string_bytes text.old) (string_bytes text.new) }
-    ensures kept { KeepsCell D.Disk result cell.old cell.new }
+    ensures kept { KeepsCell D.Disk V.standing result cell.old cell.new }
 {
     match line {
         Line::Nothing => Ok(()),
@@ -345,7 +346,7 @@ fn run_in_cell<D: StopDisk, V: WordForms>(
 }
 
 /// Why words that name no call are refused.
-fn why_no_call<V: WordForms>(words: &Words) -> Why
+fn why_no_call<V: DraftWords>(words: &Words) -> Why
     ensures { result ≡ (if V.words.is_unbuilt words.now then Why.Unbuilt else Why.Syntax) }
 {
     if V::is_unbuilt(words.as_slice()) {

@@ -6,8 +6,6 @@ ghost use Rattle.disk_base.specs.Crash.{IsSettled};
 ghost use Rattle.disk_base.specs.Files.{no_files};
 ghost use Rattle.disk_base.specs.Stops.DiskStop.{Unarmed};
 ghost use Rattle.ubik_types.specs.declared.limits.TheConstants.{MAXSERVERS};
-ghost use Rattle.prdb_entries.specs.CallWords.{protection_words};
-ghost use Rattle.prdb_entries.specs.Protection.{protection};
 ghost use Rattle.cell_runs.specs.ScriptDatabase.{script_database};
 ghost use Rattle.cell_script.specs.Write.{AppendsPart};
 ghost use Rattle.cell_sites.specs.Disks.{all_held};
@@ -23,12 +21,13 @@ use crate::scripts::{CellRun, RunEnd};
 use cell_promises::law_cells_keep_promises;
 use cell_runs::Ending;
 use cell_script::{LineEnd, LineReader, write_whole};
-use db_image::WordForms;
+use db_image::DraftWords;
 use disk_base::{Sink, Source, StopDisk};
-use prdb_entries::PrService;
+use pt_calls::PtService;
 use script_laws::{law_faults_have_servers, law_scripts_are_runs, law_sound_fronts};
 use script_promises::{law_scripts_keep_promises, law_words_are_calls};
 use std::alloc::Global;
+use ubik_node::SteadyDisk;
 
 /// How a script ends that ends at this line.
 fn kind_at(line: u32, ending: Ending) -> CellKind
@@ -67,25 +66,25 @@ fn write_line<K: Sink>(
 }
 
 /// Reads one line of the script, and runs and tells it. None: the script goes on.
-fn turn<S: Source, K: Sink, D: StopDisk, V: WordForms>(
+fn turn<S: Source, K: Sink, D: SteadyDisk + StopDisk, V: DraftWords>(
     reader: &mut LineReader,
     input: &mut S,
     out: &mut K,
     run: &mut CellRun<D, V>,
     text: &mut String,
 ) -> Option<CellKind>
-    requires sound { IsSoundRun D.Disk run.old }
+    requires sound { IsSoundRun D.Disk V.standing run.old }
     ensures goes { result ≡ None → IfSome (K.written out.old) (λ written. (given script before : List ℕ) →
-        SoFar D.Disk (only (script_database V.database V.words)) given script reader.old.ended (S.left input.old) before
+        SoFar D.Disk (only (script_database V.standing.database V.words)) given script reader.old.ended (S.left input.old) before
         (Some written) run.old →
-        SoFar D.Disk (only (script_database V.database V.words)) given script reader.new.ended (S.left input.new) before
+        SoFar D.Disk (only (script_database V.standing.database V.words)) given script reader.new.ended (S.left input.new) before
         (K.written out.new) run.new) }
     ensures ends { IfSome result (λ kind. IfSome (K.written out.old) (λ written. (given script before : List ℕ) →
-        SoFar D.Disk (only (script_database V.database V.words)) given script reader.old.ended (S.left input.old) before
+        SoFar D.Disk (only (script_database V.standing.database V.words)) given script reader.old.ended (S.left input.old) before
         (Some written) run.old →
-        Ran kind (only (script_database V.database V.words)) given script (S.left input.new) before (K.written out.new)
+        Ran kind (only (script_database V.standing.database V.words)) given script (S.left input.new) before (K.written out.new)
         (sites_in run.new.cell) (run_helds D.Disk run.new))) }
-    ensures sound { result ≡ None → IsSoundRun D.Disk run.new }
+    ensures sound { result ≡ None → IsSoundRun D.Disk V.standing run.new }
     ensures longer { result ≡ None → run.new.lines ≡ run.old.lines + 1 }
     ensures disks { sites_in run.new.cell + length run.new.spare.items ≡ MAXSERVERS }
     ensures spare { run.new.spare.items ≡ drop (sites_in run.new.cell - sites_in run.old.cell) run.old.spare.items }
@@ -110,7 +109,7 @@ fn turn<S: Source, K: Sink, D: StopDisk, V: WordForms>(
 }
 
 /// Runs a script to its end, over the disks.
-fn run_script<S: Source, K: Sink, D: StopDisk, V: WordForms>(
+fn run_script<S: Source, K: Sink, D: SteadyDisk + StopDisk, V: DraftWords>(
     alloc: Global,
     input: &mut S,
     out: &mut K,
@@ -121,7 +120,7 @@ fn run_script<S: Source, K: Sink, D: StopDisk, V: WordForms>(
     requires settled { All (λ disk. IsSettled (D.files disk) (D.may_leave disk)) disks.old.items }
     requires unarmed { All (λ disk. D.stop disk ≡ Unarmed) disks.old.items }
     ensures ran { IfSome (S.left input.old) (λ script. IfSome (K.written out.old) (λ before.
-        RanOver D.Disk result (only (script_database V.database V.words)) script (S.left input.new) before (K.written out.new)
+        RanOver D.Disk result (only (script_database V.standing.database V.words)) script (S.left input.new) before (K.written out.new)
         disks.old.items disks.new.items)) }
     ensures read_cause { HasCause (S.faults input.old) (S.faults input.new) (result ≡ CellKind.ReadFault) }
     ensures write_cause { HasCause (K.faults out.old) (K.faults out.new) (result ≡ CellKind.WriteFault) }
@@ -146,7 +145,7 @@ fn run_script<S: Source, K: Sink, D: StopDisk, V: WordForms>(
 /// Runs the script that the source gives, one line after the other, and writes its exact trace. It takes no
 /// words: where one is given, nothing is read or written. There are 20 disks; disk i is that of server i + 1, and
 /// each stands in its place at every end.
-pub fn cell_top<S: Source, K: Sink, D: StopDisk>(
+pub fn cell_top<S: Source, K: Sink, D: SteadyDisk + StopDisk>(
     alloc: Global,
     words: &[String],
     input: &mut S,
@@ -181,7 +180,7 @@ pub fn cell_top<S: Source, K: Sink, D: StopDisk>(
             kind,
         };
     }
-    let kind = run_script::<S, K, D, PrService>(alloc, input, out, disks);
+    let kind = run_script::<S, K, D, PtService>(alloc, input, out, disks);
     CellEnd {
         status: kind.status(),
         kind,

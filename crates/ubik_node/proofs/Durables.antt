@@ -153,6 +153,48 @@ module _ {D : Type 0} (g : Ghosts D) (s : Store D) (d : Durable) where
       } in
       serves_reads ready there version reads
 
+take_none : (calls : List Made) → take 0 calls ≡ []
+take_none [] = refl
+take_none (made ∷ calls) = refl
+
+none_taken : (n : ℕ) → ◌≡◌ {A = List Made} (take n []) []
+none_taken zero = refl
+none_taken (suc n) = refl
+
+stands_here : (d : Durable) (c : Files) → StandsWithin d [] c → StandsAs d c
+stands_here d c stands = subst (λ (made : List Made). StandsAs (durable_after_all d made) c) (none_taken stands.0) stands.2
+
+none_within : (d : Durable) (calls : List Made) (c : Files) → StandsWithin d [] c → StandsWithin d calls c
+none_within d calls c stands = (0, omega arith, subst (λ (made : List Made). StandsAs (durable_after_all d made) c) (sym (take_none calls)) (stands_here d c stands))
+
+module _ {D : Type 0} (g : Ghosts D) (s : Store D) (d : Durable) where
+  abbrev Leaves : D → List Made → Type 0
+  Leaves new calls = LeavesOnly g.steps g.left_since s.disk new (StandsWithin d calls)
+
+  -- a step whose disk fails before any durable call of it
+  pub fails_reads : {new : D} {F : Type 0} → IsReady g s → IsThere d.image (image_in (g.files s.disk)) → s.version ≡ d.version → OnlyReads g s.disk new F → (calls : List Made) → FailsIn g d s.disk new calls
+  fails_reads {new} ready there version reads calls =
+      let served : Serves g d s.disk new [] = serves_reads g s d ready there version reads in
+      let none : take 0 calls ≡ [] = take_none calls in
+      record {
+        leaves = record {
+          moments = told (g.files s.disk) (λ _. Leaves new calls) (λ fs is.
+              widened g.steps g.left_since s.disk new (StandsWithin d []) (StandsWithin d calls) (none_within d calls) (of_told (g.files s.disk) fs (λ _. Leaves new []) is served.leaves.moments));
+          plain = served.leaves.plain;
+        };
+        whole = 0;
+        now = told (g.files s.disk) (λ _. Narrows (StandsBetween d calls 0) (g.may_leave new)) (λ fs is c left.
+            let run = of_told (g.files s.disk) fs (λ _. Leaves new []) is served.leaves.moments in
+            let stands = run.each c (g.counts_now new (g.steps s.disk) c run.later left) in
+            inl (subst (λ (made : List Made). StandsAs (durable_after_all d made) c) (sym none) (stands_here d c stands)));
+        least = told (g.files s.disk) (λ fs. g.steps s.disk + calls_made (has_label fs.database) (take 0 calls) ≤ g.steps new) (λ fs is.
+            let nothing = ap (calls_made (has_label fs.database)) none in
+            omega (arith, nothing, reads.steps));
+        most = told (g.files s.disk) (λ fs. g.steps new ≤ g.steps s.disk + calls_made (has_label fs.database) (take 1 calls)) (λ fs is. omega (arith, reads.steps));
+        running = told (g.files s.disk) (λ fs. ¬ IsStopped (after_changes (calls_made (has_label fs.database) (take 0 calls)) (g.stop s.disk))) (λ fs is.
+            subst (λ (made : List Made). ¬ IsStopped (after_changes (calls_made (has_label fs.database) made) (g.stop s.disk))) (sym none) ready.runs);
+      }
+
 -- a durable call that the disk made fail
 pub ended_by_disk : {D : Type 0} (g : Ghosts D) (changes : List Change) (v : Version) (old new : Store D) (r : Result (Unit {0}) StoreFault) → r ≡ Err DiskFault
     → MatchResult r (λ _. Commits g changes v old new) (EndsAs g IsNeverLong v old new) → HasFailed old new

@@ -1,8 +1,13 @@
+pub mod AfterReads
 pub mod Alone
 pub mod Committing
 pub mod Durables
 pub mod Gapless
+pub mod HeldImages
 pub mod Images
+pub mod Lending
+pub mod Logging
+pub mod Made
 pub mod Places
 pub mod Putting
 pub mod Recovered

@@ -1,5 +1,5 @@
 -- A step of a server, from what its parts made of it.
-use Rattle.std.proofs.Common.{◌≡◌, ◌≢◌, ◌<◌, ℕ, Bool, false, cond, Option, Some, None, List, [], ◌∷◌, length, refl, sym, ap, subst, ◌∙◌}
+use Rattle.std.proofs.Common.{◌≡◌, ◌≢◌, ◌<◌, ℕ, Bool, true, false, cond, Option, Some, None, List, [], ◌∷◌, length, refl, sym, ap, subst, ◌∙◌}
 use Rattle.ubik_types.specs.declared.hosts.Host.{Host}
 use Rattle.ubik_types.specs.declared.versions.Version.{Version}
 use Rattle.ubik_types.specs.Phase.{NoPhase}
@@ -8,6 +8,7 @@ use Rattle.ubik_calls.specs.declared.packets.Packet.{Packet}
 use Rattle.ubik_calls.specs.declared.replies.Reply.{Reply}
 use Rattle.ubik_calls.specs.declared.replies.Reply.TheVariants as reply
 use Rattle.db_image.specs.Database.{Database}
+use Rattle.db_image.specs.Standing.{Standing}
 use Rattle.cell_model.specs.declared.events.NodeEvent.{NodeEvent}
 use Rattle.cell_model.specs.declared.events.NodeEvent.TheVariants as event
 use Rattle.cell_model.specs.declared.events.Output.{Output}
@@ -28,8 +29,9 @@ use Rattle.ubik_node.specs.declared.recovering.Plan.TheVariants as plan
 use Rattle.ubik_node.specs.declared.progress.Progress.{Progress}
 use Rattle.ubik_node.specs.declared.state.State.{State}
 use Rattle.disk_base.specs.declared.disks.Disk.{Ghosts}
+use Rattle.disk_base.specs.Files.{Files}
 use Rattle.ubik_node.specs.Disk.{FailsIn, Serves}
-use Rattle.ubik_node.specs.Node.{Makes, Steps, durable_in}
+use Rattle.ubik_node.specs.Node.{IsMeantIn, Makes, Needs, Steps, durable_in}
 use Rattle.ubik_node.specs.Progress.{IsServing, alone, phase_record}
 use Rattle.ubik_node.specs.Recovering.{Recovers, relabelled_to}
 use Rattle.ubik_node.specs.Serving.{Answers, Reads, Writes}
@@ -84,33 +86,54 @@ pub packet_step : (db : Database) (st mid : State) (last : model.Server) (now : 
 packet_step db st mid last now p out Did none rests member shows =
     rested db st mid now (event.Packet p) [] (model.Up last) out Did rests member (shown (received_packet db (member_of mid) (server_of mid) now p [] (place_of mid.cell p.from)) last out Did shows none)
 
--- a call's step, by how it ended
+-- a call's step, by how it ended; a halted server tells what it was before the lapse
 pub asked_step : {D : Type 0} (g : Ghosts D) (db : Database) (end : StepEnd) (st mid : State) (now id : ℕ) (call : List ℕ) (after : model.Node) (out : List Output) (old new : D)
     → lapsed (member_of st) (server_of st) now ≡ quiet (server_of mid)
-    → member_of mid ≡ member_of st → (IsServing mid.progress → mid ≡ st) → durable_in (server_of mid) ≡ durable_in (server_of st)
+    → member_of mid ≡ member_of st → durable_in (server_of mid) ≡ durable_in (server_of st)
     → (end ≡ Done → Answers db (member_of mid) (server_of mid) now id call after out (Serves g (durable_in (server_of mid)) old new))
-    → (end ≡ Halted → (after ≡ model.Halted (model.halted_from (server_of mid))) × (out ≡ output.Reply id reply.DiskFault ∷ []))
+    → (end ≡ Halted → (after ≡ model.Halted (model.halted_from (server_of st))) × (out ≡ output.Reply id reply.DiskFault ∷ []))
     → (end ≡ Halted → FailsIn g (durable_in (server_of mid)) old new (asked db (member_of mid) (server_of mid) now id call false).calls)
-    → (end ≡ Halted → IsServing mid.progress) → end ≢ NoMemory
+    → end ≢ NoMemory
     → Steps g db (member_of st) end (event.Ask id call) now (model.Up (server_of st)) after out old new
-asked_step g db Done st mid now id call after out old new rests member same kept made halted left serving told =
+asked_step g db Done st mid now id call after out old new rests member kept made halted left told =
     let m = made refl in
     let P : Durable → Type 0 = λ d. Makes (handled db (member_of mid) (server_of mid) now (event.Ask id call) (m.0 ∷ [])) after out (Serves g d old new) in
     (m.0 ∷ [], rested db st mid now (event.Ask id call) (m.0 ∷ []) after out (Serves g (durable_in (server_of st)) old new) rests member (subst P kept m.1))
-asked_step g db Halted st mid now id call after out old new rests member same kept made halted left serving told =
+asked_step g db Halted st mid now id call after out old new rests member kept made halted left told =
     let h = halted refl in
     let P : Durable → Type 0 = λ d. FailsIn g d old new (asked db (member_of mid) (server_of mid) now id call false).calls in
     let Q : Member → Type 0 = λ m. FailsIn g (durable_in (server_of st)) old new (asked db m (server_of mid) now id call false).calls in
     let T : Stepped → Type 0 = λ t. FailsIn g (durable_in (server_of st)) old new t.calls in (
-      h.0 ∙ ap (λ (s : State). model.Halted (model.halted_from (server_of s))) (same (serving refl)),
+      h.0,
       h.1,
       subst T (sym (step_rests db (member_of st) (server_of st) (server_of mid) now (event.Ask id call) [] rests)) (subst Q member (subst P kept (left refl))),
     )
-asked_step g db NoMemory st mid now id call after out old new rests member same kept made halted left serving told = absurd (told refl)
+asked_step g db NoMemory st mid now id call after out old new rests member kept made halted left told = absurd (told refl)
 
 -- a node that is not halted
 pub up_if : (b : Bool) (h : model.HaltedServer) (s : model.Server) → b ≡ false → cond b (model.Halted h) (model.Up s) ≡ model.Up s
 up_if b h s is = rw is refl
+
+-- a node that is halted
+pub halted_if : (b : Bool) (h : model.HaltedServer) (s : model.Server) → b ≡ true → cond b (model.Halted h) (model.Up s) ≡ model.Halted h
+halted_if b h s is = rw is refl
+
+-- a server that has its progress from before the lapse again is what it was then
+pub with_progress : (new mid st : State) → new ≡ mid → mid.version ≡ st.version → server_of st ≡ record (server_of mid) { phase = phase_record st.version st.progress }
+    → record (server_of new) { phase = phase_record new.version st.progress } ≡ server_of st
+with_progress new mid st is version only =
+    subst (λ (s : State). record (server_of s) { phase = phase_record s.version st.progress } ≡ server_of st) (sym is)
+    (ap (λ (v : Version). record (server_of mid) { phase = phase_record v st.progress }) version ∙ sym only)
+
+-- what a call needs
+pub needs_ask : (d : Standing) (node : model.Node) (s : model.Server) (image : List ℕ) (e : NodeEvent) (id : ℕ) (call : List ℕ) (files : Option Files) → node ≡ model.Up s → e ≡ event.Ask id call
+    → image ≡ s.image → Needs d node e files → IsMeantIn d files image
+needs_ask d node s image e id call files up ask same needs =
+    subst (IsMeantIn d files) (sym same) (subst (λ (x : NodeEvent). Needs d (model.Up s) x files) ask (subst (λ (n : model.Node). Needs d n e files) up needs))
+
+-- a step ends in one way
+pub done_or_halted : (end : StepEnd) → end ≡ Done → end ≡ Halted → ⊥
+done_or_halted end done halted = cc
 
 pub steps_at : {D : Type 0} (g : Ghosts D) (db : Database) (m : Member) (end : StepEnd) (e f : NodeEvent) (s : model.Server) (now : ℕ) (before after then : model.Node) (out : List Output) (old new : D)
     → before ≡ model.Up s → after ≡ then → e ≡ f

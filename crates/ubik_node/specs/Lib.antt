@@ -3,9 +3,13 @@ pub mod Built
 pub mod Database
 pub mod Debug
 pub mod Disk
+pub mod Evaluation
+pub mod Held
 pub mod Node
 pub mod Progress
 pub mod Recovering
 pub mod Serving
 pub mod State
+pub mod Steady
+pub mod StoreImages
 pub mod Verdict

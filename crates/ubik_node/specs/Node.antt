@@ -1,11 +1,14 @@
 -- What a node stands for, and what a step of it is.
-use Rattle.std.specs.Prelude.{◌≡◌, ℕ, Bool, true, false, if◌then◌else◌, None, IfSome, List, [], length}
+use Rattle.std.specs.Prelude.{◌≡◌, ℕ, Bool, true, false, if◌then◌else◌, None, IfSome, IsSome, Option, List, [], length}
 use Rattle.disk_base.specs.declared.disks.Disk.{Ghosts}
+use Rattle.disk_base.specs.Files.{Files}
 use Rattle.disk_base.specs.Runs.{OnlyReads}
 use Rattle.db_image.specs.Database.{Database}
+use Rattle.db_image.specs.Standing.{Standing}
 use Rattle.ubik_store.specs.Calls.{CallsAtMost}
 use Rattle.ubik_store.specs.Store.{IsSound, image_in}
 use Rattle.cell_model.specs.declared.events.NodeEvent.{NodeEvent}
+use Rattle.cell_model.specs.declared.events.NodeEvent.TheVariants as events
 use Rattle.cell_model.specs.declared.events.Output.{Output}
 use Rattle.cell_model.specs.Durable.{Durable, Made, durable}
 use Rattle.cell_model.specs.Node as model
@@ -77,6 +80,15 @@ Steps g db m Halted event now (model.Halted h) after outputs old new =
     (after ≡ model.Halted h) × (outputs ≡ outputs_of (refusals event)) × (new ≡ old)
 Steps g db m Halted event now model.Down after outputs old new = ⊥
 Steps g db m NoMemory event now before after outputs old new = (after ≡ before) × (outputs ≡ []) × OnlyReads g old new ⊥
+
+-- the disk tells its files, and the image stands for a state of the database
+abbrev pub IsMeantIn : Standing → Option Files → (image : List ℕ) → Type 0
+IsMeantIn d files image = IsSome files × (s : d.State) × d.StandsFor image s
+
+-- what an event needs to be handled as the database has it: a call at a server that is up needs its image
+abbrev pub Needs : Standing → model.Node → NodeEvent → Option Files → Type 0
+Needs d (model.Up s) (events.Ask id call) files = IsMeantIn d files s.image
+Needs d before event files = Unit {0}
 
 -- the moment of the last step after one that ended so
 abbrev pub last_after : StepEnd → ℕ → ℕ → ℕ

@@ -42,13 +42,19 @@ pub record IsWritten (old new : List ℕ) (changes : List Change) : Type 0 where
   pub fits : length new ≤ MAX_IMAGE
   pub puts : CutsNoPut changes
 
--- the step of a server of this progress, given the verdict on its call
-abbrev pub Judges : Host → Server → Progress → (now id : ℕ) → (call : List ℕ) → Verdict → Stepped → Type 0
-Judges h s p now id call (verdict.Reply r) t = Leads t s (output.Reply id r ∷ []) []
-Judges h s p now id call verdict.NewPoll t =
+-- changes are to be made only where there is a next counter, whatever they lead to
+abbrev pub CanBeMade : Server → Verdict → Type 0
+CanBeMade s (verdict.Reply r) = Unit {0}
+CanBeMade s verdict.NewPoll = Unit {0}
+CanBeMade s (verdict.Commit answer changes) = s.version.counter < MAX_COUNTER
+
+-- the step of a server of this progress, given the verdict on its call, which leads to this image
+abbrev pub Judges : Host → Server → Progress → (now id : ℕ) → (call image : List ℕ) → Verdict → Stepped → Type 0
+Judges h s p now id call image (verdict.Reply r) t = Leads t s (output.Reply id r ∷ []) []
+Judges h s p now id call image verdict.NewPoll t =
     Leads t (record s { phase = phase_record s.version (progress.Poll now) })
     (output.Reply id (no_quorum (alone h) s now phases.Poll applied.No) ∷ []) []
-Judges h s p now id call (verdict.Commit answer image changes) t =
-    IsWritten s.image image changes × (s.version.counter < MAX_COUNTER)
+Judges h s p now id call image (verdict.Commit answer changes) t =
+    IsWritten s.image image changes
     × Leads t (committed s p image) (output.Announce (next_version s.version) ∷ output.Reply id (reply.Ok answer) ∷ [])
     (own_commit (next_version s.version) changes image (record { moment = now; call = call }) ∷ [])

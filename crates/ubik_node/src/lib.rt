@@ -5,17 +5,22 @@
 #![tactic(auto)]
 
 mod database;
+mod evaluations;
+mod held_images;
 mod nodes;
 mod outputs;
 mod progress;
 mod recovering;
 mod serving;
 mod state;
+mod steady_disks;
+mod store_images;
 mod verdicts;
 
 pub use cell_model::{NodeEvent, Output};
 pub use nodes::{Node, StepEnd};
 pub use outputs::Outputs;
+pub use steady_disks::SteadyDisk;
 pub use ubik_calls::{Body, DebugIs, Packet, Reply};
 pub use ubik_store::StoreFault;
 

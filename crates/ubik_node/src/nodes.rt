@@ -1,5 +1,5 @@
 //! A server of a cell, one step at a time.
-ghost use Rattle.std.specs.Prelude.{◌≡◌, ◌≢◌, ◌↔◌, IsTrue, ◌+◌, ◌*◌, ◌<◌, ◌≤◌, ℕ, [], ◌∷◌, length, IfOk, IfErr, IfSome, IsErrOf, IsSome, OnOk, OnErr, MatchResult, None, Some, true, false};
+ghost use Rattle.std.specs.Prelude.{◌≡◌, ◌≢◌, ◌↔◌, IsTrue, ◌+◌, ◌*◌, ◌<◌, ◌≤◌, ℕ, List, [], ◌∷◌, length, IfOk, IfErr, IfSome, IsErrOf, IsSome, OnOk, OnErr, MatchResult, None, Some, true, false};
 ghost use Rattle.ubik_types.specs.declared.hosts.Host.{Host};
 ghost use Rattle.ubik_types.specs.Moment.{IsMoment};
 ghost use Rattle.disk_base.specs.Crash.{IsSettled};
@@ -12,21 +12,24 @@ ghost use Rattle.cell_model.specs.declared.events.NodeEvent.TheVariants as event
 ghost use Rattle.cell_model.specs.declared.events.Output.TheVariants as outputs;
 ghost use Rattle.ubik_node.specs.Built.{IsBuilt, TakesNoMemory};
 
-use crate::database::{commit_all, read_image};
+use crate::database::commit_all;
+use crate::evaluations::evaluate;
+use crate::held_images::HeldImage;
 use crate::outputs::Outputs;
 use crate::progress::Progress;
 use crate::recovering::{Plan, recovery_plan};
 use crate::serving::{Turn, reply_of, turn_of};
 use crate::state::State;
+use crate::steady_disks::SteadyDisk;
 use crate::verdicts::{Verdict, verdict_of};
 use cell_model::{NodeEvent, Output};
-use db_image::Service;
-use disk_base::{Disk, Fill, Refused, StopDisk};
+use db_image::DraftService;
+use disk_base::{Fill, Refused, StopDisk};
 use std::alloc::Global;
 use std::marker::PhantomData;
 use ubik_calls::{DebugIs, Reply};
 use ubik_store::{Store, StoreFault};
-use ubik_types::{Bytes, Cell, Changes, Host, MAX_COUNTER, NoMemory, Phase, Version};
+use ubik_types::{Bytes, Cell, Changes, Host, MAX_COUNTER, Phase, Version};
 use ubik_votes::Votes;
 
 /// How a step ended.
@@ -42,7 +45,7 @@ pub enum StepEnd {
 }
 
 /// A server that is up, over the store of its disk, and the database that it serves.
-pub struct Node<D: Disk, V: Service> {
+pub struct Node<D: SteadyDisk, V: DraftService> {
     alloc: Global,
     store: Store<D>,
     state: State,
@@ -52,7 +55,7 @@ pub struct Node<D: Disk, V: Service> {
 }
 
 // Derived, it would be spelled out for each field wherever a caller lets a server go, and proved there.
-impl<D: Disk + Drop, V: Service> Drop for Node<D, V> {
+impl<D: SteadyDisk + Drop, V: DraftService> Drop for Node<D, V> {
     fn drop(self) {
         let Self {
             alloc: _,
@@ -65,23 +68,22 @@ impl<D: Disk + Drop, V: Service> Drop for Node<D, V> {
     }
 }
 
-impl<D: Disk, V: Service> Node<D, V> {
+impl<D: SteadyDisk, V: DraftService> Node<D, V> {
     ghost use Rattle.ubik_node.specs.Debug.{debug_of, host_or_none};
     ghost use Rattle.ubik_types.specs.Phase.{phase_of};
     ghost use Rattle.ubik_types.specs.Lease.{lease_end};
     ghost use Rattle.ubik_store.specs.Opening.{IsOpening, OpensIn, RefusesFiles};
     ghost use Rattle.cell_model.specs.Asks.{asked};
-    ghost use Rattle.cell_model.specs.Durable.{Durable, Transaction};
+    ghost use Rattle.cell_model.specs.Durable.{Durable, Made, Transaction};
     ghost use Rattle.cell_model.specs.Writes.{write_turn, next_version, own_commit};
     ghost use Rattle.ubik_node.specs.Disk.{FailsIn, Serves, StandsAs};
-    ghost use Rattle.ubik_node.specs.Verdict.{Judges, IsWritten, committed};
+    ghost use Rattle.ubik_node.specs.Verdict.{IsWritten, committed};
     ghost use Rattle.ubik_node.specs.Serving.{Answers, Reads, Writes};
     ghost use Rattle.ubik_node.specs.Progress.{alone, IsServing};
-    ghost use Rattle.ubik_node.specs.Node.{Calls, CallsSo, IsStored, IsStoredBut, Steps, durable_in, last_after, node_of, own_member, up_server};
+    ghost use Rattle.ubik_node.specs.Node.{Calls, CallsSo, IsMeantIn, IsStored, IsStoredBut, Needs, Steps, durable_in, last_after, node_of, own_member, up_server};
 
     /// Opens a server over its disk, on which nothing is pending, at a moment in seconds: the server at a place of the cell. An
-    /// empty disk is an empty database of version 0.0. A refusal hands the disk back: that of the store, as the store left it, or for want
-    /// of memory for the image, the files at rest.
+    /// empty disk is an empty database of version 0.0. A refusal is that of the store, and hands the disk back as the store left it.
     pub fn open(
         alloc: Global,
         cell: Cell,
@@ -108,19 +110,12 @@ impl<D: Disk, V: Service> Node<D, V> {
             (λ refused. IsOpening D.Disk disk refused.disk (refused.why ≡ StoreFault.DiskFault)) }
     {
         let servers = cell.len();
-        let mut store = Store::open(alloc, disk)?;
-        let image = match read_image(alloc, &mut store) {
-            Ok(image) => image,
-            Err(why) => {
-                let disk = store.close();
-                return Err(Refused { disk, why });
-            }
-        };
+        let store = Store::open(alloc, disk)?;
         let state = State {
             cell,
             me,
             version: store.version(),
-            image,
+            image: HeldImage::of(&store),
             votes: Votes::start(servers, me, now),
             beacon: None,
             progress: Progress::None,
@@ -136,7 +131,7 @@ impl<D: Disk, V: Service> Node<D, V> {
     }
 
     /// One step: what an event makes of the server at a moment in seconds, not below the last one. An id of a
-    /// call is new since the opening. `out` is empty before it, and has what the step put out after it. Only
+    /// call is new since the opening. A call is made as the database has it where the image stands for a state. `out` is empty before it, and has what the step put out after it. Only
     /// a recovery turn can end for want of memory: a call that finds none is answered so. At each moment of the step a
     /// crash leaves the state after the first so many of its durable calls.
     pub fn step(&mut self, now: u32, event: NodeEvent, out: &mut Outputs) -> StepEnd
@@ -145,7 +140,8 @@ impl<D: Disk, V: Service> Node<D, V> {
         requires built { IsBuilt (own_member self.old) event }
         requires empty { out.old ≡ [] }
         requires stored { IsStored D.Disk self.old }
-        ensures step { Steps D.Disk V.database (own_member self.old) result event now (node_of self.old) (node_of self.new) out.new
+        ensures step { Needs V.standing (node_of self.old) event (D.files self.old.store.disk)
+            → Steps D.Disk V.standing.database (own_member self.old) result event now (node_of self.old) (node_of self.new) out.new
             self.old.store.disk self.new.store.disk }
         ensures member { own_member self.new ≡ own_member self.old }
         ensures stored { IsStored D.Disk self.new }
@@ -209,7 +205,7 @@ impl<D: Disk, V: Service> Node<D, V> {
     pub fn len(&self) -> u32
         ensures { result ≡ length (up_server self.now).image }
     {
-        self.state.image.as_slice().len() as u32
+        self.state.image.len()
     }
 
     /// Whether the server's disk has failed.
@@ -256,7 +252,8 @@ impl<D: Disk, V: Service> Node<D, V> {
         requires built { IsBuilt (own_member self.old) event.now }
         requires empty { out.old ≡ [] }
         requires stored { IsStored D.Disk self.old }
-        ensures step { Steps D.Disk V.database (own_member self.old) result event.now now (node_of self.old) (node_of self.new) out.new
+        ensures step { Needs V.standing (node_of self.old) event.now (D.files self.old.store.disk)
+            → Steps D.Disk V.standing.database (own_member self.old) result event.now now (node_of self.old) (node_of self.new) out.new
             self.old.store.disk self.new.store.disk }
         ensures member { own_member self.new ≡ own_member self.old }
         ensures stored { IsStored D.Disk self.new }
@@ -278,8 +275,14 @@ impl<D: Disk, V: Service> Node<D, V> {
             }
             NodeEvent::RecoverTurn => self.recover(now, out),
             NodeEvent::Ask { id, call } => {
+                let before = self.state.progress;
                 self.state.lapse(now);
-                self.ask(now, *id, call.as_slice(), out)
+                let end = self.ask(now, *id, call.as_slice(), out);
+                if end == StepEnd::Halted {
+                    // A halted server tells what it was before the step.
+                    self.state.progress = before;
+                }
+                end
             }
         }
     }
@@ -291,7 +294,7 @@ impl<D: Disk, V: Service> Node<D, V> {
         requires alone { cell_size (own_member self.old) ≡ 1 }
         requires empty { out.old ≡ [] }
         requires stored { IsStored D.Disk self.old }
-        ensures step { Steps D.Disk V.database (own_member self.old) result events.RecoverTurn now (node_of self.old) (node_of self.new) out.new
+        ensures step { Steps D.Disk V.standing.database (own_member self.old) result events.RecoverTurn now (node_of self.old) (node_of self.new) out.new
             self.old.store.disk self.new.store.disk }
         ensures member { own_member self.new ≡ own_member self.old }
         ensures stored { IsStored D.Disk self.new }
@@ -331,13 +334,14 @@ impl<D: Disk, V: Service> Node<D, V> {
         requires not_halted { self.old.halted ≡ false }
         requires empty { out.old ≡ [] }
         requires stored { IsStored D.Disk self.old }
-        ensures done { result ≡ StepEnd.Done → Answers V.database (own_member self.old) (up_server self.old) now id call.now
+        ensures done { result ≡ StepEnd.Done → IsMeantIn V.standing (D.files self.old.store.disk) self.old.state.image
+            → Answers V.standing.database (own_member self.old) (up_server self.old) now id call.now
             (node_of self.new) out.new (Serves D.Disk (durable_in (up_server self.old)) self.old.store.disk self.new.store.disk) }
-        ensures halted { result ≡ StepEnd.Halted → (node_of self.new ≡ model.Halted (model.halted_from (up_server self.old)))
+        ensures halted { result ≡ StepEnd.Halted → (self.new.halted ≡ true) × (self.new.state ≡ self.old.state)
             × (out.new ≡ outputs.Reply id Reply.DiskFault ∷ []) }
-        ensures left { result ≡ StepEnd.Halted → FailsIn D.Disk (durable_in (up_server self.old)) self.old.store.disk self.new.store.disk
-            (asked V.database (own_member self.old) (up_server self.old) now id call.now false).calls }
-        ensures serving { result ≡ StepEnd.Halted → IsServing self.old.state.progress }
+        ensures left { result ≡ StepEnd.Halted → IsMeantIn V.standing (D.files self.old.store.disk) self.old.state.image
+            → FailsIn D.Disk (durable_in (up_server self.old)) self.old.store.disk self.new.store.disk
+            (asked V.standing.database (own_member self.old) (up_server self.old) now id call.now false).calls }
         ensures memory { result ≢ StepEnd.NoMemory }
         ensures member { own_member self.new ≡ own_member self.old }
         ensures stored { IsStored D.Disk self.new }
@@ -350,21 +354,34 @@ impl<D: Disk, V: Service> Node<D, V> {
         };
         match turn_of(&self.state, now, writes) {
             Turn::Refuse(reply) => put_reply(out, id, reply),
-            Turn::Read => {
-                let reply = self.read(now, call);
-                put_reply(out, id, reply)
-            }
+            Turn::Read => self.read(now, id, call, out),
             Turn::Write => self.write(now, id, call, out),
         }
     }
 
-    /// The reply to a call that reads the own image.
-    fn read(&self, now: u32, call: &[u8]) -> Reply
-        ensures { Reads V.database (up_server self.now) now call.now result }
+    /// Replies to a call that reads the own image.
+    fn read(&mut self, now: u32, id: u32, call: &[u8], out: &mut Outputs) -> StepEnd
+        requires not_halted { self.old.halted ≡ false }
+        requires empty { out.old ≡ [] }
+        requires stored { IsStored D.Disk self.old }
+        ensures done { result ≡ StepEnd.Done → (node_of self.new ≡ model.Up (up_server self.old))
+            × Serves D.Disk (durable_in (up_server self.old)) self.old.store.disk self.new.store.disk [] }
+        ensures replied { result ≡ StepEnd.Done → IsMeantIn V.standing (D.files self.old.store.disk) self.old.state.image
+            → (reply : Reply) × (out.new ≡ outputs.Reply id reply ∷ []) × Reads V.standing.database (up_server self.old) now call.now reply }
+        ensures halted { result ≡ StepEnd.Halted → (self.new.halted ≡ true) × (self.new.state ≡ self.old.state)
+            × (out.new ≡ outputs.Reply id Reply.DiskFault ∷ []) }
+        ensures left { result ≡ StepEnd.Halted → (calls : List Made) → FailsIn D.Disk (durable_in (up_server self.old))
+            self.old.store.disk self.new.store.disk calls }
+        ensures memory { result ≢ StepEnd.NoMemory }
+        ensures member { own_member self.new ≡ own_member self.old }
+        ensures stored { IsStored D.Disk self.new }
+        ensures told { result ≢ StepEnd.Halted → IsSome (D.files self.old.store.disk) → IsSome (D.files self.new.store.disk) }
+        ensures calls { Calls D.Disk self.old self.new result }
+        ensures last { self.new.last ≡ self.old.last }
     {
-        match V::call_image(self.alloc, self.state.image.as_slice(), now, call) {
-            Ok((reply, _)) => reply_of(reply),
-            Err(NoMemory) => Reply::NoMemory,
+        match evaluate::<D, V>(self.alloc, &mut self.store, now, call) {
+            Ok(made) => put_reply(out, id, reply_of(made.reply)),
+            Err(fault) => self.end_short(id, fault, out),
         }
     }
 
@@ -374,12 +391,14 @@ impl<D: Disk, V: Service> Node<D, V> {
         requires empty { out.old ≡ [] }
         requires serving { IsServing self.old.state.progress }
         requires stored { IsStored D.Disk self.old }
-        ensures done { result ≡ StepEnd.Done → (h : Host) → Writes V.database h (up_server self.old) now id call.now
+        ensures done { result ≡ StepEnd.Done → IsMeantIn V.standing (D.files self.old.store.disk) self.old.state.image
+            → (h : Host) → Writes V.standing.database h (up_server self.old) now id call.now
             (node_of self.new) out.new (Serves D.Disk (durable_in (up_server self.old)) self.old.store.disk self.new.store.disk) }
-        ensures halted { result ≡ StepEnd.Halted → (node_of self.new ≡ model.Halted (model.halted_from (up_server self.old)))
+        ensures halted { result ≡ StepEnd.Halted → (self.new.halted ≡ true) × (self.new.state ≡ self.old.state)
             × (out.new ≡ outputs.Reply id Reply.DiskFault ∷ []) }
-        ensures left { result ≡ StepEnd.Halted → (h : Host) → FailsIn D.Disk (durable_in (up_server self.old)) self.old.store.disk self.new.store.disk
-            (write_turn V.database (alone h) (up_server self.old) now id call.now false).calls }
+        ensures left { result ≡ StepEnd.Halted → IsMeantIn V.standing (D.files self.old.store.disk) self.old.state.image
+            → (h : Host) → FailsIn D.Disk (durable_in (up_server self.old)) self.old.store.disk self.new.store.disk
+            (write_turn V.standing.database (alone h) (up_server self.old) now id call.now false).calls }
         ensures memory { result ≢ StepEnd.NoMemory }
         ensures member { own_member self.new ≡ own_member self.old }
         ensures stored { IsStored D.Disk self.new }
@@ -387,68 +406,66 @@ impl<D: Disk, V: Service> Node<D, V> {
         ensures calls { Calls D.Disk self.old self.new result }
         ensures last { self.new.last ≡ self.old.last }
     {
-        let Ok(verdict) = self.evaluate(now, call) else {
-            return put_reply(out, id, Reply::NoMemory);
+        let made = match evaluate::<D, V>(self.alloc, &mut self.store, now, call) {
+            Ok(made) => made,
+            Err(fault) => return self.end_short(id, fault, out),
         };
-        match verdict {
+        match verdict_of::<V>(&self.state, made) {
             Verdict::Reply(reply) => put_reply(out, id, reply),
             Verdict::NewPoll => {
                 let reply = self.state.no_quorum(now, Phase::Poll);
                 self.state.progress = Progress::Poll { poll: now };
                 put_reply(out, id, reply)
             }
-            Verdict::Commit {
-                answer,
-                image,
-                changes,
-            } => match self.commit(id, answer, image, &changes, out) {
+            Verdict::Commit { answer, changes } => match self.commit(id, answer, &changes, out) {
                 Ok(()) => StepEnd::Done,
-                Err(fault) => match fault {
-                    StoreFault::DiskFault => {
-                        self.halted = true;
-                        let _ = put_reply(out, id, Reply::DiskFault);
-                        StepEnd::Halted
-                    }
-                    _ => put_reply(out, id, Reply::NoMemory),
-                },
+                Err(fault) => self.end_short(id, fault, out),
             },
         }
     }
 
-    /// What the server does about a writing call, which it evaluates on its image.
-    fn evaluate(&self, now: u32, call: &[u8]) -> Result<Verdict, NoMemory>
-        requires { IsServing self.now.state.progress }
-        ensures { IfOk result (λ verdict. (h : Host) (id : ℕ) →
-            Judges h (up_server self.now) self.now.state.progress now id call.now verdict
-            (write_turn V.database (alone h) (up_server self.now) now id call.now false)) }
+    /// Ends a call that was not made: a fault of the disk halts the server, and any other one is want of memory.
+    fn end_short(&mut self, id: u32, fault: StoreFault, out: &mut Outputs) -> StepEnd
+        requires empty { out.old ≡ [] }
+        ensures halted { fault ≡ StoreFault.DiskFault → (result ≡ StepEnd.Halted) × (self.new.halted ≡ true)
+            × (out.new ≡ outputs.Reply id Reply.DiskFault ∷ []) }
+        ensures no_memory { fault ≢ StoreFault.DiskFault → (result ≡ StepEnd.Done) × (self.new.halted ≡ self.old.halted)
+            × (out.new ≡ outputs.Reply id Reply.NoMemory ∷ []) }
+        ensures same { (self.new.state ≡ self.old.state) × (self.new.store ≡ self.old.store) × (self.new.last ≡ self.old.last) }
     {
-        V::never_shrinks();
-        let (reply, image) = V::call_image(self.alloc, self.state.image.as_slice(), now, call)?;
-        verdict_of::<V>(self.alloc, &self.state, reply, image)
+        match fault {
+            StoreFault::DiskFault => {
+                self.halted = true;
+                let _ = put_reply(out, id, Reply::DiskFault);
+                StepEnd::Halted
+            }
+            _ => put_reply(out, id, Reply::NoMemory),
+        }
     }
 
-    /// Commits changes, which lead to an image, under the next counter, announces it, and answers the call.
+    /// Commits changes under the next counter, announces it, and answers the call.
     fn commit(
         &mut self,
         id: u32,
         answer: Bytes,
-        image: Bytes,
         changes: &Changes,
         out: &mut Outputs,
     ) -> Result<(), StoreFault>
         requires not_halted { self.old.halted ≡ false }
         requires empty { out.old ≡ [] }
-        requires written { IsWritten self.old.state.image image changes.now }
         requires counter { self.old.state.version.counter < MAX_COUNTER }
         requires stored { IsStored D.Disk self.old }
-        ensures made { OnOk result (node_of self.new ≡ model.Up (committed (up_server self.old) self.old.state.progress image)) }
+        ensures made { OnOk result (IsSome (D.files self.old.store.disk) → (image : List ℕ) → IsWritten self.old.state.image image changes.now
+            → node_of self.new ≡ model.Up (committed (up_server self.old) self.old.state.progress image)) }
         ensures put { OnOk result (out.new ≡ outputs.Announce (next_version self.old.state.version) ∷ outputs.Reply id (Reply.Ok answer) ∷ []) }
-        ensures served { OnOk result ((t : Transaction) → Serves D.Disk (durable_in (up_server self.old)) self.old.store.disk self.new.store.disk
+        ensures served { OnOk result ((t : Transaction) (image : List ℕ) → IsWritten self.old.state.image image changes.now
+            → Serves D.Disk (durable_in (up_server self.old)) self.old.store.disk self.new.store.disk
             (own_commit (next_version self.old.state.version) changes.now image t ∷ [])) }
         ensures stored { ¬ IsErrOf result StoreFault.DiskFault → IsStored D.Disk self.new }
         ensures failed { IsErrOf result StoreFault.DiskFault → IsStoredBut D.Disk self.new }
-        ensures left { IsErrOf result StoreFault.DiskFault → (t : Transaction) → FailsIn D.Disk (durable_in (up_server self.old))
-            self.old.store.disk self.new.store.disk (own_commit (next_version self.old.state.version) changes.now image t ∷ []) }
+        ensures left { IsErrOf result StoreFault.DiskFault → (t : Transaction) (image : List ℕ) → IsWritten self.old.state.image image changes.now
+            → FailsIn D.Disk (durable_in (up_server self.old)) self.old.store.disk self.new.store.disk
+            (own_commit (next_version self.old.state.version) changes.now image t ∷ []) }
         ensures member { own_member self.new ≡ own_member self.old }
         ensures same { OnErr result ((self.new.state ≡ self.old.state) × (self.new.halted ≡ self.old.halted) × (out.new ≡ [])) }
         ensures no_memory { IfErr result (λ fault. fault ≢ StoreFault.DiskFault → OnlyReads D.Disk self.old.store.disk self.new.store.disk ⊥) }
@@ -462,7 +479,7 @@ impl<D: Disk, V: Service> Node<D, V> {
         };
         commit_all(&mut self.store, changes.as_slice(), next)?;
         self.state.version = next;
-        self.state.image = image;
+        self.state.image = HeldImage::of(&self.store);
         out.put(Output::Announce { version: next });
         let reply = Reply::Ok(answer);
         out.put(Output::Reply { id, reply });
@@ -470,7 +487,7 @@ impl<D: Disk, V: Service> Node<D, V> {
     }
 }
 
-impl<D: StopDisk, V: Service> Node<D, V> {
+impl<D: SteadyDisk + StopDisk, V: DraftService> Node<D, V> {
     ghost use Rattle.ubik_node.specs.Disk.{IsArmed, IsRevived};
     ghost use Rattle.ubik_node.specs.Node.{IsStored};
 

@@ -9,13 +9,14 @@ ghost use Rattle.cell_model.specs.NodeRule.{received_packet, place_of};
 ghost use Rattle.cell_model.specs.Step.{outputs_of, packet_to, sends_to_all, quiet};
 ghost use Rattle.cell_model.specs.Voting.{own_beacon, beacon_turn, beacon_kept};
 ghost use Rattle.ubik_node.specs.Built.{IsOfVotes};
-ghost use Rattle.ubik_node.specs.Progress.{IsServing, is_held, beacon_of};
+ghost use Rattle.ubik_node.specs.Progress.{IsServing, is_held, beacon_of, phase_record};
 
+use crate::held_images::HeldImage;
 use crate::outputs::Outputs;
 use crate::progress::{Progress, ReadyBeacon};
 use cell_model::Output;
 use ubik_calls::{Body, Packet, Reply};
-use ubik_types::{Applied, Bytes, Cell, Host, Phase, Version};
+use ubik_types::{Applied, Cell, Host, Phase, Version};
 use ubik_votes::Votes;
 
 /// A server that is up: its cell and its place in it, its version and image, its votes, the ready beacon that
@@ -25,7 +26,7 @@ pub struct State {
     pub cell: Cell,
     pub me: usize,
     pub version: Version,
-    pub image: Bytes,
+    pub image: HeldImage,
     pub votes: Votes,
     pub beacon: Option<ReadyBeacon>,
     pub progress: Progress,
@@ -48,6 +49,7 @@ impl State {
         ensures rests { lapsed (member_of self.old) (server_of self.old) now ≡ quiet (server_of self.new) }
         ensures kept { Keeps self.old self.new }
         ensures serving { IsServing self.new.progress → self.new ≡ self.old }
+        ensures only { server_of self.old ≡ record (server_of self.new) { phase = phase_record self.old.version self.old.progress } }
     {
         if !self.votes.in_lease(now) {
             self.progress = Progress::None;

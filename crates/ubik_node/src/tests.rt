@@ -1,13 +1,15 @@
 //! A server over a disk in memory, with a small database: alone in its cell, and one of three.
-ghost use Rattle.std.specs.Prelude.{◌≡◌, ◌<◌, IfOk, MatchResult, length};
+ghost use Rattle.std.specs.Prelude.{◌≡◌, ◌≢◌, ◌<◌, ◌≤◌, IfOk, IfErr, IfSome, IsErrOf, MatchResult, length};
 ghost use Rattle.disk_base.specs.Crash.{IsSettled};
 ghost use Rattle.cell_model.specs.Step.{cell_size};
-ghost use Rattle.ubik_node.specs.Appending.{appending};
+ghost use Rattle.db_image.specs.Ends.{EndsBy, IsShort};
+ghost use Rattle.db_image.specs.Images.{IsOfImage, OnlyReads};
+ghost use Rattle.ubik_node.specs.Appending.{appended};
 ghost use Rattle.ubik_node.specs.Built.{IsBuilt, IsOfVotes};
 ghost use Rattle.ubik_node.specs.Node.{IsStored, own_member};
 
 use super::*;
-use db_image::{CallReply, Layout, Service};
+use db_image::{CallEnd, Draft, DraftService, ImageRead, RecordFault};
 use disk_base::{Disk, DiskEnd, FileNo, MemDisk, Refused, RoomEnd, StopDisk};
 use std::alloc::{AllocError, Global};
 use std::process::Abort;
@@ -18,30 +20,66 @@ use ubik_types::{Applied, Bytes, Cell, Host, NoMemory, Phase, Version, bytes_of}
 #[derive(Drop)]
 pub(crate) struct Appending;
 
-impl Service for Appending {
-    ghost database = { appending };
-
-    fn layout() -> Layout {
-        Layout { head: 4, block: 8 }
+/// Appends a call to an image, and answers what it was.
+fn append<I: ImageRead>(
+    alloc: Global,
+    d: &mut Draft<I>,
+    call: &[u8],
+) -> Result<CallEnd, RecordFault>
+    requires { d.old.len ≤ 16777216 }
+    ensures meant { IfOk result (λ end. IfSome d.old.bytes (λ image. EndsBy (appended image call.now) end d.new.bytes)) }
+    ensures short { IfOk result IsShort }
+    ensures no_fault { IfOk result (λ end. (end ≢ CallEnd.DiskFault) × (end ≢ CallEnd.NoMemory)) }
+    ensures longer { d.old.len ≤ d.new.len }
+    ensures layout { d.new.layout ≡ d.old.layout }
+    ensures fault { IfErr result IsOfImage }
+    ensures reads { OnlyReads I.ImageRead d.old.image d.new.image (IsErrOf result RecordFault.DiskFault) }
+{
+    if call.len() > 4096 {
+        return Ok(CallEnd::Malformed);
     }
+    let len = d.len();
+    if len > 1_048_576 {
+        return Ok(CallEnd::Rule(7));
+    }
+    let Ok(mut answer) = vec![in alloc; 0u8; len as usize] else {
+        return Err(RecordFault::NoMemory);
+    };
+    d.read(0, &mut answer).done()?;
+    d.put(len, call)?;
+    Ok(CallEnd::Done(Bytes::new(answer)))
+}
+
+impl DraftService for Appending {
+    ghost use Rattle.std.specs.Prelude.{refl};
+    ghost use Rattle.ubik_node.specs.Appending.{appending, appending_grows, appending_is_meant};
+
+    ghost standing = { appending };
+
+    ghost empty_is_first = { refl };
+
+    ghost is_meant = { appending_is_meant };
+
+    ghost never_shrinks = { appending_grows };
 
     fn writes(call: &[u8]) -> Option<bool> {
-        Some(!call.is_empty())
+        if call.len() > 4096 {
+            None
+        } else {
+            Some(!call.is_empty())
+        }
     }
 
-    fn call_image(
-        alloc: Global,
-        image: &[u8],
-        _now: u32,
-        call: &[u8],
-    ) -> Result<(CallReply, Option<Bytes>), NoMemory> {
-        let answer = bytes_of(alloc, image)?;
-        let mut after = image.to_vec(alloc)?;
-        after.extend_from_slice(call)?;
-        Ok((CallReply::Done(answer), Some(Bytes::new(after))))
+    fn call<I: ImageRead>(alloc: Global, image: &mut Draft<I>, _now: u32, call: &[u8]) -> CallEnd {
+        match append(alloc, image, call) {
+            Ok(end) => end,
+            Err(fault) => fault.into(),
+        }
     }
 
-    fn never_shrinks() {}
+    fn draft<I: ImageRead>(alloc: Global, image: I) -> Draft<I> {
+        Draft::over(alloc, image, 4, 8)
+    }
 }
 
 pub(crate) type Server<D> = Node<D, Appending>;
@@ -65,7 +103,7 @@ fn write_database<D: Disk>(rt: &impl Abort, disk: &mut D, bytes: &[u8]) {
 }
 
 /// Opens the server of a cell of one at 1000.
-fn open<D: Disk + Drop>(
+fn open<D: SteadyDisk + Drop>(
     rt: &impl Abort,
     alloc: Global,
     disk: D,
@@ -80,7 +118,7 @@ fn open<D: Disk + Drop>(
 }
 
 /// Opens it over a disk on which nothing is amiss.
-pub(crate) fn opened<D: Disk + Drop>(
+pub(crate) fn opened<D: SteadyDisk + Drop>(
     rt: &impl Abort,
     alloc: Global,
     disk: D,
@@ -96,7 +134,7 @@ pub(crate) fn opened<D: Disk + Drop>(
 }
 
 /// Opens a server of a cell of three at 1000, over a disk without a database: hosts 1, 2 and 3.
-fn one_of_three<D: Disk + Drop>(
+fn one_of_three<D: SteadyDisk + Drop>(
     rt: &impl Abort,
     alloc: Global,
     disk: D,
@@ -114,7 +152,7 @@ fn one_of_three<D: Disk + Drop>(
 }
 
 /// One step, which ends so, and what it put out.
-pub(crate) fn step<D: Disk>(
+pub(crate) fn step<D: SteadyDisk>(
     rt: &impl Abort,
     alloc: Global,
     node: &mut Server<D>,
@@ -134,7 +172,7 @@ pub(crate) fn step<D: Disk>(
 }
 
 /// A beacon turn and a recovery turn of a server that is alone, and what they announced.
-fn turns<D: Disk>(
+fn turns<D: SteadyDisk>(
     rt: &impl Abort,
     alloc: Global,
     node: &mut Server<D>,
@@ -164,7 +202,7 @@ struct Heard {
 }
 
 /// Whether a beacon that a server hears gets its vote: it puts out one vote, for the beacon's start.
-fn votes<D: Disk>(
+fn votes<D: SteadyDisk>(
     rt: &impl Abort,
     alloc: Global,
     node: &mut Server<D>,
@@ -212,7 +250,7 @@ fn votes<D: Disk>(
 }
 
 /// A vote for the beacon of a start comes to host 1.
-fn voted<D: Disk>(
+fn voted<D: SteadyDisk>(
     rt: &impl Abort,
     alloc: Global,
     node: &mut Server<D>,
@@ -239,7 +277,7 @@ fn voted<D: Disk>(
 }
 
 /// The hosts to which a beacon turn of host 1 sends its beacon, which claims so.
-fn beacons<D: Disk>(
+fn beacons<D: SteadyDisk>(
     rt: &impl Abort,
     alloc: Global,
     node: &mut Server<D>,
@@ -275,7 +313,7 @@ fn beacons<D: Disk>(
 }
 
 /// Asks, in a step that ends so.
-pub(crate) fn ask<D: Disk>(
+pub(crate) fn ask<D: SteadyDisk>(
     rt: &impl Abort,
     alloc: Global,
     node: &mut Server<D>,
@@ -390,7 +428,7 @@ fn no_beacon_is_due_at_1075(rt: HostRuntime) -> Result<(), Fail> {
 }
 
 /// The turns of a server that is alone, and whose epoch is not past: it relabels later.
-fn waits<D: Disk>(
+fn waits<D: SteadyDisk>(
     rt: &impl Abort,
     alloc: Global,
     node: &mut Server<D>,
@@ -452,7 +490,7 @@ fn a_file_without_a_label(rt: HostRuntime) -> Result<(), Fail> {
 }
 
 /// A writing call at a server whose disk fails, or has failed.
-fn halts<D: Disk>(rt: &impl Abort, alloc: Global, node: &mut Server<D>, id: u32) -> Result<(), Fail>
+fn halts<D: SteadyDisk>(rt: &impl Abort, alloc: Global, node: &mut Server<D>, id: u32) -> Result<(), Fail>
     requires stored { IsStored D.Disk node.old }
     ensures stored { IsStored D.Disk node.new }
 {
@@ -570,7 +608,7 @@ fn no_second_yes_within_75_seconds(rt: HostRuntime) -> Result<(), Fail> {
 }
 
 /// A call that the server names the sync site for, which it heard at 1076.
-fn sends_on<D: Disk>(
+fn sends_on<D: SteadyDisk>(
     rt: &impl Abort,
     alloc: Global,
     node: &mut Server<D>,

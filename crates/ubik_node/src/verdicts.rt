@@ -1,17 +1,18 @@
 //! What becomes of a writing call at a server that is alone in its cell, once the database has evaluated it.
-ghost use Rattle.std.specs.Prelude.{ℕ, List, ◌<◌, ◌≤◌, length, IfOk, IfSome, unwrap_or};
+ghost use Rattle.std.specs.Prelude.{◌≡◌, ℕ, List, ◌<◌, ◌≤◌, length};
 ghost use Rattle.ubik_types.specs.declared.hosts.Host.{Host};
+ghost use Rattle.db_image.specs.Database.{changes_of};
 ghost use Rattle.cell_model.specs.Writes.{turned, written};
 ghost use Rattle.ubik_node.specs.Progress.{alone, IsServing};
 ghost use Rattle.ubik_node.specs.State.{server_of};
-ghost use Rattle.ubik_node.specs.Verdict.{Judges};
+ghost use Rattle.ubik_node.specs.Verdict.{CanBeMade, Judges};
 
+use crate::evaluations::Evaluation;
 use crate::serving::reply_of;
 use crate::state::State;
-use db_image::{CallReply, Service, changes_between, too_large};
-use std::alloc::Global;
+use db_image::{CallReply, DraftService, too_large};
 use ubik_calls::Reply;
-use ubik_types::{Bytes, Changes, MAX_COUNTER, NoMemory};
+use ubik_types::{Bytes, Changes, MAX_COUNTER};
 
 /// What a sync site does about a writing call.
 #[derive(Drop)]
@@ -20,66 +21,55 @@ pub enum Verdict {
     Reply(Reply),
     /// The counter is at its end: a new poll begins, and the call is refused.
     NewPoll,
-    /// The changes, which lead to the image, are committed under the next counter, and then the call is answered.
-    Commit {
-        answer: Bytes,
-        image: Bytes,
-        changes: Changes,
-    },
+    /// The changes are committed under the next counter, and then the call is answered.
+    Commit { answer: Bytes, changes: Changes },
 }
 
-/// The verdict on what the database made of a call: its reply, and the image after it where that is another one.
-pub fn verdict_of<V: Service>(
-    alloc: Global,
-    state: &State,
-    reply: CallReply,
-    image: Option<Bytes>,
-) -> Result<Verdict, NoMemory>
+/// The verdict on what the database made of a call over the image.
+pub fn verdict_of<V: DraftService>(state: &State, made: Evaluation) -> Verdict
     requires serving { IsServing state.now.progress }
-    requires grows { IfSome image (λ image. length state.now.image ≤ length image) }
-    ensures { IfOk result (λ verdict. (h : Host) (now id : ℕ) (call : List ℕ) →
-        Judges h (server_of state.now) state.now.progress now id call verdict
-        (turned V.database (alone h) (server_of state.now) now id call (unwrap_or image state.now.image) reply)) }
+    requires len { made.len ≡ length state.now.image }
+    requires block { 0 < V.standing.database.block }
+    ensures judged { (image : List ℕ) → length state.now.image ≤ length image
+        → made.changes ≡ changes_of V.standing.database state.now.image image → (h : Host) (now id : ℕ) (call : List ℕ)
+        → Judges h (server_of state.now) state.now.progress now id call image result
+        (turned V.standing.database (alone h) (server_of state.now) now id call image made.reply) }
+    ensures can { CanBeMade (server_of state.now) result }
 {
+    let Evaluation {
+        reply,
+        changes,
+        len,
+    } = made;
     match reply {
-        CallReply::Done(answer) => match image {
-            Some(image) => verdict_of_write::<V>(alloc, state, answer, image),
-            None => Ok(Verdict::Reply(Reply::Ok(answer))),
-        },
-        refusal => Ok(Verdict::Reply(reply_of(refusal))),
+        CallReply::Done(answer) => verdict_of_write::<V>(state, len, answer, changes),
+        refusal => Verdict::Reply(reply_of(refusal)),
     }
 }
 
-/// The verdict on a call with its answer and the image after it.
-fn verdict_of_write<V: Service>(
-    alloc: Global,
+/// The verdict on a call with its answer and the changes that lead to the image after it.
+fn verdict_of_write<V: DraftService>(
     state: &State,
+    len: u32,
     answer: Bytes,
-    image: Bytes,
-) -> Result<Verdict, NoMemory>
+    changes: Changes,
+) -> Verdict
     requires serving { IsServing state.now.progress }
-    requires grows { length state.now.image ≤ length image }
-    ensures { IfOk result (λ verdict. (h : Host) (now id : ℕ) (call : List ℕ) →
-        Judges h (server_of state.now) state.now.progress now id call verdict
-        (written V.database (alone h) (server_of state.now) now id call answer image)) }
+    requires len { len ≡ length state.now.image }
+    requires block { 0 < V.standing.database.block }
+    ensures judged { (image : List ℕ) → length state.now.image ≤ length image
+        → changes ≡ changes_of V.standing.database state.now.image image → (h : Host) (now id : ℕ) (call : List ℕ)
+        → Judges h (server_of state.now) state.now.progress now id call image result
+        (written V.standing.database (alone h) (server_of state.now) now id call answer image) }
+    ensures can { CanBeMade (server_of state.now) result }
 {
-    let old = state.image.as_slice();
-    // Places in an image are numbers of 32 bits: for a longer one memory is said to be too small.
-    if image.as_slice().len() > u32::MAX as usize {
-        return Err(NoMemory);
-    }
-    let changes = changes_between(alloc, old, image.as_slice(), V::layout())?;
-    if let Some(bytes) = too_large(old.len(), &changes) {
-        Ok(Verdict::Reply(Reply::TooLarge { bytes }))
+    if let Some(bytes) = too_large(len as usize, &changes) {
+        Verdict::Reply(Reply::TooLarge { bytes })
     } else if changes.as_slice().is_empty() {
-        Ok(Verdict::Reply(Reply::Ok(answer)))
+        Verdict::Reply(Reply::Ok(answer))
     } else if state.version.counter == MAX_COUNTER {
-        Ok(Verdict::NewPoll)
+        Verdict::NewPoll
     } else {
-        Ok(Verdict::Commit {
-            answer,
-            image,
-            changes,
-        })
+        Verdict::Commit { answer, changes }
     }
 }

@@ -18,7 +18,7 @@ use vldb_records::{next_volume, remove, set_next_volume};
 const MAX_BUMP: u32 = 20;
 
 /// The greatest id of a volume.
-const MAX_VOLUME: u32 = 2_147_483_647;
+pub(crate) const MAX_VOLUME: u32 = 2_147_483_647;
 
 /// The next volume id after so many are taken, if they may be.
 fn next_after(next: u32, bump: u32) -> Option<u32>

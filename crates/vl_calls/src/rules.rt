@@ -11,3 +11,12 @@ pub const BAD_VOLUME_TYPE: u32 = 363_529;
 
 /// More volume ids are taken than a call may take, or than there are.
 pub const BAD_BUMP: u32 = 363_539;
+
+/// The entry is locked.
+pub const ENTRY_LOCKED: u32 = 363_541;
+
+/// No entry is locked for the operation.
+pub const BAD_OPERATION: u32 = 363_542;
+
+/// The mask names more than a lock has.
+pub const BAD_RELEASE: u32 = 363_543;

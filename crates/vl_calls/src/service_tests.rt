@@ -1,5 +1,8 @@
 //! Calls over an image in memory that was laid out by hand.
-use crate::{all_addresses, delete_entry, entry_by_id, entry_by_name, take_volume_ids};
+use crate::{
+    all_addresses, delete_entry, entry_by_id, entry_by_name, release_lock, set_lock,
+    take_volume_ids,
+};
 use db_image::{CallEnd, Draft, ImageRead, VecImage};
 use std::alloc::Global;
 use std::test::Fail;
@@ -138,5 +141,53 @@ fn an_entry_is_deleted(rt: HostRuntime) -> Result<(), Fail> {
         rule(&entry_by_name(rt.alloc(), &mut draft, b"root.cell")?),
         363_524
     );
+    Ok(())
+}
+
+/// That volume with a lock for a move from the second 7 on, and with one that has no moment.
+const LOCKED: &[u8] =
+    b"\0\0\0\x09root.cell\0\0\0\0\0\x10\0\0\0\0\x05\0\0\0\x06\0\0\0\0\0\0\0\0\0\0\0\x01\x0a\0\0\x01\0\0\0\x07\0\0\0\x04\0\0\0\x10\0\0\0\x07";
+
+const WITHOUT_MOMENT: &[u8] =
+    b"\0\0\0\x09root.cell\0\0\0\0\0\x10\0\0\0\0\x05\0\0\0\x06\0\0\0\0\0\0\0\0\0\0\0\x01\x0a\0\0\x01\0\0\0\x07\0\0\0\x04\0\0\0\x10\0\0\0\0";
+
+#[test]
+fn a_lock_is_set_where_none_is(rt: HostRuntime) -> Result<(), Fail> {
+    let mut draft = one_volume(rt.alloc())?;
+    for (volume_type, id, operation, number) in [
+        (4, 5, 3, 363_529),
+        (0, 6, 3, 363_542),
+        (0, 6, 0x10, 363_524),
+        (1, 6, 0x10, 0),
+        (-1, 5, 0x20, 363_541),
+    ] {
+        assert!(rt; draft.len() < 10_000);
+        let end = set_lock(rt.alloc(), &mut draft, 7, volume_type, id, operation)?;
+        assert_eq!(rt; rule(&end), number);
+    }
+    assert!(rt; draft.len() == 3132 + 192);
+    assert_eq!(rt; done(&entry_by_id(rt.alloc(), &mut draft, 0, 5)?), LOCKED);
+    Ok(())
+}
+
+#[test]
+fn a_lock_is_released_by_a_mask(rt: HostRuntime) -> Result<(), Fail> {
+    let mut draft = one_volume(rt.alloc())?;
+    assert!(rt; draft.len() < 10_000);
+    set_lock(rt.alloc(), &mut draft, 7, 0, 5, 0x10)?;
+    for (volume_type, id, mask, number, text) in [
+        (4, 5, 4, 363_529, LOCKED),
+        (0, 6, 4, 363_543, LOCKED),
+        (0, 6, 3, 363_524, LOCKED),
+        (0, 5, 0, 0, LOCKED),
+        (0, 5, 1, 0, WITHOUT_MOMENT),
+        (1, 6, 2, 0, ROOT_CELL),
+    ] {
+        assert!(rt; draft.len() < 10_000);
+        let end = release_lock(rt.alloc(), &mut draft, volume_type, id, mask)?;
+        assert_eq!(rt; rule(&end), number);
+        assert!(rt; draft.len() < 10_000);
+        assert_eq!(rt; done(&entry_by_id(rt.alloc(), &mut draft, 0, 5)?), text);
+    }
     Ok(())
 }

@@ -248,7 +248,7 @@ fn call_reason(name: &str, arguments: &[&str]) -> Option<Why> {
         ("nametoid", 2) => None,
         ("nametoid", 3) => None,
         ("nametoid", 1) if arguments[0] == "0" => None,
-        ("listmax", _) => Some(Why::Unbuilt),
+        ("listmax", 0) => None,
         ("delete", _) => Some(Why::Unbuilt),
         _ => Some(Why::Syntax),
     }

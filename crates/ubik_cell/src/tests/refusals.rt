@@ -111,6 +111,10 @@ fn a_line_is_taken_or_refused_by_its_place(rt: HostRuntime) -> Result<(), Fail> 
             "ask 1 nametoid 1 smith",
             [Err(Why::Cell), Ok(NO_QUORUM), Err(Why::State)],
         ),
+        (
+            "ask 1 listmax",
+            [Err(Why::Cell), Ok(NO_QUORUM), Err(Why::State)],
+        ),
         ("", [Ok(""), Ok(""), Ok("")]),
         ("# dance \r", [Ok(""), Ok(""), Ok("")]),
         ("beacon \t 1", [Err(Why::Cell), Ok(""), Err(Why::State)]),
@@ -144,9 +148,11 @@ fn a_line_has_its_first_reason_in_each_place(rt: HostRuntime) -> Result<(), Fail
             Why::Cell,
             Why::Server,
         ),
-        ("ask 1 listmax", Why::Cell, Why::Unbuilt),
-        ("ask 2 listmax 1", Why::Cell, Why::Unbuilt),
-        ("ask 0 listmax", Why::Number, Why::Unbuilt),
+        ("ask 1 setmax", Why::Cell, Why::Unbuilt),
+        ("ask 2 setmax 1", Why::Cell, Why::Unbuilt),
+        ("ask 0 setmax", Why::Number, Why::Unbuilt),
+        ("ask 2 listmax", Why::Cell, Why::Server),
+        ("ask 1 listmax 1", Why::Cell, Why::Syntax),
         ("ask x newentry staff 2 -204", Why::Number, Why::Unbuilt),
         ("ask 1 dance", Why::Cell, Why::Syntax),
         ("ask 2 nametoid 2 smith", Why::Cell, Why::Syntax),
@@ -376,7 +382,6 @@ fn a_call_that_is_not_built_is_known_by_its_name(rt: HostRuntime) -> Result<(), 
         "addtogroup",
         "removefromgroup",
         "getcps",
-        "listmax",
         "setmax",
         "listentry",
         "listentries",
@@ -401,6 +406,20 @@ fn a_call_that_is_not_built_is_known_by_its_name(rt: HostRuntime) -> Result<(), 
         expect_call(&rt, rt.alloc(), call.as_bytes(), Err(Why::Syntax))?;
     }
     Ok(())
+}
+
+/// The maxima before the first user, and after one.
+#[test]
+fn the_maxima_are_told_in_words(rt: HostRuntime) -> Result<(), Fail> {
+    let front = "cell 1 1000 pt\ntickall 76\nbeacon 1\nrecover 1\n";
+    let place = (front, "announce 1 1076.1\n", [].as_slice());
+    let want = Ok("reply 1 1 ok 0 -205\n");
+    expect_line(&rt, rt.alloc(), place, b"ask 1 listmax", want)?;
+    let front = "cell 1 1000 pt\ntickall 76\nbeacon 1\nrecover 1\nask 1 newentry smith 0 0\n";
+    let told = "announce 1 1076.1\nannounce 1 1076.2\nreply 1 1 ok 1\n";
+    let place = (front, told, [].as_slice());
+    let want = Ok("reply 2 1 ok 1 -205\n");
+    expect_line(&rt, rt.alloc(), place, b"ask 1 listmax", want)
 }
 
 /// Names of 255 and 256 bytes.

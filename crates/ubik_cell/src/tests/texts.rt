@@ -2,7 +2,7 @@
 use super::*;
 use cell_model::Output;
 use cell_runs::{Mark, tell_mark, tell_output};
-use prdb_entries::PrService;
+use pt_calls::PtService;
 use ubik_calls::{Body, Packet, Reply};
 use ubik_types::{Host, Version};
 
@@ -21,7 +21,7 @@ fn expect_line(
     line: &str,
 ) -> Result<(), NoMemory> {
     let mut text = String::new(alloc);
-    tell_output::<PrService>(&mut text, &HOSTS, 1, 9, output, &[])?;
+    tell_output::<PtService>(&mut text, &HOSTS, 1, 9, output, &[])?;
     assert_eq!(rt; text.as_str(), line);
     Ok(())
 }

@@ -4,9 +4,9 @@ use Rattle.cell_promises.proofs.laws.law_cells_keep_promises.Goals as goal
 pub returns : goal.returns
 returns c =
     let of : ProtectionLaws = record {
-      means = c.law_call_means.ensures.means;
-      no_call = c.law_call_means.ensures.no_call;
-      never_shrinks = c.law_images_never_shrink.ensures;
-      first = c.law_empty_is_initial.ensures;
+      means = c.calls_are_meant.ensures.meant;
+      leaves = c.calls_are_meant.ensures.leaves;
+      never_shrinks = c.calls_are_meant.ensures.longer;
+      first = c.an_image_stands_for_one_state.ensures.first;
     } in
     cells_keep_promises of c.law_scripts_have_order.ensures c.law_words_are_calls.ensures

@@ -29,7 +29,7 @@ returns-after-why g c = λ d stands.
     let e = c.in-Err.ensures in
     let r = c.revive.ensures in
     let m : Member = record { hosts = c.args.hosts.now; me = c.args.me } in
-    let P : OpenEnd → Type 0 = λ end. ServerOpens {V = g.row.V.Denot} g.D.Disk m c.args.clock d end c.args.disk (server.Down c.revive.new.self) in
+    let P : OpenEnd → Type 0 = λ end. ServerOpens {V = g.row.V.Denot} g.D.Disk g.V.DraftService.standing m c.args.clock d end c.args.disk (server.Down c.revive.new.self) in
     elim c.match-why.branch [
       | in-NoMemory w ↦
           subst P (sym w.end-is)

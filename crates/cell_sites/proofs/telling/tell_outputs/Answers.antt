@@ -18,7 +18,7 @@ tell_one-requires-clause-votes g c = All-head MayBeTold c.in-Some.output c.take.
 
 pub loop-output-preserved : goal.loop-output-preserved
 loop-output-preserved g c =
-    let db = script_database g.V.Service.database g.V.WordForms.words in
+    let db = script_database g.V.DraftService.standing.database g.V.DraftWords.words in
     let P : List Output → Type 0 = λ o. TellsOn db c.args.hosts.now c.args.server c.args.call.now (string_bytes c.args.text.now) c.args.packets.now c.args.out.now (string_bytes c.loop-output.text) c.loop-output.packets o in
     tells_more db c.args.hosts.now c.args.server c.args.call.now (string_bytes c.args.text.now) c.args.packets.now c.args.out.now (string_bytes c.loop-output.text) c.loop-output.packets c.in-Some.output c.take.new.self
     (subst P c.in-Some.ensures.first c.loop-output.invariant) (string_bytes c.tell_one.new.text) c.tell_one.new.packets
@@ -26,7 +26,7 @@ loop-output-preserved g c =
 
 pub returns-in_err-tell_one-clause-limit : goal.returns-in_err-tell_one-clause-limit
 returns-in_err-tell_one-clause-limit g c = λ which is shown outputs answers.
-    let db = script_database g.V.Service.database g.V.WordForms.words in
+    let db = script_database g.V.DraftService.standing.database g.V.DraftWords.words in
     let P : List Output → Type 0 = λ o. TellsOn db c.args.hosts.now c.args.server c.args.call.now (string_bytes c.args.text.now) c.args.packets.now c.args.out.now (string_bytes c.loop-output.text) c.loop-output.packets o in
     let p = err_from_is_err_and c.from_residual.result c.from_residual.ensures.1 in
     let e : c.in_err-tell_one.field-0.0 ≡ fault.Limit which = let from = p.2 in let left = p.1 in cc (from, left, is) in
@@ -38,5 +38,5 @@ returns-in_err-tell_one-clause-limit g c = λ which is shown outputs answers.
 
 pub returns-clause-told : goal.returns-clause-told
 returns-clause-told g c = λ shown outputs answers.
-    tells_all (script_database g.V.Service.database g.V.WordForms.words) c.args.hosts.now c.args.server c.args.call.now (string_bytes c.args.text.now) c.args.packets.now c.args.out.now (string_bytes c.loop-output.text) c.loop-output.packets c.loop-output.out
+    tells_all (script_database g.V.DraftService.standing.database g.V.DraftWords.words) c.args.hosts.now c.args.server c.args.call.now (string_bytes c.args.text.now) c.args.packets.now c.args.out.now (string_bytes c.loop-output.text) c.loop-output.packets c.loop-output.out
     (c.take.ensures.none (ap is_some c.in_default.is)) c.loop-output.invariant shown outputs answers

@@ -5,14 +5,15 @@ use Rattle.script_promises.proofs.laws.law_scripts_keep_promises.Goals as goal
 pub returns : goal.returns
 returns c =
     let database : DatabaseLaws = record {
-      means = c.law_call_means.ensures.means;
-      no_call = c.law_call_means.ensures.no_call;
-      never_shrinks = c.law_images_never_shrink.ensures;
-      first = c.law_empty_is_initial.ensures;
+      means = c.calls_are_meant.ensures.meant;
+      leaves = c.calls_are_meant.ensures.leaves;
+      never_shrinks = c.calls_are_meant.ensures.longer;
+      answers = c.calls_are_answered.ensures;
+      first = c.an_image_stands_for_one_state.ensures.first;
     } in
     scripts_keep_promises (record {
       database = database;
-      names = c.law_words_name_a_call.ensures;
+      names = c.words_name_calls.ensures.alone;
       order = c.law_announcements_grow.ensures;
       stay = c.law_acknowledged_stay.ensures;
       acknowledged = c.law_ok_is_acknowledged.ensures;

@@ -6,8 +6,8 @@ use Rattle.ubik_cell.proofs.scripts.run_in_cell.Goals as goal
 
 pub returns-in-Nothing-clause-done : goal.returns-in-Nothing-clause-done
 returns-in-Nothing-clause-done g c =
-    told_of g.D.Disk c.args.cell.now c.args.cell.now (script_database g.V.Service.database g.V.WordForms.words) _ _ c.in-Nothing.is _ _
-    (nothing_told g.D.Disk (script_database g.V.Service.database g.V.WordForms.words) c.args.cell.now _)
+    told_of g.D.Disk c.args.cell.now c.args.cell.now (script_database g.V.DraftService.standing.database g.V.DraftWords.words) _ _ c.in-Nothing.is _ _
+    (nothing_told g.D.Disk (script_database g.V.DraftService.standing.database g.V.DraftWords.words) c.args.cell.now _)
 
 pub returns-in-Nothing-clause-kept : goal.returns-in-Nothing-clause-kept
 returns-in-Nothing-clause-kept g c =
@@ -23,7 +23,7 @@ returns-in-Ask-clause-kept g c =
 
 pub returns-in_ok-tick-in-Tick-clause-done : goal.returns-in_ok-tick-in-Tick-clause-done
 returns-in_ok-tick-in-Tick-clause-done g c =
-    told_of g.D.Disk c.args.cell.now c.tick.new.self (script_database g.V.Service.database g.V.WordForms.words) _ _ c.in-Tick.is _ _
+    told_of g.D.Disk c.args.cell.now c.tick.new.self (script_database g.V.DraftService.standing.database g.V.DraftWords.words) _ _ c.in-Tick.is _ _
     (λ given cell stands. c.in_ok-tick-in-Tick.ensures.told refl given cell _ stands)
 
 pub returns-in_ok-tick-in-Tick-clause-kept : goal.returns-in_ok-tick-in-Tick-clause-kept
@@ -33,12 +33,12 @@ returns-in_ok-tick-in-Tick-clause-kept g c =
 
 pub returns-in_err-tick-in-Tick-clause-done : goal.returns-in_err-tick-in-Tick-clause-done
 returns-in_err-tick-in-Tick-clause-done g c =
-    refused_of g.D.Disk c.args.cell.now c.tick.new.self (script_database g.V.Service.database g.V.WordForms.words) _ _ c.in-Tick.is _ c.in_err-tick-in-Tick.field-0.0 _
+    refused_of g.D.Disk c.args.cell.now c.tick.new.self (script_database g.V.DraftService.standing.database g.V.DraftWords.words) _ _ c.in-Tick.is _ c.in_err-tick-in-Tick.field-0.0 _
     c.from_residual.ensures.1 (c.tick.ensures.refused _ c.in_err-tick-in-Tick.was)
 
 pub returns-in-TickAll-clause-done : goal.returns-in-TickAll-clause-done
 returns-in-TickAll-clause-done g c =
-    told_of g.D.Disk c.args.cell.now c.tick_all.new.self (script_database g.V.Service.database g.V.WordForms.words) _ _ c.in-TickAll.is _ _
+    told_of g.D.Disk c.args.cell.now c.tick_all.new.self (script_database g.V.DraftService.standing.database g.V.DraftWords.words) _ _ c.in-TickAll.is _ _
     (λ given cell stands. c.tick_all.ensures.told given cell _ stands)
 
 pub returns-in-TickAll-clause-kept : goal.returns-in-TickAll-clause-kept
@@ -48,7 +48,7 @@ returns-in-TickAll-clause-kept g c =
 
 pub returns-in_ok-drop_packet-in-Drop-clause-done : goal.returns-in_ok-drop_packet-in-Drop-clause-done
 returns-in_ok-drop_packet-in-Drop-clause-done g c =
-    told_of g.D.Disk c.args.cell.now c.drop_packet.new.self (script_database g.V.Service.database g.V.WordForms.words) _ _ c.in-Drop.is _ _
+    told_of g.D.Disk c.args.cell.now c.drop_packet.new.self (script_database g.V.DraftService.standing.database g.V.DraftWords.words) _ _ c.in-Drop.is _ _
     (λ given cell stands. c.in_ok-drop_packet-in-Drop.ensures.told refl given cell _ stands)
 
 pub returns-in_ok-drop_packet-in-Drop-clause-kept : goal.returns-in_ok-drop_packet-in-Drop-clause-kept
@@ -59,12 +59,12 @@ returns-in_ok-drop_packet-in-Drop-clause-kept g c =
 
 pub returns-in_err-drop_packet-in-Drop-clause-done : goal.returns-in_err-drop_packet-in-Drop-clause-done
 returns-in_err-drop_packet-in-Drop-clause-done g c =
-    refused_of g.D.Disk c.args.cell.now c.drop_packet.new.self (script_database g.V.Service.database g.V.WordForms.words) _ _ c.in-Drop.is _ c.in_err-drop_packet-in-Drop.field-0.0 _
+    refused_of g.D.Disk c.args.cell.now c.drop_packet.new.self (script_database g.V.DraftService.standing.database g.V.DraftWords.words) _ _ c.in-Drop.is _ c.in_err-drop_packet-in-Drop.field-0.0 _
     c.from_residual-in_err-drop_packet-in-Drop.ensures.1 (c.drop_packet.ensures.refused _ c.in_err-drop_packet-in-Drop.was)
 
 pub returns-in_ok-drop_all-in-DropAll-clause-done : goal.returns-in_ok-drop_all-in-DropAll-clause-done
 returns-in_ok-drop_all-in-DropAll-clause-done g c =
-    told_of g.D.Disk c.args.cell.now c.drop_all.new.self (script_database g.V.Service.database g.V.WordForms.words) _ _ c.in-DropAll.is _ _
+    told_of g.D.Disk c.args.cell.now c.drop_all.new.self (script_database g.V.DraftService.standing.database g.V.DraftWords.words) _ _ c.in-DropAll.is _ _
     (λ given cell stands. c.in_ok-drop_all-in-DropAll.ensures.told refl given cell _ stands)
 
 pub returns-in_ok-drop_all-in-DropAll-clause-kept : goal.returns-in_ok-drop_all-in-DropAll-clause-kept
@@ -75,12 +75,12 @@ returns-in_ok-drop_all-in-DropAll-clause-kept g c =
 
 pub returns-in_err-drop_all-in-DropAll-clause-done : goal.returns-in_err-drop_all-in-DropAll-clause-done
 returns-in_err-drop_all-in-DropAll-clause-done g c =
-    refused_of g.D.Disk c.args.cell.now c.drop_all.new.self (script_database g.V.Service.database g.V.WordForms.words) _ _ c.in-DropAll.is _ c.in_err-drop_all-in-DropAll.field-0.0 _
+    refused_of g.D.Disk c.args.cell.now c.drop_all.new.self (script_database g.V.DraftService.standing.database g.V.DraftWords.words) _ _ c.in-DropAll.is _ c.in_err-drop_all-in-DropAll.field-0.0 _
     c.from_residual-in_err-drop_all-in-DropAll.ensures.1 (c.drop_all.ensures.refused _ c.in_err-drop_all-in-DropAll.was)
 
 pub returns-in-Beacon-clause-done : goal.returns-in-Beacon-clause-done
 returns-in-Beacon-clause-done g c =
-    done_of g.D.Disk c.args.cell.now c.beacon.new.self (script_database g.V.Service.database g.V.WordForms.words) _ _ c.in-Beacon.is c.beacon.result _ _
+    done_of g.D.Disk c.args.cell.now c.beacon.new.self (script_database g.V.DraftService.standing.database g.V.DraftWords.words) _ _ c.in-Beacon.is c.beacon.result _ _
     c.beacon.ensures.told c.beacon.ensures.limit c.beacon.ensures.refused c.beacon.ensures.quiet c.beacon.ensures.short
 
 pub returns-in-Beacon-clause-kept : goal.returns-in-Beacon-clause-kept
@@ -91,7 +91,7 @@ returns-in-Beacon-clause-kept g c =
 
 pub returns-in-Recover-clause-done : goal.returns-in-Recover-clause-done
 returns-in-Recover-clause-done g c =
-    done_of g.D.Disk c.args.cell.now c.recover.new.self (script_database g.V.Service.database g.V.WordForms.words) _ _ c.in-Recover.is c.recover.result _ _
+    done_of g.D.Disk c.args.cell.now c.recover.new.self (script_database g.V.DraftService.standing.database g.V.DraftWords.words) _ _ c.in-Recover.is c.recover.result _ _
     c.recover.ensures.told c.recover.ensures.limit c.recover.ensures.refused c.recover.ensures.quiet c.recover.ensures.short
 
 pub returns-in-Recover-clause-kept : goal.returns-in-Recover-clause-kept
@@ -102,7 +102,7 @@ returns-in-Recover-clause-kept g c =
 
 pub returns-in-Deliver-clause-done : goal.returns-in-Deliver-clause-done
 returns-in-Deliver-clause-done g c =
-    done_of g.D.Disk c.args.cell.now c.deliver.new.self (script_database g.V.Service.database g.V.WordForms.words) _ _ c.in-Deliver.is c.deliver.result _ _
+    done_of g.D.Disk c.args.cell.now c.deliver.new.self (script_database g.V.DraftService.standing.database g.V.DraftWords.words) _ _ c.in-Deliver.is c.deliver.result _ _
     c.deliver.ensures.told c.deliver.ensures.limit c.deliver.ensures.refused c.deliver.ensures.quiet c.deliver.ensures.short
 
 pub returns-in-Deliver-clause-kept : goal.returns-in-Deliver-clause-kept
@@ -113,7 +113,7 @@ returns-in-Deliver-clause-kept g c =
 
 pub returns-in-DeliverAll-clause-done : goal.returns-in-DeliverAll-clause-done
 returns-in-DeliverAll-clause-done g c =
-    done_of g.D.Disk c.args.cell.now c.deliver_all.new.self (script_database g.V.Service.database g.V.WordForms.words) _ _ c.in-DeliverAll.is c.deliver_all.result _ _
+    done_of g.D.Disk c.args.cell.now c.deliver_all.new.self (script_database g.V.DraftService.standing.database g.V.DraftWords.words) _ _ c.in-DeliverAll.is c.deliver_all.result _ _
     c.deliver_all.ensures.told c.deliver_all.ensures.limit
     (λ reason is. absurd (c.deliver_all.ensures.refused reason is)) (λ reason is. absurd (c.deliver_all.ensures.refused reason is)) c.deliver_all.ensures.short
 
@@ -125,7 +125,7 @@ returns-in-DeliverAll-clause-kept g c =
 
 pub returns-in-Show-clause-done : goal.returns-in-Show-clause-done
 returns-in-Show-clause-done g c =
-    done_of g.D.Disk c.args.cell.now c.args.cell.now (script_database g.V.Service.database g.V.WordForms.words) _ _ c.in-Show.is c.show.result _ _ c.show.ensures.told
+    done_of g.D.Disk c.args.cell.now c.args.cell.now (script_database g.V.DraftService.standing.database g.V.DraftWords.words) _ _ c.in-Show.is c.show.result _ _ c.show.ensures.told
     (λ which is. absurd (c.show.ensures.limit which is)) (λ why is. (refl, c.show.ensures.refused why is)) c.show.ensures.quiet c.show.ensures.short
 
 pub returns-in-Show-clause-kept : goal.returns-in-Show-clause-kept
@@ -134,7 +134,7 @@ returns-in-Show-clause-kept g c =
 
 pub returns-in_ok-stop-in-Stop-clause-done : goal.returns-in_ok-stop-in-Stop-clause-done
 returns-in_ok-stop-in-Stop-clause-done g c =
-    told_of g.D.Disk c.args.cell.now c.stop.new.self (script_database g.V.Service.database g.V.WordForms.words) _ _ c.in-Stop.is _ _
+    told_of g.D.Disk c.args.cell.now c.stop.new.self (script_database g.V.DraftService.standing.database g.V.DraftWords.words) _ _ c.in-Stop.is _ _
     (λ given cell stands. c.in_ok-stop-in-Stop.ensures.told refl given cell _ stands)
 
 pub returns-in_ok-stop-in-Stop-clause-kept : goal.returns-in_ok-stop-in-Stop-clause-kept
@@ -145,12 +145,12 @@ returns-in_ok-stop-in-Stop-clause-kept g c =
 
 pub returns-in_err-stop-in-Stop-clause-done : goal.returns-in_err-stop-in-Stop-clause-done
 returns-in_err-stop-in-Stop-clause-done g c =
-    refused_of g.D.Disk c.args.cell.now c.stop.new.self (script_database g.V.Service.database g.V.WordForms.words) _ _ c.in-Stop.is _ c.in_err-stop-in-Stop.field-0.0 _
+    refused_of g.D.Disk c.args.cell.now c.stop.new.self (script_database g.V.DraftService.standing.database g.V.DraftWords.words) _ _ c.in-Stop.is _ c.in_err-stop-in-Stop.field-0.0 _
     c.from_residual-in_err-stop-in-Stop.ensures.1 (c.stop.ensures.refused _ c.in_err-stop-in-Stop.was)
 
 pub returns-in_ok-crash-in-Crash-clause-done : goal.returns-in_ok-crash-in-Crash-clause-done
 returns-in_ok-crash-in-Crash-clause-done g c =
-    told_of g.D.Disk c.args.cell.now c.crash.new.self (script_database g.V.Service.database g.V.WordForms.words) _ _ c.in-Crash.is _ _
+    told_of g.D.Disk c.args.cell.now c.crash.new.self (script_database g.V.DraftService.standing.database g.V.DraftWords.words) _ _ c.in-Crash.is _ _
     (λ given cell stands. c.in_ok-crash-in-Crash.ensures.told refl given cell _ stands)
 
 pub returns-in_ok-crash-in-Crash-clause-kept : goal.returns-in_ok-crash-in-Crash-clause-kept
@@ -161,12 +161,12 @@ returns-in_ok-crash-in-Crash-clause-kept g c =
 
 pub returns-in_err-crash-in-Crash-clause-done : goal.returns-in_err-crash-in-Crash-clause-done
 returns-in_err-crash-in-Crash-clause-done g c =
-    refused_of g.D.Disk c.args.cell.now c.crash.new.self (script_database g.V.Service.database g.V.WordForms.words) _ _ c.in-Crash.is _ c.in_err-crash-in-Crash.field-0.0 _
+    refused_of g.D.Disk c.args.cell.now c.crash.new.self (script_database g.V.DraftService.standing.database g.V.DraftWords.words) _ _ c.in-Crash.is _ c.in_err-crash-in-Crash.field-0.0 _
     c.from_residual-in_err-crash-in-Crash.ensures.1 (c.crash.ensures.refused _ c.in_err-crash-in-Crash.was)
 
 pub returns-in-Restart-clause-done : goal.returns-in-Restart-clause-done
 returns-in-Restart-clause-done g c =
-    done_of g.D.Disk c.args.cell.now c.restart.new.self (script_database g.V.Service.database g.V.WordForms.words) _ _ c.in-Restart.is c.restart.result _ _
+    done_of g.D.Disk c.args.cell.now c.restart.new.self (script_database g.V.DraftService.standing.database g.V.DraftWords.words) _ _ c.in-Restart.is c.restart.result _ _
     c.restart.ensures.told (λ which is. absurd (c.restart.ensures.limit which is)) c.restart.ensures.refused c.restart.ensures.quiet
     c.restart.ensures.short
 

@@ -10,14 +10,14 @@ use Rattle.ubik_cell.proofs.tops.run_script.Goals as goal
 
 pub returns-in_default-clause-ran : goal.returns-in_default-clause-ran
 returns-in_default-clause-ran g c =
-    let dbs : Databases = only (script_database g.V.Service.database g.V.WordForms.words) in
+    let dbs : Databases = only (script_database g.V.DraftService.standing.database g.V.DraftWords.words) in
     let disks = c.args.disks.now.items in
     of_both (λ script left before written. RanOver g.D.Disk kind.NoMemory dbs script left before written disks disks) _ _
     (short_at_once g.D.Disk dbs disks c.requires.empty)
 
 pub returns-in_default-new-clause-ran : goal.returns-in_default-new-clause-ran
 returns-in_default-new-clause-ran g c =
-    let dbs : Databases = only (script_database g.V.Service.database g.V.WordForms.words) in
+    let dbs : Databases = only (script_database g.V.DraftService.standing.database g.V.DraftWords.words) in
     let disks = c.args.disks.now.items in
     let kept = ap (λ d. d.items) c.in_default-new.ensures.kept in
     subst (λ (after : List _). IfSome (g.S.Source.left c.args.input.now) (λ script. IfSome (g.K.Sink.written c.args.out.now) (λ before.
@@ -28,7 +28,7 @@ returns-in_default-new-clause-ran g c =
 
 pub loop-kind-init : goal.loop-kind-init
 loop-kind-init g c =
-    let dbs : Databases = only (script_database g.V.Service.database g.V.WordForms.words) in
+    let dbs : Databases = only (script_database g.V.DraftService.standing.database g.V.DraftWords.words) in
     let run = c.in-Ok-new.run' in
     let spare = c.in-Ok-new.ensures.spare in
     let given = counts_of g.D.Disk c.args.disks.now.items in
@@ -46,7 +46,7 @@ loop-kind-init g c =
 
 pub returns-in-Some-clause-ran : goal.returns-in-Some-clause-ran
 returns-in-Some-clause-ran g c =
-    let dbs : Databases = only (script_database g.V.Service.database g.V.WordForms.words) in
+    let dbs : Databases = only (script_database g.V.DraftService.standing.database g.V.DraftWords.words) in
     let l = c.loop-kind in
     let next = c.turn.new.run in
     let left = g.S.Source.left c.turn.new.input in
@@ -65,7 +65,7 @@ returns-in-Some-clause-ran g c =
 
 pub loop-kind-preserved : goal.loop-kind-preserved
 loop-kind-preserved g c =
-    let dbs : Databases = only (script_database g.V.Service.database g.V.WordForms.words) in
+    let dbs : Databases = only (script_database g.V.DraftService.standing.database g.V.DraftWords.words) in
     let l = c.loop-kind in
     let next = c.turn.new.run in
     let none = c.in_default-turn.is in

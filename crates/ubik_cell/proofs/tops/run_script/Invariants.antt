@@ -11,10 +11,10 @@ use Rattle.ubik_cell.proofs.tops.run_script.Given as goal
 abbrev pub invariant-loop-kind : goal.invariant-loop-kind
 invariant-loop-kind g l = record {
   so_far : IfSome (g.S.Source.left l.fn.input) (λ script. IfSome (g.K.Sink.written l.fn.out) (λ before.
-      SoFar g.D.Disk (only (script_database g.V.Service.database g.V.WordForms.words)) (counts_of g.D.Disk l.fn.disks.items) script
+      SoFar g.D.Disk (only (script_database g.V.DraftService.standing.database g.V.DraftWords.words)) (counts_of g.D.Disk l.fn.disks.items) script
       l.reader.ended
       (g.S.Source.left l.input) before (g.K.Sink.written l.out) l.run));
-  sound : IsSoundRun g.D.Disk l.run;
+  sound : IsSoundRun g.D.Disk g.V.DraftService.standing l.run;
   spare : l.run.spare.items ≡ drop (sites_in l.run.cell) l.fn.disks.items;
   empty : l.disks.items ≡ [];
   room : MAXSERVERS ≤ vec_capacity l.disks;

@@ -22,7 +22,7 @@ fault_is_no_end = λ same. cc
 
 pub returns-in-End-clause-ends : goal.returns-in-End-clause-ends
 returns-in-End-clause-ends g c =
-    let dbs : Databases = only (script_database g.V.Service.database g.V.WordForms.words) in
+    let dbs : Databases = only (script_database g.V.DraftService.standing.database g.V.DraftWords.words) in
     let run = c.args.run.now in
     as_written (λ (written : List ℕ) (after : Option (List ℕ)). (given script before : List ℕ) →
     SoFar g.D.Disk dbs given script c.args.reader.now.ended (g.S.Source.left c.args.input.now) before (Some written) run →
@@ -33,7 +33,7 @@ returns-in-End-clause-ends g c =
 
 pub returns-in-Failed-clause-ends : goal.returns-in-Failed-clause-ends
 returns-in-Failed-clause-ends g c =
-    let dbs : Databases = only (script_database g.V.Service.database g.V.WordForms.words) in
+    let dbs : Databases = only (script_database g.V.DraftService.standing.database g.V.DraftWords.words) in
     let run = c.args.run.now in
     let going = was_going _ _ fault_is_no_end (λ was. (c.in-Failed.ensures.ended was).0) in
     as_written (λ (written : List ℕ) (after : Option (List ℕ)). (given script before : List ℕ) →
@@ -45,7 +45,7 @@ returns-in-Failed-clause-ends g c =
 
 pub returns-in-TooLong-clause-ends : goal.returns-in-TooLong-clause-ends
 returns-in-TooLong-clause-ends g c =
-    let dbs : Databases = only (script_database g.V.Service.database g.V.WordForms.words) in
+    let dbs : Databases = only (script_database g.V.DraftService.standing.database g.V.DraftWords.words) in
     let run = c.args.run.now in
     let left = g.S.Source.left c.next_line.new.source in
     let after = g.K.Sink.written c.write_line.new.out in
@@ -75,7 +75,7 @@ returns-in-TooLong-clause-ends g c =
 
 pub returns-in-Line-clause-goes : goal.returns-in-Line-clause-goes
 returns-in-Line-clause-goes g c = λ none.
-    let dbs : Databases = only (script_database g.V.Service.database g.V.WordForms.words) in
+    let dbs : Databases = only (script_database g.V.DraftService.standing.database g.V.DraftWords.words) in
     let run = c.args.run.now in
     let next = c.line-told.new.self in
     let left = g.S.Source.left c.next_line.new.source in
@@ -110,7 +110,7 @@ returns-in-Line-clause-goes g c = λ none.
 
 pub returns-in-Line-clause-ends : goal.returns-in-Line-clause-ends
 returns-in-Line-clause-ends g c =
-    let dbs : Databases = only (script_database g.V.Service.database g.V.WordForms.words) in
+    let dbs : Databases = only (script_database g.V.DraftService.standing.database g.V.DraftWords.words) in
     let run = c.args.run.now in
     let next = c.line-told.new.self in
     let left = g.S.Source.left c.next_line.new.source in

@@ -14,7 +14,7 @@ use Rattle.cell_sites.proofs.cells.OpenCell.ask.Goals as goal
 
 pub returns-in_err-k-clause-refused : goal.returns-in_err-k-clause-refused
 returns-in_err-k-clause-refused g c = λ why is.
-    let db = script_database g.V.Service.database g.V.WordForms.words in
+    let db = script_database g.V.DraftService.standing.database g.V.DraftWords.words in
     let p = err_from_is_err_and c.from_residual.result c.from_residual.ensures.1 in
     let same : c.in_err-k.field-0.0 ≡ why = let given = p.2 in let left = p.1 in cc (given, left, is) in (
       refl,
@@ -30,7 +30,7 @@ pub returns-clause-told : goal.returns-clause-told
 returns-clause-told g c = λ ok given cell stands.
     let same : c.in_ok-asked.asked ≡ c.args.call = c.in_ok-asked.ensures ∙ c.as_slice.ensures in
     let o : Some (c.in_ok-k.k, event.Ask c.args.id c.args.call) ≡ Some (c.in_ok-k.k, event.Ask c.args.id c.in_ok-asked.asked) = ap (λ (bytes : List ℕ). Some (c.in_ok-k.k, event.Ask c.args.id bytes)) (sym same) in
-    let db = script_database g.V.Service.database g.V.WordForms.words in
+    let db = script_database g.V.DraftService.standing.database g.V.DraftWords.words in
     let does : List Choice → ℕ → Cell_run = λ choices k. stepped db cell (first_choice choices) (Asking k c.args.id c.args.call) in
     told_as g.D.Disk (λ choices. asked_at db cell (first_choice choices) c.args.id c.args.call (Some c.args.server)) (λ choices. Ok (does choices c.in_ok-k.k))
     (λ choices. c.in_ok-k.ensures.up cell (does choices) (size_of g.D.Disk c.requires.0 c.args.self.now cell c.requires.1 stands) stands.sites)
@@ -40,7 +40,7 @@ pub returns-clause-limit : goal.returns-clause-limit
 returns-clause-limit g c = λ which is given cell stands.
     let same : c.in_ok-asked.asked ≡ c.args.call = c.in_ok-asked.ensures ∙ c.as_slice.ensures in
     let o : Some (c.in_ok-k.k, event.Ask c.args.id c.args.call) ≡ Some (c.in_ok-k.k, event.Ask c.args.id c.in_ok-asked.asked) = ap (λ (bytes : List ℕ). Some (c.in_ok-k.k, event.Ask c.args.id bytes)) (sym same) in
-    let db = script_database g.V.Service.database g.V.WordForms.words in
+    let db = script_database g.V.DraftService.standing.database g.V.DraftWords.words in
     let does : List Choice → ℕ → Cell_run = λ choices k. stepped db cell (first_choice choices) (Asking k c.args.id c.args.call) in
     told_as g.D.Disk (λ choices. asked_at db cell (first_choice choices) c.args.id c.args.call (Some c.args.server)) (λ choices. Ok (does choices c.in_ok-k.k))
     (λ choices. c.in_ok-k.ensures.up cell (does choices) (size_of g.D.Disk c.requires.0 c.args.self.now cell c.requires.1 stands) stands.sites)
@@ -50,14 +50,14 @@ pub returns-clause-short : goal.returns-clause-short
 returns-clause-short g c = λ is given cell stands.
     let same : c.in_ok-asked.asked ≡ c.args.call = c.in_ok-asked.ensures ∙ c.as_slice.ensures in
     let o : Some (c.in_ok-k.k, event.Ask c.args.id c.args.call) ≡ Some (c.in_ok-k.k, event.Ask c.args.id c.in_ok-asked.asked) = ap (λ (bytes : List ℕ). Some (c.in_ok-k.k, event.Ask c.args.id bytes)) (sym same) in
-    let db = script_database g.V.Service.database g.V.WordForms.words in
+    let db = script_database g.V.DraftService.standing.database g.V.DraftWords.words in
     let does : List Choice → ℕ → Cell_run = λ choices k. stepped db cell (first_choice choices) (Asking k c.args.id c.args.call) in
     short_as g.D.Disk (λ choices. asked_at db cell (first_choice choices) c.args.id c.args.call (Some c.args.server)) (λ choices. Ok (does choices c.in_ok-k.k))
     (λ choices. c.in_ok-k.ensures.up cell (does choices) (size_of g.D.Disk c.requires.0 c.args.self.now cell c.requires.1 stands) stands.sites)
     cell _ _ (c.step.ensures.short is given cell (Asking c.in_ok-k.k c.args.id c.args.call) stands o)
 
 pub returns-in_err-asked-clause-short : goal.returns-in_err-asked-clause-short
-returns-in_err-asked-clause-short g c = λ is given cell stands. inl (nothing_done g.D.Disk g.V.Service.database given c.args.self.now cell stands)
+returns-in_err-asked-clause-short g c = λ is given cell stands. inl (nothing_done g.D.Disk g.V.DraftService.standing.database given c.args.self.now cell stands)
 
 pub returns-in_err-asked-clause-never_falls : goal.returns-in_err-asked-clause-never_falls
 returns-in_err-asked-clause-never_falls g c = rises_same _ _ refl

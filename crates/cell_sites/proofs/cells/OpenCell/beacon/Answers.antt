@@ -13,7 +13,7 @@ use Rattle.cell_sites.proofs.cells.OpenCell.beacon.Goals as goal
 
 pub returns-in_err-k-clause-refused : goal.returns-in_err-k-clause-refused
 returns-in_err-k-clause-refused g c = λ why is.
-    let db = script_database g.V.Service.database g.V.WordForms.words in
+    let db = script_database g.V.DraftService.standing.database g.V.DraftWords.words in
     let p = err_from_is_err_and c.from_residual.result c.from_residual.ensures.1 in
     let same : c.in_err-k.field-0.0 ≡ why = let given = p.2 in let left = p.1 in cc (given, left, is) in (
       refl,
@@ -27,7 +27,7 @@ returns-in_err-k-clause-never_falls g c = rises_same _ _ refl
 
 pub returns-clause-told : goal.returns-clause-told
 returns-clause-told g c = λ ok given cell stands.
-    let db = script_database g.V.Service.database g.V.WordForms.words in
+    let db = script_database g.V.DraftService.standing.database g.V.DraftWords.words in
     let does : List Choice → ℕ → Cell_run = λ choices k. stepped db cell (first_choice choices) (Beacon_turn k) in
     told_as g.D.Disk (λ choices. run_in db cell choices (line.Beacon c.args.server)) (λ choices. Ok (does choices c.in_ok-k.k))
     (λ choices. c.in_ok-k.ensures.up cell (does choices) (size_of g.D.Disk c.requires.0 c.args.self.now cell c.requires.1 stands) stands.sites)
@@ -35,7 +35,7 @@ returns-clause-told g c = λ ok given cell stands.
 
 pub returns-clause-limit : goal.returns-clause-limit
 returns-clause-limit g c = λ which is given cell stands.
-    let db = script_database g.V.Service.database g.V.WordForms.words in
+    let db = script_database g.V.DraftService.standing.database g.V.DraftWords.words in
     let does : List Choice → ℕ → Cell_run = λ choices k. stepped db cell (first_choice choices) (Beacon_turn k) in
     told_as g.D.Disk (λ choices. run_in db cell choices (line.Beacon c.args.server)) (λ choices. Ok (does choices c.in_ok-k.k))
     (λ choices. c.in_ok-k.ensures.up cell (does choices) (size_of g.D.Disk c.requires.0 c.args.self.now cell c.requires.1 stands) stands.sites)
@@ -43,7 +43,7 @@ returns-clause-limit g c = λ which is given cell stands.
 
 pub returns-clause-short : goal.returns-clause-short
 returns-clause-short g c = λ is given cell stands.
-    let db = script_database g.V.Service.database g.V.WordForms.words in
+    let db = script_database g.V.DraftService.standing.database g.V.DraftWords.words in
     let does : List Choice → ℕ → Cell_run = λ choices k. stepped db cell (first_choice choices) (Beacon_turn k) in
     short_as g.D.Disk (λ choices. run_in db cell choices (line.Beacon c.args.server)) (λ choices. Ok (does choices c.in_ok-k.k))
     (λ choices. c.in_ok-k.ensures.up cell (does choices) (size_of g.D.Disk c.requires.0 c.args.self.now cell c.requires.1 stands) stands.sites)

@@ -14,7 +14,7 @@ use Rattle.cell_sites.proofs.cells.OpenCell.crash.Goals as goal
 
 pub returns-in_err-k-clause-refused : goal.returns-in_err-k-clause-refused
 returns-in_err-k-clause-refused g c = λ why is.
-    let db = script_database g.V.Service.database g.V.WordForms.words in
+    let db = script_database g.V.DraftService.standing.database g.V.DraftWords.words in
     let p = err_from_is_err_and c.from_residual.result c.from_residual.ensures.1 in
     let same : c.in_err-k.field-0.0 ≡ why = let given = p.2 in let left = p.1 in cc (given, left, is) in (
       refl,
@@ -31,7 +31,7 @@ take_down-requires g c = record { place = slice_get_within c.args.self.now.sites
 
 pub returns-clause-told : goal.returns-clause-told
 returns-clause-told g c = λ ok given cell text stands.
-    let db = script_database g.V.Service.database g.V.WordForms.words in
+    let db = script_database g.V.DraftService.standing.database g.V.DraftWords.words in
     let down = c.take_down.ensures in
     let does : ℕ → Cell_run = λ k. with_event db (record cell { armed = set cell.armed k None }) (Crash k) in
     crash_told g.D.Disk c.args.self.now c.take_down.new.self c.in_ok-k.k down (disk_here g.D.Disk c.requires.0 c.args.self.now c.in_ok-k.k _ c.requires.1 down.there) db given cell

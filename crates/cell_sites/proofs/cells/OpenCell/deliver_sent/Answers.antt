@@ -34,7 +34,7 @@ step-requires-clause-taken g c =
 
 pub returns-then-is_up-clause-told : goal.returns-then-is_up-clause-told
 returns-then-is_up-clause-told g c = λ ok given cell stands.
-    let db = script_database g.V.Service.database g.V.WordForms.words in
+    let db = script_database g.V.DraftService.standing.database g.V.DraftWords.words in
     let to = c.copy_of_votes-packet.result.to in
     let p = c.hand_over.new.self in
     let place : place_of c.args.self.now.hosts.items to ≡ Some c.in-Some.k = sym (c.place_of.ensures ∙ ap (λ (h : List Host). place_of h to) c.deref.ensures.value) ∙ c.in-Some.is in
@@ -43,7 +43,7 @@ returns-then-is_up-clause-told g c = λ ok given cell stands.
 
 pub returns-then-is_up-clause-limit : goal.returns-then-is_up-clause-limit
 returns-then-is_up-clause-limit g c = λ which is given cell stands.
-    let db = script_database g.V.Service.database g.V.WordForms.words in
+    let db = script_database g.V.DraftService.standing.database g.V.DraftWords.words in
     let to = c.copy_of_votes-packet.result.to in
     let p = c.hand_over.new.self in
     let place : place_of c.args.self.now.hosts.items to ≡ Some c.in-Some.k = sym (c.place_of.ensures ∙ ap (λ (h : List Host). place_of h to) c.deref.ensures.value) ∙ c.in-Some.is in
@@ -67,7 +67,7 @@ pub returns-then-is_up-clause-keeps : goal.returns-then-is_up-clause-keeps
 returns-then-is_up-clause-keeps g c = λ given cell hold. c.step.ensures.keeps c.copy_of_votes-packet.result refl given cell hold
 
 pub returns-in_err-tell_mark-clause-short : goal.returns-in_err-tell_mark-clause-short
-returns-in_err-tell_mark-clause-short g c = λ is given cell stands. inl (nothing_done g.D.Disk g.V.Service.database given c.args.self.now cell stands)
+returns-in_err-tell_mark-clause-short g c = λ is given cell stands. inl (nothing_done g.D.Disk g.V.DraftService.standing.database given c.args.self.now cell stands)
 
 pub returns-in_err-tell_mark-clause-never_falls : goal.returns-in_err-tell_mark-clause-never_falls
 returns-in_err-tell_mark-clause-never_falls g c = rises_same _ _ refl
@@ -77,7 +77,7 @@ returns-clause-never_falls g c = rises_same _ _ refl
 
 pub returns-clause-told : goal.returns-clause-told
 returns-clause-told g c = λ ok given cell stands.
-    let db = script_database g.V.Service.database g.V.WordForms.words in
+    let db = script_database g.V.DraftService.standing.database g.V.DraftWords.words in
     let to = c.copy_of_votes-packet.result.to in
     let p = c.hand_over.new.self in
     let place : place_of c.args.self.now.hosts.items to ≡ Some c.in-Some.k = sym (c.place_of.ensures ∙ ap (λ (h : List Host). place_of h to) c.deref.ensures.value) ∙ c.in-Some.is in

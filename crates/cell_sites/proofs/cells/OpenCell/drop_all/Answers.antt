@@ -39,7 +39,7 @@ returns-clause-told g c = λ is given cell text stands.
     let running = c.args.self.now in
     let packets = c.drop_all.new.self in
     let host = c.index-host.result.now in
-    let db = script_database g.V.Service.database g.V.WordForms.words in
+    let db = script_database g.V.DraftService.standing.database g.V.DraftWords.words in
     let within = host_within g.D.Disk c.requires.0 running k c.requires.1 c.in_ok-k.ensures.place.1 in
     let there = site_there running.hosts.items k host within c.index-host.ensures in
     packets_told g.D.Disk db running cell packets

@@ -14,7 +14,7 @@ returns-clause-told g c = λ is given c' text stands.
     let handed = set c'.handed (c.args.number - 1) true in
     let running = c.args.self.now in
     let packets = c.hand_over.new.self in
-    let db = script_database g.V.Service.database g.V.WordForms.words in
+    let db = script_database g.V.DraftService.standing.database g.V.DraftWords.words in
     packets_told g.D.Disk db running c' packets handed _ text
     (λ choices. c.in_ok-number.ensures.there c' (resting (record c' { handed = handed })) (ap length stands.sent))
     (ap (λ (t : Traffic). t.sent) c.hand_over.ensures)

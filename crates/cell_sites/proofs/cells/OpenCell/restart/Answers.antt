@@ -15,7 +15,7 @@ use Rattle.cell_sites.proofs.cells.OpenCell.restart.Goals as goal
 
 pub returns-in_err-k-clause-refused : goal.returns-in_err-k-clause-refused
 returns-in_err-k-clause-refused g c = λ why is.
-    let db = script_database g.V.Service.database g.V.WordForms.words in
+    let db = script_database g.V.DraftService.standing.database g.V.DraftWords.words in
     let p = err_from_is_err_and c.from_residual.result c.from_residual.ensures.1 in
     let same : c.in_err-k.field-0.0 ≡ why = let given = p.2 in let left = p.1 in cc (given, left, is) in (
       refl,
@@ -29,31 +29,31 @@ returns-in_err-k-clause-never_falls g c = rises_same _ _ refl
 
 pub returns-in_err-reopen-clause-short : goal.returns-in_err-reopen-clause-short
 returns-in_err-reopen-clause-short g c = λ out given cell stands.
-    let db = script_database g.V.Service.database g.V.WordForms.words in
+    let db = script_database g.V.DraftService.standing.database g.V.DraftWords.words in
     let does : List Choice → ℕ → Cell_run = λ choices k. with_event db cell (Restart k (first_choice choices).fails) in
     short_as g.D.Disk (λ choices. run_in db cell choices (line.Restart c.args.server)) (λ choices. Ok (does choices c.in_ok-k.k))
     (λ choices. c.in_ok-k.ensures.down cell (does choices) (size_of g.D.Disk c.requires.0 c.args.self.now cell c.requires.1 stands) stands.sites)
-    cell _ _ (reopen_short g.D.Disk (script_database g.V.Service.database g.V.WordForms.words) c.args.self.now c.reopen.new.self c.in_ok-k.k _ (string_bytes c.args.text.now) (string_bytes c.reopen.new.text) c.requires.0 c.requires.1 c.in_err-reopen.ensures (disk_here g.D.Disk c.requires.0 c.args.self.now c.in_ok-k.k _ c.requires.1 c.in_err-reopen.ensures.there) given cell stands)
+    cell _ _ (reopen_short g.D.Disk (script_database g.V.DraftService.standing.database g.V.DraftWords.words) c.args.self.now c.reopen.new.self c.in_ok-k.k _ (string_bytes c.args.text.now) (string_bytes c.reopen.new.text) c.requires.0 c.requires.1 c.in_err-reopen.ensures (disk_here g.D.Disk c.requires.0 c.args.self.now c.in_ok-k.k _ c.requires.1 c.in_err-reopen.ensures.there) given cell stands)
 
 pub returns-in_err-reopen-clause-never_falls : goal.returns-in_err-reopen-clause-never_falls
-returns-in_err-reopen-clause-never_falls g c = reopen_rises g.D.Disk (script_database g.V.Service.database g.V.WordForms.words) c.args.self.now c.reopen.new.self c.in_ok-k.k _ (string_bytes c.args.text.now) (string_bytes c.reopen.new.text) c.requires.0 c.requires.1 c.in_err-reopen.ensures (disk_here g.D.Disk c.requires.0 c.args.self.now c.in_ok-k.k _ c.requires.1 c.in_err-reopen.ensures.there)
+returns-in_err-reopen-clause-never_falls g c = reopen_rises g.D.Disk (script_database g.V.DraftService.standing.database g.V.DraftWords.words) c.args.self.now c.reopen.new.self c.in_ok-k.k _ (string_bytes c.args.text.now) (string_bytes c.reopen.new.text) c.requires.0 c.requires.1 c.in_err-reopen.ensures (disk_here g.D.Disk c.requires.0 c.args.self.now c.in_ok-k.k _ c.requires.1 c.in_err-reopen.ensures.there)
 
 pub returns-in_err-reopen-clause-same : goal.returns-in_err-reopen-clause-same
-returns-in_err-reopen-clause-same g c = reopen_many g.D.Disk (script_database g.V.Service.database g.V.WordForms.words) c.args.self.now c.reopen.new.self c.in_ok-k.k _ (string_bytes c.args.text.now) (string_bytes c.reopen.new.text) c.requires.0 c.requires.1 c.in_err-reopen.ensures (disk_here g.D.Disk c.requires.0 c.args.self.now c.in_ok-k.k _ c.requires.1 c.in_err-reopen.ensures.there)
+returns-in_err-reopen-clause-same g c = reopen_many g.D.Disk (script_database g.V.DraftService.standing.database g.V.DraftWords.words) c.args.self.now c.reopen.new.self c.in_ok-k.k _ (string_bytes c.args.text.now) (string_bytes c.reopen.new.text) c.requires.0 c.requires.1 c.in_err-reopen.ensures (disk_here g.D.Disk c.requires.0 c.args.self.now c.in_ok-k.k _ c.requires.1 c.in_err-reopen.ensures.there)
 
 pub returns-clause-told : goal.returns-clause-told
 returns-clause-told g c = λ ok given cell stands.
-    let db = script_database g.V.Service.database g.V.WordForms.words in
+    let db = script_database g.V.DraftService.standing.database g.V.DraftWords.words in
     let does : List Choice → ℕ → Cell_run = λ choices k. with_event db cell (Restart k (first_choice choices).fails) in
     told_as g.D.Disk (λ choices. run_in db cell choices (line.Restart c.args.server)) (λ choices. Ok (does choices c.in_ok-k.k))
     (λ choices. c.in_ok-k.ensures.down cell (does choices) (size_of g.D.Disk c.requires.0 c.args.self.now cell c.requires.1 stands) stands.sites)
-    db _ _ _ _ _ (reopen_line g.D.Disk (script_database g.V.Service.database g.V.WordForms.words) c.args.self.now c.reopen.new.self c.in_ok-k.k (Ok tt) (string_bytes c.args.text.now) (string_bytes c.reopen.new.text) c.requires.0 c.requires.1 c.in_ok-reopen.ensures (disk_here g.D.Disk c.requires.0 c.args.self.now c.in_ok-k.k _ c.requires.1 c.in_ok-reopen.ensures.there) given cell stands refl)
+    db _ _ _ _ _ (reopen_line g.D.Disk (script_database g.V.DraftService.standing.database g.V.DraftWords.words) c.args.self.now c.reopen.new.self c.in_ok-k.k (Ok tt) (string_bytes c.args.text.now) (string_bytes c.reopen.new.text) c.requires.0 c.requires.1 c.in_ok-reopen.ensures (disk_here g.D.Disk c.requires.0 c.args.self.now c.in_ok-k.k _ c.requires.1 c.in_ok-reopen.ensures.there) given cell stands refl)
 
 pub returns-clause-sound : goal.returns-clause-sound
-returns-clause-sound g c = λ ok bound still. reopen_sound g.D.Disk (script_database g.V.Service.database g.V.WordForms.words) c.args.self.now c.reopen.new.self c.in_ok-k.k (Ok tt) (string_bytes c.args.text.now) (string_bytes c.reopen.new.text) c.requires.0 c.requires.1 c.in_ok-reopen.ensures (disk_here g.D.Disk c.requires.0 c.args.self.now c.in_ok-k.k _ c.requires.1 c.in_ok-reopen.ensures.there) bound still
+returns-clause-sound g c = λ ok bound still. reopen_sound g.D.Disk (script_database g.V.DraftService.standing.database g.V.DraftWords.words) c.args.self.now c.reopen.new.self c.in_ok-k.k (Ok tt) (string_bytes c.args.text.now) (string_bytes c.reopen.new.text) c.requires.0 c.requires.1 c.in_ok-reopen.ensures (disk_here g.D.Disk c.requires.0 c.args.self.now c.in_ok-k.k _ c.requires.1 c.in_ok-reopen.ensures.there) bound still
 
 pub returns-clause-never_falls : goal.returns-clause-never_falls
-returns-clause-never_falls g c = reopen_rises g.D.Disk (script_database g.V.Service.database g.V.WordForms.words) c.args.self.now c.reopen.new.self c.in_ok-k.k (Ok tt) (string_bytes c.args.text.now) (string_bytes c.reopen.new.text) c.requires.0 c.requires.1 c.in_ok-reopen.ensures (disk_here g.D.Disk c.requires.0 c.args.self.now c.in_ok-k.k _ c.requires.1 c.in_ok-reopen.ensures.there)
+returns-clause-never_falls g c = reopen_rises g.D.Disk (script_database g.V.DraftService.standing.database g.V.DraftWords.words) c.args.self.now c.reopen.new.self c.in_ok-k.k (Ok tt) (string_bytes c.args.text.now) (string_bytes c.reopen.new.text) c.requires.0 c.requires.1 c.in_ok-reopen.ensures (disk_here g.D.Disk c.requires.0 c.args.self.now c.in_ok-k.k _ c.requires.1 c.in_ok-reopen.ensures.there)
 
 pub returns-clause-same : goal.returns-clause-same
-returns-clause-same g c = reopen_many g.D.Disk (script_database g.V.Service.database g.V.WordForms.words) c.args.self.now c.reopen.new.self c.in_ok-k.k (Ok tt) (string_bytes c.args.text.now) (string_bytes c.reopen.new.text) c.requires.0 c.requires.1 c.in_ok-reopen.ensures (disk_here g.D.Disk c.requires.0 c.args.self.now c.in_ok-k.k _ c.requires.1 c.in_ok-reopen.ensures.there)
+returns-clause-same g c = reopen_many g.D.Disk (script_database g.V.DraftService.standing.database g.V.DraftWords.words) c.args.self.now c.reopen.new.self c.in_ok-k.k (Ok tt) (string_bytes c.args.text.now) (string_bytes c.reopen.new.text) c.requires.0 c.requires.1 c.in_ok-reopen.ensures (disk_here g.D.Disk c.requires.0 c.args.self.now c.in_ok-k.k _ c.requires.1 c.in_ok-reopen.ensures.there)

@@ -15,7 +15,7 @@ use Rattle.cell_sites.proofs.cells.OpenCell.stop.Goals as goal
 
 pub returns-in_err-k-clause-refused : goal.returns-in_err-k-clause-refused
 returns-in_err-k-clause-refused g c = λ why is.
-    let db = script_database g.V.Service.database g.V.WordForms.words in
+    let db = script_database g.V.DraftService.standing.database g.V.DraftWords.words in
     let p = err_from_is_err_and c.from_residual.result c.from_residual.ensures.1 in
     let same : c.in_err-k.field-0.0 ≡ why = let given = p.2 in let left = p.1 in cc (given, left, is) in (
       refl,
@@ -43,7 +43,7 @@ arm-requires g c =
 
 pub returns-clause-told : goal.returns-clause-told
 returns-clause-told g c = λ ok given cell text stands.
-    let db = script_database g.V.Service.database g.V.WordForms.words in
+    let db = script_database g.V.DraftService.standing.database g.V.DraftWords.words in
     let site = c.index_mut.result.now in
     let there = found_up c.args.self.now c.in_ok-k.k site c.in-Up.node c.in_ok-k.ensures.place.1 c.index_mut.ensures.value c.in-Up.is in
     let does : ℕ → Cell_run = λ k. resting (record cell { armed = set cell.armed k (Some (record { calls = c.args.calls; made = 0 })) }) in

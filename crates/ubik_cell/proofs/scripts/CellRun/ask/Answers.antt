@@ -13,7 +13,7 @@ use Rattle.ubik_cell.proofs.scripts.CellRun.ask.Goals as goal
 pub returns-in_err-call-clause-done : goal.returns-in_err-call-clause-done
 returns-in_err-call-clause-done g c =
     let text = string_bytes c.args.text.now in
-    let db = script_database g.V.Service.database g.V.WordForms.words in
+    let db = script_database g.V.DraftService.standing.database g.V.DraftWords.words in
     let run = c.args.self.now in
     let l = line.Ask c.args.server c.args.words.now in
     let same : with_cell run c.in-Some.cell ≡ run = same_again run c.in-Some.cell c.in-Some.cell c.in-Some.is refl in
@@ -25,11 +25,11 @@ pub returns-in_err-ask-clause-done : goal.returns-in_err-ask-clause-done
 returns-in_err-ask-clause-done g c =
     let text = string_bytes c.args.text.now in
     let later = string_bytes c.ask.new.text in
-    let db = script_database g.V.Service.database g.V.WordForms.words in
+    let db = script_database g.V.DraftService.standing.database g.V.DraftWords.words in
     let run = c.args.self.now in
     let number : c.args.server ≡ Some c.in_ok-server.server = c.ok_or.ensures.ok_part ∙ ap result_ok c.in_ok-server.was in
-    let named : g.V.WordForms.words.call_of c.args.words.now ≡ Some c.in-Some-2.call =
-    ap g.V.WordForms.words.call_of (sym c.as_slice.ensures) ∙ sym c.in_ok-call.ensures ∙ c.in-Some-2.is in
+    let named : g.V.DraftWords.words.call_of c.args.words.now ≡ Some c.in-Some-2.call =
+    ap g.V.DraftWords.words.call_of (sym c.as_slice.ensures) ∙ sym c.in_ok-call.ensures ∙ c.in-Some-2.is in
     let so = λ (cell : Cell) (choices : List Choice). asked_at db cell (first_choice choices) (run.asks + 1) c.in-Some-2.call (Some c.in_ok-server.server) in
     let cell = cell_done g.D.Disk c.in-Some.cell c.ask.new.self db so c.ask.result text later
     c.ask.ensures.told c.ask.ensures.limit c.ask.ensures.refused c.ask.ensures.quiet c.ask.ensures.short in
@@ -43,11 +43,11 @@ pub returns-clause-done : goal.returns-clause-done
 returns-clause-done g c =
     let text = string_bytes c.args.text.now in
     let later = string_bytes c.ask.new.text in
-    let db = script_database g.V.Service.database g.V.WordForms.words in
+    let db = script_database g.V.DraftService.standing.database g.V.DraftWords.words in
     let run = c.args.self.now in
     let number : c.args.server ≡ Some c.in_ok-server.server = c.ok_or.ensures.ok_part ∙ ap result_ok c.in_ok-server.was in
-    let named : g.V.WordForms.words.call_of c.args.words.now ≡ Some c.in-Some-2.call =
-    ap g.V.WordForms.words.call_of (sym c.as_slice.ensures) ∙ sym c.in_ok-call.ensures ∙ c.in-Some-2.is in
+    let named : g.V.DraftWords.words.call_of c.args.words.now ≡ Some c.in-Some-2.call =
+    ap g.V.DraftWords.words.call_of (sym c.as_slice.ensures) ∙ sym c.in_ok-call.ensures ∙ c.in-Some-2.is in
     subst (λ server. LineDone g.D.Disk db (line.Ask server c.args.words.now) (Ok tt) run
     (record run { cell = Some c.ask.new.self; asks = run.asks + 1 }) text later) (sym number)
     (asked_ok g.D.Disk db c.args.words.now c.in-Some-2.call c.in_ok-server.server named run c.in-Some.cell c.ask.new.self c.in-Some.is c.requires.sound

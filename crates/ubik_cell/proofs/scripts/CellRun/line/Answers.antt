@@ -9,7 +9,7 @@ use Rattle.ubik_cell.proofs.scripts.CellRun.line.Goals as goal
 
 pub returns-in-Ok-clause-told : goal.returns-in-Ok-clause-told
 returns-in-Ok-clause-told g c =
-    let db = script_database g.V.Service.database g.V.WordForms.words in
+    let db = script_database g.V.DraftService.standing.database g.V.DraftWords.words in
     let after = c.read_line.new.self in
     let text = string_bytes c.args.text.now in
     let later = string_bytes c.read_line.new.text in
@@ -18,10 +18,10 @@ returns-in-Ok-clause-told g c =
 
 -- ---- a line that is refused
 
-refused_ends : (g : given.Over) (c : goal.After-end g) → LineEnds g.D.Disk (script_database g.V.Service.database g.V.WordForms.words)
+refused_ends : (g : given.Over) (c : goal.After-end g) → LineEnds g.D.Disk (script_database g.V.DraftService.standing.database g.V.DraftWords.words)
     c.args.line.now c.end.result c.args.self.now c.read_line.new.self (string_bytes c.args.text.now) (string_bytes c.end.new.text)
 refused_ends g c =
-    let db = script_database g.V.Service.database g.V.WordForms.words in
+    let db = script_database g.V.DraftService.standing.database g.V.DraftWords.words in
     let run = c.args.self.now in
     let text = string_bytes c.args.text.now in
     let middle = string_bytes c.read_line.new.text in
@@ -34,20 +34,20 @@ refused_ends g c =
 
 pub returns-in-Err-Refused-clause-told : goal.returns-in-Err-Refused-clause-told
 returns-in-Err-Refused-clause-told g c =
-    ends_told g.D.Disk (script_database g.V.Service.database g.V.WordForms.words) c.args.line.now c.args.self.now c.read_line.new.self
+    ends_told g.D.Disk (script_database g.V.DraftService.standing.database g.V.DraftWords.words) c.args.line.now c.args.self.now c.read_line.new.self
     (string_bytes c.args.text.now) (string_bytes c.end.new.text) c.end.result (refused_ends g c)
 
 pub returns-in-Err-Refused-clause-short : goal.returns-in-Err-Refused-clause-short
 returns-in-Err-Refused-clause-short g c =
-    ends_short g.D.Disk (script_database g.V.Service.database g.V.WordForms.words) c.args.line.now c.args.self.now c.read_line.new.self
+    ends_short g.D.Disk (script_database g.V.DraftService.standing.database g.V.DraftWords.words) c.args.line.now c.args.self.now c.read_line.new.self
     (string_bytes c.args.text.now) (string_bytes c.end.new.text) c.end.result (refused_ends g c)
 
 -- ---- a line that passes a limit
 
-limit_ends : (g : given.Over) (c : goal.After-end-in-Err-Limit g) → LineEnds g.D.Disk (script_database g.V.Service.database g.V.WordForms.words)
+limit_ends : (g : given.Over) (c : goal.After-end-in-Err-Limit g) → LineEnds g.D.Disk (script_database g.V.DraftService.standing.database g.V.DraftWords.words)
     c.args.line.now c.end-in-Err-Limit.result c.args.self.now c.read_line.new.self (string_bytes c.args.text.now) (string_bytes c.end-in-Err-Limit.new.text)
 limit_ends g c =
-    let db = script_database g.V.Service.database g.V.WordForms.words in
+    let db = script_database g.V.DraftService.standing.database g.V.DraftWords.words in
     let run = c.args.self.now in
     let text = string_bytes c.args.text.now in
     let middle = string_bytes c.read_line.new.text in
@@ -62,10 +62,10 @@ limit_ends g c =
 
 pub returns-in-Err-Limit-clause-told : goal.returns-in-Err-Limit-clause-told
 returns-in-Err-Limit-clause-told g c =
-    ends_told g.D.Disk (script_database g.V.Service.database g.V.WordForms.words) c.args.line.now c.args.self.now c.read_line.new.self
+    ends_told g.D.Disk (script_database g.V.DraftService.standing.database g.V.DraftWords.words) c.args.line.now c.args.self.now c.read_line.new.self
     (string_bytes c.args.text.now) (string_bytes c.end-in-Err-Limit.new.text) c.end-in-Err-Limit.result (limit_ends g c)
 
 pub returns-in-Err-Limit-clause-short : goal.returns-in-Err-Limit-clause-short
 returns-in-Err-Limit-clause-short g c =
-    ends_short g.D.Disk (script_database g.V.Service.database g.V.WordForms.words) c.args.line.now c.args.self.now c.read_line.new.self
+    ends_short g.D.Disk (script_database g.V.DraftService.standing.database g.V.DraftWords.words) c.args.line.now c.args.self.now c.read_line.new.self
     (string_bytes c.args.text.now) (string_bytes c.end-in-Err-Limit.new.text) c.end-in-Err-Limit.result (limit_ends g c)

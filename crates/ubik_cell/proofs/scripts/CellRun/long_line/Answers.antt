@@ -9,7 +9,7 @@ use Rattle.ubik_cell.proofs.scripts.CellRun.long_line.Goals as goal
 
 pub returns-clause-told : goal.returns-clause-told
 returns-clause-told g c = λ goes given line t long at good.
-    let dbs : Databases = only (script_database g.V.Service.database g.V.WordForms.words) in
+    let dbs : Databases = only (script_database g.V.DraftService.standing.database g.V.DraftWords.words) in
     let ended = c.end.ensures.told goes in
     let run = c.args.self.now in
     let before = string_bytes c.args.text.now in
@@ -20,4 +20,4 @@ returns-clause-told g c = λ goes given line t long at good.
 
 pub returns-clause-short : goal.returns-clause-short
 returns-clause-short g c = λ none given line t at.
-    end_short g.D.Disk (only (script_database g.V.Service.database g.V.WordForms.words)) given c.args.self.now t c.requires.sound at line
+    end_short g.D.Disk (only (script_database g.V.DraftService.standing.database g.V.DraftWords.words)) given c.args.self.now t c.requires.sound at line

@@ -15,7 +15,7 @@ use Rattle.ubik_cell.proofs.scripts.CellRun.open.Goals as goal
 
 pub returns-in_err-cell-clause-done : goal.returns-in_err-cell-clause-done
 returns-in_err-cell-clause-done g c = λ kind.
-    let db = script_database g.V.Service.database g.V.WordForms.words in
+    let db = script_database g.V.DraftService.standing.database g.V.DraftWords.words in
     let run = c.args.self.now in
     let text = string_bytes c.args.text.now in
     let l = line.Cell c.args.servers c.args.clock kind in
@@ -27,7 +27,7 @@ open_servers-opened-requires-clause-servers g c = sym (ap length c.in_ok-cell.en
 
 pub returns-in_err-opened-in-None-clause-done : goal.returns-in_err-opened-in-None-clause-done
 returns-in_err-opened-in-None-clause-done g c = λ kind.
-    let db = script_database g.V.Service.database g.V.WordForms.words in
+    let db = script_database g.V.DraftService.standing.database g.V.DraftWords.words in
     let run = c.args.self.now in
     let after = record run { cell = c.replace.new.self; spare = c.open_servers-opened.new.spare } in
     let text = string_bytes c.args.text.now in
@@ -42,7 +42,7 @@ returns-in_err-opened-in-None-clause-done g c = λ kind.
 
 pub returns-clause-done : goal.returns-clause-done
 returns-clause-done g c = λ kind.
-    let db = script_database g.V.Service.database g.V.WordForms.words in
+    let db = script_database g.V.DraftService.standing.database g.V.DraftWords.words in
     let run = c.args.self.now in
     let after = record run { cell = c.replace.new.self; spare = c.open_servers-opened.new.spare } in
     let text = string_bytes c.args.text.now in
@@ -62,7 +62,7 @@ returns-clause-done g c = λ kind.
 
 pub returns-clause-kept : goal.returns-clause-kept
 returns-clause-kept g c =
-    let db = script_database g.V.Service.database g.V.WordForms.words in
+    let db = script_database g.V.DraftService.standing.database g.V.DraftWords.words in
     let run = c.args.self.now in
     let after = record run { cell = c.replace.new.self; spare = c.open_servers-opened.new.spare } in
     let text = string_bytes c.args.text.now in

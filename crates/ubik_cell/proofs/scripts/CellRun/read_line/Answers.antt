@@ -11,7 +11,7 @@ use Rattle.ubik_cell.proofs.scripts.CellRun.read_line.Goals as goal
 
 pub returns-in_err-meaning-clause-done : goal.returns-in_err-meaning-clause-done
 returns-in_err-meaning-clause-done g c =
-    let db = script_database g.V.Service.database g.V.WordForms.words in
+    let db = script_database g.V.DraftService.standing.database g.V.DraftWords.words in
     let run = c.args.self.now in
     let text = string_bytes c.args.text.now in
     handed_on (λ r. ReadDone g.D.Disk db c.args.line.now r run run text text) c.from_residual.result NoMemory c.from_residual.ensures.1
@@ -19,7 +19,7 @@ returns-in_err-meaning-clause-done g c =
 
 pub returns-in_err-line-clause-done : goal.returns-in_err-line-clause-done
 returns-in_err-line-clause-done g c =
-    let db = script_database g.V.Service.database g.V.WordForms.words in
+    let db = script_database g.V.DraftService.standing.database g.V.DraftWords.words in
     let run = c.args.self.now in
     let text = string_bytes c.args.text.now in
     let why = c.in_err-line.field-0.0 in
@@ -31,7 +31,7 @@ returns-in_err-line-clause-done g c =
 
 pub returns-clause-done : goal.returns-clause-done
 returns-clause-done g c =
-    let db = script_database g.V.Service.database g.V.WordForms.words in
+    let db = script_database g.V.DraftService.standing.database g.V.DraftWords.words in
     let run = c.args.self.now in
     let is : line_of (sites_in run.cell) c.args.line.now ≡ Ok c.in_ok-line.line =
     sym (c.in_ok-meaning.ensures.meaning ∙ ap (λ n. line_of n c.args.line.now) c.servers.ensures) ∙ c.in_ok-line.was in

@@ -9,14 +9,14 @@ use Rattle.ubik_cell.proofs.scripts.CellRun.run_line.Goals as goal
 
 pub returns-in-Nothing-clause-done : goal.returns-in-Nothing-clause-done
 returns-in-Nothing-clause-done g c =
-    let db = script_database g.V.Service.database g.V.WordForms.words in
+    let db = script_database g.V.DraftService.standing.database g.V.DraftWords.words in
     let text = string_bytes c.args.text.now in
     subst (λ l. LineDone g.D.Disk db l (Ok tt) c.args.self.now c.args.self.now text text) (sym c.in-Nothing.is)
     (nothing_line g.D.Disk db c.args.self.now c.requires.sound text)
 
 pub returns-in-Nothing-clause-kept : goal.returns-in-Nothing-clause-kept
 returns-in-Nothing-clause-kept g c =
-    nothing_keeps g.D.Disk (script_database g.V.Service.database g.V.WordForms.words) c.args.self.now c.requires.sound c.requires.room
+    nothing_keeps g.D.Disk (script_database g.V.DraftService.standing.database g.V.DraftWords.words) c.args.self.now c.requires.sound c.requires.room
 
 pub returns-in-Some : goal.returns-in-Some
 returns-in-Some g c =
@@ -37,7 +37,7 @@ returns-in-Some g c =
       | inr (inr (inr (inr (inr (inr (inr (inr (inr (inr (inr a)))))))))) ↦ no _ a.1 tt
     ] in
     record {
-      done = lifted g.D.Disk (script_database g.V.Service.database g.V.WordForms.words) c.args.line.now run c.in-Some.cell c.run_in_cell.new.cell
+      done = lifted g.D.Disk (script_database g.V.DraftService.standing.database g.V.DraftWords.words) c.args.line.now run c.in-Some.cell c.run_in_cell.new.cell
           c.run_in_cell.result (string_bytes c.args.text.now) (string_bytes c.run_in_cell.new.text) no_ask c.in-Some.is c.requires.sound
           c.run_in_cell.ensures.done c.run_in_cell.ensures.kept;
       kept = kept_run g.D.Disk c.run_in_cell.result run c.in-Some.cell c.run_in_cell.new.cell run.asks c.in-Some.is c.requires.sound c.requires.room

@@ -1,49 +1,67 @@
-use Rattle.std.proofs.Common.{◌∙◌, ℕ, List, length, IsErrOf, refl, sym, ap, subst}
+use Rattle.std.proofs.Common.{◌≡◌, ◌∙◌, ℕ, List, length, IsErrOf, refl, sym, ap, subst}
 use Rattle.ubik_types.specs.declared.images.Change.{Change}
-use Rattle.ubik_types.specs.Image.{effect}
+use Rattle.ubik_types.specs.Logged.{logged}
 use Rattle.cell_model.specs.Durable.{durable}
+use Rattle.cell_model.specs.Node.{Up}
 use Rattle.cell_model.specs.Writes.{next_version, own_commit}
 use Rattle.ubik_store.specs.declared.faults.StoreFault.TheVariants.{DiskFault}
 use Rattle.ubik_store.specs.DurableCall.{Commits, IsDurable}
-use Rattle.ubik_store.specs.Redo.{len_after}
-use Rattle.ubik_store.proofs.Redone.{length-effect}
-use Rattle.ubik_node.proofs.Durables.{fails_one, serves_one, image_then}
+use Rattle.ubik_node.specs.State.{server_of}
+use Rattle.ubik_node.specs.Verdict.{committed}
+use Rattle.ubik_node.proofs.Durables.{fails_one, serves_one}
+use Rattle.ubik_node.proofs.HeldImages.{held_after, held_length, held_there}
+use Rattle.ubik_node.proofs.Stepping.{up_if}
 use Rattle.ubik_node.proofs.nodes.Node.commit.Goals as goal
+
+-- changes that a store of this length keeps as they are
+kept_so : (len long : ℕ) (given changes : List Change) → given ≡ changes → len ≡ long → logged long changes ≡ changes → logged len given ≡ changes
+kept_so len long given changes are is kept = ap (logged len) are ∙ ap (λ (n : ℕ). logged n changes) is ∙ kept
 
 pub commit_all-requires-clause-none : goal.commit_all-requires-clause-none
 commit_all-requires-clause-none g c = c.requires.stored.none_begun c.requires.not_halted
 
 pub returns-in_err-commit_all-clause-left : goal.returns-in_err-commit_all-clause-left
-returns-in_err-commit_all-clause-left g c = λ failed t.
+returns-in_err-commit_all-clause-left g c = λ failed t image written.
     let n = c.args.self.now in
     let v = next_version n.state.version in
-    fails_one g.D.Disk n.store c.commit_all.new.store (durable n.state.version n.state.image) c.args.changes.now v c.args.image (own_commit v c.args.changes.now c.args.image t)
-    (c.requires.stored.sound.ready (c.requires.stored.failed ∙ c.requires.not_halted)) (c.requires.stored.image c.requires.not_halted) c.requires.stored.version c.requires.written.leads refl
-    c.requires.written.puts refl
-    (subst (λ (cs : List Change). IsDurable g.D.Disk cs v n.store c.commit_all.new.store (IsErrOf c.commit_all.result DiskFault)) c.as_slice.ensures c.commit_all.ensures.durable)
+    let same = kept_so n.store.len (length n.state.image) c.as_slice.result.now c.args.changes.now c.as_slice.ensures c.requires.stored.len written.kept in
+    fails_one g.D.Disk n.store c.commit_all.new.store (durable n.state.version n.state.image) c.args.changes.now v image (own_commit v c.args.changes.now image t)
+    (c.requires.stored.sound.ready (c.requires.stored.failed ∙ c.requires.not_halted)) (c.requires.stored.image c.requires.not_halted) c.requires.stored.version written.leads refl
+    written.puts refl
+    (subst (λ (cs : List Change). IsDurable g.D.Disk cs v n.store c.commit_all.new.store (IsErrOf c.commit_all.result DiskFault)) same c.commit_all.ensures.durable)
 
 pub returns-clause-served : goal.returns-clause-served
-returns-clause-served g c = λ t.
+returns-clause-served g c = λ t image written.
     let n = c.args.self.now in
     let v = next_version n.state.version in
+    let same = kept_so n.store.len (length n.state.image) c.as_slice.result.now c.args.changes.now c.as_slice.ensures c.requires.stored.len written.kept in
     let done : Commits g.D.Disk c.args.changes.now v n.store c.commit_all.new.store =
-    subst (λ (cs : List Change). Commits g.D.Disk cs v n.store c.commit_all.new.store) c.as_slice.ensures c.in_ok-commit_all.ensures.done in
-    serves_one g.D.Disk n.store c.commit_all.new.store (durable n.state.version n.state.image) c.args.changes.now v c.args.image (own_commit v c.args.changes.now c.args.image t)
-    (c.requires.stored.image c.requires.not_halted) c.requires.stored.version c.requires.written.leads refl c.requires.written.puts refl done.steps
-    (subst (λ (cs : List Change). IsDurable g.D.Disk cs v n.store c.commit_all.new.store (IsErrOf c.commit_all.result DiskFault)) c.as_slice.ensures c.commit_all.ensures.durable)
+    subst (λ (cs : List Change). Commits g.D.Disk cs v n.store c.commit_all.new.store) same c.in_ok-commit_all.ensures.done in
+    serves_one g.D.Disk n.store c.commit_all.new.store (durable n.state.version n.state.image) c.args.changes.now v image (own_commit v c.args.changes.now image t)
+    (c.requires.stored.image c.requires.not_halted) c.requires.stored.version written.leads refl written.puts refl done.steps
+    (subst (λ (cs : List Change). IsDurable g.D.Disk cs v n.store c.commit_all.new.store (IsErrOf c.commit_all.result DiskFault)) same c.commit_all.ensures.durable)
+
+pub returns-clause-made : goal.returns-clause-made
+returns-clause-made g c = λ tells image written.
+    let n = c.args.self.now in
+    let new = c.commit_all.new.store in
+    let same = kept_so n.store.len (length n.state.image) c.as_slice.result.now c.args.changes.now c.as_slice.ensures c.requires.stored.len written.kept in
+    let done : Commits g.D.Disk c.args.changes.now (next_version n.state.version) n.store new =
+    subst (λ (cs : List Change). Commits g.D.Disk cs (next_version n.state.version) n.store new) same c.in_ok-commit_all.ensures.done in
+    let held : c.of.result ≡ image = c.of.ensures
+        ∙ held_after (g.D.Disk.files n.store.disk) (g.D.Disk.files new.disk) new.len c.args.changes.now n.state.image image tells (c.requires.stored.image c.requires.not_halted) done.image written.leads in
+    up_if _ _ _ c.requires.not_halted ∙ ap (λ (bytes : List ℕ). Up (committed (server_of n.state) n.state.progress bytes)) held
 
 pub returns-clause-stored : goal.returns-clause-stored
 returns-clause-stored g c = λ fine.
     let n = c.args.self.now in
-    let v = next_version n.state.version in
-    let changes = c.args.changes.now in
-    let done : Commits g.D.Disk changes v n.store c.commit_all.new.store =
-    subst (λ (cs : List Change). Commits g.D.Disk cs v n.store c.commit_all.new.store) c.as_slice.ensures c.in_ok-commit_all.ensures.done in
+    let new = c.commit_all.new.store in
+    let done = c.in_ok-commit_all.ensures.done in
     record {
       sound = c.commit_all.ensures.sound;
       version = done.version;
-      len = done.len ∙ ap (λ (k : ℕ). len_after k changes) c.requires.stored.len ∙ sym (length-effect n.state.image changes) ∙ ap length c.requires.written.leads;
+      len = sym (ap length c.of.ensures ∙ held_length g.D.Disk new (c.commit_all.ensures.sound.ready done.failed));
       none_begun = λ up. c.commit_all.ensures.none;
       failed = done.failed ∙ sym c.requires.not_halted;
-      image = λ up. image_then (λ bytes. effect bytes changes) _ _ n.state.image c.args.image done.image (c.requires.stored.image c.requires.not_halted) c.requires.written.leads;
+      image = λ up. held_there (g.D.Disk.files new.disk) new.len c.of.result c.of.ensures;
     }

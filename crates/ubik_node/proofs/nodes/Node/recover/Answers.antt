@@ -24,7 +24,7 @@ pub returns-in-Rest-clause-step : goal.returns-in-Rest-clause-step
 returns-in-Rest-clause-step g c =
     let n = c.args.self.now in
     let st = n.state in
-    let db = g.V.Service.database in
+    let db = g.V.DraftService.standing.database in
     let d = durable st.version st.image in
     let fresh = c.requires.stored.failed ∙ c.requires.not_halted in
     steps_at g.D.Disk db (member_of st) Done RecoverTurn RecoverTurn (server_of st) c.args.now _ _ _ _ n.store.disk n.store.disk (up_if _ _ _ c.requires.not_halted) (up_if _ _ _ c.requires.not_halted) refl (
@@ -38,7 +38,7 @@ pub returns-in-Ok-clause-step : goal.returns-in-Ok-clause-step
 returns-in-Ok-clause-step g c =
     let n = c.args.self.now in
     let st = n.state in
-    let db = g.V.Service.database in
+    let db = g.V.DraftService.standing.database in
     let d = durable st.version st.image in
     let v = first_of_epoch c.args.now in
     let new = c.relabel.new.self in
@@ -56,7 +56,7 @@ pub returns-in-Err-DiskFault-clause-step : goal.returns-in-Err-DiskFault-clause-
 returns-in-Err-DiskFault-clause-step g c =
     let n = c.args.self.now in
     let st = n.state in
-    let db = g.V.Service.database in
+    let db = g.V.DraftService.standing.database in
     let d = durable st.version st.image in
     let v = first_of_epoch c.args.now in
     let new = c.relabel.new.self in

@@ -1,0 +1,3 @@
+pub mod Late
+pub mod LeftOut
+pub mod Ordered

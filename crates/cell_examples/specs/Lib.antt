@@ -1,0 +1,4 @@
+pub mod Late
+pub mod Register
+pub mod Showing
+pub mod Unknown

@@ -1,0 +1,6 @@
+//! Short runs of the model of a cell over a database of a few bytes, each the reason for a rule or a bound.
+#![tactic(auto)]
+
+mod runs;
+
+pub use runs::{late_commit_is_undone, polls_of_one_second, unknown_is_left_out, unknown_is_ordered};

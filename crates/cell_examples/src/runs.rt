@@ -1,0 +1,23 @@
+//! Runs that are written out: each is the clause of a call that does nothing.
+ghost use Rattle.cell_examples.specs.Late.{LateCommitIsUndone, PollsOfOneSecond};
+ghost use Rattle.cell_examples.specs.Unknown.{UnknownIsLeftOut, UnknownIsOrdered};
+
+/// A write is answered Unknown, and a later order has it.
+pub fn unknown_is_ordered()
+    ensures { UnknownIsOrdered }
+{}
+
+/// A write is answered Unknown, and a later order has another one in its place.
+pub fn unknown_is_left_out()
+    ensures { UnknownIsLeftOut }
+{}
+
+/// A late commit of an old sync site changes its receiver and no order.
+pub fn late_commit_is_undone()
+    ensures { LateCommitIsUndone }
+{}
+
+/// Two polls of one second have one number, and an answer to the first counts for the second.
+pub fn polls_of_one_second()
+    ensures { PollsOfOneSecond }
+{}

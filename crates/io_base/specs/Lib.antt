@@ -1,0 +1,4 @@
+pub mod Frame
+pub mod Link
+pub mod MemLink
+pub mod TcpLink

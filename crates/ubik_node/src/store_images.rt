@@ -1,0 +1,62 @@
+//! The image of a store, of which a database reads what it needs.
+ghost use Rattle.std.specs.Prelude.{None};
+
+use crate::steady_disks::SteadyDisk;
+use db_image::{ImageRead, ReadEnd};
+use std::marker::Model;
+use ubik_store::Store;
+
+/// The image of a store that is lent. After a read has failed the store has failed, and so does every other read. It is made as a
+/// literal: a caller that lends the store to a function would know nothing of it after.
+#[derive(Drop)]
+pub struct StoreImage<'a, D: SteadyDisk> {
+    pub store: &'a mut Store<D>,
+    /// How many reads have failed.
+    pub faults: u64,
+}
+
+impl<'a, D: SteadyDisk> Model for StoreImage<'a, D> {
+    ghost use Rattle.ubik_node.specs.StoreImages.{IsImage, Lent};
+
+    ghost Value = { Lent D };
+
+    ghost view = { λ i. record { store = i.store; faults = i.faults } };
+
+    ghost invariant = { λ i. IsImage D.Disk (record { store = i.store; faults = i.faults }) };
+}
+
+impl<'a, D: SteadyDisk> ImageRead for StoreImage<'a, D> {
+    ghost use Rattle.ubik_node.specs.StoreImages.{told_image, ComesByReads, comes_itself, comes_then};
+
+    ghost held = { λ image. told_image (D.tells image.store.now.disk) (D.files image.store.now.disk) };
+
+    ghost size = { λ image. image.store.now.len };
+
+    ghost faults = { λ image. image.faults };
+
+    ghost asked = { λ _. None };
+
+    ghost came = { ComesByReads D.Disk };
+
+    ghost comes_same = { comes_itself D.Disk };
+
+    ghost comes_on = { comes_then D.Disk };
+
+    fn len(&self) -> u32 {
+        self.store.len()
+    }
+
+    fn read(&mut self, at: u32, buf: &mut [u8]) -> ReadEnd {
+        if self.store.read(at, buf).is_ok() {
+            return ReadEnd::Done;
+        }
+        match self.faults.checked_add(1) {
+            Some(faults) => {
+                self.faults = faults;
+                ReadEnd::DiskFault
+            }
+            // Only so many faults can be told apart.
+            None => ReadEnd::NoMemory,
+        }
+    }
+}
