@@ -1,5 +1,5 @@
 -- Packets of an old sync site, and of an old poll, that come late (own).
-use Rattle.std.specs.Prelude.{◌≡◌, Option, None, Some, List, [], ◌∷◌, ◌++◌}
+use Rattle.std.specs.Prelude.{◌≡◌, None, Some, List, [], ◌∷◌, ◌++◌}
 use Rattle.ubik_types.specs.Phase.{Poll, Fetch}
 use Rattle.cell_model.specs.Durable.{durable}
 use Rattle.cell_model.specs.World.{Event, Tick_all, IsRun}

@@ -1,3 +1,4 @@
+pub mod Changed
 pub mod Late
 pub mod Register
 pub mod Showing

@@ -1,5 +1,5 @@
 -- The cells of the examples, their events, and what a run shows (own).
-use Rattle.std.specs.Prelude.{ℕ, false, Option, None, Some, option_map, option_and_then, List, [], ◌∷◌, ◌++◌}
+use Rattle.std.specs.Prelude.{ℕ, false, Option, None, Some, option_map, option_and_then, List, [], ◌∷◌}
 use Rattle.ubik_types.specs.declared.hosts.Host.{Host}
 use Rattle.ubik_types.specs.declared.versions.Version.{Version}
 use Rattle.ubik_types.specs.Phase.{PhaseRecord}

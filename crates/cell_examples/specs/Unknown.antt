@@ -1,5 +1,5 @@
 -- Writes that are answered Unknown: one that a later order has, and one that it has not (own).
-use Rattle.std.specs.Prelude.{◌≡◌, Option, None, List, [], ◌∷◌, ◌++◌}
+use Rattle.std.specs.Prelude.{◌≡◌, None, List, [], ◌∷◌, ◌++◌}
 use Rattle.ubik_types.specs.declared.phases.Phase.TheVariants as phases
 use Rattle.ubik_types.specs.declared.phases.Applied.TheVariants as applied
 use Rattle.ubik_calls.specs.declared.replies.Reply.TheVariants as reply

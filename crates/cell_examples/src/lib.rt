@@ -3,4 +3,7 @@
 
 mod runs;
 
-pub use runs::{late_commit_is_undone, polls_of_one_second, unknown_is_left_out, unknown_is_ordered};
+pub use runs::{
+    half_is_too_few, late_commit_is_undone, polls_of_one_second, unknown_is_left_out, unknown_is_ordered,
+    versions_must_agree,
+};

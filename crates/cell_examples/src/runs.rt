@@ -1,4 +1,5 @@
 //! Runs that are written out: each is the clause of a call that does nothing.
+ghost use Rattle.cell_examples.specs.Changed.{HalfIsTooFew, VersionsMustAgree};
 ghost use Rattle.cell_examples.specs.Late.{LateCommitIsUndone, PollsOfOneSecond};
 ghost use Rattle.cell_examples.specs.Unknown.{UnknownIsLeftOut, UnknownIsOrdered};
 
@@ -20,4 +21,14 @@ pub fn late_commit_is_undone()
 /// Two polls of one second have one number, and an answer to the first counts for the second.
 pub fn polls_of_one_second()
     ensures { PollsOfOneSecond }
+{}
+
+/// Where a poll goes on with the answers of half the cell, a write is lost that was acknowledged.
+pub fn half_is_too_few()
+    ensures { HalfIsTooFew }
+{}
+
+/// Where a fresh ready beacon allows reads whichever version it names, a later reply is older than an earlier one.
+pub fn versions_must_agree()
+    ensures { VersionsMustAgree }
 {}
