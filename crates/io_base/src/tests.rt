@@ -1,7 +1,9 @@
 //! Links in memory, streams that fail, and sockets of this machine.
+ghost use Rattle.std.specs.Prelude.{◌≤◌};
+
 use crate::tcp_links::ask_over;
 use crate::{Answer, Exchange, Link, MAX_FRAME, MemAnswer, MemLink, TcpLink};
-use std::alloc::Global;
+use std::alloc::{AllocError, Global};
 use std::io::{Read, Write};
 use std::net::{Ipv4Addr, Net, SocketAddr, TcpListener, TcpStream};
 use std::process::Abort;
@@ -195,9 +197,19 @@ fn a_stream_that_fails_in_the_midst(rt: HostRuntime) -> Result<(), Fail> {
 
 #[test]
 fn the_longest_frame_is_read(rt: HostRuntime) -> Result<(), Fail> {
-    let mut longest = vec![in rt.alloc(); 0; MAX_FRAME]?;
-    longest[..4].copy_from_slice(&[0, 31, 255, 252]);
+    let longest = frame_of(rt.alloc(), MAX_FRAME as u32)?;
     expect_over(&rt, rt.alloc(), 8, &longest, (Answer::Got, &longest))
+}
+
+/// A frame of so many bytes: its length behind the header, and zeros.
+fn frame_of(alloc: Global, len: u32) -> Result<Vec<u8>, AllocError>
+    requires { 4 ≤ len }
+{
+    let mut frame = Vec::new(alloc);
+    frame.extend_from_slice(&(len - 4).to_be_bytes())?;
+    let zeros = vec![in alloc; 0u8; len as usize - 4]?;
+    frame.extend_from_slice(&zeros)?;
+    Ok(frame)
 }
 
 fn listen<N>(rt: &N) -> io::Result<(TcpListener, u16)>
