@@ -490,7 +490,12 @@ fn a_file_without_a_label(rt: HostRuntime) -> Result<(), Fail> {
 }
 
 /// A writing call at a server whose disk fails, or has failed.
-fn halts<D: SteadyDisk>(rt: &impl Abort, alloc: Global, node: &mut Server<D>, id: u32) -> Result<(), Fail>
+fn halts<D: SteadyDisk>(
+    rt: &impl Abort,
+    alloc: Global,
+    node: &mut Server<D>,
+    id: u32,
+) -> Result<(), Fail>
     requires stored { IsStored D.Disk node.old }
     ensures stored { IsStored D.Disk node.new }
 {
