@@ -42,7 +42,7 @@ const ROOM: u64 = 1 << 20;
 type Server<D> = Node<D, PtService>;
 
 /// Lays a database file on an empty disk, and opens its files anew; none where the disk failed or memory ran out.
-fn filled<D: StopDisk>(disk: D, file: &[u8]) -> Option<D>
+fn filled<D: StopDisk + Drop>(disk: D, file: &[u8]) -> Option<D>
     requires empty { D.files disk ≡ Some no_files }
     requires long { length file.now ≤ MAX_DATABASE_LEN }
     ensures settled { IfSome result (λ new. IsSettled (D.files new) (D.may_leave new)) }

@@ -1,8 +1,8 @@
 -- A small database, which the tests serve: each call answers the image and appends its bytes to it.
-use Rattle.std.specs.Prelude.{◌≡◌, ◌≢◌, ◌≤◌, ℕ, Bool, true, false, List, [], ◌++◌, ◌==◌, if◌then◌else◌, not, nat_lt, length, Some, None, refl}
+use Rattle.std.specs.Prelude.{◌≡◌, ◌≢◌, ◌≤◌, ℕ, Bool, true, false, List, [], ◌++◌, ◌==◌, if◌then◌else◌, not, nat_lt, length, Some, None}
 use Rattle.std.proofs.Common.{ap, sym, ◌∙◌, arith, length-append}
 use Rattle.db_image.specs.declared.services.CallReply.TheVariants as reply
-use Rattle.db_image.specs.Database.{Database, Outcome}
+use Rattle.db_image.specs.Database.{Outcome}
 use Rattle.db_image.specs.Standing.{Standing, IsMeantOver}
 
 -- by whether the call is too long, and the image

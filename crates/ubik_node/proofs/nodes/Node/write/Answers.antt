@@ -2,7 +2,6 @@ use Rattle.std.proofs.Common.{◌≡◌, ◌≢◌, ◌∙◌, ℕ, [], ◌∷�
 use Rattle.std.specs.Prelude.{Result, Err}
 use Rattle.std.specs.Result.{is_err}
 use Rattle.std.proofs.lemmas.Bool.{false≢true}
-use Rattle.ubik_types.specs.declared.hosts.Host.{Host}
 use Rattle.ubik_types.specs.declared.phases.Applied.TheVariants as applied
 use Rattle.ubik_types.specs.declared.phases.Phase.TheVariants as phases
 use Rattle.ubik_types.specs.Lease.{lease_end}
@@ -11,7 +10,7 @@ use Rattle.disk_base.proofs.Runs.{reads_change_none, reads_joined}
 use Rattle.ubik_calls.specs.declared.replies.Reply.{Reply}
 use Rattle.ubik_calls.specs.declared.replies.Reply.TheVariants as reply
 use Rattle.cell_model.specs.declared.events.Output.TheVariants as output
-use Rattle.cell_model.specs.Durable.{Durable, durable}
+use Rattle.cell_model.specs.Durable.{durable}
 use Rattle.cell_model.specs.Node as model
 use Rattle.cell_model.specs.Writes.{write_turn}
 use Rattle.ubik_store.specs.declared.faults.StoreFault.{StoreFault}
