@@ -29,13 +29,13 @@ read_done ends.NoMemory (Ok done) ok failed memory = let is = memory refl in abs
 read_done ends.NoMemory (Err f) ok failed memory = absurd cc
 
 -- what was read is answered, and the call put behind it
-pub appends : (old mid new : Option (List ℕ)) (len count at : ℕ) (call answer : List ℕ) → length call ≤ 4096 → len ≤ 1048576
+pub appends : (old mid new : Option (List ℕ)) (len count at : ℕ) (call answer : List ℕ) → length call ≤ 2097152 → len ≤ 1048576
     → IfSome old (λ image. length image ≡ len) → IfSome old (λ image. answer ≡ take count image) → count ≡ len
     → mid ≡ old → new ≡ option_map (λ image. changed image (Put at call)) mid → at ≡ len
     → IfSome old (λ image. EndsBy (appended image call) (end.Done answer) new)
 appends None mid new len count at call answer short few is read whole same put last = tt
 appends (Some image) mid new len count at call answer short few is read whole same put last =
-    let call_fits : nat_lt 4096 (length call) ≡ false = grind (arith, nat_tests) in
+    let call_fits : nat_lt 2097152 (length call) ≡ false = grind (arith, nat_tests) in
     let image_fits : nat_lt 1048576 (length image) ≡ false = grind (arith, nat_tests) in
     let all : take count image ≡ image = take_all count image (omega (arith, is, whole)) in
     rw (call_fits, image_fits) (

@@ -12,5 +12,5 @@ returns-clause-meant g c =
     let whole : c.in-Ok.answer.len ≡ length buf = sym (c.read.auto.buf ∙ c.deref_mut.ensures.len) in
     let answer : take c.in-Ok.answer.len (buf ++ rest) ≡ buf = ap (λ (n : ℕ). take n (buf ++ rest)) whole ∙ take-append_seam buf rest in
     appends c.args.d.now.bytes c.read.new.self.bytes c.put.new.self.bytes c.args.d.now.len _ c.len-len.result c.args.call.now c.new.result
-    c.if-call-gt4096.false (omega (arith, c.if-len-gt1048576.false, c.len-len.ensures.size)) c.len-len.ensures.told
+    c.if-call-gt-MOST.false (omega (arith, c.if-len-gt1048576.false, c.len-len.ensures.size)) c.len-len.ensures.told
     (rw (c.new.ensures ∙ answer) (c.read.ensures.bytes done)) count c.read.ensures.same.bytes c.in_ok-put.ensures.bytes c.len-len.ensures.size
