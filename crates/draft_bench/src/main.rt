@@ -2,17 +2,16 @@
 //! are `newentry` or `nametoid`, and how many calls are made. Without words it does nothing, and reads nothing.
 #![tactic(auto)]
 
-ghost use Rattle.std.specs.Prelude.{◌≡◌, ◌+◌, ◌%◌, ◌<◌, ◌≤◌, ◌^◌, IfOk, length};
-ghost use Rattle.pt_calls.specs.Calls.{HasSpelling, spelling};
-ghost use Rattle.draft_bench.specs.Asked.{user_name, call_of_turn};
+ghost use Rattle.std.specs.Prelude.{◌<◌, ◌≤◌, ◌^◌, IfOk, length};
 
+use bench_calls::{Asked, call_of};
 use db_image::{CallEnd, Draft, DraftService, ImageRead, VecImage};
-use pt_calls::{Items, PtCall, PtService, spell_call};
+use pt_calls::PtService;
 use std::alloc::Global;
 use std::env;
 use std::io::Read;
 use std::process::ExitCode;
-use ubik_types::{Bytes, MAX_IMAGE, NoMemory, bytes_of};
+use ubik_types::{MAX_IMAGE, NoMemory};
 
 /// A call was refused, or memory ran out.
 const FAILED: u8 = 1;
@@ -20,62 +19,8 @@ const FAILED: u8 = 1;
 /// The words are none of those that the program takes.
 const WORDS: u8 = 6;
 
-/// A name that no entry of the image has, so that all blocks are looked at.
-const NOBODY: &[u8] = b"nobody";
-
 /// The moment of each call.
 const MOMENT: u32 = 1076;
-
-/// What is asked again and again.
-#[derive(Clone, Copy)]
-enum Asked {
-    /// Each time another user is made.
-    NewEntry,
-    /// A name is translated that is no entry's.
-    NameToId,
-}
-
-/// A letter for a number.
-fn letter(number: u32) -> u8
-    ensures { result ≡ 97 + number % 26 }
-{
-    b'a' + (number % 26) as u8
-}
-
-/// The name of the user of a turn.
-fn user_name(alloc: Global, turn: u32) -> Result<Bytes, NoMemory>
-    ensures { IfOk result (λ name. name ≡ user_name turn) }
-{
-    let name = [b'b', letter(turn / 676), letter(turn / 26), letter(turn)];
-    Ok(bytes_of(alloc, &name)?)
-}
-
-/// The call of a turn.
-fn call_of_turn(alloc: Global, asked: Asked, turn: u32) -> Result<PtCall, NoMemory>
-    ensures asked { IfOk result (λ call. call ≡ call_of_turn asked turn) }
-    ensures short { IfOk result HasSpelling }
-{
-    match asked {
-        Asked::NewEntry => Ok(PtCall::NewEntry {
-            name: user_name(alloc, turn)?,
-            kind: 0,
-            owner: 0,
-        }),
-        Asked::NameToId => {
-            let nobody = bytes_of(alloc, NOBODY)?;
-            Ok(PtCall::NameToId {
-                names: Items::new(vec![in alloc; nobody]?),
-            })
-        }
-    }
-}
-
-/// The bytes of the call of a turn.
-fn call_of(alloc: Global, asked: Asked, turn: u32) -> Result<Bytes, NoMemory>
-    ensures { IfOk result (λ bytes. bytes ≡ spelling (call_of_turn asked turn)) }
-{
-    spell_call(alloc, &call_of_turn(alloc, asked, turn)?)
-}
 
 /// Makes so many calls one after the other over a draft, and says how many of them took place.
 fn called_often<I: ImageRead>(

@@ -1,5 +1,5 @@
 -- What a disk did in a step that first read it.
-use Rattle.std.proofs.Common.{◌≡◌, ◌≤◌, ◌+◌, ⊎_elim, inl, inr, ℕ, List, take, Option, IfSome, sym, ap, subst, ◌∙◌, arith}
+use Rattle.std.proofs.Common.{◌≡◌, ◌≤◌, ◌+◌, ⊎_elim, inl, inr, ℕ, List, take, IfSome, sym, ap, subst, ◌∙◌, arith}
 use Rattle.disk_base.specs.declared.disks.Disk.{Ghosts}
 use Rattle.disk_base.specs.Crash.{LeavesOnly, Narrows}
 use Rattle.disk_base.specs.Files.{Files}

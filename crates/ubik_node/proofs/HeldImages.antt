@@ -1,14 +1,13 @@
 -- The image of a store that has not failed: how long it is, and what a commit makes of it.
-use Rattle.std.proofs.Common.{◌≡◌, ◌∙◌, ℕ, List, length, replicate, Option, Some, None, IfSome, IsSome, refl, sym, ap}
+use Rattle.std.proofs.Common.{◌≡◌, ◌∙◌, ℕ, List, length, replicate, Option, Some, None, IfSome, IsSome, sym, ap}
 use Rattle.std.specs.Prelude.{unwrap_or}
 use Rattle.std.specs.Option.{option_map}
 use Rattle.std.proofs.lemmas.List.{length-replicate}
-use Rattle.std.proofs.lemmas.Bool.{false≢true}
 use Rattle.ubik_types.specs.declared.images.Change.{Change}
 use Rattle.ubik_types.specs.Image.{effect}
 use Rattle.disk_base.specs.declared.disks.Disk.{Ghosts}
 use Rattle.disk_base.specs.Files.{Files}
-use Rattle.page_file.specs.Pages.{Known, AgreesIn, image_of}
+use Rattle.page_file.specs.Pages.{Known, AgreesIn}
 use Rattle.ubik_store.specs.declared.stores.Store.{Store}
 use Rattle.ubik_store.specs.Store.{IsReady, image_in}
 use Rattle.ubik_node.specs.Held.{held_image}

@@ -1,5 +1,6 @@
 pub mod AfterReads
 pub mod Alone
+pub mod Appended
 pub mod Committing
 pub mod Durables
 pub mod Gapless

@@ -28,7 +28,7 @@ made_here d (Some fs) image now call e meant there made =
 pub judged_turn : (d : Standing) (h : Host) (st : State) (now id : ℕ) (call : List ℕ) (e : Evaluation) (v : Verdict)
     → length st.image ≤ length (d.database.call st.image now call).image
     → ((image : List ℕ) → length st.image ≤ length image → e.changes ≡ changes_of d.database st.image image → (h : Host) (now id : ℕ) (call : List ℕ)
-        → Judges h (server_of st) st.progress now id call image v (turned d.database (alone h) (server_of st) now id call image e.reply))
+    → Judges h (server_of st) st.progress now id call image v (turned d.database (alone h) (server_of st) now id call image e.reply))
     → IsOutcome d st.image (d.database.call st.image now call) e
     → Judges h (server_of st) st.progress now id call (d.database.call st.image now call).image v (write_turn d.database (alone h) (server_of st) now id call false)
 judged_turn d h st now id call e v grows judged outcome =

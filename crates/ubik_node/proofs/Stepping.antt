@@ -32,7 +32,7 @@ use Rattle.disk_base.specs.declared.disks.Disk.{Ghosts}
 use Rattle.disk_base.specs.Files.{Files}
 use Rattle.ubik_node.specs.Disk.{FailsIn, Serves}
 use Rattle.ubik_node.specs.Node.{IsMeantIn, Makes, Needs, Steps, durable_in}
-use Rattle.ubik_node.specs.Progress.{IsServing, alone, phase_record}
+use Rattle.ubik_node.specs.Progress.{alone, phase_record}
 use Rattle.ubik_node.specs.Recovering.{Recovers, relabelled_to}
 use Rattle.ubik_node.specs.Serving.{Answers, Reads, Writes}
 use Rattle.ubik_node.specs.State.{Shows, member_of, server_of}

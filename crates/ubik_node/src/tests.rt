@@ -20,6 +20,9 @@ use ubik_types::{Applied, Bytes, Cell, Host, NoMemory, Phase, Version, bytes_of}
 #[derive(Drop)]
 pub(crate) struct Appending;
 
+/// The most bytes of a call: more than changes may have.
+const MOST: usize = 2_097_152;
+
 /// Appends a call to an image, and answers what it was.
 fn append<I: ImageRead>(
     alloc: Global,
@@ -35,7 +38,7 @@ fn append<I: ImageRead>(
     ensures fault { IfErr result IsOfImage }
     ensures reads { OnlyReads I.ImageRead d.old.image d.new.image (IsErrOf result RecordFault.DiskFault) }
 {
-    if call.len() > 4096 {
+    if call.len() > MOST {
         return Ok(CallEnd::Malformed);
     }
     let len = d.len();
@@ -63,7 +66,7 @@ impl DraftService for Appending {
     ghost never_shrinks = { appending_grows };
 
     fn writes(call: &[u8]) -> Option<bool> {
-        if call.len() > 4096 {
+        if call.len() > MOST {
             None
         } else {
             Some(!call.is_empty())
@@ -78,7 +81,7 @@ impl DraftService for Appending {
     }
 
     fn draft<I: ImageRead>(alloc: Global, image: I) -> Draft<I> {
-        Draft::over(alloc, image, 4, 8)
+        Draft::over(alloc, image, 4, 4096)
     }
 }
 
@@ -490,7 +493,12 @@ fn a_file_without_a_label(rt: HostRuntime) -> Result<(), Fail> {
 }
 
 /// A writing call at a server whose disk fails, or has failed.
-fn halts<D: SteadyDisk>(rt: &impl Abort, alloc: Global, node: &mut Server<D>, id: u32) -> Result<(), Fail>
+fn halts<D: SteadyDisk>(
+    rt: &impl Abort,
+    alloc: Global,
+    node: &mut Server<D>,
+    id: u32,
+) -> Result<(), Fail>
     requires stored { IsStored D.Disk node.old }
     ensures stored { IsStored D.Disk node.new }
 {

@@ -49,7 +49,7 @@ returns-clause-made g c = λ tells image written.
     let done : Commits g.D.Disk c.args.changes.now (next_version n.state.version) n.store new =
     subst (λ (cs : List Change). Commits g.D.Disk cs (next_version n.state.version) n.store new) same c.in_ok-commit_all.ensures.done in
     let held : c.of.result ≡ image = c.of.ensures
-        ∙ held_after (g.D.Disk.files n.store.disk) (g.D.Disk.files new.disk) new.len c.args.changes.now n.state.image image tells (c.requires.stored.image c.requires.not_halted) done.image written.leads in
+    ∙ held_after (g.D.Disk.files n.store.disk) (g.D.Disk.files new.disk) new.len c.args.changes.now n.state.image image tells (c.requires.stored.image c.requires.not_halted) done.image written.leads in
     up_if _ _ _ c.requires.not_halted ∙ ap (λ (bytes : List ℕ). Up (committed (server_of n.state) n.state.progress bytes)) held
 
 pub returns-clause-stored : goal.returns-clause-stored

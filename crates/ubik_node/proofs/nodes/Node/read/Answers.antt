@@ -1,4 +1,4 @@
-use Rattle.std.proofs.Common.{◌≡◌, ◌≢◌, ◌∙◌, [], sym, ap, subst}
+use Rattle.std.proofs.Common.{◌≢◌, ◌∙◌, [], sym, ap, subst}
 use Rattle.cell_model.specs.Durable.{durable}
 use Rattle.cell_model.specs.Node as model
 use Rattle.ubik_store.specs.declared.faults.StoreFault.TheVariants.{DiskFault}

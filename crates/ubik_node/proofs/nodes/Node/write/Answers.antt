@@ -2,7 +2,6 @@ use Rattle.std.proofs.Common.{◌≡◌, ◌≢◌, ◌∙◌, ℕ, [], ◌∷�
 use Rattle.std.specs.Prelude.{Result, Err}
 use Rattle.std.specs.Result.{is_err}
 use Rattle.std.proofs.lemmas.Bool.{false≢true}
-use Rattle.ubik_types.specs.declared.hosts.Host.{Host}
 use Rattle.ubik_types.specs.declared.phases.Applied.TheVariants as applied
 use Rattle.ubik_types.specs.declared.phases.Phase.TheVariants as phases
 use Rattle.ubik_types.specs.Lease.{lease_end}
@@ -11,7 +10,7 @@ use Rattle.disk_base.proofs.Runs.{reads_change_none, reads_joined}
 use Rattle.ubik_calls.specs.declared.replies.Reply.{Reply}
 use Rattle.ubik_calls.specs.declared.replies.Reply.TheVariants as reply
 use Rattle.cell_model.specs.declared.events.Output.TheVariants as output
-use Rattle.cell_model.specs.Durable.{Durable, durable}
+use Rattle.cell_model.specs.Durable.{durable}
 use Rattle.cell_model.specs.Node as model
 use Rattle.cell_model.specs.Writes.{write_turn}
 use Rattle.ubik_store.specs.declared.faults.StoreFault.{StoreFault}
@@ -74,7 +73,7 @@ returns-in-Reply-clause-done g c = λ ended meant h.
     let d = g.V.DraftService.standing in
     let outcome = made_here d (g.D.Disk.files n.store.disk) n.state.image c.args.now c.args.call.now c.in-Ok.made meant (c.requires.stored.image c.requires.not_halted) c.in-Ok.ensures.made in
     let judged =
-        judged_turn d h n.state c.args.now c.args.id c.args.call.now c.in-Ok.made (verdict.Reply c.in-Reply.reply) (g.met.V.DraftService.never_shrinks n.state.image c.args.now c.args.call.now) c.in-Reply.ensures.judged outcome in (
+    judged_turn d h n.state c.args.now c.args.id c.args.call.now c.in-Ok.made (verdict.Reply c.in-Reply.reply) (g.met.V.DraftService.never_shrinks n.state.image c.args.now c.args.call.now) c.in-Reply.ensures.judged outcome in (
       false,
       led_at (write_turn d.database (alone h) (up_server n) c.args.now c.args.id c.args.call.now false) (up_server n) _ _ _ [] _ (up_if _ _ _ c.requires.not_halted) c.put_reply.ensures.out
           judged (serves_reads g.D.Disk n.store (durable n.state.version n.state.image) (c.requires.stored.sound.ready (c.requires.stored.failed ∙ c.requires.not_halted)) (c.requires.stored.image c.requires.not_halted) c.requires.stored.version c.in-Ok.ensures.disk),
@@ -86,7 +85,7 @@ returns-in-NewPoll-clause-done g c = λ ended meant h.
     let d = g.V.DraftService.standing in
     let outcome = made_here d (g.D.Disk.files n.store.disk) n.state.image c.args.now c.args.call.now c.in-Ok.made meant (c.requires.stored.image c.requires.not_halted) c.in-Ok.ensures.made in
     let judged =
-        judged_turn d h n.state c.args.now c.args.id c.args.call.now c.in-Ok.made verdict.NewPoll (g.met.V.DraftService.never_shrinks n.state.image c.args.now c.args.call.now) c.in-NewPoll.ensures.judged outcome in (
+    judged_turn d h n.state c.args.now c.args.id c.args.call.now c.in-Ok.made verdict.NewPoll (g.met.V.DraftService.never_shrinks n.state.image c.args.now c.args.call.now) c.in-NewPoll.ensures.judged outcome in (
       false,
       led_at (write_turn d.database (alone h) (up_server n) c.args.now c.args.id c.args.call.now false) _ _ _ _ [] _ (up_if _ _ _ c.requires.not_halted)
           (c.put_reply-in-NewPoll.ensures.out ∙ ap (λ (r : Reply). output.Reply c.args.id r ∷ []) (c.no_quorum-reply.ensures ∙ ap (λ (k : ℕ). reply.NoQuorum c.args.now (lease_end k n.state.votes.starts) phases.Poll applied.No) (n.state.alone (held n.state.progress c.requires.serving))))
@@ -100,7 +99,7 @@ returns-in-Ok-commit-clause-done g c = λ ended meant h.
     let image = (d.database.call n.state.image c.args.now c.args.call.now).image in
     let outcome = made_here d (g.D.Disk.files n.store.disk) n.state.image c.args.now c.args.call.now c.in-Ok.made meant (c.requires.stored.image c.requires.not_halted) c.in-Ok.ensures.made in
     let judged =
-        judged_turn d h n.state c.args.now c.args.id c.args.call.now c.in-Ok.made (verdict.Commit c.in-Commit.answer c.in-Commit.changes) (g.met.V.DraftService.never_shrinks n.state.image c.args.now c.args.call.now) c.in-Commit.ensures.judged outcome in
+    judged_turn d h n.state c.args.now c.args.id c.args.call.now c.in-Ok.made (verdict.Commit c.in-Commit.answer c.in-Commit.changes) (g.met.V.DraftService.never_shrinks n.state.image c.args.now c.args.call.now) c.in-Commit.ensures.judged outcome in
     let went = λ (failed : _). false≢true (ap is_err failed) in
     let told = c.in-Ok.ensures.disk.files went in
     let calls = (write_turn d.database (alone h) (up_server n) c.args.now c.args.id c.args.call.now false).calls in (
@@ -135,7 +134,7 @@ returns-clause-left g c = λ ended meant h.
     let image = (d.database.call n.state.image c.args.now c.args.call.now).image in
     let outcome = made_here d (g.D.Disk.files n.store.disk) n.state.image c.args.now c.args.call.now c.in-Ok.made meant (c.requires.stored.image c.requires.not_halted) c.in-Ok.ensures.made in
     let judged =
-        judged_turn d h n.state c.args.now c.args.id c.args.call.now c.in-Ok.made (verdict.Commit c.in-Commit.answer c.in-Commit.changes) (g.met.V.DraftService.never_shrinks n.state.image c.args.now c.args.call.now) c.in-Commit.ensures.judged outcome in
+    judged_turn d h n.state c.args.now c.args.id c.args.call.now c.in-Ok.made (verdict.Commit c.in-Commit.answer c.in-Commit.changes) (g.met.V.DraftService.never_shrinks n.state.image c.args.now c.args.call.now) c.in-Commit.ensures.judged outcome in
     let went = λ (failed : _). false≢true (ap is_err failed) in
     let halts : c.in-Err-commit.fault ≡ DiskFault = halted_fault c.in-Err-commit.fault _ (λ other. (c.end_short-in-Err-commit.ensures.no_memory other).0) ended in
     subst (λ (s : Store g.row.D.Denot). FailsIn g.D.Disk (durable n.state.version n.state.image) n.store.disk s.disk (write_turn d.database (alone h) (up_server n) c.args.now c.args.id c.args.call.now false).calls)
@@ -155,6 +154,6 @@ returns-clause-calls g c =
     let done : CallsSo g.D.Disk n.store.disk c.commit.new.self.store.disk halts = (
       run.0,
       calls_as (omega arith) (λ failed. ((c.end_short-in-Err-commit.ensures.halted (err_fault c.in-Err-commit.fault (sym c.in-Err-commit.is ∙ failed))).0, c.requires.not_halted))
-      (λ halted. c.in-Err-commit.is ∙ ap Err (halted_fault c.in-Err-commit.fault _ (λ other. (c.end_short-in-Err-commit.ensures.no_memory other).0) halted.0)) all,
+          (λ halted. c.in-Err-commit.is ∙ ap Err (halted_fault c.in-Err-commit.fault _ (λ other. (c.end_short-in-Err-commit.ensures.no_memory other).0) halted.0)) all,
     ) in
     subst (λ (s : Store g.row.D.Denot). CallsSo g.D.Disk n.store.disk s.disk halts) (sym c.end_short-in-Err-commit.ensures.same.1) done

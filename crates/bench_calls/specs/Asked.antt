@@ -2,8 +2,8 @@
 use Rattle.std.specs.Prelude.{ℕ, ◌+◌, ◌/◌, ◌%◌, pos, List, [], ◌∷◌, codes}
 use Rattle.pt_calls.specs.declared.calls.PtCall.{PtCall}
 use Rattle.pt_calls.specs.declared.calls.PtCall.TheVariants as call
-use Rattle.draft_bench.specs.declared.Asked.{Asked}
-use Rattle.draft_bench.specs.declared.Asked.TheVariants as asked
+use Rattle.bench_calls.specs.declared.Asked.{Asked}
+use Rattle.bench_calls.specs.declared.Asked.TheVariants as asked
 
 abbrev pub letter : ℕ → ℕ
 letter n = 97 + n % 26
