@@ -41,25 +41,25 @@ use Rattle.db_image.specs.Standing.{Standing}
 
 module _ {D V : Type 0} (g : Ghosts D) (db : Database) (m : Member) (clock : ℕ) (e : NodeEvent) where
   -- a fault that is told is one of its disk
-  pub faults_made : {standing : Standing} (k : ℕ) (end : SiteEnd) (node later : Node D V) (out : List Output) (server : Server D V) (left : List Output) → NodeStepped g standing db m clock e end node later out → Becomes g end later out server left
+  pub faults_made : (standing : Standing) (k : ℕ) (end : SiteEnd) (node later : Node D V) (out : List Output) (server : Server D V) (left : List Output) → NodeStepped g standing db m clock e end node later out → Becomes g end later out server left
       → g.faults node.store.disk + fault_count k (map Tells (end_marks k end)) ≤ g.faults (server_disk server)
-  faults_made k ended.Made node later out server left step becomes =
+  faults_made standing k ended.Made node later out server left step becomes =
       let kept = step.calls.1.cause.never_falls in
       let is = ap (λ (s : Server D V). g.faults (server_disk s)) becomes.0 in
       omega (arith, kept, is)
-  faults_made k ended.Halts node later out server left step becomes =
+  faults_made standing k ended.Halts node later out server left step becomes =
       let rose = step.fault in
       let same = step.revived.faults in
       let one = (marks_one k).0 in
       let is = ap (λ (s : Server D V). g.faults (server_disk s)) becomes.0 in
       omega (arith, rose, same, one, is)
-  faults_made k ended.Stops node later out server left step becomes =
+  faults_made standing k ended.Stops node later out server left step becomes =
       let rose = step.fault in
       let same = becomes.0.2.faults in
       let one = (marks_one k).1 in
       let is = ap (λ (s : Server D V). g.faults (server_disk s)) becomes.0.1 in
       omega (arith, rose, same, one, is)
-  faults_made k ended.NoMemory node later out server left step becomes =
+  faults_made standing k ended.NoMemory node later out server left step becomes =
       let kept = step.steps.2.cause.never_falls in
       let is = ap (λ (s : Server D V). g.faults (server_disk s)) becomes.0 in
       omega (arith, kept, is)

@@ -142,7 +142,7 @@ module _ {D V : Type 0} {standing : Standing} (g : Ghosts D) (script_db : Script
   all_sites = sites ∙ ss.sites
 
   faults : g.faults ss.node.store.disk + fault_count k (map Tells (end_marks k end)) ≤ g.faults (server_disk ss.server)
-  faults = faults_made g script_db.database (member_at before k) ss.clock e k end ss.node ss.later ss.out ss.server mid.outputs ss.step ss.becomes
+  faults = faults_made g script_db.database (member_at before k) ss.clock e standing k end ss.node ss.later ss.out ss.server mid.outputs ss.step ss.becomes
 
   pub rises : AreRises 0 [] (helds g before) (helds g after)
   rises =

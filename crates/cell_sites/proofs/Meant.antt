@@ -2,7 +2,6 @@
 use Rattle.std.proofs.Common.{Bool, true, false, ◌==◌, ◌≡◌, ℕ, zero, suc, ◌+◌, List, [], ◌∷◌, ◌++◌, length, map, take, refl, sym, ap, subst}
 use Rattle.std.proofs.lemmas.Bool.{cond_both}
 use Rattle.std.specs.Prelude.{Option, Some, None, is_some, nat_lt, nat_le}
-use Rattle.lock_table.specs.declared.tables.TheConstants.{MAX_WAITING}
 use Rattle.ubik_types.specs.declared.hosts.Host.{Host}
 use Rattle.ubik_types.specs.declared.images.Change.{Change}
 use Rattle.ubik_types.specs.declared.limits.TheConstants.{SMALLTIME}
@@ -142,7 +141,7 @@ module _ (standing : Standing) (keeps : (image : List ℕ) (now : ℕ) (call : L
         let o = db.call s.image now call in
         cond_both short _ _ Meant (λ _. meant) (λ _. turned_meant id call o.image o.reply (keeps s.image now call meant))
     written_meant id call short (Some f) =
-        cond_both (nat_le MAX_WAITING (length s.waiting)) _ _ Meant (λ _. meant) (λ _. cond_both short _ _ Meant (λ _. meant) (λ _. meant))
+        cond_both (nat_le 64 (length s.waiting)) _ _ Meant (λ _. meant) (λ _. cond_both short _ _ Meant (λ _. meant) (λ _. meant))
 
     served_meant : (id : ℕ) (call : List ℕ) (writes short : Bool) → Meant (served db m s now id call writes short)
     served_meant id call true short = written_meant id call short s.flight

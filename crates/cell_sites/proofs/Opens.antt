@@ -84,9 +84,9 @@ told_at files fs P is holds = let Q : Option Files → Type 0 = λ o. IsSomeAnd 
 pub if_told : (files : Option Files) (fs : Files) (P : Files → Type 0) → files ≡ Some fs → P fs → IfSome files P
 if_told files fs P is holds = let Q : Option Files → Type 0 = λ o. IfSome o P in subst Q (sym is) holds
 
-pub some_stands : {standing : Standing} (files : Option Files) (d : Durable) → IsSomeAnd files (StandsAs d) → IsMeantImage standing d.image → IfSome files (StandsForSome standing)
-some_stands None d stands meant = tt
-some_stands (Some fs) d stands meant = (d, stands, meant)
+pub some_stands : (standing : Standing) (files : Option Files) (d : Durable) → IsSomeAnd files (StandsAs d) → IsMeantImage standing d.image → IfSome files (StandsForSome standing)
+some_stands standing None d stands meant = tt
+some_stands standing (Some fs) d stands meant = (d, stands, meant)
 
 pub unarmed_stays : (n : ℕ) → after_changes n Unarmed ≡ Unarmed
 unarmed_stays zero = refl
@@ -206,7 +206,7 @@ module _ {D V : Type 0} {standing : Standing} (g : Ghosts D) (hosts cell : List 
       told = some;
       settled = node_settled g n stored server_up.0;
       plain = plain_read g n.store.disk (leaves_plain g disk n.store.disk ⊥ d sound stands opening);
-      stands = some_stands (g.files n.store.disk) d holds (meant g disk n.store.disk ⊥ d sound stands opening);
+      stands = some_stands standing (g.files n.store.disk) d holds (meant g disk n.store.disk ⊥ d sound stands opening);
     };
     calls =
         let o = opens g disk n.store.disk ⊥ d sound stands opening in
