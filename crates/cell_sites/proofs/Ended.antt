@@ -1,5 +1,5 @@
 -- What a step leaves of its server and of its disk, by how it ended for the cell.
-use Rattle.std.proofs.Common.{if◌then◌else◌, ◌≡◌, ◌≢◌, ◌⊎◌, inl, inr, ◌<◌, ◌≤◌, ◌+◌, ℕ, zero, suc, Bool, true, false, Option, Some, None, IfSome, IsSome, IsSomeAnd, List, [], ◌∷◌, map, take, sum, refl, sym, ap, subst, ◌∙◌, arith}
+use Rattle.std.proofs.Common.{if◌then◌else◌, ◌≡◌, ◌⊎◌, inl, inr, ◌≤◌, ◌+◌, ℕ, zero, suc, Bool, true, false, Option, IsSome, IsSomeAnd, List, [], map, take, sum, refl, sym, ap, subst, ◌∙◌, arith}
 use Rattle.disk_base.specs.declared.disks.Disk.{Ghosts}
 use Rattle.disk_base.specs.Files.{Files}
 use Rattle.db_image.specs.Database.{Database}
@@ -18,8 +18,8 @@ use Rattle.cell_runs.specs.Script.{calls_on_all}
 use Rattle.cell_runs.specs.Trace.{Tells, fault_count}
 use Rattle.ubik_node.specs.declared.nodes.Node.{Node}
 use Rattle.ubik_node.specs.declared.nodes.StepEnd.{StepEnd}
-use Rattle.ubik_node.specs.declared.nodes.StepEnd.TheVariants.{Done, Halted, NoMemory}
-use Rattle.ubik_node.specs.Disk.{FailsIn, IsRevived, Serves, StandsAs}
+use Rattle.ubik_node.specs.declared.nodes.StepEnd.TheVariants.{Done, Halted}
+use Rattle.ubik_node.specs.Disk.{IsRevived, Serves, StandsAs}
 use Rattle.ubik_node.specs.Node.{Makes, Steps, durable_in, node_of, up_server}
 use Rattle.cell_sites.specs.Counts.{IsCutShort}
 use Rattle.cell_sites.specs.Disks.{IsReadBy, held}
@@ -27,15 +27,15 @@ use Rattle.cell_sites.specs.Sites.{server_disk}
 use Rattle.cell_sites.specs.Sound.{IsSoundDisk, IsSoundNode, IsSoundServer}
 use Rattle.cell_sites.specs.Stepped.{Becomes, NodeStepped, StaysSound}
 use Rattle.cell_sites.specs.declared.sites.Server.{Server}
-use Rattle.cell_sites.specs.declared.sites.Server.TheVariants.{Down, Up}
+use Rattle.cell_sites.specs.declared.sites.Server.TheVariants.{Up}
 use Rattle.cell_sites.specs.declared.steps.SiteEnd.{SiteEnd}
 use Rattle.cell_sites.specs.declared.steps.SiteEnd.TheVariants as ended
 use Rattle.cell_sites.proofs.Counting.{each_on}
 use Rattle.cell_sites.proofs.FewCalls.{packet_none}
 use Rattle.cell_sites.proofs.Made.{end_marks, marks_one}
-use Rattle.cell_sites.proofs.Nodes.{halted_rests, is_up, sound_revived}
+use Rattle.cell_sites.proofs.Nodes.{halted_rests, sound_revived}
 use Rattle.cell_sites.proofs.Plainly.{and_some, make_some}
-use Rattle.cell_sites.proofs.Serving.{FilesAt, failed_in, files_at, one_durable, served_rise}
+use Rattle.cell_sites.proofs.Serving.{failed_in, files_at, one_durable, served_rise}
 use Rattle.cell_sites.proofs.Shortage.{CameShort}
 use Rattle.db_image.specs.Standing.{Standing}
 

@@ -1,7 +1,6 @@
 -- What a sound server that is up needs for a step: its image stands for a state of the database, and each durable call leads to one that does.
-use Rattle.std.proofs.Common.{◌≡◌, ℕ, List, Option, IsSome, refl, sym, subst}
+use Rattle.std.proofs.Common.{◌≡◌, ℕ, List, refl, subst}
 use Rattle.disk_base.specs.declared.disks.Disk.{Ghosts}
-use Rattle.disk_base.specs.Files.{Files}
 use Rattle.db_image.specs.Standing.{IsMeantOver, Standing}
 use Rattle.cell_model.specs.declared.events.NodeEvent.{NodeEvent}
 use Rattle.cell_model.specs.declared.events.NodeEvent.TheVariants as event

@@ -1,8 +1,7 @@
 -- The server that is up, after a step.
-use Rattle.std.proofs.Common.{if◌then◌else◌, ◌≡◌, ◌≢◌, ◌⊎◌, inl, inr, ◌<◌, ◌≤◌, ◌+◌, ℕ, Bool, true, false, not, List, [], ◌∷◌, map, Option, Some, None, IfSome, IsSome, refl, sym, ap, subst, ◌∙◌, arith}
-use Rattle.std.specs.Option.{option_map}
+use Rattle.std.proofs.Common.{if◌then◌else◌, ◌≡◌, ◌⊎◌, inl, inr, ◌≤◌, ℕ, Bool, true, false, List, [], IsSome, refl, sym, ap, subst, ◌∙◌, arith}
 use Rattle.disk_base.specs.declared.disks.Disk.{Ghosts}
-use Rattle.disk_base.specs.Crash.{IsSettled, LeavesSame, Only}
+use Rattle.disk_base.specs.Crash.{Only}
 use Rattle.disk_base.specs.Files.{Files}
 use Rattle.disk_base.specs.Runs.{OnlyReads}
 use Rattle.disk_base.specs.Stops.{IsStopped}
@@ -16,7 +15,7 @@ use Rattle.cell_model.specs.Node as model
 use Rattle.cell_model.specs.NodeRule.{step_of}
 use Rattle.cell_model.specs.Step.{Member, cell_size}
 use Rattle.cell_model.specs.Voters.{IsVoter, IsAlonePhase}
-use Rattle.ubik_types.specs.Phase.{PhaseRecord, NoPhase}
+use Rattle.ubik_types.specs.Phase.{NoPhase}
 use Rattle.ubik_store.specs.Gaps.{IsPlain}
 use Rattle.ubik_node.specs.declared.nodes.Node.{Node}
 use Rattle.ubik_node.specs.declared.nodes.StepEnd.{StepEnd}
@@ -30,7 +29,7 @@ use Rattle.ubik_node.specs.State.{member_of, server_of}
 use Rattle.ubik_node.specs.Progress.{is_held, phase_record}
 use Rattle.cell_sites.specs.declared.steps.SiteEnd.TheVariants as ended
 use Rattle.cell_sites.specs.Sound.{IsSoundDisk, IsSoundNode, StandsForSome}
-use Rattle.cell_sites.specs.Stepped.{NodeStepped, StaysSound}
+use Rattle.cell_sites.specs.Stepped.{NodeStepped}
 use Rattle.cell_sites.proofs.Meant.{AllMeant}
 use Rattle.cell_sites.proofs.Plainly.{left_plain, left_stands, make_if, of_some, some_of}
 

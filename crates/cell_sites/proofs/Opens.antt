@@ -1,5 +1,5 @@
 -- A server that is opened over a disk whose files stand for a durable state.
-use Rattle.std.proofs.Common.{if◌then◌else◌, ◌≡◌, ◌≢◌, ◌<◌, ◌≤◌, ◌+◌, ◌-◌, ℕ, zero, suc, Bool, true, false, true≢false, List, take, length, Option, Some, None, IfSome, IsSome, IsSomeAnd, refl, sym, ap, subst, ◌∙◌, arith}
+use Rattle.std.proofs.Common.{if◌then◌else◌, ◌≡◌, ◌≢◌, ◌+◌, ◌-◌, ℕ, zero, suc, Bool, true, false, List, take, length, Option, Some, None, IfSome, IsSome, IsSomeAnd, refl, sym, ap, subst, ◌∙◌, arith}
 use Rattle.std.proofs.lemmas.Bool.{false≢true}
 use Rattle.std.proofs.lemmas.Slice.Eq.{bytes_eq-Decides}
 use Rattle.std.specs.Str.{bytes_eq}
@@ -31,11 +31,9 @@ use Rattle.cell_model.specs.Voters.{IsVoter}
 use Rattle.ubik_node.specs.declared.nodes.Node.{Node}
 use Rattle.ubik_node.specs.Disk.{StandsAs}
 use Rattle.ubik_node.specs.Node.{node_of, own_member, up_server, IsStored}
-use Rattle.cell_sites.specs.Counts.{RisesAs}
 use Rattle.cell_sites.specs.OpenedServer.{OpensDisk, ServerIs, ServerOpens, is_cut_short}
 use Rattle.cell_sites.specs.declared.openings.OpenEnd.{OpenEnd}
 use Rattle.cell_sites.specs.declared.openings.OpenEnd.TheVariants as opened
-use Rattle.cell_sites.specs.declared.sites.Server.{Server}
 use Rattle.cell_sites.specs.declared.sites.Server.TheVariants as server
 use Rattle.cell_sites.specs.Sound.{IsMeantImage, IsSoundDisk, StandsForSome}
 use Rattle.cell_sites.proofs.Standing.{stands_once}
