@@ -1,18 +1,18 @@
 -- What is told of the outputs of a step is what is seen of them, up to a packet that passes a limit.
-use Rattle.std.proofs.Common.{◌≡◌, ◌<◌, ◌≤◌, ◌+◌, ◌-◌, ℕ, zero, suc, Bool, true, false, Option, Some, None, List, [], ◌∷◌, ◌++◌, length, replicate, refl, sym, ap, subst, ◌∙◌, arith, append_assoc, map, if◌then◌else◌}
+use Rattle.std.proofs.Common.{◌≡◌, ◌≤◌, ◌+◌, ℕ, Option, Some, None, List, [], ◌∷◌, ◌++◌, length, refl, sym, ap, subst, ◌∙◌, arith, append_assoc, map}
 use Rattle.std.proofs.lemmas.List.{append-nil, length_push}
 use Rattle.ubik_types.specs.declared.hosts.Host.{Host}
 use Rattle.ubik_calls.specs.declared.packets.Packet.{Packet}
 use Rattle.ubik_calls.specs.Length.{packet_length}
 use Rattle.cell_model.specs.declared.events.Output.{Output}
 use Rattle.cell_model.specs.declared.events.Output.TheVariants as output
-use Rattle.cell_model.specs.Step.{Evaluation, Shown, outputs_of}
-use Rattle.cell_model.specs.World.{Happening, Sent, Announced, Replied, Lost, Stops, Halts, Restarts, Stays_down, packet_in, packet_of, packets_of, seen_of_output, seen_from, number_after}
+use Rattle.cell_model.specs.Step.{Evaluation, Shown}
+use Rattle.cell_model.specs.World.{Happening, Sent, Announced, Replied, Lost, Stops, Halts, Restarts, Stays_down, packet_of, packets_of, seen_of_output, seen_from}
 use Rattle.cell_runs.specs.declared.endings.Ending.{Ending}
 use Rattle.cell_runs.specs.ScriptDatabase.{ScriptDatabase}
 use Rattle.cell_runs.specs.Script.{Within, within, within_more, within_packet, bytes_of, passed_by}
-use Rattle.cell_runs.specs.Trace.{TraceItem, Tells, item_text, trace, is_fault_of, fault_count}
-use Rattle.cell_sites.specs.Telling.{Telling, TellingRun, passed_in, with_shown, unless_passed, told_of}
+use Rattle.cell_runs.specs.Trace.{Tells, item_text, trace, fault_count}
+use Rattle.cell_sites.specs.Telling.{Telling, TellingRun, with_shown, unless_passed, told_of}
 use Rattle.cell_sites.proofs.Waiting.{bytes_of-push}
 
 -- what is seen beside outputs is no packet

@@ -1,21 +1,18 @@
 -- Disks that are to stop.
-use Rattle.std.proofs.Common.{if◌then◌else◌, ◌≡◌, ◌≢◌, ◌⊎◌, inl, inr, ◌<◌, ◌≤◌, ◌+◌, ◌-◌, ◌==◌, ℕ, zero, suc, Bool, true, false, Option, Some, None, List, [], ◌∷◌, ◌++◌, length, map, set, replicate, take, refl, sym, ap, subst, ◌∙◌, arith}
-use Rattle.std.specs.Prelude.{nat_lt, not, slice_get, All}
+use Rattle.std.proofs.Common.{if◌then◌else◌, ◌≡◌, ◌⊎◌, inl, inr, ◌<◌, ◌≤◌, ◌+◌, ◌-◌, ℕ, zero, suc, Bool, true, false, Option, Some, None, List, [], ◌∷◌, set, take, refl, sym, ap, subst, ◌∙◌, arith}
+use Rattle.std.specs.Prelude.{nat_lt, slice_get}
 use Rattle.std.proofs.lemmas.Bool.{eq-eqb, ne_eqb}
 use Rattle.std.proofs.lemmas.Bool.Decides.{nat_tests}
-use Rattle.std.proofs.lemmas.List.Elements.{All-head, All-tail}
 use Rattle.disk_base.specs.declared.disks.Disk.{Ghosts}
 use Rattle.disk_base.specs.declared.disks.Fill.{Fill}
 use Rattle.disk_base.specs.Stops.{DiskStop, IsStopped, after_change, after_changes}
 use Rattle.disk_base.specs.Stops.DiskStop.{Unarmed, Stopped, Armed as ToStop}
 use Rattle.ubik_types.specs.declared.versions.Version.{Version}
 use Rattle.cell_model.specs.Durable.{Made, version_after}
-use Rattle.cell_model.specs.Node as model
 use Rattle.cell_model.specs.World.{calls_on}
 use Rattle.cell_runs.specs.Script.{Armed, armed_at, calls_before_stop, calls_on_all, counted_on, one_more, stops_in}
 use Rattle.cell_sites.specs.declared.sites.Site.{Site}
 use Rattle.cell_sites.specs.Sites.{AreArmed, IsArmedAs, StopsAs, server_node, site_disk}
-use Rattle.cell_sites.proofs.Counting.{each_on}
 
 -- ---- a stop after so many changing calls
 

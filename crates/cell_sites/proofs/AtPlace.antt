@@ -1,7 +1,6 @@
 -- Sites that stand for those of a model, one after the other.
 use Rattle.std.proofs.Common.{if◌then◌else◌, ◌≡◌, ◌<◌, ◌+◌, ℕ, zero, suc, Bool, true, false, List, [], ◌∷◌, ◌++◌, Option, Some, length, map, set, get_or, refl, sym, ap, subst, ◌∙◌, arith}
 use Rattle.std.specs.Prelude.{insert, remove, slice_get}
-use Rattle.disk_base.specs.Files.{Files}
 use Rattle.ubik_types.specs.declared.hosts.Host.{Host}
 use Rattle.std.proofs.lemmas.Option.{slice_get_read}
 use Rattle.db_image.specs.Database.{Database}

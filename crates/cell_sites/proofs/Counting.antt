@@ -1,13 +1,13 @@
 -- The disks of a cell hold its run after one more event.
-use Rattle.std.proofs.Common.{if◌then◌else◌, ◌≡◌, ◌≢◌, ◌⊎◌, inl, inr, ◌<◌, ◌≤◌, ◌+◌, ◌==◌, ℕ, zero, suc, Bool, true, false, Option, Some, None, List, [], ◌∷◌, ◌++◌, length, map, set, take, sum, refl, sym, ap, subst, ◌∙◌, arith}
-use Rattle.std.specs.Prelude.{fold, slice_get}
+use Rattle.std.proofs.Common.{if◌then◌else◌, ◌≡◌, ◌≢◌, inl, ◌≤◌, ◌+◌, ℕ, zero, suc, Bool, true, false, Option, Some, None, List, [], ◌∷◌, ◌++◌, length, take, sum, refl, sym, ap, subst, ◌∙◌, arith}
+use Rattle.std.specs.Prelude.{fold}
 use Rattle.std.proofs.lemmas.Bool.{eq-eqb, ne_eqb}
 use Rattle.db_image.specs.Database.{Database}
 use Rattle.ubik_types.specs.declared.hosts.Host.{Host}
 use Rattle.ubik_types.specs.declared.versions.Version.{Version}
 use Rattle.cell_model.specs.declared.events.NodeEvent.{NodeEvent}
 use Rattle.cell_model.specs.Durable.{Made, version_after}
-use Rattle.cell_model.specs.World.{Site as ModelSite, World, Trigger, Event, Tick, Tick_all, Step, Stop, Fault, Crash, Restart, Entry, Happened, SiteHappened, calls_on, entries_from, entry_calls, first_world, happens, happens_at, member, site_of, step_at, stop_at, fault_at, crash_at, restart_at, triggered, occasion, world_after}
+use Rattle.cell_model.specs.World.{Site as ModelSite, World, Event, Tick, Tick_all, Step, Stop, Fault, Crash, Restart, SiteHappened, calls_on, entries_from, first_world, happens, happens_at, member, site_of, step_at, stop_at, fault_at, crash_at, restart_at, triggered, occasion, world_after}
 use Rattle.cell_runs.specs.Script.{Cell, Opening, calls_on_all, first_of}
 use Rattle.cell_sites.specs.Counts.{AreCountsFrom, HoldRun, IsCountOf, IsCutShort, IsRiseIn, IsRiseOver, IsSurplus, calls_of}
 use Rattle.cell_sites.specs.Disks.{AreReadBy, Held}

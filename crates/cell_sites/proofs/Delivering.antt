@@ -1,43 +1,37 @@
 -- Packets that are handed over or dropped in a running cell.
-use Rattle.std.proofs.Common.{sum, if◌then◌else◌, ◌≡◌, ◌⊎◌, inl, inr, ◌<◌, ◌≤◌, ◌+◌, ◌-◌, ℕ, zero, suc, Bool, true, false, Option, Some, None, Result, Ok, Err, List, [], ◌∷◌, ◌++◌, drop, length, map, replicate, set, get_or, refl, sym, ap, subst, ◌∙◌, arith, append_assoc}
-use Rattle.std.specs.Prelude.{All, slice_get, unwrap_or}
+use Rattle.std.proofs.Common.{sum, ◌≡◌, inl, inr, ◌<◌, ◌-◌, ℕ, zero, suc, Bool, true, false, Option, Some, None, Ok, List, [], ◌∷◌, ◌++◌, set, refl, sym, ap, subst, ◌∙◌, arith}
+use Rattle.std.specs.Prelude.{All, slice_get}
 use Rattle.std.specs.Option.{option_and_then, option_map}
 use Rattle.std.proofs.lemmas.List.{append-nil}
-use Rattle.std.proofs.lemmas.Option.{get_or_from_slice_get, slice_get_read, slice_get_within}
+use Rattle.std.proofs.lemmas.Option.{get_or_from_slice_get, slice_get_within}
 use Rattle.db_image.specs.Database.{Database}
 use Rattle.db_image.specs.Standing.{Standing}
 use Rattle.disk_base.specs.declared.disks.Disk.{Ghosts}
-use Rattle.disk_base.specs.Files.{Files}
 use Rattle.ubik_types.specs.declared.hosts.Host.{Host}
 use Rattle.ubik_calls.specs.declared.packets.Packet.{Packet}
-use Rattle.cell_model.specs.declared.events.NodeEvent.{NodeEvent}
 use Rattle.cell_model.specs.declared.events.NodeEvent.TheVariants as event
-use Rattle.cell_model.specs.Node as model
 use Rattle.cell_model.specs.NodeRule.{place_of}
-use Rattle.cell_model.specs.Step.{host_at}
 use Rattle.cell_model.specs.Voters.{IsVotePacket}
 use Rattle.cell_model.specs.World.{Site as ModelSite, World, Delivery, Step, Lost, Happened, SiteHappened, happened_at, occasion, only_marks, lost_at, packet_numbered}
 use Rattle.cell_model.specs.World as world
 use Rattle.cell_runs.specs.declared.endings.Ending.{Ending}
 use Rattle.cell_runs.specs.ScriptDatabase.{ScriptDatabase}
-use Rattle.cell_runs.specs.Script.{armed_at, cell_after, counted_on, Cell, Cell_run, Choice, Run_or_why, all_delivered, delivered, dropped_of, first_choice, first_waiting, happened, joined_run, resting, stepped, unless_ended}
-use Rattle.cell_runs.specs.Script as script
-use Rattle.cell_runs.specs.Trace.{TraceItem, Tells, item_text, trace, fault_count}
+use Rattle.cell_runs.specs.Script.{armed_at, cell_after, counted_on, Cell, Choice, Run_or_why, first_choice, happened, stepped}
+use Rattle.cell_runs.specs.Trace.{Tells, item_text}
 use Rattle.cell_sites.specs.declared.cells.OpenCell.{OpenCell}
 use Rattle.cell_sites.specs.declared.sites.Server.TheVariants.{Down}
 use Rattle.cell_sites.specs.declared.sites.Site.{Site}
-use Rattle.cell_sites.specs.Disks.{Held, AreReadBy, AreRises}
+use Rattle.cell_sites.specs.Disks.{AreReadBy}
 use Rattle.cell_sites.specs.Places.{IsDownAt}
-use Rattle.cell_sites.specs.Counts.{HoldRun, calls_of}
+use Rattle.cell_sites.specs.Counts.{calls_of}
 use Rattle.cell_sites.specs.Sites.{AreArmed, IsModelledBy, helds}
 use Rattle.cell_sites.specs.Sound.{IsSound}
-use Rattle.cell_sites.specs.Told.{CellTold, IsShort, IsShortAfter}
-use Rattle.cell_sites.specs.Traffic.{Traffic, dropped_all, handed_over, sent_all}
-use Rattle.cell_sites.proofs.AtPlace.{rises_same, site_at}
+use Rattle.cell_sites.specs.Told.{CellTold, IsShort}
+use Rattle.cell_sites.specs.Traffic.{Traffic, handed_over}
+use Rattle.cell_sites.proofs.AtPlace.{site_at}
 use Rattle.cell_sites.proofs.Arming.{armed_here, armed_set}
 use Rattle.cell_sites.proofs.Counting.{GoesOn, hold_as, hold_more, moved_same, same_run}
 use Rattle.cell_sites.proofs.Happening.{down_happens, stepped_down, with_armed}
-use Rattle.cell_sites.proofs.Opening.{count_append}
 use Rattle.cell_sites.proofs.Running.{whole}
 
 -- ---- other packets

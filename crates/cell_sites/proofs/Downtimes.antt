@@ -1,6 +1,6 @@
 -- Servers that stop, go down, and come back.
-use Rattle.std.proofs.Common.{if◌then◌else◌, ◌≡◌, ◌≢◌, ◌⊎◌, inl, inr, ◌<◌, ◌≤◌, ◌+◌, ◌-◌, ◌==◌, ℕ, zero, suc, Bool, true, false, Option, Some, None, IfSome, IsSome, IsSomeAnd, Result, Ok, Err, List, [], ◌∷◌, ◌++◌, length, map, set, refl, sym, ap, subst, ◌∙◌, arith}
-use Rattle.std.specs.Prelude.{All, OnOk, slice_get}
+use Rattle.std.proofs.Common.{if◌then◌else◌, ◌≡◌, ◌≢◌, inl, inr, ◌<◌, ◌≤◌, ◌+◌, ℕ, Bool, true, false, Option, Some, None, IsSome, IsSomeAnd, Result, Ok, Err, List, [], ◌∷◌, ◌++◌, length, map, set, refl, sym, ap, subst, ◌∙◌, arith}
+use Rattle.std.specs.Prelude.{OnOk, slice_get}
 use Rattle.std.proofs.lemmas.Bool.{eq-eqb, ne_eqb}
 use Rattle.std.proofs.lemmas.List.{append-nil, length-set}
 use Rattle.std.proofs.lemmas.List.Elements.{All-nil}
@@ -13,15 +13,14 @@ use Rattle.disk_base.specs.Stops.DiskStop.{Unarmed, Armed as ToStop}
 use Rattle.ubik_types.specs.declared.hosts.Host.{Host}
 use Rattle.ubik_types.specs.declared.memory.NoMemory.{NoMemory}
 use Rattle.ubik_types.specs.declared.versions.Version.{Version}
-use Rattle.ubik_calls.specs.declared.packets.Packet.{Packet}
 use Rattle.ubik_store.specs.Gaps.{IsPlain}
 use Rattle.cell_model.specs.Durable.{Durable}
 use Rattle.cell_model.specs.Node as model
 use Rattle.cell_model.specs.Step.{Member, Shown}
 use Rattle.cell_model.specs.Voters.{IsVoter}
-use Rattle.cell_model.specs.World.{Site as ModelSite, World, Crash, Restart, Restarts, Stays_down, Happened, Happening, SiteHappened, crash_at, happened_at, happens, happens_at, only_marks, packets_of, restart_at, site_of}
+use Rattle.cell_model.specs.World.{Site as ModelSite, Crash, Restart, Restarts, Stays_down, Happened, SiteHappened, crash_at, happened_at, happens, happens_at, packets_of, restart_at, site_of}
 use Rattle.cell_runs.specs.ScriptDatabase.{ScriptDatabase}
-use Rattle.cell_runs.specs.Script.{Armed, Cell, Cell_run, Choice, Run_or_why, armed_at, cell_after, first_choice, happened, resting, with_event}
+use Rattle.cell_runs.specs.Script.{Armed, Cell, Choice, Run_or_why, armed_at, cell_after, first_choice, happened, resting, with_event}
 use Rattle.cell_runs.specs.Trace.{Tells, fault_count, trace}
 use Rattle.ubik_node.specs.declared.nodes.Node.{Node}
 use Rattle.ubik_node.specs.Disk.{IsArmed, IsRevived, StandsAs}
@@ -34,21 +33,20 @@ use Rattle.cell_sites.specs.declared.openings.OpenEnd.TheVariants as opened
 use Rattle.cell_sites.specs.declared.sites.Server.{Server}
 use Rattle.cell_sites.specs.declared.sites.Server.TheVariants.{Down, Up}
 use Rattle.cell_sites.specs.declared.sites.Site.{Site}
-use Rattle.cell_sites.specs.Counts.{HoldRun, IsRiseIn, IsSurplus, OpensAt, OpensOver, OpensWhere, RisesAs}
-use Rattle.cell_sites.specs.Disks.{AreReadBy, AreRises, Held, IsReadBy, held}
-use Rattle.cell_sites.specs.OpenedServer.{OpensDisk, ServerIs, ServerOpens, is_cut_short}
-use Rattle.cell_sites.specs.Places.{IsUpAt}
+use Rattle.cell_sites.specs.Counts.{HoldRun, IsRiseIn, IsSurplus, OpensAt, OpensWhere, RisesAs}
+use Rattle.cell_sites.specs.Disks.{AreRises, IsReadBy, held}
+use Rattle.cell_sites.specs.OpenedServer.{ServerIs, ServerOpens, is_cut_short}
 use Rattle.cell_sites.specs.Reopened.{SiteReopened, reopened_marks}
-use Rattle.cell_sites.specs.Sites.{AreArmed, AreSitesOf, IsArmedAs, IsModelledBy, IsSiteOf, StopsAs, helds, server_disk, server_node, site_disk}
+use Rattle.cell_sites.specs.Sites.{AreArmed, AreSitesOf, IsArmedAs, IsModelledBy, helds, server_disk, server_node, site_disk}
 use Rattle.cell_sites.specs.Sound.{IsSound, IsSoundDisk, IsSoundNode, IsSoundServer, StandsForSome}
 use Rattle.cell_sites.specs.Stepped.{TakenDown, member_at, up_site}
 use Rattle.cell_sites.specs.Telling.{told_of}
-use Rattle.cell_sites.specs.Told.{CellTold, IsShort, IsShortAfter}
+use Rattle.cell_sites.specs.Told.{CellTold, IsShort}
 use Rattle.cell_sites.specs.Traffic.{Traffic, sent_all}
 use Rattle.cell_sites.proofs.Agreeing.{AreMarks}
 use Rattle.cell_sites.proofs.Arming.{armed_here, armed_set, armed_still}
-use Rattle.cell_sites.proofs.AtPlace.{IsSiteAt, rises_none, site_at, sites_set}
-use Rattle.cell_sites.proofs.Counting.{AreMoved, GoesOn, hold_added, hold_as, hold_more, hold_still, moved_as, no_surplus, nothing_added, same_run}
+use Rattle.cell_sites.proofs.AtPlace.{IsSiteAt, site_at, sites_set}
+use Rattle.cell_sites.proofs.Counting.{hold_added, hold_as, hold_more, hold_still, no_surplus, same_run}
 use Rattle.cell_sites.proofs.Delivering.{set_same}
 use Rattle.cell_sites.proofs.Happening.{with_armed}
 use Rattle.cell_sites.proofs.Nodes.{node_votes}

@@ -1,5 +1,5 @@
 -- What a step leaves of its server and of its disk, by how it ended for the cell.
-use Rattle.std.proofs.Common.{if◌then◌else◌, ◌≡◌, ◌≢◌, ◌⊎◌, inl, inr, ◌<◌, ◌≤◌, ◌+◌, ℕ, zero, suc, Bool, true, false, Option, Some, None, IfSome, IsSome, IsSomeAnd, List, [], ◌∷◌, map, take, sum, refl, sym, ap, subst, ◌∙◌, arith}
+use Rattle.std.proofs.Common.{if◌then◌else◌, ◌≡◌, ◌⊎◌, inl, inr, ◌≤◌, ◌+◌, ℕ, zero, suc, Bool, true, false, Option, IsSome, IsSomeAnd, List, [], map, take, sum, refl, sym, ap, subst, ◌∙◌, arith}
 use Rattle.disk_base.specs.declared.disks.Disk.{Ghosts}
 use Rattle.disk_base.specs.Files.{Files}
 use Rattle.db_image.specs.Database.{Database}
@@ -18,8 +18,8 @@ use Rattle.cell_runs.specs.Script.{calls_on_all}
 use Rattle.cell_runs.specs.Trace.{Tells, fault_count}
 use Rattle.ubik_node.specs.declared.nodes.Node.{Node}
 use Rattle.ubik_node.specs.declared.nodes.StepEnd.{StepEnd}
-use Rattle.ubik_node.specs.declared.nodes.StepEnd.TheVariants.{Done, Halted, NoMemory}
-use Rattle.ubik_node.specs.Disk.{FailsIn, IsRevived, Serves, StandsAs}
+use Rattle.ubik_node.specs.declared.nodes.StepEnd.TheVariants.{Done, Halted}
+use Rattle.ubik_node.specs.Disk.{IsRevived, Serves, StandsAs}
 use Rattle.ubik_node.specs.Node.{Makes, Steps, durable_in, node_of, up_server}
 use Rattle.cell_sites.specs.Counts.{IsCutShort}
 use Rattle.cell_sites.specs.Disks.{IsReadBy, held}
@@ -27,39 +27,39 @@ use Rattle.cell_sites.specs.Sites.{server_disk}
 use Rattle.cell_sites.specs.Sound.{IsSoundDisk, IsSoundNode, IsSoundServer}
 use Rattle.cell_sites.specs.Stepped.{Becomes, NodeStepped, StaysSound}
 use Rattle.cell_sites.specs.declared.sites.Server.{Server}
-use Rattle.cell_sites.specs.declared.sites.Server.TheVariants.{Down, Up}
+use Rattle.cell_sites.specs.declared.sites.Server.TheVariants.{Up}
 use Rattle.cell_sites.specs.declared.steps.SiteEnd.{SiteEnd}
 use Rattle.cell_sites.specs.declared.steps.SiteEnd.TheVariants as ended
 use Rattle.cell_sites.proofs.Counting.{each_on}
 use Rattle.cell_sites.proofs.FewCalls.{packet_none}
 use Rattle.cell_sites.proofs.Made.{end_marks, marks_one}
-use Rattle.cell_sites.proofs.Nodes.{halted_rests, is_up, sound_revived}
+use Rattle.cell_sites.proofs.Nodes.{halted_rests, sound_revived}
 use Rattle.cell_sites.proofs.Plainly.{and_some, make_some}
-use Rattle.cell_sites.proofs.Serving.{FilesAt, failed_in, files_at, one_durable, served_rise}
+use Rattle.cell_sites.proofs.Serving.{failed_in, files_at, one_durable, served_rise}
 use Rattle.cell_sites.proofs.Shortage.{CameShort}
 use Rattle.db_image.specs.Standing.{Standing}
 
 module _ {D V : Type 0} (g : Ghosts D) (db : Database) (m : Member) (clock : ℕ) (e : NodeEvent) where
   -- a fault that is told is one of its disk
-  pub faults_made : {standing : Standing} (k : ℕ) (end : SiteEnd) (node later : Node D V) (out : List Output) (server : Server D V) (left : List Output) → NodeStepped g standing db m clock e end node later out → Becomes g end later out server left
+  pub faults_made : (standing : Standing) (k : ℕ) (end : SiteEnd) (node later : Node D V) (out : List Output) (server : Server D V) (left : List Output) → NodeStepped g standing db m clock e end node later out → Becomes g end later out server left
       → g.faults node.store.disk + fault_count k (map Tells (end_marks k end)) ≤ g.faults (server_disk server)
-  faults_made k ended.Made node later out server left step becomes =
+  faults_made standing k ended.Made node later out server left step becomes =
       let kept = step.calls.1.cause.never_falls in
       let is = ap (λ (s : Server D V). g.faults (server_disk s)) becomes.0 in
       omega (arith, kept, is)
-  faults_made k ended.Halts node later out server left step becomes =
+  faults_made standing k ended.Halts node later out server left step becomes =
       let rose = step.fault in
       let same = step.revived.faults in
       let one = (marks_one k).0 in
       let is = ap (λ (s : Server D V). g.faults (server_disk s)) becomes.0 in
       omega (arith, rose, same, one, is)
-  faults_made k ended.Stops node later out server left step becomes =
+  faults_made standing k ended.Stops node later out server left step becomes =
       let rose = step.fault in
       let same = becomes.0.2.faults in
       let one = (marks_one k).1 in
       let is = ap (λ (s : Server D V). g.faults (server_disk s)) becomes.0.1 in
       omega (arith, rose, same, one, is)
-  faults_made k ended.NoMemory node later out server left step becomes =
+  faults_made standing k ended.NoMemory node later out server left step becomes =
       let kept = step.steps.2.cause.never_falls in
       let is = ap (λ (s : Server D V). g.faults (server_disk s)) becomes.0 in
       omega (arith, kept, is)

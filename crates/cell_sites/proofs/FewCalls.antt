@@ -1,5 +1,5 @@
 -- A server that takes part in votes makes at most one durable call in a step.
-use Rattle.std.proofs.Common.{Bool, true, false, cond, ◌≡◌, ◌⊎◌, inl, inr, ℕ, List, [], ◌∷◌, ◌++◌, Option, Some, None, refl, sym, ap, subst, ◌∙◌}
+use Rattle.std.proofs.Common.{Bool, true, false, cond, ◌≡◌, inl, inr, ℕ, List, [], ◌∷◌, ◌++◌, Option, Some, None, refl, sym, ap, subst, ◌∙◌}
 use Rattle.std.specs.Prelude.{◌==◌, ◌+◌, is_some, length, map, nat_le, nat_lt}
 use Rattle.ubik_types.specs.declared.hosts.Host.{Host}
 use Rattle.ubik_types.specs.declared.limits.TheConstants.{SMALLTIME}
@@ -18,13 +18,13 @@ use Rattle.db_image.specs.declared.services.CallReply.TheVariants as call_reply
 use Rattle.db_image.specs.Database.{Database, changes_of}
 use Rattle.cell_model.specs.declared.events.NodeEvent.{NodeEvent}
 use Rattle.cell_model.specs.declared.events.NodeEvent.TheVariants as event
-use Rattle.cell_model.specs.Asks.{allows_reads, asked, asked_as, asked_elsewhere, read, served, write_asked}
+use Rattle.cell_model.specs.Asks.{allows_reads, asked_as, asked_elsewhere, read, served, write_asked}
 use Rattle.cell_model.specs.Durable.{Made}
 use Rattle.cell_model.specs.Lapse.{lapsed, write_lapsed}
 use Rattle.cell_model.specs.Node.{Server, Flight}
 use Rattle.cell_model.specs.NodeRule.{handled, place_of, received_from, received_packet, step_of}
 use Rattle.cell_model.specs.Polls.{best_answer, new_poll, polling}
-use Rattle.cell_model.specs.Recovery.{first_of_epoch, own_relabelling, relabelled_to, poll_asked, poll_begun, polled, polled_best, recovered, recovery_turn, relabelled}
+use Rattle.cell_model.specs.Recovery.{first_of_epoch, own_relabelling, relabelled_to, poll_asked, poll_begun, polled, polled_best, recovered, relabelled}
 use Rattle.cell_model.specs.Step.{Announced_image, Beacon_image, Member, Stepped, cell_size, told_version, followed, is_ready, is_short, leased, short_after}
 use Rattle.cell_model.specs.Voters.{IsOfVotes, IsTaken}
 use Rattle.cell_model.specs.Voting.{beacon_turn}

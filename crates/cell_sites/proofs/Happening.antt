@@ -1,5 +1,5 @@
 -- What happens in a world where a trigger brings a step, and what a script makes of it.
-use Rattle.std.proofs.Common.{if◌then◌else◌, ◌≡◌, ◌+◌, ℕ, zero, suc, Bool, true, false, Option, Some, None, List, [], ◌∷◌, ◌++◌, length, replicate, set, refl, sym, ap, subst, ◌∙◌}
+use Rattle.std.proofs.Common.{if◌then◌else◌, ◌≡◌, ◌+◌, ℕ, Bool, true, false, Option, Some, None, List, [], set, ap, ◌∙◌}
 use Rattle.std.specs.Prelude.{slice_get}
 use Rattle.db_image.specs.Database.{Database}
 use Rattle.cell_model.specs.declared.events.NodeEvent.{NodeEvent}
@@ -7,10 +7,9 @@ use Rattle.cell_model.specs.Durable.{Made}
 use Rattle.cell_model.specs.Node as model
 use Rattle.cell_model.specs.NodeRule.{step_of}
 use Rattle.cell_model.specs.Book.{clock_at, clock_in}
-use Rattle.cell_model.specs.Step.{Stepped}
-use Rattle.cell_model.specs.World.{World, Site, Trigger, Step, Fault, Stop, Happened, SiteHappened, happens, happens_at, happened_at, triggered, occasion, member, site_of, step_at, fault_at, stop_at, step_up, fault_up, stop_up, halted_step, only_marks, lost_at}
+use Rattle.cell_model.specs.World.{World, Site, Trigger, Step, Fault, Stop, happens, happens_at, happened_at, triggered, occasion, member, step_at, fault_at, stop_at, step_up, fault_up, stop_up, halted_step, only_marks, lost_at}
 use Rattle.cell_runs.specs.ScriptDatabase.{ScriptDatabase}
-use Rattle.cell_runs.specs.Script.{Armed, Cell, Cell_run, Choice, sound, DiskOutcome, Serves, Fails_after, Stops_after, armed_at, counted_on, stops_in, calls_on_all, outcome_of_stop, outcome_up, outcome_at, outcome_of, node_in, place_in, stepped_so, stepped, with_event, happened}
+use Rattle.cell_runs.specs.Script.{Armed, Cell, Choice, sound, DiskOutcome, Serves, Fails_after, Stops_after, armed_at, counted_on, stops_in, calls_on_all, outcome_of_stop, outcome_up, outcome_at, outcome_of, node_in, place_in, stepped_so, stepped, with_event}
 
 -- ---- the world
 

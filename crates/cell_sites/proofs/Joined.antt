@@ -1,6 +1,6 @@
 -- A step of a server and what was told of it, joined: what a step does in a running cell.
-use Rattle.std.proofs.Common.{if◌then◌else◌, ◌≡◌, ◌≢◌, ◌⊎◌, inl, inr, ◌<◌, ◌≤◌, ◌+◌, ℕ, zero, suc, Bool, true, false, Option, Some, None, Result, Ok, Err, List, [], ◌∷◌, ◌++◌, length, map, set, get_or, take, sum, refl, sym, ap, subst, ◌∙◌, arith}
-use Rattle.std.specs.Prelude.{All, IsSome, IsSomeAnd, filter_map, slice_get}
+use Rattle.std.proofs.Common.{◌≡◌, ◌≢◌, ◌⊎◌, inl, inr, ◌≤◌, ◌+◌, ℕ, Bool, true, false, Option, Some, None, Ok, List, [], ◌∷◌, ◌++◌, length, map, set, refl, sym, ap, subst, ◌∙◌, arith}
+use Rattle.std.specs.Prelude.{All, IsSomeAnd, filter_map}
 use Rattle.std.specs.List.{cons_option}
 use Rattle.std.proofs.lemmas.List.{append-nil, length-set}
 use Rattle.std.proofs.lemmas.List.Elements.{All-nil, All-cons, All-head, All-tail}
@@ -13,25 +13,20 @@ use Rattle.cell_model.specs.declared.events.NodeEvent.{NodeEvent}
 use Rattle.cell_model.specs.declared.events.NodeEvent.TheVariants as event
 use Rattle.cell_model.specs.declared.events.Output.{Output}
 use Rattle.cell_model.specs.declared.events.Output.TheVariants as output
-use Rattle.ubik_types.specs.declared.versions.Version.{Version}
-use Rattle.cell_model.specs.Durable.{Durable, Made, durable, durable_after_all}
 use Rattle.cell_model.specs.Node as model
 use Rattle.cell_model.specs.NodeRule.{refusals, step_of}
-use Rattle.cell_model.specs.Step.{Evaluation, Shown, Stepped, outputs_of}
-use Rattle.cell_model.specs.Voters.{AnswersCall, AsksNoOther, IsOkOf, IsOfVotes, IsTaken, IsVotePacket, IsVoter, VotersVote}
-use Rattle.cell_model.specs.World.{Site as ModelSite, World, Trigger, Happened, Happening, Halts, happened_at, happens, occasion, packet_in, packet_of, packets_of}
-use Rattle.cell_model.proofs.WholeWorld.{step_leads}
-use Rattle.cell_script.specs.declared.lines.Why.{Why}
+use Rattle.cell_model.specs.Step.{Evaluation, Shown, outputs_of}
+use Rattle.cell_model.specs.Voters.{AnswersCall, AsksNoOther, IsOkOf, IsTaken, IsVotePacket, IsVoter, VotersVote}
+use Rattle.cell_model.specs.World.{Trigger, Happened, Happening, happened_at, occasion, packet_in, packet_of, packets_of}
 use Rattle.cell_runs.specs.declared.endings.Ending.{Ending}
 use Rattle.cell_runs.specs.ScriptDatabase.{ScriptDatabase}
-use Rattle.cell_runs.specs.Script.{Cell, Cell_run, Choice, Run_or_why, cell_after, first_choice, stepped}
+use Rattle.cell_runs.specs.Script.{Cell, Choice, Run_or_why, cell_after, first_choice, stepped}
 use Rattle.cell_runs.specs.Trace.{Tells, fault_count, mark_text, trace}
 use Rattle.cell_runs.specs.declared.traces.Mark.TheVariants as mark
-use Rattle.ubik_node.specs.declared.nodes.Node.{Node}
 use Rattle.ubik_node.specs.declared.nodes.StepEnd.{StepEnd}
-use Rattle.ubik_node.specs.declared.nodes.StepEnd.TheVariants.{Done, Halted, NoMemory}
-use Rattle.ubik_node.specs.Disk.{FailsIn, IsRevived, StandsAs}
-use Rattle.ubik_node.specs.Node.{Calls, Steps, durable_in, node_of, up_server}
+use Rattle.ubik_node.specs.declared.nodes.StepEnd.TheVariants.{Done, Halted}
+use Rattle.ubik_node.specs.Disk.{StandsAs}
+use Rattle.ubik_node.specs.Node.{Calls, Steps, node_of}
 use Rattle.cell_sites.specs.declared.cells.OpenCell.{OpenCell}
 use Rattle.cell_sites.specs.declared.sites.Server.{Server}
 use Rattle.cell_sites.specs.declared.sites.Server.TheVariants.{Down, Up}
@@ -39,25 +34,23 @@ use Rattle.cell_sites.specs.declared.sites.Site.{Site}
 use Rattle.cell_sites.specs.declared.steps.SiteEnd.{SiteEnd}
 use Rattle.cell_sites.specs.declared.steps.SiteEnd.TheVariants as ended
 use Rattle.cell_sites.specs.Counts.{HoldRun, IsRiseIn}
-use Rattle.cell_sites.specs.Disks.{Held, IsReadBy, AreReadBy, AreRises, held}
-use Rattle.cell_sites.specs.Sites.{AreArmed, AreSitesOf, IsModelledBy, IsSiteOf, helds, server_disk, server_node, site_disk}
-use Rattle.cell_sites.specs.Sound.{IsSound, IsSoundDisk, IsSoundServer}
-use Rattle.cell_sites.specs.Stepped.{Becomes, IsHalted, IsMade, IsStoppedIn, NodeStepped, SiteStepped, member_at, up_site}
-use Rattle.cell_sites.specs.Telling.{IsNotShort, MayBeTold, Telling, TellingRun, WholeTold, halt_marks, told_of}
+use Rattle.cell_sites.specs.Disks.{IsReadBy, AreRises, held}
+use Rattle.cell_sites.specs.Sites.{AreArmed, IsModelledBy, helds, server_disk}
+use Rattle.cell_sites.specs.Sound.{IsSound}
+use Rattle.cell_sites.specs.Stepped.{Becomes, IsMade, NodeStepped, SiteStepped, member_at, up_site}
+use Rattle.cell_sites.specs.Telling.{IsNotShort, MayBeTold, TellingRun, WholeTold, halt_marks, told_of}
 use Rattle.cell_sites.specs.Told.{CellTold, IsShort}
 use Rattle.cell_sites.specs.Traffic.{Traffic, sent_all}
 use Rattle.cell_sites.proofs.Agreeing.{AreMarks}
 use Rattle.cell_sites.proofs.AtPlace.{IsSiteAt, site_at}
-use Rattle.cell_sites.proofs.Counting.{AreMoved, GoesOn, hold_more, hold_short, hold_still}
+use Rattle.cell_sites.proofs.Counting.{hold_more, hold_short, hold_still}
 use Rattle.cell_sites.proofs.Ended.{disk_made, faults_made, stays_sound}
 use Rattle.cell_sites.proofs.Happening.{with_armed}
 use Rattle.cell_sites.proofs.Made.{DoneBy, StepMade, done_by, end_marks, made_fault, made_rested, made_stop, made_whole, marks_others}
 use Rattle.cell_sites.proofs.Nodes.{is_up}
-use Rattle.cell_sites.proofs.Plainly.{and_some, make_some}
 use Rattle.cell_sites.proofs.Reading.{read_at}
 use Rattle.cell_sites.proofs.Running.{held_at, moved_set, part, reads_both, reads_set, rises_set, short_after, whole}
-use Rattle.cell_sites.proofs.Serving.{files_at, one_durable, served_rise}
-use Rattle.cell_sites.proofs.Shortage.{CameShort, IsEither}
+use Rattle.cell_sites.proofs.Shortage.{IsEither}
 use Rattle.cell_sites.proofs.Soundly.{IsHere, here, sound_after}
 use Rattle.db_image.specs.Standing.{Standing}
 
@@ -142,7 +135,7 @@ module _ {D V : Type 0} {standing : Standing} (g : Ghosts D) (script_db : Script
   all_sites = sites ∙ ss.sites
 
   faults : g.faults ss.node.store.disk + fault_count k (map Tells (end_marks k end)) ≤ g.faults (server_disk ss.server)
-  faults = faults_made g script_db.database (member_at before k) ss.clock e k end ss.node ss.later ss.out ss.server mid.outputs ss.step ss.becomes
+  faults = faults_made g script_db.database (member_at before k) ss.clock e standing k end ss.node ss.later ss.out ss.server mid.outputs ss.step ss.becomes
 
   pub rises : AreRises 0 [] (helds g before) (helds g after)
   rises =

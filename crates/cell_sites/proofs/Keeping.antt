@@ -1,5 +1,5 @@
 -- A packet of votes leaves what the disks of a cell hold, whatever run that is.
-use Rattle.std.proofs.Common.{◌≡◌, ◌≢◌, ◌+◌, ℕ, zero, suc, Bool, false, Option, Some, None, List, [], ◌∷◌, map, set, refl, sym, ap, subst, ◌∙◌, arith}
+use Rattle.std.proofs.Common.{◌≡◌, ◌+◌, ℕ, zero, suc, false, Some, List, [], ◌∷◌, map, set, refl, sym, subst, ◌∙◌}
 use Rattle.std.specs.Prelude.{IsSomeAnd, slice_get}
 use Rattle.disk_base.specs.declared.disks.Disk.{Ghosts}
 use Rattle.ubik_calls.specs.declared.packets.Packet.{Packet}
@@ -11,8 +11,8 @@ use Rattle.cell_runs.specs.ScriptDatabase.{ScriptDatabase}
 use Rattle.cell_runs.specs.Script.{Cell}
 use Rattle.ubik_node.specs.Disk.{StandsAs}
 use Rattle.cell_sites.specs.Counts.{HoldRun}
-use Rattle.cell_sites.specs.Disks.{AreReadBy, Held, IsReadBy, held}
-use Rattle.cell_sites.specs.Sites.{helds, server_disk, site_disk}
+use Rattle.cell_sites.specs.Disks.{AreReadBy, Held, IsReadBy}
+use Rattle.cell_sites.specs.Sites.{helds}
 use Rattle.cell_sites.specs.Sound.{IsSound}
 use Rattle.cell_sites.specs.Stepped.{SiteStepped, member_at, up_site}
 use Rattle.cell_sites.specs.declared.cells.OpenCell.{OpenCell}
@@ -21,7 +21,7 @@ use Rattle.cell_sites.specs.declared.steps.SiteEnd.{SiteEnd}
 use Rattle.cell_sites.proofs.Counting.{AreMoved, hold_still}
 use Rattle.cell_sites.proofs.Ended.{packet_holds}
 use Rattle.cell_sites.proofs.Running.{held_at}
-use Rattle.cell_sites.proofs.Soundly.{IsHere, here}
+use Rattle.cell_sites.proofs.Soundly.{here}
 use Rattle.db_image.specs.Standing.{Standing}
 
 -- a disk holds what another one held

@@ -1,7 +1,6 @@
 -- What a sound server that is up needs for a step: its image stands for a state of the database, and each durable call leads to one that does.
-use Rattle.std.proofs.Common.{◌≡◌, ℕ, List, Option, IsSome, refl, sym, subst}
+use Rattle.std.proofs.Common.{◌≡◌, ℕ, List, refl, subst}
 use Rattle.disk_base.specs.declared.disks.Disk.{Ghosts}
-use Rattle.disk_base.specs.Files.{Files}
 use Rattle.db_image.specs.Standing.{IsMeantOver, Standing}
 use Rattle.cell_model.specs.declared.events.NodeEvent.{NodeEvent}
 use Rattle.cell_model.specs.declared.events.NodeEvent.TheVariants as event
@@ -34,7 +33,7 @@ module _ {D V : Type 0} {standing : Standing} (g : Ghosts D) (m : Member) (clock
       by (model.Up s) (event.Packet p) is = tt
       by (model.Up s) event.BeaconTurn is = tt
       by (model.Up s) event.RecoverTurn is = tt
-      by (model.Up s) (event.Ask id call) is = (disk.told, up_meant s is)
+      by (model.Up s) (event.Ask id call) is = let meant = up_meant s is in (disk.told, meant.0, meant.1)
 
   pub leads_on : ((image : List ℕ) (s : standing.State) (now : ℕ) (call : List ℕ) → standing.StandsFor image s → IsMeantOver standing image s (standing.database.call image now call) (standing.meaning.call s now call))
       → (e : NodeEvent) → IsTaken m e → LeadsOn standing m e clock (node_of node)

@@ -1,16 +1,15 @@
 -- A line that comes to a step, or is refused.
-use Rattle.std.proofs.Common.{◌≡◌, ◌⊎◌, inl, inr, ◌-◌, ℕ, Option, Some, Result, Ok, Err, List, [], length, sym, ap, subst, ◌∙◌}
+use Rattle.std.proofs.Common.{◌≡◌, inl, inr, ℕ, Option, List, length, ap, ◌∙◌}
 use Rattle.db_image.specs.Database.{Database}
 use Rattle.db_image.specs.Standing.{Standing}
 use Rattle.disk_base.specs.declared.disks.Disk.{Ghosts}
-use Rattle.disk_base.specs.Files.{Files}
 use Rattle.cell_runs.specs.declared.endings.Ending.{Ending}
 use Rattle.cell_runs.specs.ScriptDatabase.{ScriptDatabase}
 use Rattle.cell_runs.specs.Script.{Cell, Choice, Run_or_why, cell_size_of}
 use Rattle.cell_sites.specs.declared.cells.OpenCell.{OpenCell}
 use Rattle.cell_sites.specs.Sites.{IsModelledBy}
 use Rattle.cell_sites.specs.Sound.{IsSound}
-use Rattle.cell_sites.specs.Told.{CellTold, IsShort, IsShortAfter}
+use Rattle.cell_sites.specs.Told.{CellTold, IsShort}
 use Rattle.cell_sites.proofs.Soundly.{host_count}
 
 -- how many servers the cell has that it stands for

@@ -1,39 +1,31 @@
 -- What the model makes of a step of a server that is up.
-use Rattle.std.proofs.Common.{if◌then◌else◌, ◌≡◌, ◌≢◌, ◌⊎◌, inl, inr, ◌<◌, ◌≤◌, ◌+◌, ◌==◌, ℕ, zero, suc, Bool, true, false, Option, Some, None, Result, Ok, Err, List, [], ◌∷◌, ◌++◌, length, map, set, sum, take, get_or, refl, sym, ap, subst, ◌∙◌, arith}
-use Rattle.std.specs.Prelude.{All, IsSome, IsSomeAnd, filter_map, slice_get}
+use Rattle.std.proofs.Common.{if◌then◌else◌, ◌≡◌, ◌≢◌, ◌⊎◌, inl, inr, ◌<◌, ◌+◌, ℕ, zero, suc, Bool, true, false, Option, Some, None, List, [], ◌∷◌, length, map, set, sum, take, get_or, refl, sym, ap, subst, ◌∙◌, arith}
+use Rattle.std.specs.Prelude.{All, IsSome, IsSomeAnd, slice_get}
 use Rattle.std.proofs.lemmas.Bool.{eq-eqb, ne_eqb}
-use Rattle.std.proofs.lemmas.List.Elements.{All-nil, All-head}
+use Rattle.std.proofs.lemmas.List.Elements.{All-nil}
 use Rattle.disk_base.specs.declared.disks.Disk.{Ghosts}
-use Rattle.disk_base.specs.Files.{Files}
-use Rattle.disk_base.specs.Stops.{DiskStop, IsStopped, after_changes}
+use Rattle.disk_base.specs.Stops.{IsStopped, after_changes}
 use Rattle.ubik_types.specs.declared.hosts.Host.{Host}
-use Rattle.ubik_calls.specs.declared.packets.Packet.{Packet}
-use Rattle.ubik_calls.specs.declared.replies.Reply.TheVariants as reply
-use Rattle.db_image.specs.Database.{Database}
 use Rattle.cell_model.specs.declared.events.NodeEvent.{NodeEvent}
 use Rattle.cell_model.specs.declared.events.NodeEvent.TheVariants as event
 use Rattle.cell_model.specs.declared.events.Output.{Output}
-use Rattle.cell_model.specs.declared.events.Output.TheVariants as output
-use Rattle.cell_model.specs.Durable.{Durable, Made, durable_after_all}
+use Rattle.cell_model.specs.Durable.{Durable, durable_after_all}
 use Rattle.cell_model.specs.Node as model
 use Rattle.cell_model.specs.NodeRule.{step_of, refusals}
-use Rattle.cell_model.specs.Step.{Member, Shown, Stepped, cell_size, outputs_of}
+use Rattle.cell_model.specs.Step.{Member, Shown, Stepped, outputs_of}
 use Rattle.cell_model.specs.Voters.{AnswersCall, AsksNoOther, IsTaken, IsVotePacket, IsVoter, VotersVote}
-use Rattle.cell_model.specs.World.{Site as ModelSite, World, Trigger, Event, Entry, Step, Stop, Fault, Happened, Happening, Halts, Stops, SiteHappened, entries_from, happened_at, happens, halted_step, fault_up, step_up, stop_up, occasion, member, packets_of}
+use Rattle.cell_model.specs.World.{Site as ModelSite, Trigger, Event, Step, Stop, Fault, Happened, Happening, Halts, Stops, SiteHappened, entries_from, happened_at, happens, halted_step, fault_up, step_up, stop_up, occasion, member, packets_of}
 use Rattle.cell_model.proofs.WholeWorld.{step_leads}
-use Rattle.cell_script.specs.declared.lines.Why.{Why}
 use Rattle.cell_runs.specs.ScriptDatabase.{ScriptDatabase}
-use Rattle.cell_runs.specs.Script.{Armed, Cell, Cell_run, Choice, Run_or_why, armed_at, calls_on_all, counted_on, first_choice, happened, sound, stepped, stops_in}
+use Rattle.cell_runs.specs.Script.{Armed, Cell, Choice, armed_at, calls_on_all, counted_on, first_choice, happened, stepped}
 use Rattle.cell_runs.specs.Trace.{Tells, fault_count}
 use Rattle.ubik_store.specs.Calls.{CallsAtMost}
 use Rattle.ubik_node.specs.declared.nodes.Node.{Node}
-use Rattle.ubik_node.specs.declared.nodes.StepEnd.{StepEnd}
-use Rattle.ubik_node.specs.declared.nodes.StepEnd.TheVariants.{Done, Halted, NoMemory}
+use Rattle.ubik_node.specs.declared.nodes.StepEnd.TheVariants.{Done, Halted}
 use Rattle.ubik_node.specs.Disk.{FailsIn, IsRevived, Serves, StandsAs}
 use Rattle.ubik_node.specs.Node.{Calls, Makes, Steps, durable_in, node_of, up_server}
 use Rattle.cell_sites.specs.declared.cells.OpenCell.{OpenCell}
-use Rattle.cell_sites.specs.declared.sites.Server.{Server}
-use Rattle.cell_sites.specs.declared.sites.Server.TheVariants.{Down, Up}
+use Rattle.cell_sites.specs.declared.sites.Server.TheVariants.{Down}
 use Rattle.cell_sites.specs.declared.sites.Site.{Site}
 use Rattle.cell_sites.specs.declared.steps.SiteEnd.{SiteEnd}
 use Rattle.cell_sites.specs.declared.steps.SiteEnd.TheVariants as ended
@@ -41,13 +33,12 @@ use Rattle.cell_sites.specs.Counts.{IsCutShort, IsRiseIn, calls_of}
 use Rattle.cell_sites.specs.Disks.{IsReadBy, held}
 use Rattle.cell_sites.specs.Sites.{AreArmed, IsArmedAs, IsSiteOf, IsModelledBy, StopsAs, site_disk}
 use Rattle.cell_sites.specs.Sound.{IsSoundDisk, IsSoundNode}
-use Rattle.cell_sites.specs.Stepped.{NodeStepped, StaysSound, member_at, up_site}
-use Rattle.cell_sites.proofs.Agreeing.{AreMarks}
+use Rattle.cell_sites.specs.Stepped.{StaysSound, member_at, up_site}
 use Rattle.cell_sites.proofs.Arming.{AreFew, armed_here, armed_set, armed_still, counts_on, none_stops, whole_before}
-use Rattle.cell_sites.proofs.Counting.{calls_other, calls_own, each_on, none_cut, sum_on}
+use Rattle.cell_sites.proofs.Counting.{calls_other, calls_own, none_cut, sum_on}
 use Rattle.cell_sites.proofs.FewCalls.{step_few}
 use Rattle.cell_sites.proofs.Happening.{up_happens, halted_happens, fault_happens, stop_happens, fails_after, stepped_fails, stepped_halted, stepped_served, stepped_stops, stops_so, with_armed}
-use Rattle.cell_sites.proofs.Nodes.{is_up, made_up}
+use Rattle.cell_sites.proofs.Nodes.{is_up}
 use Rattle.cell_sites.proofs.Plainly.{and_some, make_some}
 use Rattle.cell_sites.proofs.Serving.{Failed, FilesAt, failed_in, files_at, one_durable, rise_most, runs_still, served_rise}
 use Rattle.cell_sites.proofs.Shortage.{IsEither, step_either}

@@ -1,8 +1,7 @@
 -- The durable calls of a step lead from an image that stands for a state of the database to images that do.
-use Rattle.std.proofs.Common.{Bool, true, false, ◌==◌, ◌≡◌, ℕ, zero, suc, ◌+◌, List, [], ◌∷◌, ◌++◌, length, map, take, refl, sym, ap, subst}
+use Rattle.std.proofs.Common.{Bool, true, false, ◌==◌, ◌≡◌, ℕ, zero, suc, ◌+◌, List, [], ◌∷◌, length, map, take, refl, sym, subst}
 use Rattle.std.proofs.lemmas.Bool.{cond_both}
 use Rattle.std.specs.Prelude.{Option, Some, None, is_some, nat_lt, nat_le}
-use Rattle.lock_table.specs.declared.tables.TheConstants.{MAX_WAITING}
 use Rattle.ubik_types.specs.declared.hosts.Host.{Host}
 use Rattle.ubik_types.specs.declared.images.Change.{Change}
 use Rattle.ubik_types.specs.declared.limits.TheConstants.{SMALLTIME}
@@ -12,7 +11,7 @@ use Rattle.ubik_types.specs.Logged.{too_large}
 use Rattle.ubik_types.specs.Phase.{Polled, Spread, PhaseRecord, NoPhase, Poll, Fetch, Relabel, Send, Ready}
 use Rattle.ubik_types.specs.Quorum.{is_majority}
 use Rattle.ubik_types.specs.Version.{version_lt}
-use Rattle.ubik_types.specs.Votes.{beacon_is_due, sync_heard}
+use Rattle.ubik_types.specs.Votes.{beacon_is_due}
 use Rattle.ubik_calls.specs.declared.packets.Packet.{Packet}
 use Rattle.ubik_calls.specs.declared.packets.Body.{Body}
 use Rattle.ubik_calls.specs.declared.packets.Body.TheVariants as body
@@ -22,16 +21,16 @@ use Rattle.db_image.specs.Database.{Database, changes_of}
 use Rattle.db_image.specs.Standing.{IsMeantOver, Standing}
 use Rattle.cell_model.specs.declared.events.NodeEvent.{NodeEvent}
 use Rattle.cell_model.specs.declared.events.NodeEvent.TheVariants as event
-use Rattle.cell_model.specs.Asks.{allows_reads, asked_as, asked_elsewhere, put_into_line, read, read_reply, served, write_asked}
+use Rattle.cell_model.specs.Asks.{allows_reads, asked_as, asked_elsewhere, read, served, write_asked}
 use Rattle.cell_model.specs.Durable.{Durable, Made, durable, durable_after, durable_after_all}
-use Rattle.cell_model.specs.Lapse.{lapsed, without_writes, write_lapsed}
+use Rattle.cell_model.specs.Lapse.{without_writes, write_lapsed}
 use Rattle.cell_model.specs.Node.{Flight, Server}
 use Rattle.cell_model.specs.NodeRule.{handled, place_of, received_from, received_packet, step_of}
 use Rattle.cell_model.specs.Polls.{best_answer, new_poll, polling}
-use Rattle.cell_model.specs.Recovery.{first_of_epoch, polled, polled_best, poll_begun, recovered, relabelled, relabelled_to}
+use Rattle.cell_model.specs.Recovery.{first_of_epoch, polled, recovered, relabelled, relabelled_to}
 use Rattle.cell_model.specs.Step.{Basis, Member, Stepped, cell_size, followed, is_ready, is_short, leased, short_after, with_phase}
 use Rattle.cell_model.specs.Voters.{IsBuilt, IsOfVotes, IsTaken}
-use Rattle.cell_model.specs.Writes.{flight_settled, own_write_begun, settled, settled_in, turned, write_turn, written, written_changes, written_in, written_small, written_within}
+use Rattle.cell_model.specs.Writes.{flight_settled, own_write_begun, settled, settled_in, turned, written_in, written_small, written_within}
 use Rattle.cell_sites.specs.Sound.{IsMeantImage}
 
 -- ---- durable calls that lead to images that stand
@@ -142,7 +141,7 @@ module _ (standing : Standing) (keeps : (image : List ℕ) (now : ℕ) (call : L
         let o = db.call s.image now call in
         cond_both short _ _ Meant (λ _. meant) (λ _. turned_meant id call o.image o.reply (keeps s.image now call meant))
     written_meant id call short (Some f) =
-        cond_both (nat_le MAX_WAITING (length s.waiting)) _ _ Meant (λ _. meant) (λ _. cond_both short _ _ Meant (λ _. meant) (λ _. meant))
+        cond_both (nat_le 64 (length s.waiting)) _ _ Meant (λ _. meant) (λ _. cond_both short _ _ Meant (λ _. meant) (λ _. meant))
 
     served_meant : (id : ℕ) (call : List ℕ) (writes short : Bool) → Meant (served db m s now id call writes short)
     served_meant id call true short = written_meant id call short s.flight

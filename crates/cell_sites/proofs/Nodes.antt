@@ -1,8 +1,7 @@
 -- The server that is up, after a step.
-use Rattle.std.proofs.Common.{if◌then◌else◌, ◌≡◌, ◌≢◌, ◌⊎◌, inl, inr, ◌<◌, ◌≤◌, ◌+◌, ℕ, Bool, true, false, not, List, [], ◌∷◌, map, Option, Some, None, IfSome, IsSome, refl, sym, ap, subst, ◌∙◌, arith}
-use Rattle.std.specs.Option.{option_map}
+use Rattle.std.proofs.Common.{if◌then◌else◌, ◌≡◌, ◌⊎◌, inl, inr, ◌≤◌, ℕ, Bool, true, false, List, [], IsSome, refl, sym, ap, subst, ◌∙◌, arith}
 use Rattle.disk_base.specs.declared.disks.Disk.{Ghosts}
-use Rattle.disk_base.specs.Crash.{IsSettled, LeavesSame, Only}
+use Rattle.disk_base.specs.Crash.{Only}
 use Rattle.disk_base.specs.Files.{Files}
 use Rattle.disk_base.specs.Runs.{OnlyReads}
 use Rattle.disk_base.specs.Stops.{IsStopped}
@@ -16,7 +15,7 @@ use Rattle.cell_model.specs.Node as model
 use Rattle.cell_model.specs.NodeRule.{step_of}
 use Rattle.cell_model.specs.Step.{Member, cell_size}
 use Rattle.cell_model.specs.Voters.{IsVoter, IsAlonePhase}
-use Rattle.ubik_types.specs.Phase.{PhaseRecord, NoPhase}
+use Rattle.ubik_types.specs.Phase.{NoPhase}
 use Rattle.ubik_store.specs.Gaps.{IsPlain}
 use Rattle.ubik_node.specs.declared.nodes.Node.{Node}
 use Rattle.ubik_node.specs.declared.nodes.StepEnd.{StepEnd}
@@ -30,7 +29,7 @@ use Rattle.ubik_node.specs.State.{member_of, server_of}
 use Rattle.ubik_node.specs.Progress.{is_held, phase_record}
 use Rattle.cell_sites.specs.declared.steps.SiteEnd.TheVariants as ended
 use Rattle.cell_sites.specs.Sound.{IsSoundDisk, IsSoundNode, StandsForSome}
-use Rattle.cell_sites.specs.Stepped.{NodeStepped, StaysSound}
+use Rattle.cell_sites.specs.Stepped.{NodeStepped}
 use Rattle.cell_sites.proofs.Meant.{AllMeant}
 use Rattle.cell_sites.proofs.Plainly.{left_plain, left_stands, make_if, of_some, some_of}
 
@@ -123,6 +122,12 @@ halted_leaves g standing m e now node after out old new leads up steps =
     let so = subst (λ (x : model.Node). Steps g standing.database m Halted e now x after out old new) is steps in
     (_, _, so.2.leaves, leads s is [])
 
+-- a step that ended so leaves the server halted
+pub halts : {D V : Type 0} (g : Ghosts D) (db : Database) (m : Member) (e : NodeEvent) (now : ℕ) (x : model.Node) (later : Node D V) (out : List Output) (old new : D) → Steps g db m Halted e now x (node_of later) out old new → later.halted ≡ true
+halts g db m e now model.Down later out old new steps = absurd steps
+halts g db m e now (model.Halted h) later out old new steps = is_halted later h steps.0
+halts g db m e now (model.Up s) later out old new steps = is_halted later (model.halted_from s) steps.0
+
 -- a halted server leaves its disk alone
 pub halted_rests : {D V : Type 0} (g : Ghosts D) (db : Database) (m : Member) (e : NodeEvent) (now : ℕ) (node : Node D V) (after : model.Node) (out : List Output) (old new : D) → node.halted ≡ true → Steps g db m Halted e now (node_of node) after out old new → new ≡ old
 halted_rests g db m e now node after out old new halted steps =
@@ -132,10 +137,10 @@ halted_rests g db m e now node after out old new halted steps =
 
 -- what is left of a plain file is plain
 pub plain_left : {D : Type 0} {standing : Standing} (g : Ghosts D) (old new : D) → IsSoundDisk g standing old → Leaves g standing old new → (fs : Files) → g.may_leave new fs → IsPlain fs × StandsForSome standing fs
-plain_left g old new sound (d, calls, leaves, meant) fs left =
+plain_left {D} {standing} g old new sound (d, calls, leaves, meant) fs left =
     let there = some_of (g.files old) sound.told in (
       left_plain g d old new calls there.0 fs there.1 (of_some (g.files old) there.0 IsPlain there.1 sound.plain) leaves left,
-      left_stands g d old new calls there.0 fs there.1 leaves meant left,
+      left_stands g standing d old new calls there.0 fs there.1 leaves meant left,
     )
 
 module _ {D V : Type 0} {standing : Standing} (g : Ghosts D) (m : Member) (clock : ℕ) (e : NodeEvent) (node : Node D V) (out : List Output) (sound : IsSoundNode g m clock node) (disk : IsSoundDisk g standing node.store.disk)

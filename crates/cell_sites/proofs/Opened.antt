@@ -1,5 +1,5 @@
 -- One more server is opened, until all are.
-use Rattle.std.proofs.Common.{if◌then◌else◌, ◌≡◌, ◌≢◌, ◌<◌, ◌≤◌, ◌+◌, ◌++◌, ℕ, zero, suc, Bool, true, false, List, [], ◌∷◌, Vec, length, map, get_or, replicate, Option, Some, None, Result, Ok, Err, IsSomeAnd, refl, sym, ap, subst, ◌∙◌, arith}
+use Rattle.std.proofs.Common.{if◌then◌else◌, ◌≡◌, ◌≢◌, ◌<◌, ◌≤◌, ◌+◌, ◌++◌, ℕ, zero, suc, Bool, true, false, List, [], ◌∷◌, Vec, length, map, get_or, replicate, Some, None, Result, Ok, Err, IsSomeAnd, refl, sym, ap, subst, ◌∙◌, arith}
 use Rattle.std.specs.Prelude.{All, OnOk}
 use Rattle.std.proofs.lemmas.List.{append_assoc, length-map, map-append}
 use Rattle.std.proofs.lemmas.Grind.{flat_map-append}
@@ -23,15 +23,15 @@ use Rattle.cell_model.specs.Node as model
 use Rattle.cell_model.specs.Voters.{IsVotePacket}
 use Rattle.cell_model.specs.World.{Site as ModelSite, are_near, clocks_of, first_seen, first_site}
 use Rattle.cell_script.specs.declared.lines.Kind.{Kind}
-use Rattle.cell_runs.specs.Script.{Armed, Cell, fails_at, hosts_of, opened_cell}
+use Rattle.cell_runs.specs.Script.{Cell, fails_at, hosts_of, opened_cell}
 use Rattle.cell_runs.specs.ScriptDatabase.{ScriptDatabase}
 use Rattle.cell_runs.specs.Trace.{TraceItem, Tells, item_text, marks_text, trace}
 use Rattle.ubik_node.specs.Disk.{StandsAs}
 use Rattle.ubik_node.specs.Node.{up_server}
-use Rattle.cell_sites.specs.Counts.{AreCountsFrom, OpensFirst, RisesAs}
+use Rattle.cell_sites.specs.Counts.{AreCountsFrom, OpensFirst}
 use Rattle.cell_sites.specs.Disks.{AreReadBy, AreRises, Held, IsReadBy, all_held, held}
 use Rattle.cell_sites.specs.Opened.{AreFirstCounts, ArePartOpened, AreUnarmed, HasRoom, IsAdded, IsOpened, counts_of, opening_items}
-use Rattle.cell_sites.specs.OpenedServer.{IsEmptied, OpensDisk, ServerIs, ServerOpens, is_cut_short, opened_marks}
+use Rattle.cell_sites.specs.OpenedServer.{IsEmptied, OpensDisk, ServerOpens, is_cut_short, opened_marks}
 use Rattle.cell_sites.specs.Sites.{AreArmed, AreSitesOf, IsArmedAs, IsModelledBy, helds, server_disk, server_node, site_disk}
 use Rattle.cell_sites.specs.Sound.{AreSound, IsMeantImage, IsSoundDisk, IsSoundServer, IsSoundSite, StandsForSome}
 use Rattle.cell_sites.specs.Traffic.{Traffic}

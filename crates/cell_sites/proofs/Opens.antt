@@ -1,5 +1,5 @@
 -- A server that is opened over a disk whose files stand for a durable state.
-use Rattle.std.proofs.Common.{if◌then◌else◌, ◌≡◌, ◌≢◌, ◌<◌, ◌≤◌, ◌+◌, ◌-◌, ℕ, zero, suc, Bool, true, false, true≢false, List, take, length, Option, Some, None, IfSome, IsSome, IsSomeAnd, refl, sym, ap, subst, ◌∙◌, arith}
+use Rattle.std.proofs.Common.{if◌then◌else◌, ◌≡◌, ◌≢◌, ◌+◌, ◌-◌, ℕ, zero, suc, Bool, true, false, List, take, length, Option, Some, None, IfSome, IsSome, IsSomeAnd, refl, sym, ap, subst, ◌∙◌, arith}
 use Rattle.std.proofs.lemmas.Bool.{false≢true}
 use Rattle.std.proofs.lemmas.Slice.Eq.{bytes_eq-Decides}
 use Rattle.std.specs.Str.{bytes_eq}
@@ -31,11 +31,9 @@ use Rattle.cell_model.specs.Voters.{IsVoter}
 use Rattle.ubik_node.specs.declared.nodes.Node.{Node}
 use Rattle.ubik_node.specs.Disk.{StandsAs}
 use Rattle.ubik_node.specs.Node.{node_of, own_member, up_server, IsStored}
-use Rattle.cell_sites.specs.Counts.{RisesAs}
 use Rattle.cell_sites.specs.OpenedServer.{OpensDisk, ServerIs, ServerOpens, is_cut_short}
 use Rattle.cell_sites.specs.declared.openings.OpenEnd.{OpenEnd}
 use Rattle.cell_sites.specs.declared.openings.OpenEnd.TheVariants as opened
-use Rattle.cell_sites.specs.declared.sites.Server.{Server}
 use Rattle.cell_sites.specs.declared.sites.Server.TheVariants as server
 use Rattle.cell_sites.specs.Sound.{IsMeantImage, IsSoundDisk, StandsForSome}
 use Rattle.cell_sites.proofs.Standing.{stands_once}
@@ -84,9 +82,9 @@ told_at files fs P is holds = let Q : Option Files → Type 0 = λ o. IsSomeAnd 
 pub if_told : (files : Option Files) (fs : Files) (P : Files → Type 0) → files ≡ Some fs → P fs → IfSome files P
 if_told files fs P is holds = let Q : Option Files → Type 0 = λ o. IfSome o P in subst Q (sym is) holds
 
-pub some_stands : {standing : Standing} (files : Option Files) (d : Durable) → IsSomeAnd files (StandsAs d) → IsMeantImage standing d.image → IfSome files (StandsForSome standing)
-some_stands None d stands meant = tt
-some_stands (Some fs) d stands meant = (d, stands, meant)
+pub some_stands : (standing : Standing) (files : Option Files) (d : Durable) → IsSomeAnd files (StandsAs d) → IsMeantImage standing d.image → IfSome files (StandsForSome standing)
+some_stands standing None d stands meant = tt
+some_stands standing (Some fs) d stands meant = (d, stands, meant)
 
 pub unarmed_stays : (n : ℕ) → after_changes n Unarmed ≡ Unarmed
 unarmed_stays zero = refl
@@ -206,7 +204,7 @@ module _ {D V : Type 0} {standing : Standing} (g : Ghosts D) (hosts cell : List 
       told = some;
       settled = node_settled g n stored server_up.0;
       plain = plain_read g n.store.disk (leaves_plain g disk n.store.disk ⊥ d sound stands opening);
-      stands = some_stands (g.files n.store.disk) d holds (meant g disk n.store.disk ⊥ d sound stands opening);
+      stands = some_stands standing (g.files n.store.disk) d holds (meant g disk n.store.disk ⊥ d sound stands opening);
     };
     calls =
         let o = opens g disk n.store.disk ⊥ d sound stands opening in

@@ -36,9 +36,9 @@ left_plain g d old new calls fs later is plain leaves left =
     run.each later (g.counts_now new (g.steps old) later run.later left)
 
 -- and what is left stands for some durable state, whose image stands where those that the calls lead to do
-pub left_stands : {D : Type 0} {standing : Standing} (g : Ghosts D) (d : Durable) (old new : D) (calls : List Made) (fs later : Files) → g.files old ≡ Some fs → LeavesWithin g d old new calls → AllMeant standing d calls → g.may_leave new later
+pub left_stands : {D : Type 0} (g : Ghosts D) (standing : Standing) (d : Durable) (old new : D) (calls : List Made) (fs later : Files) → g.files old ≡ Some fs → LeavesWithin g d old new calls → AllMeant standing d calls → g.may_leave new later
     → StandsForSome standing later
-left_stands {D} {standing} g d old new calls fs later is leaves meant left =
+left_stands g standing d old new calls fs later is leaves meant left =
     let run = of_some (g.files old) fs (λ _. LeavesOnly g.steps g.left_since old new (StandsWithin d calls)) is leaves.moments in
     let stands = run.each later (g.counts_now new (g.steps old) later run.later left) in
     (durable_after_all d (take stands.0 calls), stands.2, taken_meant standing d calls stands.0 meant)

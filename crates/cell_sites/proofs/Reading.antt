@@ -1,6 +1,6 @@
 -- What the disk of a site reads as, and what it holds where memory ran out.
-use Rattle.std.proofs.Common.{◌≡◌, ℕ, zero, suc, List, [], ◌∷◌, map, Option, Some, sym, subst}
-use Rattle.std.specs.Prelude.{slice_get, false, true}
+use Rattle.std.proofs.Common.{◌≡◌, ℕ, zero, suc, List, [], ◌∷◌, map, Some, subst}
+use Rattle.std.specs.Prelude.{slice_get, true}
 use Rattle.disk_base.specs.declared.disks.Disk.{Ghosts}
 use Rattle.db_image.specs.Database.{Database}
 use Rattle.cell_model.specs.World.{Site as ModelSite}

@@ -1,15 +1,13 @@
 -- What a step of one server of a running cell tells, and what it leaves.
-use Rattle.std.proofs.Common.{◌≡◌, ◌≢◌, ◌⊎◌, inl, inr, ◌<◌, ◌≤◌, ◌+◌, ◌-◌, ℕ, zero, suc, Bool, true, false, Option, Some, None, Result, Ok, Err, List, [], ◌∷◌, ◌++◌, length, replicate, map, set, refl, sym, ap, subst, ◌∙◌, arith}
+use Rattle.std.proofs.Common.{◌≡◌, ◌≢◌, inr, ◌<◌, ◌≤◌, ◌+◌, ℕ, zero, suc, Bool, false, Option, Some, None, Ok, List, [], ◌∷◌, ◌++◌, length, replicate, map, set, sym, ap, subst, ◌∙◌, arith}
 use Rattle.std.specs.Prelude.{slice_get}
-use Rattle.std.proofs.lemmas.List.{append-nil, length-append}
+use Rattle.std.proofs.lemmas.List.{length-append}
 use Rattle.disk_base.specs.declared.disks.Disk.{Ghosts}
-use Rattle.disk_base.specs.Files.{Files}
-use Rattle.ubik_types.specs.declared.hosts.Host.{Host}
 use Rattle.ubik_calls.specs.declared.packets.Packet.{Packet}
-use Rattle.cell_model.specs.World.{Site as ModelSite, World, Event, Happened, SiteHappened, happened_at, packets_of, seen_from}
+use Rattle.cell_model.specs.World.{Site as ModelSite, Event, SiteHappened, happened_at, packets_of, seen_from}
 use Rattle.cell_runs.specs.declared.endings.Ending.{Ending}
 use Rattle.cell_runs.specs.ScriptDatabase.{ScriptDatabase}
-use Rattle.cell_runs.specs.Script.{Armed, Cell, cell_after, Cell_run, Choice, Run_or_why, Within, within, bytes_of, happened}
+use Rattle.cell_runs.specs.Script.{Armed, Cell, cell_after, Choice, Run_or_why, Within, within, bytes_of, happened}
 use Rattle.cell_runs.specs.Trace.{TraceItem, Tells, trace, fault_count}
 use Rattle.cell_sites.specs.declared.cells.OpenCell.{OpenCell}
 use Rattle.cell_sites.specs.declared.sites.Site.{Site}
@@ -17,12 +15,12 @@ use Rattle.cell_sites.specs.Disks.{Held, held, IsReadBy, AreReadBy, AreRises}
 use Rattle.cell_sites.specs.Counts.{HoldRun}
 use Rattle.cell_sites.specs.Sites.{AreArmed, site_disk, helds, AreSitesOf, IsSiteOf, IsModelledBy}
 use Rattle.cell_sites.specs.Telling.{Telling, TellingRun, told_of}
-use Rattle.cell_sites.specs.Told.{CellTold, IsShort, IsShortAfter}
+use Rattle.cell_sites.specs.Told.{CellTold, IsShort}
 use Rattle.cell_sites.specs.Traffic.{Traffic, sent_all}
 use Rattle.cell_sites.proofs.AtPlace.{sites_set}
 use Rattle.cell_sites.proofs.Counting.{AreMoved, hold_short}
 use Rattle.cell_sites.proofs.Happening.{with_armed}
-use Rattle.cell_sites.proofs.Agreeing.{AreMarks, Agrees, agrees, few_faults, seen}
+use Rattle.cell_sites.proofs.Agreeing.{AreMarks, agrees, few_faults, seen}
 
 -- ---- disks
 

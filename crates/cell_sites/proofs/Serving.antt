@@ -1,12 +1,11 @@
 -- What a step leaves of the disk of its server, as the model counts it.
-use Rattle.std.proofs.Common.{if◌then◌else◌, ◌≡◌, ◌≢◌, ◌⊎◌, inl, inr, ⊎_elim, ◌<◌, ◌≤◌, ◌+◌, ◌-◌, ◌==◌, ◌*◌, ℕ, zero, suc, Bool, true, false, cond, Option, Some, None, IfSome, IsSome, IsSomeAnd, List, [], ◌∷◌, ◌++◌, length, take, sum, refl, sym, ap, subst, ◌∙◌, arith}
-use Rattle.std.specs.Prelude.{not, nat_lt, ◌&&◌}
-use Rattle.std.proofs.lemmas.Bool.{false≢true, eq-eqb, and_right}
+use Rattle.std.proofs.Common.{if◌then◌else◌, ◌≡◌, inl, inr, ◌≤◌, ◌+◌, ◌-◌, ◌==◌, ℕ, zero, suc, Bool, true, false, Option, Some, None, IfSome, IsSome, IsSomeAnd, List, [], ◌∷◌, length, take, sum, refl, sym, ap, subst, ◌∙◌, arith}
+use Rattle.std.specs.Prelude.{not, nat_lt}
 use Rattle.std.proofs.lemmas.Bool.Decides.{nat_tests}
 use Rattle.disk_base.specs.declared.disks.Disk.{Ghosts}
-use Rattle.disk_base.specs.Crash.{LeavesOnly, Narrows, Only}
+use Rattle.disk_base.specs.Crash.{Narrows, Only}
 use Rattle.disk_base.specs.Files.{Files}
-use Rattle.disk_base.specs.Stops.{DiskStop, IsStopped, after_changes}
+use Rattle.disk_base.specs.Stops.{IsStopped, after_changes}
 use Rattle.page_file.specs.Label.{version_by, version_of_database, version_of_label}
 use Rattle.page_file.specs.declared.label.TheConstants.{LABEL_LEN}
 use Rattle.page_file.specs.Pages.{image_of}
@@ -19,13 +18,13 @@ use Rattle.ubik_store.specs.Files.{StandsFor}
 use Rattle.ubik_store.specs.Gaps.{IsPlain}
 use Rattle.ubik_store.specs.Rest.{IsAtRest}
 use Rattle.ubik_store.specs.Store.{image_in}
-use Rattle.cell_model.specs.Durable.{Durable, Made, disk_calls, durable, durable_after, durable_after_all, version_after}
+use Rattle.cell_model.specs.Durable.{Durable, Made, disk_calls, durable, durable_after_all, version_after}
 use Rattle.cell_model.specs.Node as model
 use Rattle.cell_model.specs.Step.{Member}
 use Rattle.cell_model.specs.World.{calls_on}
 use Rattle.cell_runs.specs.Script.{calls_on_all}
 use Rattle.ubik_node.specs.declared.nodes.Node.{Node}
-use Rattle.ubik_node.specs.Disk.{FailsIn, IsRevived, LeavesWithin, Serves, StandsAs, StandsBetween, calls_made, has_label}
+use Rattle.ubik_node.specs.Disk.{FailsIn, IsRevived, Serves, StandsAs, StandsBetween, calls_made, has_label}
 use Rattle.ubik_node.specs.Node.{durable_in, node_of}
 use Rattle.cell_sites.specs.Counts.{IsCutShort}
 use Rattle.cell_sites.specs.Sound.{IsSoundDisk, IsSoundNode}

@@ -1,12 +1,11 @@
 -- The step of a server in its cell: it stays there, or goes down where its disk stopped.
 use Rattle.std.proofs.Common.{◌≡◌, ◌≢◌, ◌<◌, ℕ, zero, suc, Some, List, [], ◌∷◌, length, set, refl, sym, ap, subst, ◌∙◌, arith}
-use Rattle.std.specs.Prelude.{insert, remove, slice_get}
+use Rattle.std.specs.Prelude.{slice_get}
 use Rattle.std.proofs.lemmas.List.{length-set, set-set}
 use Rattle.std.proofs.lemmas.Option.{slice_get_within}
 use Rattle.disk_base.specs.declared.disks.Disk.{Ghosts}
 use Rattle.db_image.specs.Database.{Database}
 use Rattle.cell_model.specs.declared.events.NodeEvent.{NodeEvent}
-use Rattle.cell_model.specs.declared.events.Output.{Output}
 use Rattle.cell_sites.specs.Sites.{server_disk}
 use Rattle.cell_sites.specs.Stepped.{Becomes, SiteStepped, TakenDown, UpStepped, up_site}
 use Rattle.cell_sites.specs.declared.cells.OpenCell.{OpenCell}
@@ -16,7 +15,6 @@ use Rattle.cell_sites.specs.declared.sites.Site.{Site}
 use Rattle.cell_sites.specs.declared.steps.SiteEnd.{SiteEnd}
 use Rattle.cell_sites.specs.declared.steps.SiteEnd.TheVariants as ended
 use Rattle.ubik_node.specs.Disk.{IsRevived}
-use Rattle.ubik_node.specs.declared.nodes.Node.{Node}
 use Rattle.db_image.specs.Standing.{Standing}
 
 -- what was set is there

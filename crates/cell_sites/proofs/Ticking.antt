@@ -8,7 +8,6 @@ use Rattle.std.proofs.lemmas.Option.{get_or_from_slice_get, slice_get_within}
 use Rattle.db_image.specs.Database.{Database}
 use Rattle.db_image.specs.Standing.{Standing}
 use Rattle.disk_base.specs.declared.disks.Disk.{Ghosts}
-use Rattle.disk_base.specs.Files.{Files}
 use Rattle.ubik_types.specs.declared.hosts.Host.{Host}
 use Rattle.ubik_types.specs.declared.limits.TheConstants.{MAX_MOMENT}
 use Rattle.cell_model.specs.Step.{Member}
@@ -53,31 +52,31 @@ site_later g m bound seconds site fits sound =
       disk = sound.disk;
     }
 
-pub sound_weaker : {D V : Type 0} {standing : Standing} (g : Ghosts D) (hosts : List Host) (place bound more : ℕ) (sites : List (Site D V)) → bound ≤ more → AreSound g standing hosts place bound sites → AreSound g standing hosts place more sites
-sound_weaker g hosts place bound more [] le sound = tt
-sound_weaker g hosts place bound more (site ∷ sites) le sound =
+pub sound_weaker : {D V : Type 0} (g : Ghosts D) (standing : Standing) (hosts : List Host) (place bound more : ℕ) (sites : List (Site D V)) → bound ≤ more → AreSound g standing hosts place bound sites → AreSound g standing hosts place more sites
+sound_weaker g standing hosts place bound more [] le sound = tt
+sound_weaker g standing hosts place bound more (site ∷ sites) le sound =
     let within = sound.0.within in (
       record { moment = sound.0.moment; within = omega (arith, within, le); server = sound.0.server; disk = sound.0.disk },
-      sound_weaker g hosts (place + 1) bound more sites le sound.1,
+      sound_weaker g standing hosts (place + 1) bound more sites le sound.1,
     )
 
-sound_ticked : {D V : Type 0} {standing : Standing} (g : Ghosts D) (hosts : List Host) (place bound bound' seconds : ℕ) (sites : List (Site D V)) → bound + seconds ≤ MAX_MOMENT → AreSound g standing hosts place bound sites → AreSound g standing hosts place bound' sites → AreSound g standing hosts place (bound' + seconds) (map (ticked_on seconds) sites)
-sound_ticked g hosts place bound bound' seconds [] fits sound sound' = tt
-sound_ticked g hosts place bound bound' seconds (site ∷ sites) fits sound sound' =
+sound_ticked : {D V : Type 0} (g : Ghosts D) (standing : Standing) (hosts : List Host) (place bound bound' seconds : ℕ) (sites : List (Site D V)) → bound + seconds ≤ MAX_MOMENT → AreSound g standing hosts place bound sites → AreSound g standing hosts place bound' sites → AreSound g standing hosts place (bound' + seconds) (map (ticked_on seconds) sites)
+sound_ticked g standing hosts place bound bound' seconds [] fits sound sound' = tt
+sound_ticked g standing hosts place bound bound' seconds (site ∷ sites) fits sound sound' =
     let within = sound.0.within in (
       site_later g (record { hosts = hosts; me = place }) bound' seconds site (omega (arith, fits, within)) sound'.0,
-      sound_ticked g hosts (place + 1) bound bound' seconds sites fits sound.1 sound'.1,
+      sound_ticked g standing hosts (place + 1) bound bound' seconds sites fits sound.1 sound'.1,
     )
 
 -- ---- clocks
 
-moments_in : {D V : Type 0} {standing : Standing} (g : Ghosts D) (hosts : List Host) (place bound : ℕ) (sites : List (Site D V)) → AreSound g standing hosts place bound sites → (k : ℕ) → k < length (clocks_in sites) → (0 < get_or (clocks_in sites) k 0) × (get_or (clocks_in sites) k 0 ≤ MAX_MOMENT)
-moments_in g hosts place bound [] sound k less = absurd (omega arith)
-moments_in g hosts place bound (site ∷ sites) sound zero less =
+moments_in : {D V : Type 0} (g : Ghosts D) (standing : Standing) (hosts : List Host) (place bound : ℕ) (sites : List (Site D V)) → AreSound g standing hosts place bound sites → (k : ℕ) → k < length (clocks_in sites) → (0 < get_or (clocks_in sites) k 0) × (get_or (clocks_in sites) k 0 ≤ MAX_MOMENT)
+moments_in g standing hosts place bound [] sound k less = absurd (omega arith)
+moments_in g standing hosts place bound (site ∷ sites) sound zero less =
     let fits = sound.0.moment.fits in
     let end : 2 ^ 31 ≡ 2147483648 = refl in
     (sound.0.moment.some, omega (arith, fits, end))
-moments_in g hosts place bound (site ∷ sites) sound (suc k) less = moments_in g hosts (place + 1) bound sites sound.1 k (omega arith)
+moments_in g standing hosts place bound (site ∷ sites) sound (suc k) less = moments_in g standing hosts (place + 1) bound sites sound.1 k (omega arith)
 
 clock_there : {D V : Type 0} (sites : List (Site D V)) (k : ℕ) (site : Site D V) → slice_get sites k ≡ Some site → get_or (clocks_in sites) k 0 ≡ site.clock
 clock_there [] k site there = cc
@@ -104,11 +103,11 @@ left_of false b is = is
 
 -- clocks of a sound cell may be those after a tick
 pub may : {D V : Type 0} {standing : Standing} (g : Ghosts D) (bound : ℕ) (after : OpenCell D V) (ss : List ModelSite) → IsSound g standing bound after → AreSitesOf after.sites.items ss → may_tick ss ≡ true
-may g bound after ss sound are =
+may {D} {V} {standing} g bound after ss sound are =
     let clocks = sites_clocks after.sites.items ss are in
     subst (λ (l : List ℕ). (are_near l && are_moments l) ≡ true) (sym clocks)
     (both (are_near (clocks_in after.sites.items)) (are_moments (clocks_in after.sites.items)) sound.near
-    (moments_make (clocks_in after.sites.items) (moments_in g after.hosts.items 0 bound after.sites.items sound.sites)))
+    (moments_make (clocks_in after.sites.items) (moments_in g standing after.hosts.items 0 bound after.sites.items sound.sites)))
 
 -- ---- one clock
 
@@ -116,7 +115,7 @@ abbrev pub ticked_at : {D V : Type 0} → OpenCell D V → ℕ → ℕ → Site 
 ticked_at running k seconds site = record running { sites = with_item running.sites k (ticked_on seconds site) }
 
 pub tick_sound : {D V : Type 0} {standing : Standing} (g : Ghosts D) (bound most : ℕ) (running : OpenCell D V) (k seconds : ℕ) (site : Site D V) → IsSound g standing bound running → site.clock + seconds ≤ MAX_MOMENT → slice_get running.sites.items k ≡ Some site → IsNearAt running.sites.items k (site.clock + seconds) → IsSound g standing (bound + seconds) (ticked_at running k seconds site)
-tick_sound {D} {V} g bound most running k seconds site sound fits there near =
+tick_sound {D} {V} {standing} g bound most running k seconds site sound fits there near =
     let items = running.sites.items in
     let x = ticked_on seconds site in
     let same : length (set items k x) ≡ length items = length-set items k x in
@@ -131,7 +130,7 @@ tick_sound {D} {V} g bound most running k seconds site sound fits there near =
       few = omega (arith, few, same);
       hosts = sound.hosts ∙ ap hosts_of (sym same);
       sites = sound_set g running.hosts.items 0 (bound + seconds) items k x
-          (sound_weaker g running.hosts.items 0 bound (bound + seconds) items (omega arith) sound.sites)
+          (sound_weaker g standing running.hosts.items 0 bound (bound + seconds) items (omega arith) sound.sites)
           (site_later g (record { hosts = running.hosts.items; me = 0 + k }) bound seconds site fits (sound_at g running.hosts.items 0 bound items k site sound.sites there));
       near = ap are_near clocks ∙ near_make (set (clocks_in items) k x.clock)
           (near_set (clocks_in items) k x.clock (near_read (clocks_in items) sound.near) (omega (arith, within, as_many)) (omega (arith, old))
@@ -272,7 +271,7 @@ all_sound {D} {V} {standing} g bound bound' running sites seconds are sound fits
       few = omega (arith, few, same);
       hosts = sound.hosts ∙ ap hosts_of (sym same);
       sites = subst (λ (l : List (Site D V)). AreSound g standing running.hosts.items 0 (bound' + seconds) l) (sym is)
-          (sound_ticked g running.hosts.items 0 bound bound' seconds items fits sound.sites sound'.sites);
+          (sound_ticked g standing running.hosts.items 0 bound bound' seconds items fits sound.sites sound'.sites);
       near = ap (λ (l : List (Site D V)). are_near (clocks_in l)) is ∙ ap are_near (clocks_ticked items seconds)
           ∙ near_make (map (λ (n : ℕ). n + seconds) (clocks_in items)) (near_all (clocks_in items) seconds (near_read (clocks_in items) sound.near));
       packets = sound.packets;
@@ -280,7 +279,7 @@ all_sound {D} {V} {standing} g bound bound' running sites seconds are sound fits
     }
 
 pub all_told : {D V : Type 0} {standing : Standing} {given : List ℕ} (g : Ghosts D) (db : ScriptDatabase) (bound : ℕ) (running : OpenCell D V) (sites : List (Site D V)) (c : Cell) (seconds : ℕ) (text : List ℕ) → sites ≡ map (ticked_on seconds) running.sites.items → IsSound g standing bound running → bound + seconds ≤ MAX_MOMENT → IsModelledBy g db.database given running c → CellTold g db given (λ choices. unless_skewed db c (map (ticked seconds) c.run.world.sites) (Tick_all seconds)) None running (all_ticked running sites) text text
-all_told {D} {V} {given} g db bound running sites c seconds text are sound fits stands =
+all_told {D} {V} {standing} {given} g db bound running sites c seconds text are sound fits stands =
     let is = all_items running sites seconds are in
     let ss = subst (λ (l : List (Site D V)). AreSitesOf l (map (ticked seconds) c.run.world.sites)) (sym is) (sites_all_ticked running.sites.items c.run.world.sites seconds stands.sites) in
     record {

@@ -1,5 +1,5 @@
 -- What the disks of a running cell read as, how often they failed, and how many changing calls they got.
-use Rattle.std.specs.Prelude.{◌≡◌, ◌≤◌, ℕ, ◌+◌, Option, Some, None, IsSomeAnd, List, [], ◌∷◌, map}
+use Rattle.std.specs.Prelude.{◌≤◌, ℕ, ◌+◌, Option, IsSomeAnd, List, [], ◌∷◌, map}
 use Rattle.disk_base.specs.declared.disks.Disk.{Ghosts}
 use Rattle.disk_base.specs.Files.{Files}
 use Rattle.cell_model.specs.World.{Site}

@@ -4,7 +4,6 @@ use Rattle.disk_base.specs.declared.disks.Disk.{Ghosts}
 use Rattle.disk_base.specs.Files.{Files}
 use Rattle.disk_base.specs.Stops.DiskStop.{Unarmed}
 use Rattle.ubik_store.specs.Opening.{OpensIn}
-use Rattle.ubik_types.specs.declared.hosts.Host.{Host}
 use Rattle.db_image.specs.Standing.{Standing}
 use Rattle.cell_model.specs.Durable.{Durable, no_database}
 use Rattle.cell_model.specs.Node.{Down, Up, opened_server}

@@ -1,5 +1,5 @@
 -- What is kept true of the packets of a cell.
-use Rattle.std.specs.Prelude.{◌≡◌, ◌≤◌, ℕ, length}
+use Rattle.std.specs.Prelude.{◌≡◌, ◌≤◌, length}
 use Rattle.cell_runs.specs.declared.limits.TheConstants.{MAX_PACKETS, MAX_PACKET_BYTES}
 use Rattle.cell_runs.specs.Script.{bytes_of}
 use Rattle.cell_sites.specs.declared.packets.Packets.TheInside.{Inside}

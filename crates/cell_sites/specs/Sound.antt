@@ -1,5 +1,5 @@
 -- What is kept true of a running cell.
-use Rattle.std.specs.Prelude.{◌≡◌, ◌+◌, ◌≤◌, ℕ, true, IfSome, IsSome, All, List, [], ◌∷◌, length, map, vec_capacity}
+use Rattle.std.specs.Prelude.{◌≡◌, ◌+◌, ◌≤◌, ℕ, true, IfSome, IsSome, All, List, [], ◌∷◌, length, map}
 use Rattle.disk_base.specs.declared.disks.Disk.{Ghosts}
 use Rattle.disk_base.specs.Crash.{IsSettled}
 use Rattle.disk_base.specs.Files.{Files}

@@ -7,7 +7,7 @@ use Rattle.ubik_calls.specs.Length.{packet_length}
 use Rattle.cell_model.specs.declared.events.Output.{Output}
 use Rattle.cell_model.specs.declared.events.Output.TheVariants as output
 use Rattle.cell_model.specs.Step.{Shown}
-use Rattle.cell_model.specs.World.{Happening, Halts, packet_in, packet_of, seen_of_output}
+use Rattle.cell_model.specs.World.{Happening, Halts, packet_of, seen_of_output}
 use Rattle.cell_model.specs.Voters.{IsOfVotes}
 use Rattle.cell_runs.specs.declared.endings.Ending.{Ending}
 use Rattle.cell_runs.specs.ScriptDatabase.{ScriptDatabase}

@@ -1,5 +1,5 @@
 -- What a line does in a running cell.
-use Rattle.std.specs.Prelude.{◌≡◌, ◌⊎◌, ◌++◌, ℕ, true, false, Option, Some, None, Result, Ok, Err, List}
+use Rattle.std.specs.Prelude.{◌≡◌, ◌⊎◌, ◌++◌, ℕ, true, false, Option, Some, None, Ok, Err, List}
 use Rattle.disk_base.specs.declared.disks.Disk.{Ghosts}
 use Rattle.db_image.specs.Database.{Database}
 use Rattle.cell_script.specs.declared.lines.Why.{Why}

@@ -26,20 +26,20 @@ use Rattle.db_image.specs.Standing.{Standing}
 
 -- ---- what stays sound
 
-sites_raised : {D V : Type 0} {standing : Standing} (g : Ghosts D) (hosts : List Host) (place bound later : ℕ) (sites : List (Site D V)) → bound ≤ later
+sites_raised : {D V : Type 0} (standing : Standing) (g : Ghosts D) (hosts : List Host) (place bound later : ℕ) (sites : List (Site D V)) → bound ≤ later
     → AreSound g standing hosts place bound sites → AreSound g standing hosts place later sites
-sites_raised g hosts place bound later [] more sound = tt
-sites_raised g hosts place bound later (site ∷ sites) more sound = (
+sites_raised standing g hosts place bound later [] more sound = tt
+sites_raised standing g hosts place bound later (site ∷ sites) more sound = (
   record { moment = sound.0.moment; within = omega (arith, sound.0.within); server = sound.0.server; disk = sound.0.disk },
-  sites_raised g hosts (place + 1) bound later sites more sound.1,
+  sites_raised standing g hosts (place + 1) bound later sites more sound.1,
 )
 
 pub raised : {D V : Type 0} {standing : Standing} (g : Ghosts D) (bound later : ℕ) (running : OpenCell D V) → bound ≤ later → IsSound g standing bound running → IsSound g standing later running
-raised g bound later running more sound = record {
+raised {standing = standing} g bound later running more sound = record {
   some = sound.some;
   few = sound.few;
   hosts = sound.hosts;
-  sites = sites_raised g running.hosts.items 0 bound later running.sites.items more sound.sites;
+  sites = sites_raised standing g running.hosts.items 0 bound later running.sites.items more sound.sites;
   near = sound.near;
   packets = sound.packets;
   told = sound.told;

@@ -19,4 +19,4 @@ module _ {D V : Type 0} {standing : Standing} (g : Ghosts D) (dbs : Databases) (
 
   -- as many sites as the cell has servers
   pub count_at : sites_in run.cell ≡ servers_of t.stage.cell
-  count_at = sym (servers_match g dbs given (clock_bound run.lines) run.cell t.stage.cell sound.cell at.stage.cell)
+  count_at = sym (servers_match standing g dbs given (clock_bound run.lines) run.cell t.stage.cell sound.cell at.stage.cell)

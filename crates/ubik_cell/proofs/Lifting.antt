@@ -345,12 +345,12 @@ run_causes g dbs given (Some running) (Some c) items behind at causes =
     first_causes c.run.world.sites items (helds g running) behind at.disks.read causes
 
 -- as many servers as the cell of the stage has
-pub servers_match : {D V : Type 0} {standing : Standing} (g : Ghosts D) (dbs : Databases) (given : List ℕ) (bound : ℕ) (cell : Option (OpenCell D V)) (c : Option Cell)
+pub servers_match : {D V : Type 0} (standing : Standing) (g : Ghosts D) (dbs : Databases) (given : List ℕ) (bound : ℕ) (cell : Option (OpenCell D V)) (c : Option Cell)
     → CellIsSound g standing bound cell → CellStandsFor g dbs given cell c → servers_of c ≡ sites_in cell
-servers_match g dbs given bound None None sound at = refl
-servers_match g dbs given bound None (Some c) sound at = absurd at
-servers_match g dbs given bound (Some running) None sound at = absurd at
-servers_match g dbs given bound (Some running) (Some c) sound at = ap length (at.hosts ∙ sound.hosts) ∙ hosts_count (length running.sites.items)
+servers_match standing g dbs given bound None None sound at = refl
+servers_match standing g dbs given bound None (Some c) sound at = absurd at
+servers_match standing g dbs given bound (Some running) None sound at = absurd at
+servers_match standing g dbs given bound (Some running) (Some c) sound at = ap length (at.hosts ∙ sound.hosts) ∙ hosts_count (length running.sites.items)
 
 -- the disks of a run that stays hold the stage at which it stands
 pub near_holds : {D V : Type 0} {standing : Standing} (g : Ghosts D) (dbs : Databases) (given : List ℕ) (ahead : ℕ) (run : CellRun D V) (st : Stage) → IsSoundRun g standing run

@@ -49,7 +49,7 @@ module _ {D V : Type 0} {standing : Standing} (g : Ghosts D) (db : ScriptDatabas
       → result_of db bytes st choices ≡ or_refused (meaning_run (only db) (next_line st) choices m)
   result_is given st near room m is choices =
       let more : nat_le MAX_LINES st.lines ≡ false = grind (arith, nat_tests, near.lines) in
-      let servers : servers_of st.cell ≡ sites_in before.cell = servers_match g (only db) given (clock_bound before.lines) before.cell st.cell sound.cell near.cell in
+      let servers : servers_of st.cell ≡ sites_in before.cell = servers_match standing g (only db) given (clock_bound before.lines) before.cell st.cell sound.cell near.cell in
       few_lines (nat_le MAX_LINES st.lines) _ _ more
       ∙ ap (λ n. or_refused (meaning_run (only db) (next_line st) choices (line_of n bytes))) servers
       ∙ ap (λ x. or_refused (meaning_run (only db) (next_line st) choices x)) is

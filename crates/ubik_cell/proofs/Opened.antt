@@ -203,7 +203,7 @@ module _ {D V : Type 0} {standing : Standing} (g : Ghosts D) (db : ScriptDatabas
     is = nothing_in st st.cell refl [];
     ends = refl;
     near = λ _. record { lines = omega (arith, near.lines); asks = near.asks; cell = near.cell; spare = near.spare };
-    servers = sym (servers_match g (only db) given (clock_bound before.lines) before.cell st.cell sound.cell near.cell);
+    servers = sym (servers_match standing g (only db) given (clock_bound before.lines) before.cell st.cell sound.cell near.cell);
     holds = near_holds g (only db) given 0 before st sound near;
     kept = λ o items at causes. run_causes g (only db) given before.cell o items (all_held g before.spare.items) at causes;
     told = sym (ap (λ (l : List ℕ). text ++ l) (no_text st.cell) ∙ append-nil text);

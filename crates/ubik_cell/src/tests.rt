@@ -291,17 +291,22 @@ fn a_disk_that_fails_in_the_opening_leaves_the_server_down(rt: HostRuntime) -> R
 }
 
 /// Behind the opening the relabelling has 15 calls: 13 changing ones, one more for the label that is not there yet, and the
-/// length of the database. The commit has 22: 13, one for each of its 8 blocks, and the length.
+/// length of the database. The commit has 22: 13, one for each of its 8 blocks, and the length. The look-up reads 7 blocks, up to the
+/// entry that has the name.
 #[test]
 fn a_disk_that_fails_later_halts_the_server(rt: HostRuntime) -> Result<(), Fail> {
     let relabelling = "halted 1\nreply 1 1 diskfault\nreply 2 1 diskfault\n";
     let commit = "announce 1 1076.1\nreply 1 1 diskfault\nhalted 1\nreply 2 1 diskfault\n";
+    let made = "announce 1 1076.1\nannounce 1 1076.2\nreply 1 1 ok 1\n";
+    let look_up = format!(in rt.alloc(); "{made}reply 2 1 diskfault\nhalted 1\n")?;
     for (call, text) in [
         (7, relabelling),
         (21, relabelling),
         (22, commit),
         (43, commit),
-        (44, FIRST_TRACE),
+        (44, look_up.as_str()),
+        (50, look_up.as_str()),
+        (51, FIRST_TRACE),
     ] {
         let seen = run_on(rt.alloc(), FIRST_USER.as_bytes(), &[], &[], &[call])?;
         expect(&rt, &seen, 0, CellKind::Done, text);

@@ -1,8 +1,7 @@
-use Rattle.std.proofs.Common.{◌≡◌, ◌≢◌, length, sym, subst, arith}
+use Rattle.std.proofs.Common.{length, sym, subst, arith}
 use Rattle.std.proofs.lemmas.List.Sorted.{length_permutation}
 use Rattle.cell_model.specs.Step.{Member}
 use Rattle.cell_sites.specs.declared.openings.OpenEnd.{OpenEnd}
-use Rattle.cell_sites.specs.declared.openings.OpenEnd.TheVariants as opened
 use Rattle.cell_sites.specs.declared.sites.Server.TheVariants as server
 use Rattle.cell_sites.specs.OpenedServer.{ServerOpens}
 use Rattle.cell_sites.proofs.Hosts.{cell_hosts}

@@ -1,21 +1,21 @@
 use Rattle.std.proofs.Common.{◌∙◌, sym}
 use Rattle.std.proofs.lemmas.Bool.{false≢true}
 use Rattle.cell_sites.proofs.Leading.{leads_on, needs_met}
-use Rattle.cell_sites.proofs.Nodes.{done_now, halted_now, rested_now, short_now, stopped_now}
+use Rattle.cell_sites.proofs.Nodes.{done_now, halted_now, halts, rested_now, short_now, stopped_now}
 use Rattle.cell_sites.proofs.steps.step_node.Goals as goal
 
 pub returns-in-Done : goal.returns-in-Done
 returns-in-Done g c =
     let e = c.in-Done.ensures in
     let needs = needs_met g.D.Disk _ _ _ c.requires.sound c.requires.disk c.args.event in
-    let leads = leads_on g.D.Disk _ _ _ c.requires.sound c.requires.disk g.V.DraftService.is_meant c.args.event c.requires.taken in
+    let leads = leads_on g.D.Disk _ _ _ c.requires.sound c.requires.disk g.met.V.DraftService.is_meant c.args.event c.requires.taken in
     done_now g.D.Disk _ _ _ _ _ c.requires.sound c.requires.disk leads _ (e.step needs) e.member e.stored (e.told (λ is. cc)) e.calls e.last
 
 pub returns-in-NoMemory : goal.returns-in-NoMemory
 returns-in-NoMemory g c =
     let e = c.in-NoMemory.ensures in
     let needs = needs_met g.D.Disk _ _ _ c.requires.sound c.requires.disk c.args.event in
-    let leads = leads_on g.D.Disk _ _ _ c.requires.sound c.requires.disk g.V.DraftService.is_meant c.args.event c.requires.taken in
+    let leads = leads_on g.D.Disk _ _ _ c.requires.sound c.requires.disk g.met.V.DraftService.is_meant c.args.event c.requires.taken in
     short_now g.D.Disk _ _ _ _ _ c.requires.sound c.requires.disk leads _ (e.step needs) e.member e.stored e.last
 
 pub returns-in-Halted : goal.returns-in-Halted
@@ -23,7 +23,7 @@ returns-in-Halted g c =
     let e = c.in-Halted.ensures in
     let halted = sym c.halted-was_halted.ensures ∙ c.if-was_halted.true in
     let needs = needs_met g.D.Disk _ _ _ c.requires.sound c.requires.disk c.args.event in
-    let leads = leads_on g.D.Disk _ _ _ c.requires.sound c.requires.disk g.V.DraftService.is_meant c.args.event c.requires.taken in
+    let leads = leads_on g.D.Disk _ _ _ c.requires.sound c.requires.disk g.met.V.DraftService.is_meant c.args.event c.requires.taken in
     rested_now g.D.Disk _ _ _ _ _ c.requires.sound c.requires.disk leads _ halted (e.step needs) e.member e.stored e.calls e.last
 
 pub returns-in-Halted-2 : goal.returns-in-Halted-2
@@ -31,7 +31,7 @@ returns-in-Halted-2 g c =
     let e = c.in-Halted-2.ensures in
     let up = sym c.halted-was_halted.ensures ∙ c.if-was_halted.false in
     let needs = needs_met g.D.Disk _ _ _ c.requires.sound c.requires.disk c.args.event in
-    let leads = leads_on g.D.Disk _ _ _ c.requires.sound c.requires.disk g.V.DraftService.is_meant c.args.event c.requires.taken in
+    let leads = leads_on g.D.Disk _ _ _ c.requires.sound c.requires.disk g.met.V.DraftService.is_meant c.args.event c.requires.taken in
     stopped_now g.D.Disk _ _ _ _ _ c.requires.sound c.requires.disk leads _ up (e.step needs) e.calls (c.stopped.ensures.0 c.if-stopped.true)
 
 pub returns-in-Halted-3 : goal.returns-in-Halted-3
@@ -39,7 +39,13 @@ returns-in-Halted-3 g c =
     let e = c.in-Halted-3.ensures in
     let up = sym c.halted-was_halted.ensures ∙ c.if-was_halted.false in
     let needs = needs_met g.D.Disk _ _ _ c.requires.sound c.requires.disk c.args.event in
-    let leads = leads_on g.D.Disk _ _ _ c.requires.sound c.requires.disk g.V.DraftService.is_meant c.args.event c.requires.taken in
+    let leads = leads_on g.D.Disk _ _ _ c.requires.sound c.requires.disk g.met.V.DraftService.is_meant c.args.event c.requires.taken in
     halted_now g.D.Disk _ _ _ _ _ c.requires.sound c.requires.disk leads c.step.new.self c.revive.new.self up (e.step needs) e.calls
     (λ stopped. absurd (false≢true (sym c.if-stopped.false ∙ c.stopped.ensures.1 stopped)))
     c.revive.ensures.disk c.revive.ensures.same e.member c.revive.ensures.stored e.last
+
+pub revive-requires-clause-halted : goal.revive-requires-clause-halted
+revive-requires-clause-halted g c =
+    let e = c.in-Halted-3.ensures in
+    let needs = needs_met g.D.Disk _ _ _ c.requires.sound c.requires.disk c.args.event in
+    halts g.D.Disk _ _ c.args.event c.args.clock _ c.step.new.self _ _ _ (e.step needs)

@@ -1,4 +1,4 @@
-use Rattle.std.proofs.Common.{◌≡◌, ◌∷◌, ◌∙◌, ℕ, List, Some, Err, sym, ap, subst}
+use Rattle.std.proofs.Common.{◌≡◌, ◌∙◌, ℕ, List, Some, Err, sym, ap, subst}
 use Rattle.std.proofs.lemmas.Result.{err_from_is_err_and}
 use Rattle.std.specs.Prelude.{is_some}
 use Rattle.std.specs.Prelude.{All}
@@ -8,7 +8,7 @@ use Rattle.cell_model.specs.declared.events.Output.{Output}
 use Rattle.cell_runs.specs.declared.endings.Ending.TheVariants as ending
 use Rattle.cell_runs.specs.ScriptDatabase.{script_database}
 use Rattle.cell_sites.specs.declared.faults.LineFault.TheVariants as fault
-use Rattle.cell_sites.specs.Telling.{MayBeTold, TellingRun}
+use Rattle.cell_sites.specs.Telling.{MayBeTold}
 use Rattle.cell_sites.specs.Traffic.{Traffic}
 use Rattle.cell_sites.proofs.TellingOn.{TellsOn, telling, tells_more, tells_part, tells_all}
 use Rattle.cell_sites.proofs.telling.tell_outputs.Goals as goal

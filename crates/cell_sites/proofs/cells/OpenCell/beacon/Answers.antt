@@ -1,12 +1,9 @@
-use Rattle.std.proofs.Common.{◌≡◌, ◌∙◌, ℕ, List, Ok, Err, refl, sym, ap}
-use Rattle.std.specs.String.{string_bytes}
+use Rattle.std.proofs.Common.{◌≡◌, ◌∙◌, ℕ, List, Ok, Err, refl, ap}
 use Rattle.std.proofs.lemmas.Result.{err_from_is_err_and}
 use Rattle.cell_model.specs.World.{Beacon_turn}
-use Rattle.cell_runs.specs.declared.endings.Ending.TheVariants as ending
 use Rattle.cell_runs.specs.ScriptDatabase.{script_database}
-use Rattle.cell_runs.specs.Script.{Cell_run, Choice, Run_or_why, first_choice, run_in, stepped}
+use Rattle.cell_runs.specs.Script.{Cell_run, Choice, first_choice, run_in, stepped}
 use Rattle.cell_script.specs.declared.lines.Line.TheVariants as line
-use Rattle.cell_sites.specs.declared.faults.LineFault.TheVariants as fault
 use Rattle.cell_sites.proofs.AtPlace.{rises_same}
 use Rattle.cell_sites.proofs.Lining.{short_as, size_of, told_as}
 use Rattle.cell_sites.proofs.cells.OpenCell.beacon.Goals as goal

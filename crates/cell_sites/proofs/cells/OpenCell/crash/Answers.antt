@@ -1,13 +1,12 @@
-use Rattle.std.proofs.Common.{◌≡◌, ◌<◌, ◌∙◌, ℕ, zero, Bool, List, None, Some, Ok, Err, length, set, refl, sym, ap, subst, arith}
-use Rattle.std.specs.String.{string_bytes}
+use Rattle.std.proofs.Common.{◌≡◌, ◌∙◌, ℕ, None, Err, set, refl, ap}
 use Rattle.std.proofs.lemmas.Option.{slice_get_within}
 use Rattle.std.proofs.lemmas.Result.{err_from_is_err_and}
 use Rattle.cell_model.specs.World.{Crash}
 use Rattle.cell_runs.specs.ScriptDatabase.{script_database}
-use Rattle.cell_runs.specs.Script.{Cell_run, Choice, Run_or_why, run_in, with_event}
+use Rattle.cell_runs.specs.Script.{Cell_run, run_in, with_event}
 use Rattle.cell_script.specs.declared.lines.Line.TheVariants as line
 use Rattle.cell_sites.proofs.AtPlace.{rises_same}
-use Rattle.cell_sites.proofs.Downtimes.{before_site, crash_rises, crash_sound, crash_told, down_site, many_at}
+use Rattle.cell_sites.proofs.Downtimes.{crash_rises, crash_sound, crash_told, many_at}
 use Rattle.cell_sites.proofs.Lining.{size_of}
 use Rattle.cell_sites.proofs.Soundly.{disk_here}
 use Rattle.cell_sites.proofs.cells.OpenCell.crash.Goals as goal

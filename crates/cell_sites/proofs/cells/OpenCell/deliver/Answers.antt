@@ -1,4 +1,4 @@
-use Rattle.std.proofs.Common.{◌≡◌, ◌∙◌, ℕ, Ok, length, refl, sym, ap}
+use Rattle.std.proofs.Common.{◌∙◌, ℕ, Ok, length, refl, sym, ap}
 use Rattle.cell_runs.specs.ScriptDatabase.{script_database}
 use Rattle.cell_runs.specs.Script.{delivered, first_choice, run_in}
 use Rattle.cell_script.specs.declared.lines.Line.TheVariants as line

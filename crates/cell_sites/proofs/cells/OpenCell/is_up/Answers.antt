@@ -1,6 +1,5 @@
 use Rattle.std.proofs.Common.{◌∙◌, Some, ap}
 use Rattle.cell_sites.proofs.AtPlace.{site_there}
-use Rattle.cell_sites.proofs.Delivering.{lost}
 use Rattle.cell_sites.proofs.cells.OpenCell.is_up.Goals as goal
 
 pub returns-in-Up : goal.returns-in-Up

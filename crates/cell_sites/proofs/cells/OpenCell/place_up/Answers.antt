@@ -1,4 +1,4 @@
-use Rattle.std.proofs.Common.{if◌then◌else◌, ◌≡◌, ◌∙◌, Bool, Ok, Err, ap, refl, sym, subst, Some}
+use Rattle.std.proofs.Common.{if◌then◌else◌, ◌≡◌, ◌∙◌, Bool, Ok, Err, ap, refl, sym, subst}
 use Rattle.std.specs.Prelude.{MatchResult}
 use Rattle.std.proofs.lemmas.Result.{err_from_is_err_and}
 use Rattle.cell_script.specs.declared.lines.Why.TheVariants as why

@@ -1,12 +1,10 @@
-use Rattle.std.proofs.Common.{◌≡◌, ◌<◌, ◌∙◌, ℕ, zero, Bool, List, None, Some, Ok, Err, length, set, refl, sym, ap, subst, arith}
+use Rattle.std.proofs.Common.{◌≡◌, ◌∙◌, ℕ, List, Ok, Err, refl, ap}
 use Rattle.std.specs.String.{string_bytes}
-use Rattle.std.proofs.lemmas.Option.{slice_get_within}
 use Rattle.std.proofs.lemmas.Result.{err_from_is_err_and}
 use Rattle.cell_model.specs.World.{Restart}
 use Rattle.cell_runs.specs.ScriptDatabase.{script_database}
-use Rattle.cell_runs.specs.Script.{Cell_run, Choice, Run_or_why, first_choice, run_in, with_event}
+use Rattle.cell_runs.specs.Script.{Cell_run, Choice, first_choice, run_in, with_event}
 use Rattle.cell_script.specs.declared.lines.Line.TheVariants as line
-use Rattle.cell_sites.specs.declared.faults.LineFault.TheVariants as fault
 use Rattle.cell_sites.proofs.AtPlace.{rises_same}
 use Rattle.cell_sites.proofs.Downtimes.{reopen_line, reopen_many, reopen_rises, reopen_short, reopen_sound}
 use Rattle.cell_sites.proofs.Lining.{short_as, size_of, told_as}

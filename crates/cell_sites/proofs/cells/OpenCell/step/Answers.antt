@@ -1,4 +1,4 @@
-use Rattle.std.proofs.Common.{ap, List, ◌≡◌, ◌≢◌, ◌<◌, ◌∙◌, arith, refl, sym, subst, [], true, false}
+use Rattle.std.proofs.Common.{ap, List, ◌∙◌, arith, refl, sym, subst, true, false}
 use Rattle.std.specs.String.{string_bytes}
 use Rattle.cell_model.specs.declared.events.NodeEvent.{NodeEvent}
 use Rattle.std.specs.Prelude.{filter_map}

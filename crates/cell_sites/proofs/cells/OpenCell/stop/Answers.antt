@@ -1,12 +1,11 @@
-use Rattle.std.proofs.Common.{[], ◌≡◌, ◌<◌, ◌∙◌, ℕ, zero, Bool, List, None, Some, Ok, Err, length, set, refl, sym, ap, subst, arith}
-use Rattle.std.specs.String.{string_bytes}
+use Rattle.std.proofs.Common.{[], ◌≡◌, ◌∙◌, ℕ, Some, Err, set, refl, ap, arith}
 use Rattle.std.proofs.lemmas.Option.{slice_get_within}
 use Rattle.std.proofs.lemmas.Result.{err_from_is_err_and}
 use Rattle.cell_runs.specs.ScriptDatabase.{script_database}
-use Rattle.cell_runs.specs.Script.{Cell_run, Choice, Run_or_why, resting, run_in}
+use Rattle.cell_runs.specs.Script.{Cell_run, resting, run_in}
 use Rattle.cell_script.specs.declared.lines.Line.TheVariants as line
 use Rattle.cell_sites.proofs.AtPlace.{rises_same}
-use Rattle.cell_sites.proofs.Downtimes.{arm_disk, arm_node, arm_told, many_at, rises_at, sound_at_place}
+use Rattle.cell_sites.proofs.Downtimes.{arm_disk, arm_node, arm_told, sound_at_place}
 use Rattle.cell_sites.proofs.Lining.{size_of}
 use Rattle.cell_sites.proofs.Running.{rises_set}
 use Rattle.cell_sites.proofs.Soundly.{found_up, here, not_down}

@@ -1,4 +1,4 @@
-use Rattle.std.proofs.Common.{◌≡◌, ◌≤◌, ℕ, Bool, List, length, sym, subst, refl, arith, ap, ◌∙◌, map}
+use Rattle.std.proofs.Common.{◌≡◌, Bool, List, length, sym, subst, arith, ap, ◌∙◌, map}
 use Rattle.std.proofs.lemmas.List.{length-map}
 use Rattle.std.specs.Vec.{with_items}
 use Rattle.ubik_calls.specs.declared.packets.Packet.{Packet}

@@ -1,4 +1,4 @@
-use Rattle.std.proofs.Common.{◌∙◌, ◌≤◌, [], ◌∷◌, ◌++◌, ◌≡◌, List, Bool, sym, subst, refl, arith, ap, length}
+use Rattle.std.proofs.Common.{◌∙◌, ◌≤◌, [], ◌≡◌, List, Bool, sym, subst, arith, ap, length}
 use Rattle.std.proofs.lemmas.List.Elements.{All-push, All-same}
 use Rattle.ubik_calls.specs.declared.packets.Packet.{Packet}
 use Rattle.cell_sites.specs.declared.packets.Swept.{Swept}

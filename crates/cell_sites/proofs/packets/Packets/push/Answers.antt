@@ -1,11 +1,11 @@
-use Rattle.std.proofs.Common.{◌≡◌, ◌≤◌, ◌+◌, ◌++◌, ◌∷◌, [], true, false, Bool, List, length, sym, subst, refl, arith, ap, ◌∙◌, if◌then◌else◌}
+use Rattle.std.proofs.Common.{◌≡◌, ◌+◌, ◌++◌, ◌∷◌, [], false, Bool, List, length, sym, subst, arith, ap, ◌∙◌, if◌then◌else◌}
 use Rattle.std.proofs.lemmas.List.{length_push}
 use Rattle.ubik_calls.specs.declared.packets.Packet.{Packet}
 use Rattle.ubik_calls.specs.Length.{packet_length}
 use Rattle.cell_runs.specs.Script.{bytes_of}
 use Rattle.cell_sites.specs.Traffic.{Traffic}
 use Rattle.cell_sites.specs.Swept.{NoneWaits}
-use Rattle.cell_sites.specs.SweptTo.{AreSwept, AreWithin}
+use Rattle.cell_sites.specs.SweptTo.{AreSwept}
 use Rattle.cell_sites.proofs.Waiting.{bytes_of-push, covers_none, push_covers, passed_none}
 use Rattle.cell_sites.proofs.Sweeping.{push_are_swept}
 use Rattle.cell_sites.proofs.packets.Packets.push.Goals as goal
