@@ -14,7 +14,7 @@ use Rattle.cell_runs.specs.declared.endings.Ending.TheVariants as ending
 use Rattle.cell_runs.specs.declared.endings.Which.TheVariants.{Lines}
 use Rattle.cell_runs.specs.declared.limits.TheConstants.{MAX_LINES}
 use Rattle.cell_runs.specs.Script.{Choice, Line_run, Stage, Told, end_text, ended_at, meaning_run, next_line, or_refused, servers_of, text_in, told_with}
-use Rattle.cell_runs.specs.ScriptDatabase.{ScriptDatabase, Databases}
+use Rattle.cell_runs.specs.ScriptDatabase.{ScriptDatabase}
 use Rattle.cell_runs.specs.Trace.{ending_text}
 use Rattle.cell_sites.specs.declared.faults.LineFault.{LineFault}
 use Rattle.cell_sites.specs.declared.faults.LineFault.TheVariants.{Refused, Limit, NoMemory}

@@ -157,7 +157,7 @@ module _ {D V : Type 0} (g : Ghosts D) (dbs : Databases) (given : List ℕ) wher
           good = at.good;
           ended = ap (λ (d : Told). d.ended) (more result bytes of) ∙ of.ended ∙ ap (λ (n : ℕ). Some (ends_at n ending)) place;
           wrote = whole_wrote result bytes of wrote;
-        })) (held_later result bytes of (λ never. absurd (cc))) (servers_later result bytes of)
+        })) (later_has result bytes of (λ d. AreHeld dbs given false d (run_helds g next)) of.leaves) (servers_later result bytes of)
 
     -- memory ran out in the line
     abbrev disks : List Held

@@ -60,7 +60,7 @@ returns-in-TooLong-clause-ends g c =
       whole = c.write_line.ensures.whole;
       part = c.write_line.ensures.part;
     })
-    (λ is. absurd (c.long_line-told.ensures.ends is))
+    (λ is. c.requires.sound)
     (λ written given script before so.
     let long = at_long g.D.Disk dbs given script _ c.next_line.new.self.ended _ left before (Some written) run so going
     (c.in-TooLong.ensures.told going) in

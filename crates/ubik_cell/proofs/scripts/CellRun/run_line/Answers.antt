@@ -1,4 +1,4 @@
-use Rattle.std.proofs.Common.{◌≡◌, inl, inr, ◌+◌, Ok, sym, subst, arith}
+use Rattle.std.proofs.Common.{◌≡◌, inl, inr, Ok, sym, subst, arith}
 use Rattle.std.specs.String.{string_bytes}
 use Rattle.cell_script.specs.declared.lines.Line.{Line}
 use Rattle.cell_runs.specs.ScriptDatabase.{script_database}
