@@ -69,8 +69,8 @@ led_by_last =
 pub record HalfIsTooFew : Type 0 where
   pub run : IsRunBy poll_of_half three (acknowledged_of_three ++ led_by_last)
   pub acknowledged :
-    (run_by poll_of_half (first_run three) (acknowledged_of_three ++ led_by_last)).acknowledged
-    ≡ record { transaction = transaction 176 (7 ∷ []); version = version 176 2; place = 0 } ∷ []
+      (run_by poll_of_half (first_run three) (acknowledged_of_three ++ led_by_last)).acknowledged
+      ≡ record { transaction = transaction 176 (7 ∷ []); version = version 176 2; place = 0 } ∷ []
   pub kept : order_of (run_by poll_of_half (first_run three) acknowledged_of_three).announcements ≡ transaction 176 (7 ∷ []) ∷ []
   pub lost : order_of (run_by poll_of_half (first_run three) (acknowledged_of_three ++ led_by_last)).announcements ≡ []
 
@@ -102,9 +102,9 @@ kept_by_other =
 pub record VersionsMustAgree : Type 0 where
   pub run : IsRunBy reads_any_version two (kept_by_other ++ asks 1 2 [] ∷ asks 0 3 [] ∷ [])
   pub first :
-    seen_by reads_any_version two kept_by_other (asks 1 2 [])
-    ≡ Replied 1 2 (reply.Ok (7 ∷ [])) (Some (record { call = []; moment = 176; basis = Beacon_image (version 176 2) })) ∷ []
+      seen_by reads_any_version two kept_by_other (asks 1 2 [])
+      ≡ Replied 1 2 (reply.Ok (7 ∷ [])) (Some (record { call = []; moment = 176; basis = Beacon_image (version 176 2) })) ∷ []
   pub later :
-    seen_by reads_any_version two (kept_by_other ++ asks 1 2 [] ∷ []) (asks 0 3 [])
-    ≡ Replied 0 3 (reply.Ok []) (Some (record { call = []; moment = 176; basis = Announced_image (version 176 1) })) ∷ []
+      seen_by reads_any_version two (kept_by_other ++ asks 1 2 [] ∷ []) (asks 0 3 [])
+      ≡ Replied 0 3 (reply.Ok []) (Some (record { call = []; moment = 176; basis = Announced_image (version 176 1) })) ∷ []
   pub by_rule : seen_by step_of two kept_by_other (asks 1 2 []) ≡ Replied 1 2 (reply.NotSync (host 1) 176) None ∷ []

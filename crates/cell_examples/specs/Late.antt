@@ -54,15 +54,15 @@ polled_later = fetch_missed ++ Tick_all 1 ∷ delivers 23 ∷ []
 pub record PollsOfOneSecond : Type 0 where
   pub run : IsRun register three (polled_twice ++ delivers 20 ∷ [])
   pub first :
-    phase_after three fetch_begun 2
-    ≡ Some (Fetch (record { number = 252; answers = None ∷ Some (version 176 1) ∷ Some (version 0 0) ∷ [] }) (version 176 1) 1)
+      phase_after three fetch_begun 2
+      ≡ Some (Fetch (record { number = 252; answers = None ∷ Some (version 176 1) ∷ Some (version 0 0) ∷ [] }) (version 176 1) 1)
   pub second :
-    phase_after three polled_twice 2 ≡ Some (Poll (record { number = 252; answers = None ∷ None ∷ Some (version 0 0) ∷ [] }))
+      phase_after three polled_twice 2 ≡ Some (Poll (record { number = 252; answers = None ∷ None ∷ Some (version 0 0) ∷ [] }))
   pub counted :
-    phase_after three (polled_twice ++ delivers 20 ∷ []) 2
-    ≡ Some (Fetch (record { number = 252; answers = None ∷ Some (version 176 1) ∷ Some (version 0 0) ∷ [] }) (version 176 1) 1)
+      phase_after three (polled_twice ++ delivers 20 ∷ []) 2
+      ≡ Some (Fetch (record { number = 252; answers = None ∷ Some (version 176 1) ∷ Some (version 0 0) ∷ [] }) (version 176 1) 1)
   pub other_by_then : disk_after three polled_twice 1 ≡ Some (durable (version 176 2) (7 ∷ []))
   pub later_run : IsRun register three (polled_later ++ delivers 20 ∷ [])
   pub not_counted :
-    phase_after three (polled_later ++ delivers 20 ∷ []) 2
-    ≡ Some (Poll (record { number = 253; answers = None ∷ None ∷ Some (version 0 0) ∷ [] }))
+      phase_after three (polled_later ++ delivers 20 ∷ []) 2
+      ≡ Some (Poll (record { number = 253; answers = None ∷ None ∷ Some (version 0 0) ∷ [] }))
