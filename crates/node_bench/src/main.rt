@@ -184,7 +184,10 @@ fn main(rt: HostRuntime) -> ExitCode {
         "nametoid" => Asked::NameToId,
         _ => return ExitCode::from(WORDS),
     };
-    let mut file = Vec::new(rt.alloc());
+    // Memory for it at once: what a growing list gave back would hide a copy from whoever measures.
+    let Ok(mut file) = Vec::with_capacity(rt.alloc(), MAX_DATABASE_LEN as usize) else {
+        return ExitCode::from(FAILED);
+    };
     if rt.reader().read_to_end(&mut file).is_err() || file.len() as u64 > MAX_DATABASE_LEN {
         return ExitCode::from(FAILED);
     }
