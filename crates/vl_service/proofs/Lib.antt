@@ -1,0 +1,4 @@
+pub mod Done
+pub mod FittingEntries
+pub mod Found
+pub mod LockDone
