@@ -1,4 +1,10 @@
+pub mod Decided
 pub mod Done
+pub mod Entered
+pub mod Entries
 pub mod FittingEntries
 pub mod Found
+pub mod GoodEntries
 pub mod LockDone
+pub mod Moved
+pub mod Placements

@@ -131,7 +131,7 @@ set_done bytes mid after volume_type id operation now e ended form known found f
 
 -- ---- clearing what a mask names
 
-masked_is : (s : Location) (volume_type : ℤ) (id mask : ℕ) (goes : VlEntry → Verdict) (a b : Bool) → is_volume_type volume_type ≡ a → nat_lt 3 mask ≡ b
+pub masked_is : (s : Location) (volume_type : ℤ) (id mask : ℕ) (goes : VlEntry → Verdict) (a b : Bool) → is_volume_type volume_type ≡ a → nat_lt 3 mask ≡ b
     → of_masked s volume_type id mask goes ≡ cond (not a) (Refuses bad_volume_type) (cond b (Refuses bad_release) (of_entry (entry_of_type s volume_type id) goes))
 masked_is s volume_type id mask goes a b form more =
     let last = of_entry (entry_of_type s volume_type id) goes in

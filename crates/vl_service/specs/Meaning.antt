@@ -1,6 +1,6 @@
 -- What the calls mean (vlserver): what is decided of a call in a state at a moment, and by it the reply and the state after.
 use Rattle.std.specs.Prelude.{ℕ, ℤ, pos, negsuc, ◌+◌, ◌==◌, ◌&&◌, ◌||◌, Bool, false, not, is_none, unwrap_or, List, length, take, map, filter, Option, Some, None, option_and_then, option_map, option_to_list, bit_and, nat_lt, nat_le, slice_set, if◌then◌else◌}
-use Rattle.std.specs.List.{find, flat_map, list_any, position_or_len, range_with_len}
+use Rattle.std.specs.List.{find, flat_map, list_all, list_any, position_or_len, range_with_len}
 use Rattle.std.specs.Ordering.{int_eq}
 use Rattle.std.specs.Str.{bytes_eq}
 use Rattle.db_image.specs.declared.services.CallReply.{CallReply}
@@ -24,9 +24,13 @@ use Rattle.vl_service.specs.Refusals as rule
 abbrev pub max_id : ℕ
 max_id = 2147483647
 
+-- the entries with one of so many read-write ids, from one on, ascending by it
+unfoldable pub entries_from : (first count : ℕ) → Location → List VlEntry
+entries_from first count s = flat_map (λ rw. option_to_list (s.entry rw)) (range_with_len first count)
+
 -- all entries, ascending by read-write id
-unfoldable pub entries : Location → List VlEntry
-entries s = flat_map (λ rw. option_to_list (s.entry rw)) (range_with_len 1 max_id)
+abbrev pub entries : Location → List VlEntry
+entries s = entries_from 1 max_id s
 
 abbrev pub meets : (VlEntry → Bool) → Option VlEntry → Bool
 meets test None = false
@@ -303,8 +307,12 @@ abbrev pub state_by : Verdict → Location → Location
 state_by (Makes a change) s = state_after change s
 state_by _ s = s
 
+-- the call that bytes spell at a moment; a moment is a word, and bytes are below 256
+abbrev pub asked : (now : ℕ) → List ℕ → Option VlCall
+asked now bytes = if nat_lt now 4294967296 && list_all (λ b. nat_lt b 256) bytes then call_of bytes else None
+
 abbrev pub vl_meaning : Meaning Location
 vl_meaning = record {
   first = first_location;
-  call = λ s now bytes. let v = verdict s now (call_of bytes) in record { reply = reply_by v; state = state_by v s };
+  call = λ s now bytes. let v = verdict s now (asked now bytes) in record { reply = reply_by v; state = state_by v s };
 }

@@ -8,7 +8,7 @@ use crate::changing::MAX_VOLUME;
 use vldb_records::{VlEntry, VlSite, has_equal_ids, is_name, repeats};
 
 /// The most sites of an entry that is stored.
-const MAX_STORED: usize = 13;
+pub(crate) const MAX_STORED: usize = 13;
 
 fn site_fits(site: &VlSite) -> bool
     ensures { result ≡ site_fits site.now }

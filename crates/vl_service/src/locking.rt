@@ -35,21 +35,21 @@ fn is_locked(e: &VlEntry) -> bool
 }
 
 /// Whether a mask has more than the bits of the moment and the operation.
-fn has_other_bits(mask: u32) -> bool
+pub(crate) fn has_other_bits(mask: u32) -> bool
     ensures { result ≡ nat_lt 3 mask }
 {
     mask > 3
 }
 
 /// What a mask leaves of the operation of an entry's lock.
-fn operation_left(mask: u32, e: &VlEntry) -> u32
+pub(crate) fn operation_left(mask: u32, e: &VlEntry) -> u32
     ensures { result ≡ operation_left mask e.now }
 {
     if mask & 2 == 0 { e.lock_op } else { 0 }
 }
 
 /// What a mask leaves of the moment of an entry's lock.
-fn moment_left(mask: u32, e: &VlEntry) -> u32
+pub(crate) fn moment_left(mask: u32, e: &VlEntry) -> u32
     ensures { result ≡ moment_left mask e.now }
 {
     if mask & 1 == 0 { e.lock_moment } else { 0 }

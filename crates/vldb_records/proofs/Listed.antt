@@ -1,6 +1,6 @@
 -- What a scan for listed entries found is what the database has.
-use Rattle.std.proofs.Common.{◌≡◌, ℕ, ◌<◌, ◌≤◌, Bool, true, false, eqb, List, Option, Some, None, IfSome, refl, sym, ap, subst, ◌∙◌, arith}
-use Rattle.std.proofs.lemmas.Bool.{and_parts, eq-eqb, eqb-true, false_from_ne_true}
+use Rattle.std.proofs.Common.{◌≡◌, ℕ, ◌<◌, true, eqb, List, Option, Some, None, IfSome, refl, sym, ap, subst, ◌∙◌, arith}
+use Rattle.std.proofs.lemmas.Bool.{and_parts, eqb-true, false_from_ne_true}
 use Rattle.db_blocks.specs.Blocks.{word_at}
 use Rattle.db_blocks.specs.Least.{IsAbove, IsLeastAbove}
 use Rattle.vldb_records.specs.declared.entries.VlEntry.{VlEntry}

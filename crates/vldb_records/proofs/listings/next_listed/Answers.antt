@@ -1,4 +1,4 @@
-use Rattle.std.proofs.Common.{◌≡◌, List, Option, ℕ, IfSome, Some, None, subst}
+use Rattle.std.proofs.Common.{List, Option, ℕ, IfSome, Some, None, subst}
 use Rattle.db_blocks.specs.Least.{IsLeastAbove}
 use Rattle.vldb_records.specs.Listing.{is_listed_in}
 use Rattle.vldb_records.specs.Records.{blocks_in, whole}
