@@ -189,8 +189,8 @@ looked image mid own e old s looks holds =
     let here = places s holds in (
       here,
       faults_are s own e ∙ ap (λ (o : Option ℕ). or_else o (or_else (shared_fault s own e) (size_fault (placed e.sites s.addresses)))) (sym looks.none)
-      ∙ ap (λ (o : Option ℕ). or_else o (size_fault (placed e.sites s.addresses))) (sym (looks.shared s holds))
-      ∙ ap (λ (a : List ℕ). size_fault (placed e.sites a)) (sym here),
+          ∙ ap (λ (o : Option ℕ). or_else o (size_fault (placed e.sites s.addresses))) (sym (looks.shared s holds))
+          ∙ ap (λ (a : List ℕ). size_fault (placed e.sites a)) (sym here),
     )
 
 pub size_refused : (bytes mid : Option (List ℕ)) (own : ℕ) (e : GivenEntry) (old : List ℕ) → AreLooks bytes mid own e old → None ≡ placed e.sites old

@@ -7,4 +7,5 @@ pub mod Found
 pub mod GoodEntries
 pub mod LockDone
 pub mod Moved
+pub mod Paged
 pub mod Placements

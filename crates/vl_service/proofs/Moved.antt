@@ -15,6 +15,8 @@ use Rattle.vldb_records.specs.Location.{Location}
 use Rattle.vldb_records.specs.Records.{Holds, after_set_places}
 use Rattle.vldb_records.proofs.EntryAgain.{not_zero}
 use Rattle.vl_service.specs.Meaning.{Answers, Makes, Move, Refuses, Verdict, address_changed, entries, has_address, has_site_at, reply_by, with_place_of}
+use Rattle.vl_service.specs.Moving.{IsMovement}
+use Rattle.vl_service.specs.declared.moving.Movement.TheVariants.{Moves, Refused}
 use Rattle.vl_service.specs.Refusals.{bad_entry, bad_server, no_entry}
 use Rattle.vl_service.specs.Standing.{IsDone, image_by}
 use Rattle.vl_service.proofs.Entries.{none_meets, some_meets}
@@ -82,14 +84,14 @@ by_tests old new a b c = cond (not a) (Refuses no_entry) (cond b (Refuses bad_se
 -- the tests of the addresses
 pub record AreTests (bytes mid : Option (List ℕ)) (old new : ℕ) (places : List ℕ) (a b : Bool) : Type 0 where
   pub same : mid ≡ bytes
-  pub places : IfSome bytes (λ image. (s : Location) → Holds image s → places ≡ s.addresses)
+  pub told : IfSome bytes (λ image. (s : Location) → Holds image s → places ≡ s.addresses)
   pub has_old : a ≡ (not (eqb old 0) && list_any (λ x. eqb x old) places)
   pub has_new : b ≡ (not (eqb new 0) && list_any (λ x. eqb x new) places)
 
 verdict_is : (image : List ℕ) (mid : Option (List ℕ)) (s : Location) (old new : ℕ) (places : List ℕ) (a b c : Bool) → AreTests (Some image) mid old new places a b → Holds image s
     → c ≡ (eqb new 0 && list_any (has_site_at old) (entries s)) → address_changed s old new ≡ by_tests old new a b c
 verdict_is image mid s old new places a b c tests holds is_c =
-    let same = tests.places s holds in
+    let same = tests.told s holds in
     let last = eqb new 0 && list_any (has_site_at old) (entries s) in
     let act = Makes answer.Done (Move old new) in
     ap (λ (t : Bool). cond (not t) (Refuses no_entry) (cond (has_address s new) (Refuses bad_server) (cond last (Refuses bad_entry) act)))
@@ -98,63 +100,64 @@ verdict_is image mid s old new places a b c tests holds is_c =
     (ap (λ (p : List ℕ). not (eqb new 0) && list_any (λ x. eqb x new) p) (sym same) ∙ sym tests.has_new)
     ∙ ap (λ (t : Bool). cond (not a) (Refuses no_entry) (cond b (Refuses bad_server) (cond t (Refuses bad_entry) act))) (sym is_c)
 
-pub no_server : (bytes mid : Option (List ℕ)) (old new : ℕ) (places : List ℕ) (a b : Bool) (ended : CallEnd) → AreTests bytes mid old new places a b → not a ≡ true
-    → ended ≡ end_of (reply_by (Refuses no_entry))
-    → IfSome bytes (λ image. (s : Location) → Holds image s → IsDone (address_changed s old new) s image ended mid)
-no_server None mid old new places a b ended tests none told = tt
-no_server (Some image) mid old new places a b ended tests none told =
-    refusal_done (Some image) mid (λ s. address_changed s old new) no_entry ended
-    (λ s holds.
+pub no_server : (bytes mid : Option (List ℕ)) (old new : ℕ) (places : List ℕ) (a b : Bool) → AreTests bytes mid old new places a b → not a ≡ true
+    → IfSome bytes (λ image. (s : Location) → Holds image s → IsMovement s old new (Refused no_entry))
+no_server None mid old new places a b tests none = tt
+no_server (Some image) mid old new places a b tests none = λ s holds.
     let last = eqb new 0 && list_any (has_site_at old) (entries s) in
     verdict_is image mid s old new places a b last tests holds refl
-    ∙ ap (λ (t : Bool). cond t (Refuses no_entry) (cond b (Refuses bad_server) (cond last (Refuses bad_entry) (Makes answer.Done (Move old new))))) none)
-    told tests.same
+    ∙ ap (λ (t : Bool). cond t (Refuses no_entry) (cond b (Refuses bad_server) (cond last (Refuses bad_entry) (Makes answer.Done (Move old new))))) none
 
-pub taken : (bytes mid : Option (List ℕ)) (old new : ℕ) (places : List ℕ) (a b : Bool) (ended : CallEnd) → AreTests bytes mid old new places a b → not a ≡ false → b ≡ true
-    → ended ≡ end_of (reply_by (Refuses bad_server))
-    → IfSome bytes (λ image. (s : Location) → Holds image s → IsDone (address_changed s old new) s image ended mid)
-taken None mid old new places a b ended tests some is told = tt
-taken (Some image) mid old new places a b ended tests some is told =
-    refusal_done (Some image) mid (λ s. address_changed s old new) bad_server ended
-    (λ s holds.
+pub taken : (bytes mid : Option (List ℕ)) (old new : ℕ) (places : List ℕ) (a b : Bool) → AreTests bytes mid old new places a b → not a ≡ false → b ≡ true
+    → IfSome bytes (λ image. (s : Location) → Holds image s → IsMovement s old new (Refused bad_server))
+taken None mid old new places a b tests some is = tt
+taken (Some image) mid old new places a b tests some is = λ s holds.
     let last = eqb new 0 && list_any (has_site_at old) (entries s) in
     verdict_is image mid s old new places a b last tests holds refl
     ∙ ap (λ (t : Bool). cond t (Refuses no_entry) (cond b (Refuses bad_server) (cond last (Refuses bad_entry) (Makes answer.Done (Move old new))))) some
-    ∙ ap (λ (t : Bool). cond t (Refuses bad_server) (cond last (Refuses bad_entry) (Makes answer.Done (Move old new)))) is)
-    told tests.same
+    ∙ ap (λ (t : Bool). cond t (Refuses bad_server) (cond last (Refuses bad_entry) (Makes answer.Done (Move old new)))) is
 
-by_last : (bytes mid : Option (List ℕ)) (old new : ℕ) (places : List ℕ) (a b c : Bool) → AreTests bytes mid old new places a b → not a ≡ false → b ≡ false
-    → IfSome mid (λ image. (s : Location) → Holds image s → c ≡ (eqb new 0 && list_any (has_site_at old) (entries s)))
-    → IfSome bytes (λ image. (s : Location) → Holds image s → address_changed s old new ≡ cond c (Refuses bad_entry) (Makes answer.Done (Move old new)))
-by_last None mid old new places a b c tests some free is = tt
-by_last (Some image) mid old new places a b c tests some free is = λ s holds.
+by_last : (image : List ℕ) (mid : Option (List ℕ)) (s : Location) (old new : ℕ) (places : List ℕ) (a b c : Bool) → AreTests (Some image) mid old new places a b → not a ≡ false
+    → b ≡ false → IfSome mid (λ image. (s : Location) → Holds image s → c ≡ (eqb new 0 && list_any (has_site_at old) (entries s))) → Holds image s
+    → address_changed s old new ≡ cond c (Refuses bad_entry) (Makes answer.Done (Move old new))
+by_last image mid s old new places a b c tests some free is holds =
     let here = subst (λ (o : Option (List ℕ)). IfSome o (λ image. (s : Location) → Holds image s → c ≡ (eqb new 0 && list_any (has_site_at old) (entries s)))) tests.same is in
     let act = cond c (Refuses bad_entry) (Makes answer.Done (Move old new)) in
     verdict_is image mid s old new places a b c tests holds (here s holds)
     ∙ ap (λ (t : Bool). cond t (Refuses no_entry) (cond b (Refuses bad_server) act)) some ∙ ap (λ (t : Bool). cond t (Refuses bad_server) act) free
 
-pub still_used : (bytes mid last : Option (List ℕ)) (old new : ℕ) (places : List ℕ) (a b c : Bool) (ended : CallEnd) → AreTests bytes mid old new places a b → not a ≡ false
-    → b ≡ false → IfSome mid (λ image. (s : Location) → Holds image s → c ≡ (eqb new 0 && list_any (has_site_at old) (entries s))) → c ≡ true → last ≡ mid
-    → ended ≡ end_of (reply_by (Refuses bad_entry))
-    → IfSome bytes (λ image. (s : Location) → Holds image s → IsDone (address_changed s old new) s image ended last)
-still_used None mid last old new places a b c ended tests some free is used again told = tt
-still_used (Some image) mid last old new places a b c ended tests some free is used again told =
-    refusal_done (Some image) last (λ s. address_changed s old new) bad_entry ended
-    (λ s holds. by_last (Some image) mid old new places a b c tests some free is s holds
-    ∙ ap (λ (t : Bool). cond t (Refuses bad_entry) (Makes answer.Done (Move old new))) used)
-    told (again ∙ tests.same)
+pub still_used : (bytes mid : Option (List ℕ)) (old new : ℕ) (places : List ℕ) (a b c : Bool) → AreTests bytes mid old new places a b → not a ≡ false → b ≡ false
+    → IfSome mid (λ image. (s : Location) → Holds image s → c ≡ (eqb new 0 && list_any (has_site_at old) (entries s))) → c ≡ true
+    → IfSome bytes (λ image. (s : Location) → Holds image s → IsMovement s old new (Refused bad_entry))
+still_used None mid old new places a b c tests some free is used = tt
+still_used (Some image) mid old new places a b c tests some free is used = λ s holds.
+    by_last image mid s old new places a b c tests some free is holds ∙ ap (λ (t : Bool). cond t (Refuses bad_entry) (Makes answer.Done (Move old new))) used
 
-pub moved_done : (bytes mid last after : Option (List ℕ)) (old new : ℕ) (places made : List ℕ) (a b c : Bool) (ended : CallEnd) → AreTests bytes mid old new places a b
-    → not a ≡ false → b ≡ false → IfSome mid (λ image. (s : Location) → Holds image s → c ≡ (eqb new 0 && list_any (has_site_at old) (entries s))) → c ≡ false
-    → last ≡ mid → made ≡ with_place_of old new places → ended ≡ end_of (reply_by (Answers answer.Done)) → after ≡ option_map (after_set_places made) last
+pub moves : (bytes mid : Option (List ℕ)) (old new : ℕ) (places made : List ℕ) (a b c : Bool) → AreTests bytes mid old new places a b → not a ≡ false → b ≡ false
+    → IfSome mid (λ image. (s : Location) → Holds image s → c ≡ (eqb new 0 && list_any (has_site_at old) (entries s))) → c ≡ false → made ≡ with_place_of old new places
+    → IfSome bytes (λ image. (s : Location) → Holds image s → IsMovement s old new (Moves made))
+moves None mid old new places made a b c tests some free is unused made_is = tt
+moves (Some image) mid old new places made a b c tests some free is unused made_is = λ s holds. (
+  by_last image mid s old new places a b c tests some free is holds ∙ ap (λ (t : Bool). cond t (Refuses bad_entry) (Makes answer.Done (Move old new))) unused,
+  made_is ∙ ap (with_place_of old new) (tests.told s holds),
+)
+
+-- ---- over a draft
+
+pub move_refused : (bytes after : Option (List ℕ)) (old new fault : ℕ) (ended : CallEnd)
+    → IfSome bytes (λ image. (s : Location) → Holds image s → IsMovement s old new (Refused fault)) → ended ≡ end_of (reply_by (Refuses fault)) → after ≡ bytes
     → IfSome bytes (λ image. (s : Location) → Holds image s → IsDone (address_changed s old new) s image ended after)
-moved_done None mid last after old new places made a b c ended tests some free is unused again made_is told changed = tt
-moved_done (Some image) mid last after old new places made a b c ended tests some free is unused again made_is told changed = λ s holds.
-    let v : address_changed s old new ≡ Makes answer.Done (Move old new) =
-    by_last (Some image) mid old new places a b c tests some free is s holds ∙ ap (λ (t : Bool). cond t (Refuses bad_entry) (Makes answer.Done (Move old new))) unused in
+move_refused bytes after old new fault ended is told same = refusal_done bytes after (λ s. address_changed s old new) fault ended is told same
+
+pub move_done : (bytes mid after : Option (List ℕ)) (old new : ℕ) (made : List ℕ) (ended : CallEnd) → mid ≡ bytes
+    → IfSome bytes (λ image. (s : Location) → Holds image s → IsMovement s old new (Moves made)) → ended ≡ end_of (reply_by (Answers answer.Done))
+    → after ≡ option_map (after_set_places made) mid
+    → IfSome bytes (λ image. (s : Location) → Holds image s → IsDone (address_changed s old new) s image ended after)
+move_done None mid after old new made ended same is told changed = tt
+move_done (Some image) mid after old new made ended same is told changed = λ s holds.
+    let d = is s holds in
     record {
-      reply = told ∙ ap (λ (w : Verdict). end_of (reply_by w)) (sym v);
-      leaves = changed ∙ ap (option_map (after_set_places made)) (again ∙ tests.same)
-          ∙ ap (λ (p : List ℕ). Some (after_set_places p image)) (made_is ∙ ap (with_place_of old new) (tests.places s holds))
-          ∙ ap (λ (w : Verdict). Some (image_by w s image)) (sym v);
+      reply = told ∙ ap (λ (w : Verdict). end_of (reply_by w)) (sym d.0);
+      leaves = changed ∙ ap (option_map (after_set_places made)) same ∙ ap (λ (p : List ℕ). Some (after_set_places p image)) d.1
+          ∙ ap (λ (w : Verdict). Some (image_by w s image)) (sym d.0);
     }

@@ -7,8 +7,8 @@ ghost use Rattle.vldb_records.specs.Records.{Holds};
 ghost use Rattle.vl_service.specs.Meaning.{leaves, max_id, new_volume_id, of_id};
 ghost use Rattle.vl_service.specs.Standing.{IsDone};
 
-use crate::rules::{BAD_BUMP, BAD_VOLUME_TYPE, NO_ENTRY};
 use crate::looks::{find_typed, is_volume_type, tell};
+use crate::rules::{BAD_BUMP, BAD_VOLUME_TYPE, NO_ENTRY};
 use db_image::{CallEnd, Draft, ImageRead, RecordFault};
 use std::alloc::Global;
 use vl_calls::VlAnswer;

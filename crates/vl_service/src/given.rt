@@ -53,11 +53,7 @@ fn has_bad_flags(sites: &[VlSite]) -> bool
 fn has_bad_id(rw: u32, ro: u32, backup: u32, clone_id: u32) -> bool
     ensures { result ≡ (rw == 0 || nat_lt max_id rw || nat_lt max_id ro || nat_lt max_id backup || nat_lt max_id clone_id) }
 {
-    rw == 0
-        || rw > MAX_VOLUME
-        || ro > MAX_VOLUME
-        || backup > MAX_VOLUME
-        || clone_id > MAX_VOLUME
+    rw == 0 || rw > MAX_VOLUME || ro > MAX_VOLUME || backup > MAX_VOLUME || clone_id > MAX_VOLUME
 }
 
 /// Whether the ids or the flags of an entry are none.

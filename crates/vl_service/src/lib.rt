@@ -11,6 +11,7 @@ mod locking;
 mod looks;
 mod moving;
 mod others;
+mod pages;
 mod placing;
 mod rules;
 
@@ -19,6 +20,7 @@ pub use entering::{create_entry, replace_entry};
 pub use locking::{release_lock, set_lock};
 pub use looks::{all_addresses, entry_by_id, entry_by_name};
 pub use moving::change_address;
+pub use pages::list_entries;
 pub use rules::{
     BAD_BUMP, BAD_ENTRY, BAD_NAME, BAD_OPERATION, BAD_PARTITION, BAD_RELEASE, BAD_SERVER,
     BAD_VOLUME_TYPE, ENTRY_LOCKED, ID_EXISTS, NAME_EXISTS, NO_ENTRY, NO_REPLICA, REPEATED_REPLICA,

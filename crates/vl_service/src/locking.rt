@@ -10,8 +10,8 @@ ghost use Rattle.vl_service.specs.Standing.{IsDone};
 ghost use Rattle.vl_calls.specs.declared.answers.VlAnswer.TheVariants as answer;
 
 use crate::fitting::entry_fits;
-use crate::rules::{BAD_OPERATION, BAD_RELEASE, BAD_VOLUME_TYPE, ENTRY_LOCKED, NO_ENTRY};
 use crate::looks::{find_typed, is_volume_type, tell};
+use crate::rules::{BAD_OPERATION, BAD_RELEASE, BAD_VOLUME_TYPE, ENTRY_LOCKED, NO_ENTRY};
 use db_image::{CallEnd, Draft, ImageRead, RecordFault};
 use std::alloc::Global;
 use vl_calls::VlAnswer;

@@ -6,6 +6,7 @@ ghost use Rattle.vldb_records.specs.Ends.{HasItsCause};
 ghost use Rattle.vldb_records.specs.Location.{Location};
 ghost use Rattle.vldb_records.specs.Records.{Holds};
 ghost use Rattle.vl_service.specs.Meaning.{address_changed, entries, has_site_at, with_place_of};
+ghost use Rattle.vl_service.specs.Moving.{IsMovement};
 ghost use Rattle.vl_service.specs.Standing.{IsDone};
 
 use crate::looks::tell;
@@ -50,10 +51,10 @@ fn has_site_at<I: ImageRead>(
         partition: None,
         locked: false,
     };
-    match next_listed(alloc, d, &listing, 0)? {
-        Some(_) => Ok(true),
-        None => Ok(false),
-    }
+    let Some(_) = next_listed(alloc, d, &listing, 0)? else {
+        return Ok(false);
+    };
+    Ok(true)
 }
 
 /// Whether an address would go of which an entry has a site.
@@ -76,6 +77,40 @@ fn loses_site<I: ImageRead>(
     has_site_at(alloc, d, old)
 }
 
+/// What is decided of another address of a server.
+#[derive(Clone, Copy)]
+enum Movement {
+    /// It is refused by a rule.
+    Refused(u32),
+    /// The addresses of the servers are to be these.
+    Moves([u32; PLACES]),
+}
+
+/// Decides of another address of a server.
+fn decide<I: ImageRead>(
+    alloc: Global,
+    d: &mut Draft<I>,
+    old: u32,
+    new: u32,
+) -> Result<Movement, RecordFault>
+    requires { d.old.len < 2 ^ 31 }
+    ensures decided { IfOk result (λ movement. IfSome d.old.bytes (λ image. (s : Location) → Holds image s → IsMovement s old new movement)) }
+    ensures fault { IfErr result (HasItsCause d.old.bytes) }
+    ensures frame { OnlyLooks I.ImageRead d.old d.new (IsErrOf result RecordFault.DiskFault) }
+{
+    let places = addresses(d)?;
+    if !has_address(&places, old) {
+        return Ok(Movement::Refused(NO_ENTRY));
+    }
+    if has_address(&places, new) {
+        return Ok(Movement::Refused(BAD_SERVER));
+    }
+    if loses_site(alloc, d, old, new)? {
+        return Ok(Movement::Refused(BAD_ENTRY));
+    }
+    Ok(Movement::Moves(with_place_of(places, old, new)))
+}
+
 /// Gives a server another address, or none: 0. Each site at the old address is at the new one from then on.
 pub fn change_address<I: ImageRead>(
     alloc: Global,
@@ -90,17 +125,12 @@ pub fn change_address<I: ImageRead>(
     ensures fault { IfErr result (HasItsCause d.old.bytes) }
     ensures frame { OnlyDrafts I.ImageRead d.old d.new (IsErrOf result RecordFault.DiskFault) }
 {
-    let places = addresses(d)?;
-    if !has_address(&places, old) {
-        return Ok(CallEnd::Rule(NO_ENTRY));
+    match decide(alloc, d, old, new)? {
+        Movement::Refused(fault) => Ok(CallEnd::Rule(fault)),
+        Movement::Moves(places) => {
+            let end = tell(alloc, &VlAnswer::Done)?;
+            set_addresses(alloc, d, &places)?;
+            Ok(end)
+        }
     }
-    if has_address(&places, new) {
-        return Ok(CallEnd::Rule(BAD_SERVER));
-    }
-    if loses_site(alloc, d, old, new)? {
-        return Ok(CallEnd::Rule(BAD_ENTRY));
-    }
-    let end = tell(alloc, &VlAnswer::Done)?;
-    set_addresses(alloc, d, &with_place_of(places, old, new))?;
-    Ok(end)
 }

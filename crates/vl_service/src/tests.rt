@@ -1,11 +1,15 @@
 //! Calls over an image in memory that was laid out by hand.
 use crate::{
-    all_addresses, delete_entry, entry_by_id, entry_by_name, release_lock, set_lock,
-    take_volume_ids,
+    all_addresses, change_address, create_entry, delete_entry, entry_by_id, entry_by_name,
+    release_lock, replace_entry, set_lock, take_volume_ids,
 };
 use db_image::{CallEnd, Draft, ImageRead, VecImage};
 use std::alloc::Global;
+use std::process::Abort;
 use std::test::Fail;
+use ubik_types::{NoMemory, bytes_of};
+use vl_calls::GivenEntry;
+use vldb_records::{VlSite, sites_of};
 
 /// The answer of a call that took place, or nothing.
 fn done(end: &CallEnd) -> &[u8] {
@@ -189,5 +193,155 @@ fn a_lock_is_released_by_a_mask(rt: HostRuntime) -> Result<(), Fail> {
         assert!(rt; draft.len() < 10_000);
         assert_eq!(rt; done(&entry_by_id(rt.alloc(), &mut draft, 0, 5)?), text);
     }
+    Ok(())
+}
+
+/// A site of the read-write volume at 10.0.0.1.
+const SITE: VlSite = VlSite {
+    host: 0x0a00_0001,
+    partition: 7,
+    flags: 4,
+};
+
+/// An entry as a call gives it, with these ids, that says of its read-write volume that it exists.
+fn given(
+    alloc: Global,
+    name: &[u8],
+    rw: u32,
+    ro: u32,
+    sites: &[VlSite],
+) -> Result<GivenEntry, NoMemory> {
+    Ok(GivenEntry {
+        name: bytes_of(alloc, name)?,
+        flags: 0x1000,
+        rw,
+        ro,
+        backup: 0,
+        clone_id: 0,
+        sites: sites_of(alloc, sites)?,
+    })
+}
+
+/// The rule by which the making of an entry is refused, or 0.
+fn made(
+    rt: &impl Abort,
+    draft: &mut Draft<VecImage>,
+    alloc: Global,
+    entry: GivenEntry,
+) -> Result<u32, Fail> {
+    assert!(rt; draft.len() < 10_000);
+    Ok(rule(&create_entry(alloc, draft, entry)?))
+}
+
+#[test]
+fn an_entry_is_made_or_refused(rt: HostRuntime) -> Result<(), Fail> {
+    let alloc = rt.alloc();
+    let mut draft = Draft::over(alloc, VecImage::new(alloc, &[])?, 3132, 192);
+    let nowhere = VlSite { host: 0, ..SITE };
+    let far = VlSite {
+        partition: 256,
+        ..SITE
+    };
+    let flagged = VlSite { flags: 16, ..SITE };
+    for (name, rw, ro, sites, number) in [
+        (b"a b".as_slice(), 0, 0, [].as_slice(), 363_527),
+        (b"x", 0, 0, [nowhere; 14].as_slice(), 363_532),
+        (b"x", 0, 0, [].as_slice(), 363_533),
+        (b"x", 0, 0, [far, nowhere].as_slice(), 363_530),
+        (b"x", 0, 0, [SITE, SITE, far].as_slice(), 363_531),
+        (b"x", 0, 0, [SITE, SITE].as_slice(), 363_534),
+        (b"x", 0, 0, [SITE].as_slice(), 363_538),
+        (b"x", 5, 5, [SITE].as_slice(), 363_538),
+        (b"x", 5, 0, [flagged].as_slice(), 363_538),
+        (b"root.cell", 5, 6, [SITE].as_slice(), 0),
+        (b"root.cell", 6, 7, [SITE].as_slice(), 363_522),
+        (b"x", 7, 6, [SITE].as_slice(), 363_520),
+        (b"x", 7, 8, [SITE].as_slice(), 0),
+    ] {
+        let entry = given(alloc, name, rw, ro, sites)?;
+        assert_eq!(rt; made(&rt, &mut draft, alloc, entry)?, number);
+    }
+    assert!(rt; draft.len() == 3132 + 2 * 192);
+    assert_eq!(rt;
+        done(&all_addresses(alloc, &mut draft)?),
+        [0, 0, 0, 1, 10, 0, 0, 1].as_slice()
+    );
+    Ok(())
+}
+
+#[test]
+fn an_entry_with_a_256th_server_is_refused(rt: HostRuntime) -> Result<(), Fail> {
+    let alloc = rt.alloc();
+    let mut draft = one_volume(alloc)?;
+    for place in 0..255 {
+        draft.put(64 + 4 * place, &(1000 + place).to_be_bytes())?;
+    }
+    let entry = given(alloc, b"x", 7, 0, &[SITE])?;
+    assert_eq!(rt; made(&rt, &mut draft, alloc, entry)?, 363_537);
+    Ok(())
+}
+
+/// That volume under another name, at 10.0.0.2 and with the lock's operation alone.
+const RENAMED: &[u8] =
+    b"\0\0\0\x08root.afs\0\0\x10\0\0\0\0\x05\0\0\0\x09\0\0\0\0\0\0\0\0\0\0\0\x01\x0a\0\0\x02\0\0\0\x07\0\0\0\x04\0\0\0\x10\0\0\0\0";
+
+#[test]
+fn an_entry_is_replaced(rt: HostRuntime) -> Result<(), Fail> {
+    let alloc = rt.alloc();
+    let mut draft = one_volume(alloc)?;
+    assert!(rt; draft.len() < 10_000);
+    set_lock(alloc, &mut draft, 7, 0, 5, 0x10)?;
+    let second = VlSite {
+        host: 0x0a00_0002,
+        ..SITE
+    };
+    for (volume_type, id, mask, name, number) in [
+        (4, 6, 4, b"".as_slice(), 363_529),
+        (0, 6, 4, b"", 363_543),
+        (0, 6, 1, b"", 363_524),
+        (1, 6, 1, b"", 363_527),
+        (1, 6, 1, b"root.afs", 0),
+    ] {
+        assert!(rt; draft.len() < 10_000);
+        let entry = given(alloc, name, 5, 9, &[second])?;
+        let end = replace_entry(alloc, &mut draft, volume_type, id, entry, mask)?;
+        assert_eq!(rt; rule(&end), number);
+    }
+    for (name, text) in [(b"root.afs".as_slice(), RENAMED), (b"root.cell", b"")] {
+        assert!(rt; draft.len() == 3132 + 192);
+        assert_eq!(rt; done(&entry_by_name(alloc, &mut draft, name)?), text);
+    }
+    Ok(())
+}
+
+#[test]
+fn a_server_gets_another_address(rt: HostRuntime) -> Result<(), Fail> {
+    let alloc = rt.alloc();
+    let mut draft = one_volume(alloc)?;
+    for (old, new, number) in [
+        (0, 7, 363_524),
+        (7, 0x0a00_0001, 363_524),
+        (0x0a00_0001, 0x0a00_0001, 363_530),
+        (0x0a00_0001, 0, 363_538),
+        (0x0a00_0001, 7, 0),
+        (0x0a00_0001, 8, 363_524),
+    ] {
+        assert!(rt; draft.len() < 10_000);
+        assert_eq!(rt; rule(&change_address(alloc, &mut draft, old, new)?), number);
+    }
+    assert!(rt; draft.len() < 10_000);
+    assert_eq!(rt;
+        done(&all_addresses(alloc, &mut draft)?),
+        [0, 0, 0, 1, 0, 0, 0, 7].as_slice()
+    );
+    assert!(rt; draft.len() < 10_000);
+    delete_entry(alloc, &mut draft, 0, 5)?;
+    assert!(rt; draft.len() < 10_000);
+    assert_eq!(rt; rule(&change_address(alloc, &mut draft, 7, 0)?), 0);
+    assert!(rt; draft.len() < 10_000);
+    assert_eq!(rt;
+        done(&all_addresses(alloc, &mut draft)?),
+        [0, 0, 0, 0].as_slice()
+    );
     Ok(())
 }
