@@ -10,7 +10,7 @@ use Rattle.vldb_records.specs.declared.entries.VlEntry.{VlEntry}
 use Rattle.vldb_records.specs.Location.{Location, IsLocation, IsNamed, IsOfId, has_id, has_repeat, is_name, placed}
 use Rattle.vldb_records.specs.Records.{Holds}
 use Rattle.vl_service.specs.Entering.{IsDecided, other_has_id, other_has_name, other_shares_id, own_fault, shared_fault}
-use Rattle.vl_service.specs.Meaning.{entries, entry_faults, first_fault, is_bad_entry, is_other, shares_id}
+use Rattle.vl_service.specs.Meaning.{entries, entry_faults, first_fault, is_bad_entry, is_other}
 use Rattle.vl_service.specs.Refusals.{id_exists, name_exists, size_exceeded}
 use Rattle.vl_service.specs.Refusals as rule
 use Rattle.vl_service.specs.declared.deciding.Decision.TheVariants.{Enters, Refused}

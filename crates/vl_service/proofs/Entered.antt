@@ -1,14 +1,13 @@
 -- What is decided to come in may come in, and is put in so.
-use Rattle.std.proofs.Common.{◌≡◌, ◌≢◌, ℕ, ℤ, ◌<◌, ◌≤◌, Bool, true, false, not, ◌&&◌, ◌||◌, cond, eqb, List, Option, Some, None, IsSome, IfSome, Result, Ok, Err, IfErr, OnOk, refl, sym, ap, subst, ◌∙◌, ⊎_elim, inl, inr, arith}
+use Rattle.std.proofs.Common.{◌≡◌, ◌≢◌, ℕ, ℤ, Bool, true, false, not, ◌&&◌, ◌||◌, cond, eqb, List, Option, Some, None, IsSome, IfSome, refl, sym, ap, subst, ◌∙◌, ⊎_elim, inl, inr, arith}
 use Rattle.std.specs.Prelude.{nat_lt, unwrap_or}
-use Rattle.std.specs.List.{All, AllByRecursion, Contains, list_any}
+use Rattle.std.specs.List.{Contains, list_any}
 use Rattle.std.specs.Option.{option_map}
 use Rattle.std.specs.Str.{bytes_eq}
 use Rattle.std.proofs.lemmas.Bool.{and_parts, cases_Bool, eqb-true, false_from_ne_true, not_from_false}
 use Rattle.std.proofs.lemmas.List.Elements.{All-from_recursion, recursion_from_All}
 use Rattle.std.proofs.lemmas.Slice.Eq.{bytes_eq-Decides}
 use Rattle.db_image.specs.Ends.{end_of}
-use Rattle.db_image.specs.Images.{IsOfImage}
 use Rattle.db_image.specs.declared.draft_services.CallEnd.{CallEnd}
 use Rattle.db_image.specs.declared.faults.RecordFault.{RecordFault}
 use Rattle.db_image.specs.declared.faults.RecordFault.TheVariants.{DiskFault, BadRecord, NoMemory}
@@ -18,7 +17,7 @@ use Rattle.vl_calls.specs.declared.calls.GivenEntry.{GivenEntry}
 use Rattle.vldb_records.specs.Ends.{HasCauseWhere, HasItsCause}
 use Rattle.vldb_records.specs.declared.entries.VlEntry.{VlEntry}
 use Rattle.vldb_records.specs.Location.{Location, IsLocation, IsRecord, MayBePlaces, MayEnter, has_id, placed, with_addresses, with_places}
-use Rattle.vldb_records.specs.Records.{Holds, after_insert, after_replace, after_set_places}
+use Rattle.vldb_records.specs.Records.{Holds, after_set_places}
 use Rattle.vldb_records.proofs.Held.{holds_places}
 use Rattle.vl_service.specs.Entering.{IsDecided, IsThere, MayPut, MayStore, moved, other_has_name, other_shares_id, own_fault, shared_fault, stored}
 use Rattle.vl_service.specs.Meaning.{Answers, Enter, Makes, Refuses, Verdict, entered, entered_unless, entries_from, entry_faults, entry_of_type, first_fault, is_other, is_volume_type, moment_left, of_entry, of_masked, operation_left, replaced, reply_by, shares_id, with_lock}
@@ -30,7 +29,7 @@ use Rattle.vl_service.proofs.Decided.{faults_are, or_else, size_fault}
 use Rattle.vl_service.proofs.Entries.{some_meets}
 use Rattle.vl_service.proofs.Found.{typed_there}
 use Rattle.vl_service.proofs.LockDone.{masked_is}
-use Rattle.vl_service.proofs.Placements.{Keeps, are_places, may_be_places, places_same, sites_are_placed}
+use Rattle.vl_service.proofs.Placements.{are_places, may_be_places, places_same, sites_are_placed}
 
 -- ---- no fault
 

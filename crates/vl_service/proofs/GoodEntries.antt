@@ -1,14 +1,13 @@
 -- An entry that passed the tests of what a call gives can be stored.
-use Rattle.std.proofs.Common.{◌≡◌, ℕ, zero, suc, ◌<◌, ◌≤◌, ◌^◌, Bool, true, false, not, ◌||◌, eqb, ltb, List, length, get_or, refl, sym, ap, ◌∙◌, arith}
-use Rattle.std.specs.List.{All, AllByRecursion, list_any}
+use Rattle.std.proofs.Common.{◌≡◌, ℕ, zero, suc, ◌<◌, ◌≤◌, Bool, true, false, not, ◌||◌, eqb, ltb, List, length, get_or, refl, arith}
+use Rattle.std.specs.List.{All, list_any}
 use Rattle.std.specs.Prelude.{bit_and}
 use Rattle.std.proofs.lemmas.Bool.{eqb-true, false_from_ne_true, ltb-false, or_parts}
 use Rattle.std.proofs.lemmas.Nat.{and_le_r}
-use Rattle.std.proofs.lemmas.List.Elements.{recursion_from_All}
 use Rattle.std.proofs.lemmas.List.Folds.{list_any_at}
 use Rattle.vl_calls.specs.declared.calls.GivenEntry.{GivenEntry}
 use Rattle.vldb_records.specs.declared.entries.VlSite.{VlSite}
-use Rattle.vldb_records.specs.Location.{IsRecord, IsSite, has_equal_ids, has_repeat, is_name}
+use Rattle.vldb_records.specs.Location.{IsSite, has_equal_ids, has_repeat, is_name}
 use Rattle.vl_service.specs.Entering.{CanBeStored}
 use Rattle.vl_service.specs.Meaning.{is_bad_entry}
 

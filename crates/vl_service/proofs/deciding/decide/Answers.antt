@@ -1,4 +1,4 @@
-use Rattle.std.proofs.Common.{List, ℕ, Some, None, sym, ap, ◌∙◌}
+use Rattle.std.proofs.Common.{ap, ◌∙◌}
 use Rattle.vldb_records.specs.Location.{placed}
 use Rattle.vl_service.proofs.Decided.{enters, own_refused, shared_refused, size_refused}
 use Rattle.vl_service.proofs.deciding.decide.Goals as goal

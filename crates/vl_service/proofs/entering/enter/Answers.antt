@@ -1,4 +1,4 @@
-use Rattle.std.proofs.Common.{sym, ap, ◌∙◌, refl, arith}
+use Rattle.std.proofs.Common.{refl, arith}
 use Rattle.std.proofs.lemmas.Result.{err_from_is_err_and}
 use Rattle.vl_service.proofs.Entered.{cause_of_enter, enter_done, enter_refused}
 use Rattle.vl_service.proofs.entering.enter.Goals as goal

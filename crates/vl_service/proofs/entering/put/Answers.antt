@@ -1,4 +1,3 @@
-use Rattle.std.proofs.Common.{arith}
 use Rattle.std.proofs.lemmas.Result.{err_from_is_err_and}
 use Rattle.vldb_records.proofs.Becoming.{becomes_then}
 use Rattle.vl_service.specs.Entering.{moved, stored}

@@ -1,7 +1,4 @@
 use Rattle.std.proofs.Common.{refl}
-use Rattle.std.proofs.lemmas.Result.{err_from_is_err_and}
-use Rattle.vldb_records.specs.Ends.{HoldsSome}
-use Rattle.vldb_records.proofs.Becoming.{cause_of_image}
 use Rattle.vl_service.proofs.Moved.{move_done, move_refused}
 use Rattle.vl_service.proofs.moving.change_address.Goals as goal
 

@@ -1,4 +1,4 @@
-use Rattle.std.proofs.Common.{Bool, not, ◌&&◌, eqb, sym, ap, ◌∙◌, refl}
+use Rattle.std.proofs.Common.{not, ◌&&◌, eqb, ap, refl}
 use Rattle.std.specs.List.{list_any}
 use Rattle.vl_service.proofs.Moved.{moves, no_server, still_used, taken, used_low}
 use Rattle.vl_service.proofs.moving.decide.Goals as goal

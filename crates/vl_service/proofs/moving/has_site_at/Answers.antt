@@ -1,4 +1,3 @@
-use Rattle.std.proofs.Common.{Some, None}
 use Rattle.vl_service.proofs.Moved.{no_site_there, site_there}
 use Rattle.vl_service.proofs.moving.has_site_at.Goals as goal
 

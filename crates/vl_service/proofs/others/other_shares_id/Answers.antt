@@ -1,4 +1,4 @@
-use Rattle.std.proofs.Common.{◌≡◌, List, ℕ, Option, IfSome, Bool, true, false, Result, Ok, Err, IfOk}
+use Rattle.std.proofs.Common.{◌≡◌, List, ℕ, Option, IfSome, Bool, false, Result, Ok, Err, IfOk}
 use Rattle.db_blocks.proofs.Scanned.{looks_then}
 use Rattle.db_image.specs.declared.faults.RecordFault.{RecordFault}
 use Rattle.vl_calls.specs.declared.calls.GivenEntry.{GivenEntry}

@@ -1,4 +1,4 @@
-use Rattle.std.proofs.Common.{Some, None, arith}
+use Rattle.std.proofs.Common.{arith}
 use Rattle.vl_service.proofs.Paged.{paging_full, paging_last, paging_more, paging_none}
 use Rattle.vl_service.proofs.pages.listed.Goals as goal
 use Rattle.vl_service.proofs.pages.listed.Goals.{else-loop-alloc-test, then-loop-alloc-test+in_ok-e+in_default}
