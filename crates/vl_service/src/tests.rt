@@ -1,7 +1,7 @@
 //! Calls over an image in memory that was laid out by hand.
 use crate::{
     all_addresses, change_address, create_entry, delete_entry, entry_by_id, entry_by_name,
-    release_lock, replace_entry, set_lock, take_volume_ids,
+    list_entries, release_lock, replace_entry, set_lock, take_volume_ids,
 };
 use db_image::{CallEnd, Draft, ImageRead, VecImage};
 use std::alloc::Global;
@@ -343,5 +343,42 @@ fn a_server_gets_another_address(rt: HostRuntime) -> Result<(), Fail> {
         done(&all_addresses(alloc, &mut draft)?),
         [0, 0, 0, 0].as_slice()
     );
+    Ok(())
+}
+
+/// The length of an entry with a name of one byte and one site, in an answer.
+const SHORT: usize = 52;
+
+#[test]
+fn entries_are_listed(rt: HostRuntime) -> Result<(), Fail> {
+    let alloc = rt.alloc();
+    let mut draft = Draft::over(alloc, VecImage::new(alloc, &[])?, 3132, 192);
+    let second = VlSite {
+        host: 0x0a00_0002,
+        partition: 8,
+        ..SITE
+    };
+    for (name, id, site) in [(b"b".as_slice(), 9, second), (b"a", 5, SITE)] {
+        let entry = given(alloc, name, id, 0, &[site])?;
+        assert_eq!(rt; made(&rt, &mut draft, alloc, entry)?, 0);
+    }
+    assert!(rt; draft.len() < 10_000);
+    set_lock(alloc, &mut draft, 7, 0, 9, 0x20)?;
+    for (after, host, partition, locked, number, len) in [
+        (0, 0, -2, false, 363_531, 0),
+        (0, 0, 256, false, 363_531, 0),
+        (0, 0, -1, false, 0, 4 + 2 * SHORT),
+        (0, 0, -1, true, 0, 4 + SHORT),
+        (5, 0, -1, false, 0, 4 + SHORT),
+        (9, 0, -1, false, 0, 4),
+        (0, 0x0a00_0001, 7, false, 0, 4 + SHORT),
+        (0, 0x0a00_0001, 8, false, 0, 4),
+        (0, 0, 8, true, 0, 4 + SHORT),
+    ] {
+        assert!(rt; draft.len() < 10_000);
+        let end = list_entries(alloc, &mut draft, after, host, partition, locked)?;
+        assert_eq!(rt; rule(&end), number);
+        assert_eq!(rt; done(&end).len(), len);
+    }
     Ok(())
 }
