@@ -1,11 +1,7 @@
 pub mod AnswerLaws
 pub mod Again
-pub mod Done
 pub mod EntriesAgain
 pub mod EntriesTaken
-pub mod FittingEntries
-pub mod Found
-pub mod LockDone
 pub mod Skipped
 pub mod Taken
 pub mod WordCalls

@@ -1,11 +1,7 @@
 pub mod Answers
 pub mod Calls
 pub mod Entries
-pub mod Fitting
-pub mod Meaning
 pub mod Reading
-pub mod Refusals
 pub mod Shapes
-pub mod Standing
 pub mod Words
 pub mod Writing

@@ -2,6 +2,7 @@ pub mod Becoming
 pub mod EntryAgain
 pub mod HeadRead
 pub mod Held
+pub mod Listed
 pub mod Locations
 pub mod Lookups
 pub mod Positions

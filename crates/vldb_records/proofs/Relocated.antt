@@ -12,15 +12,15 @@ use Rattle.vldb_records.specs.declared.entries.VlSite.{VlSite}
 use Rattle.vldb_records.specs.Location.{Location, IsLocation, IsRecord, IsSite, MayBePlaces, has_id, has_repeat, relocated, relocated_site, repeats, with_places}
 use Rattle.vldb_records.specs.Records.{block_of, place_of}
 
-abbrev place : List ℕ → ℕ → ℕ
+abbrev pub place : List ℕ → ℕ → ℕ
 place addresses host = position_or_len (λ a. eqb a host) addresses
 
 -- where an address stands that is among them
-record IsAt (addresses : List ℕ) (host : ℕ) : Type 0 where
-  below : place addresses host < length addresses
-  here : get_or addresses (place addresses host) 0 ≡ host
+pub record IsAt (addresses : List ℕ) (host : ℕ) : Type 0 where
+  pub below : place addresses host < length addresses
+  pub here : get_or addresses (place addresses host) 0 ≡ host
 
-is_at : (addresses : List ℕ) (host : ℕ) → Contains addresses host → IsAt addresses host
+pub is_at : (addresses : List ℕ) (host : ℕ) → Contains addresses host → IsAt addresses host
 is_at addresses host among =
     let at = at_from_Contains addresses host among in
     let test : ℕ → Bool = λ a. eqb a host in

@@ -48,7 +48,7 @@ impl<'a> Wanted for Sought<'a> {
 }
 
 /// What a block is, by its first word.
-fn kind_of(block: &Block) -> u32
+pub(crate) fn kind_of(block: &Block) -> u32
     ensures { result ≡ kind_of block.now }
 {
     word_at(block, 0)
@@ -103,7 +103,7 @@ fn host_at(addresses: &[u32; PLACES], place: u8) -> u32
 }
 
 /// A site of an entry's block.
-fn site_in(addresses: &[u32; PLACES], block: &Block, k: usize) -> VlSite
+pub(crate) fn site_in(addresses: &[u32; PLACES], block: &Block, k: usize) -> VlSite
     requires { k < SITES_FIELD }
     ensures { result ≡ site_in addresses.now block.now k }
 {

@@ -10,6 +10,7 @@ mod finds;
 mod forms;
 mod heads;
 mod layout;
+mod listings;
 
 pub use changes::{insert, remove, replace, set_addresses, set_next_volume};
 pub use checks::{has_equal_ids, is_name, repeats};
@@ -17,6 +18,7 @@ pub use entries::{SiteList, VlEntry, VlSite, sites_of};
 pub use finds::{find_id, find_name, next_entry};
 pub use heads::{addresses, next_volume};
 pub use layout::PLACES;
+pub use listings::{Listing, next_listed};
 
 #[cfg(test)]
 mod tests;

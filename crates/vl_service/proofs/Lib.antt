@@ -1,0 +1,11 @@
+pub mod Decided
+pub mod Done
+pub mod Entered
+pub mod Entries
+pub mod FittingEntries
+pub mod Found
+pub mod GoodEntries
+pub mod LockDone
+pub mod Moved
+pub mod Paged
+pub mod Placements

@@ -1,0 +1,7 @@
+pub mod Entering
+pub mod Fitting
+pub mod Meaning
+pub mod Moving
+pub mod Pages
+pub mod Refusals
+pub mod Standing

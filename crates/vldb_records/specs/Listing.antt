@@ -1,0 +1,30 @@
+-- Which entries a listing names.
+use Rattle.std.specs.Prelude.{ℕ, ◌≡◌, ◌<◌, ◌≤◌, ◌==◌, ◌&&◌, ◌||◌, Bool, true, false, not, List, Option, Some, None}
+use Rattle.std.specs.List.{list_any}
+use Rattle.vldb_records.specs.declared.entries.VlEntry.{VlEntry}
+use Rattle.vldb_records.specs.declared.entries.VlSite.{VlSite}
+use Rattle.vldb_records.specs.declared.listings.Listing.{Listing}
+use Rattle.vldb_records.specs.Location.{Location}
+use Rattle.vldb_records.specs.Records.{entry_in, kind_of}
+
+-- on a partition, none for any
+abbrev pub is_on : Option ℕ → VlSite → Bool
+is_on None site = true
+is_on (Some partition) site = partition == site.partition
+
+-- of a server, 0 for any, on a partition
+abbrev pub is_listed_site : Listing → VlSite → Bool
+is_listed_site l site = (l.host == 0 || site.host == l.host) && is_on l.partition site
+
+abbrev pub is_listed : Listing → VlEntry → Bool
+is_listed l e = list_any (is_listed_site l) e.sites && (not l.locked || not (e.lock_op == 0))
+
+-- the block of such an entry
+abbrev pub is_listed_in : Listing → List ℕ → List ℕ → Bool
+is_listed_in l addresses block = kind_of block == 1 && is_listed l (entry_in addresses block)
+
+-- the listed entry with the least read-write id above one, if there is one
+abbrev pub IsNextListed : Location → Listing → (after : ℕ) → Option VlEntry → Type 0
+IsNextListed s l after None = (rw : ℕ) (e : VlEntry) → after < rw → s.entry rw ≡ Some e → is_listed l e ≡ false
+IsNextListed s l after (Some e) = (s.entry e.rw ≡ Some e) × (after < e.rw) × (is_listed l e ≡ true)
+    × ((rw : ℕ) (f : VlEntry) → after < rw → s.entry rw ≡ Some f → is_listed l f ≡ true → e.rw ≤ rw)
