@@ -1,0 +1,6 @@
+//! The location database as a service over drafts.
+#![tactic(auto)]
+
+mod service;
+
+pub use service::VlService;
