@@ -1,5 +1,5 @@
 -- What the service answers is what was decided of the call.
-use Rattle.std.proofs.Common.{◌≡◌, ℕ, ℤ, zero, suc, ◌<◌, ◌≤◌, ◌^◌, Bool, true, false, ◌&&◌, cond, List, [], ◌∷◌, length, Option, Some, None, IfSome, Result, Ok, Err, IfOk, refl, sym, ap, subst, ◌∙◌, arith}
+use Rattle.std.proofs.Common.{◌≡◌, ℕ, ℤ, suc, ◌<◌, ◌^◌, Bool, true, false, cond, List, [], ◌∷◌, Option, Some, None, IfSome, Result, Ok, Err, IfOk, refl, sym, ap, subst, ◌∙◌, arith}
 use Rattle.std.specs.Prelude.{nat_lt}
 use Rattle.std.specs.List.{list_all}
 use Rattle.std.proofs.lemmas.Bool.{and_from, lt-ltb}
@@ -10,13 +10,12 @@ use Rattle.db_image.specs.Images.{OnlyReads}
 use Rattle.db_image.specs.declared.draft_services.CallEnd.{CallEnd}
 use Rattle.db_image.specs.declared.draft_services.CallEnd.TheVariants as end
 use Rattle.db_image.specs.declared.images.ImageRead.{Ghosts}
-use Rattle.vl_calls.specs.declared.answers.VlAnswer.{VlAnswer}
 use Rattle.vl_calls.specs.declared.answers.VlAnswer.TheVariants as answer
 use Rattle.vl_calls.specs.declared.calls.VlCall.{VlCall}
 use Rattle.vl_calls.specs.Reading.{call_of}
 use Rattle.vldb_records.specs.declared.entries.VlEntry.{VlEntry}
 use Rattle.vldb_records.specs.Location.{Location, is_name}
-use Rattle.vldb_records.specs.Records.{Holds, whole}
+use Rattle.vldb_records.specs.Records.{Holds}
 use Rattle.vl_service.specs.Meaning.{Answers, Makes, NoCall, Refuses, Verdict, asked, entry_named, entry_of_type, is_partition, is_volume_type, named_verdict, of_entry, of_id, page, reply_by, told, verdict}
 use Rattle.vl_service.specs.Refusals as rule
 use Rattle.vl_service.specs.Standing.{IsDecidedEnd, IsDone, image_by}

@@ -4,3 +4,6 @@
 mod service;
 
 pub use service::VlService;
+
+#[cfg(test)]
+mod tests;
