@@ -1,6 +1,6 @@
 //! The service over an image in memory: each call by its bytes, as a server makes it.
 use crate::VlService;
-use db_image::{CallEnd, Draft, DraftService, VecImage};
+use db_image::{CallEnd, Draft, DraftService, ImageRead, VecImage};
 use std::alloc::Global;
 use std::process::Abort;
 use std::test::Fail;
