@@ -33,7 +33,7 @@ use Rattle.vl_service.proofs.Placements.{are_places, may_be_places, places_same,
 
 -- ---- no fault
 
-both_none : (first later : Option ℕ) → or_else first later ≡ None → (first ≡ None) × (later ≡ None)
+pub both_none : (first later : Option ℕ) → or_else first later ≡ None → (first ≡ None) × (later ≡ None)
 both_none None later is = (refl, is)
 both_none (Some fault) later is = absurd cc
 
@@ -43,7 +43,7 @@ neither false true is = absurd cc
 neither false false is = (refl, refl)
 
 -- what no entry meets, none of them does
-none_of : (s : Location) (test : VlEntry → Bool) (rw_id : ℕ) (f : VlEntry) → IsLocation s → list_any test (entries_from 1 2147483647 s) ≡ false
+pub none_of : (s : Location) (test : VlEntry → Bool) (rw_id : ℕ) (f : VlEntry) → IsLocation s → list_any test (entries_from 1 2147483647 s) ≡ false
     → s.entry rw_id ≡ Some f → test f ≡ false
 none_of s test rw_id f valid none at =
     let r = valid.records rw_id f at in

@@ -5,7 +5,12 @@ pub mod Entries
 pub mod FittingEntries
 pub mod Found
 pub mod GoodEntries
+pub mod Lengths
 pub mod LockDone
+pub mod Made
+pub mod Movable
 pub mod Moved
 pub mod Paged
 pub mod Placements
+pub mod Sound
+pub mod ToldLocations

@@ -184,7 +184,7 @@ release_done bytes mid after volume_type id mask operation moment e ended form l
 -- ---- faults
 
 -- an entry may take its own place with another lock
-may_lock : (s : Location) (e : VlEntry) (operation moment : ℕ) → IsLocation s → s.entry e.rw ≡ Some e
+pub may_lock : (s : Location) (e : VlEntry) (operation moment : ℕ) → IsLocation s → s.entry e.rw ≡ Some e
     → MayReplace e.rw (record e { lock_op = operation; lock_moment = moment }) s
 may_lock s e operation moment valid there = (
   subst (λ (o : Option VlEntry). IsSome o) (sym there) refl,

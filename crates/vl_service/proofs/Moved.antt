@@ -68,7 +68,7 @@ set_behind (x ∷ xs) (suc k) v behind = ap (λ (ys : List ℕ). x ∷ ys) (set_
 
 -- ---- the verdict
 
-used_parts : (host : ℕ) (addresses : List ℕ) → (not (eqb host 0) && list_any (λ a. eqb a host) addresses) ≡ true → 0 < host
+pub used_parts : (host : ℕ) (addresses : List ℕ) → (not (eqb host 0) && list_any (λ a. eqb a host) addresses) ≡ true → 0 < host
 used_parts zero addresses is = absurd cc
 used_parts (suc n) addresses is = omega arith
 

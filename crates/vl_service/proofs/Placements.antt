@@ -34,7 +34,7 @@ keeps_both a b c first second = record {
   kept = λ k used. let e = first.kept k used in second.kept k (λ none. used (sym e ∙ none)) ∙ e;
 }
 
-not_none : (n : ℕ) → 0 < n → n ≡ 0 → ⊥
+pub not_none : (n : ℕ) → 0 < n → n ≡ 0 → ⊥
 not_none n low none = omega (arith, low, none)
 
 -- an address that is among them stays so
@@ -52,25 +52,21 @@ pub record IsPlaced (old new : List ℕ) (host : ℕ) : Type 0 where
   pub keeps : Keeps old new
   pub among : Contains new host
 
-same_is_placed : (old : List ℕ) (host : ℕ) → ArePlaces old → list_any (λ a. eqb a host) old ≡ true → IsPlaced old old host
-same_is_placed old host are is =
-    let any = Any-from_list_any (λ a. eqb a host) old is in
-    let k = any.0 in
-    let x = any.1 in
-    let here : get_or old k x ≡ host = any.3 ∙ eqb-true x host any.4 in
-    record {
-      places = are;
-      keeps = record { kept = λ j used. refl };
-      among = subst (Contains old) here (Contains-get_or old k x any.2);
-    }
+pub among_any : (addresses : List ℕ) (host : ℕ) → list_any (λ a. eqb a host) addresses ≡ true → Contains addresses host
+among_any addresses host is =
+    let any = Any-from_list_any (λ a. eqb a host) addresses is in
+    subst (Contains addresses) (any.3 ∙ eqb-true any.1 host any.4) (Contains-get_or addresses any.0 any.1 any.2)
 
-word_set : (xs : List ℕ) (k v : ℕ) → AllByRecursion (λ n. n < 2 ^ 32) xs → v < 2 ^ 32 → AllByRecursion (λ n. n < 2 ^ 32) (slice_set xs k v)
+same_is_placed : (old : List ℕ) (host : ℕ) → ArePlaces old → list_any (λ a. eqb a host) old ≡ true → IsPlaced old old host
+same_is_placed old host are is = record { places = are; keeps = record { kept = λ j used. refl }; among = among_any old host is }
+
+pub word_set : (xs : List ℕ) (k v : ℕ) → AllByRecursion (λ n. n < 2 ^ 32) xs → v < 2 ^ 32 → AllByRecursion (λ n. n < 2 ^ 32) (slice_set xs k v)
 word_set [] k v low is = tt
 word_set (x ∷ xs) zero v low is = (is, low.1)
 word_set (x ∷ xs) (suc k) v low is = (low.0, word_set xs k v low.1 is)
 
 -- no place has an address that is not among them
-elsewhere : (old : List ℕ) (host j : ℕ) → length old ≡ 255 → list_any (λ a. eqb a host) old ≡ false → j < 255 → get_or old j 0 ≡ host → ⊥
+pub elsewhere : (old : List ℕ) (host j : ℕ) → length old ≡ 255 → list_any (λ a. eqb a host) old ≡ false → j < 255 → get_or old j 0 ≡ host → ⊥
 elsewhere old host j size none below same =
     let found : list_any (λ a. eqb a host) old ≡ true = list_any_at (λ a. eqb a host) old j 0 (omega (arith, size, below)) (eq-eqb (get_or old j 0) host same) in
     absurd cc

@@ -5,3 +5,4 @@ pub mod Moving
 pub mod Pages
 pub mod Refusals
 pub mod Standing
+pub mod Told

@@ -18,7 +18,7 @@ mod rules;
 pub use changing::{delete_entry, take_volume_ids};
 pub use entering::{create_entry, replace_entry};
 pub use locking::{release_lock, set_lock};
-pub use looks::{all_addresses, entry_by_id, entry_by_name};
+pub use looks::{all_addresses, entry_by_id, entry_by_name, probe};
 pub use moving::change_address;
 pub use pages::list_entries;
 pub use rules::{

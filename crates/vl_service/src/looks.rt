@@ -9,6 +9,7 @@ ghost use Rattle.vl_calls.specs.Answers.{AnswerHasSpelling};
 ghost use Rattle.vl_service.specs.Meaning.{Answers, entry_of_type, is_of_type, is_volume_type, named_verdict, of_entry, of_id, reply_by, told, used};
 ghost use Rattle.vl_calls.specs.declared.limits.TheConstants.{MAX_HOSTS};
 ghost use Rattle.vl_calls.specs.declared.answers.VlAnswer.TheVariants as answer;
+ghost use Rattle.vl_service.specs.Standing.{IsDecidedEnd};
 
 use crate::rules::{BAD_NAME, BAD_VOLUME_TYPE, NO_ENTRY};
 use call_grammar::Items;
@@ -21,7 +22,8 @@ use vldb_records::{PLACES, VlEntry, addresses, find_id, find_name, is_name};
 /// Tells an answer.
 pub(crate) fn tell(alloc: Global, answer: &VlAnswer) -> Result<CallEnd, NoMemory>
     requires { AnswerHasSpelling answer.now }
-    ensures { IfOk result (λ end. end ≡ end_of (reply_by (Answers answer.now))) }
+    ensures told { IfOk result (λ end. end ≡ end_of (reply_by (Answers answer.now))) }
+    ensures short { IfOk result IsDecidedEnd }
 {
     let bytes = spell_answer(alloc, answer)?;
     Ok(CallEnd::Done(bytes))
@@ -30,7 +32,8 @@ pub(crate) fn tell(alloc: Global, answer: &VlAnswer) -> Result<CallEnd, NoMemory
 /// Tells the entry that a call names, if there is one.
 fn tell_entry(alloc: Global, found: Option<VlEntry>) -> Result<CallEnd, NoMemory>
     requires { IfSome found IsSmall }
-    ensures { IfOk result (λ end. end ≡ end_of (reply_by (of_entry found told))) }
+    ensures told { IfOk result (λ end. end ≡ end_of (reply_by (of_entry found told))) }
+    ensures short { IfOk result IsDecidedEnd }
 {
     match found {
         Some(entry) => tell(alloc, &VlAnswer::Entry(entry)),
@@ -47,6 +50,7 @@ pub fn entry_by_name<I: ImageRead>(
     requires { d.old.len < 2 ^ 31 }
     ensures meant { IfOk result (λ end. IfSome d.old.bytes (λ image. (s : Location) → Holds image s
         → end ≡ end_of (reply_by (named_verdict s name.now)))) }
+    ensures short { IfOk result IsDecidedEnd }
     ensures fault { IfErr result (HasItsCause d.old.bytes) }
     ensures frame { OnlyLooks I.ImageRead d.old d.new (IsErrOf result RecordFault.DiskFault) }
 {
@@ -116,6 +120,7 @@ pub fn entry_by_id<I: ImageRead>(
     requires { d.old.len < 2 ^ 31 }
     ensures meant { IfOk result (λ end. IfSome d.old.bytes (λ image. (s : Location) → Holds image s
         → end ≡ end_of (reply_by (of_id s volume_type id told)))) }
+    ensures short { IfOk result IsDecidedEnd }
     ensures fault { IfErr result (HasItsCause d.old.bytes) }
     ensures frame { OnlyLooks I.ImageRead d.old d.new (IsErrOf result RecordFault.DiskFault) }
 {
@@ -146,6 +151,7 @@ pub fn all_addresses<I: ImageRead>(alloc: Global, d: &mut Draft<I>) -> Result<Ca
     requires { d.old.len < 2 ^ 31 }
     ensures meant { IfOk result (λ end. IfSome d.old.bytes (λ image. (s : Location) → Holds image s
         → end ≡ end_of (reply_by (Answers (answer.Hosts (used s)))))) }
+    ensures short { IfOk result IsDecidedEnd }
     ensures fault { IfErr result (HasItsCause d.old.bytes) }
     ensures frame { OnlyLooks I.ImageRead d.old d.new (IsErrOf result RecordFault.DiskFault) }
 {
@@ -153,4 +159,12 @@ pub fn all_addresses<I: ImageRead>(alloc: Global, d: &mut Draft<I>) -> Result<Ca
     let hosts = used_of(alloc, &places)?;
     let end = tell(alloc, &VlAnswer::Hosts(hosts))?;
     Ok(end)
+}
+
+/// Tells that the database answers.
+pub fn probe(alloc: Global) -> Result<CallEnd, NoMemory>
+    ensures told { IfOk result (λ end. end ≡ end_of (reply_by (Answers answer.Done))) }
+    ensures short { IfOk result IsDecidedEnd }
+{
+    tell(alloc, &VlAnswer::Done)
 }

@@ -9,6 +9,7 @@ ghost use Rattle.vldb_records.specs.Records.{Holds};
 ghost use Rattle.vl_calls.specs.declared.limits.TheConstants.{MAX_PAGE};
 ghost use Rattle.vl_service.specs.Meaning.{is_partition, page, reply_by};
 ghost use Rattle.vl_service.specs.Pages.{listing_of, page_of};
+ghost use Rattle.vl_service.specs.Standing.{IsDecidedEnd};
 
 use crate::given::MAX_PARTITION;
 use crate::looks::tell;
@@ -81,6 +82,7 @@ pub fn list_entries<I: ImageRead>(
     requires { d.old.len < 2 ^ 31 }
     ensures meant { IfOk result (λ end. IfSome d.old.bytes (λ image. (s : Location) → Holds image s
         → end ≡ end_of (reply_by (page s after host partition locked)))) }
+    ensures short { IfOk result IsDecidedEnd }
     ensures fault { IfErr result (HasItsCause d.old.bytes) }
     ensures frame { OnlyLooks I.ImageRead d.old d.new (IsErrOf result RecordFault.DiskFault) }
 {

@@ -28,7 +28,7 @@ returns-clause-meant g c =
     let test = sym c.is_volume_type.ensures ∙ c.if-not-is_volume_type.false in
     let first = c.in_ok-entry.ensures.found in
     let found = rw c.in-Some.is at first in
-    leave_done c.args.d.now.bytes c.remove.new.d.bytes c.args.volume_type c.args.id c.in-Some.entry c.in_ok-end.end (simp to_z-of_z at test) (simp to_z-of_z at found) c.in_ok-end.ensures
+    leave_done c.args.d.now.bytes c.remove.new.d.bytes c.args.volume_type c.args.id c.in-Some.entry c.in_ok-end.end (simp to_z-of_z at test) (simp to_z-of_z at found) c.in_ok-end.ensures.told
     (c.in_ok-remove.ensures.bytes ∙ ap (option_map (after_remove c.in-Some.entry.rw)) c.find_typed.ensures.frame.same.bytes)
 
 pub returns-in_err-remove-clause-fault : goal.returns-in_err-remove-clause-fault

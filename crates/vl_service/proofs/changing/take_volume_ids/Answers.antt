@@ -12,5 +12,5 @@ returns-in_default-clause-meant g c =
 pub returns-clause-meant : goal.returns-clause-meant
 returns-clause-meant g c =
     volumes_done c.args.d.now.bytes c.set_next_volume.new.d.bytes c.in_ok-next.next c.args.bump c.in-Some.after c.in_ok-end.end c.in_ok-next.ensures.found
-    (sym c.next_after.ensures ∙ c.in-Some.is) c.in_ok-end.ensures
+    (sym c.next_after.ensures ∙ c.in-Some.is) c.in_ok-end.ensures.told
     (c.in_ok-set_next_volume.ensures.bytes ∙ ap (option_map (after_set_next c.in-Some.after)) c.next_volume.ensures.frame.same.bytes)

@@ -14,4 +14,4 @@ returns-clause-meant g c =
     let fits = c.ranges.volume_type in
     let test = sym c.is_volume_type.ensures ∙ c.if-not-is_volume_type.false in
     let found = c.in_ok-found.ensures.found in
-    typed_meant c.args.d.now.bytes c.args.volume_type c.args.id c.in_ok-found.found c.in_ok-end.end (simp to_z-of_z at test) (simp to_z-of_z at found) c.in_ok-end.ensures
+    typed_meant c.args.d.now.bytes c.args.volume_type c.args.id c.in_ok-found.found c.in_ok-end.end (simp to_z-of_z at test) (simp to_z-of_z at found) c.in_ok-end.ensures.told

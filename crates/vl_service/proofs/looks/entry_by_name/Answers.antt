@@ -7,4 +7,4 @@ returns-then-not-is_name-clause-meant g c = named_refused c.args.d.now.bytes c.a
 
 pub returns-clause-meant : goal.returns-clause-meant
 returns-clause-meant g c =
-    named_meant c.args.d.now.bytes c.args.name.now c.in_ok-found.found c.in_ok-end.end (sym c.is_name.ensures ∙ c.if-not-is_name.false) c.in_ok-found.ensures.found c.in_ok-end.ensures
+    named_meant c.args.d.now.bytes c.args.name.now c.in_ok-found.found c.in_ok-end.end (sym c.is_name.ensures ∙ c.if-not-is_name.false) c.in_ok-found.ensures.found c.in_ok-end.ensures.told

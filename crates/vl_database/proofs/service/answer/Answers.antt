@@ -1,0 +1,26 @@
+use Rattle.std.proofs.Common.{FitsSigned, Some, ap, rules}
+use Rattle.std.specs.Int.{w32}
+use Rattle.std.proofs.lemmas.Int.{to_z-of_z}
+use Rattle.vldb_records.specs.Location.{Location}
+use Rattle.vl_service.specs.Meaning.{named_verdict, of_id, told, verdict}
+use Rattle.vl_database.proofs.Served.{by_id_look, look_ok, named_look}
+use Rattle.vl_database.proofs.service.answer.Goals as goal
+
+pub returns-in-GetEntryById-clause-meant : goal.returns-in-GetEntryById-clause-meant
+unfolding verdict
+returns-in-GetEntryById-clause-meant g c =
+    let fits : FitsSigned w32 c.in-GetEntryById.volume_type = search rules in
+    let meant = c.entry_by_id.ensures.meant in
+    look_ok c.entry_by_id.result c.args.d.now.bytes c.entry_by_id.new.d.bytes (λ (s : Location). of_id s c.in-GetEntryById.volume_type c.in-GetEntryById.id told)
+    (λ (s : Location). verdict s c.args.now (Some c.args.call)) c.entry_by_id.ensures.frame.same.bytes
+    (λ s. by_id_look s c.in-GetEntryById.volume_type c.in-GetEntryById.id) (λ s. ap (λ call. verdict s c.args.now (Some call)) c.in-GetEntryById.is)
+    (simp to_z-of_z at meant)
+
+pub returns-in-GetEntryByName-clause-meant : goal.returns-in-GetEntryByName-clause-meant
+unfolding verdict
+returns-in-GetEntryByName-clause-meant g c =
+    let meant = c.entry_by_name.ensures.meant in
+    look_ok c.entry_by_name.result c.args.d.now.bytes c.entry_by_name.new.d.bytes (λ (s : Location). named_verdict s c.in-GetEntryByName.name)
+    (λ (s : Location). verdict s c.args.now (Some c.args.call)) c.entry_by_name.ensures.frame.same.bytes
+    (λ s. named_look s c.in-GetEntryByName.name) (λ s. ap (λ call. verdict s c.args.now (Some call)) c.in-GetEntryByName.is)
+    (rw c.as_slice.ensures at meant)

@@ -1,0 +1,47 @@
+-- The location database as a service over images (layout of format 1).
+use Rattle.std.specs.Prelude.{Bool, true, false}
+use Rattle.std.specs.Option.{option_map}
+use Rattle.db_image.specs.Database.{Database}
+use Rattle.db_image.specs.Standing.{Standing}
+use Rattle.vldb_records.specs.Location.{Location}
+use Rattle.vldb_records.specs.Records.{Holds, whole}
+use Rattle.vldb_records.specs.declared.layout.TheConstants.{HEAD_LEN}
+use Rattle.db_blocks.specs.declared.blocks.TheConstants.{BLOCK_LEN}
+use Rattle.vl_calls.specs.declared.kinds.CallKind.{CallKind}
+use Rattle.vl_calls.specs.declared.kinds.CallKind.TheVariants as kinds
+use Rattle.vl_calls.specs.Calls.{call_kind}
+use Rattle.vl_calls.specs.Reading.{call_of}
+use Rattle.vl_service.specs.Meaning.{asked, reply_by, verdict, vl_meaning}
+use Rattle.vl_service.specs.Standing.{image_by}
+use Rattle.vl_service.specs.Told.{location_in}
+
+-- the calls that may change the database
+abbrev pub is_write : CallKind → Bool
+is_write kinds.GetNewVolumeId = true
+is_write kinds.CreateEntry = true
+is_write kinds.DeleteEntry = true
+is_write kinds.GetEntryById = false
+is_write kinds.GetEntryByName = false
+is_write kinds.ReplaceEntry = true
+is_write kinds.SetLock = true
+is_write kinds.ReleaseLock = true
+is_write kinds.ListAttributes = false
+is_write kinds.GetAddrs = false
+is_write kinds.ChangeAddr = true
+is_write kinds.Probe = false
+
+abbrev pub vl_database : Database
+vl_database = record {
+  writes = λ bytes. option_map is_write (option_map call_kind (call_of bytes));
+  call = λ image now bytes. let s = location_in (whole image) in let v = verdict s now (asked now bytes) in record { reply = reply_by v; image = image_by v s image };
+  head = HEAD_LEN;
+  block = BLOCK_LEN;
+}
+
+abbrev pub vl_standing : Standing
+vl_standing = record {
+  State = Location;
+  meaning = vl_meaning;
+  StandsFor = Holds;
+  database = vl_database;
+}

@@ -1,0 +1,155 @@
+//! The location database as a service.
+#![tactic(auto, unfolding(vl_service::specs::Meaning::verdict))]
+
+ghost use Rattle.std.specs.Prelude.{◌≡◌, ◌≤◌, Some, IfSome, IfOk, IfErr, IsErrOf};
+ghost use Rattle.std.specs.Option.{option_map};
+ghost use Rattle.db_blocks.specs.Ends.{OnlyDrafts};
+ghost use Rattle.vldb_records.specs.Ends.{HasItsCause};
+ghost use Rattle.vldb_records.specs.Location.{Location};
+ghost use Rattle.vldb_records.specs.Records.{Holds};
+ghost use Rattle.vl_calls.specs.Calls.{call_kind};
+ghost use Rattle.vl_calls.specs.Reading.{call_of};
+ghost use Rattle.vl_service.specs.Meaning.{asked, verdict};
+ghost use Rattle.vl_service.specs.Standing.{IsDecidedEnd, IsDone};
+ghost use Rattle.vl_database.specs.Service.{is_write};
+
+use db_blocks::BLOCK_LEN;
+use db_image::{CallEnd, Draft, DraftService, ImageRead, RecordFault};
+use std::alloc::Global;
+use vl_calls::{CallKind, VlCall, kind_of, read_call};
+use vl_service::{
+    all_addresses, change_address, create_entry, delete_entry, entry_by_id, entry_by_name,
+    list_entries, probe, release_lock, replace_entry, set_lock, take_volume_ids,
+};
+
+/// The length of an image's head, in bytes.
+const HEAD_LEN: u32 = 3132;
+
+/// Whether a call of a kind may change the database.
+fn is_write(kind: CallKind) -> bool
+    ensures { result ≡ is_write kind }
+{
+    match kind {
+        CallKind::GetEntryById
+        | CallKind::GetEntryByName
+        | CallKind::ListAttributes
+        | CallKind::GetAddrs
+        | CallKind::Probe => false,
+        _ => true,
+    }
+}
+
+/// Whether a call's bytes are one that may change the database; none where they are no call.
+fn writes(call: &[u8]) -> Option<bool>
+    ensures { result ≡ option_map is_write (option_map call_kind (call_of call.now)) }
+{
+    match kind_of(call) {
+        Some(kind) => Some(is_write(kind)),
+        None => None,
+    }
+}
+
+/// Makes a call at a moment.
+fn answer<I: ImageRead>(
+    alloc: Global,
+    d: &mut Draft<I>,
+    now: u32,
+    call: VlCall,
+) -> Result<CallEnd, RecordFault>
+    requires { d.old.len ≤ 16777216 }
+    ensures meant { IfOk result (λ end. IfSome d.old.bytes (λ image. (s : Location) → Holds image s
+        → IsDone (verdict s now (Some call)) s image end d.new.bytes)) }
+    ensures longer { d.old.len ≤ d.new.len }
+    ensures short { IfOk result IsDecidedEnd }
+    ensures fault { IfErr result (HasItsCause d.old.bytes) }
+    ensures frame { OnlyDrafts I.ImageRead d.old d.new (IsErrOf result RecordFault.DiskFault) }
+{
+    match call {
+        VlCall::GetNewVolumeId { bump } => take_volume_ids(alloc, d, bump),
+        VlCall::CreateEntry { entry } => create_entry(alloc, d, entry),
+        VlCall::DeleteEntry { id, volume_type } => delete_entry(alloc, d, volume_type, id),
+        VlCall::GetEntryById { id, volume_type } => entry_by_id(alloc, d, volume_type, id),
+        VlCall::GetEntryByName { name } => entry_by_name(alloc, d, name.as_slice()),
+        VlCall::ReplaceEntry {
+            id,
+            volume_type,
+            entry,
+            mask,
+        } => replace_entry(alloc, d, volume_type, id, entry, mask),
+        VlCall::SetLock {
+            id,
+            volume_type,
+            operation,
+        } => set_lock(alloc, d, now, volume_type, id, operation),
+        VlCall::ReleaseLock {
+            id,
+            volume_type,
+            mask,
+        } => release_lock(alloc, d, volume_type, id, mask),
+        VlCall::ListAttributes {
+            after,
+            host,
+            partition,
+            locked,
+        } => list_entries(alloc, d, after, host, partition, locked),
+        VlCall::GetAddrs => all_addresses(alloc, d),
+        VlCall::ChangeAddr { from, to } => change_address(alloc, d, from, to),
+        VlCall::Probe => {
+            let end = probe(alloc)?;
+            Ok(end)
+        }
+    }
+}
+
+/// Makes the call that bytes are.
+fn evaluate<I: ImageRead>(
+    alloc: Global,
+    d: &mut Draft<I>,
+    now: u32,
+    bytes: &[u8],
+) -> Result<CallEnd, RecordFault>
+    requires { d.old.len ≤ 16777216 }
+    ensures meant { IfOk result (λ end. IfSome d.old.bytes (λ image. (s : Location) → Holds image s
+        → IsDone (verdict s now (asked now bytes.now)) s image end d.new.bytes)) }
+    ensures longer { d.old.len ≤ d.new.len }
+    ensures short { IfOk result IsDecidedEnd }
+    ensures fault { IfErr result (HasItsCause d.old.bytes) }
+    ensures frame { OnlyDrafts I.ImageRead d.old d.new (IsErrOf result RecordFault.DiskFault) }
+{
+    let Some(call) = read_call(alloc, bytes)? else {
+        return Ok(CallEnd::Malformed);
+    };
+    answer(alloc, d, now, call)
+}
+
+/// The location database.
+#[derive(Drop)]
+pub struct VlService;
+
+impl DraftService for VlService {
+    ghost use Rattle.vl_database.specs.Service.{vl_standing};
+    ghost use Rattle.vl_database.specs.ServiceLaws.{database_is_meant, database_never_shrinks, empty_stands};
+
+    ghost standing = { vl_standing };
+
+    ghost empty_is_first = { empty_stands };
+
+    ghost is_meant = { database_is_meant };
+
+    ghost never_shrinks = { database_never_shrinks };
+
+    fn writes(call: &[u8]) -> Option<bool> {
+        writes(call)
+    }
+
+    fn call<I: ImageRead>(alloc: Global, image: &mut Draft<I>, now: u32, call: &[u8]) -> CallEnd {
+        match evaluate(alloc, image, now, call) {
+            Ok(end) => end,
+            Err(fault) => fault.into(),
+        }
+    }
+
+    fn draft<I: ImageRead>(alloc: Global, image: I) -> Draft<I> {
+        Draft::over(alloc, image, HEAD_LEN, BLOCK_LEN as u32)
+    }
+}
