@@ -1,0 +1,3 @@
+pub mod HasNoWrite
+pub mod Stands
+pub mod Spreads

@@ -1,0 +1,23 @@
+//! Laws of recovery: each is the clause of a call that does nothing.
+ghost use Rattle.recovery_laws.specs.Spreads.{RecoverySpreads};
+ghost use Rattle.recovery_laws.specs.Stands.{ImagesStand};
+
+use cell_pages::law_one_label;
+use db_image::DraftService;
+
+/// A server of a cell of any size that has no write in flight stays one in each event that it takes: in votes and recovery, and, in a cell
+/// of one alone, in calls that write. It sends packets of votes and recovery alone, from host to host of the cell, and each of them has a
+/// spelling; it makes at most two durable calls in a step, which lead to versions and fit an image; and each Ok answers the call that is
+/// asked in that event. A server that was just opened is one.
+pub fn law_recovery_spreads()
+    ensures { RecoverySpreads }
+{}
+
+/// In each cell, whatever happens, the image of each durable state stands for a state of the database, and so does that of each server that
+/// is up, and of each piece of an image that was ever sent; and the image that is left where a server stops, or its disk fails, after the first
+/// durable calls of a step. So it is over each database that is one over drafts, whose blocks have a length.
+pub fn law_images_stand<S: DraftService>()
+    ensures { ImagesStand S.standing }
+{
+    law_one_label();
+}
