@@ -1,0 +1,288 @@
+-- Versions that polls name, texts that are received, hosts of a cell, and bodies of packets.
+use Rattle.std.proofs.Common.{Bool, true, false, cond, ◌==◌, ◌≡◌, ◌⊎◌, inl, inr, true≢false, ℕ, zero, suc, ◌+◌, ◌<◌, ◌≤◌, List, [], ◌∷◌, ◌++◌, length, refl, sym, ap, subst, ◌∙◌, arith}
+use Rattle.std.proofs.Math.Nat.{min-le_left}
+use Rattle.std.proofs.lemmas.Bool.{cond_both}
+use Rattle.std.proofs.lemmas.Bool.Decides.{nat_tests}
+use Rattle.std.proofs.lemmas.List.{length-append, length-replicate, length-set, length-take}
+use Rattle.std.specs.List.{AllByRecursion}
+use Rattle.std.specs.Prelude.{◌&&◌, ◌^◌, nat_le, Option, Some, None, IsSome, drop, replicate, set, slice_get}
+use Rattle.ubik_types.specs.declared.hosts.Host.{Host}
+use Rattle.ubik_types.specs.declared.limits.TheConstants.{MAX_IMAGE}
+use Rattle.ubik_types.specs.declared.versions.Version.{Version}
+use Rattle.ubik_types.specs.Moment.{IsMoment}
+use Rattle.ubik_types.specs.Phase.{Polled, PhaseRecord, NoPhase, Poll, Fetch, Relabel, Send, Ready}
+use Rattle.ubik_types.specs.Version.{IsVersion, zero_version, version_lt, version_eq}
+use Rattle.ubik_calls.specs.declared.packets.TheConstants.{MAX_PIECE}
+use Rattle.ubik_calls.specs.declared.packets.Body.{Body}
+use Rattle.ubik_calls.specs.declared.packets.Body.TheVariants as body
+use Rattle.cell_model.specs.Node.{Server, ReceivedText}
+use Rattle.cell_model.specs.NodeRule.{place_of}
+use Rattle.cell_model.specs.Pieces.{piece_from}
+use Rattle.cell_model.specs.Polls.{new_poll, with_answer, best_version, best_answer, first_with, only_at}
+use Rattle.cell_model.specs.Recovery.{first_of_epoch, held_by, piece_fits, text_begun, continues, text_continued, text_with, sent_piece, spread_to}
+use Rattle.cell_model.specs.Step.{Member, cell_size, host_at, is_fetch, told_version, with_phase, with_database}
+use Rattle.cell_model.specs.Writes.{next_version}
+use Rattle.cell_model.proofs.StepKinds.{lt_zero}
+use Rattle.cell_model.proofs.Voters.{own_place, place_there}
+use Rattle.cell_laws.proofs.Parts.{lt_true, eq_true, and_both, no}
+use Rattle.recovery_laws.specs.HasNoWrite.{IsAnswer, IsPollOf, IsPhaseOf, IsTextOf, IsReceived, HasNoWrite, IsRecoveryBody}
+
+le_true : (a b : ℕ) → nat_le a b ≡ true → a ≤ b
+le_true a b is = grind (arith, nat_tests)
+
+-- ---- versions
+
+pub zero_is : IsVersion zero_version
+zero_is = record { epoch = omega arith; counter = omega arith }
+
+pub first_is : (now : ℕ) → IsMoment now → IsVersion (first_of_epoch now)
+first_is now moment = record { epoch = moment.fits; counter = omega arith }
+
+pub next_is : (v : Version) → (v.counter == 2147483647) ≡ false → IsVersion v → IsVersion (next_version v)
+next_is v other is =
+    let below : v.counter < 2 ^ 31 = is.counter in record { epoch = is.epoch; counter = grind (arith, nat_tests) }
+
+itself : (v : Version) → version_eq v v ≡ true
+itself v = grind (arith, nat_tests)
+
+-- ---- answers
+
+all_set : (answers : List (Option Version)) (k : ℕ) (v : Version) → IsVersion v → AllByRecursion IsAnswer answers →
+    AllByRecursion IsAnswer (set answers k (Some v))
+all_set [] k v is all = tt
+all_set (a ∷ answers) zero v is all = (is, all.1)
+all_set (a ∷ answers) (suc k) v is all = (all.0, all_set answers k v is all.1)
+
+all_none : (n : ℕ) → AllByRecursion IsAnswer (replicate n None)
+all_none zero = tt
+all_none (suc n) = (tt, all_none n)
+
+all_only : (n me : ℕ) (v : Version) → IsVersion v → AllByRecursion IsAnswer (only_at (Some v) None n me)
+all_only zero me v is = tt
+all_only (suc n) zero v is = (is, all_none n)
+all_only (suc n) (suc me) v is = (tt, all_only n me v is)
+
+length-only : (n me : ℕ) (one others : Option Version) → length (only_at one others n me) ≡ n
+length-only zero me one others = refl
+length-only (suc n) zero one others = ap suc (length-replicate n others)
+length-only (suc n) (suc me) one others = ap suc (length-only n me one others)
+
+pub new_poll_is : (m : Member) (s : Server) (now : ℕ) → IsVersion s.version → IsPollOf (cell_size m) (new_poll m s now)
+new_poll_is m s now is = record {
+  each = length-only (cell_size m) m.me (Some s.version) None;
+  answers = all_only (cell_size m) m.me s.version is;
+}
+
+pub answered_is : (servers : ℕ) (poll : Polled) (k : ℕ) (v : Version) → IsVersion v → IsPollOf servers poll →
+    IsPollOf servers (with_answer poll k v)
+answered_is servers poll k v version is = record {
+  each = length-set poll.answers k (Some v) ∙ is.each;
+  answers = all_set poll.answers k v version is.answers;
+}
+
+-- ---- the best answer
+
+best_is : (answers : List (Option Version)) (best : Version) → IsVersion best → AllByRecursion IsAnswer answers →
+    IsVersion (best_version best answers)
+best_is [] best is all = is
+best_is (None ∷ answers) best is all = best_is answers best is all.1
+best_is (Some v ∷ answers) best is all =
+    best_is answers (cond (version_lt best v) v best) (cond_both (version_lt best v) v best IsVersion (λ _. all.0) (λ _. is)) all.1
+
+pub best_answer_is : (servers : ℕ) (poll : Polled) → IsPollOf servers poll → IsVersion (best_answer poll)
+best_answer_is servers poll is = best_is poll.answers zero_version zero_is is.answers
+
+-- it is an answer, or that with which it begins
+best_there : (answers : List (Option Version)) (best v : Version) → best_version best answers ≡ v →
+    (best ≡ v) ⊎ (first_with v answers < length answers)
+best_there [] best v is = inl is
+best_there (None ∷ answers) best v is = later (best_there answers best v is)
+  where
+    later : (best ≡ v) ⊎ (first_with v answers < length answers) → (best ≡ v) ⊎ (first_with v answers + 1 < suc (length answers))
+    later (inl same) = inl same
+    later (inr less) = inr (omega arith)
+best_there (Some w ∷ answers) best v is =
+    by (version_lt best w) (best_there answers (cond (version_lt best w) w best) v is)
+  where
+    found : (t : Bool) → t ≡ true → cond t 0 (first_with v answers + 1) < suc (length answers)
+    found true at = omega arith
+    found false at = no at
+
+    later : (t : Bool) → first_with v answers < length answers → cond t 0 (first_with v answers + 1) < suc (length answers)
+    later true less = omega arith
+    later false less = omega arith
+
+    by : (t : Bool) → (cond t w best ≡ v) ⊎ (first_with v answers < length answers) →
+        (best ≡ v) ⊎ (cond (version_eq v w) 0 (first_with v answers + 1) < suc (length answers))
+    by true (inl same) = inr (found (version_eq v w) (subst (λ (x : Version). version_eq v x ≡ true) (sym same) (itself v)))
+    by false (inl same) = inl same
+    by t (inr less) = inr (later (version_eq v w) less)
+
+-- a better version was answered by a server of the cell
+pub fetched_inside : (servers : ℕ) (poll : Polled) (own : Version) → IsPollOf servers poll → version_lt own (best_answer poll) ≡ true →
+    first_with (best_answer poll) poll.answers < servers
+fetched_inside servers poll own is better = by (best_there poll.answers zero_version (best_answer poll) refl)
+  where
+    by : (zero_version ≡ best_answer poll) ⊎ (first_with (best_answer poll) poll.answers < length poll.answers) →
+        first_with (best_answer poll) poll.answers < servers
+    by (inl same) =
+        let above : version_lt own zero_version ≡ true = subst (λ (v : Version). version_lt own v ≡ true) (sym same) better in
+        absurd (true≢false (sym above ∙ lt_zero own))
+    by (inr less) = subst (λ (n : ℕ). first_with (best_answer poll) poll.answers < n) is.each less
+
+-- ---- phases
+
+pub told_is : (servers : ℕ) (phase : PhaseRecord) (own : Version) → IsPhaseOf servers phase → IsVersion own →
+    IsVersion (told_version phase own)
+told_is servers NoPhase own phase is = is
+told_is servers (Poll poll) own phase is = is
+told_is servers (Fetch poll best host) own phase is = is
+told_is servers (Relabel poll) own phase is = is
+told_is servers (Send poll spread) own phase is = is
+told_is servers (Ready poll spread announced) own phase is = phase.2
+
+pub held_is : (servers : ℕ) (phase : PhaseRecord) (k : ℕ) → IsPhaseOf servers phase → IsPhaseOf servers (held_by phase k)
+held_is servers NoPhase k is = is
+held_is servers (Poll poll) k is = is
+held_is servers (Fetch poll best host) k is = is
+held_is servers (Relabel poll) k is = is
+held_is servers (Send poll spread) k is = is
+held_is servers (Ready poll spread announced) k is = is
+
+-- ---- servers
+
+pub phase_is : (servers : ℕ) (s : Server) (phase : PhaseRecord) → IsPhaseOf servers phase → HasNoWrite servers s →
+    HasNoWrite servers (with_phase s phase)
+phase_is servers s phase is good = record {
+  version = good.version;
+  phase = is;
+  received =
+      cond_both (is_fetch s.phase) None (cond (is_fetch phase) None s.received) IsReceived (λ _. tt)
+      (λ _. cond_both (is_fetch phase) None s.received IsReceived (λ _. tt) (λ _. good.received));
+  kept = good.kept;
+  flight = good.flight;
+  waiting = good.waiting;
+}
+
+pub database_is : (servers : ℕ) (s : Server) (v : Version) (image : List ℕ) → IsVersion v → HasNoWrite servers s →
+    HasNoWrite servers (with_database s v image)
+database_is servers s v image is good = record {
+  version = is;
+  phase = good.phase;
+  received = tt;
+  kept = refl;
+  flight = good.flight;
+  waiting = good.waiting;
+}
+
+pub received_is : (servers : ℕ) (s : Server) (text : ReceivedText) → IsTextOf text → HasNoWrite servers s →
+    HasNoWrite servers (record s { received = Some text })
+received_is servers s text is good = record {
+  version = good.version;
+  phase = good.phase;
+  received = is;
+  kept = good.kept;
+  flight = good.flight;
+  waiting = good.waiting;
+}
+
+-- ---- received texts
+
+pub text_is : (may_begin : Bool) (k : ℕ) (version : Version) (total at : ℕ) (bytes : List ℕ) (before : Option ReceivedText) →
+    IsVersion version → IsReceived before → IsReceived (text_with may_begin k version total at bytes before)
+text_is may_begin k version total at bytes before is old =
+    cond_both (piece_fits total at bytes)
+    (cond (at == 0) (cond may_begin (Some (text_begun k version total bytes)) None) (text_continued k version total at bytes before)) None
+    IsReceived
+    (λ fits. cond_both (at == 0) (cond may_begin (Some (text_begun k version total bytes)) None)
+    (text_continued k version total at bytes before) IsReceived (λ _. begun fits may_begin) (λ _. continued fits before old))
+    (λ _. tt)
+  where
+    within : piece_fits total at bytes ≡ true → (total ≤ MAX_IMAGE) × (at + length bytes ≤ total)
+    within fits =
+        let both = and_both (nat_le total MAX_IMAGE) (nat_le (at + length bytes) total) fits in (le_true _ _ both.0, le_true _ _ both.1)
+
+    begun : piece_fits total at bytes ≡ true → (b : Bool) → IsReceived (cond b (Some (text_begun k version total bytes)) None)
+    begun fits true =
+        let end : at + length bytes ≤ total = (within fits).1 in record { version = is; total = (within fits).0; front = omega arith }
+    begun fits false = tt
+
+    longer : (text : ReceivedText) → at + length bytes ≤ total → text.total ≡ total → length text.bytes ≡ at →
+        length (text.bytes ++ bytes) ≤ text.total
+    longer text end same here = let whole = length-append text.bytes bytes in omega arith
+
+    continued : piece_fits total at bytes ≡ true → (text : Option ReceivedText) → IsReceived text →
+        IsReceived (text_continued k version total at bytes text)
+    continued fits None old = tt
+    continued fits (Some text) old =
+        cond_both (continues k version total at text) (Some (record text { bytes = text.bytes ++ bytes })) None IsReceived
+        (λ goes.
+        let first = and_both (text.server == k && version_eq text.version version && text.total == total) (length text.bytes == at) goes in
+        let second = and_both (text.server == k && version_eq text.version version) (text.total == total) first.0 in
+        record {
+          version = old.version;
+          total = old.total;
+          front = longer text (within fits).1 (eq_true text.total total second.1) (eq_true (length text.bytes) at first.1);
+        })
+        (λ _. tt)
+
+-- a whole text is no longer than the longest image
+pub whole_fits : (text : ReceivedText) → IsTextOf text → length text.bytes ≤ MAX_IMAGE
+whole_fits text is = let total : text.total ≤ MAX_IMAGE = is.total in let front : length text.bytes ≤ text.total = is.front in omega arith
+
+-- ---- hosts
+
+abbrev pub HasPlace : List Host → Host → Type 0
+HasPlace hosts host = IsSome (place_of hosts host)
+
+-- the host of each place of the cell
+pub host_placed : (hosts : List Host) (k : ℕ) → k < length hosts → HasPlace hosts (host_at hosts k)
+host_placed hosts k inside = own_place (record { hosts = hosts; me = k }) inside
+
+-- each host from a place on
+from_placed : (hosts : List Host) (k : ℕ) (rest : List Host) → ((i : ℕ) (host : Host) → slice_get rest i ≡ Some host →
+    slice_get hosts (i + k) ≡ Some host) → AllByRecursion (HasPlace hosts) rest
+from_placed hosts k [] there = tt
+from_placed hosts k (host ∷ rest) there = (
+  place_there hosts host k (there 0 host refl),
+  from_placed hosts (suc k) rest
+      (λ i h at. subst (λ (n : ℕ). slice_get hosts n ≡ Some h) (shift i k) (there (suc i) h at)),
+)
+  where
+    shift : (i k : ℕ) → suc i + k ≡ i + suc k
+    shift i k = omega arith
+
+pub all_placed : (hosts : List Host) → AllByRecursion (HasPlace hosts) hosts
+all_placed hosts = from_placed hosts 0 hosts (λ i host at. subst (λ (n : ℕ). slice_get hosts n ≡ Some host) (plus_none i) at)
+  where
+    plus_none : (i : ℕ) → i ≡ i + 0
+    plus_none i = omega arith
+
+-- ---- bodies
+
+pub piece_short : (bytes : List ℕ) (at : ℕ) → length (piece_from bytes at) ≤ MAX_PIECE
+piece_short bytes at =
+    subst (λ (n : ℕ). n ≤ MAX_PIECE) (sym (length-take MAX_PIECE (drop at bytes))) (min-le_left MAX_PIECE (length (drop at bytes)))
+
+pub version_body : (poll : ℕ) (v : Version) → IsVersion v → IsRecoveryBody (body.VersionIs poll v)
+version_body poll v is = record { kind = tt; bounded = (tt, is, tt) }
+
+pub kept_body : (v : Version) → IsVersion v → IsRecoveryBody (body.VersionKept v)
+kept_body v is = record { kind = tt; bounded = (is, tt) }
+
+pub asked_body : (poll : ℕ) (v : Version) (at : ℕ) → IsVersion v → IsRecoveryBody (body.GetPiece poll v at)
+asked_body poll v at is = record { kind = tt; bounded = (tt, is, tt, tt) }
+
+pub sent_body : (s : Server) (poll at : ℕ) → IsVersion s.version → IsRecoveryBody (sent_piece s poll at)
+sent_body s poll at is = record { kind = tt; bounded = (tt, is, tt, tt, piece_short s.image at, tt) }
+
+pub spread_body : (s : Server) (poll : ℕ) (old : Version) (has_old : Bool) → IsVersion old → IsVersion s.version →
+    IsRecoveryBody (spread_to s poll old has_old)
+spread_body s poll old true before is = record { kind = tt; bounded = (tt, before, is, tt) }
+spread_body s poll old false before is = sent_body s poll 0 is
+
+-- packets to one place, if any
+pub bodies_if : (test : Bool) (bodies : List Body) → AllByRecursion IsRecoveryBody bodies →
+    AllByRecursion IsRecoveryBody (cond test [] bodies)
+bodies_if true bodies all = tt
+bodies_if false bodies all = all
