@@ -244,13 +244,16 @@ from_placed : (hosts : List Host) (k : ℕ) (rest : List Host) → ((i : ℕ) (h
     slice_get hosts (i + k) ≡ Some host) → AllByRecursion (HasPlace hosts) rest
 from_placed hosts k [] there = tt
 from_placed hosts k (host ∷ rest) there = (
-  place_there hosts host k (there 0 host refl),
+  place_there hosts host k (subst (λ (n : ℕ). slice_get hosts n ≡ Some host) (none_plus k) (there 0 host refl)),
   from_placed hosts (suc k) rest
       (λ i h at. subst (λ (n : ℕ). slice_get hosts n ≡ Some h) (shift i k) (there (suc i) h at)),
 )
   where
     shift : (i k : ℕ) → suc i + k ≡ i + suc k
     shift i k = omega arith
+
+    none_plus : (k : ℕ) → 0 + k ≡ k
+    none_plus k = omega arith
 
 pub all_placed : (hosts : List Host) → AllByRecursion (HasPlace hosts) hosts
 all_placed hosts = from_placed hosts 0 hosts (λ i host at. subst (λ (n : ℕ). slice_get hosts n ≡ Some host) (plus_none i) at)
@@ -265,20 +268,20 @@ piece_short bytes at =
     subst (λ (n : ℕ). n ≤ MAX_PIECE) (sym (length-take MAX_PIECE (drop at bytes))) (min-le_left MAX_PIECE (length (drop at bytes)))
 
 pub version_body : (poll : ℕ) (v : Version) → IsVersion v → IsRecoveryBody (body.VersionIs poll v)
-version_body poll v is = record { kind = tt; bounded = (tt, is, tt) }
+version_body poll v is = record { kind = tt; bounded = (tt, (is, tt)) }
 
 pub kept_body : (v : Version) → IsVersion v → IsRecoveryBody (body.VersionKept v)
 kept_body v is = record { kind = tt; bounded = (is, tt) }
 
 pub asked_body : (poll : ℕ) (v : Version) (at : ℕ) → IsVersion v → IsRecoveryBody (body.GetPiece poll v at)
-asked_body poll v at is = record { kind = tt; bounded = (tt, is, tt, tt) }
+asked_body poll v at is = record { kind = tt; bounded = (tt, (is, (tt, tt))) }
 
 pub sent_body : (s : Server) (poll at : ℕ) → IsVersion s.version → IsRecoveryBody (sent_piece s poll at)
-sent_body s poll at is = record { kind = tt; bounded = (tt, is, tt, tt, piece_short s.image at, tt) }
+sent_body s poll at is = record { kind = tt; bounded = (tt, (is, (tt, (tt, (piece_short s.image at, tt))))) }
 
 pub spread_body : (s : Server) (poll : ℕ) (old : Version) (has_old : Bool) → IsVersion old → IsVersion s.version →
     IsRecoveryBody (spread_to s poll old has_old)
-spread_body s poll old true before is = record { kind = tt; bounded = (tt, before, is, tt) }
+spread_body s poll old true before is = record { kind = tt; bounded = (tt, (before, (is, tt))) }
 spread_body s poll old false before is = sent_body s poll 0 is
 
 -- packets to one place, if any

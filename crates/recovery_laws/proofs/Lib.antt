@@ -1,1 +1,6 @@
+mod Events
+mod Facts
+mod Goes
+mod Recovering
+mod Spreading
 mod Standing

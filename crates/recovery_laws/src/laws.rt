@@ -4,6 +4,7 @@ ghost use Rattle.recovery_laws.specs.Stands.{ImagesStand};
 
 use cell_pages::law_one_label;
 use db_image::DraftService;
+use ubik_calls::packets_are_as_long_as_said;
 
 /// A server of a cell of any size that has no write in flight stays one in each event that it takes: in votes and recovery, and, in a cell
 /// of one alone, in calls that write. It sends packets of votes and recovery alone, from host to host of the cell, and each of them has a
@@ -11,7 +12,9 @@ use db_image::DraftService;
 /// asked in that event. A server that was just opened is one.
 pub fn law_recovery_spreads()
     ensures { RecoverySpreads }
-{}
+{
+    packets_are_as_long_as_said();
+}
 
 /// In each cell, whatever happens, the image of each durable state stands for a state of the database, and so does that of each server that
 /// is up, and of each piece of an image that was ever sent; and the image that is left where a server stops, or its disk fails, after the first
