@@ -24,7 +24,7 @@ use Rattle.cell_model.specs.Step.{Member, cell_size, host_at, is_fetch, told_ver
 use Rattle.cell_model.specs.Writes.{next_version}
 use Rattle.cell_model.proofs.StepKinds.{lt_zero}
 use Rattle.cell_model.proofs.Voters.{own_place, place_there}
-use Rattle.cell_laws.proofs.Parts.{lt_true, eq_true, and_both, no}
+use Rattle.cell_laws.proofs.Parts.{eq_true, and_both, no}
 use Rattle.recovery_laws.specs.HasNoWrite.{IsAnswer, IsPollOf, IsPhaseOf, IsTextOf, IsReceived, HasNoWrite, IsRecoveryBody}
 
 le_true : (a b : ℕ) → nat_le a b ≡ true → a ≤ b

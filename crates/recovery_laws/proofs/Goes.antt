@@ -1,18 +1,17 @@
 -- What a part of a step shows and makes durable, and how parts follow one another.
-use Rattle.std.proofs.Common.{Bool, true, false, cond, ◌==◌, ◌≡◌, ℕ, zero, suc, ◌+◌, ◌<◌, ◌≤◌, List, [], ◌∷◌, ◌++◌, length, map, refl, sym, ap, subst, ◌∙◌, arith}
+use Rattle.std.proofs.Common.{Bool, true, false, cond, ◌==◌, ◌≡◌, ℕ, zero, ◌+◌, ◌<◌, ◌≤◌, List, [], ◌∷◌, ◌++◌, length, map, refl, sym, ap, subst, ◌∙◌, arith}
 use Rattle.std.proofs.lemmas.List.{length-append}
 use Rattle.std.proofs.lemmas.List.Elements.{All-nil, All-cons}
 use Rattle.std.specs.List.{AllByRecursion}
-use Rattle.std.specs.Prelude.{Option, Some, None, All}
+use Rattle.std.specs.Prelude.{Option, All}
 use Rattle.ubik_types.specs.declared.hosts.Host.{Host}
 use Rattle.ubik_calls.specs.declared.packets.Body.{Body}
-use Rattle.ubik_calls.specs.declared.packets.Packet.{Packet}
 use Rattle.cell_model.specs.declared.events.NodeEvent.{NodeEvent}
 use Rattle.cell_model.specs.declared.events.Output.{Output}
 use Rattle.cell_model.specs.declared.events.Output.TheVariants as output
 use Rattle.cell_model.specs.Durable.{Durable, Made, durable_after, durable_after_all}
 use Rattle.cell_model.specs.Node.{Server}
-use Rattle.cell_model.specs.Step.{Member, cell_size, Evaluation, Shown, Stepped, quiet, showing, followed, host_at, packet_to, sent, sends_to, sends_from, sends_to_each}
+use Rattle.cell_model.specs.Step.{Member, cell_size, Evaluation, Shown, Stepped, quiet, showing, followed, packet_to, sent, sends_to, sends_from, sends_to_each}
 use Rattle.cell_model.specs.Voters.{IsOkOf, AnswersCall, AsksNoOther}
 use Rattle.cell_model.specs.World.{packets_of}
 use Rattle.recovery_laws.specs.HasNoWrite.{HasNoWrite, IsRecoveryBody, IsRecoveryPacket}

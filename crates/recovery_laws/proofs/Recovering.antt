@@ -1,16 +1,15 @@
 -- Recovery and its packets keep a server without a write so.
-use Rattle.std.proofs.Common.{Bool, true, false, cond, ◌==◌, ◌≡◌, ℕ, ◌+◌, ◌<◌, ◌≤◌, List, [], ◌∷◌, length, map, refl, arith}
+use Rattle.std.proofs.Common.{Bool, true, cond, ◌==◌, ◌≡◌, ℕ, ◌+◌, ◌<◌, List, [], ◌∷◌, length, map, refl, arith}
 use Rattle.std.proofs.lemmas.Bool.{cond_both}
 use Rattle.std.specs.List.{AllByRecursion}
 use Rattle.std.specs.Prelude.{Option, Some, None, ◌&&◌, not, nat_lt, is_some}
 use Rattle.ubik_types.specs.declared.hosts.Host.{Host}
-use Rattle.ubik_types.specs.declared.limits.TheConstants.{MAX_IMAGE, SMALLTIME}
+use Rattle.ubik_types.specs.declared.limits.TheConstants.{SMALLTIME}
 use Rattle.ubik_types.specs.declared.versions.Version.{Version}
 use Rattle.ubik_types.specs.Moment.{IsMoment}
 use Rattle.ubik_types.specs.Phase.{Polled, Spread, PhaseRecord, NoPhase, Poll, Fetch, Relabel, Send, Ready}
 use Rattle.ubik_types.specs.Quorum.{is_majority}
 use Rattle.ubik_types.specs.Version.{IsVersion, version_lt, version_eq}
-use Rattle.ubik_calls.specs.declared.packets.Body.{Body}
 use Rattle.ubik_calls.specs.declared.packets.Body.TheVariants as body
 use Rattle.db_image.specs.Database.{Database}
 use Rattle.cell_model.specs.declared.events.NodeEvent.{NodeEvent}
@@ -20,16 +19,14 @@ use Rattle.cell_model.specs.Node.{Server, ReceivedText, Flight, Waiting}
 use Rattle.cell_model.specs.Polls.{new_poll, polling, with_answer, best_answer, first_with, entry_at, is_marked}
 use Rattle.cell_model.specs.Recovery.{asks_versions, has_answered, spread_answer, first_of_epoch, own_relabelling, relabelled_to, relabelled, polled}
 use Rattle.cell_model.specs.Recovery.{fetched_from, poll_asked, poll_begun, bytes_received, spread_bodies, spread_again, recovered, held_by, holder_added}
-use Rattle.cell_model.specs.Recovery.{lacking_sent, told_to_spread, fetch_refused, version_is_received, version_kept_received, next_sent}
+use Rattle.cell_model.specs.Recovery.{lacking_sent, told_to_spread, version_is_received, version_kept_received, next_sent}
 use Rattle.cell_model.specs.Recovery.{piece_kept_received, text_with, is_whole, installed, fetch_installed, fetch_went_on, piece_received}
-use Rattle.cell_model.specs.Step.{Member, cell_size, Stepped, quiet, showing, followed, leased, host_at, with_phase, with_database, short_after}
-use Rattle.cell_model.specs.Writes.{flight_settled, settled_in, settled, next_turns, settled_with_turns}
-use Rattle.cell_laws.proofs.Parts.{eq_true}
+use Rattle.cell_model.specs.Step.{Member, cell_size, Stepped, showing, leased, host_at, with_phase, with_database, short_after}
+use Rattle.cell_model.specs.Writes.{flight_settled, settled_in, settled, next_turns}
 use Rattle.recovery_laws.specs.HasNoWrite.{IsPollOf, IsPhaseOf, IsReceived, IsTextOf, HasNoWrite, IsRecoveryBody}
-use Rattle.recovery_laws.specs.Spreads.{durable_of}
 use Rattle.recovery_laws.proofs.Facts.{HasPlace, host_placed, first_is, new_poll_is, answered_is, best_answer_is, fetched_inside, held_is}
 use Rattle.recovery_laws.proofs.Facts.{phase_is, database_is, received_is, text_is, whole_fits, asked_body, sent_body, spread_body, bodies_if}
-use Rattle.recovery_laws.proofs.Goes.{Goes, AllFine, one_fine, each_fine, turns, shows, rests, makes, follows, before, within}
+use Rattle.recovery_laws.proofs.Goes.{Goes, one_fine, each_fine, turns, shows, rests, makes, follows, before, within}
 
 module _ (m : Member) (now : ℕ) (e : NodeEvent) (inside : m.me < cell_size m) (moment : IsMoment now) where
   abbrev Good : Server → Type 0

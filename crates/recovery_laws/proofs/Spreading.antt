@@ -1,5 +1,5 @@
 -- A server without a write stays one, and each packet that it takes or sends has a spelling.
-use Rattle.std.proofs.Common.{◌≡◌, ℕ, ◌+◌, ◌-◌, ◌%◌, ◌<◌, ◌≤◌, List, [], length, refl, arith}
+use Rattle.std.proofs.Common.{◌≡◌, ℕ, ◌+◌, ◌-◌, ◌%◌, ◌<◌, ◌≤◌, List, length, refl, arith}
 use Rattle.std.proofs.Math.Nat.{mod-lt}
 use Rattle.std.proofs.lemmas.List.{length-append}
 use Rattle.std.specs.Prelude.{◌^◌}
@@ -10,7 +10,7 @@ use Rattle.ubik_calls.specs.declared.packets.Body.TheVariants as body
 use Rattle.ubik_calls.specs.declared.packets.TheConstants.{MAX_PIECE}
 use Rattle.ubik_calls.specs.Laws.{PacketsAreSoLong}
 use Rattle.ubik_calls.specs.Length.{HasShortBytes, body_length, packet_length}
-use Rattle.ubik_calls.specs.WireGrammar.{HasSpelling, behind_length, spelling}
+use Rattle.ubik_calls.specs.WireGrammar.{behind_length, spelling}
 use Rattle.xdr_base.specs.Spelling.{word, padding}
 use Rattle.cell_model.specs.NodeRule.{step_of}
 use Rattle.recovery_laws.specs.HasNoWrite.{IsRecoveryBody}

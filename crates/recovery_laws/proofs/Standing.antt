@@ -1,6 +1,6 @@
 -- Images stand for states of the database along each run, and within each step.
-use Rattle.std.proofs.Common.{Bool, true, false, not, ◌&&◌, ◌≡◌, ℕ, zero, suc, List, [], ◌∷◌, ◌++◌, take, refl, sym, ap, subst, ◌∙◌}
-use Rattle.std.specs.Prelude.{Option, Some, set, slice_get}
+use Rattle.std.proofs.Common.{Bool, true, false, not, ◌&&◌, ◌≡◌, ℕ, zero, suc, List, [], ◌∷◌, ◌++◌, refl, sym, ap, subst, ◌∙◌}
+use Rattle.std.specs.Prelude.{Some, set, slice_get}
 use Rattle.ubik_types.specs.declared.hosts.Host.{Host}
 use Rattle.ubik_types.specs.declared.versions.Version.{Version}
 use Rattle.ubik_calls.specs.declared.packets.Body.{Body}
@@ -10,11 +10,10 @@ use Rattle.db_image.specs.Database.{Database}
 use Rattle.db_image.specs.Standing.{Standing}
 use Rattle.cell_model.specs.declared.events.NodeEvent.{NodeEvent}
 use Rattle.cell_model.specs.Book.{Book, Run, first_run, run_after, run_through}
-use Rattle.cell_model.specs.Durable.{Transaction, durable_after_all}
+use Rattle.cell_model.specs.Durable.{Transaction}
 use Rattle.cell_model.specs.Node.{Node, Up, Server}
-use Rattle.cell_model.specs.NodeRule.{step_of}
 use Rattle.cell_model.specs.SingleCopy.{image_from}
-use Rattle.cell_model.specs.World.{World, Site, Trigger, Event, Stop, Happened, SiteHappened, happened_at, happens_at, stop_at, occasion}
+use Rattle.cell_model.specs.World.{World, Site, Trigger, Event, Stop, Happened, SiteHappened, happened_at, happens_at, stop_at}
 use Rattle.cell_model.specs.World.{member, site_of, triggered, happens, is_down, is_new_ask, holds_at, occurs, may_stop, IsEvent, world_after}
 use Rattle.cell_model.specs.World.{IsFirst, IsRun, first_world}
 use Rattle.cell_pages.specs.Images.{IsImageOf}

@@ -1,10 +1,10 @@
 -- A server that takes part in votes and in recovery, and has no write in flight: what it knows, what it takes, and what it sends (own).
-use Rattle.std.specs.Prelude.{ℕ, ◌≡◌, ◌<◌, ◌≤◌, Bool, true, Option, Some, None, IsSome, List, [], ◌∷◌, length}
+use Rattle.std.specs.Prelude.{ℕ, ◌≡◌, ◌<◌, ◌≤◌, true, Option, Some, None, IsSome, List, [], length}
 use Rattle.std.specs.List.{AllByRecursion}
 use Rattle.ubik_types.specs.declared.hosts.Host.{Host}
 use Rattle.ubik_types.specs.declared.limits.TheConstants.{MAX_IMAGE}
 use Rattle.ubik_types.specs.declared.versions.Version.{Version}
-use Rattle.ubik_types.specs.Phase.{Polled, Spread, PhaseRecord, NoPhase, Poll, Fetch, Relabel, Send, Ready}
+use Rattle.ubik_types.specs.Phase.{Polled, PhaseRecord, NoPhase, Poll, Fetch, Relabel, Send, Ready}
 use Rattle.ubik_types.specs.Version.{IsVersion}
 use Rattle.ubik_calls.specs.declared.packets.Packet.{Packet}
 use Rattle.ubik_calls.specs.declared.packets.Body.{Body}
