@@ -1,8 +1,9 @@
 -- A server without a write stays one, and each packet that it takes or sends has a spelling.
-use Rattle.std.proofs.Common.{◌≡◌, ℕ, ◌+◌, ◌-◌, ◌%◌, ◌<◌, ◌≤◌, List, length, refl, arith}
+use Rattle.std.proofs.Common.{◌≡◌, ℕ, zero, suc, ◌+◌, ◌-◌, ◌%◌, ◌<◌, ◌≤◌, List, [], ◌∷◌, length, take, refl, arith}
 use Rattle.std.proofs.Math.Nat.{mod-lt}
 use Rattle.std.proofs.lemmas.List.{length-append}
 use Rattle.std.specs.Prelude.{◌^◌}
+use Rattle.ubik_types.specs.Version.{IsVersion}
 use Rattle.ubik_calls.specs.declared.frames.Frame.TheVariants as frame
 use Rattle.ubik_calls.specs.declared.packets.Packet.{Packet}
 use Rattle.ubik_calls.specs.declared.packets.Body.{Body}
@@ -12,9 +13,10 @@ use Rattle.ubik_calls.specs.Laws.{PacketsAreSoLong}
 use Rattle.ubik_calls.specs.Length.{HasShortBytes, body_length, packet_length}
 use Rattle.ubik_calls.specs.WireGrammar.{behind_length, spelling}
 use Rattle.xdr_base.specs.Spelling.{word, padding}
+use Rattle.cell_model.specs.Durable.{Durable, DurableCall, Commit, Relabel, Install, Made, durable_after, durable_after_all}
 use Rattle.cell_model.specs.NodeRule.{step_of}
 use Rattle.recovery_laws.specs.HasNoWrite.{IsRecoveryBody}
-use Rattle.recovery_laws.specs.Spreads.{NamesVersion, IsSentWhole, RecoverySpreads}
+use Rattle.recovery_laws.specs.Spreads.{FitsOver, AllFit, durable_of, NamesVersion, IsSentWhole, RecoverySpreads}
 use Rattle.recovery_laws.proofs.Events.{step_goes}
 use Rattle.recovery_laws.proofs.Goes.{fine_packets, fine_answers}
 
@@ -97,6 +99,20 @@ whole_packet long p is = record {
   };
 }
 
+-- ---- durable calls
+
+after_fits : (d : Durable) (call : DurableCall) → FitsOver d.image call → IsVersion (durable_after d call).version
+after_fits d (Commit version changes image) fits = fits.0
+after_fits d (Relabel version) fits = fits
+after_fits d (Install version image) fits = fits.0
+
+versions_within : (d : Durable) (calls : List Made) (made : ℕ) → IsVersion d.version → AllFit d calls →
+    IsVersion (durable_after_all d (take made calls)).version
+versions_within d calls zero is fits = is
+versions_within d [] (suc made) is fits = is
+versions_within d (first ∷ calls) (suc made) is fits =
+    versions_within (durable_after d first.call) calls made (after_fits d first.call fits.0) fits.1
+
 -- ---- steps
 
 pub recovery_spreads : PacketsAreSoLong → RecoverySpreads
@@ -109,6 +125,7 @@ recovery_spreads long = record {
         packets = fine_packets m e (step_of db m s now e short).shown goes.shown;
         fits = goes.fits;
         leads = goes.leads;
+        versions = λ made. versions_within (durable_of s) (step_of db m s now e short).calls made good.version goes.fits;
         few = goes.few;
       };
   answers = λ db m s now e short call inside moment good taken asks.

@@ -1,3 +1,4 @@
 pub mod HasNoWrite
+pub mod Memory
 pub mod Stands
 pub mod Spreads

@@ -1,5 +1,5 @@
 -- A server without a write in flight stays one, and what it sends and makes durable is bounded (own).
-use Rattle.std.specs.Prelude.{ℕ, ◌≡◌, ◌<◌, ◌≤◌, Bool, None, All, List, [], ◌∷◌, length}
+use Rattle.std.specs.Prelude.{ℕ, ◌≡◌, ◌<◌, ◌≤◌, Bool, None, All, List, [], ◌∷◌, length, take}
 use Rattle.ubik_types.specs.declared.hosts.Host.{Host}
 use Rattle.ubik_types.specs.declared.limits.TheConstants.{MAX_IMAGE}
 use Rattle.ubik_types.specs.Logged.{too_large}
@@ -41,12 +41,13 @@ durable_of s = durable s.version s.image
 -- ---- steps
 
 -- A step after which the server has no write either. It sends packets of votes and recovery alone, and makes at most two durable calls,
--- which fit, and lead to the database of the server.
+-- which fit, and lead to the database of the server; after the first so many of them the database has a version too.
 pub record IsRecoveryStep (m : Member) (s : Server) (t : Stepped) : Type 0 where
   pub server : HasNoWrite (cell_size m) t.server
   pub packets : All (IsRecoveryPacket m.hosts) (packets_of t.shown)
   pub fits : AllFit (durable_of s) t.calls
   pub leads : durable_after_all (durable_of s) t.calls ≡ durable_of t.server
+  pub versions : (made : ℕ) → IsVersion (durable_after_all (durable_of s) (take made t.calls)).version
   pub few : length t.calls ≤ 2
 
 -- what a server of code asks of a packet: the version that it may come to have by it is one

@@ -1,4 +1,5 @@
 //! Laws of recovery: each is the clause of a call that does nothing.
+ghost use Rattle.recovery_laws.specs.Memory.{MemoryIsTold};
 ghost use Rattle.recovery_laws.specs.Spreads.{RecoverySpreads};
 ghost use Rattle.recovery_laws.specs.Stands.{ImagesStand};
 
@@ -15,6 +16,12 @@ pub fn law_recovery_spreads()
 {
     packets_are_as_long_as_said();
 }
+
+/// At a server that has no write in flight, and at which no call waits, a step is the one for which all memory was found; or it kept the
+/// database, and told that memory was not found, and nothing else. So it is whatever the event.
+pub fn law_memory_is_told()
+    ensures { MemoryIsTold }
+{}
 
 /// In each cell, whatever happens, the image of each durable state stands for a state of the database, and so does that of each server that
 /// is up, and of each piece of an image that was ever sent; and the image that is left where a server stops, or its disk fails, after the first

@@ -4,4 +4,4 @@
 
 mod laws;
 
-pub use laws::{law_images_stand, law_recovery_spreads};
+pub use laws::{law_images_stand, law_memory_is_told, law_recovery_spreads};
