@@ -40,8 +40,9 @@ use Rattle.cell_model.specs.Voters.{IsOkOf, AsksNoOther}
 use Rattle.cell_model.specs.Voting.{own_beacon, beacon_turn, beacon_taken, beacon_received, vote_received}
 use Rattle.cell_model.specs.Writes.{announced_image, next_version, written_in, written_small, written_within, turned, last_counter}
 use Rattle.cell_model.proofs.StepKinds.{one_of, none_refused}
+use Rattle.cell_places.proofs.Hosts.{HasPlace}
 use Rattle.recovery_laws.specs.HasNoWrite.{IsPhaseOf, IsReceived, HasNoWrite, IsRecoveryBody, IsRecoveryPacket, IsTaken}
-use Rattle.recovery_laws.proofs.Facts.{HasPlace, next_is, told_is, phase_is, database_is, received_is, text_is, piece_short}
+use Rattle.recovery_laws.proofs.Facts.{next_is, told_is, phase_is, database_is, received_is, text_is, piece_short}
 use Rattle.recovery_laws.proofs.Facts.{version_body, kept_body}
 use Rattle.recovery_laws.proofs.Goes.{Goes, AllFine, one_fine, each_fine, turns, shows, rests, makes, follows, before, within}
 use Rattle.recovery_laws.proofs.Recovering.{polling_is, recovered_goes, version_is_goes, version_kept_goes, piece_kept_goes, installed_goes}

@@ -1,13 +1,12 @@
 -- Versions that polls name, texts that are received, hosts of a cell, and bodies of packets.
-use Rattle.std.proofs.Common.{Bool, true, false, cond, ◌==◌, ◌≡◌, ◌⊎◌, inl, inr, true≢false, ℕ, zero, suc, ◌+◌, ◌<◌, ◌≤◌, List, [], ◌∷◌, ◌++◌}
-use Rattle.std.proofs.Common.{length, refl, sym, ap, subst, ◌∙◌, arith}
+use Rattle.std.proofs.Common.{Bool, true, false, cond, ◌==◌, ◌≡◌, ℕ, zero, suc, ◌+◌, ◌<◌, ◌≤◌, List, [], ◌∷◌, ◌++◌}
+use Rattle.std.proofs.Common.{length, refl, sym, subst, ◌∙◌, arith}
 use Rattle.std.proofs.Math.Nat.{min-le_left}
 use Rattle.std.proofs.lemmas.Bool.{cond_both}
 use Rattle.std.proofs.lemmas.Bool.Decides.{nat_tests}
-use Rattle.std.proofs.lemmas.List.{length-append, length-replicate, length-set, length-take}
+use Rattle.std.proofs.lemmas.List.{length-append, length-set, length-take}
 use Rattle.std.specs.List.{AllByRecursion}
-use Rattle.std.specs.Prelude.{◌&&◌, ◌^◌, nat_le, Option, Some, None, IsSome, drop, replicate, set, slice_get}
-use Rattle.ubik_types.specs.declared.hosts.Host.{Host}
+use Rattle.std.specs.Prelude.{◌&&◌, ◌^◌, nat_le, Option, Some, None, drop, replicate, set}
 use Rattle.ubik_types.specs.declared.limits.TheConstants.{MAX_IMAGE}
 use Rattle.ubik_types.specs.declared.versions.Version.{Version}
 use Rattle.ubik_types.specs.Moment.{IsMoment}
@@ -17,15 +16,13 @@ use Rattle.ubik_calls.specs.declared.packets.TheConstants.{MAX_PIECE}
 use Rattle.ubik_calls.specs.declared.packets.Body.{Body}
 use Rattle.ubik_calls.specs.declared.packets.Body.TheVariants as body
 use Rattle.cell_model.specs.Node.{Server, ReceivedText}
-use Rattle.cell_model.specs.NodeRule.{place_of}
 use Rattle.cell_model.specs.Pieces.{piece_from}
-use Rattle.cell_model.specs.Polls.{new_poll, with_answer, best_version, best_answer, first_with, only_at}
+use Rattle.cell_model.specs.Polls.{new_poll, with_answer, best_version, best_answer, only_at}
 use Rattle.cell_model.specs.Recovery.{first_of_epoch, held_by, piece_fits, text_begun, continues, text_continued, text_with, sent_piece, spread_to}
-use Rattle.cell_model.specs.Step.{Member, cell_size, host_at, is_fetch, told_version, with_phase, with_database}
+use Rattle.cell_model.specs.Step.{Member, cell_size, is_fetch, told_version, with_phase, with_database}
 use Rattle.cell_model.specs.Writes.{next_version}
-use Rattle.cell_model.proofs.StepKinds.{lt_zero}
-use Rattle.cell_model.proofs.Voters.{own_place, place_there}
-use Rattle.cell_laws.proofs.Parts.{eq_true, and_both, no}
+use Rattle.cell_laws.proofs.Parts.{eq_true, and_both}
+use Rattle.cell_places.proofs.Hosts.{length-only}
 use Rattle.recovery_laws.specs.HasNoWrite.{IsAnswer, IsPollOf, IsPhaseOf, IsTextOf, IsReceived, HasNoWrite, IsRecoveryBody}
 
 le_true : (a b : ℕ) → nat_le a b ≡ true → a ≤ b
@@ -43,9 +40,6 @@ pub next_is : (v : Version) → (v.counter == 2147483647) ≡ false → IsVersio
 next_is v other is =
     let below : v.counter < 2 ^ 31 = is.counter in record { epoch = is.epoch; counter = grind (arith, nat_tests) }
 
-itself : (v : Version) → version_eq v v ≡ true
-itself v = grind (arith, nat_tests)
-
 -- ---- answers
 
 all_set : (answers : List (Option Version)) (k : ℕ) (v : Version) → IsVersion v → AllByRecursion IsAnswer answers →
@@ -62,11 +56,6 @@ all_only : (n me : ℕ) (v : Version) → IsVersion v → AllByRecursion IsAnswe
 all_only zero me v is = tt
 all_only (suc n) zero v is = (is, all_none n)
 all_only (suc n) (suc me) v is = (tt, all_only n me v is)
-
-length-only : (n me : ℕ) (one others : Option Version) → length (only_at one others n me) ≡ n
-length-only zero me one others = refl
-length-only (suc n) zero one others = ap suc (length-replicate n others)
-length-only (suc n) (suc me) one others = ap suc (length-only n me one others)
 
 pub new_poll_is : (m : Member) (s : Server) (now : ℕ) → IsVersion s.version → IsPollOf (cell_size m) (new_poll m s now)
 new_poll_is m s now is = record {
@@ -92,44 +81,6 @@ best_is (Some v ∷ answers) best is all =
 
 pub best_answer_is : (servers : ℕ) (poll : Polled) → IsPollOf servers poll → IsVersion (best_answer poll)
 best_answer_is servers poll is = best_is poll.answers zero_version zero_is is.answers
-
--- it is an answer, or that with which it begins
-best_there : (answers : List (Option Version)) (best v : Version) → best_version best answers ≡ v →
-    (best ≡ v) ⊎ (first_with v answers < length answers)
-best_there [] best v is = inl is
-best_there (None ∷ answers) best v is = later (best_there answers best v is)
-  where
-    later : (best ≡ v) ⊎ (first_with v answers < length answers) → (best ≡ v) ⊎ (first_with v answers + 1 < suc (length answers))
-    later (inl same) = inl same
-    later (inr less) = inr (omega arith)
-best_there (Some w ∷ answers) best v is =
-    by (version_lt best w) (best_there answers (cond (version_lt best w) w best) v is)
-  where
-    found : (t : Bool) → t ≡ true → cond t 0 (first_with v answers + 1) < suc (length answers)
-    found true at = omega arith
-    found false at = no at
-
-    later : (t : Bool) → first_with v answers < length answers → cond t 0 (first_with v answers + 1) < suc (length answers)
-    later true less = omega arith
-    later false less = omega arith
-
-    by : (t : Bool) → (cond t w best ≡ v) ⊎ (first_with v answers < length answers) →
-        (best ≡ v) ⊎ (cond (version_eq v w) 0 (first_with v answers + 1) < suc (length answers))
-    by true (inl same) = inr (found (version_eq v w) (subst (λ (x : Version). version_eq v x ≡ true) (sym same) (itself v)))
-    by false (inl same) = inl same
-    by t (inr less) = inr (later (version_eq v w) less)
-
--- a better version was answered by a server of the cell
-pub fetched_inside : (servers : ℕ) (poll : Polled) (own : Version) → IsPollOf servers poll → version_lt own (best_answer poll) ≡ true →
-    first_with (best_answer poll) poll.answers < servers
-fetched_inside servers poll own is better = by (best_there poll.answers zero_version (best_answer poll) refl)
-  where
-    by : (zero_version ≡ best_answer poll) ⊎ (first_with (best_answer poll) poll.answers < length poll.answers) →
-        first_with (best_answer poll) poll.answers < servers
-    by (inl same) =
-        let above : version_lt own zero_version ≡ true = subst (λ (v : Version). version_lt own v ≡ true) (sym same) better in
-        absurd (true≢false (sym above ∙ lt_zero own))
-    by (inr less) = subst (λ (n : ℕ). first_with (best_answer poll) poll.answers < n) is.each less
 
 -- ---- phases
 
@@ -230,37 +181,6 @@ text_is may_begin k version total at bytes before is old =
 -- a whole text is no longer than the longest image
 pub whole_fits : (text : ReceivedText) → IsTextOf text → length text.bytes ≤ MAX_IMAGE
 whole_fits text is = let total : text.total ≤ MAX_IMAGE = is.total in let front : length text.bytes ≤ text.total = is.front in omega arith
-
--- ---- hosts
-
-abbrev pub HasPlace : List Host → Host → Type 0
-HasPlace hosts host = IsSome (place_of hosts host)
-
--- the host of each place of the cell
-pub host_placed : (hosts : List Host) (k : ℕ) → k < length hosts → HasPlace hosts (host_at hosts k)
-host_placed hosts k inside = own_place (record { hosts = hosts; me = k }) inside
-
--- each host from a place on
-from_placed : (hosts : List Host) (k : ℕ) (rest : List Host) → ((i : ℕ) (host : Host) → slice_get rest i ≡ Some host →
-    slice_get hosts (i + k) ≡ Some host) → AllByRecursion (HasPlace hosts) rest
-from_placed hosts k [] there = tt
-from_placed hosts k (host ∷ rest) there = (
-  place_there hosts host k (subst (λ (n : ℕ). slice_get hosts n ≡ Some host) (none_plus k) (there 0 host refl)),
-  from_placed hosts (suc k) rest
-      (λ i h at. subst (λ (n : ℕ). slice_get hosts n ≡ Some h) (shift i k) (there (suc i) h at)),
-)
-  where
-    shift : (i k : ℕ) → suc i + k ≡ i + suc k
-    shift i k = omega arith
-
-    none_plus : (k : ℕ) → 0 + k ≡ k
-    none_plus k = omega arith
-
-pub all_placed : (hosts : List Host) → AllByRecursion (HasPlace hosts) hosts
-all_placed hosts = from_placed hosts 0 hosts (λ i host at. subst (λ (n : ℕ). slice_get hosts n ≡ Some host) (plus_none i) at)
-  where
-    plus_none : (i : ℕ) → i ≡ i + 0
-    plus_none i = omega arith
 
 -- ---- bodies
 

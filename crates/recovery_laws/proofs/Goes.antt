@@ -14,9 +14,9 @@ use Rattle.cell_model.specs.Node.{Server}
 use Rattle.cell_model.specs.Step.{Member, cell_size, Evaluation, Shown, Stepped, quiet, showing, followed, packet_to, sent, sends_to, sends_from, sends_to_each}
 use Rattle.cell_model.specs.Voters.{IsOkOf, AnswersCall, AsksNoOther}
 use Rattle.cell_model.specs.World.{packets_of}
+use Rattle.cell_places.proofs.Hosts.{HasPlace, all_placed, host_placed}
 use Rattle.recovery_laws.specs.HasNoWrite.{HasNoWrite, IsRecoveryBody, IsRecoveryPacket}
 use Rattle.recovery_laws.specs.Spreads.{FitsOver, AllFit, durable_of}
-use Rattle.recovery_laws.proofs.Facts.{HasPlace, all_placed, host_placed}
 
 -- ---- what is shown
 

@@ -23,8 +23,9 @@ use Rattle.cell_model.specs.Recovery.{lacking_sent, told_to_spread, version_is_r
 use Rattle.cell_model.specs.Recovery.{piece_kept_received, text_with, is_whole, installed, fetch_installed, fetch_went_on, piece_received}
 use Rattle.cell_model.specs.Step.{Member, cell_size, Stepped, showing, leased, host_at, with_phase, with_database, short_after}
 use Rattle.cell_model.specs.Writes.{flight_settled, settled_in, settled, next_turns}
+use Rattle.cell_places.proofs.Hosts.{HasPlace, host_placed, fetched_inside}
 use Rattle.recovery_laws.specs.HasNoWrite.{IsPollOf, IsPhaseOf, IsReceived, IsTextOf, HasNoWrite, IsRecoveryBody}
-use Rattle.recovery_laws.proofs.Facts.{HasPlace, host_placed, first_is, new_poll_is, answered_is, best_answer_is, fetched_inside, held_is}
+use Rattle.recovery_laws.proofs.Facts.{first_is, new_poll_is, answered_is, best_answer_is, held_is}
 use Rattle.recovery_laws.proofs.Facts.{phase_is, database_is, received_is, text_is, whole_fits, asked_body, sent_body, spread_body, bodies_if}
 use Rattle.recovery_laws.proofs.Goes.{Goes, one_fine, each_fine, turns, shows, rests, makes, follows, before, within}
 
@@ -95,7 +96,7 @@ module _ (m : Member) (now : ℕ) (e : NodeEvent) (inside : m.me < cell_size m) 
       fetches : version_lt s.version (best_answer poll) ≡ true →
           Goes 1 m e s (fetched_from m s poll best from)
       fetches better =
-          let there : from < cell_size m = fetched_inside (cell_size m) poll s.version is better in
+          let there : from < cell_size m = fetched_inside (cell_size m) poll s.version is.each better in
           turns m e 1 s (with_phase s (Fetch poll best from)) _ refl
           (phase_is (cell_size m) s (Fetch poll best from) (is, best_answer_is (cell_size m) poll is, there) good)
           (one_fine m e inside (host_at m.hosts from) (body.GetPiece poll.number best 0) (host_placed m.hosts from there)

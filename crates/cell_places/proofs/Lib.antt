@@ -1,0 +1,4 @@
+mod Asking
+pub mod Hosts
+mod Placed
+mod Placing
