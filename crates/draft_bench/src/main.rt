@@ -2,9 +2,12 @@
 //! are `newentry` or `nametoid`, and how many calls are made. Without words it does nothing, and reads nothing.
 #![tactic(auto)]
 
-ghost use Rattle.std.specs.Prelude.{◌<◌, ◌≤◌, ◌^◌, IfOk, length};
+ghost use Rattle.std.specs.Prelude.{◌≡◌, ◌<◌, ◌^◌, Ok, true, IfSome, length};
+ghost use Rattle.prdb_entries.specs.Registry.{Registry};
+ghost use Rattle.pt_calls.specs.Standing.{StandsFor};
+ghost use Rattle.draft_bench.specs.Turns.{after_calls};
 
-use bench_calls::{Asked, call_of};
+use bench_calls::{Asked, Idle, Task, call_of, task_of};
 use db_image::{CallEnd, Draft, DraftService, ImageRead, VecImage};
 use pt_calls::PtService;
 use std::alloc::Global;
@@ -22,60 +25,53 @@ const WORDS: u8 = 6;
 /// The moment of each call.
 const MOMENT: u32 = 1076;
 
-/// Makes so many calls one after the other over a draft, and says how many of them took place.
+/// Makes so many calls one after the other over a draft, until one of them does not take place; whether each did.
 fn called_often<I: ImageRead>(
     alloc: Global,
     d: &mut Draft<I>,
     asked: Asked,
     times: u32,
-) -> Result<u32, NoMemory>
-    ensures { IfOk result (λ done. done ≤ times) }
+) -> Result<bool, NoMemory>
+    // All of them: the draft holds what so many calls lead to, one a turn.
+    ensures { result ≡ Ok true → IfSome d.old.bytes (λ image. (r : Registry) → StandsFor image r
+        → d.new.bytes ≡ after_calls asked times image) }
 {
-    let mut done = 0;
     for turn in 0..times {
         if d.len() as usize > MAX_IMAGE {
-            break;
+            return Ok(false);
         }
         let call = call_of(alloc, asked, turn)?;
-        if let CallEnd::Done(_) = PtService::call(alloc, d, MOMENT, call.as_slice()) {
-            done += 1;
+        match PtService::call(alloc, d, MOMENT, call.as_slice()) {
+            CallEnd::Done(_) => {}
+            _ => return Ok(false),
         }
     }
-    Ok(done)
+    Ok(true)
 }
 
 /// Makes so many calls over an image of these bytes; whether each of them took place.
-fn is_done(alloc: Global, bytes: &[u8], asked: Asked, times: u32) -> Result<bool, NoMemory>
+fn is_done(alloc: Global, bytes: &[u8], task: Task) -> Result<bool, NoMemory>
     requires { length bytes.now < 2 ^ 32 }
 {
     let image = VecImage::new(alloc, bytes)?;
     let mut d = PtService::draft(alloc, image);
-    Ok(called_often(alloc, &mut d, asked, times)? == times)
+    called_often(alloc, &mut d, task.asked, task.times)
 }
 
 fn main(rt: HostRuntime) -> ExitCode {
-    let Ok(mut words) = env::args(&rt) else {
+    let Ok(words) = env::args(&rt) else {
         return ExitCode::from(WORDS);
     };
-    let Some(kind) = words.nth(1) else {
-        return ExitCode::SUCCESS;
-    };
-    let Some(times) = words.next() else {
-        return ExitCode::from(WORDS);
-    };
-    let Ok(times) = times.parse() else {
-        return ExitCode::from(WORDS);
-    };
-    let asked = match kind.as_str() {
-        "newentry" => Asked::NewEntry,
-        "nametoid" => Asked::NameToId,
-        _ => return ExitCode::from(WORDS),
+    let task = match task_of(words) {
+        Ok(task) => task,
+        Err(Idle::NoWords) => return ExitCode::SUCCESS,
+        Err(Idle::FaultyWords) => return ExitCode::from(WORDS),
     };
     let mut image = Vec::new(rt.alloc());
     if rt.reader().read_to_end(&mut image).is_err() || image.len() > MAX_IMAGE {
         return ExitCode::from(FAILED);
     }
-    match is_done(rt.alloc(), &image, asked, times) {
+    match is_done(rt.alloc(), &image, task) {
         Ok(true) => ExitCode::SUCCESS,
         _ => ExitCode::from(FAILED),
     }

@@ -47,14 +47,6 @@ pub fault_of_none : (bytes : Option (List ℕ)) (at : ℕ) (id : ℤ) (P : Regis
 fault_of_none None at id P wants none = tt
 fault_of_none (Some image) at id P wants none = λ r both. wants r both.1 (none r both.0)
 
--- a fault of the search is one of the change
-pub fault_so : (bytes : Option (List ℕ)) (fault : RecordFault) (P : Registry → Type 0) → HasCause bytes Holds fault
-    → HasCause bytes (λ image r. Holds image r × P r) fault
-fault_so bytes DiskFault P cause = tt
-fault_so bytes NoMemory P cause = tt
-fault_so None (BadRecord at) P cause = tt
-fault_so (Some image) (BadRecord at) P cause = λ r both. cause r both.0
-
 -- ---- insert
 
 insert_in : (e : PrEntry) (f : Found) (image : List ℕ) → IsFirst is_free (whole image) (Some f)

@@ -22,10 +22,6 @@ laid_before : (image bytes : List ℕ) (at i : ℕ) → at ≤ length image → 
 unfolding laid
 laid_before image bytes at i within before = grind (arith, places)
 
-laid_in : (image bytes : List ℕ) (at i : ℕ) → at ≤ length image → i < length bytes → slice_index (laid image at bytes) (at + i) ≡ slice_index bytes i
-unfolding laid
-laid_in image bytes at i within inside = grind (arith, places)
-
 laid_behind : (image bytes : List ℕ) (at i : ℕ) → at + length bytes ≤ length image → at + length bytes ≤ i
     → slice_index (laid image at bytes) i ≡ slice_index image i
 unfolding laid

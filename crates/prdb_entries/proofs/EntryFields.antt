@@ -11,7 +11,7 @@ use Rattle.prdb_entries.specs.Bytes.{bits, words, zeros, filled, word_at}
 use Rattle.prdb_entries.specs.Records.{IsBlock, entry_in, field_numbers, kind_of, signed_at, with_fields, new_block}
 use Rattle.prdb_entries.specs.State.{PrEntry, IsPrEntry}
 use Rattle.prdb_entries.proofs.Fields.{length-zeros}
-use Rattle.prdb_entries.proofs.LayoutRead.{text_end, fits_id, bits_below}
+use Rattle.prdb_entries.proofs.Lengths.{text_end, fits_id, bits_below}
 
 numbers : PrEntry → List ℕ
 numbers e = words (field_numbers e)

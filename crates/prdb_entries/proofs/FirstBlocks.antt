@@ -3,14 +3,6 @@ use Rattle.std.proofs.Common.{◌≡◌, ℕ, zero, suc, ◌+◌, ◌<◌, ◌�
 use Rattle.std.proofs.lemmas.Bool.{cases_eq}
 use Rattle.prdb_entries.specs.Records.{first_from}
 
-less_step : (b : Bool) (a f : ℕ) → suc a ≤ f → a ≤ cond b a f
-less_step true a f h = omega arith
-less_step false a f h = omega arith
-
-first_less : (test : ℕ → Bool) (a n : ℕ) → a ≤ first_from test a n
-first_less test a zero = omega arith
-first_less test a (suc n) = less_step (test a) a (first_from test (suc a) n) (first_less test (suc a) n)
-
 within_step : (b : Bool) (a n f : ℕ) → f ≤ suc a + n → cond b a f ≤ a + suc n
 within_step true a n f h = omega arith
 within_step false a n f h = omega arith

@@ -16,8 +16,8 @@ use Rattle.prdb_entries.specs.State.{PrEntry, IsPrEntry, administrators, fixed, 
 use Rattle.prdb_entries.proofs.Changed.{HaveBlocks, laid_from}
 use Rattle.prdb_entries.proofs.EntryFields.{entry_with, kind_with, is_new_block}
 use Rattle.prdb_entries.proofs.Initial.{length-initial}
-use Rattle.prdb_entries.proofs.InitialState.{initial-valid}
-use Rattle.prdb_entries.proofs.LayoutRead.{length-head}
+use Rattle.prdb_entries.proofs.FixedEntries.{fixed-are_entries, fixed-names_differ, fixed-ids_differ}
+use Rattle.prdb_entries.proofs.Lengths.{length-head}
 
 nth : ℕ → PrEntry
 nth k = get_or fixed_entries k (fixed [] 0 (pos 0))
@@ -36,7 +36,7 @@ block_at (suc (suc (suc (suc (suc (suc k)))))) below = absurd (omega arith)
 
 is_entry_at : (k : ℕ) → k < 6 → IsPrEntry (nth k)
 unfolding nth fixed_entries
-is_entry_at k below = initial-valid.entries k (fixed [] 0 (pos 0)) below
+is_entry_at k below = fixed-are_entries k (fixed [] 0 (pos 0)) below
 
 zeros_len : length (zeros 192) ≡ 192
 unfolding zeros
@@ -86,14 +86,14 @@ first_has id e at = let o = found_one fixed_entries id e (fixed [] 0 (pos 0)) at
 ids_less : (j k : ℕ) → j < k → k < 6 → (nth j).id ≡ (nth k).id → ⊥
 unfolding nth
 ids_less j k less in_k same =
-    initial-valid.ids j k (pos 0) less (omega (arith, six, length-map fixed_entries (λ (e : PrEntry). e.id)))
+    fixed-ids_differ j k (pos 0) less (omega (arith, six, length-map fixed_entries (λ (e : PrEntry). e.id)))
     (get_or-map (λ (e : PrEntry). e.id) fixed_entries j (fixed [] 0 (pos 0)) (pos 0) (omega (arith, six)) ∙ same
     ∙ sym (get_or-map (λ (e : PrEntry). e.id) fixed_entries k (fixed [] 0 (pos 0)) (pos 0) (omega (arith, six))))
 
 names_less : (j k : ℕ) → j < k → k < 6 → (nth j).name ≡ (nth k).name → ⊥
 unfolding nth
 names_less j k less in_k same =
-    initial-valid.names j k [] less (omega (arith, six, length-map fixed_entries (λ (e : PrEntry). e.name)))
+    fixed-names_differ j k [] less (omega (arith, six, length-map fixed_entries (λ (e : PrEntry). e.name)))
     (get_or-map (λ (e : PrEntry). e.name) fixed_entries j (fixed [] 0 (pos 0)) [] (omega (arith, six)) ∙ same
     ∙ sym (get_or-map (λ (e : PrEntry). e.name) fixed_entries k (fixed [] 0 (pos 0)) [] (omega (arith, six))))
 

@@ -22,7 +22,7 @@ use Rattle.prdb_entries.proofs.Changed.{IsStep, IsAlone, IsContent, blocks_of_la
 use Rattle.prdb_entries.proofs.EntryFields.{entry_with, kind_with, is_new_block, is_block_with, length-with_fields}
 use Rattle.prdb_entries.proofs.FirstBlocks.{first_met, first_within}
 use Rattle.prdb_entries.proofs.LaidOut.{count_is, whole_same, zero_kind}
-use Rattle.prdb_entries.proofs.LayoutRead.{bits_below}
+use Rattle.prdb_entries.proofs.Lengths.{bits_below}
 use Rattle.prdb_entries.proofs.Lookups.{id_parts}
 use Rattle.prdb_entries.proofs.Registries.{registry_added, registry_replaced, registry_removed, registry_maxima}
 

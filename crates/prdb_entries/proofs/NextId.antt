@@ -1,22 +1,8 @@
 -- The numbers among which the next id is sought.
-use Rattle.std.proofs.Common.{◌≡◌, ℕ, zero, suc, ◌+◌, ◌-◌, ◌<◌, ◌≤◌, min, Bool, true, false, cond, Option, Some, refl, arith, inl, inr}
+use Rattle.std.proofs.Common.{ℕ, zero, suc, ◌+◌, ◌-◌, ◌<◌, ◌≤◌, Bool, true, false, cond, Option, Some, arith}
 use Rattle.std.specs.Prelude.{IfSome}
 use Rattle.std.specs.List.{find, range_with_len}
-use Rattle.std.proofs.lemmas.Bool.{cases_lt}
 use Rattle.prdb_entries.specs.Meaning.{ids_above}
-
-pub ids_above_is : (a max : ℕ) → a ≡ min (max + 1) 4294967295 → range_with_len a (2147483648 - a) ≡ ids_above max
-ids_above_is a max e =
-    elim (cases_lt max 2147483647) [
-      | inl below ↦
-          let first : a ≡ max + 1 = omega arith in
-          let len : 2147483648 - (max + 1) ≡ 2147483647 - max = omega arith in
-          rw (first, len) refl
-      | inr past ↦
-          let left : 2147483648 - a ≡ 0 = omega arith in
-          let right : 2147483647 - max ≡ 0 = omega arith in
-          rw (left, right) refl
-    ]
 
 found_or_later : (b : Bool) (x bound : ℕ) (later : Option ℕ) → x ≤ bound → IfSome later (λ y. y ≤ bound) → IfSome (cond b (Some x) later) (λ y. y ≤ bound)
 found_or_later true x bound later h k = h

@@ -8,7 +8,7 @@ use Rattle.prdb_entries.specs.Names.{is_user_name}
 use Rattle.std.proofs.lemmas.List.{length-map, get_or-map}
 use Rattle.prdb_entries.specs.Registry.{Registry, is_name_for, IsRegistry, IsRecord, IsAmong, IsFixedId, AreMaxima, MayBeAdded, MayReplace, MayBeRemoved, with_entry, without_entry, with_maxima}
 use Rattle.prdb_entries.specs.State.{PrEntry, IsId, fixed_entries}
-use Rattle.prdb_entries.proofs.UserAdded.{form}
+use Rattle.prdb_entries.proofs.UserNames.{form}
 use Rattle.prdb_entries.proofs.Changed.{under_same, under_other, by_id, some_same}
 
 -- a fact on each entry of the old ones, and on this one, is one on each of the new ones

@@ -1,5 +1,5 @@
--- Words of four bytes, the highest byte first, and strings, as they stand in calls, answers and images (RFC 4506).
-use Rattle.std.specs.Prelude.{ℕ, ℤ, ◌-◌, ◌%◌, ◌<◌, List, ◌++◌, length, take, drop, replicate, slice_index}
+-- Words of four bytes, the highest byte first, as they stand in images (RFC 4506).
+use Rattle.std.specs.Prelude.{ℕ, ℤ, ◌-◌, ◌<◌, List, ◌++◌, length, take, drop, replicate, slice_index}
 use Rattle.std.specs.List.{flat_map}
 use Rattle.std.specs.Int.{w32, to_be_bytes, from_be_bytes, cast_unsigned}
 use Rattle.ubik_types.specs.declared.words.TheConstants.{WORD_LEN}
@@ -27,14 +27,6 @@ word_at bytes at = from_be_bytes w32 (take WORD_LEN (drop at bytes))
 -- so many zero bytes
 unfoldable pub zeros : ℕ → List ℕ
 zeros len = replicate len 0
-
--- how many zero bytes fill a string of this length up to whole words
-abbrev pub padding : ℕ → ℕ
-padding len = (WORD_LEN - len % WORD_LEN) % WORD_LEN
-
--- a string: its length, its bytes, and zero bytes up to whole words
-abbrev pub string : List ℕ → List ℕ
-string text = word (length text) ++ text ++ zeros (padding (length text))
 
 -- a text in a field of a fixed length, filled with zero bytes
 abbrev pub filled : ℕ → List ℕ → List ℕ

@@ -1,11 +1,11 @@
--- The image of a state, format 1: a head, and a block for each entry.
-use Rattle.std.specs.Prelude.{ℕ, ◌≡◌, ◌-◌, ◌⊎◌, List, [], ◌∷◌, ◌++◌, length}
+-- The image of the first entries, format 1: a head, and a block for each entry.
+use Rattle.std.specs.Prelude.{ℕ, ◌-◌, List, [], ◌∷◌, ◌++◌, length}
 use Rattle.std.specs.List.{flat_map}
 use Rattle.ubik_types.specs.declared.words.TheConstants.{WORD_LEN}
 use Rattle.prdb_entries.specs.declared.blocks.TheConstants.{HEAD_LEN, BLOCK_COUNT_AT, BLOCK_LEN, NAME_AT, NAME_FIELD}
 use Rattle.prdb_entries.specs.Bytes.{bits, words, zeros, filled}
 use Rattle.prdb_entries.specs.declared.entries.Entry.{Entry}
-use Rattle.prdb_entries.specs.State.{PrEntry, PrState, IsPrState, initial_state}
+use Rattle.prdb_entries.specs.State.{PrEntry, PrState}
 
 -- the head: the database's word, format 1, the maxima, the number of blocks, and zero bytes
 unfoldable pub head_of : PrState → List ℕ
@@ -25,8 +25,3 @@ block_of e = words (numbers_of e) ++ filled NAME_FIELD e.name ++ zeros (BLOCK_LE
 
 unfoldable pub layout : PrState → List ℕ
 layout s = head_of s ++ flat_map block_of s.entries
-
--- an image stands for a valid state by its layout; the empty image stands for the initial state
-pub record StandsFor (image : List ℕ) (s : PrState) : Type 0 where
-  pub valid : IsPrState s
-  pub bytes : (image ≡ layout s) ⊎ ((image ≡ []) × (s ≡ initial_state))

@@ -1,16 +1,9 @@
 pub mod Bytes
-pub mod Call
-pub mod Reading
 pub mod Names
 pub mod State
 pub mod Meaning
 pub mod Layout
 pub mod Blocks
-pub mod Protection
-pub mod Words
-pub mod Agreement
-pub mod CallWords
-pub mod ByteMeaning
 pub mod Registry
 pub mod Records
 pub mod RecordEnds

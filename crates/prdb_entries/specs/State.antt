@@ -1,7 +1,7 @@
--- The protection database's state: its entries in the order of their blocks, and the two maxima (ptserver).
-use Rattle.std.specs.Prelude.{ℕ, ℤ, pos, negsuc, ◌≡◌, ◌<◌, ◌≤◌, ◌^◌, ◌==◌, ◌⊎◌, ◌≢◌, List, [], ◌∷◌, length, map, take, codes, FitsSigned, All, Contains}
+-- Entries of the protection database, and the first state: its entries in the order of their blocks, and the two maxima (ptserver).
+use Rattle.std.specs.Prelude.{ℕ, ℤ, pos, negsuc, ◌≡◌, ◌<◌, ◌≤◌, ◌^◌, ◌==◌, List, [], ◌∷◌, length, codes, FitsSigned, All, Contains}
 use Rattle.std.specs.Int.{w32}
-use Rattle.std.specs.List.{AllPairs, before_first}
+use Rattle.std.specs.List.{before_first}
 use Rattle.prdb_entries.specs.Bytes.{IsBytes}
 
 -- an entry: its name, its flags, its id, the ids of its owner and its creator, and its quota
@@ -47,14 +47,6 @@ fixed_entries = fixed (codes "system:anyuser") group_flags (negsuc 100) ∷ fixe
 abbrev pub initial_state : PrState
 initial_state = record { max_user = 0; max_group = negsuc 204; entries = fixed_entries }
 
--- a name and an id, by which an entry is found
-abbrev pub key : PrEntry → List ℕ × ℤ
-key e = (e.name, e.id)
-
--- an id that is 0 or an entry's
-abbrev pub IsIdOrNone : List PrEntry → ℤ → Type 0
-IsIdOrNone entries id = (id ≡ pos 0) ⊎ Contains (map (λ e. e.id) entries) id
-
 -- a user's id is from 1 to 2147483647, a group's from -1 down to -2147483647
 abbrev pub IsId : ℤ → Type 0
 IsId (pos n) = (0 < n) × (n ≤ 2147483647)
@@ -83,16 +75,3 @@ pub record IsPrEntry (e : PrEntry) : Type 0 where
   pub owner : FitsSigned w32 e.owner
   pub creator : FitsSigned w32 e.creator
   pub quota : FitsSigned w32 e.quota
-
--- a valid state: names and ids are distinct, the fixed entries come first, each owner is none or an entry, groups with a `:`
--- are named after their owners, each creator is a fixed entry, and the maxima are in range
-pub record IsPrState (s : PrState) : Type 0 where
-  pub entries : All IsPrEntry s.entries
-  pub names : AllPairs (λ a b. a ≢ b) (map (λ e. e.name) s.entries)
-  pub ids : AllPairs (λ a b. a ≢ b) (map (λ e. e.id) s.entries)
-  pub fixed_first : map key (take 6 s.entries) ≡ map key fixed_entries
-  pub owners : All (λ e. IsIdOrNone s.entries e.owner) s.entries
-  pub groups : All (λ e. All (IsNamedAfter e) s.entries) s.entries
-  pub creators : All (λ e. Contains (map (λ f. f.id) fixed_entries) e.creator) s.entries
-  pub max_user : s.max_user < 2 ^ 31
-  pub max_group : (k : ℕ) × (s.max_group ≡ negsuc k) × (k < 2147483647)

@@ -1,8 +1,8 @@
 //! An image's head and blocks, as they are read.
-ghost use Rattle.std.specs.Prelude.{◌≡◌, ◌≤◌, length, ◌+◌, ◌/◌, ◌%◌, ◌==◌};
+ghost use Rattle.std.specs.Prelude.{◌≡◌, ◌≤◌, length, ◌+◌, ◌==◌};
 ghost use Rattle.std.specs.List.{position, position_or_len};
 ghost use Rattle.prdb_entries.specs.Bytes.{word_at};
-ghost use Rattle.prdb_entries.specs.Blocks.{has_whole_blocks, blocks_of, block_name, block_id, id_among, name_among, id_is_among};
+ghost use Rattle.prdb_entries.specs.Blocks.{block_name};
 
 use ubik_types::{WORD_LEN, first_word};
 
@@ -54,28 +54,10 @@ pub const CHAINS_LEN: usize = 16;
 /// Where the ids of the first pairs end in an entry's block, which has zero bytes behind them.
 pub const END_AT: usize = 188;
 
-/// The id of the entry `anonymous`, which a name has that is no entry's, and for which a call is made
-/// that is not signed in.
+/// The id of the entry `anonymous`, for which a call is made that is not signed in.
 pub const ANONYMOUS: i32 = 32766;
 
 pub type Block = [u8; BLOCK_LEN];
-
-/// Whether an image is a head and whole blocks.
-pub fn has_whole_blocks(image: &[u8]) -> bool
-    ensures { result ≡ has_whole_blocks image.now }
-{
-    image.len() >= HEAD_LEN && (image.len() - HEAD_LEN) % BLOCK_LEN == 0
-}
-
-/// The blocks of an image, in their order.
-#[tactic(auto, unfolding(crate::specs::Blocks::blocks_of))]
-pub fn blocks(image: &[u8]) -> &[Block]
-    requires { HEAD_LEN ≤ length image.now }
-    ensures { result.now ≡ blocks_of image.now }
-{
-    let (_, blocks) = image.split_at(HEAD_LEN);
-    blocks.as_chunks::<BLOCK_LEN>().0
-}
 
 /// The word at a place.
 pub fn word_at(bytes: &[u8], at: usize) -> u32
@@ -104,34 +86,4 @@ pub fn block_name(block: &Block) -> &[u8]
 {
     let field = &block[NAME_AT..NAME_AT + NAME_FIELD];
     &field[..text_len(field)]
-}
-
-fn block_id(block: &Block) -> u32
-    ensures { result ≡ block_id block.now }
-{
-    word_at(block, ID_AT)
-}
-
-/// The id of the first entry with this name, in two's complement, or that of `anonymous`.
-pub fn id_of(blocks: &[Block], name: &[u8]) -> u32
-    ensures { result ≡ id_among blocks.now name.now }
-{
-    blocks
-        .iter()
-        .find(|block| block_name(block) == name)
-        .map_or(ANONYMOUS.cast_unsigned(), |block| block_id(block))
-}
-
-/// Whether an entry has this name.
-pub fn has_name(blocks: &[Block], name: &[u8]) -> bool
-    ensures { result ≡ name_among blocks.now name.now }
-{
-    blocks.iter().any(|block| block_name(block) == name)
-}
-
-/// Whether an entry has this id, in two's complement.
-pub fn has_id(blocks: &[Block], id: u32) -> bool
-    ensures { result ≡ id_is_among blocks.now id }
-{
-    blocks.iter().any(|block| block_id(block) == id)
 }

@@ -1,9 +1,8 @@
 //! Entries, and the images that are written of them.
-ghost use Rattle.std.specs.Prelude.{◌≡◌, ◌++◌, OnOk, IfOk, length, pos, unsigned_abs, ◌≤ℤ◌};
+ghost use Rattle.std.specs.Prelude.{◌≡◌, ◌++◌, OnOk, IfOk, length};
 ghost use Rattle.prdb_entries.specs.Bytes.{words, zeros, filled};
 ghost use Rattle.std.specs.List.{flat_map};
 ghost use Rattle.prdb_entries.specs.State.{fixed, fixed_entries, administrators, initial_state};
-ghost use Rattle.prdb_entries.specs.Meaning.{new_user};
 ghost use Rattle.prdb_entries.specs.Layout.{head_of, numbers_of, block_of, layout, entry_of};
 
 use crate::blocks::{ANONYMOUS, BLOCK_COUNT_AT, BLOCK_LEN, HEAD_LEN, NAME_AT, NAME_FIELD};
@@ -33,9 +32,9 @@ pub const ADMINISTRATORS: i32 = -204;
 /// How many groups a user may still make at first.
 pub const USER_QUOTA: i32 = 20;
 
-/// An entry.
+/// One of the first entries.
 #[derive(Clone, Copy)]
-pub struct Entry<'a> {
+struct Entry<'a> {
     name: &'a [u8],
     flags: u32,
     id: i32,
@@ -56,21 +55,6 @@ impl<'a> Entry<'a> {
             owner: ADMINISTRATORS,
             creator: ADMINISTRATORS,
             quota: 0,
-        }
-    }
-
-    /// A user as a call makes it.
-    pub fn new_user(name: &'a [u8], id: i32) -> Self
-        requires { pos 0 ≤ℤ id }
-        ensures { entry_of result ≡ new_user name.now (unsigned_abs id) }
-    {
-        Entry {
-            name,
-            flags: USER_FLAGS,
-            id,
-            owner: ADMINISTRATORS,
-            creator: ANONYMOUS,
-            quota: USER_QUOTA,
         }
     }
 }
@@ -121,7 +105,7 @@ fn numbers(entry: &Entry<'_>) -> [u32; 8]
 
 /// Writes the entry's block at the end.
 #[tactic(auto, unfolding(crate::specs::Layout::block_of))]
-pub fn push_block(out: &mut Vec<u8>, entry: &Entry<'_>) -> Result<(), AllocError>
+fn push_block(out: &mut Vec<u8>, entry: &Entry<'_>) -> Result<(), AllocError>
     ensures { OnOk result (out.new.items ≡ out.old.items ++ block_of (entry_of entry.now)) }
 {
     push_words(out, &numbers(entry))?;

@@ -1,9 +1,7 @@
 //! Names of users.
-ghost use Rattle.std.specs.Prelude.{◌≡◌, IfOk};
+ghost use Rattle.std.specs.Prelude.{◌≡◌};
 ghost use Rattle.std.specs.List.{list_all};
-ghost use Rattle.prdb_entries.specs.Names.{lowered, is_user_name, is_name_byte};
-
-use std::alloc::{AllocError, Global};
+ghost use Rattle.prdb_entries.specs.Names.{is_user_name, is_name_byte};
 
 /// The name that stands for all entries of the system, and is no entry's.
 const SYSTEM: &[u8] = b"system";
@@ -26,11 +24,4 @@ pub fn is_user_name(name: &[u8]) -> bool
     ensures { result ≡ is_user_name name.now }
 {
     !name.is_empty() && name.len() <= 63 && has_name_bytes(name) && name != SYSTEM
-}
-
-/// The name as it is stored and looked up.
-pub fn lowered(alloc: Global, name: &[u8]) -> Result<Vec<u8>, AllocError>
-    ensures { IfOk result (λ v. v.items ≡ lowered name.now) }
-{
-    name.to_ascii_lowercase(alloc)
 }
