@@ -108,6 +108,18 @@ with_old r old = record r { old_version = old }
 abbrev pub with_text : RecoveryRecord → Option ReceivedText → RecoveryRecord
 with_text r text = record r { text = text }
 
+-- another recovery in the place of this one: the text goes on where no fetch begins or ends
+abbrev pub adopted : RecoveryRecord → RecoveryRecord → RecoveryRecord
+adopted next before = with_text next (text_through before.phase next.phase before.text)
+
+-- what is given out where the phase is dropped: all of it, but the text only where a fetch ends so, for it stays else
+abbrev pub given_out : RecoveryRecord → RecoveryRecord
+given_out r = if is_fetch r.phase then r else with_text r None
+
+-- what was given out comes back over what was left
+abbrev pub restored : (given left : RecoveryRecord) → RecoveryRecord
+restored given left = if is_fetch given.phase then given else with_text given left.text
+
 -- the fetched image: of the best version, from its host
 abbrev pub fetched_source : RecoveryRecord → ℕ → TextSource
 fetched_source r total = record { server = host_of r; version = best_of r; total = total }

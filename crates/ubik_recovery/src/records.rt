@@ -3,8 +3,9 @@ ghost use Rattle.std.specs.Prelude.{◌≡◌, ◌<◌, ◌≤◌, ◌+◌, ◌=
 ghost use Rattle.ubik_types.specs.Quorum.{marked};
 ghost use Rattle.cell_model.specs.Polls.{entry_at};
 ghost use Rattle.cell_model.specs.Recovery.{text_with, is_whole};
-ghost use Rattle.ubik_recovery.specs.Record.{no_recovery, poll_begun, answered_by, best_of, host_of, with_old, held_by, held_alone, in_phase, with_text, fetched_source, HasAnswer};
-ghost use Rattle.ubik_recovery.specs.Text.{received_bytes, source_of, is_next, with_piece, IsNext, IsWithin};
+ghost use Rattle.ubik_recovery.specs.Record.{no_recovery, poll_begun, answered_by, best_of, host_of, with_old, held_by, held_alone, in_phase, with_text, fetched_source, HasAnswer, adopted, given_out, restored};
+ghost use Rattle.ubik_types.specs.declared.phases.Phase.TheVariants as phase;
+ghost use Rattle.ubik_recovery.specs.Text.{received_bytes, source_of, text_of, is_next, with_piece, IsNext, IsWithin};
 
 use crate::answers::{answered, best_version, first_with, only_answer, only_mark};
 use crate::texts::{TextSource, piece_fits, text_begun};
@@ -181,6 +182,78 @@ impl Recovery {
             self.hold_alone(me);
         }
         self.phase = phase;
+    }
+
+    /// The same without its text. It takes no memory.
+    pub fn marks(&self) -> Recovery
+        ensures { result ≡ with_text self.now None }
+    {
+        let alloc = *self.text.allocator();
+        Recovery {
+            servers: self.servers,
+            phase: self.phase,
+            poll: self.poll,
+            answers: self.answers,
+            old_version: self.old_version,
+            holders: self.holders,
+            source: None,
+            text: Vec::new(alloc),
+        }
+    }
+
+    /// Another recovery takes the place of this one, with the text of this one where no fetch begins or ends.
+    pub fn adopt(&mut self, next: Recovery)
+        ensures { self.new ≡ adopted next self.old }
+    {
+        let mut next = next;
+        next.drop_text();
+        if self.phase != Phase::Fetch && next.phase != Phase::Fetch {
+            next.move_text(self);
+        }
+        *self = next;
+    }
+
+    /// Drops the phase, and gives out what was held, so that it can be restored: with the text, where a fetch ends so.
+    pub fn lapse(&mut self) -> Recovery
+        ensures after { self.new ≡ in_phase self.old phase.None 0 }
+        ensures given { result ≡ given_out self.old }
+    {
+        let mut left = self.marks();
+        left.phase = Phase::None;
+        if self.phase != Phase::Fetch {
+            left.move_text(self);
+        }
+        mem::replace(self, left)
+    }
+
+    /// What was given out comes back.
+    pub fn restore(&mut self, given: Recovery)
+        ensures { self.new ≡ restored given self.old }
+    {
+        let mut given = given;
+        if given.phase != Phase::Fetch {
+            given.move_text(self);
+        }
+        *self = given;
+    }
+
+    /// Takes the text of another recovery; none is left there.
+    fn move_text(&mut self, from: &mut Recovery)
+        ensures after { self.new ≡ with_text self.old from.old.text }
+        ensures left { from.new ≡ with_text from.old None }
+    {
+        let source = from.source;
+        let text = from.take_text();
+        self.source = source;
+        self.text = text.into_vec();
+    }
+
+    /// Takes a text in that was given out.
+    pub fn put_text(&mut self, source: TextSource, text: Bytes)
+        ensures { self.new ≡ with_text self.old (Some (text_of source text)) }
+    {
+        self.source = Some(source);
+        self.text = text.into_vec();
     }
 
     /// Forgets all: no phase is held, nobody answered, and no text is there.
