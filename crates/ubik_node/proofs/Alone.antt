@@ -1,11 +1,10 @@
 -- The only server of its cell.
-use Rattle.std.proofs.Common.{◌≡◌, ◌<◌, ℕ, Bool, true, List, [], ◌∷◌, length, sym, ap, ◌∙◌, arith}
+use Rattle.std.proofs.Common.{◌≡◌, ◌<◌, ℕ, Bool, List, [], ◌∷◌, length, sym, ap, ◌∙◌, arith}
 use Rattle.ubik_types.specs.declared.hosts.Host.{Host}
 use Rattle.ubik_types.specs.Lease.{is_in_lease}
 use Rattle.cell_model.specs.Step.{Member, leased}
-use Rattle.ubik_node.specs.declared.progress.Progress.{Progress}
 use Rattle.ubik_node.specs.declared.state.State.{State}
-use Rattle.ubik_node.specs.Progress.{IsServing, alone, is_held}
+use Rattle.ubik_node.specs.Beacons.{alone}
 use Rattle.ubik_node.specs.State.{member_of, server_of}
 
 abbrev member : List Host → ℕ → Member
@@ -19,11 +18,3 @@ is_alone (h ∷ g ∷ hosts) me one inside = absurd (omega arith)
 -- the lease of a server
 pub leased_here : (st : State) (now : ℕ) (b : Bool) → st.votes.servers ≡ length st.cell → is_in_lease st.votes.servers st.votes.starts now ≡ b → leased (member_of st) (server_of st) now ≡ b
 leased_here st now b size is = ap (λ (n : ℕ). is_in_lease n st.votes.starts now) (sym size) ∙ is
-
--- of a server that is alone
-pub leased_alone : (h : Host) (st : State) (now : ℕ) (b : Bool) → st.votes.servers ≡ 1 → is_in_lease st.votes.servers st.votes.starts now ≡ b → leased (alone h) (server_of st) now ≡ b
-leased_alone h st now b one is = ap (λ (n : ℕ). is_in_lease n st.votes.starts now) (sym one) ∙ is
-
--- a server that serves holds a phase
-pub held : (p : Progress) → IsServing p → is_held p ≡ true
-held p serving = ap is_held serving.2

@@ -3,6 +3,9 @@ use Rattle.std.proofs.Common.{◌≡◌, ◌<◌, ℕ, Bool, true, false, cond, 
 use Rattle.ubik_types.specs.declared.hosts.Host.{Host}
 use Rattle.ubik_types.specs.declared.images.Change.{Change}
 use Rattle.ubik_types.specs.declared.versions.Version.{Version}
+use Rattle.ubik_types.specs.declared.phases.Applied.TheVariants as applied
+use Rattle.ubik_types.specs.declared.phases.Phase.{Phase}
+use Rattle.ubik_types.specs.declared.phases.Phase.TheVariants as phase
 use Rattle.ubik_types.specs.Logged.{too_large}
 use Rattle.ubik_calls.specs.declared.replies.Reply.{Reply}
 use Rattle.ubik_calls.specs.declared.replies.Reply.TheVariants as reply
@@ -13,17 +16,16 @@ use Rattle.cell_model.specs.declared.events.Output.{Output}
 use Rattle.cell_model.specs.declared.events.Output.TheVariants as output
 use Rattle.cell_model.specs.Asks.{read_reply}
 use Rattle.cell_model.specs.Durable.{Made}
+use Rattle.cell_model.specs.Lapse.{no_quorum}
 use Rattle.cell_model.specs.Node.{Server}
 use Rattle.cell_model.specs.Step.{Evaluation, told_version}
 use Rattle.cell_model.specs.Writes.{answered_on, last_counter, next_version, own_commit, turned, written, written_in, written_within}
-use Rattle.ubik_node.specs.declared.progress.Progress.{Progress}
-use Rattle.ubik_node.specs.declared.progress.Progress.TheVariants as progress
 use Rattle.ubik_node.specs.declared.state.State.{State}
-use Rattle.ubik_node.specs.Progress.{alone, phase_record}
-use Rattle.ubik_node.specs.State.{server_of}
+use Rattle.ubik_recovery.specs.Record.{RecoveryRecord, poll_begun}
+use Rattle.ubik_node.specs.Beacons.{alone}
+use Rattle.ubik_node.specs.State.{server_of, server_with}
 use Rattle.ubik_node.specs.Verdict.{Leads, committed}
 use Rattle.ubik_node.proofs.Images.{no_changes}
-use Rattle.ubik_node.proofs.Rested.{in_phase}
 
 -- a call that changes nothing
 pub unchanged : (db : Database) (h : Host) (st : State) (now id : ℕ) (call answer : List ℕ) → Leads (written db (alone h) (server_of st) now id call answer st.image) (server_of st) (output.Reply id (reply.Ok answer) ∷ []) []
@@ -50,23 +52,48 @@ announced v id answer = output.Announce (next_version v) ∷ output.Reply id (re
 abbrev made_so : State → (now : ℕ) → (call : List ℕ) → List Change → (image : List ℕ) → List Made
 made_so st now call changes image = own_commit (next_version st.version) changes image (record { moment = now; call = call }) ∷ []
 
--- a server that serves
-abbrev serving : State → ℕ → Version → Server
-serving st poll old = in_phase st (phase_record st.version (progress.Ready poll old))
+-- a server that serves, alone in its cell
+abbrev in_turn : State → Phase → ℕ → RecoveryRecord
+in_turn st p n = record st.recovery { phase = p; servers = n }
 
-counted : (h : Host) (st : State) (now id : ℕ) (call answer image : List ℕ) (c : Change) (cs : List Change) (poll : ℕ) (old : Version) (b : Bool) → b ≡ false
-    → Leads (cond b (last_counter (alone h) (serving st poll old) now id) (written_in (alone h) (serving st poll old) now id call answer image (c ∷ cs) (serving st poll old).phase))
-    (committed (serving st poll old) (progress.Ready poll old) image) (announced st.version id answer) (made_so st now call (c ∷ cs) image)
-counted h st now id call answer image c cs poll old false below = record { server = refl; outputs = refl; calls = refl }
-counted h st now id call answer image c cs poll old true below = absurd cc
+abbrev serving : State → Phase → ℕ → Server
+serving st p n = server_with st (in_turn st p n)
 
--- a call whose changes are neither none nor too many
-pub commits : (db : Database) (h : Host) (st : State) (now id : ℕ) (call answer image : List ℕ) (poll : ℕ) (old : Version) (cs : List Change) → changes_of db st.image image ≡ cs
-    → too_large 0 (length st.image) cs ≡ None → 0 < length cs → eqb st.version.counter 2147483647 ≡ false → st.progress ≡ progress.Ready poll old
-    → Leads (written db (alone h) (server_of st) now id call answer image) (committed (server_of st) st.progress image) (announced st.version id answer) (made_so st now call cs image)
-commits db h st now id call answer image poll old [] changes fits some below is = absurd (omega arith)
-commits db h st now id call answer image poll old (c ∷ cs) changes fits some below is =
-    let P : Progress → Type 0 = λ p. Leads (written db (alone h) (in_phase st (phase_record st.version p)) now id call answer image) (committed (in_phase st (phase_record st.version p)) p image) (announced st.version id answer) (made_so st now call (c ∷ cs) image) in
-    let Q : List Change → Type 0 = λ xs. Leads (written_within (alone h) (serving st poll old) now id call answer image xs (too_large 0 (length st.image) xs)) (committed (serving st poll old) (progress.Ready poll old) image) (announced st.version id answer) (made_so st now call (c ∷ cs) image) in
-    let T : Option ℕ → Type 0 = λ o. Leads (written_within (alone h) (serving st poll old) now id call answer image (c ∷ cs) o) (committed (serving st poll old) (progress.Ready poll old) image) (announced st.version id answer) (made_so st now call (c ∷ cs) image) in
-    subst P (sym is) (subst Q (sym changes) (subst T (sym fits) (counted h st now id call answer image c cs poll old _ below)))
+counted : (h : Host) (st : State) (now id : ℕ) (call answer image : List ℕ) (c : Change) (cs : List Change) (b : Bool) → b ≡ false
+    → Leads (cond b (last_counter (alone h) (serving st phase.Ready 1) now id) (written_in (alone h) (serving st phase.Ready 1) now id call answer image (c ∷ cs) (serving st phase.Ready 1).phase))
+    (committed (serving st phase.Ready 1) (in_turn st phase.Ready 1) image) (announced st.version id answer) (made_so st now call (c ∷ cs) image)
+counted h st now id call answer image c cs false below = record { server = refl; outputs = refl; calls = refl }
+counted h st now id call answer image c cs true below = absurd cc
+
+ended : (h : Host) (st : State) (now id : ℕ) (call answer image : List ℕ) (c : Change) (cs : List Change) (b : Bool) → b ≡ true
+    → Leads (cond b (last_counter (alone h) (serving st phase.Ready 1) now id) (written_in (alone h) (serving st phase.Ready 1) now id call answer image (c ∷ cs) (serving st phase.Ready 1).phase))
+    (server_with st (poll_begun (in_turn st phase.Ready 1) now 0 st.version)) (output.Reply id (no_quorum (alone h) (serving st phase.Ready 1) now phase.Poll applied.No) ∷ []) []
+ended h st now id call answer image c cs true over = record { server = refl; outputs = refl; calls = refl }
+ended h st now id call answer image c cs false over = absurd cc
+
+module _ (db : Database) (h : Host) (st : State) (now id : ℕ) (call answer image : List ℕ) (serves : st.recovery.phase ≡ phase.Ready) (alone_there : st.recovery.servers ≡ 1) where
+  -- a call whose changes are neither none nor too many
+  pub commits : (cs : List Change) → changes_of db st.image image ≡ cs → too_large 0 (length st.image) cs ≡ None → 0 < length cs → eqb st.version.counter 2147483647 ≡ false
+      → Leads (written db (alone h) (server_of st) now id call answer image) (committed (server_of st) st.recovery image) (announced st.version id answer) (made_so st now call cs image)
+  commits [] changes fits some below = absurd (omega arith)
+  commits (c ∷ cs) changes fits some below =
+      let P : Phase → ℕ → Type 0 =
+      λ p n. Leads (written db (alone h) (serving st p n) now id call answer image) (committed (serving st p n) (in_turn st p n) image) (announced st.version id answer) (made_so st now call (c ∷ cs) image) in
+      let Q : List Change → Type 0 =
+      λ xs. Leads (written_within (alone h) (serving st phase.Ready 1) now id call answer image xs (too_large 0 (length st.image) xs)) (committed (serving st phase.Ready 1) (in_turn st phase.Ready 1) image) (announced st.version id answer) (made_so st now call (c ∷ cs) image) in
+      let T : Option ℕ → Type 0 =
+      λ o. Leads (written_within (alone h) (serving st phase.Ready 1) now id call answer image (c ∷ cs) o) (committed (serving st phase.Ready 1) (in_turn st phase.Ready 1) image) (announced st.version id answer) (made_so st now call (c ∷ cs) image) in
+      subst (λ (n : ℕ). P st.recovery.phase n) (sym alone_there) (subst (λ (p : Phase). P p 1) (sym serves) (subst Q (sym changes) (subst T (sym fits) (counted h st now id call answer image c cs _ below))))
+
+  -- the same where the counter is at its end
+  pub polls_again : (cs : List Change) → changes_of db st.image image ≡ cs → too_large 0 (length st.image) cs ≡ None → 0 < length cs → eqb st.version.counter 2147483647 ≡ true
+      → Leads (written db (alone h) (server_of st) now id call answer image) (server_with st (poll_begun st.recovery now 0 st.version)) (output.Reply id (no_quorum (alone h) (server_of st) now phase.Poll applied.No) ∷ []) []
+  polls_again [] changes fits some over = absurd (omega arith)
+  polls_again (c ∷ cs) changes fits some over =
+      let P : Phase → ℕ → Type 0 =
+      λ p n. Leads (written db (alone h) (serving st p n) now id call answer image) (server_with st (poll_begun (in_turn st p n) now 0 st.version)) (output.Reply id (no_quorum (alone h) (serving st p n) now phase.Poll applied.No) ∷ []) [] in
+      let Q : List Change → Type 0 =
+      λ xs. Leads (written_within (alone h) (serving st phase.Ready 1) now id call answer image xs (too_large 0 (length st.image) xs)) (server_with st (poll_begun (in_turn st phase.Ready 1) now 0 st.version)) (output.Reply id (no_quorum (alone h) (serving st phase.Ready 1) now phase.Poll applied.No) ∷ []) [] in
+      let T : Option ℕ → Type 0 =
+      λ o. Leads (written_within (alone h) (serving st phase.Ready 1) now id call answer image (c ∷ cs) o) (server_with st (poll_begun (in_turn st phase.Ready 1) now 0 st.version)) (output.Reply id (no_quorum (alone h) (serving st phase.Ready 1) now phase.Poll applied.No) ∷ []) [] in
+      subst (λ (n : ℕ). P st.recovery.phase n) (sym alone_there) (subst (λ (p : Phase). P p 1) (sym serves) (subst Q (sym changes) (subst T (sym fits) (ended h st now id call answer image c cs _ over))))

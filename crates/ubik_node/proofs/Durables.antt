@@ -55,7 +55,7 @@ head_is : (b : Bool) → ◌≡◌ {A = ℕ} (cond b 1 0) (cond (not b) 0 1)
 head_is true = refl
 head_is false = refl
 
-calls_one : (file : List ℕ) (made : Made) (changes : ℕ) → change_count made.call ≡ changes → 13 + changes + head_calls file ≡ calls_made (has_label file) (made ∷ [])
+pub calls_one : (file : List ℕ) (made : Made) (changes : ℕ) → change_count made.call ≡ changes → 13 + changes + head_calls file ≡ calls_made (has_label file) (made ∷ [])
 calls_one file made changes count = let head = head_is (ltb (length file) 64) in omega (arith, count, head)
 
 module _ {D : Type 0} (g : Ghosts D) (old new : Store D) (d : Durable) (changes : List Change) (v : Version) (image : List ℕ) (made : Made) {F : Type 0} where

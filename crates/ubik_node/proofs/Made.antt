@@ -13,7 +13,7 @@ use Rattle.ubik_node.specs.declared.state.State.{State}
 use Rattle.ubik_node.specs.declared.verdicts.Verdict.{Verdict}
 use Rattle.ubik_node.specs.Evaluation.{IsMadeOf, IsOutcome}
 use Rattle.ubik_node.specs.Node.{IsMeantIn}
-use Rattle.ubik_node.specs.Progress.{alone}
+use Rattle.ubik_node.specs.Beacons.{alone}
 use Rattle.ubik_node.specs.State.{server_of}
 use Rattle.ubik_node.specs.Verdict.{Judges}
 use Rattle.ubik_node.proofs.Durables.{IsThere}
@@ -28,10 +28,10 @@ made_here d (Some fs) image now call e meant there made =
 pub judged_turn : (d : Standing) (h : Host) (st : State) (now id : ℕ) (call : List ℕ) (e : Evaluation) (v : Verdict)
     → length st.image ≤ length (d.database.call st.image now call).image
     → ((image : List ℕ) → length st.image ≤ length image → e.changes ≡ changes_of d.database st.image image → (h : Host) (now id : ℕ) (call : List ℕ)
-    → Judges h (server_of st) st.progress now id call image v (turned d.database (alone h) (server_of st) now id call image e.reply))
+    → Judges h (server_of st) st.recovery now id call image v (turned d.database (alone h) (server_of st) now id call image e.reply))
     → IsOutcome d st.image (d.database.call st.image now call) e
-    → Judges h (server_of st) st.progress now id call (d.database.call st.image now call).image v (write_turn d.database (alone h) (server_of st) now id call false)
+    → Judges h (server_of st) st.recovery now id call (d.database.call st.image now call).image v (write_turn d.database (alone h) (server_of st) now id call false)
 judged_turn d h st now id call e v grows judged outcome =
     let image : List ℕ = (d.database.call st.image now call).image in
-    subst (λ (r : CallReply). Judges h (server_of st) st.progress now id call image v (turned d.database (alone h) (server_of st) now id call image r)) outcome.reply
+    subst (λ (r : CallReply). Judges h (server_of st) st.recovery now id call image v (turned d.database (alone h) (server_of st) now id call image r)) outcome.reply
     (judged image grows outcome.changes h now id call)

@@ -1,5 +1,5 @@
 -- A step of a server, from what its parts made of it.
-use Rattle.std.proofs.Common.{◌≡◌, ◌≢◌, ◌<◌, ℕ, Bool, true, false, cond, Option, Some, None, List, [], ◌∷◌, length, refl, sym, ap, subst, ◌∙◌}
+use Rattle.std.proofs.Common.{◌≡◌, ◌≢◌, ◌<◌, ℕ, Bool, true, false, cond, Option, Some, None, IsSome, List, [], ◌∷◌, length, refl, sym, ap, subst, ◌∙◌}
 use Rattle.ubik_types.specs.declared.hosts.Host.{Host}
 use Rattle.ubik_types.specs.declared.versions.Version.{Version}
 use Rattle.ubik_types.specs.Phase.{NoPhase}
@@ -17,28 +17,23 @@ use Rattle.cell_model.specs.Asks.{asked, asked_as, read}
 use Rattle.cell_model.specs.Durable.{Durable, Made, durable}
 use Rattle.cell_model.specs.Lapse.{lapsed}
 use Rattle.cell_model.specs.Node as model
-use Rattle.cell_model.specs.NodeRule.{handled, place_of, received_packet, step_of}
-use Rattle.cell_model.specs.Recovery.{first_of_epoch, own_relabelling, recovery_turn}
-use Rattle.cell_model.specs.Step.{Basis, Member, Stepped, announcing, leased, quiet, refusing, showing}
+use Rattle.cell_model.specs.NodeRule.{handled, step_of}
+use Rattle.cell_model.specs.Step.{Basis, Member, Stepped, cell_size, quiet, refusing, showing}
 use Rattle.cell_model.specs.Voting.{beacon_turn}
 use Rattle.cell_model.specs.Writes.{write_turn}
 use Rattle.ubik_node.specs.declared.nodes.StepEnd.{StepEnd}
 use Rattle.ubik_node.specs.declared.nodes.StepEnd.TheVariants.{Done, Halted, NoMemory}
-use Rattle.ubik_node.specs.declared.recovering.Plan.{Plan}
-use Rattle.ubik_node.specs.declared.recovering.Plan.TheVariants as plan
-use Rattle.ubik_node.specs.declared.progress.Progress.{Progress}
 use Rattle.ubik_node.specs.declared.state.State.{State}
 use Rattle.disk_base.specs.declared.disks.Disk.{Ghosts}
 use Rattle.disk_base.specs.Files.{Files}
 use Rattle.ubik_node.specs.Disk.{FailsIn, Serves}
-use Rattle.ubik_node.specs.Node.{IsMeantIn, Makes, Needs, Steps, durable_in}
-use Rattle.ubik_node.specs.Progress.{alone, phase_record}
-use Rattle.ubik_node.specs.Recovering.{Recovers, relabelled_to}
+use Rattle.ubik_node.specs.Node.{IsMeantIn, Makes, Needs, NeedsFiles, Steps, durable_in}
+use Rattle.ubik_node.specs.Beacons.{alone}
 use Rattle.ubik_node.specs.Serving.{Answers, Reads, Writes}
 use Rattle.ubik_node.specs.State.{Shows, member_of, server_of}
 use Rattle.ubik_node.specs.Verdict.{Leads}
 use Rattle.ubik_node.proofs.Alone.{is_alone}
-use Rattle.ubik_node.proofs.Rested.{in_phase, kept_phase, lapsed_is, step_rests}
+use Rattle.ubik_node.proofs.Rested.{step_rests}
 
 pub led : (t : Stepped) (s : model.Server) (out : List Output) (made : List Made) (Did : List Made → Type 0) → Leads t s out made → Did made → Makes t (model.Up s) out Did
 led t s out made Did leads did =
@@ -80,12 +75,6 @@ pub beacon_step : (db : Database) (st mid : State) (last : model.Server) (now : 
 beacon_step db st mid last now out Did none rests member shows =
     rested db st mid now event.BeaconTurn [] (model.Up last) out Did rests member (shown (beacon_turn (member_of mid) (server_of mid) now) last out Did shows none)
 
-pub packet_step : (db : Database) (st mid : State) (last : model.Server) (now : ℕ) (p : Packet) (out : List Output) (Did : List Made → Type 0) → Did [] → lapsed (member_of st) (server_of st) now ≡ quiet (server_of mid)
-    → member_of mid ≡ member_of st → Shows (received_packet db (member_of mid) (server_of mid) now p [] (place_of mid.cell p.from)) last out
-    → Makes (step_of db (member_of st) (server_of st) now (event.Packet p) []) (model.Up last) out Did
-packet_step db st mid last now p out Did none rests member shows =
-    rested db st mid now (event.Packet p) [] (model.Up last) out Did rests member (shown (received_packet db (member_of mid) (server_of mid) now p [] (place_of mid.cell p.from)) last out Did shows none)
-
 -- a call's step, by how it ended; a halted server tells what it was before the lapse
 pub asked_step : {D : Type 0} (g : Ghosts D) (db : Database) (end : StepEnd) (st mid : State) (now id : ℕ) (call : List ℕ) (after : model.Node) (out : List Output) (old new : D)
     → lapsed (member_of st) (server_of st) now ≡ quiet (server_of mid)
@@ -106,6 +95,7 @@ asked_step g db Halted st mid now id call after out old new rests member kept ma
     let T : Stepped → Type 0 = λ t. FailsIn g (durable_in (server_of st)) old new t.calls in (
       h.0,
       h.1,
+      [],
       subst T (sym (step_rests db (member_of st) (server_of st) (server_of mid) now (event.Ask id call) [] rests)) (subst Q member (subst P kept (left refl))),
     )
 asked_step g db NoMemory st mid now id call after out old new rests member kept made halted left told = absurd (told refl)
@@ -118,18 +108,18 @@ up_if b h s is = rw is refl
 pub halted_if : (b : Bool) (h : model.HaltedServer) (s : model.Server) → b ≡ true → cond b (model.Halted h) (model.Up s) ≡ model.Halted h
 halted_if b h s is = rw is refl
 
--- a server that has its progress from before the lapse again is what it was then
-pub with_progress : (new mid st : State) → new ≡ mid → mid.version ≡ st.version → server_of st ≡ record (server_of mid) { phase = phase_record st.version st.progress }
-    → record (server_of new) { phase = phase_record new.version st.progress } ≡ server_of st
-with_progress new mid st is version only =
-    subst (λ (s : State). record (server_of s) { phase = phase_record s.version st.progress } ≡ server_of st) (sym is)
-    (ap (λ (v : Version). record (server_of mid) { phase = phase_record v st.progress }) version ∙ sym only)
-
 -- what a call needs
-pub needs_ask : (d : Standing) (node : model.Node) (s : model.Server) (image : List ℕ) (e : NodeEvent) (id : ℕ) (call : List ℕ) (files : Option Files) → node ≡ model.Up s → e ≡ event.Ask id call
-    → image ≡ s.image → Needs d node e files → IsMeantIn d files image
-needs_ask d node s image e id call files up ask same needs =
-    subst (IsMeantIn d files) (sym same) (subst (λ (x : NodeEvent). Needs d (model.Up s) x files) ask (subst (λ (n : model.Node). Needs d n e files) up needs))
+pub needs_ask : (d : Standing) (m : Member) (node : model.Node) (s : model.Server) (image : List ℕ) (e : NodeEvent) (id : ℕ) (call : List ℕ) (files : Option Files) → node ≡ model.Up s → e ≡ event.Ask id call
+    → image ≡ s.image → Needs d m node e files → IsMeantIn d files image
+needs_ask d m node s image e id call files up ask same needs =
+    subst (IsMeantIn d files) (sym same) (subst (λ (x : NodeEvent). Needs d m (model.Up s) x files) ask (subst (λ (n : model.Node). Needs d m n e files) up needs))
+
+-- what a packet needs, and a recovery turn
+pub needs_packet : (d : Standing) (m : Member) (node : model.Node) (s : model.Server) (e : NodeEvent) (p : Packet) (files : Option Files) → node ≡ model.Up s → e ≡ event.Packet p → Needs d m node e files → NeedsFiles p.body (IsSome files)
+needs_packet d m node s e p files up same needs = subst (λ (x : NodeEvent). Needs d m (model.Up s) x files) same (subst (λ (n : model.Node). Needs d m n e files) up needs)
+
+pub needs_turn : (d : Standing) (m : Member) (node : model.Node) (s : model.Server) (e : NodeEvent) (files : Option Files) → node ≡ model.Up s → e ≡ event.RecoverTurn → Needs d m node e files → 1 < cell_size m → IsSome files
+needs_turn d m node s e files up same needs = subst (λ (x : NodeEvent). Needs d m (model.Up s) x files) same (subst (λ (n : model.Node). Needs d m n e files) up needs)
 
 -- a step ends in one way
 pub done_or_halted : (end : StepEnd) → end ≡ Done → end ≡ Halted → ⊥
@@ -199,44 +189,6 @@ left_write g d old new db st now id call writes kind one inside turn left =
     let T : Stepped → Type 0 = λ t. FailsIn g d old new t.calls in
     let W : Option Bool → Type 0 = λ k. FailsIn g d old new (asked_as db (member_of st) (server_of st) now id call false k).calls in
     subst W (sym kind) (subst T (sym (turn false)) (subst M (sym only.1) (left only.0)))
-
--- a plan for the server that the lapse leaves is one for the server before it, whose phase it does not read
-plan_for : (st : State) (b : Bool) (now : ℕ) (r : Plan) (t : Stepped) → Recovers (in_phase st (kept_phase b st)) now r t → Recovers (server_of st) now r t
-plan_for st b now (plan.Rest p) t is = is
-plan_for st b now (plan.Relabel poll) t is = is
-
-planned_alone : (db : Database) (h : Host) (st : State) (now : ℕ) (r : Plan)
-    → Recovers (lapsed (alone h) (server_of st) now).server now r (recovery_turn (alone h) (lapsed (alone h) (server_of st) now).server now)
-    → Recovers (server_of st) now r (step_of db (alone h) (server_of st) now event.RecoverTurn [])
-planned_alone db h st now r given =
-    let b = leased (alone h) (server_of st) now in
-    let s : model.Server = in_phase st (kept_phase b st) in
-    let rests : lapsed (alone h) (server_of st) now ≡ quiet s = lapsed_is (alone h) st now b refl in
-    let G : Stepped → Type 0 = λ t. Recovers t.server now r (recovery_turn (alone h) t.server now) in
-    let T : Stepped → Type 0 = λ t. Recovers (server_of st) now r t in
-    subst T (sym (step_rests db (alone h) (server_of st) s now event.RecoverTurn [] rests)) (plan_for st b now r (recovery_turn (alone h) s now) (subst G rests given))
-
--- the recovery turn of a server that is alone, by its plan
-pub planned_step : (db : Database) (st : State) (now : ℕ) (r : Plan) → length st.cell ≡ 1 → st.me < length st.cell
-    → ((h : Host) → Recovers (lapsed (alone h) (server_of st) now).server now r (recovery_turn (alone h) (lapsed (alone h) (server_of st) now).server now))
-    → Recovers (server_of st) now r (step_of db (member_of st) (server_of st) now event.RecoverTurn [])
-planned_step db st now r one inside given =
-    let only = is_alone st.cell st.me one inside in
-    let P : Member → Type 0 = λ m. Recovers (server_of st) now r (step_of db m (server_of st) now event.RecoverTurn []) in
-    subst P (sym only.1) (planned_alone db only.0 st now r (given only.0))
-
-pub rest_made : (t : Stepped) (s : model.Server) (p : Progress) (out : List Output) (Did : List Made → Type 0) → Did [] → t ≡ quiet (record s { phase = phase_record s.version p }) → out ≡ []
-    → Makes t (model.Up (record s { phase = phase_record s.version p })) out Did
-rest_made t s p out Did none is empty =
-    let P : Stepped → Type 0 = λ u. Makes u (model.Up (record s { phase = phase_record s.version p })) out Did in
-    subst P (sym is) (record { server = refl; outputs = empty; disk = none })
-
-pub relabel_made : (t : Stepped) (s : model.Server) (poll now : ℕ) (out : List Output) (Did : List Made → Type 0)
-    → t ≡ record { server = relabelled_to s poll now; calls = own_relabelling (first_of_epoch now) ∷ []; shown = announcing (first_of_epoch now) ∷ [] }
-    → out ≡ output.Announce (first_of_epoch now) ∷ [] → Did (own_relabelling (first_of_epoch now) ∷ []) → Makes t (model.Up (relabelled_to s poll now)) out Did
-relabel_made t s poll now out Did is put did =
-    let P : Stepped → Type 0 = λ u. Makes u (model.Up (relabelled_to s poll now)) out Did in
-    subst P (sym is) (record { server = refl; outputs = put; disk = did })
 
 -- the server that was opened
 pub opened_is : (v : Voter) (n size me now : ℕ) (version : Version) (image : List ℕ) → v ≡ fresh_voter n me now → n ≡ size

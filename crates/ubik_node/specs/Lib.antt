@@ -1,4 +1,5 @@
 pub mod Appending
+pub mod Beacons
 pub mod Built
 pub mod Database
 pub mod Debug
@@ -6,9 +7,10 @@ pub mod Disk
 pub mod Evaluation
 pub mod Held
 pub mod Node
-pub mod Progress
+pub mod Receiving
 pub mod Recovering
 pub mod Serving
+pub mod Spreading
 pub mod State
 pub mod Steady
 pub mod StoreImages

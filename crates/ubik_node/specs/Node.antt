@@ -1,19 +1,25 @@
 -- What a node stands for, and what a step of it is.
-use Rattle.std.specs.Prelude.{◌≡◌, ℕ, Bool, true, false, if◌then◌else◌, None, IfSome, IsSome, Option, List, [], length}
+use Rattle.std.specs.Prelude.{◌≡◌, ◌≢◌, ◌<◌, ◌++◌, ℕ, Bool, true, false, if◌then◌else◌, None, IfSome, IsSome, Option, List, [], length, Result, Ok, Err, OnOk, OnErr, IfErr, IsErrOf}
 use Rattle.disk_base.specs.declared.disks.Disk.{Ghosts}
 use Rattle.disk_base.specs.Files.{Files}
 use Rattle.disk_base.specs.Runs.{OnlyReads}
 use Rattle.db_image.specs.Database.{Database}
 use Rattle.db_image.specs.Standing.{Standing}
+use Rattle.ubik_calls.specs.declared.packets.Body.{Body}
+use Rattle.ubik_calls.specs.declared.packets.Body.TheVariants as body
+use Rattle.ubik_store.specs.declared.faults.StoreFault.{StoreFault}
+use Rattle.ubik_store.specs.declared.faults.StoreFault.TheVariants as fault
 use Rattle.ubik_store.specs.Calls.{CallsAtMost}
+use Rattle.ubik_store.specs.declared.stores.Store.{Store}
 use Rattle.ubik_store.specs.Store.{IsSound, image_in}
+use Rattle.ubik_types.specs.declared.versions.Version.{Version}
 use Rattle.cell_model.specs.declared.events.NodeEvent.{NodeEvent}
 use Rattle.cell_model.specs.declared.events.NodeEvent.TheVariants as events
 use Rattle.cell_model.specs.declared.events.Output.{Output}
 use Rattle.cell_model.specs.Durable.{Durable, Made, durable}
 use Rattle.cell_model.specs.Node as model
 use Rattle.cell_model.specs.NodeRule.{step_of, refusals}
-use Rattle.cell_model.specs.Step.{Member, Stepped, outputs_of}
+use Rattle.cell_model.specs.Step.{Member, Stepped, cell_size, outputs_of}
 use Rattle.ubik_node.specs.declared.nodes.Node.{Node}
 use Rattle.ubik_node.specs.declared.nodes.StepEnd.{StepEnd}
 use Rattle.ubik_node.specs.declared.nodes.StepEnd.TheVariants.{Done, Halted, NoMemory}
@@ -32,21 +38,26 @@ own_member n = member_of n.state
 abbrev pub node_of : {D V : Type 0} → Node D V → model.Node
 node_of n = if n.halted then model.Halted (model.halted_from (up_server n)) else model.Up (up_server n)
 
--- The store of a node has its version and its image; it has failed where the node is halted, and else nothing is begun there.
-pub record IsStored {D V : Type 0} (g : Ghosts D) (n : Node D V) : Type 0 where
-  pub sound : IsSound g n.store
-  pub version : n.store.version ≡ n.state.version
-  pub len : n.store.len ≡ length n.state.image
-  pub none_begun : n.halted ≡ false → n.store.begun ≡ None
-  pub failed : n.store.failed ≡ n.halted
-  pub image : n.halted ≡ false → IfSome (image_in (g.files n.store.disk)) (λ image. image ≡ n.state.image)
+-- The store of a node has its version and its image, and nothing is begun there; it has failed where the node is halted. A halted node tells
+-- what was before the step that halted it, in which a durable call may have been made whole.
+pub record IsStoredAs {D : Type 0} (g : Ghosts D) (store : Store D) (own : Version) (bytes : List ℕ) (stops : Bool) : Type 0 where
+  pub sound : IsSound g store
+  pub version : stops ≡ false → store.version ≡ own
+  pub len : stops ≡ false → store.len ≡ length bytes
+  pub none_begun : stops ≡ false → store.begun ≡ None
+  pub failed : store.failed ≡ stops
+  pub image : stops ≡ false → IfSome (image_in (g.files store.disk)) (λ there. there ≡ bytes)
 
--- the same in the step that halts the node, whose store has failed first
-pub record IsStoredBut {D V : Type 0} (g : Ghosts D) (n : Node D V) : Type 0 where
-  pub sound : IsSound g n.store
-  pub version : n.store.version ≡ n.state.version
-  pub len : n.store.len ≡ length n.state.image
-  pub failed : n.store.failed ≡ true
+abbrev pub IsStored : {D V : Type 0} → Ghosts D → Node D V → Type 0
+IsStored g n = IsStoredAs g n.store n.state.version n.state.image n.halted
+
+-- the store of a node in the step that halts it, which has failed first
+pub record HasFailedStore {D : Type 0} (g : Ghosts D) (store : Store D) : Type 0 where
+  pub sound : IsSound g store
+  pub failed : store.failed ≡ true
+
+abbrev pub IsStoredBut : {D V : Type 0} → Ghosts D → Node D V → Type 0
+IsStoredBut g n = HasFailedStore g n.store
 
 -- a run of calls of a disk, however many: a stop in it makes it fail, and a failure has its cause
 abbrev pub CallsSo : {D : Type 0} → Ghosts D → (old new : D) → Type 0 → Type 0
@@ -75,23 +86,82 @@ Steps g db m Done event now (model.Up s) after outputs old new =
 Steps g db m Done event now _ after outputs old new = ⊥
 Steps g db m Halted event now (model.Up s) after outputs old new =
     (after ≡ model.Halted (model.halted_from s)) × (outputs ≡ outputs_of (refusals event))
-    × FailsIn g (durable_in s) old new (step_of db m s now event []).calls
+    × (short : List Bool) × FailsIn g (durable_in s) old new (step_of db m s now event short).calls
 Steps g db m Halted event now (model.Halted h) after outputs old new =
     (after ≡ model.Halted h) × (outputs ≡ outputs_of (refusals event)) × (new ≡ old)
 Steps g db m Halted event now model.Down after outputs old new = ⊥
-Steps g db m NoMemory event now before after outputs old new = (after ≡ before) × (outputs ≡ []) × OnlyReads g old new ⊥
+Steps g db m NoMemory event now (model.Up s) after outputs old new = (after ≡ model.Up s) × (outputs ≡ []) × OnlyReads g old new ⊥
+Steps g db m NoMemory event now _ after outputs old new = ⊥
 
 -- the disk tells its files, and the image stands for a state of the database
 abbrev pub IsMeantIn : Standing → Option Files → (image : List ℕ) → Type 0
 IsMeantIn d files image = IsSome files × (s : d.State) × d.StandsFor image s
 
--- what an event needs to be handled as the database has it: a call at a server that is up needs its image
-abbrev pub Needs : Standing → model.Node → NodeEvent → Option Files → Type 0
-Needs d (model.Up s) (events.Ask id call) files = IsMeantIn d files s.image
-Needs d before event files = Unit {0}
+-- a packet that may be answered from the image, or changes it, needs a disk that tells its files
+abbrev pub NeedsFiles : Body → Type 0 → Type 0
+NeedsFiles (body.Beacon start claim ready version) tells = Unit {0}
+NeedsFiles (body.Vote start granted) tells = Unit {0}
+NeedsFiles (body.GetVersion poll) tells = Unit {0}
+NeedsFiles (body.SetVersion poll old new) tells = Unit {0}
+NeedsFiles (body.VersionKept version) tells = Unit {0}
+NeedsFiles _ tells = tells
+
+-- What an event needs to be handled as the rules have it. A call at a server that is up needs its image, and what is sent of an image to
+-- another server, or taken over, needs a disk that tells its files.
+abbrev pub Needs : Standing → Member → model.Node → NodeEvent → Option Files → Type 0
+Needs d m (model.Up s) (events.Ask id call) files = IsMeantIn d files s.image
+Needs d m (model.Up s) (events.Packet p) files = NeedsFiles p.body (IsSome files)
+Needs d m (model.Up s) events.RecoverTurn files = 1 < cell_size m → IsSome files
+Needs d m before event files = Unit {0}
 
 -- the moment of the last step after one that ended so
 abbrev pub last_after : StepEnd → ℕ → ℕ → ℕ
 last_after NoMemory last now = last
 last_after Done last now = now
 last_after Halted last now = now
+
+-- the disk tells its files, where there is another server to send something of them to
+abbrev pub Knows : {D V : Type 0} → Ghosts D → Node D V → Type 0
+Knows g n = 1 < cell_size (own_member n) → IsSome (g.files n.store.disk)
+
+-- a node as rules see it
+pub record Held (D : Type 0) : Type 0 where
+  pub store : Store D
+  pub server : model.Server
+  pub halted : Bool
+  pub last : ℕ
+  pub member : Member
+
+abbrev pub held : {D V : Type 0} → Node D V → Held D
+held n = record { store = n.store; server = up_server n; halted = n.halted; last = n.last; member = own_member n }
+
+-- its store is that of the server
+abbrev pub IsKept : {D : Type 0} → Ghosts D → Held D → Type 0
+IsKept g h = IsStoredAs g h.store h.server.version h.server.image h.halted
+
+-- A rule was made: the server after it, what it put out behind what stood there, and what the disk did for its durable calls.
+pub record IsMade {D : Type 0} (g : Ghosts D) (t : Stepped) (before after : List Output) (old new : Held D) : Type 0 where
+  pub server : t.server ≡ new.server
+  pub outputs : after ≡ before ++ outputs_of t.shown
+  pub disk : Serves g (durable_in old.server) old.store.disk new.store.disk t.calls
+
+-- How a rule ended at a node that is not halted. It was made, as far as the disk tells what that needs; or the disk failed in it; or memory
+-- ran out, and nothing changed. Where it was not made the server is as before, and what was put out counts for nothing.
+pub record Ends {D : Type 0} (g : Ghosts D) (knows : Type 0) (t : Stepped) (before after : List Output) (old new : Held D) (r : Result (Unit {0}) StoreFault) : Type 0 where
+  pub made : knows → OnOk r (IsMade g t before after old new)
+  pub failed : IsErrOf r fault.DiskFault → FailsIn g (durable_in old.server) old.store.disk new.store.disk t.calls
+  pub short : IfErr r (λ why. why ≢ fault.DiskFault → (why ≡ fault.NoMemory) × OnlyReads g old.store.disk new.store.disk ⊥)
+  pub state : OnErr r (new.server ≡ old.server)
+  pub stored : ¬ IsErrOf r fault.DiskFault → IsKept g new
+  pub halts : IsErrOf r fault.DiskFault → HasFailedStore g new.store
+  pub told : ¬ IsErrOf r fault.DiskFault → IsSome (g.files old.store.disk) → IsSome (g.files new.store.disk)
+  pub calls : CallsSo g old.store.disk new.store.disk (IsErrOf r fault.DiskFault)
+  pub halted : new.halted ≡ old.halted
+  pub last : new.last ≡ old.last
+  pub member : new.member ≡ old.member
+
+-- How a step is closed by the end of its rule. Where the rule was not made the server is the one before the step, and nothing is put out.
+abbrev pub Closes : {D : Type 0} → Result (Unit {0}) StoreFault → (back : model.Server) → (old new : Held D) → (before after : List Output) → StepEnd → Type 0
+Closes (Ok done) back old new before after end = (end ≡ Done) × (new ≡ old) × (after ≡ before)
+Closes (Err fault.DiskFault) back old new before after end = (end ≡ Halted) × (new ≡ record old { server = back; halted = true }) × (after ≡ [])
+Closes (Err _) back old new before after end = (end ≡ NoMemory) × (new ≡ record old { server = back }) × (after ≡ [])

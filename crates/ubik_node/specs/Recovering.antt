@@ -1,23 +1,29 @@
--- What a plan for the recovery turn of a server that is alone in its cell comes to.
-use Rattle.std.specs.Prelude.{◌≡◌, ℕ, [], ◌∷◌}
-use Rattle.cell_model.specs.Node.{Server}
-use Rattle.cell_model.specs.Recovery.{first_of_epoch, own_relabelling}
-use Rattle.cell_model.specs.Step.{Stepped, quiet, announcing}
-use Rattle.ubik_node.specs.declared.progress.Progress.TheVariants as progress
-use Rattle.ubik_node.specs.declared.recovering.Plan.{Plan}
-use Rattle.ubik_node.specs.declared.recovering.Plan.TheVariants as plan
-use Rattle.ubik_node.specs.Progress.{phase_record}
+-- The recovery of a server.
+use Rattle.std.specs.Prelude.{◌≡◌, ◌≤◌, ℕ, Option, Some, None, List, length}
+use Rattle.std.specs.Option.{ForSome}
+use Rattle.ubik_types.specs.declared.limits.TheConstants.{MAX_IMAGE}
+use Rattle.ubik_types.specs.declared.phases.Phase.TheVariants as phases
+use Rattle.ubik_types.specs.declared.versions.Version.{Version}
+use Rattle.ubik_types.specs.Version.{IsVersion}
+use Rattle.cell_model.specs.Polls.{entry_at}
+use Rattle.ubik_recovery.specs.Record.{RecoveryRecord, restored}
 
--- the server after a relabelling to a moment
-abbrev pub relabelled_to : Server → ℕ → ℕ → Server
-relabelled_to s poll now =
-    record s { version = first_of_epoch now; phase = phase_record (first_of_epoch now) (progress.Ready poll s.version) }
+-- the versions that were answered are versions
+abbrev pub AreVersions : List (Option Version) → Type 0
+AreVersions answers = (k : ℕ) (v : Version) → entry_at answers k ≡ Some v → IsVersion v
 
-abbrev pub Recovers : Server → ℕ → Plan → Stepped → Type 0
-Recovers s now (plan.Rest p) t = t ≡ quiet (record s { phase = phase_record s.version p })
-Recovers s now (plan.Relabel poll) t =
-    t ≡ record {
-      server = relabelled_to s poll now;
-      calls = own_relabelling (first_of_epoch now) ∷ [];
-      shown = announcing (first_of_epoch now) ∷ [];
-    }
+-- The recovery of a server in a cell of so many. What it receives of an image is no longer than one.
+pub record IsOfCell (n : ℕ) (r : RecoveryRecord) : Type 0 where
+  pub servers : r.servers ≡ n
+  pub answers : AreVersions r.answers
+  pub old : IsVersion r.old_version
+  pub text : ForSome r.text (λ text. length text.bytes ≤ MAX_IMAGE)
+
+-- calls are served
+abbrev pub IsServing : RecoveryRecord → Type 0
+IsServing r = r.phase ≡ phases.Ready
+
+-- what was given out, if anything was, comes back over what was left
+abbrev pub restored_over : Option RecoveryRecord → RecoveryRecord → RecoveryRecord
+restored_over None left = left
+restored_over (Some given) left = restored given left

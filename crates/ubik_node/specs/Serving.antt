@@ -14,7 +14,7 @@ use Rattle.cell_model.specs.Writes.{write_turn}
 use Rattle.ubik_node.specs.declared.serving.Turn.{Turn}
 use Rattle.ubik_node.specs.declared.serving.Turn.TheVariants as turn
 use Rattle.ubik_node.specs.Node.{Makes}
-use Rattle.ubik_node.specs.Progress.{alone}
+use Rattle.ubik_node.specs.Beacons.{alone}
 use Rattle.ubik_node.specs.Verdict.{Leads}
 
 -- what a call leads to

@@ -1,15 +1,17 @@
 -- What the state of a node stands for: the abstract server, and its place in the cell.
-use Rattle.std.specs.Prelude.{◌≡◌, None, List, []}
+use Rattle.std.specs.Prelude.{◌≡◌, None, List, [], ◌++◌}
 use Rattle.cell_model.specs.declared.events.Output.{Output}
 use Rattle.cell_model.specs.Node as model
 use Rattle.cell_model.specs.Step.{Member, Stepped, outputs_of}
+use Rattle.ubik_recovery.specs.Record.{RecoveryRecord, phase_record}
+use Rattle.ubik_recovery.specs.Rules.{recovering}
 use Rattle.ubik_node.specs.declared.state.State.{State}
-use Rattle.ubik_node.specs.Progress.{phase_record, beacon_of}
+use Rattle.ubik_node.specs.Beacons.{beacon_of}
 
 abbrev pub member_of : State → Member
 member_of s = record { hosts = s.cell; me = s.me }
 
--- nothing of another server's writes or images is kept, and no write is in flight
+-- Nothing of another server's writes is kept, and no write is in flight: the announced version is the own one.
 abbrev pub server_of : State → model.Server
 server_of s =
     record {
@@ -18,13 +20,17 @@ server_of s =
       votes = s.votes.votes;
       starts = s.votes.starts;
       opened = s.votes.opened;
-      phase = phase_record s.version s.progress;
+      phase = phase_record s.version s.recovery;
       beacon = beacon_of s.beacon;
       kept = None;
-      received = None;
+      received = s.recovery.text;
       flight = None;
       waiting = [];
     }
+
+-- the server with another recovery
+abbrev pub server_with : State → RecoveryRecord → model.Server
+server_with s r = recovering s.version r (server_of s)
 
 -- the place in the cell and the database stay
 pub record Keeps (before after : State) : Type 0 where
@@ -32,7 +38,13 @@ pub record Keeps (before after : State) : Type 0 where
   pub version : after.version ≡ before.version
   pub image : after.image ≡ before.image
 
--- a step without a durable call: the server after it, and what it puts out
+-- a step without a durable call: the server after it, and what it puts out behind what stood there
+pub record ShowsBehind (t : Stepped) (after : model.Server) (old new : List Output) : Type 0 where
+  pub server : t.server ≡ after
+  pub calls : t.calls ≡ []
+  pub outputs : new ≡ old ++ outputs_of t.shown
+
+-- the same where nothing stood there
 pub record Shows (t : Stepped) (after : model.Server) (out : List Output) : Type 0 where
   pub server : t.server ≡ after
   pub calls : t.calls ≡ []

@@ -1,21 +1,28 @@
 //! One server of a cell: its database on a disk, its votes and its phase, and one step of it at a time. A
 //! step takes a moment and an event, and leaves what it puts out in a list; it has no clock and no thread.
 //!
-//! Votes are built for every cell, recovery and writes for a cell of one.
+//! Votes and recovery are built for every cell, writes for a cell of one.
 #![tactic(auto)]
 
+mod asking;
+mod beacons;
 mod database;
 mod evaluations;
 mod held_images;
 mod nodes;
 mod outputs;
-mod progress;
-mod recovering;
+mod pieces;
+mod polling;
+mod receiving;
+mod relabelling;
 mod serving;
+mod spreading;
 mod state;
 mod steady_disks;
 mod store_images;
+mod telling;
 mod verdicts;
+mod voting;
 
 pub use cell_model::{NodeEvent, Output};
 pub use nodes::{Node, StepEnd};
@@ -28,3 +35,5 @@ pub use ubik_store::StoreFault;
 mod stop_tests;
 #[cfg(test)]
 mod tests;
+#[cfg(test)]
+mod transfer_tests;

@@ -1,35 +1,31 @@
 //! A server of a cell, one step at a time.
-ghost use Rattle.std.specs.Prelude.{◌≡◌, ◌≢◌, ◌↔◌, IsTrue, ◌+◌, ◌*◌, ◌<◌, ◌≤◌, ℕ, List, [], ◌∷◌, length, IfOk, IfErr, IfSome, IsErrOf, IsSome, OnOk, OnErr, MatchResult, None, Some, true, false};
+ghost use Rattle.std.specs.Prelude.{◌≡◌, ◌≢◌, ◌↔◌, IsTrue, ◌+◌, ◌<◌, ◌≤◌, ℕ, Bool, List, [], length, Ok, Err, IfOk, IfErr, IfSome, IsOk, IsSome, OnErr, MatchResult, None, true, false};
 ghost use Rattle.ubik_types.specs.declared.hosts.Host.{Host};
 ghost use Rattle.ubik_types.specs.Moment.{IsMoment};
 ghost use Rattle.disk_base.specs.Crash.{IsSettled};
-ghost use Rattle.disk_base.specs.Runs.{OnlyReads};
 ghost use Rattle.disk_base.specs.Stops.{IsStopped};
 ghost use Rattle.cell_model.specs.Node as model;
-ghost use Rattle.cell_model.specs.NodeRule.{refusals};
+ghost use Rattle.cell_model.specs.NodeRule.{place_of, received_packet, refusals};
 ghost use Rattle.cell_model.specs.Step.{outputs_of, cell_size};
-ghost use Rattle.cell_model.specs.declared.events.NodeEvent.TheVariants as events;
-ghost use Rattle.cell_model.specs.declared.events.Output.TheVariants as outputs;
-ghost use Rattle.ubik_node.specs.Built.{IsBuilt, TakesNoMemory};
+ghost use Rattle.db_image.specs.Database.{Database};
+ghost use Rattle.ubik_node.specs.Built.{BodyTakesNoMemory, IsBuilt, IsBuiltBody, TakesNoMemory};
+ghost use Rattle.ubik_node.specs.State.{server_with};
+ghost use Rattle.ubik_node.specs.Recovering.{IsOfCell, restored_over};
 
-use crate::database::commit_all;
-use crate::evaluations::evaluate;
 use crate::held_images::HeldImage;
 use crate::outputs::Outputs;
-use crate::progress::Progress;
-use crate::recovering::{Plan, recovery_plan};
-use crate::serving::{Turn, reply_of, turn_of};
 use crate::state::State;
 use crate::steady_disks::SteadyDisk;
-use crate::verdicts::{Verdict, verdict_of};
+use crate::voting::Heard;
 use cell_model::{NodeEvent, Output};
 use db_image::DraftService;
 use disk_base::{Fill, Refused, StopDisk};
 use std::alloc::Global;
 use std::marker::PhantomData;
-use ubik_calls::{DebugIs, Reply};
+use ubik_calls::{Body, DebugIs, Packet, Reply};
+use ubik_recovery::{Recovery, TextSource};
 use ubik_store::{Store, StoreFault};
-use ubik_types::{Bytes, Cell, Changes, Host, MAX_COUNTER, Phase, Version};
+use ubik_types::{Cell, Host, Phase, Version};
 use ubik_votes::Votes;
 
 /// How a step ended.
@@ -40,16 +36,16 @@ pub enum StepEnd {
     /// The server's disk failed, now or before: it answers every call with a fault of the disk, until it is
     /// opened anew.
     Halted,
-    /// Memory ran out in a recovery turn. Nothing changed and nothing was put out.
+    /// Memory ran out in a recovery turn, or at a packet of recovery. Nothing changed and nothing was put out.
     NoMemory,
 }
 
 /// A server that is up, over the store of its disk, and the database that it serves.
 pub struct Node<D: SteadyDisk, V: DraftService> {
-    alloc: Global,
-    store: Store<D>,
-    state: State,
-    halted: bool,
+    pub(crate) alloc: Global,
+    pub(crate) store: Store<D>,
+    pub(crate) state: State,
+    pub(crate) halted: bool,
     last: u32,
     service: PhantomData<V>,
 }
@@ -73,14 +69,9 @@ impl<D: SteadyDisk, V: DraftService> Node<D, V> {
     ghost use Rattle.ubik_types.specs.Phase.{phase_of};
     ghost use Rattle.ubik_types.specs.Lease.{lease_end};
     ghost use Rattle.ubik_store.specs.Opening.{IsOpening, OpensIn, RefusesFiles};
-    ghost use Rattle.cell_model.specs.Asks.{asked};
-    ghost use Rattle.cell_model.specs.Durable.{Durable, Made, Transaction};
-    ghost use Rattle.cell_model.specs.Writes.{write_turn, next_version, own_commit};
-    ghost use Rattle.ubik_node.specs.Disk.{FailsIn, Serves, StandsAs};
-    ghost use Rattle.ubik_node.specs.Verdict.{IsWritten, committed};
-    ghost use Rattle.ubik_node.specs.Serving.{Answers, Reads, Writes};
-    ghost use Rattle.ubik_node.specs.Progress.{alone, IsServing};
-    ghost use Rattle.ubik_node.specs.Node.{Calls, CallsSo, IsMeantIn, IsStored, IsStoredBut, Needs, Steps, durable_in, last_after, node_of, own_member, up_server};
+    ghost use Rattle.cell_model.specs.Durable.{Durable};
+    ghost use Rattle.ubik_node.specs.Disk.{StandsAs};
+    ghost use Rattle.ubik_node.specs.Node.{Calls, Closes, Ends, held, IsStored, Needs, NeedsFiles, Steps, last_after, node_of, own_member, up_server};
 
     /// Opens a server over its disk, on which nothing is pending, at a moment in seconds: the server at a place of the cell. An
     /// empty disk is an empty database of version 0.0. A refusal is that of the store, and hands the disk back as the store left it.
@@ -118,7 +109,7 @@ impl<D: SteadyDisk, V: DraftService> Node<D, V> {
             image: HeldImage::of(&store),
             votes: Votes::start(servers, me, now),
             beacon: None,
-            progress: Progress::None,
+            recovery: Recovery::in_cell(alloc, servers),
         };
         Ok(Node {
             alloc,
@@ -131,21 +122,22 @@ impl<D: SteadyDisk, V: DraftService> Node<D, V> {
     }
 
     /// One step: what an event makes of the server at a moment in seconds, not below the last one. An id of a
-    /// call is new since the opening. A call is made as the database has it where the image stands for a state. `out` is empty before it, and has what the step put out after it. Only
-    /// a recovery turn can end for want of memory: a call that finds none is answered so. At each moment of the step a
-    /// crash leaves the state after the first so many of its durable calls.
+    /// call is new since the opening. A call is made as the database has it where the image stands for a state. `out` is empty before it, and
+    /// has what the step put out after it. A recovery turn, and packets of recovery, can end for want of memory: a call that finds none is
+    /// answered so. At each moment of the step a crash leaves the state after the first so many of its durable calls.
     pub fn step(&mut self, now: u32, event: NodeEvent, out: &mut Outputs) -> StepEnd
         requires moment { IsMoment now }
         requires order { self.old.last ≤ now }
-        requires built { IsBuilt (own_member self.old) event }
+        requires built { IsBuilt V.standing.database (own_member self.old) (node_of self.old) event }
         requires empty { out.old ≡ [] }
         requires stored { IsStored D.Disk self.old }
-        ensures step { Needs V.standing (node_of self.old) event (D.files self.old.store.disk)
+        ensures step { Needs V.standing (own_member self.old) (node_of self.old) event (D.files self.old.store.disk)
             → Steps D.Disk V.standing.database (own_member self.old) result event now (node_of self.old) (node_of self.new) out.new
             self.old.store.disk self.new.store.disk }
         ensures member { own_member self.new ≡ own_member self.old }
         ensures stored { IsStored D.Disk self.new }
         ensures memory { TakesNoMemory event → result ≢ StepEnd.NoMemory }
+        ensures halts { (result ≡ StepEnd.Halted) ↔ (self.new.halted ≡ true) }
         ensures told { result ≢ StepEnd.Halted → IsSome (D.files self.old.store.disk) → IsSome (D.files self.new.store.disk) }
         ensures calls { Calls D.Disk self.old self.new result }
         ensures last { self.new.last ≡ last_after result self.old.last now }
@@ -191,7 +183,7 @@ impl<D: SteadyDisk, V: DraftService> Node<D, V> {
     pub fn phase(&self) -> Phase
         ensures { result ≡ phase_of (up_server self.now).phase }
     {
-        self.state.progress.phase()
+        self.state.recovery.phase()
     }
 
     /// The last moment of the lease that was counted last, in seconds; 0 where none was.
@@ -249,241 +241,160 @@ impl<D: SteadyDisk, V: DraftService> Node<D, V> {
     fn step_up(&mut self, now: u32, event: &NodeEvent, out: &mut Outputs) -> StepEnd
         requires moment { IsMoment now }
         requires not_halted { self.old.halted ≡ false }
-        requires built { IsBuilt (own_member self.old) event.now }
+        requires built { IsBuilt V.standing.database (own_member self.old) (node_of self.old) event.now }
         requires empty { out.old ≡ [] }
         requires stored { IsStored D.Disk self.old }
-        ensures step { Needs V.standing (node_of self.old) event.now (D.files self.old.store.disk)
+        ensures step { Needs V.standing (own_member self.old) (node_of self.old) event.now (D.files self.old.store.disk)
             → Steps D.Disk V.standing.database (own_member self.old) result event.now now (node_of self.old) (node_of self.new) out.new
             self.old.store.disk self.new.store.disk }
         ensures member { own_member self.new ≡ own_member self.old }
         ensures stored { IsStored D.Disk self.new }
         ensures memory { TakesNoMemory event.now → result ≢ StepEnd.NoMemory }
+        ensures halts { (result ≡ StepEnd.Halted) ↔ (self.new.halted ≡ true) }
         ensures told { result ≢ StepEnd.Halted → IsSome (D.files self.old.store.disk) → IsSome (D.files self.new.store.disk) }
         ensures calls { Calls D.Disk self.old self.new result }
         ensures last { self.new.last ≡ self.old.last }
     {
+        let given = self.state.lapse(now);
         match event {
             NodeEvent::Packet(packet) => {
-                self.state.lapse(now);
-                self.state.receive(now, packet, out);
-                StepEnd::Done
+                let end = self.receive(now, packet, out);
+                self.end(end, given, out)
             }
             NodeEvent::BeaconTurn => {
-                self.state.lapse(now);
                 self.state.beacon_turn(now, out);
                 StepEnd::Done
             }
-            NodeEvent::RecoverTurn => self.recover(now, out),
+            NodeEvent::RecoverTurn => {
+                let end = self.recover(now, out);
+                self.end(end, given, out)
+            }
             NodeEvent::Ask { id, call } => {
-                let before = self.state.progress;
-                self.state.lapse(now);
                 let end = self.ask(now, *id, call.as_slice(), out);
-                if end == StepEnd::Halted {
-                    // A halted server tells what it was before the step.
-                    self.state.progress = before;
+                if end != StepEnd::Halted {
+                    return end;
                 }
+                // A halted server tells what it was before the step.
+                self.state.restore(given);
                 end
             }
         }
     }
 
-    /// The recovery turn of a server that is not halted.
-    fn recover(&mut self, now: u32, out: &mut Outputs) -> StepEnd
-        requires moment { IsMoment now }
-        requires not_halted { self.old.halted ≡ false }
-        requires alone { cell_size (own_member self.old) ≡ 1 }
-        requires empty { out.old ≡ [] }
-        requires stored { IsStored D.Disk self.old }
-        ensures step { Steps D.Disk V.standing.database (own_member self.old) result events.RecoverTurn now (node_of self.old) (node_of self.new) out.new
-            self.old.store.disk self.new.store.disk }
-        ensures member { own_member self.new ≡ own_member self.old }
-        ensures stored { IsStored D.Disk self.new }
-        ensures told { result ≢ StepEnd.Halted → IsSome (D.files self.old.store.disk) → IsSome (D.files self.new.store.disk) }
-        ensures calls { Calls D.Disk self.old self.new result }
-        ensures last { self.new.last ≡ self.old.last }
+    /// Ends a step by how its rule ended. Where it was not made the server is as before the step, and puts nothing out.
+    fn end(
+        &mut self,
+        end: Result<(), StoreFault>,
+        given: Option<Recovery>,
+        out: &mut Outputs,
+    ) -> StepEnd
+        requires given { IfSome given (IsOfCell (length self.old.state.cell)) }
+        ensures { Closes end (server_with self.old.state (restored_over given self.old.state.recovery)) (held self.old) (held self.new) out.old out.new result }
     {
-        let poll = match recovery_plan(&self.state, now) {
-            Plan::Rest(progress) => {
-                self.state.progress = progress;
-                return StepEnd::Done;
-            }
-            Plan::Relabel { poll } => poll,
+        let fault = match end {
+            Ok(()) => return StepEnd::Done,
+            Err(fault) => fault,
         };
-        let version = Version {
-            epoch: now,
-            counter: 1,
-        };
-        match self.store.relabel(version) {
-            Ok(()) => {
-                let old = self.state.version;
-                self.state.progress = Progress::Ready { poll, old };
-                self.state.version = version;
-                out.put(Output::Announce { version });
-                StepEnd::Done
-            }
-            Err(StoreFault::DiskFault) => {
-                self.halted = true;
-                StepEnd::Halted
-            }
-            Err(_) => StepEnd::NoMemory,
-        }
-    }
-
-    /// A call at a server that is not halted, after the lapse.
-    fn ask(&mut self, now: u32, id: u32, call: &[u8], out: &mut Outputs) -> StepEnd
-        requires not_halted { self.old.halted ≡ false }
-        requires empty { out.old ≡ [] }
-        requires stored { IsStored D.Disk self.old }
-        ensures done { result ≡ StepEnd.Done → IsMeantIn V.standing (D.files self.old.store.disk) self.old.state.image
-            → Answers V.standing.database (own_member self.old) (up_server self.old) now id call.now
-            (node_of self.new) out.new (Serves D.Disk (durable_in (up_server self.old)) self.old.store.disk self.new.store.disk) }
-        ensures halted { result ≡ StepEnd.Halted → (self.new.halted ≡ true) × (self.new.state ≡ self.old.state)
-            × (out.new ≡ outputs.Reply id Reply.DiskFault ∷ []) }
-        ensures left { result ≡ StepEnd.Halted → IsMeantIn V.standing (D.files self.old.store.disk) self.old.state.image
-            → FailsIn D.Disk (durable_in (up_server self.old)) self.old.store.disk self.new.store.disk
-            (asked V.standing.database (own_member self.old) (up_server self.old) now id call.now false).calls }
-        ensures memory { result ≢ StepEnd.NoMemory }
-        ensures member { own_member self.new ≡ own_member self.old }
-        ensures stored { IsStored D.Disk self.new }
-        ensures told { result ≢ StepEnd.Halted → IsSome (D.files self.old.store.disk) → IsSome (D.files self.new.store.disk) }
-        ensures calls { Calls D.Disk self.old self.new result }
-        ensures last { self.new.last ≡ self.old.last }
-    {
-        let Some(writes) = V::writes(call) else {
-            return put_reply(out, id, Reply::Malformed);
-        };
-        match turn_of(&self.state, now, writes) {
-            Turn::Refuse(reply) => put_reply(out, id, reply),
-            Turn::Read => self.read(now, id, call, out),
-            Turn::Write => self.write(now, id, call, out),
-        }
-    }
-
-    /// Replies to a call that reads the own image.
-    fn read(&mut self, now: u32, id: u32, call: &[u8], out: &mut Outputs) -> StepEnd
-        requires not_halted { self.old.halted ≡ false }
-        requires empty { out.old ≡ [] }
-        requires stored { IsStored D.Disk self.old }
-        ensures done { result ≡ StepEnd.Done → (node_of self.new ≡ model.Up (up_server self.old))
-            × Serves D.Disk (durable_in (up_server self.old)) self.old.store.disk self.new.store.disk [] }
-        ensures replied { result ≡ StepEnd.Done → IsMeantIn V.standing (D.files self.old.store.disk) self.old.state.image
-            → (reply : Reply) × (out.new ≡ outputs.Reply id reply ∷ []) × Reads V.standing.database (up_server self.old) now call.now reply }
-        ensures halted { result ≡ StepEnd.Halted → (self.new.halted ≡ true) × (self.new.state ≡ self.old.state)
-            × (out.new ≡ outputs.Reply id Reply.DiskFault ∷ []) }
-        ensures left { result ≡ StepEnd.Halted → (calls : List Made) → FailsIn D.Disk (durable_in (up_server self.old))
-            self.old.store.disk self.new.store.disk calls }
-        ensures memory { result ≢ StepEnd.NoMemory }
-        ensures member { own_member self.new ≡ own_member self.old }
-        ensures stored { IsStored D.Disk self.new }
-        ensures told { result ≢ StepEnd.Halted → IsSome (D.files self.old.store.disk) → IsSome (D.files self.new.store.disk) }
-        ensures calls { Calls D.Disk self.old self.new result }
-        ensures last { self.new.last ≡ self.old.last }
-    {
-        match evaluate::<D, V>(self.alloc, &mut self.store, now, call) {
-            Ok(made) => put_reply(out, id, reply_of(made.reply)),
-            Err(fault) => self.end_short(id, fault, out),
-        }
-    }
-
-    /// The turn of a writing call at a server that serves, which is alone in its cell.
-    fn write(&mut self, now: u32, id: u32, call: &[u8], out: &mut Outputs) -> StepEnd
-        requires not_halted { self.old.halted ≡ false }
-        requires empty { out.old ≡ [] }
-        requires serving { IsServing self.old.state.progress }
-        requires stored { IsStored D.Disk self.old }
-        ensures done { result ≡ StepEnd.Done → IsMeantIn V.standing (D.files self.old.store.disk) self.old.state.image
-            → (h : Host) → Writes V.standing.database h (up_server self.old) now id call.now
-            (node_of self.new) out.new (Serves D.Disk (durable_in (up_server self.old)) self.old.store.disk self.new.store.disk) }
-        ensures halted { result ≡ StepEnd.Halted → (self.new.halted ≡ true) × (self.new.state ≡ self.old.state)
-            × (out.new ≡ outputs.Reply id Reply.DiskFault ∷ []) }
-        ensures left { result ≡ StepEnd.Halted → IsMeantIn V.standing (D.files self.old.store.disk) self.old.state.image
-            → (h : Host) → FailsIn D.Disk (durable_in (up_server self.old)) self.old.store.disk self.new.store.disk
-            (write_turn V.standing.database (alone h) (up_server self.old) now id call.now false).calls }
-        ensures memory { result ≢ StepEnd.NoMemory }
-        ensures member { own_member self.new ≡ own_member self.old }
-        ensures stored { IsStored D.Disk self.new }
-        ensures told { result ≢ StepEnd.Halted → IsSome (D.files self.old.store.disk) → IsSome (D.files self.new.store.disk) }
-        ensures calls { Calls D.Disk self.old self.new result }
-        ensures last { self.new.last ≡ self.old.last }
-    {
-        let made = match evaluate::<D, V>(self.alloc, &mut self.store, now, call) {
-            Ok(made) => made,
-            Err(fault) => return self.end_short(id, fault, out),
-        };
-        match verdict_of::<V>(&self.state, made) {
-            Verdict::Reply(reply) => put_reply(out, id, reply),
-            Verdict::NewPoll => {
-                let reply = self.state.no_quorum(now, Phase::Poll);
-                self.state.progress = Progress::Poll { poll: now };
-                put_reply(out, id, reply)
-            }
-            Verdict::Commit { answer, changes } => match self.commit(id, answer, &changes, out) {
-                Ok(()) => StepEnd::Done,
-                Err(fault) => self.end_short(id, fault, out),
-            },
-        }
-    }
-
-    /// Ends a call that was not made: a fault of the disk halts the server, and any other one is want of memory.
-    fn end_short(&mut self, id: u32, fault: StoreFault, out: &mut Outputs) -> StepEnd
-        requires empty { out.old ≡ [] }
-        ensures halted { fault ≡ StoreFault.DiskFault → (result ≡ StepEnd.Halted) × (self.new.halted ≡ true)
-            × (out.new ≡ outputs.Reply id Reply.DiskFault ∷ []) }
-        ensures no_memory { fault ≢ StoreFault.DiskFault → (result ≡ StepEnd.Done) × (self.new.halted ≡ self.old.halted)
-            × (out.new ≡ outputs.Reply id Reply.NoMemory ∷ []) }
-        ensures same { (self.new.state ≡ self.old.state) × (self.new.store ≡ self.old.store) × (self.new.last ≡ self.old.last) }
-    {
+        self.state.restore(given);
+        out.clear();
         match fault {
             StoreFault::DiskFault => {
                 self.halted = true;
-                let _ = put_reply(out, id, Reply::DiskFault);
                 StepEnd::Halted
             }
-            _ => put_reply(out, id, Reply::NoMemory),
+            _ => StepEnd::NoMemory,
         }
     }
 
-    /// Commits changes under the next counter, announces it, and answers the call.
-    fn commit(
-        &mut self,
-        id: u32,
-        answer: Bytes,
-        changes: &Changes,
-        out: &mut Outputs,
-    ) -> Result<(), StoreFault>
+    /// A packet of another server, at a server that is not halted, after the lapse. One of a host that is not of the cell is nothing.
+    fn receive(&mut self, now: u32, packet: &Packet, out: &mut Outputs) -> Result<(), StoreFault>
+        requires moment { IsMoment now }
         requires not_halted { self.old.halted ≡ false }
+        requires kind { IsBuiltBody packet.now.body }
         requires empty { out.old ≡ [] }
-        requires counter { self.old.state.version.counter < MAX_COUNTER }
         requires stored { IsStored D.Disk self.old }
-        ensures made { OnOk result (IsSome (D.files self.old.store.disk) → (image : List ℕ) → IsWritten self.old.state.image image changes.now
-            → node_of self.new ≡ model.Up (committed (up_server self.old) self.old.state.progress image)) }
-        ensures put { OnOk result (out.new ≡ outputs.Announce (next_version self.old.state.version) ∷ outputs.Reply id (Reply.Ok answer) ∷ []) }
-        ensures served { OnOk result ((t : Transaction) (image : List ℕ) → IsWritten self.old.state.image image changes.now
-            → Serves D.Disk (durable_in (up_server self.old)) self.old.store.disk self.new.store.disk
-            (own_commit (next_version self.old.state.version) changes.now image t ∷ [])) }
-        ensures stored { ¬ IsErrOf result StoreFault.DiskFault → IsStored D.Disk self.new }
-        ensures failed { IsErrOf result StoreFault.DiskFault → IsStoredBut D.Disk self.new }
-        ensures left { IsErrOf result StoreFault.DiskFault → (t : Transaction) (image : List ℕ) → IsWritten self.old.state.image image changes.now
-            → FailsIn D.Disk (durable_in (up_server self.old)) self.old.store.disk self.new.store.disk
-            (own_commit (next_version self.old.state.version) changes.now image t ∷ []) }
-        ensures member { own_member self.new ≡ own_member self.old }
-        ensures same { OnErr result ((self.new.state ≡ self.old.state) × (self.new.halted ≡ self.old.halted) × (out.new ≡ [])) }
-        ensures no_memory { IfErr result (λ fault. fault ≢ StoreFault.DiskFault → OnlyReads D.Disk self.old.store.disk self.new.store.disk ⊥) }
-        ensures told { ¬ IsErrOf result StoreFault.DiskFault → IsSome (D.files self.old.store.disk) → IsSome (D.files self.new.store.disk) }
-        ensures calls { CallsSo D.Disk self.old.store.disk self.new.store.disk (IsErrOf result StoreFault.DiskFault) }
-        ensures last { self.new.last ≡ self.old.last }
+        ensures ends { (db : Database) (short : List Bool) → Ends D.Disk (NeedsFiles packet.now.body (IsSome (D.files self.old.store.disk)))
+            (received_packet db (own_member self.old) (up_server self.old) now packet.now short (place_of self.old.state.cell packet.now.from))
+            [] out.new (held self.old) (held self.new) result }
+        ensures memory { BodyTakesNoMemory packet.now.body → IsOk result }
     {
-        let next = Version {
-            epoch: self.state.version.epoch,
-            counter: self.state.version.counter + 1,
+        let host = packet.from;
+        let Some(from) = self.state.cell.index(host) else {
+            return Ok(());
         };
-        commit_all(&mut self.store, changes.as_slice(), next)?;
-        self.state.version = next;
-        self.state.image = HeldImage::of(&self.store);
-        out.put(Output::Announce { version: next });
-        let reply = Reply::Ok(answer);
-        out.put(Output::Reply { id, reply });
-        Ok(())
+        match &packet.body {
+            Body::Beacon {
+                start,
+                claim,
+                ready,
+                version,
+            } => {
+                let heard = Heard {
+                    start: *start,
+                    claim: *claim,
+                    ready: *ready,
+                    version: *version,
+                };
+                self.state.hear_beacon(now, from, host, heard, out);
+                Ok(())
+            }
+            Body::Vote { start, yes } => {
+                self.state.hear_vote(from, *start, *yes);
+                Ok(())
+            }
+            Body::GetVersion { poll } => {
+                let version = self.state.version;
+                let told = Body::VersionIs {
+                    poll: *poll,
+                    version,
+                };
+                self.state.send(host, told, out);
+                Ok(())
+            }
+            Body::VersionKept { version } => {
+                self.state.hear_kept(from, *version, out);
+                Ok(())
+            }
+            Body::VersionIs { poll, version } => self.hear_version(
+                now, from, host, *poll, *version, out,
+            ),
+            Body::GetPiece {
+                poll,
+                version,
+                offset,
+            } => self.tell_piece(host, *poll, *version, *offset, out),
+            Body::PieceKept { version, next, .. } => self.send_next(host, *version, *next, out),
+            Body::SetVersion { poll, old, new } => self.set_version(host, *poll, *old, *new, out),
+            Body::Piece {
+                poll,
+                version,
+                total,
+                offset,
+                bytes,
+            } => {
+                let source = TextSource {
+                    server: from,
+                    version: *version,
+                    total: *total,
+                };
+                self.fetch_piece(now, *poll, source, *offset, bytes.as_slice(), out)
+            }
+            Body::SendPiece {
+                poll,
+                version,
+                total,
+                offset,
+                bytes,
+            } => {
+                let source = TextSource {
+                    server: from,
+                    version: *version,
+                    total: *total,
+                };
+                self.take_piece(host, *poll, source, *offset, bytes.as_slice(), out)
+            }
+            _ => unreachable!(),
+        }
     }
 }
 
@@ -518,16 +429,6 @@ impl<D: SteadyDisk + StopDisk, V: DraftService> Node<D, V> {
     {
         self.store.revive();
     }
-}
-
-/// Puts a reply out, which ends a step.
-fn put_reply(out: &mut Outputs, id: u32, reply: Reply) -> StepEnd
-    requires { out.old ≡ [] }
-    ensures done { result ≡ StepEnd.Done }
-    ensures out { out.new ≡ outputs.Reply id reply ∷ [] }
-{
-    out.put(Output::Reply { id, reply });
-    StepEnd::Done
 }
 
 /// What a halted server puts out at an event.

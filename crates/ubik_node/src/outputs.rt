@@ -46,6 +46,13 @@ impl Outputs {
         self.list.pop_front()
     }
 
+    /// Takes all outputs back.
+    pub(crate) fn clear(&mut self)
+        ensures { self.new ≡ [] }
+    {
+        self.list.truncate(0);
+    }
+
     /// Adds an output at the end of fewer than 200.
     pub fn put(&mut self, output: Output)
         requires { length self.old < 200 }

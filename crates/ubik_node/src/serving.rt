@@ -1,19 +1,19 @@
 //! Where a call is served, and what its client is told else.
-ghost use Rattle.std.specs.Prelude.{◌≡◌, ℕ, Bool, List, Some};
+ghost use Rattle.std.specs.Prelude.{◌≡◌, ℕ, Bool, List, Some, IsTrue};
 ghost use Rattle.ubik_types.specs.Votes.{sync_heard};
 ghost use Rattle.db_image.specs.Database.{Database};
 ghost use Rattle.cell_model.specs.Asks.{asked_as, allows_reads, not_served, read_reply};
 ghost use Rattle.cell_model.specs.Step.{Evaluation};
 ghost use Rattle.cell_model.specs.declared.events.Output.TheVariants as outputs;
 ghost use Rattle.ubik_node.specs.Serving.{TurnsTo, IsWrite};
-ghost use Rattle.ubik_node.specs.Progress.{IsServing, beacon_of};
+ghost use Rattle.ubik_node.specs.Beacons.{beacon_of};
 ghost use Rattle.ubik_node.specs.State.{server_of, member_of};
+ghost use Rattle.ubik_node.specs.Recovering.{IsServing};
 
-use crate::progress::Progress;
 use crate::state::State;
 use db_image::CallReply;
 use ubik_calls::Reply;
-use ubik_types::SMALLTIME;
+use ubik_types::{Phase, SMALLTIME};
 
 /// What a call leads to.
 #[derive(Drop)]
@@ -31,13 +31,14 @@ pub fn turn_of(state: &State, now: u32, writes: bool) -> Turn
     ensures turn { (db : Database) (id : ℕ) (call : List ℕ) (short : Bool) →
         TurnsTo db (member_of state.now) (server_of state.now) now id call short result
         (asked_as db (member_of state.now) (server_of state.now) now id call short (Some writes)) }
-    ensures serving { IsWrite result → IsServing state.now.progress }
+    ensures serving { IsWrite result → IsServing state.now.recovery }
+    ensures writes { IsWrite result → IsTrue writes }
 {
     let leased = state.votes.in_lease(now);
-    match state.progress {
-        Progress::Ready { .. } if leased && writes => Turn::Write,
-        Progress::Ready { .. } if leased => Turn::Read,
-        progress if leased => Turn::Refuse(state.no_quorum(now, progress.phase())),
+    match state.recovery.phase() {
+        Phase::Ready if leased && writes => Turn::Write,
+        Phase::Ready if leased => Turn::Read,
+        phase if leased => Turn::Refuse(state.no_quorum(now, phase)),
         _ if !writes && allows_reads(state, now) => Turn::Read,
         _ => Turn::Refuse(not_served(state, now)),
     }
@@ -62,7 +63,7 @@ fn not_served(state: &State, now: u32) -> Reply
             host: state.cell.host(server),
             heard,
         },
-        _ => state.no_quorum(now, state.progress.phase()),
+        _ => state.no_quorum(now, state.recovery.phase()),
     }
 }
 

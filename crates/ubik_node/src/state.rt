@@ -1,26 +1,25 @@
-//! What a server keeps between two steps, apart from its disk, and the rules of votes, which change it alone.
-ghost use Rattle.std.specs.Prelude.{◌≡◌, ◌≤◌, ◌<◌, Bool, List, length, IsTrue, Some, []};
+//! What a server keeps between two steps, apart from its disk; and how each step begins.
+ghost use Rattle.std.specs.Prelude.{◌≡◌, ◌≤◌, ◌<◌, ◌+◌, ◌++◌, length, None, IfSome};
+ghost use Rattle.ubik_types.specs.Version.{IsVersion};
 ghost use Rattle.ubik_types.specs.declared.limits.TheConstants.{MAX_IMAGE};
 ghost use Rattle.ubik_types.specs.declared.versions.TheConstants.{MAX_COUNTER};
-ghost use Rattle.ubik_types.specs.Moment.{IsMoment};
-ghost use Rattle.db_image.specs.Database.{Database};
 ghost use Rattle.cell_model.specs.Lapse.{lapsed, no_quorum};
-ghost use Rattle.cell_model.specs.NodeRule.{received_packet, place_of};
-ghost use Rattle.cell_model.specs.Step.{outputs_of, packet_to, sends_to_all, quiet};
-ghost use Rattle.cell_model.specs.Voting.{own_beacon, beacon_turn, beacon_kept};
-ghost use Rattle.ubik_node.specs.Built.{IsOfVotes};
-ghost use Rattle.ubik_node.specs.Progress.{IsServing, is_held, beacon_of, phase_record};
+ghost use Rattle.cell_model.specs.Step.{outputs_of, packet_to, quiet, sends_to, with_database};
+ghost use Rattle.ubik_recovery.specs.Record.{held_alone, with_text};
+ghost use Rattle.ubik_recovery.specs.Rules.{recovering};
+ghost use Rattle.ubik_node.specs.Recovering.{IsOfCell, IsServing};
 
+use crate::beacons::ReadyBeacon;
 use crate::held_images::HeldImage;
 use crate::outputs::Outputs;
-use crate::progress::{Progress, ReadyBeacon};
 use cell_model::Output;
 use ubik_calls::{Body, Packet, Reply};
+use ubik_recovery::Recovery;
 use ubik_types::{Applied, Cell, Host, Phase, Version};
 use ubik_votes::Votes;
 
 /// A server that is up: its cell and its place in it, its version and image, its votes, the ready beacon that
-/// it keeps, and its progress.
+/// it keeps, and its recovery.
 #[derive(Drop)]
 pub struct State {
     pub cell: Cell,
@@ -29,7 +28,7 @@ pub struct State {
     pub image: HeldImage,
     pub votes: Votes,
     pub beacon: Option<ReadyBeacon>,
-    pub progress: Progress,
+    pub recovery: Recovery,
     ghost few: { length cell ≤ 20 },
     ghost place: { me < length cell },
     ghost voters: { votes.servers ≡ length cell },
@@ -37,73 +36,35 @@ pub struct State {
     ghost epoch_fits: { version.epoch ≤ MAX_COUNTER },
     ghost counter_fits: { version.counter ≤ MAX_COUNTER },
     ghost image_fits: { length image ≤ MAX_IMAGE },
-    // Recovery is built for a cell of one.
-    ghost alone: { IsTrue (is_held progress) → length cell ≡ 1 },
+    ghost of_cell: { IsOfCell (length cell) recovery },
 }
 
 impl State {
-    ghost use Rattle.ubik_node.specs.State.{server_of, member_of, Keeps, Shows};
+    ghost use Rattle.ubik_node.specs.State.{server_of, server_with, member_of, Keeps};
+    ghost use Rattle.ubik_node.specs.Recovering.{restored_over};
 
-    /// Lapse: where the lease is over no phase is held.
-    pub fn lapse(&mut self, now: u32)
+    /// Lapse: where the lease is over no phase is held. What was held is given out.
+    pub fn lapse(&mut self, now: u32) -> Option<Recovery>
         ensures rests { lapsed (member_of self.old) (server_of self.old) now ≡ quiet (server_of self.new) }
         ensures kept { Keeps self.old self.new }
-        ensures serving { IsServing self.new.progress → self.new ≡ self.old }
-        ensures only { server_of self.old ≡ record (server_of self.new) { phase = phase_record self.old.version self.old.progress } }
+        ensures given { IfSome result (IsOfCell (length self.new.cell)) }
+        ensures serving { IsServing self.new.recovery → self.new ≡ self.old }
+        ensures back { server_of self.old ≡ server_with self.new (restored_over result self.new.recovery) }
     {
-        if !self.votes.in_lease(now) {
-            self.progress = Progress::None;
+        if self.votes.in_lease(now) {
+            return None;
         }
+        Some(self.recovery.lapse())
     }
 
-    /// Beacon turn: where a beacon is due it is taken, and goes to each other server.
-    pub fn beacon_turn(&mut self, now: u32, out: &mut Outputs)
-        requires moment { IsMoment now }
-        requires empty { out.old ≡ [] }
-        ensures shows { Shows (beacon_turn (member_of self.old) (server_of self.old) now) (server_of self.new) out.new }
+    /// What the lapse gave out comes back, where the step is not made.
+    pub fn restore(&mut self, given: Option<Recovery>)
+        requires given { IfSome given (IsOfCell (length self.old.cell)) }
+        ensures back { server_of self.new ≡ server_with self.old (restored_over given self.old.recovery) }
         ensures kept { Keeps self.old self.new }
     {
-        if !self.votes.beacon_due(now) {
-            return;
-        }
-        let claim = self.votes.in_lease(now);
-        self.send_beacons(now, claim, out);
-        self.votes.beacon(now, claim);
-    }
-
-    /// A packet of another server. One of a host that is not of the cell is nothing.
-    pub fn receive(&mut self, now: u32, packet: &Packet, out: &mut Outputs)
-        requires kind { IsOfVotes packet.now.body }
-        requires empty { out.old ≡ [] }
-        ensures shows { (db : Database) (short : List Bool) →
-            Shows (received_packet db (member_of self.old) (server_of self.old) now packet.now short (place_of self.old.cell packet.now.from))
-            (server_of self.new) out.new }
-        ensures kept { Keeps self.old self.new }
-    {
-        let Some(from) = self.cell.index(packet.from) else {
-            return;
-        };
-        match packet.body {
-            Body::Beacon {
-                start,
-                claim,
-                ready,
-                version,
-            } => {
-                let at = now;
-                let server = from;
-                let heard = ReadyBeacon {
-                    server,
-                    version,
-                    at,
-                };
-                self.beacon = kept_beacon(self.beacon, heard, claim, ready);
-                let yes = self.votes.on_beacon(now, from, claim);
-                let vote = self.packet_to(packet.from, Body::Vote { start, yes });
-                out.put(Output::Send(vote));
-            }
-            Body::Vote { start, yes } => self.votes.on_vote(from, start, yes),
-            _ => unreachable!(),
+        if let Some(recovery) = given {
+            self.recovery.restore(recovery);
         }
     }
 
@@ -119,52 +80,64 @@ impl State {
         }
     }
 
-    /// The beacon that this server sends.
-    fn own_beacon(&self, now: u32, claim: bool) -> Body
-        ensures { result ≡ own_beacon (server_of self.now) now claim }
+    /// Sends one packet to a host.
+    pub fn send(&self, to: Host, body: Body, out: &mut Outputs)
+        requires { length out.old ≤ 180 }
+        ensures sent { out.new ≡ out.old ++ outputs_of (sends_to (member_of self.now) to body) }
+        ensures len { length out.new ≡ length out.old + 1 }
     {
-        Body::Beacon {
-            start: now,
-            claim,
-            ready: claim && matches!(self.progress, Progress::Ready { .. }),
-            version: self.version,
-        }
+        out.put(Output::Send(self.packet_to(to, body)));
     }
 
-    /// Sends its beacon to each other server, in their order.
-    fn send_beacons(&self, now: u32, claim: bool, out: &mut Outputs)
-        requires { out.old ≡ [] }
-        ensures { out.new ≡ outputs_of (sends_to_all (member_of self.now) (own_beacon (server_of self.now) now claim)) }
+    /// Another version and image are taken over. The text that was received is dropped.
+    pub fn take_over(&mut self, version: Version, image: HeldImage)
+        requires resting { ¬ IsServing self.old.recovery }
+        requires version { IsVersion version }
+        requires fits { length image ≤ MAX_IMAGE }
+        ensures after { server_of self.new ≡ with_database (server_of self.old) version image }
+        ensures place { member_of self.new ≡ member_of self.old }
+        ensures image { self.new.image ≡ image }
+        ensures version { self.new.version ≡ version }
     {
-        for k in 0..self.cell.len() {
-            if k != self.me {
-                let beacon = self.packet_to(self.cell.host(k), self.own_beacon(now, claim));
-                out.put(Output::Send(beacon));
-            }
-        }
+        self.recovery.drop_text();
+        self.version = version;
+        self.image = image;
+    }
+
+    /// A commit that a majority has at once, since this server is alone: only it has the version.
+    pub fn take_commit(&mut self, version: Version, image: HeldImage)
+        requires alone { length self.old.cell ≡ 1 }
+        requires version { IsVersion version }
+        requires fits { length image ≤ MAX_IMAGE }
+        ensures after { server_of self.new ≡ recovering version (with_text (held_alone self.old.recovery 0) None) (with_database (server_of self.old) version image) }
+        ensures place { member_of self.new ≡ member_of self.old }
+        ensures image { self.new.image ≡ image }
+        ensures version { self.new.version ≡ version }
+    {
+        self.recovery.drop_text();
+        self.recovery.hold_alone(self.me);
+        self.version = version;
+        self.image = image;
+    }
+
+    /// The database gets another version. The text that was received is dropped.
+    pub fn relabel(&mut self, version: Version)
+        requires resting { ¬ IsServing self.old.recovery }
+        requires version { IsVersion version }
+        ensures after { server_of self.new ≡ with_database (server_of self.old) version self.old.image }
+        ensures place { member_of self.new ≡ member_of self.old }
+        ensures image { self.new.image ≡ self.old.image }
+        ensures version { self.new.version ≡ version }
+    {
+        self.recovery.drop_text();
+        self.version = version;
     }
 
     /// A packet of this server to a host.
-    fn packet_to(&self, to: Host, body: Body) -> Packet
+    pub fn packet_to(&self, to: Host, body: Body) -> Packet
         ensures { result ≡ packet_to (member_of self.now) to body }
     {
         let from = self.cell.host(self.me);
         Packet { from, to, body }
-    }
-}
-
-/// The ready beacon that is kept after one was heard, with its claim and whether its server is ready.
-fn kept_beacon(
-    before: Option<ReadyBeacon>,
-    heard: ReadyBeacon,
-    claim: bool,
-    ready: bool,
-) -> Option<ReadyBeacon>
-    ensures { beacon_of result ≡ beacon_kept (beacon_of before) heard.at heard.server claim ready heard.version }
-{
-    match before {
-        _ if claim && ready => Some(heard),
-        Some(kept) if !ready && kept.server == heard.server => None,
-        _ => before,
     }
 }

@@ -1,12 +1,12 @@
 //! A server over a disk in memory, with a small database: alone in its cell, and one of three.
-ghost use Rattle.std.specs.Prelude.{◌≡◌, ◌≢◌, ◌<◌, ◌≤◌, IfOk, IfErr, IfSome, IsErrOf, MatchResult, length};
+ghost use Rattle.std.specs.Prelude.{◌≡◌, ◌≢◌, ◌<◌, ◌≤◌, IfOk, IfErr, IfSome, IsErrOf, MatchResult, Some, length, true};
 ghost use Rattle.disk_base.specs.Crash.{IsSettled};
 ghost use Rattle.cell_model.specs.Step.{cell_size};
 ghost use Rattle.db_image.specs.Ends.{EndsBy, IsShort};
 ghost use Rattle.db_image.specs.Images.{IsOfImage, OnlyReads};
-ghost use Rattle.ubik_node.specs.Appending.{appended};
-ghost use Rattle.ubik_node.specs.Built.{IsBuilt, IsOfVotes};
-ghost use Rattle.ubik_node.specs.Node.{IsStored, own_member};
+ghost use Rattle.ubik_node.specs.Appending.{appended, appending};
+ghost use Rattle.ubik_node.specs.Built.{IsBuilt};
+ghost use Rattle.ubik_node.specs.Node.{IsStored, node_of, own_member};
 
 use super::*;
 use db_image::{CallEnd, Draft, DraftService, ImageRead, RecordFault};
@@ -105,8 +105,26 @@ fn write_database<D: Disk>(rt: &impl Abort, disk: &mut D, bytes: &[u8]) {
     assert_eq!(rt; disk.sync(file), DiskEnd::Done);
 }
 
+/// Lays a database on an empty disk: an image under version 2000.1.
+pub(crate) fn filled<D: Disk + Drop>(
+    rt: &impl Abort,
+    alloc: Global,
+    disk: D,
+    image: &[u8],
+) -> Result<D, Fail> {
+    let mut disk = disk;
+    let mut file = Vec::new(alloc);
+    file.extend_from_slice(&[
+        0, 0x35, 0x45, 0x45, 0, 0, 0, 0x40, 0, 0, 7, 0xd0, 0, 0, 0, 1,
+    ])?;
+    file.extend_from_slice(&[0; 48])?;
+    file.extend_from_slice(image)?;
+    write_database(rt, &mut disk, &file);
+    Ok(disk)
+}
+
 /// Opens the server of a cell of one at 1000.
-fn open<D: SteadyDisk + Drop>(
+pub(crate) fn open<D: SteadyDisk + Drop>(
     rt: &impl Abort,
     alloc: Global,
     disk: D,
@@ -154,6 +172,25 @@ fn one_of_three<D: SteadyDisk + Drop>(
     }
 }
 
+/// One step: how it ended, and what it put out.
+pub(crate) fn ended<D: SteadyDisk>(
+    rt: &impl Abort,
+    alloc: Global,
+    node: &mut Server<D>,
+    now: u32,
+    event: NodeEvent,
+) -> Result<(StepEnd, Outputs), Fail>
+    requires built { IsBuilt appending.database (own_member node.old) (node_of node.old) event }
+    requires stored { IsStored D.Disk node.old }
+    ensures member { own_member node.new ≡ own_member node.old }
+    ensures stored { IsStored D.Disk node.new }
+{
+    let mut out = Outputs::make(alloc)?;
+    assert!(rt; node.last() <= now && 0 < now && now < 1 << 31);
+    let end = node.step(now, event, &mut out);
+    Ok((end, out))
+}
+
 /// One step, which ends so, and what it put out.
 pub(crate) fn step<D: SteadyDisk>(
     rt: &impl Abort,
@@ -163,14 +200,13 @@ pub(crate) fn step<D: SteadyDisk>(
     event: NodeEvent,
     wanted: StepEnd,
 ) -> Result<Outputs, Fail>
-    requires built { IsBuilt (own_member node.old) event }
+    requires built { IsBuilt appending.database (own_member node.old) (node_of node.old) event }
     requires stored { IsStored D.Disk node.old }
     ensures member { own_member node.new ≡ own_member node.old }
     ensures stored { IsStored D.Disk node.new }
 {
-    let mut out = Outputs::make(alloc)?;
-    assert!(rt; node.last() <= now && 0 < now && now < 1 << 31);
-    assert_eq!(rt; node.step(now, event, &mut out), wanted, "at {now}");
+    let (end, out) = ended(rt, alloc, node, now, event)?;
+    assert_eq!(rt; end, wanted, "at {now}");
     Ok(out)
 }
 
@@ -323,6 +359,7 @@ pub(crate) fn ask<D: SteadyDisk>(
     asked: (u32, u32, &[u8]),
     wanted: StepEnd,
 ) -> Result<Outputs, Fail>
+    requires built { appending.database.writes asked.2.now ≡ Some true → cell_size (own_member node.old) ≡ 1 }
     requires stored { IsStored D.Disk node.old }
     ensures member { own_member node.new ≡ own_member node.old }
     ensures stored { IsStored D.Disk node.new }
@@ -332,14 +369,14 @@ pub(crate) fn ask<D: SteadyDisk>(
     step(rt, alloc, node, now, NodeEvent::Ask { id, call }, wanted)
 }
 
-fn is_announcement(output: &Option<Output>, wanted: Version) -> bool {
+pub(crate) fn is_announcement(output: &Option<Output>, wanted: Version) -> bool {
     match output {
         Some(Output::Announce { version }) => *version == wanted,
         _ => false,
     }
 }
 
-fn is_answer(output: &Option<Output>, wanted: u32, answer: &[u8]) -> bool {
+pub(crate) fn is_answer(output: &Option<Output>, wanted: u32, answer: &[u8]) -> bool {
     match output {
         Some(
             Output::Reply {
@@ -451,12 +488,7 @@ fn waits<D: SteadyDisk>(
 #[test]
 fn an_epoch_ahead_of_the_clock_is_waited_for(rt: HostRuntime) -> Result<(), Fail> {
     let alloc = rt.alloc();
-    let mut label = [0; 64];
-    label[..16].copy_from_slice(&[
-        0, 0x35, 0x45, 0x45, 0, 0, 0, 0x40, 0, 0, 7, 0xd0, 0, 0, 0, 1,
-    ]);
-    let mut disk = MemDisk::new(alloc, &[])?;
-    write_database(&rt, &mut disk, &label);
+    let disk = filled(&rt, alloc, MemDisk::new(alloc, &[])?, &[])?;
     let mut node = opened(&rt, alloc, revived(disk))?;
     assert_eq!(rt; node.version(), version(2000, 1));
     waits(&rt, alloc, &mut node, 1076)?;

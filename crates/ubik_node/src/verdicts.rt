@@ -3,8 +3,9 @@ ghost use Rattle.std.specs.Prelude.{◌≡◌, ℕ, List, ◌<◌, ◌≤◌, le
 ghost use Rattle.ubik_types.specs.declared.hosts.Host.{Host};
 ghost use Rattle.db_image.specs.Database.{changes_of};
 ghost use Rattle.cell_model.specs.Writes.{turned, written};
-ghost use Rattle.ubik_node.specs.Progress.{alone, IsServing};
+ghost use Rattle.ubik_node.specs.Beacons.{alone};
 ghost use Rattle.ubik_node.specs.State.{server_of};
+ghost use Rattle.ubik_node.specs.Recovering.{IsServing};
 ghost use Rattle.ubik_node.specs.Verdict.{CanBeMade, Judges};
 
 use crate::evaluations::Evaluation;
@@ -27,12 +28,13 @@ pub enum Verdict {
 
 /// The verdict on what the database made of a call over the image.
 pub fn verdict_of<V: DraftService>(state: &State, made: Evaluation) -> Verdict
-    requires serving { IsServing state.now.progress }
+    requires serving { IsServing state.now.recovery }
+    requires alone { length state.now.cell ≡ 1 }
     requires len { made.len ≡ length state.now.image }
     requires block { 0 < V.standing.database.block }
     ensures judged { (image : List ℕ) → length state.now.image ≤ length image
         → made.changes ≡ changes_of V.standing.database state.now.image image → (h : Host) (now id : ℕ) (call : List ℕ)
-        → Judges h (server_of state.now) state.now.progress now id call image result
+        → Judges h (server_of state.now) state.now.recovery now id call image result
         (turned V.standing.database (alone h) (server_of state.now) now id call image made.reply) }
     ensures can { CanBeMade (server_of state.now) result }
 {
@@ -54,12 +56,13 @@ fn verdict_of_write<V: DraftService>(
     answer: Bytes,
     changes: Changes,
 ) -> Verdict
-    requires serving { IsServing state.now.progress }
+    requires serving { IsServing state.now.recovery }
+    requires alone { length state.now.cell ≡ 1 }
     requires len { len ≡ length state.now.image }
     requires block { 0 < V.standing.database.block }
     ensures judged { (image : List ℕ) → length state.now.image ≤ length image
         → changes ≡ changes_of V.standing.database state.now.image image → (h : Host) (now id : ℕ) (call : List ℕ)
-        → Judges h (server_of state.now) state.now.progress now id call image result
+        → Judges h (server_of state.now) state.now.recovery now id call image result
         (written V.standing.database (alone h) (server_of state.now) now id call answer image) }
     ensures can { CanBeMade (server_of state.now) result }
 {

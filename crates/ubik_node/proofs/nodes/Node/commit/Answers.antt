@@ -24,9 +24,9 @@ pub returns-in_err-commit_all-clause-left : goal.returns-in_err-commit_all-claus
 returns-in_err-commit_all-clause-left g c = λ failed t image written.
     let n = c.args.self.now in
     let v = next_version n.state.version in
-    let same = kept_so n.store.len (length n.state.image) c.as_slice.result.now c.args.changes.now c.as_slice.ensures c.requires.stored.len written.kept in
+    let same = kept_so n.store.len (length n.state.image) c.as_slice.result.now c.args.changes.now c.as_slice.ensures (c.requires.stored.len c.requires.not_halted) written.kept in
     fails_one g.D.Disk n.store c.commit_all.new.store (durable n.state.version n.state.image) c.args.changes.now v image (own_commit v c.args.changes.now image t)
-    (c.requires.stored.sound.ready (c.requires.stored.failed ∙ c.requires.not_halted)) (c.requires.stored.image c.requires.not_halted) c.requires.stored.version written.leads refl
+    (c.requires.stored.sound.ready (c.requires.stored.failed ∙ c.requires.not_halted)) (c.requires.stored.image c.requires.not_halted) (c.requires.stored.version c.requires.not_halted) written.leads refl
     written.puts refl
     (subst (λ (cs : List Change). IsDurable g.D.Disk cs v n.store c.commit_all.new.store (IsErrOf c.commit_all.result DiskFault)) same c.commit_all.ensures.durable)
 
@@ -34,23 +34,24 @@ pub returns-clause-served : goal.returns-clause-served
 returns-clause-served g c = λ t image written.
     let n = c.args.self.now in
     let v = next_version n.state.version in
-    let same = kept_so n.store.len (length n.state.image) c.as_slice.result.now c.args.changes.now c.as_slice.ensures c.requires.stored.len written.kept in
+    let same = kept_so n.store.len (length n.state.image) c.as_slice.result.now c.args.changes.now c.as_slice.ensures (c.requires.stored.len c.requires.not_halted) written.kept in
     let done : Commits g.D.Disk c.args.changes.now v n.store c.commit_all.new.store =
     subst (λ (cs : List Change). Commits g.D.Disk cs v n.store c.commit_all.new.store) same c.in_ok-commit_all.ensures.done in
     serves_one g.D.Disk n.store c.commit_all.new.store (durable n.state.version n.state.image) c.args.changes.now v image (own_commit v c.args.changes.now image t)
-    (c.requires.stored.image c.requires.not_halted) c.requires.stored.version written.leads refl written.puts refl done.steps
+    (c.requires.stored.image c.requires.not_halted) (c.requires.stored.version c.requires.not_halted) written.leads refl written.puts refl done.steps
     (subst (λ (cs : List Change). IsDurable g.D.Disk cs v n.store c.commit_all.new.store (IsErrOf c.commit_all.result DiskFault)) same c.commit_all.ensures.durable)
 
 pub returns-clause-made : goal.returns-clause-made
 returns-clause-made g c = λ tells image written.
     let n = c.args.self.now in
     let new = c.commit_all.new.store in
-    let same = kept_so n.store.len (length n.state.image) c.as_slice.result.now c.args.changes.now c.as_slice.ensures c.requires.stored.len written.kept in
+    let same = kept_so n.store.len (length n.state.image) c.as_slice.result.now c.args.changes.now c.as_slice.ensures (c.requires.stored.len c.requires.not_halted) written.kept in
     let done : Commits g.D.Disk c.args.changes.now (next_version n.state.version) n.store new =
     subst (λ (cs : List Change). Commits g.D.Disk cs (next_version n.state.version) n.store new) same c.in_ok-commit_all.ensures.done in
-    let held : c.of.result ≡ image = c.of.ensures
+    let held : c.of-image.result ≡ image = c.of-image.ensures
     ∙ held_after (g.D.Disk.files n.store.disk) (g.D.Disk.files new.disk) new.len c.args.changes.now n.state.image image tells (c.requires.stored.image c.requires.not_halted) done.image written.leads in
-    up_if _ _ _ c.requires.not_halted ∙ ap (λ (bytes : List ℕ). Up (committed (server_of n.state) n.state.progress bytes)) held
+    up_if _ _ _ c.requires.not_halted
+    ∙ ap Up (c.take_commit.ensures.after ∙ ap (λ (bytes : List ℕ). committed (server_of n.state) n.state.recovery bytes) held)
 
 pub returns-clause-stored : goal.returns-clause-stored
 returns-clause-stored g c = λ fine.
@@ -59,9 +60,9 @@ returns-clause-stored g c = λ fine.
     let done = c.in_ok-commit_all.ensures.done in
     record {
       sound = c.commit_all.ensures.sound;
-      version = done.version;
-      len = sym (ap length c.of.ensures ∙ held_length g.D.Disk new (c.commit_all.ensures.sound.ready done.failed));
+      version = λ _. done.version ∙ sym c.take_commit.ensures.version;
+      len = λ _. sym (ap length (c.take_commit.ensures.image ∙ c.of-image.ensures) ∙ held_length g.D.Disk new (c.commit_all.ensures.sound.ready done.failed));
       none_begun = λ up. c.commit_all.ensures.none;
       failed = done.failed ∙ sym c.requires.not_halted;
-      image = λ up. held_there (g.D.Disk.files new.disk) new.len c.of.result c.of.ensures;
+      image = λ up. held_there (g.D.Disk.files new.disk) new.len _ (c.take_commit.ensures.image ∙ c.of-image.ensures);
     }

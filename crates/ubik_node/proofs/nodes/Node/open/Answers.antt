@@ -1,13 +1,19 @@
-use Rattle.std.proofs.Common.{◌≡◌, ◌∙◌, ℕ, List, length, Option, sym, ap, subst}
+use Rattle.std.proofs.Common.{◌≡◌, ◌≤◌, ◌∙◌, ℕ, List, [], length, Option, None, sym, ap, subst, arith}
+use Rattle.ubik_types.specs.declared.limits.TheConstants.{MAX_IMAGE}
 use Rattle.ubik_types.specs.declared.versions.Version.{Version}
+use Rattle.ubik_votes.specs.Voter.{Voter}
 use Rattle.disk_base.specs.Files.{Files}
 use Rattle.cell_model.specs.Durable.{durable}
+use Rattle.cell_model.specs.Node as model
+use Rattle.ubik_recovery.specs.Record.{RecoveryRecord, no_recovery, phase_record}
 use Rattle.ubik_store.specs.Files.{StandsFor}
 use Rattle.ubik_store.specs.Rest.{RestsAs}
 use Rattle.ubik_store.proofs.Telling.{told, of_told}
 use Rattle.ubik_node.specs.Disk.{StandsAs}
 use Rattle.ubik_node.specs.Held.{held_image}
 use Rattle.ubik_node.proofs.HeldImages.{held_length, held_there}
+use Rattle.ubik_node.specs.Recovering.{IsOfCell}
+use Rattle.ubik_node.proofs.Polled.{of_none}
 use Rattle.ubik_node.proofs.Stepping.{opened_is}
 use Rattle.ubik_node.proofs.nodes.Node.open.Goals as goal
 
@@ -26,7 +32,20 @@ stands_held files fs version told len bytes same opens held =
 pub returns-clause-opened : goal.returns-clause-opened
 returns-clause-opened g c = (
   durable c.version.result c.of.result,
-  opened_is c.start.result c.len-servers.result (length c.args.cell) c.args.me c.args.now c.version.result c.of.result c.start.ensures c.len-servers.ensures.len,
+  ap (λ (r : RecoveryRecord). model.Up (record {
+    version = c.version.result;
+    image = c.of.result;
+    votes = c.start.result.votes;
+    starts = c.start.result.starts;
+    opened = c.start.result.opened;
+    phase = phase_record c.version.result r;
+    beacon = None;
+    kept = None;
+    received = r.text;
+    flight = None;
+    waiting = [];
+  })) c.in_cell.ensures
+      ∙ opened_is c.start.result c.len-servers.result (length c.args.cell) c.args.me c.args.now c.version.result c.of.result c.start.ensures c.len-servers.ensures.len,
   told (g.D.Disk.files c.args.disk) (StandsAs (durable c.version.result c.of.result)) (λ fs is.
       let s = c.in_ok-store.store in
       stands_held (g.D.Disk.files s.disk) fs s.version c.version.result s.len c.of.result c.version.ensures
@@ -39,9 +58,24 @@ returns-clause-stored g c =
     let opened = c.in_ok-store.ensures in
     record {
       sound = opened.sound;
-      version = sym c.version.ensures;
-      len = sym (ap length c.of.ensures ∙ held_length g.D.Disk s (opened.sound.ready opened.fresh.1));
+      version = λ _. sym c.version.ensures;
+      len = λ _. sym (ap length c.of.ensures ∙ held_length g.D.Disk s (opened.sound.ready opened.fresh.1));
       none_begun = λ up. opened.fresh.0;
       failed = opened.fresh.1;
       image = λ up. held_there (g.D.Disk.files s.disk) s.len c.of.result c.of.ensures;
+    }
+
+pub invariant_of-state : goal.invariant_of-state
+invariant_of-state g c =
+    let s = c.in_ok-store.store in
+    let opened = c.in_ok-store.ensures in
+    record {
+      few = omega (arith, c.len-servers.ensures.not_more, c.len-servers.ensures.len);
+      place = c.requires.me;
+      voters = ap (λ (v : Voter). v.servers) c.start.ensures ∙ c.len-servers.ensures.len;
+      voter = ap (λ (v : Voter). v.me) c.start.ensures;
+      epoch_fits = omega (arith, opened.sound.version.epoch, ap (λ (v : Version). v.epoch) c.version.ensures);
+      counter_fits = omega (arith, opened.sound.version.counter, ap (λ (v : Version). v.counter) c.version.ensures);
+      image_fits = subst (λ (k : ℕ). k ≤ MAX_IMAGE) (sym (ap length c.of.ensures ∙ held_length g.D.Disk s (opened.sound.ready opened.fresh.1))) opened.sound.len;
+      of_cell = subst (λ (r : RecoveryRecord). IsOfCell (length c.args.cell) r) (sym (c.in_cell.ensures ∙ ap no_recovery c.len-servers.ensures.len)) (of_none (length c.args.cell));
     }

@@ -1,86 +1,161 @@
-use Rattle.std.proofs.Common.{◌∙◌, List, [], ◌∷◌, ◌++◌, refl, sym, ap, subst}
-use Rattle.std.specs.Prelude.{Err}
-use Rattle.std.proofs.lemmas.Bool.{false≢true}
-use Rattle.cell_model.specs.declared.events.NodeEvent.TheVariants.{RecoverTurn}
+use Rattle.std.proofs.Common.{◌≡◌, ◌≤◌, ◌∙◌, ℕ, List, [], None, true, false, length, refl, rules, sym, ap, subst, arith}
+use Rattle.ubik_types.specs.declared.phases.Phase.TheVariants as phase
+use Rattle.cell_model.specs.Recovery.{poll_asked, recovered, relabelled}
+use Rattle.ubik_recovery.specs.Record.{RecoveryRecord, adopted, is_fetch, polled_of, with_text}
+use Rattle.ubik_node.specs.Node.{held}
+use Rattle.ubik_node.specs.Recovering.{IsOfCell}
+use Rattle.ubik_node.specs.State.{ShowsBehind, member_of, server_of, server_with}
+use Rattle.ubik_node.proofs.Alone.{leased_here}
+use Rattle.ubik_node.proofs.Endings.{empty_ends, rests_ends, same_ends}
+use Rattle.ubik_node.proofs.Polled.{of_marks}
+use Rattle.ubik_node.proofs.Turning.{marks_back, turn_begins, turn_fetch_over, turn_in, turn_rests}
+use Rattle.ubik_calls.specs.declared.packets.Body.TheVariants as body
 use Rattle.cell_model.specs.declared.events.Output.{Output}
-use Rattle.cell_model.specs.declared.events.Output.TheVariants as output
-use Rattle.cell_model.specs.Durable.{durable}
-use Rattle.cell_model.specs.NodeRule.{step_of}
-use Rattle.cell_model.specs.Recovery.{first_of_epoch, own_relabelling}
-use Rattle.cell_model.specs.Step.{Stepped}
-use Rattle.ubik_store.specs.DurableCall.{HasFailed}
-use Rattle.ubik_node.specs.declared.nodes.StepEnd.TheVariants.{Done, Halted}
-use Rattle.ubik_node.specs.declared.recovering.Plan.TheVariants as plan
-use Rattle.ubik_node.specs.Disk.{FailsIn, Serves}
-use Rattle.ubik_node.specs.State.{member_of, server_of}
-use Rattle.ubik_node.proofs.Durables.{ended_by_disk, fails_one, serves_one, serves_none}
-use Rattle.ubik_node.proofs.Stepping.{planned_step, relabel_made, rest_made, steps_at, up_if}
+use Rattle.cell_model.specs.Recovery.{bytes_received}
+use Rattle.cell_model.specs.Step.{host_at}
+use Rattle.ubik_recovery.specs.Record.{best_of, host_of}
+use Rattle.ubik_node.proofs.Endings.{shown_ends}
+use Rattle.ubik_node.proofs.Told.{sent_as}
+use Rattle.ubik_node.proofs.Turning.{received_long, text_fits, turn_fetches}
 use Rattle.ubik_node.proofs.nodes.Node.recover.Goals as goal
 
-pub relabel-requires-clause-none : goal.relabel-requires-clause-none
-relabel-requires-clause-none g c = c.requires.stored.none_begun c.requires.not_halted
+pub returns-in-None : goal.returns-in-None
+returns-in-None g c =
+    let st = c.args.self.now.state in
+    same_ends g.D.Disk
+    (turn_begins (member_of st) (server_of st) c.args.now st.version st.recovery (sym c.phase.ensures ∙ c.in-None.is) (leased_here st c.args.now true st.voters (sym c.in_lease-leased.ensures ∙ c.if-leased.true))) c.begin_poll.ensures
 
-pub returns-in-Rest-clause-step : goal.returns-in-Rest-clause-step
-returns-in-Rest-clause-step g c =
+pub returns-in-None-2 : goal.returns-in-None-2
+returns-in-None-2 g c =
     let n = c.args.self.now in
     let st = n.state in
-    let db = g.V.DraftService.standing.database in
-    let d = durable st.version st.image in
-    let fresh = c.requires.stored.failed ∙ c.requires.not_halted in
-    steps_at g.D.Disk db (member_of st) Done RecoverTurn RecoverTurn (server_of st) c.args.now _ _ _ _ n.store.disk n.store.disk (up_if _ _ _ c.requires.not_halted) (up_if _ _ _ c.requires.not_halted) refl (
-      [],
-      rest_made (step_of db (member_of st) (server_of st) c.args.now RecoverTurn []) (server_of st) c.in-Rest.progress _ (Serves g.D.Disk d n.store.disk n.store.disk)
-          (serves_none g.D.Disk n.store d (c.requires.stored.sound.ready fresh) (c.requires.stored.image c.requires.not_halted) c.requires.stored.version)
-          (planned_step db st c.args.now (plan.Rest c.in-Rest.progress) c.requires.alone st.place c.in-Rest.ensures) c.requires.empty,
-    )
+    same_ends g.D.Disk
+    (turn_rests (member_of st) (server_of st) c.args.now st.version st.recovery (sym c.phase.ensures ∙ c.in-None-2.is) (leased_here st c.args.now false st.voters (sym c.in_lease-leased.ensures ∙ c.if-leased.false)))
+    (rests_ends g.D.Disk (held n) c.requires.stored c.requires.not_halted (record { server = refl; calls = refl; outputs = c.requires.empty }))
 
-pub returns-in-Ok-clause-step : goal.returns-in-Ok-clause-step
-returns-in-Ok-clause-step g c =
+pub returns-in-Poll : goal.returns-in-Poll
+returns-in-Poll g c =
+    let st = c.args.self.now.state in
+    let m = member_of st in
+    let r = st.recovery in
+    let is = sym c.phase.ensures ∙ c.in-Poll.is in
+    let same : poll_asked m (server_with st (adopted c.marks-next.result r)) (polled_of c.marks-next.result) c.args.now ≡ poll_asked m (server_of st) (polled_of r) c.args.now =
+    ap (λ (x : RecoveryRecord). poll_asked m (server_with st (adopted x r)) (polled_of x) c.args.now) c.marks-next.ensures
+    ∙ ap (λ (x : RecoveryRecord). poll_asked m (server_with st x) (polled_of r) c.args.now) (marks_back r (ap is_fetch is)) in
+    same_ends g.D.Disk (turn_in m (server_of st) c.args.now st.version r phase.Poll is ∙ sym same) c.poll_asked.ensures
+
+pub returns-in-Fetch : goal.returns-in-Fetch
+returns-in-Fetch g c =
+    let st = c.args.self.now.state in
+    same_ends g.D.Disk
+    (turn_fetch_over (member_of st) (server_of st) c.args.now st.version st.recovery (sym c.phase.ensures ∙ c.in-Fetch.is) (sym c.poll_is_over-over.ensures ∙ c.if-over.true)) c.begin_poll-in-Fetch.ensures
+
+pub returns-in-Relabel : goal.returns-in-Relabel
+returns-in-Relabel g c =
+    let st = c.args.self.now.state in
+    let m = member_of st in
+    let r = st.recovery in
+    let next = c.marks-next-in-Relabel in
+    let is = sym c.phase.ensures ∙ c.in-Relabel.is in
+    let same : relabelled m (server_with st (adopted next.result r)) (polled_of next.result) c.args.now ≡ relabelled m (server_of st) (polled_of r) c.args.now =
+    ap (λ (x : RecoveryRecord). relabelled m (server_with st (adopted x r)) (polled_of x) c.args.now) next.ensures
+    ∙ ap (λ (x : RecoveryRecord). relabelled m (server_with st x) (polled_of r) c.args.now) (marks_back r (ap is_fetch is)) in
+    same_ends g.D.Disk (turn_in m (server_of st) c.args.now st.version r phase.Relabel is ∙ sym same) (empty_ends g.D.Disk c.requires.empty c.relabelled.ensures)
+
+pub poll_asked-requires-clause-of_cell : goal.poll_asked-requires-clause-of_cell
+poll_asked-requires-clause-of_cell g c =
+    let st = c.args.self.now.state in subst (λ (r : RecoveryRecord). IsOfCell (length st.cell) r) (sym c.marks-next.ensures) (of_marks (length st.cell) st.recovery st.of_cell)
+
+pub relabelled-requires-clause-of_cell : goal.relabelled-requires-clause-of_cell
+relabelled-requires-clause-of_cell g c =
+    let st = c.args.self.now.state in subst (λ (r : RecoveryRecord). IsOfCell (length st.cell) r) (sym c.marks-next-in-Relabel.ensures) (of_marks (length st.cell) st.recovery st.of_cell)
+
+pub begin_poll-requires-clause-moment : goal.begin_poll-requires-clause-moment
+begin_poll-requires-clause-moment g c = c.requires.moment
+
+pub begin_poll-requires-clause-not_halted : goal.begin_poll-requires-clause-not_halted
+begin_poll-requires-clause-not_halted g c = c.requires.not_halted
+
+pub begin_poll-requires-clause-stored : goal.begin_poll-requires-clause-stored
+begin_poll-requires-clause-stored g c = c.requires.stored
+
+pub begin_poll-requires-clause-empty : goal.begin_poll-requires-clause-empty
+begin_poll-requires-clause-empty g c = c.requires.empty
+
+pub begin_poll-requires-in-Fetch-clause-moment : goal.begin_poll-requires-in-Fetch-clause-moment
+begin_poll-requires-in-Fetch-clause-moment g c = c.requires.moment
+
+pub begin_poll-requires-in-Fetch-clause-not_halted : goal.begin_poll-requires-in-Fetch-clause-not_halted
+begin_poll-requires-in-Fetch-clause-not_halted g c = c.requires.not_halted
+
+pub begin_poll-requires-in-Fetch-clause-stored : goal.begin_poll-requires-in-Fetch-clause-stored
+begin_poll-requires-in-Fetch-clause-stored g c = c.requires.stored
+
+pub begin_poll-requires-in-Fetch-clause-empty : goal.begin_poll-requires-in-Fetch-clause-empty
+begin_poll-requires-in-Fetch-clause-empty g c = c.requires.empty
+
+pub poll_asked-requires-clause-moment : goal.poll_asked-requires-clause-moment
+poll_asked-requires-clause-moment g c = c.requires.moment
+
+pub poll_asked-requires-clause-not_halted : goal.poll_asked-requires-clause-not_halted
+poll_asked-requires-clause-not_halted g c = c.requires.not_halted
+
+pub poll_asked-requires-clause-stored : goal.poll_asked-requires-clause-stored
+poll_asked-requires-clause-stored g c = c.requires.stored
+
+pub poll_asked-requires-clause-empty : goal.poll_asked-requires-clause-empty
+poll_asked-requires-clause-empty g c = c.requires.empty
+
+pub poll_asked-requires-clause-phase : goal.poll_asked-requires-clause-phase
+poll_asked-requires-clause-phase g c = ap (λ (r : RecoveryRecord). r.phase) c.marks-next.ensures ∙ sym c.phase.ensures ∙ c.in-Poll.is
+
+pub relabelled-requires-clause-moment : goal.relabelled-requires-clause-moment
+relabelled-requires-clause-moment g c = c.requires.moment
+
+pub relabelled-requires-clause-not_halted : goal.relabelled-requires-clause-not_halted
+relabelled-requires-clause-not_halted g c = c.requires.not_halted
+
+pub relabelled-requires-clause-stored : goal.relabelled-requires-clause-stored
+relabelled-requires-clause-stored g c = c.requires.stored
+
+pub relabelled-requires-clause-few : goal.relabelled-requires-clause-few
+relabelled-requires-clause-few g c = omega (arith, ap length c.requires.empty)
+
+pub relabelled-requires-clause-phase : goal.relabelled-requires-clause-phase
+relabelled-requires-clause-phase g c = ap (λ (r : RecoveryRecord). is_fetch r.phase) c.marks-next-in-Relabel.ensures ∙ ap is_fetch (sym c.phase.ensures ∙ c.in-Relabel.is)
+
+pub ask_piece-requires : goal.ask_piece-requires
+ask_piece-requires g c = omega (arith, ap length c.requires.empty)
+
+pub spread_again-requires-clause-few : goal.spread_again-requires-clause-few
+spread_again-requires-clause-few g c = omega (arith, ap length c.requires.empty)
+
+pub overflow_cast-offset : goal.overflow_cast-offset
+overflow_cast-offset g c =
+    let st = c.args.self.now.state in
+    let long : length c.received.result.now ≤ 16777216 = text_fits st.recovery.text st.of_cell.text c.received.result.now c.received.ensures in omega (arith, long)
+
+pub returns-in-Fetch-2 : goal.returns-in-Fetch-2
+returns-in-Fetch-2 g c =
     let n = c.args.self.now in
     let st = n.state in
-    let db = g.V.DraftService.standing.database in
-    let d = durable st.version st.image in
-    let v = first_of_epoch c.args.now in
-    let new = c.relabel.new.self in
-    let fresh = c.requires.stored.failed ∙ c.requires.not_halted in
-    steps_at g.D.Disk db (member_of st) Done RecoverTurn RecoverTurn (server_of st) c.args.now _ _ _ _ n.store.disk new.disk (up_if _ _ _ c.requires.not_halted) (up_if _ _ _ c.requires.not_halted) refl (
-      [],
-      relabel_made (step_of db (member_of st) (server_of st) c.args.now RecoverTurn []) (server_of st) c.in-Relabel.poll c.args.now _ (Serves g.D.Disk d n.store.disk new.disk)
-          (planned_step db st c.args.now (plan.Relabel c.in-Relabel.poll) c.requires.alone st.place c.in-Relabel.ensures)
-          (c.put.ensures ∙ ap (λ (o : List Output). o ++ output.Announce (first_of_epoch c.args.now) ∷ []) c.requires.empty)
-          (serves_one g.D.Disk n.store new d [] v st.image (own_relabelling v) (c.requires.stored.image c.requires.not_halted) c.requires.stored.version refl refl tt refl
-          c.in-Ok.ensures.ended.steps (c.relabel.ensures.durable fresh)),
-    )
+    let m = member_of st in
+    let r = st.recovery in
+    let long = length c.received.result.now in
+    same_ends g.D.Disk (turn_fetches m (server_of st) c.args.now st.version r (sym c.phase.ensures ∙ c.in-Fetch-2.is) (sym c.poll_is_over-over.ensures ∙ c.if-over.false))
+    (rests_ends g.D.Disk (held n) c.requires.stored c.requires.not_halted (record {
+      server = refl;
+      calls = refl;
+      outputs =
+          sent_as m (host_at st.cell (host_of r)) c.args.out.now c.ask_piece.new.out (body.GetPiece r.poll (best_of r) long) (body.GetPiece r.poll (best_of r) (bytes_received r.text)) c.ask_piece.ensures c.requires.empty
+          (ap (λ (k : ℕ). body.GetPiece r.poll (best_of r) k) (ap length c.received.ensures ∙ received_long r.text));
+    }))
 
-pub returns-in-Err-DiskFault-clause-step : goal.returns-in-Err-DiskFault-clause-step
-returns-in-Err-DiskFault-clause-step g c =
-    let n = c.args.self.now in
-    let st = n.state in
-    let db = g.V.DraftService.standing.database in
-    let d = durable st.version st.image in
-    let v = first_of_epoch c.args.now in
-    let new = c.relabel.new.self in
-    let fresh = c.requires.stored.failed ∙ c.requires.not_halted in
-    let step = planned_step db st c.args.now (plan.Relabel c.in-Relabel.poll) c.requires.alone st.place c.in-Relabel.ensures in
-    steps_at g.D.Disk db (member_of st) Halted RecoverTurn RecoverTurn (server_of st) c.args.now _ _ _ _ n.store.disk new.disk (up_if _ _ _ c.requires.not_halted) refl refl (
-      refl,
-      c.requires.empty,
-      subst (FailsIn g.D.Disk d n.store.disk new.disk) (sym (ap (λ (t : Stepped). t.calls) step))
-          (fails_one g.D.Disk n.store new d [] v st.image (own_relabelling v) (c.requires.stored.sound.ready fresh) (c.requires.stored.image c.requires.not_halted) c.requires.stored.version
-          refl refl tt refl (c.relabel.ensures.durable fresh)),
-    )
+pub spread_again-requires-clause-phase : goal.spread_again-requires-clause-phase
+spread_again-requires-clause-phase g c = search rules
 
--- the store of a node that halts
-pub returns-in-Err-DiskFault-clause-stored : goal.returns-in-Err-DiskFault-clause-stored
-returns-in-Err-DiskFault-clause-stored g c =
+pub returns-in-Send : goal.returns-in-Send
+returns-in-Send g c =
     let n = c.args.self.now in
-    let failed : HasFailed n.store c.relabel.new.self =
-    ended_by_disk g.D.Disk [] (first_of_epoch c.args.now) n.store c.relabel.new.self c.relabel.result (c.in-Err-DiskFault.is ∙ ap Err c.in-Err-DiskFault.field-0-is) c.relabel.ensures.ended in
-    record {
-      sound = c.relabel.ensures.sound;
-      version = failed.version ∙ c.requires.stored.version;
-      len = failed.len ∙ c.requires.stored.len;
-      none_begun = λ up. absurd (false≢true (sym up));
-      failed = failed.failed;
-      image = λ up. absurd (false≢true (sym up));
-    }
+    shown_ends g.D.Disk (held n) n.state c.spread_again.new.self c.requires.stored c.requires.not_halted refl refl c.spread_again.ensures.kept
+    (subst (λ (o : List Output). ShowsBehind (recovered (member_of n.state) (server_of n.state) c.args.now (server_of n.state).phase) (server_of c.spread_again.new.self) o c.spread_again.new.out) c.requires.empty c.spread_again.ensures.shows)

@@ -1,10 +1,11 @@
-use Rattle.std.proofs.Common.{◌≡◌, ◌∙◌, false, sym, ap, subst}
+use Rattle.std.proofs.Common.{◌≡◌, ◌↔◌, ◌∙◌, Bool, true, false, sym, ap, subst}
 use Rattle.std.proofs.lemmas.Bool.{false≢true}
 use Rattle.ubik_store.proofs.Applied.{no_calls}
 use Rattle.ubik_node.specs.declared.nodes.Node.{Node}
 use Rattle.ubik_node.specs.declared.nodes.StepEnd.{StepEnd}
 use Rattle.ubik_node.specs.declared.nodes.StepEnd.TheVariants.{Halted}
 use Rattle.ubik_node.specs.Node.{CallsSo, IsStored}
+use Rattle.ubik_node.proofs.Closing.{halts_so}
 use Rattle.ubik_node.proofs.nodes.Node.step.Goals as goal
 use Rattle.ubik_node.proofs.nodes.Node.step.Goals.{then-self, else-self, then-ne, else-ne}
 
@@ -44,4 +45,19 @@ returns-clause-calls g c =
     elim c.if-ne.branch [
       | then-ne w ↦ subst (λ (d : g.row.D.Denot). Calls d c.if-self.end) (sym (ap disk_of w.self-is)) mid
       | else-ne w ↦ subst (λ (d : g.row.D.Denot). Calls d c.if-self.end) (sym (ap disk_of w.self-is)) mid
+    ]
+
+pub returns-clause-halts : goal.returns-clause-halts
+returns-clause-halts g c =
+    let Halts : Bool → StepEnd → Type 0 = λ b e. (e ≡ Halted) ↔ (b ≡ true) in
+    let halted_of : Node g.row.D.Denot g.row.V.Denot → Bool = λ m. m.halted in
+    let mid : Halts c.if-self.self.halted c.if-self.end = elim c.if-self.branch [
+      | then-self w ↦ halts_so c.if-self.end c.if-self.self.halted (w.end-is ∙ w.refuse-end.ensures.halted) (ap halted_of w.self-is ∙ w.if-self.true)
+      | else-self w ↦
+          subst (λ (b : Bool). Halts b c.if-self.end) (sym (ap halted_of w.self-is))
+          (subst (λ (e : StepEnd). Halts w.step_up-end.new.self.halted e) (sym w.end-is) w.step_up-end.ensures.halts)
+    ] in
+    elim c.if-ne.branch [
+      | then-ne w ↦ subst (λ (b : Bool). Halts b c.if-self.end) (sym (ap halted_of w.self-is)) mid
+      | else-ne w ↦ subst (λ (b : Bool). Halts b c.if-self.end) (sym (ap halted_of w.self-is)) mid
     ]

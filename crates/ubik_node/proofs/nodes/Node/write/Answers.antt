@@ -1,4 +1,4 @@
-use Rattle.std.proofs.Common.{◌≡◌, ◌≢◌, ◌∙◌, ℕ, [], ◌∷◌, true, false, ◌+◌, IsErrOf, refl, sym, ap, subst, arith}
+use Rattle.std.proofs.Common.{◌≡◌, ◌≢◌, ◌∙◌, ℕ, [], ◌∷◌, true, false, ◌+◌, length, IsErrOf, refl, sym, ap, subst, arith}
 use Rattle.std.specs.Prelude.{Result, Err}
 use Rattle.std.specs.Result.{is_err}
 use Rattle.std.proofs.lemmas.Bool.{false≢true}
@@ -24,14 +24,23 @@ use Rattle.ubik_node.specs.declared.state.State.{State}
 use Rattle.ubik_node.specs.declared.verdicts.Verdict.TheVariants as verdict
 use Rattle.ubik_node.specs.Disk.{FailsIn, Serves}
 use Rattle.ubik_node.specs.Node.{CallsSo, up_server}
-use Rattle.ubik_node.specs.Progress.{alone}
-use Rattle.ubik_node.specs.State.{server_of}
+use Rattle.ubik_node.specs.Beacons.{alone}
+use Rattle.ubik_node.specs.State.{member_of, server_of, server_with}
+use Rattle.ubik_recovery.specs.Record.{poll_begun}
+use Rattle.cell_model.specs.Polls.{polling}
+use Rattle.ubik_node.proofs.Turning.{poll_begins}
 use Rattle.ubik_node.proofs.AfterReads.{fails_after, serves_after}
-use Rattle.ubik_node.proofs.Alone.{held}
+use Rattle.ubik_node.proofs.Closing.{halts_not}
 use Rattle.ubik_node.proofs.Durables.{fails_reads, serves_reads}
 use Rattle.ubik_node.proofs.Made.{judged_turn, made_here}
 use Rattle.ubik_node.proofs.Stepping.{led_at, up_if}
 use Rattle.ubik_node.proofs.nodes.Node.write.Goals as goal
+
+-- a poll that begins at a server that is alone
+begun : (now : ℕ) (st new : State) → length st.cell ≡ 1 → server_of new ≡ polling (member_of st) (server_of st) now → server_of new ≡ server_with st (poll_begun st.recovery now 0 st.version)
+begun now st new one after =
+    let first : st.me ≡ 0 = omega (arith, one, st.place) in
+    after ∙ poll_begins (member_of st) (server_of st) st.version st.recovery (sym st.of_cell.servers) now ∙ ap (λ (me : ℕ). server_with st (poll_begun st.recovery now me st.version)) first
 
 done_halted : (end : StepEnd) → end ≡ Done → end ≡ Halted → ⊥
 done_halted end done halted = cc
@@ -57,7 +66,7 @@ returns-in-Err-clause-done g c = λ ended meant h.
       led_at (write_turn g.V.DraftService.standing.database (alone h) (up_server n) c.args.now c.args.id c.args.call.now true) (up_server n) _ _ _ [] _
           (up_if _ _ _ (short.1 ∙ c.requires.not_halted) ∙ ap (λ (st : State). model.Up (server_of st)) same.0) short.2
           (record { server = refl; outputs = refl; calls = refl })
-          (subst (λ (s : Store g.row.D.Denot). Serves g.D.Disk (durable n.state.version n.state.image) n.store.disk s.disk []) (sym same.1) (serves_reads g.D.Disk n.store (durable n.state.version n.state.image) (c.requires.stored.sound.ready (c.requires.stored.failed ∙ c.requires.not_halted)) (c.requires.stored.image c.requires.not_halted) c.requires.stored.version c.in-Err.ensures.disk)),
+          (subst (λ (s : Store g.row.D.Denot). Serves g.D.Disk (durable n.state.version n.state.image) n.store.disk s.disk []) (sym same.1) (serves_reads g.D.Disk n.store (durable n.state.version n.state.image) (c.requires.stored.sound.ready (c.requires.stored.failed ∙ c.requires.not_halted)) (c.requires.stored.image c.requires.not_halted) (c.requires.stored.version c.requires.not_halted) c.in-Err.ensures.disk)),
     )
 
 pub returns-in-Err-clause-left : goal.returns-in-Err-clause-left
@@ -65,7 +74,7 @@ returns-in-Err-clause-left g c = λ ended meant h.
     let n = c.args.self.now in
     let calls = (write_turn g.V.DraftService.standing.database (alone h) (up_server n) c.args.now c.args.id c.args.call.now false).calls in
     subst (λ (s : Store g.row.D.Denot). FailsIn g.D.Disk (durable n.state.version n.state.image) n.store.disk s.disk calls) (sym c.end_short.ensures.same.1)
-    (fails_reads g.D.Disk n.store (durable n.state.version n.state.image) (c.requires.stored.sound.ready (c.requires.stored.failed ∙ c.requires.not_halted)) (c.requires.stored.image c.requires.not_halted) c.requires.stored.version c.in-Err.ensures.disk calls)
+    (fails_reads g.D.Disk n.store (durable n.state.version n.state.image) (c.requires.stored.sound.ready (c.requires.stored.failed ∙ c.requires.not_halted)) (c.requires.stored.image c.requires.not_halted) (c.requires.stored.version c.requires.not_halted) c.in-Err.ensures.disk calls)
 
 pub returns-in-Reply-clause-done : goal.returns-in-Reply-clause-done
 returns-in-Reply-clause-done g c = λ ended meant h.
@@ -76,7 +85,7 @@ returns-in-Reply-clause-done g c = λ ended meant h.
     judged_turn d h n.state c.args.now c.args.id c.args.call.now c.in-Ok.made (verdict.Reply c.in-Reply.reply) (g.met.V.DraftService.never_shrinks n.state.image c.args.now c.args.call.now) c.in-Reply.ensures.judged outcome in (
       false,
       led_at (write_turn d.database (alone h) (up_server n) c.args.now c.args.id c.args.call.now false) (up_server n) _ _ _ [] _ (up_if _ _ _ c.requires.not_halted) c.put_reply.ensures.out
-          judged (serves_reads g.D.Disk n.store (durable n.state.version n.state.image) (c.requires.stored.sound.ready (c.requires.stored.failed ∙ c.requires.not_halted)) (c.requires.stored.image c.requires.not_halted) c.requires.stored.version c.in-Ok.ensures.disk),
+          judged (serves_reads g.D.Disk n.store (durable n.state.version n.state.image) (c.requires.stored.sound.ready (c.requires.stored.failed ∙ c.requires.not_halted)) (c.requires.stored.image c.requires.not_halted) (c.requires.stored.version c.requires.not_halted) c.in-Ok.ensures.disk),
     )
 
 pub returns-in-NewPoll-clause-done : goal.returns-in-NewPoll-clause-done
@@ -87,9 +96,9 @@ returns-in-NewPoll-clause-done g c = λ ended meant h.
     let judged =
     judged_turn d h n.state c.args.now c.args.id c.args.call.now c.in-Ok.made verdict.NewPoll (g.met.V.DraftService.never_shrinks n.state.image c.args.now c.args.call.now) c.in-NewPoll.ensures.judged outcome in (
       false,
-      led_at (write_turn d.database (alone h) (up_server n) c.args.now c.args.id c.args.call.now false) _ _ _ _ [] _ (up_if _ _ _ c.requires.not_halted)
-          (c.put_reply-in-NewPoll.ensures.out ∙ ap (λ (r : Reply). output.Reply c.args.id r ∷ []) (c.no_quorum-reply.ensures ∙ ap (λ (k : ℕ). reply.NoQuorum c.args.now (lease_end k n.state.votes.starts) phases.Poll applied.No) (n.state.alone (held n.state.progress c.requires.serving))))
-          judged (serves_reads g.D.Disk n.store (durable n.state.version n.state.image) (c.requires.stored.sound.ready (c.requires.stored.failed ∙ c.requires.not_halted)) (c.requires.stored.image c.requires.not_halted) c.requires.stored.version c.in-Ok.ensures.disk),
+      led_at (write_turn d.database (alone h) (up_server n) c.args.now c.args.id c.args.call.now false) _ _ _ _ [] _ (up_if _ _ _ c.requires.not_halted ∙ ap model.Up (begun c.args.now n.state c.begin_poll.new.self c.requires.alone c.begin_poll.ensures.after))
+          (c.put_reply-in-NewPoll.ensures.out ∙ ap (λ (r : Reply). output.Reply c.args.id r ∷ []) (c.no_quorum-reply.ensures ∙ ap (λ (k : ℕ). reply.NoQuorum c.args.now (lease_end k n.state.votes.starts) phases.Poll applied.No) c.requires.alone))
+          judged (serves_reads g.D.Disk n.store (durable n.state.version n.state.image) (c.requires.stored.sound.ready (c.requires.stored.failed ∙ c.requires.not_halted)) (c.requires.stored.image c.requires.not_halted) (c.requires.stored.version c.requires.not_halted) c.in-Ok.ensures.disk),
     )
 
 pub returns-in-Ok-commit-clause-done : goal.returns-in-Ok-commit-clause-done
@@ -123,7 +132,7 @@ returns-clause-done g c = λ ended meant h.
           (up_if _ _ _ (short.1 ∙ kept.1 ∙ c.requires.not_halted) ∙ ap (λ (st : State). model.Up (server_of st)) (same.0 ∙ kept.0)) short.2
           (record { server = refl; outputs = refl; calls = refl })
           (subst (λ (s : Store g.row.D.Denot). Serves g.D.Disk (durable n.state.version n.state.image) n.store.disk s.disk []) (sym same.1)
-          (serves_reads g.D.Disk n.store (durable n.state.version n.state.image) (c.requires.stored.sound.ready (c.requires.stored.failed ∙ c.requires.not_halted)) (c.requires.stored.image c.requires.not_halted) c.requires.stored.version
+          (serves_reads g.D.Disk n.store (durable n.state.version n.state.image) (c.requires.stored.sound.ready (c.requires.stored.failed ∙ c.requires.not_halted)) (c.requires.stored.image c.requires.not_halted) (c.requires.stored.version c.requires.not_halted)
           (reads_joined c.in-Ok.ensures.disk went (c.in-Err-commit.ensures.no_memory other)))),
     )
 
@@ -157,3 +166,18 @@ returns-clause-calls g c =
           (λ halted. c.in-Err-commit.is ∙ ap Err (halted_fault c.in-Err-commit.fault _ (λ other. (c.end_short-in-Err-commit.ensures.no_memory other).0) halted.0)) all,
     ) in
     subst (λ (s : Store g.row.D.Denot). CallsSo g.D.Disk n.store.disk s.disk halts) (sym c.end_short-in-Err-commit.ensures.same.1) done
+
+pub returns-in-Err-clause-halts : goal.returns-in-Err-clause-halts
+returns-in-Err-clause-halts g c = c.end_short.ensures.halts c.requires.not_halted
+
+pub returns-in-Reply-clause-halts : goal.returns-in-Reply-clause-halts
+returns-in-Reply-clause-halts g c = halts_not c.put_reply.result c.args.self.now.halted (done_halted c.put_reply.result c.put_reply.ensures.done) c.requires.not_halted
+
+pub returns-in-NewPoll-clause-halts : goal.returns-in-NewPoll-clause-halts
+returns-in-NewPoll-clause-halts g c = halts_not c.put_reply-in-NewPoll.result c.args.self.now.halted (done_halted c.put_reply-in-NewPoll.result c.put_reply-in-NewPoll.ensures.done) c.requires.not_halted
+
+pub returns-in-Ok-commit-clause-halts : goal.returns-in-Ok-commit-clause-halts
+returns-in-Ok-commit-clause-halts g c = halts_not Done c.commit.new.self.halted (λ is. absurd cc) (c.commit.ensures.halted ∙ c.requires.not_halted)
+
+pub returns-clause-halts : goal.returns-clause-halts
+returns-clause-halts g c = c.end_short-in-Err-commit.ensures.halts (c.commit.ensures.halted ∙ c.requires.not_halted)

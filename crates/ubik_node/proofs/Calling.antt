@@ -1,0 +1,152 @@
+-- How rules end that make one durable call, after reads.
+use Rattle.std.proofs.Common.{◌≡◌, ◌≢◌, ◌≤◌, ◌+◌, ◌++◌, ◌⊎◌, inr, IfErr, ℕ, true, false, List, [], ◌∷◌, Option, Some, None, IsSome, length, Result, Ok, Err, IsErrOf, refl, sym, ap, subst, ◌∙◌, arith}
+use Rattle.std.specs.Option.{option_map}
+use Rattle.std.proofs.lemmas.Bool.{false≢true}
+use Rattle.ubik_types.specs.declared.images.Change.{Change}
+use Rattle.ubik_types.specs.declared.versions.Version.{Version}
+use Rattle.ubik_types.specs.Image.{effect}
+use Rattle.ubik_types.specs.Version.{version_lt}
+use Rattle.disk_base.specs.declared.disks.Disk.{Ghosts}
+use Rattle.disk_base.specs.declared.disks.FileNo.TheVariants.{Database}
+use Rattle.disk_base.specs.Files.{Files}
+use Rattle.disk_base.specs.Runs.{OnlyReads}
+use Rattle.disk_base.proofs.Runs.{reads_change_none, reads_joined}
+use Rattle.ubik_store.specs.declared.faults.StoreFault.{StoreFault}
+use Rattle.ubik_store.specs.declared.faults.StoreFault.TheVariants.{DiskFault, BadLabel, TooLarge, NotNewer, NoMemory}
+use Rattle.ubik_store.specs.declared.stores.Store.{Store}
+use Rattle.ubik_store.specs.declared.transactions.Transaction.{Transaction}
+use Rattle.ubik_store.specs.DurableCall.{Commits, EndsAs, HasFailed, IsDurable, Refuses}
+use Rattle.ubik_store.specs.Gaps.{CutsNoPut}
+use Rattle.ubik_store.specs.Store.{IsReady, IsSound, StaysAsItWas, changes_begun, image_in}
+use Rattle.ubik_store.proofs.Applied.{calls_as, calls_joined, calls_of}
+use Rattle.cell_model.specs.declared.events.Output.{Output}
+use Rattle.cell_model.specs.Node.{Server}
+use Rattle.cell_model.specs.Durable.{Made, change_count, durable, durable_after}
+use Rattle.cell_model.specs.Step.{Member, Stepped, outputs_of}
+use Rattle.ubik_node.specs.Disk.{FailsIn, Serves}
+use Rattle.ubik_node.specs.Node.{Ends, Held, IsKept, durable_in}
+use Rattle.ubik_node.proofs.AfterReads.{fails_after, serves_after}
+use Rattle.ubik_node.proofs.Durables.{IsThere, fails_one, serves_one}
+use Rattle.ubik_node.proofs.Endings.{failed_ends, made_ends, not_short, told_still}
+
+begun_none : (begun : Option Transaction) → changes_begun begun ≡ None → begun ≡ None
+begun_none None is = refl
+begun_none (Some t) is = absurd cc
+
+-- a rule that ended with an error
+abbrev pub ended : StoreFault → Result (Unit {0}) StoreFault
+ended e = Err e
+
+pub stays_then : {D : Type 0} (a b c : Store D) → StaysAsItWas a b → StaysAsItWas b c → StaysAsItWas a c
+stays_then a b c first second = record {
+  version = second.version ∙ first.version;
+  len = second.len ∙ first.len;
+  begun = second.begun ∙ first.begun;
+  failed = second.failed ∙ first.failed;
+}
+
+pub told_by : (change : List ℕ → List ℕ) (before after : Option Files) → image_in after ≡ option_map change (image_in before) → IsSome before → IsSome after
+told_by change None after is told = absurd (false≢true told)
+told_by change (Some fs) None is told = absurd cc
+told_by change (Some fs) (Some gs) is told = refl
+
+module _ {D : Type 0} (g : Ghosts D) where
+  -- a store that was read is that of the node
+  pub stored_read : (n : Held D) (s : Store D) {F : Type 0} → IsKept g n → n.halted ≡ false → IsSound g s → StaysAsItWas n.store s → OnlyReads g n.store.disk s.disk F → ¬ F → IsKept g (record n { store = s })
+  stored_read n s was up sound stays reads went = record {
+    sound = sound;
+    version = λ _. stays.version ∙ was.version up;
+    len = λ _. stays.len ∙ was.len up;
+    none_begun = λ _. begun_none s.begun (stays.begun ∙ ap changes_begun (was.none_begun up));
+    failed = stays.failed ∙ was.failed;
+    image = λ _. subst (λ (files : Option Files). IsThere n.server.image (image_in files)) (sym (reads.files went)) (was.image up);
+  }
+
+  -- reads that failed, or that found no memory
+  pub unread_ends : {A : Type 0} {knows : Type 0} {t : Stepped} {before after : List Output} (n : Held D) (s : Store D) (r : Result A StoreFault) (e : StoreFault) → r ≡ Err e → IfErr r (λ f. (f ≡ DiskFault) ⊎ (f ≡ NoMemory)) → IsKept g n → n.halted ≡ false → IsSound g s
+      → (¬ IsErrOf r DiskFault → StaysAsItWas n.store s) → (IsErrOf r DiskFault → HasFailed n.store s) → OnlyReads g n.store.disk s.disk (IsErrOf r DiskFault) → Ends g knows t before after n (record n { store = s }) (Err e)
+  unread_ends {A} n s r e is cause was up sound stays failed reads =
+      let of_disk : e ≡ DiskFault → IsErrOf r DiskFault = λ same. is ∙ ap Err same in
+      let to_disk : IsErrOf r DiskFault → e ≡ DiskFault = λ of. same_fault A e (sym is ∙ of) in
+      failed_ends g n (record n { store = s }) refl refl refl e (subst (λ (x : Result A StoreFault). IfErr x (λ f. (f ≡ DiskFault) ⊎ (f ≡ NoMemory))) is cause) was up reads to_disk of_disk
+      (λ other. stored_read n s was up sound (stays (λ of. other (to_disk of))) reads (λ of. other (to_disk of)))
+      (λ same. record { sound = sound; failed = (failed (of_disk same)).failed }) refl
+    where
+      same_fault : (A : Type 0) (e : StoreFault) → ◌≡◌ {A = Result A StoreFault} (Err e) (Err DiskFault) → e ≡ DiskFault
+      same_fault A e same = cc
+
+  -- want of memory after reads that went well
+  pub short_ends_read : {knows : Type 0} {t : Stepped} {before after : List Output} (n : Held D) (s : Store D) {F : Type 0} → IsKept g n → n.halted ≡ false → IsSound g s → StaysAsItWas n.store s → OnlyReads g n.store.disk s.disk F → ¬ F
+      → Ends g knows t before after n (record n { store = s }) (Err NoMemory)
+  short_ends_read n s was up sound stays reads went =
+      failed_ends g n (record n { store = s }) refl refl refl NoMemory (inr refl) was up reads (λ failed. absurd (went failed)) (λ is. absurd (not_short is)) (λ _. stored_read n s was up sound stays reads went) (λ is. absurd (not_short is)) refl
+
+  -- a durable call that is refused without a fault of the disk: only memory can lack
+  pub refused : (long : ℕ → Type 0) (v : Version) (s later : Store D) (e : StoreFault) → EndsAs g long v s later e → e ≢ DiskFault → version_lt s.version v ≡ true → ((bytes : ℕ) → long bytes → ⊥) → (e ≡ NoMemory) × Refuses g s later
+  refused long v s later DiskFault ends other newer fits = absurd (other refl)
+  refused long v s later (BadLabel len head) ends other newer fits = absurd ends
+  refused long v s later (TooLarge bytes) ends other newer fits = absurd (fits bytes ends.0)
+  refused long v s later (NotNewer own given) ends other newer fits = absurd (false≢true (sym ends.0.not_newer ∙ newer))
+  refused long v s later NoMemory ends other newer fits = (refl, ends.1)
+
+  module _ {knows : Type 0} {t : Stepped} {before after : List Output} (n : Held D) (was : IsKept g n) (up : n.halted ≡ false) (s : Store D) {F : Type 0} (reads : OnlyReads g n.store.disk s.disk F) (went : ¬ F) (sound : IsSound g s)
+      (stays : StaysAsItWas n.store s) (later : Store D) (sound_later : IsSound g later) (changes : List Change) (v : Version) (image : List ℕ) (made : Made) (leads : effect n.server.image changes ≡ image)
+      (same : durable_after (durable_in n.server) made.call ≡ durable v image) (cuts : CutsNoPut changes) (count : change_count made.call ≡ length changes) (calls : t.calls ≡ made ∷ []) where
+    pub call_made : {G : Type 0} (server : Server) (place : Member) → place ≡ n.member → Commits g changes v s later → IsDurable g changes v s later G → ¬ G → server.version ≡ v → length server.image ≡ later.len
+        → IsThere server.image (image_in (g.files later.disk)) → (knows → (t.server ≡ server) × (after ≡ before ++ outputs_of t.shown))
+        → Ends g knows t before after n (record n { store = later; server = server; member = place }) (Ok tt)
+    call_made server place member done durably fine version len there shows =
+        made_ends g n (record n { store = later; server = server; member = place }) refl refl member
+        (0 + (14 + length changes), calls_as (omega arith) (λ failed. fine failed) (λ none. absurd none) (calls_joined (calls_of (reads_change_none {f = Database} reads)) went durably.calls))
+        (record {
+          sound = sound_later;
+          version = λ _. done.version ∙ sym version;
+          len = λ _. sym len;
+          none_begun = λ _. done.begun;
+          failed = done.failed ∙ sym up;
+          image = λ _. there;
+        })
+        (λ told. told_by (λ bytes. effect bytes changes) (g.files s.disk) (g.files later.disk) done.image (told_still g reads went told))
+        (λ known.
+        let shown = shows known in
+        record {
+          server = shown.0;
+          outputs = shown.1;
+          disk =
+              subst (λ (made : List Made). Serves g (durable_in n.server) n.store.disk later.disk made) (sym calls)
+              (serves_after g n.store.disk s.disk later.disk reads went (durable_in n.server) (made ∷ [])
+              (serves_one g s later (durable_in n.server) changes v image made ((stored_read n s was up sound stays reads went).image up) ((stored_read n s was up sound stays reads went).version up) leads same cuts count done.steps durably));
+        })
+
+    pub call_failed : (long : ℕ → Type 0) (e : StoreFault) → EndsAs g long v s later e → version_lt s.version v ≡ true → ((bytes : ℕ) → long bytes → ⊥) → IsDurable g changes v s later (IsErrOf (ended e) DiskFault)
+        → Ends g knows t before after n (record n { store = later }) (Err e)
+    call_failed long e ends newer fits durably = by e ends durably
+      where
+        by_refusal : (e : StoreFault) → e ≢ DiskFault → EndsAs g long v s later e → Ends g knows t before after n (record n { store = later }) (Err e)
+        by_refusal e other ends =
+            let no = refused long v s later e ends other newer fits in
+            let all = reads_joined reads went no.1.disk in
+            failed_ends g n (record n { store = later }) refl refl refl e (inr no.0) was up all (λ none. absurd none) (λ is. other is)
+            (λ _. stored_read n later was up sound_later (stays_then n.store s later stays no.1.store) all (λ none. none)) (λ is. absurd (other is)) refl
+
+        by : (e : StoreFault) → EndsAs g long v s later e → IsDurable g changes v s later (IsErrOf (ended e) DiskFault) → Ends g knows t before after n (record n { store = later }) (Err e)
+        by DiskFault ends durably = record {
+          made = λ _. tt;
+          failed = λ _.
+              subst (λ (made : List Made). FailsIn g (durable_in n.server) n.store.disk later.disk made) (sym calls)
+              (fails_after g n.store.disk s.disk later.disk reads went (durable_in n.server) (made ∷ [])
+              (fails_one g s later (durable_in n.server) changes v image made (sound.ready (stays.failed ∙ was.failed ∙ up)) ((stored_read n s was up sound stays reads went).image up) ((stored_read n s was up sound stays reads went).version up) leads same cuts count durably));
+          short = λ other. absurd (other refl);
+          state = refl;
+          stored = λ fine. absurd (fine refl);
+          halts = λ _. record { sound = sound_later; failed = ends.failed };
+          told = λ fine. absurd (fine refl);
+          calls = (0 + (14 + length changes), calls_as (omega arith) (λ failed. failed) (λ failed. failed) (calls_joined (calls_of (reads_change_none {f = Database} reads)) went durably.calls));
+          halted = refl;
+          last = refl;
+          member = refl;
+        }
+        by (BadLabel len head) ends durably = by_refusal (BadLabel len head) (λ is. absurd cc) ends
+        by (TooLarge bytes) ends durably = by_refusal (TooLarge bytes) (λ is. absurd cc) ends
+        by (NotNewer own given) ends durably = by_refusal (NotNewer own given) (λ is. absurd cc) ends
+        by NoMemory ends durably = by_refusal NoMemory (λ is. absurd cc) ends

@@ -1,0 +1,201 @@
+-- How rules end.
+use Rattle.std.proofs.Common.{◌≡◌, ◌≢◌, ◌≤◌, ◌++◌, ◌⊎◌, ⊎_elim, inr, ℕ, List, [], ◌∷◌, false, true, Option, IsSome, length, Result, Ok, Err, OnOk, IsErrAnd, IsErrOf, refl, sym, ap, subst, ◌∙◌, append_assoc, arith}
+use Rattle.std.proofs.lemmas.List.{map-append}
+use Rattle.disk_base.specs.declared.disks.Disk.{Ghosts}
+use Rattle.disk_base.specs.declared.disks.FileNo.TheVariants.{Database}
+use Rattle.disk_base.specs.Files.{Files}
+use Rattle.disk_base.specs.Runs.{OnlyReads}
+use Rattle.disk_base.proofs.Runs.{reads_change_none}
+use Rattle.ubik_store.specs.declared.faults.StoreFault.{StoreFault}
+use Rattle.ubik_store.specs.declared.faults.StoreFault.TheVariants.{DiskFault, NoMemory}
+use Rattle.ubik_store.specs.declared.stores.Store.{Store}
+use Rattle.ubik_store.specs.Store.{IsReady, image_in}
+use Rattle.ubik_store.proofs.Applied.{calls_as, calls_of}
+use Rattle.ubik_store.proofs.Telling.{ok_map}
+use Rattle.cell_model.specs.declared.events.Output.{Output}
+use Rattle.cell_model.specs.Durable.{Made}
+use Rattle.cell_model.specs.Node.{Server}
+use Rattle.cell_model.specs.Step.{Member, Shown, Stepped, outputs_of}
+use Rattle.ubik_node.specs.declared.state.State.{State}
+use Rattle.ubik_node.specs.Disk.{FailsIn, Serves}
+use Rattle.ubik_node.specs.Node.{CallsSo, Ends, HasFailedStore, Held, IsKept, IsMade, durable_in}
+use Rattle.ubik_node.specs.State.{Keeps, ShowsBehind, member_of, server_of}
+use Rattle.ubik_node.proofs.Durables.{IsThere, fails_reads, serves_reads}
+
+no_fault : ◌≡◌ {A = Result (Unit {0}) StoreFault} (Ok tt) (Err DiskFault) → ⊥
+no_fault is = cc
+
+pub fault_is : (e : StoreFault) → ◌≡◌ {A = Result (Unit {0}) StoreFault} (Err e) (Err DiskFault) → e ≡ DiskFault
+fault_is e is = cc
+
+pub ok_not : {A : Type 0} (x : A) → ◌≡◌ {A = Result A StoreFault} (Ok x) (Err DiskFault) → ⊥
+ok_not x is = cc
+
+pub not_short : NoMemory ≡ DiskFault → ⊥
+not_short is = cc
+
+module _ {D : Type 0} (g : Ghosts D) where
+  pub reads_none : (d : D) → OnlyReads g d d ⊥
+  reads_none d = record {
+    files = λ _. refl;
+    kept = λ _. refl;
+    room = λ file. omega arith;
+    steps = refl;
+    crash = record { no_more = λ c left. left; no_less = λ c left. left; since_no_more = λ t c left. left; since_no_less = λ t c left. left };
+    stop = refl;
+    pending = refl;
+    tells = refl;
+    cause = record { never_falls = omega arith; rose = λ none. absurd none };
+  }
+
+  -- a failure that is said in other words
+  pub reads_as : {old new : D} {F G : Type 0} → (F → G) → (G → F) → OnlyReads g old new F → OnlyReads g old new G
+  reads_as to from reads = record {
+    files = λ not. reads.files (λ failed. not (to failed));
+    kept = reads.kept;
+    room = reads.room;
+    steps = reads.steps;
+    crash = reads.crash;
+    stop = reads.stop;
+    pending = reads.pending;
+    tells = reads.tells;
+    cause = record { never_falls = reads.cause.never_falls; rose = λ failed. reads.cause.rose (from failed) };
+  }
+
+  -- a disk that was read tells its files as before
+  pub told_still : {old new : D} {F : Type 0} → OnlyReads g old new F → ¬ F → IsSome (g.files old) → IsSome (g.files new)
+  told_still reads went told = subst (λ (files : Option Files). IsSome files) (sym (reads.files went)) told
+
+  pub reads_so : {old new : D} {F G : Type 0} → OnlyReads g old new F → (F → G) → (G → F) → CallsSo g old new G
+  reads_so reads to from = (0, calls_as (omega arith) to from (calls_of (reads_change_none {f = Database} reads)))
+
+  -- the store of a node that is not halted
+  pub ready_in : (n : Held D) → IsKept g n → n.halted ≡ false → IsReady g n.store
+  ready_in n stored up = stored.sound.ready (stored.failed ∙ up)
+
+  -- another server of the same database over the same store
+  pub kept_with : (n : Held D) (server : Server) → IsKept g n → server.version ≡ n.server.version → server.image ≡ n.server.image → IsKept g (record n { server = server })
+  kept_with n server stored version image = record {
+    sound = stored.sound;
+    version = λ up. stored.version up ∙ sym version;
+    len = λ up. stored.len up ∙ ap length (sym image);
+    none_begun = stored.none_begun;
+    failed = stored.failed;
+    image = λ up. subst (λ (bytes : List ℕ). IsThere bytes (image_in (g.files n.store.disk))) (sym image) (stored.image up);
+  }
+
+  module _ {knows : Type 0} {t : Stepped} {before after : List Output} (n m : Held D) (halted : m.halted ≡ n.halted) (last : m.last ≡ n.last) (member : m.member ≡ n.member) where
+    pub made_ends : CallsSo g n.store.disk m.store.disk ⊥ → IsKept g m → (IsSome (g.files n.store.disk) → IsSome (g.files m.store.disk)) → (knows → IsMade g t before after n m) → Ends g knows t before after n m (Ok tt)
+    made_ends run stored told made = record {
+      made = made;
+      failed = λ failed. absurd (no_fault failed);
+      short = tt;
+      state = tt;
+      stored = λ _. stored;
+      halts = λ failed. absurd (no_fault failed);
+      told = λ _. told;
+      calls = (run.0, calls_as (omega arith) (λ none. absurd none) (λ failed. no_fault failed) run.1);
+      halted = halted;
+      last = last;
+      member = member;
+    }
+
+    -- a rule without a durable call, after reads
+    pub read_ends : {F : Type 0} → IsKept g n → n.halted ≡ false → OnlyReads g n.store.disk m.store.disk F → ¬ F → IsKept g m → t.calls ≡ []
+        → (knows → (t.server ≡ m.server) × (after ≡ before ++ outputs_of t.shown)) → Ends g knows t before after n m (Ok tt)
+    read_ends was up reads went stored none shows =
+        made_ends (reads_so reads went (λ failed. absurd failed)) stored (told_still reads went) (λ known.
+        let shown = shows known in
+        record {
+          server = shown.0;
+          outputs = shown.1;
+          disk = subst (λ (calls : List Made). Serves g (durable_in n.server) n.store.disk m.store.disk calls) (sym none) (serves_reads g n.store (durable_in n.server) (ready_in n was up) (was.image up) (was.version up) reads);
+        })
+
+    -- reads that failed, or want of memory
+    pub failed_ends : {F : Type 0} (e : StoreFault) → (e ≡ DiskFault) ⊎ (e ≡ NoMemory) → IsKept g n → n.halted ≡ false → OnlyReads g n.store.disk m.store.disk F → (F → e ≡ DiskFault) → (e ≡ DiskFault → F)
+        → (e ≢ DiskFault → IsKept g m) → (e ≡ DiskFault → HasFailedStore g m.store) → m.server ≡ n.server → Ends g knows t before after n m (Err e)
+    failed_ends e cause was up reads to from stored halts same = record {
+      made = λ _. tt;
+      failed = λ failed. fails_reads g n.store (durable_in n.server) (ready_in n was up) (was.image up) (was.version up) reads t.calls;
+      short = λ other. (⊎_elim (λ is. absurd (other is)) (λ is. is) cause, reads_as (λ failed. other (to failed)) (λ none. absurd none) reads);
+      state = same;
+      stored = λ fine. stored (λ is. fine (ap Err is));
+      halts = λ failed. halts (fault_is e failed);
+      told = λ fine. told_still reads (λ failed. fine (ap Err (to failed)));
+      calls = reads_so reads (λ failed. ap Err (to failed)) (λ failed. from (fault_is e failed));
+      halted = halted;
+      last = last;
+      member = member;
+    }
+
+  -- a rule without a durable call that does not touch the store: the place in the cell and the database stay
+  pub shown_ends : {knows : Type 0} {t : Stepped} {before after : List Output} (n : Held D) (st now : State) → IsKept g n → n.halted ≡ false → n.server ≡ server_of st → n.member ≡ member_of st → Keeps st now
+      → ShowsBehind t (server_of now) before after → Ends g knows t before after n (record n { server = server_of now; member = member_of now }) (Ok tt)
+  shown_ends n st now stored up server member kept shows =
+      read_ends n (record n { server = server_of now; member = member_of now }) refl refl (kept.member ∙ sym member) stored up (reads_none n.store.disk) (λ none. none)
+      (kept_with n (server_of now) stored (kept.version ∙ ap (λ (s : Server). s.version) (sym server)) (kept.image ∙ ap (λ (s : Server). s.image) (sym server))) shows.calls (λ _. (shows.server, shows.outputs))
+
+  -- one that changes nothing
+  pub rests_ends : {knows : Type 0} {t : Stepped} {before after : List Output} (n : Held D) → IsKept g n → n.halted ≡ false → ShowsBehind t n.server before after → Ends g knows t before after n n (Ok tt)
+  rests_ends n stored up shows =
+      read_ends n n refl refl refl stored up (reads_none n.store.disk) (λ none. none) stored shows.calls (λ _. (shows.server, shows.outputs))
+
+  -- want of memory, before anything was done
+  pub short_ends : {knows : Type 0} {t : Stepped} {before after : List Output} (n : Held D) → IsKept g n → n.halted ≡ false → Ends g knows t before after n n (Err NoMemory)
+  short_ends n stored up =
+      failed_ends n n refl refl refl NoMemory (inr refl) stored up (reads_none n.store.disk) (λ none. absurd none) (λ is. absurd (not_short is)) (λ _. stored) (λ is. absurd (not_short is)) refl
+
+  -- a rule that is another one
+  pub same_ends : {knows : Type 0} {t u : Stepped} {before after : List Output} {n m : Held D} {r : Result (Unit {0}) StoreFault} → t ≡ u → Ends g knows u before after n m r → Ends g knows t before after n m r
+  same_ends {knows} {t} {u} {before} {after} {n} {m} {r} is ends = subst (λ (x : Stepped). Ends g knows x before after n m r) (sym is) ends
+
+  -- less is asked of the disk
+  pub known_ends : {knows less : Type 0} {t : Stepped} {before after : List Output} {n m : Held D} {r : Result (Unit {0}) StoreFault} → (less → knows) → Ends g knows t before after n m r → Ends g less t before after n m r
+  known_ends so ends = record {
+    made = λ known. ends.made (so known);
+    failed = ends.failed;
+    short = ends.short;
+    state = ends.state;
+    stored = ends.stored;
+    halts = ends.halts;
+    told = ends.told;
+    calls = ends.calls;
+    halted = ends.halted;
+    last = ends.last;
+    member = ends.member;
+  }
+
+  -- a rule behind what else is shown first
+  pub behind_ends : {knows : Type 0} {t : Stepped} {before mid after : List Output} {n m : Held D} (shown : List Shown) (r : Result (Unit {0}) StoreFault) → mid ≡ before ++ outputs_of shown → Ends g knows t mid after n m r
+      → Ends g knows (record { server = t.server; calls = t.calls; shown = shown ++ t.shown }) before after n m r
+  behind_ends {knows} {t} {before} {mid} {after} {n} {m} shown r is ends = record {
+    made = λ known.
+        ok_map r (IsMade g t mid after n m) (IsMade g (record { server = t.server; calls = t.calls; shown = shown ++ t.shown }) before after n m) (ends.made known) (λ made.
+        record {
+          server = made.server;
+          outputs =
+              made.outputs ∙ ap (λ (o : List Output). o ++ outputs_of t.shown) is ∙ append_assoc before (outputs_of shown) (outputs_of t.shown)
+              ∙ ap (λ (o : List Output). before ++ o) (sym (map-append (λ (one : Shown). one.output) shown t.shown));
+          disk = made.disk;
+        });
+    failed = ends.failed;
+    short = ends.short;
+    state = ends.state;
+    stored = ends.stored;
+    halts = ends.halts;
+    told = ends.told;
+    calls = ends.calls;
+    halted = ends.halted;
+    last = ends.last;
+    member = ends.member;
+  }
+
+  -- an error that is handed on
+  pub handed_ends : {knows : Type 0} {t : Stepped} {before after : List Output} {n m : Held D} (r : Result (Unit {0}) StoreFault) (e : StoreFault) → IsErrAnd r (λ x. x ≡ e) → Ends g knows t before after n m (Err e) → Ends g knows t before after n m r
+  handed_ends (Ok x) e is ends = absurd is
+  handed_ends {knows} {t} {before} {after} {n} {m} (Err x) e is ends = subst (λ (y : StoreFault). Ends g knows t before after n m (Err y)) (sym is) ends
+
+  -- one that nothing stood before
+  pub empty_ends : {knows : Type 0} {t : Stepped} {before after : List Output} {n m : Held D} {r : Result (Unit {0}) StoreFault} → before ≡ [] → Ends g knows t before after n m r → Ends g knows t [] after n m r
+  empty_ends {knows} {t} {before} {after} {n} {m} {r} empty ends = subst (λ (o : List Output). Ends g knows t o after n m r) empty ends

@@ -1,0 +1,166 @@
+-- The text that a piece goes on with, given out and taken in again; and how rules end about which that is done.
+use Rattle.std.proofs.Common.{◌≡◌, ◌≤◌, ◌++◌, ◌∙◌, ⊎_elim, ℕ, Bool, true, false, cond, List, Option, Some, None, length, take, Result, Ok, Err, OnOk, OnErr, refl, sym, ap, subst, arith, length-take}
+use Rattle.std.specs.Prelude.{◌==◌}
+use Rattle.std.specs.Result.{is_err}
+use Rattle.std.proofs.lemmas.Bool.{false≢true}
+use Rattle.std.proofs.lemmas.List.{take-append-le, take-take}
+use Rattle.disk_base.specs.declared.disks.Disk.{Ghosts}
+use Rattle.ubik_types.specs.declared.phases.Phase.{Phase}
+use Rattle.ubik_types.specs.declared.phases.Phase.TheVariants as phase
+use Rattle.ubik_types.specs.declared.versions.Version.{Version}
+use Rattle.ubik_types.specs.Phase.{PhaseRecord}
+use Rattle.ubik_store.specs.declared.faults.StoreFault.{StoreFault}
+use Rattle.ubik_store.specs.declared.faults.StoreFault.TheVariants.{NoMemory}
+use Rattle.cell_model.specs.declared.events.Output.{Output}
+use Rattle.cell_model.specs.Durable.{Durable, Made}
+use Rattle.cell_model.specs.Node.{Server, ReceivedText}
+use Rattle.cell_model.specs.Recovery.{installed, text_with}
+use Rattle.cell_model.specs.Step.{Member, Stepped, outputs_of}
+use Rattle.ubik_recovery.specs.declared.texts.TextSource.{TextSource}
+use Rattle.ubik_recovery.specs.Record.{RecoveryRecord, phase_record, record_in, with_text}
+use Rattle.ubik_recovery.specs.Rules.{recovering}
+use Rattle.ubik_recovery.specs.Text.{IsNext, received_bytes, text_of}
+use Rattle.ubik_node.specs.declared.state.State.{State}
+use Rattle.ubik_node.specs.Disk.{FailsIn, Serves}
+use Rattle.ubik_node.specs.Node.{Ends, Held, IsKept, durable_in}
+use Rattle.ubik_node.specs.Receiving.{front_back, front_taken}
+use Rattle.ubik_node.specs.State.{server_of, server_with}
+use Rattle.ubik_node.proofs.Endings.{kept_with, short_ends}
+use Rattle.ubik_node.proofs.Received.{front_of}
+
+same_phase : (v : Version) (r : RecoveryRecord) (text : Option ReceivedText) → phase_record v (with_text r text) ≡ phase_record v r
+same_phase v r text = by r.phase
+  where
+    by : (p : Phase) → record_in p v (with_text r text) ≡ record_in p v r
+    by phase.None = refl
+    by phase.Poll = refl
+    by phase.Fetch = refl
+    by phase.Relabel = refl
+    by phase.Send = refl
+    by phase.Ready = refl
+
+-- another text is another text of the server
+pub text_put : (v : Version) (r : RecoveryRecord) (s : Server) (text : Option ReceivedText) → recovering v (with_text r text) s ≡ record (recovering v r s) { received = text }
+text_put v r s text = ap (λ (p : PhaseRecord). record s { phase = p; received = text }) (same_phase v r text)
+
+-- the front that was given out comes back, at each server that is as the one that it was taken of
+pub front_restored : (may : Bool) (source : TextSource) (at : ℕ) (bytes front : List ℕ) (st x : State) (y : ReceivedText) → text_with may source.server source.version source.total at bytes st.recovery.text ≡ Some y
+    → server_of x ≡ server_with st (front_taken at st.recovery) → front ≡ take at (received_bytes st.recovery.text) → server_with x (front_back source at front x.recovery) ≡ server_of st
+front_restored may source at bytes front st x y takes server is = by (at == 0) refl
+  where
+    by : (b : Bool) → (at == 0) ≡ b → server_with x (cond b x.recovery (with_text x.recovery (Some (text_of source front)))) ≡ server_of st
+    by true first = server ∙ ap (λ (b : Bool). server_with st (cond b st.recovery (with_text st.recovery None))) first
+    by false later =
+        let text : st.recovery.text ≡ Some (text_of source front) = front_of may source at bytes st.recovery.text y later takes ∙ ap (λ (xs : List ℕ). Some (text_of source xs)) (sym is) in
+        text_put x.version x.recovery (server_of x) (Some (text_of source front))
+        ∙ ap (λ (s : Server). record s { received = Some (text_of source front) }) (server ∙ ap (λ (b : Bool). server_with st (cond b st.recovery (with_text st.recovery None))) later)
+        ∙ sym (text_put st.version (with_text st.recovery None) (server_of st) (Some (text_of source front)))
+        ∙ ap (λ (t : Option ReceivedText). recovering st.version (with_text st.recovery t) (server_of st)) (sym text)
+
+pub next_within : (at : ℕ) (text : Option ReceivedText) → IsNext at text → at ≤ length (received_bytes text)
+next_within at text next = ⊎_elim (λ first. omega (arith, first)) (λ goes. omega (arith, goes)) next
+
+pub front_cut : (at : ℕ) (xs bytes : List ℕ) → at ≤ length xs → take at (take at xs ++ bytes) ≡ take at xs
+front_cut at xs bytes within = take-append-le at (take at xs) bytes (omega (arith, length-take at xs, within)) ∙ take-take at at xs (omega arith)
+
+pub on_err : {A E : Type 0} (r : Result A E) (P : Type 0) → is_err r ≡ true → OnErr r P → P
+on_err (Ok x) P failed so = absurd (false≢true failed)
+on_err (Err e) P failed so = so
+
+pub on_fine : {A E : Type 0} (r : Result A E) (P : Type 0) → is_err r ≡ false → OnOk r P → P
+on_fine (Ok x) P went so = so
+on_fine (Err e) P went so = absurd (false≢true (sym went))
+
+module _ {D : Type 0} (g : Ghosts D) {knows : Type 0} {t : Stepped} {before after : List Output} (n : Held D) where
+  -- memory ran out, and what was given out has come back
+  pub short_back : (server : Server) (member : Member) → IsKept g n → n.halted ≡ false → server ≡ n.server → member ≡ n.member → Ends g knows t before after n (record n { server = server; member = member }) (Err NoMemory)
+  short_back server member stored up same place =
+      subst (λ (s : Server). Ends g knows t before after n (record n { server = s; member = member }) (Err NoMemory)) (sym same)
+      (subst (λ (m : Member). Ends g knows t before after n (record n { member = m }) (Err NoMemory)) (sym place) (short_ends g n stored up))
+
+  module _ (mid : Server) (place : Member) (durable : durable_in mid ≡ durable_in n.server) (at : place ≡ n.member) (m : Held D) where
+    -- a rule that was made at another server of the same database
+    pub made_from : Ends g knows t before after (record n { server = mid; member = place }) m (Ok tt) → Ends g knows t before after n m (Ok tt)
+    made_from ends = record {
+      made = λ known.
+          let one = ends.made known in
+          record { server = one.server; outputs = one.outputs; disk = subst (λ (d : Durable). Serves g d n.store.disk m.store.disk t.calls) durable one.disk };
+      failed = λ failed. subst (λ (d : Durable). FailsIn g d n.store.disk m.store.disk t.calls) durable (ends.failed failed);
+      short = ends.short;
+      state = tt;
+      stored = ends.stored;
+      halts = ends.halts;
+      told = ends.told;
+      calls = ends.calls;
+      halted = ends.halted;
+      last = ends.last;
+      member = ends.member ∙ at;
+    }
+
+    -- or was not, and then the server comes back
+    pub failed_from : (server : Server) (member : Member) (e : StoreFault) → server ≡ n.server → member ≡ n.member → Ends g knows t before after (record n { server = mid; member = place }) m (Err e)
+        → Ends g knows t before after n (record m { server = server; member = member }) (Err e)
+    failed_from server member e same here ends = record {
+      made = λ known. tt;
+      failed = λ failed. subst (λ (d : Durable). FailsIn g d n.store.disk m.store.disk t.calls) durable (ends.failed failed);
+      short = ends.short;
+      state = same;
+      stored = λ fine.
+          kept_with g m server (ends.stored fine) (ap (λ (s : Server). s.version) same ∙ sym (ap (λ (d : Durable). d.version) durable) ∙ sym (ap (λ (s : Server). s.version) ends.state))
+          (ap (λ (s : Server). s.image) same ∙ sym (ap (λ (d : Durable). d.image) durable) ∙ sym (ap (λ (s : Server). s.image) ends.state));
+      halts = ends.halts;
+      told = ends.told;
+      calls = ends.calls;
+      halted = ends.halted;
+      last = ends.last;
+      member = here;
+    }
+
+module _ {D : Type 0} (g : Ghosts D) {knows : Type 0} {t u : Stepped} {before after first final : List Output} (n m : Held D) (same : u.calls ≡ t.calls) where
+  -- a rule with the durable calls of another one fails as that does
+  pub fails_so : (e : StoreFault) → Ends g knows t before after n m (Err e) → Ends g knows u first final n m (Err e)
+  fails_so e ends = record {
+    made = λ known. tt;
+    failed = λ failed. subst (λ (calls : List Made). FailsIn g (durable_in n.server) n.store.disk m.store.disk calls) (sym same) (ends.failed failed);
+    short = ends.short;
+    state = ends.state;
+    stored = ends.stored;
+    halts = ends.halts;
+    told = ends.told;
+    calls = ends.calls;
+    halted = ends.halted;
+    last = ends.last;
+    member = ends.member;
+  }
+
+  -- a rule that goes on without the disk
+  pub goes_on : (server : Server) (member : Member) → server.version ≡ m.server.version → server.image ≡ m.server.image → member ≡ m.member → (t.server ≡ m.server → (u.server ≡ server) × (final ≡ first ++ outputs_of u.shown))
+      → Ends g knows t before after n m (Ok tt) → Ends g knows u first final n (record m { server = server; member = member }) (Ok tt)
+  goes_on server member version image here shows ends = record {
+    made = λ known.
+        let one = ends.made known in
+        let shown = shows one.server in
+        record { server = shown.0; outputs = shown.1; disk = subst (λ (calls : List Made). Serves g (durable_in n.server) n.store.disk m.store.disk calls) (sym same) one.disk };
+    failed = λ failed. subst (λ (calls : List Made). FailsIn g (durable_in n.server) n.store.disk m.store.disk calls) (sym same) (ends.failed failed);
+    short = ends.short;
+    state = tt;
+    stored = λ fine. kept_with g m server (ends.stored fine) version image;
+    halts = ends.halts;
+    told = ends.told;
+    calls = ends.calls;
+    halted = ends.halted;
+    last = ends.last;
+    member = here ∙ ends.member;
+  }
+
+-- the text with its last piece
+pub front_image : (source : TextSource) (at : ℕ) (bytes front whole : List ℕ) (text : Option ReceivedText) → front ≡ take at (received_bytes text) → whole ≡ front ++ bytes → whole ≡ take at (received_bytes text) ++ bytes
+front_image source at bytes front whole text is more = more ∙ ap (λ (xs : List ℕ). xs ++ bytes) is
+
+pub installed_front : (s mid : Server) (at : ℕ) (best : Version) (image whole : List ℕ) (v : Version) (r : RecoveryRecord) → mid ≡ recovering v (front_taken at r) s → whole ≡ image → installed (recovering v r s) best image ≡ installed mid best whole
+installed_front s mid at best image whole v r server same =
+    by (at == 0) ∙ ap (λ (z : Server). installed z best image) (sym server) ∙ ap (λ (bytes : List ℕ). installed mid best bytes) (sym same)
+  where
+    by : (b : Bool) → installed (recovering v r s) best image ≡ installed (recovering v (cond b r (with_text r None)) s) best image
+    by true = refl
+    by false = ap (λ (p : PhaseRecord). installed (record s { phase = p; received = None }) best image) (sym (same_phase v r None))

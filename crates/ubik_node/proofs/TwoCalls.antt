@@ -1,0 +1,301 @@
+-- Two durable calls of a store, one after the other.
+use Rattle.std.proofs.Common.{◌≡◌, ◌≤◌, ◌<◌, ◌+◌, ◌≢◌, ◌++◌, ⊎_elim, inl, inr, ℕ, zero, suc, Bool, true, false, List, [], ◌∷◌, length, take, Option, Some, None, IfSome, IsSome, IsErrOf, Ok, Err, refl, sym, ap, subst, ◌∙◌, arith}
+use Rattle.std.specs.Prelude.{◌==◌, nat_lt, not, if◌then◌else◌}
+use Rattle.std.proofs.lemmas.Bool.{false≢true}
+use Rattle.std.proofs.lemmas.Bool.Decides.{nat_tests}
+use Rattle.ubik_types.specs.declared.images.Change.{Change}
+use Rattle.ubik_types.specs.declared.limits.TheConstants.{MAX_IMAGE}
+use Rattle.ubik_types.specs.declared.versions.Version.{Version}
+use Rattle.ubik_types.specs.Image.{effect}
+use Rattle.ubik_types.specs.Version.{version_lt, zero_version}
+use Rattle.disk_base.specs.declared.disks.Disk.{Ghosts}
+use Rattle.disk_base.specs.Crash.{LeavesOnly, Narrows, RisesAtMost}
+use Rattle.disk_base.specs.Files.{Files}
+use Rattle.disk_base.specs.Stops.{Advances, DiskStop, IsStopped, after_changes}
+use Rattle.disk_base.proofs.Runs.{joined, widened}
+use Rattle.disk_base.proofs.Stopping.{after_changes-add}
+use Rattle.page_file.specs.declared.label.TheConstants.{LABEL_LEN}
+use Rattle.page_file.specs.Label.{version_by, version_of_database, version_of_label}
+use Rattle.ubik_store.specs.declared.stores.Store.{Store}
+use Rattle.page_file.specs.Pages.{image_of}
+use Rattle.ubik_store.specs.declared.faults.StoreFault.{StoreFault}
+use Rattle.ubik_store.specs.declared.faults.StoreFault.TheVariants.{DiskFault, BadLabel, TooLarge, NotNewer, NoMemory}
+use Rattle.ubik_store.specs.DurableCall.{Commits, EndsAs, IsDurable, IsNeverLong}
+use Rattle.ubik_store.specs.Gaps.{CutsNoPut, IsPlain}
+use Rattle.ubik_store.specs.Moments.{head_calls}
+use Rattle.ubik_store.specs.Rest.{IsAtRest}
+use Rattle.ubik_store.specs.Store.{IsReady, IsSound, image_in}
+use Rattle.ubik_store.proofs.Applied.{calls_as, calls_joined}
+use Rattle.ubik_store.proofs.Telling.{told, of_told}
+use Rattle.cell_model.specs.declared.events.Output.{Output}
+use Rattle.cell_model.specs.Durable.{Durable, Made, change_count, durable, durable_after, durable_after_all}
+use Rattle.cell_model.specs.Node.{Server}
+use Rattle.cell_model.specs.Step.{Member, Stepped, outputs_of}
+use Rattle.ubik_node.specs.Disk.{FailsIn, LeavesWithin, Serves, StandsAs, StandsBetween, StandsWithin, calls_made, has_label}
+use Rattle.ubik_node.specs.Node.{Ends, Held, IsKept, durable_in}
+use Rattle.ubik_node.proofs.Calling.{call_failed, ended, told_by}
+use Rattle.ubik_node.proofs.Durables.{IsThere, calls_one, fails_one, image_then, leaves_one, serves_one}
+use Rattle.ubik_node.proofs.Endings.{made_ends, reads_none}
+
+-- a database file that is shorter than a label is an empty one, of the first version
+pub unlabelled : (file : List ℕ) (v : Version) → version_of_database file ≡ Some v → nat_lt (length file) LABEL_LEN ≡ true → v ≡ zero_version
+unfolding version_of_database
+unlabelled file v is short = by (length file == 0) refl
+  where
+    by : (b : Bool) → (length file == 0) ≡ b → v ≡ zero_version
+    by true empty =
+        let first : Some zero_version ≡ Some v = sym (ap (λ (b : Bool). if b then Some zero_version else version_by (length file) (take LABEL_LEN file)) empty) ∙ is in cc
+    by false some =
+        let none : None ≡ Some v =
+        sym (ap (λ (b : Bool). if b then Some zero_version else version_by (length file) (take LABEL_LEN file)) some
+        ∙ ap (λ (b : Bool). if b then None else (if nat_lt (LABEL_LEN + MAX_IMAGE) (length file) then None else version_of_label (take LABEL_LEN file))) short) ∙ is in cc
+
+none_before : (own : Version) → version_lt own zero_version ≡ false
+none_before own = grind (arith, nat_tests)
+
+-- of a newer version than another one it has a label
+pub label_after : (file : List ℕ) (own v : Version) → version_of_database file ≡ Some v → version_lt own v ≡ true → has_label file ≡ true
+label_after file own v is newer = by (nat_lt (length file) LABEL_LEN) refl
+  where
+    by : (b : Bool) → nat_lt (length file) LABEL_LEN ≡ b → has_label file ≡ true
+    by true short = absurd (false≢true (sym (none_before own) ∙ ap (version_lt own) (sym (unlabelled file v is short)) ∙ newer))
+    by false full = ap not full
+
+there_files : (files : Option Files) → IsSome files → (fs : Files) × (files ≡ Some fs)
+there_files None tells = absurd (false≢true tells)
+there_files (Some fs) tells = (fs, refl)
+
+added : (a b c x y : ℕ) → b ≡ a + (x + 0) → c ≡ b + (y + 0) → c ≡ a + (x + (y + 0))
+added a b c x y one two = omega arith
+
+at_least : (a b c x y : ℕ) → b ≡ a + (x + 0) → b + y ≤ c → a + (x + y) ≤ c
+at_least a b c x y one two = omega arith
+
+at_most : (a b c x y : ℕ) → b ≡ a + (x + 0) → c ≤ b + y → c ≤ a + (x + y)
+at_most a b c x y one two = omega arith
+
+one_more : (n : ℕ) → suc (n + 1) ≡ suc n + 1
+one_more n = omega arith
+
+module _ {D : Type 0} (g : Ghosts D) (old mid : D) (d : Durable) (first second : Made) where
+  abbrev both : List Made
+  both = first ∷ second ∷ []
+
+  abbrev middle : Durable
+  middle = durable_after d first.call
+
+  within_first : (c : Files) → StandsWithin d (first ∷ []) c → StandsWithin d both c
+  within_first c stands = by stands.0 stands.1 stands.2
+    where
+      by : (n : ℕ) → n ≤ length (first ∷ []) → StandsAs (durable_after_all d (take n (first ∷ []))) c → StandsWithin d both c
+      by zero few is = (0, omega arith, is)
+      by (suc zero) few is = (1, omega arith, is)
+      by (suc (suc n)) few is = absurd (omega (arith, few))
+
+  within_second : (c : Files) → StandsWithin middle (second ∷ []) c → StandsWithin d both c
+  within_second c stands = (suc stands.0, omega (arith, stands.1), stands.2)
+
+  -- the first call failed
+  pub fails_first : (was now : Store D) (changes : List Change) → was.disk ≡ old → now.disk ≡ mid → IsReady g was → change_count first.call ≡ length changes
+      → LeavesWithin g d old mid (first ∷ []) → IfSome (g.files old) (λ fs. RisesAtMost (13 + length changes + head_calls fs.database) (g.steps old) (g.steps mid)) → FailsIn g d old mid both
+  fails_first was now changes before after ready count leaves few =
+      let run : (fs : Files) → g.files old ≡ Some fs → LeavesOnly g.steps g.left_since old mid (StandsWithin d (first ∷ [])) =
+      λ fs is. of_told (g.files old) fs (λ _. LeavesOnly g.steps g.left_since old mid (StandsWithin d (first ∷ []))) is leaves.moments in
+      let rose : (fs : Files) → g.files old ≡ Some fs → RisesAtMost (13 + length changes + head_calls fs.database) (g.steps old) (g.steps mid) =
+      λ fs is. of_told (g.files old) fs (λ fs. RisesAtMost (13 + length changes + head_calls fs.database) (g.steps old) (g.steps mid)) is few in
+      record {
+        leaves = record {
+          moments = told (g.files old) (λ _. LeavesOnly g.steps g.left_since old mid (StandsWithin d both)) (λ fs is.
+              widened g.steps g.left_since old mid (StandsWithin d (first ∷ [])) (StandsWithin d both) within_first (run fs is));
+          plain = leaves.plain;
+        };
+        whole = 0;
+        now = told (g.files old) (λ _. Narrows (StandsBetween d both 0) (g.may_leave mid)) (λ fs is c left.
+            let stands = (run fs is).each c (g.counts_now mid (g.steps old) c (run fs is).later left) in
+            either c stands.0 stands.1 stands.2);
+        least = told (g.files old) (λ fs. g.steps old + calls_made (has_label fs.database) [] ≤ g.steps mid) (λ fs is. let low = (rose fs is).0 in omega (arith, low));
+        most = told (g.files old) (λ fs. g.steps mid ≤ g.steps old + calls_made (has_label fs.database) (first ∷ [])) (λ fs is.
+            let high = (rose fs is).1 in
+            let one = calls_one fs.database first (length changes) count in
+            omega (arith, high, one));
+        running = told (g.files old) (λ fs. ¬ IsStopped (after_changes (calls_made (has_label fs.database) []) (g.stop old))) (λ fs is.
+            subst (λ (disk : D). ¬ IsStopped (g.stop disk)) before ready.runs);
+      }
+    where
+      either : (c : Files) (n : ℕ) → n ≤ length (first ∷ []) → StandsAs (durable_after_all d (take n (first ∷ []))) c → StandsBetween d both 0 c
+      either c zero few is = inl is
+      either c (suc zero) few is = inr is
+      either c (suc (suc n)) few is = absurd (omega (arith, few))
+
+  module _ (new : D) (tells : IsSome (g.files old) → IsSome (g.files mid)) where
+    between : (fs : Files) → g.files old ≡ Some fs → (gs : Files) × (g.files mid ≡ Some gs)
+    between fs is = there_files (g.files mid) (tells (subst (λ (files : Option Files). IsSome files) (sym is) refl))
+
+    leaves_both : LeavesWithin g d old mid (first ∷ []) → LeavesWithin g middle mid new (second ∷ []) → LeavesWithin g d old new both
+    leaves_both one two = record {
+      moments = told (g.files old) (λ _. LeavesOnly g.steps g.left_since old new (StandsWithin d both)) (λ fs is.
+          let there = between fs is in
+          joined g.steps g.left_since old mid new (StandsWithin d both)
+          (widened g.steps g.left_since old mid (StandsWithin d (first ∷ [])) (StandsWithin d both) within_first
+          (of_told (g.files old) fs (λ _. LeavesOnly g.steps g.left_since old mid (StandsWithin d (first ∷ []))) is one.moments))
+          (widened g.steps g.left_since mid new (StandsWithin middle (second ∷ [])) (StandsWithin d both) within_second
+          (of_told (g.files mid) there.0 (λ _. LeavesOnly g.steps g.left_since mid new (StandsWithin middle (second ∷ []))) there.1 two.moments)));
+      plain = told (g.files old) (λ fs. IsPlain fs → LeavesOnly g.steps g.left_since old new IsPlain) (λ fs is plain.
+          let there = between fs is in
+          let run = of_told (g.files old) fs (λ fs. IsPlain fs → LeavesOnly g.steps g.left_since old mid IsPlain) is one.plain plain in
+          let still : IsPlain there.0 = run.each there.0 (g.counts_now mid (g.steps old) there.0 run.later (g.may_be_read mid there.0 there.1)) in
+          joined g.steps g.left_since old mid new IsPlain run
+          (of_told (g.files mid) there.0 (λ fs. IsPlain fs → LeavesOnly g.steps g.left_since mid new IsPlain) there.1 two.plain still));
+    }
+
+    module _ (label : IfSome (g.files mid) (λ fs. has_label fs.database ≡ true)) (one : Serves g d old mid (first ∷ [])) where
+      labelled : (fs : Files) → g.files mid ≡ Some fs → has_label fs.database ≡ true
+      labelled fs is = of_told (g.files mid) fs (λ fs. has_label fs.database ≡ true) is label
+
+      rose : (fs : Files) → g.files old ≡ Some fs → g.steps mid ≡ g.steps old + calls_made (has_label fs.database) (first ∷ [])
+      rose fs is = of_told (g.files old) fs (λ fs. g.steps mid ≡ g.steps old + calls_made (has_label fs.database) (first ∷ [])) is one.steps
+
+      -- both were made
+      pub serves_both : Serves g middle mid new (second ∷ []) → Serves g d old new both
+      serves_both two = record {
+        leaves = leaves_both one.leaves two.leaves;
+        steps = told (g.files old) (λ fs. g.steps new ≡ g.steps old + calls_made (has_label fs.database) both) (λ fs is.
+            let there = between fs is in
+            let more : g.steps new ≡ g.steps mid + calls_made true (second ∷ []) =
+            of_told (g.files mid) there.0 (λ fs. g.steps new ≡ g.steps mid + calls_made (has_label fs.database) (second ∷ [])) there.1 two.steps
+            ∙ ap (λ (b : Bool). g.steps mid + calls_made b (second ∷ [])) (labelled there.0 there.1) in
+            added _ _ _ _ _ (rose fs is) more);
+      }
+
+      -- the second one failed
+      pub fails_second : Advances (g.steps old) (g.steps mid) (g.stop old) (g.stop mid) → FailsIn g middle mid new (second ∷ []) → FailsIn g d old new both
+      fails_second run two = record {
+        leaves = leaves_both one.leaves two.leaves;
+        whole = suc two.whole;
+        now = told (g.files old) (λ _. Narrows (StandsBetween d both (suc two.whole)) (g.may_leave new)) (λ fs is c left.
+            let there = between fs is in
+            later c two.whole (of_told (g.files mid) there.0 (λ _. Narrows (StandsBetween middle (second ∷ []) two.whole) (g.may_leave new)) there.1 two.now c left));
+        least = told (g.files old) (λ fs. g.steps old + calls_made (has_label fs.database) (take (suc two.whole) both) ≤ g.steps new) (λ fs is.
+            let there = between fs is in
+            at_least _ _ _ _ _ (rose fs is)
+            (subst (λ (b : Bool). g.steps mid + calls_made b (take two.whole (second ∷ [])) ≤ g.steps new) (labelled there.0 there.1)
+            (of_told (g.files mid) there.0 (λ fs. g.steps mid + calls_made (has_label fs.database) (take two.whole (second ∷ [])) ≤ g.steps new) there.1 two.least)));
+        most = told (g.files old) (λ fs. g.steps new ≤ g.steps old + calls_made (has_label fs.database) (take (suc two.whole + 1) both)) (λ fs is.
+            let there = between fs is in
+            subst (λ (k : ℕ). g.steps new ≤ g.steps old + calls_made (has_label fs.database) (take k both)) (one_more two.whole)
+            (at_most (g.steps old) (g.steps mid) (g.steps new) _ (calls_made true (take (two.whole + 1) (second ∷ []))) (rose fs is)
+            (subst (λ (b : Bool). g.steps new ≤ g.steps mid + calls_made b (take (two.whole + 1) (second ∷ []))) (labelled there.0 there.1)
+            (of_told (g.files mid) there.0 (λ fs. g.steps new ≤ g.steps mid + calls_made (has_label fs.database) (take (two.whole + 1) (second ∷ []))) there.1 two.most))));
+        running = told (g.files old) (λ fs. ¬ IsStopped (after_changes (calls_made (has_label fs.database) (take (suc two.whole) both)) (g.stop old))) (λ fs is.
+            let there = between fs is in
+            let count = calls_made true (take two.whole (second ∷ [])) in
+            let runs : ¬ IsStopped (after_changes count (g.stop mid)) =
+            subst (λ (b : Bool). ¬ IsStopped (after_changes (calls_made b (take two.whole (second ∷ []))) (g.stop mid))) (labelled there.0 there.1)
+            (of_told (g.files mid) there.0 (λ fs. ¬ IsStopped (after_changes (calls_made (has_label fs.database) (take two.whole (second ∷ []))) (g.stop mid))) there.1 two.running) in
+            let whole : run.calls + count ≡ calls_made (has_label fs.database) (take (suc two.whole) both) = as_many _ _ _ _ _ (rose fs is) run.steps in
+            let same : after_changes count (g.stop mid) ≡ after_changes (calls_made (has_label fs.database) (take (suc two.whole) both)) (g.stop old) =
+            ap (after_changes count) run.stop ∙ after_changes-add count run.calls (g.stop old) ∙ ap (λ (n : ℕ). after_changes n (g.stop old)) whole in
+            subst (λ (stop : DiskStop). ¬ IsStopped stop) same runs);
+      }
+        where
+          later : (c : Files) (n : ℕ) → StandsBetween middle (second ∷ []) n c → StandsBetween d both (suc n) c
+          later c n stands = ⊎_elim (λ here. inl here) (λ next. inr (subst (λ (k : ℕ). StandsAs (durable_after_all d (take k both)) c) (one_more n) next)) stands
+
+          as_many : (a b x n y : ℕ) → b ≡ a + (x + 0) → b ≡ a + n → n + y ≡ x + y
+          as_many a b x n y one run = omega arith
+
+module _ {D : Type 0} (g : Ghosts D) (n : Held D) (was : IsKept g n) (up : n.halted ≡ false) (mid : Store D) (sound : IsSound g mid) (changes : List Change) (v : Version) (image : List ℕ)
+    (first second : Made) (leads : effect n.server.image changes ≡ image) (same : durable_after (durable_in n.server) first.call ≡ durable v image) (cuts : CutsNoPut changes) (count : change_count first.call ≡ length changes) where
+  -- the first call was not made
+  pub first_failed : {knows : Type 0} {t : Stepped} {before after : List Output} → t.calls ≡ first ∷ second ∷ [] → (long : ℕ → Type 0) (e : StoreFault) → EndsAs g long v n.store mid e → version_lt n.store.version v ≡ true → ((bytes : ℕ) → long bytes → ⊥) → IsDurable g changes v n.store mid (IsErrOf (ended e) DiskFault)
+      → Ends g knows t before after n (record n { store = mid }) (Err e)
+  first_failed {knows} {t} {before} {after} calls long e ends newer fits durably =
+      let one : Ends g knows (record t { calls = first ∷ [] }) before after n (record n { store = mid }) (Err e) =
+      call_failed g n was up n.store (reads_none g n.store.disk) (λ none. none) was.sound (record { version = refl; len = refl; begun = refl; failed = refl }) mid sound changes v image first leads same cuts count refl long e ends newer fits durably in
+      record {
+        made = λ _. tt;
+        failed = λ _.
+            subst (λ (all : List Made). FailsIn g (durable_in n.server) n.store.disk mid.disk all) (sym calls)
+            (fails_first g n.store.disk mid.disk (durable_in n.server) first second n.store mid changes refl refl (was.sound.ready (was.failed ∙ up)) count
+            (leaves_one g n.store mid (durable_in n.server) changes v image first (was.image up) (was.version up) leads same cuts durably) durably.few);
+        short = one.short;
+        state = one.state;
+        stored = one.stored;
+        halts = one.halts;
+        told = one.told;
+        calls = one.calls;
+        halted = one.halted;
+        last = one.last;
+        member = one.member;
+      }
+
+  module _ {F : Type 0} (done : Commits g changes v n.store mid) (durably : IsDurable g changes v n.store mid F) (went : ¬ F) (later : Store D) (sound_later : IsSound g later) (w : Version) (none : change_count second.call ≡ 0)
+      (next : durable_after (durable v image) second.call ≡ durable w image) where
+    ready : IsReady g mid
+    ready = sound.ready done.failed
+
+    there : IsThere image (image_in (g.files mid.disk))
+    there = image_then (λ bytes. effect bytes changes) (image_in (g.files n.store.disk)) (image_in (g.files mid.disk)) n.server.image image done.image (was.image up) leads
+
+    tells : IsSome (g.files n.store.disk) → IsSome (g.files mid.disk)
+    tells = told_by (λ bytes. effect bytes changes) (g.files n.store.disk) (g.files mid.disk) done.image
+
+    label : IfSome (g.files mid.disk) (λ fs. has_label fs.database ≡ true)
+    label = told (g.files mid.disk) (λ fs. has_label fs.database ≡ true) (λ fs is.
+        let rests = of_told (g.files mid.disk) fs (λ fs. IsAtRest mid.version (image_of fs.database) fs) is ready.rests in
+        label_after fs.database n.store.version v (rests.label ∙ ap Some done.version) done.newer)
+
+    one : Serves g (durable_in n.server) n.store.disk mid.disk (first ∷ [])
+    one = serves_one g n.store mid (durable_in n.server) changes v image first (was.image up) (was.version up) leads same cuts count done.steps durably
+
+    -- both were made
+    pub both_made : {knows : Type 0} {t : Stepped} {before after : List Output} {G : Type 0} → t.calls ≡ first ∷ second ∷ [] → (server : Server) (place : Member) → place ≡ n.member → Commits g [] w mid later → IsDurable g [] w mid later G → ¬ G → server.version ≡ w → length server.image ≡ later.len → IsThere server.image (image_in (g.files later.disk))
+        → (knows → (t.server ≡ server) × (after ≡ before ++ outputs_of t.shown)) → Ends g knows t before after n (record n { store = later; server = server; member = place }) (Ok tt)
+    both_made calls server place member also durably_too fine version len holds shows =
+        made_ends g n (record n { store = later; server = server; member = place }) refl refl member
+        (14 + length changes + 14, calls_as (omega arith) (λ failed. fine failed) (λ none. absurd none) (calls_joined durably.calls went durably_too.calls))
+        (record {
+          sound = sound_later;
+          version = λ _. also.version ∙ sym version;
+          len = λ _. sym len;
+          none_begun = λ _. also.begun;
+          failed = also.failed ∙ sym up;
+          image = λ _. holds;
+        })
+        (λ told. told_by (λ bytes. effect bytes []) (g.files mid.disk) (g.files later.disk) also.image (tells told))
+        (λ known.
+        let shown = shows known in
+        record {
+          server = shown.0;
+          outputs = shown.1;
+          disk =
+              subst (λ (all : List Made). Serves g (durable_in n.server) n.store.disk later.disk all) (sym calls)
+              (serves_both g n.store.disk mid.disk (durable_in n.server) first second later.disk tells label one
+              (subst (λ (e : Durable). Serves g e mid.disk later.disk (second ∷ [])) (sym same)
+              (serves_one g mid later (durable v image) [] w image second there done.version refl next tt none also.steps durably_too)));
+        })
+
+    -- the second one was not made: its disk failed
+    pub second_failed : {knows : Type 0} {t : Stepped} {before after : List Output} → t.calls ≡ first ∷ second ∷ [] → (e : StoreFault) → EndsAs g IsNeverLong w mid later e → e ≢ NoMemory → version_lt mid.version w ≡ true → IsDurable g [] w mid later (IsErrOf (ended e) DiskFault)
+        → Ends g knows t before after n (record n { store = later }) (Err e)
+    second_failed calls DiskFault ends some newer durably_too = record {
+      made = λ _. tt;
+      failed = λ _.
+          subst (λ (all : List Made). FailsIn g (durable_in n.server) n.store.disk later.disk all) (sym calls)
+          (fails_second g n.store.disk mid.disk (durable_in n.server) first second later.disk tells label one durably.calls.advances
+          (subst (λ (e : Durable). FailsIn g e mid.disk later.disk (second ∷ [])) (sym same)
+          (fails_one g mid later (durable v image) [] w image second ready there done.version refl next tt none durably_too)));
+      short = λ other. absurd (other refl);
+      state = refl;
+      stored = λ fine. absurd (fine refl);
+      halts = λ _. record { sound = sound_later; failed = ends.failed };
+      told = λ fine. absurd (fine refl);
+      calls = (14 + length changes + 14, calls_as (omega arith) (λ failed. failed) (λ failed. failed) (calls_joined durably.calls went durably_too.calls));
+      halted = refl;
+      last = refl;
+      member = refl;
+    }
+    second_failed calls (BadLabel len head) ends some newer durably_too = absurd ends
+    second_failed calls (TooLarge bytes) ends some newer durably_too = absurd ends.0
+    second_failed calls (NotNewer own given) ends some newer durably_too = absurd (false≢true (sym ends.0.not_newer ∙ newer))
+    second_failed calls NoMemory ends some newer durably_too = absurd (some refl)

@@ -1,0 +1,68 @@
+use Rattle.std.proofs.Common.{◌≡◌, ◌≤◌, ◌<◌, ◌∙◌, [], ℕ, List, Option, length, refl, sym, ap, subst, arith}
+use Rattle.cell_model.specs.Durable as durable
+use Rattle.cell_model.specs.Durable.{Received}
+use Rattle.cell_model.specs.Step.{with_database}
+use Rattle.ubik_store.specs.DurableCall.{whole_image}
+use Rattle.ubik_store.specs.Store.{IsTooLong, image_in}
+use Rattle.ubik_node.specs.Node.{held}
+use Rattle.ubik_node.specs.State.{member_of, server_of}
+use Rattle.ubik_node.proofs.Calling.{call_failed, call_made}
+use Rattle.ubik_node.proofs.Durables.{IsThere}
+use Rattle.ubik_node.proofs.Endings.{handed_ends, ok_not, reads_none}
+use Rattle.ubik_node.proofs.HeldImages.{held_length, held_there}
+use Rattle.ubik_node.proofs.Received.{effect_whole, held_text}
+use Rattle.ubik_node.proofs.nodes.Node.install.Goals as goal
+
+pub returns-in_err-install : goal.returns-in_err-install
+returns-in_err-install g c =
+    let n = c.args.self.now in
+    let v = c.args.version in
+    let text = c.args.text.now in
+    handed_ends g.D.Disk c.from_residual.result c.in_err-install.field-0.0 c.from_residual.ensures.1
+    (call_failed g.D.Disk (held n) c.requires.stored c.requires.not_halted n.store (reads_none g.D.Disk n.store.disk) (λ none. none) c.requires.stored.sound (record { version = refl; len = refl; begun = refl; failed = refl }) c.install.new.self
+    c.install.ensures.sound (whole_image text) v text (record { call = durable.Install v text; reason = Received }) (effect_whole n.state.image text) refl (tt, tt) refl refl (IsTooLong text) c.in_err-install.field-0.0 c.in_err-install.ensures.ended
+    (rw (c.requires.stored.version c.requires.not_halted) c.requires.newer) (λ bytes long. absurd (omega (arith, long.0, c.requires.fits))) (c.in_err-install.ensures.durable (c.requires.stored.failed ∙ c.requires.not_halted)))
+
+pub returns : goal.returns
+returns g c =
+    let n = c.args.self.now in
+    let st = n.state in
+    let v = c.args.version in
+    let text = c.args.text.now in
+    let later = c.install.new.self in
+    let done = c.in_ok-install.ensures.ended in
+    let last = c.take_over.new.self in
+    call_made g.D.Disk (held n) c.requires.stored c.requires.not_halted n.store (reads_none g.D.Disk n.store.disk) (λ none. none) c.requires.stored.sound (record { version = refl; len = refl; begun = refl; failed = refl }) later
+    c.install.ensures.sound (whole_image text) v text (record { call = durable.Install v text; reason = Received }) (effect_whole st.image text) refl (tt, tt) refl refl (server_of last) (member_of last) c.take_over.ensures.place done
+    (c.install.ensures.durable (c.requires.stored.failed ∙ c.requires.not_halted)) (λ failed. ok_not c.in_ok-install.field-0 (sym c.in_ok-install.was ∙ failed)) c.take_over.ensures.version
+    (ap length (c.take_over.ensures.image ∙ c.of.ensures) ∙ held_length g.D.Disk later (c.install.ensures.sound.ready done.failed))
+    (held_there (g.D.Disk.files later.disk) later.len last.image (c.take_over.ensures.image ∙ c.of.ensures))
+    (λ told. (
+      sym (c.take_over.ensures.after
+          ∙ ap (λ (bytes : List ℕ). with_database (server_of st) v bytes) (held_text (g.D.Disk.files n.store.disk) (g.D.Disk.files later.disk) later.len text c.of.result told c.in_ok-install.ensures.image c.of.ensures)),
+      refl,
+    ))
+
+pub install-requires-clause-sound : goal.install-requires-clause-sound
+install-requires-clause-sound g c = c.requires.stored.sound
+
+pub install-requires-clause-version : goal.install-requires-clause-version
+install-requires-clause-version g c = c.requires.version
+
+pub install-requires-clause-none : goal.install-requires-clause-none
+install-requires-clause-none g c = c.requires.stored.none_begun c.requires.not_halted
+
+pub of-requires-clause-sound : goal.of-requires-clause-sound
+of-requires-clause-sound g c = c.install.ensures.sound
+
+pub of-requires-clause-fresh : goal.of-requires-clause-fresh
+of-requires-clause-fresh g c = c.in_ok-install.ensures.ended.failed
+
+pub take_over-requires-clause-resting : goal.take_over-requires-clause-resting
+take_over-requires-clause-resting g c = c.requires.resting
+
+pub take_over-requires-clause-version : goal.take_over-requires-clause-version
+take_over-requires-clause-version g c = c.requires.version
+
+pub take_over-requires-clause-fits : goal.take_over-requires-clause-fits
+take_over-requires-clause-fits g c = omega (arith, c.install.ensures.sound.len, ap length c.of.ensures, held_length g.D.Disk c.install.new.self (c.install.ensures.sound.ready c.in_ok-install.ensures.ended.failed))

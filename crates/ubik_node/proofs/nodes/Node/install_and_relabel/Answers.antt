@@ -1,0 +1,167 @@
+use Rattle.std.proofs.Common.{◌≡◌, ◌≢◌, ◌≤◌, ◌<◌, ◌∙◌, ◌++◌, ◌∷◌, [], true, ℕ, List, length, take, Err, refl, sym, ap, subst, arith, rules, length-take}
+use Rattle.std.specs.Result.{is_err}
+use Rattle.std.proofs.lemmas.Bool.{false≢true}
+use Rattle.ubik_types.specs.declared.versions.Version.{Version}
+use Rattle.ubik_types.specs.declared.hosts.Host.{Host}
+use Rattle.ubik_types.specs.Phase.{Send}
+use Rattle.ubik_types.specs.Version.{version_lt}
+use Rattle.ubik_recovery.specs.Record.{polled_of}
+use Rattle.ubik_store.specs.DurableCall.{whole_image}
+use Rattle.ubik_store.specs.Store.{IsTooLong}
+use Rattle.cell_model.specs.declared.events.Output.{Output}
+use Rattle.cell_model.specs.Durable as durable
+use Rattle.cell_model.specs.Durable.{Made, Received}
+use Rattle.cell_model.specs.Node.{Server}
+use Rattle.cell_model.specs.Polls.{entry_at, only_holder}
+use Rattle.cell_model.specs.Recovery.{first_of_epoch, own_relabelling, relabelled_to, spread_answer}
+use Rattle.cell_model.specs.Step.{Member, outputs_of, sends_to_each, with_database, with_phase}
+use Rattle.cell_model.specs.Writes.{settled}
+use Rattle.ubik_node.specs.Node.{held}
+use Rattle.ubik_node.specs.Recovering.{IsOfCell}
+use Rattle.ubik_node.specs.State.{ShowsBehind, member_of, server_of}
+use Rattle.ubik_node.proofs.Endings.{handed_ends, same_ends, short_ends}
+use Rattle.ubik_node.proofs.Fetching.{first_of, held_twice, installed_comes, later_epoch, past_newer}
+use Rattle.ubik_node.proofs.HeldImages.{held_length, held_there}
+use Rattle.ubik_node.proofs.Received.{effect_whole}
+use Rattle.ubik_node.proofs.Relabelled.{relabel_outputs, settled_calls}
+use Rattle.ubik_node.proofs.TwoCalls.{both_made, first_failed, second_failed}
+use Rattle.ubik_node.proofs.nodes.Node.install_and_relabel.Goals as goal
+
+pub returns-in_err-bytes_of : goal.returns-in_err-bytes_of
+returns-in_err-bytes_of g c =
+    handed_ends g.D.Disk c.from_residual.result _ c.from_residual.ensures.1 (short_ends g.D.Disk (held c.args.self.now) c.requires.stored c.requires.not_halted)
+
+pub returns-in_err-give : goal.returns-in_err-give
+returns-in_err-give g c =
+    handed_ends g.D.Disk c.from_residual-in_err-give.result _ c.from_residual-in_err-give.ensures.1 (short_ends g.D.Disk (held c.args.self.now) c.requires.stored c.requires.not_halted)
+
+pub returns-in_err-install : goal.returns-in_err-install
+returns-in_err-install g c =
+    let n = c.args.self.now in
+    let st = n.state in
+    let m = member_of st in
+    let text = c.args.text.now in
+    let best = c.args.best in
+    let v = first_of_epoch c.args.now in
+    let installs : Made = record { call = durable.Install best text; reason = Received } in
+    let s = with_database (server_of st) best text in
+    handed_ends g.D.Disk c.from_residual-in_err-install.result c.in_err-install.field-0.0 c.from_residual-in_err-install.ensures.1
+    (same_ends g.D.Disk (installed_comes m (server_of st) best text (polled_of c.args.next) c.args.now (later_epoch best.epoch c.args.now c.requires.past))
+    (first_failed g.D.Disk (held n) c.requires.stored c.requires.not_halted c.install.new.self c.install.ensures.sound (whole_image text) best text installs (own_relabelling v) (effect_whole st.image text) refl (tt, tt) refl
+    (ap (λ (calls : List Made). installs ∷ own_relabelling v ∷ calls) (settled_calls m (relabelled_to m s (polled_of c.args.next) v).server)) (IsTooLong text) c.in_err-install.field-0.0 c.in_err-install.ensures.ended
+    (rw (c.requires.stored.version c.requires.not_halted) c.requires.newer) (λ bytes long. absurd (omega (arith, long.0, c.requires.fits))) (c.in_err-install.ensures.durable (c.requires.stored.failed ∙ c.requires.not_halted))))
+
+pub relabel-requires-clause-none : goal.relabel-requires-clause-none
+relabel-requires-clause-none g c = c.in_ok-install.ensures.ended.begun
+
+pub returns-in_err-relabel : goal.returns-in_err-relabel
+returns-in_err-relabel g c =
+    let n = c.args.self.now in
+    let st = n.state in
+    let m = member_of st in
+    let text = c.args.text.now in
+    let best = c.args.best in
+    let v = first_of_epoch c.args.now in
+    let installs : Made = record { call = durable.Install best text; reason = Received } in
+    let s = with_database (server_of st) best text in
+    let done = c.in_ok-install.ensures.ended in
+    handed_ends g.D.Disk c.from_residual-in_err-relabel.result c.in_err-relabel.field-0.0 c.from_residual-in_err-relabel.ensures.1
+    (same_ends g.D.Disk (installed_comes m (server_of st) best text (polled_of c.args.next) c.args.now (later_epoch best.epoch c.args.now c.requires.past))
+    (second_failed g.D.Disk (held n) c.requires.stored c.requires.not_halted c.install.new.self c.install.ensures.sound (whole_image text) best text installs (own_relabelling v) (effect_whole st.image text) refl (tt, tt) refl
+    done
+    (c.install.ensures.durable (c.requires.stored.failed ∙ c.requires.not_halted)) (λ failed. false≢true (ap is_err (sym c.in_ok-install.was ∙ failed))) c.relabel.new.self c.relabel.ensures.sound v refl refl (ap (λ (calls : List Made). installs ∷ own_relabelling v ∷ calls) (settled_calls m (relabelled_to m s (polled_of c.args.next) v).server)) c.in_err-relabel.field-0.0 c.in_err-relabel.ensures.ended
+    (λ is. c.in_err-relabel.ensures.no_memory done.room (ap Err is)) (ap (λ (w : Version). version_lt w v) done.version ∙ past_newer best c.args.now c.requires.past) (c.in_err-relabel.ensures.durable done.failed)))
+
+pub take_over-requires-clause-fits : goal.take_over-requires-clause-fits
+take_over-requires-clause-fits g c =
+    let later = c.relabel.new.self in
+    let long = held_length g.D.Disk later (c.relabel.ensures.sound.ready c.in_ok-relabel.ensures.ended.failed) in
+    omega (arith, ap length c.of.ensures, long, c.relabel.ensures.sound.len)
+
+pub begin_sending-requires-clause-of_cell : goal.begin_sending-requires-clause-of_cell
+begin_sending-requires-clause-of_cell g c =
+    subst (λ (hosts : List Host). IsOfCell (length hosts) c.args.next) (sym (ap (λ (m : Member). m.hosts) c.take_over.ensures.place)) c.requires.of_cell
+
+pub returns : goal.returns
+returns g c =
+    let n = c.args.self.now in
+    let st = n.state in
+    let m = member_of st in
+    let text = c.args.text.now in
+    let best = c.args.best in
+    let poll = polled_of c.args.next in
+    let v = first_of_epoch c.args.now in
+    let installs : Made = record { call = durable.Install best text; reason = Received } in
+    let done = c.in_ok-install.ensures.ended in
+    let also = c.in_ok-relabel.ensures.ended in
+    let later = c.relabel.new.self in
+    let took = c.take_over.new.self in
+    let sending = c.begin_sending.new.self in
+    let last = c.settle.new.self in
+    let s = with_database (server_of st) best text in
+    let after : Server = (relabelled_to m s poll v).server in
+    let sent : Server → Member → Server = λ x k. with_phase (with_database x v x.image) (Send poll (record { old = x.version; holders = only_holder k })) in
+    let image = c.settle.ensures.kept.image ∙ c.begin_sending.ensures.image ∙ c.take_over.ensures.image ∙ c.of.ensures in
+    same_ends g.D.Disk (installed_comes m (server_of st) best text poll c.args.now (later_epoch best.epoch c.args.now c.requires.past))
+    (both_made g.D.Disk (held n) c.requires.stored c.requires.not_halted c.install.new.self c.install.ensures.sound (whole_image text) best text installs (own_relabelling v) (effect_whole st.image text) refl (tt, tt) refl
+    done (c.install.ensures.durable (c.requires.stored.failed ∙ c.requires.not_halted)) (λ failed. false≢true (ap is_err (sym c.in_ok-install.was ∙ failed))) later c.relabel.ensures.sound v refl refl (ap (λ (calls : List Made). installs ∷ own_relabelling v ∷ calls) (settled_calls m after))
+    (server_of last) (member_of last) (c.settle.ensures.kept.member ∙ c.begin_sending.ensures.place ∙ c.take_over.ensures.place) also (c.relabel.ensures.durable done.failed) (λ failed. false≢true (ap is_err (sym c.in_ok-relabel.was ∙ failed))) (c.settle.ensures.kept.version ∙ c.begin_sending.ensures.version)
+    (ap length image ∙ held_length g.D.Disk later (c.relabel.ensures.sound.ready also.failed)) (held_there (g.D.Disk.files later.disk) later.len last.image image)
+    (λ told.
+    let bytes = held_twice (g.D.Disk.files n.store.disk) (g.D.Disk.files c.install.new.self.disk) (g.D.Disk.files later.disk) later.len text c.of.result told c.in_ok-install.ensures.image also.image c.of.ensures in
+    let sends : server_of sending ≡ after =
+    c.begin_sending.ensures.after ∙ ap (λ (x : Server). sent x (member_of took)) (c.take_over.ensures.after ∙ ap (λ (xs : List ℕ). with_database (server_of st) best xs) bytes) ∙ ap (sent s) c.take_over.ensures.place in
+    let place : member_of sending ≡ m = c.begin_sending.ensures.place ∙ c.take_over.ensures.place in
+    let shows : ShowsBehind (settled m after) (server_of last) c.give.new.out c.settle.new.out =
+    subst (λ (x : Server). ShowsBehind (settled m x) (server_of last) c.give.new.out c.settle.new.out) sends
+    (subst (λ (x : Member). ShowsBehind (settled x (server_of sending)) (server_of last) c.give.new.out c.settle.new.out) place c.settle.ensures.shows) in (
+      shows.server,
+      relabel_outputs m poll best after c.poll.result (length text) c.in_ok-bytes_of.field-0 c.args.out.now c.give.new.out c.settle.new.out (settled m after).shown st.place c.poll.ensures refl
+          (λ more. first_of text c.in_ok-bytes_of.field-0 c.min.result (omega (arith, c.min.ensures)) c.in_ok-bytes_of.ensures) c.in_ok-give.ensures.given shows.outputs
+          ∙ ap (λ (o : List Output). o ++ outputs_of (sends_to_each m (λ k. spread_answer after poll best (entry_at poll.answers k)) ++ (settled m after).shown)) c.requires.empty,
+    )))
+
+pub give-requires : goal.give-requires
+give-requires g c = record { few = omega (arith, ap length c.requires.empty) }
+
+pub install-requires-clause-sound : goal.install-requires-clause-sound
+install-requires-clause-sound g c = c.requires.stored.sound
+
+pub install-requires-clause-version : goal.install-requires-clause-version
+install-requires-clause-version g c = c.requires.version
+
+pub install-requires-clause-none : goal.install-requires-clause-none
+install-requires-clause-none g c = c.requires.stored.none_begun c.requires.not_halted
+
+pub relabel-requires-clause-sound : goal.relabel-requires-clause-sound
+relabel-requires-clause-sound g c = c.install.ensures.sound
+
+pub relabel-requires-clause-version : goal.relabel-requires-clause-version
+relabel-requires-clause-version g c = record { epoch = omega (arith, c.requires.moment.fits); counter = omega arith }
+
+pub of-requires-clause-sound : goal.of-requires-clause-sound
+of-requires-clause-sound g c = c.relabel.ensures.sound
+
+pub of-requires-clause-fresh : goal.of-requires-clause-fresh
+of-requires-clause-fresh g c = c.in_ok-relabel.ensures.ended.failed
+
+pub take_over-requires-clause-resting : goal.take_over-requires-clause-resting
+take_over-requires-clause-resting g c = c.requires.resting
+
+pub take_over-requires-clause-version : goal.take_over-requires-clause-version
+take_over-requires-clause-version g c = c.requires.version
+
+pub begin_sending-requires-clause-version : goal.begin_sending-requires-clause-version
+begin_sending-requires-clause-version g c = record { epoch = omega (arith, c.requires.moment.fits); counter = omega arith }
+
+pub settle-requires : goal.settle-requires
+settle-requires g c = record { few = omega (arith, c.in_ok-give.ensures.few, ap length c.requires.empty) }
+
+pub slice_bounds-first-end : goal.slice_bounds-first-end
+slice_bounds-first-end g c = omega (arith, length-take c.min.result c.args.text.now, c.min.ensures)
+
+pub overflow_cast-given : goal.overflow_cast-given
+overflow_cast-given g c = omega (arith, c.requires.fits)
+
+pub same-next : goal.same-next
+same-next g c = search rules

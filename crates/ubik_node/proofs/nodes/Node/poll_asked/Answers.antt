@@ -1,0 +1,43 @@
+use Rattle.std.proofs.Common.{◌++◌, ◌≤◌, ◌+◌, ℕ, [], List, ap, ◌∙◌, length, arith}
+use Rattle.ubik_types.specs.Quorum.{marked}
+use Rattle.ubik_recovery.specs.Record.{polled_of}
+use Rattle.cell_model.specs.declared.events.Output.{Output}
+use Rattle.cell_model.specs.Polls.{is_marked}
+use Rattle.cell_model.specs.Recovery.{asks_versions, has_answered}
+use Rattle.cell_model.specs.Step.{Shown, outputs_of}
+use Rattle.ubik_node.specs.State.{member_of}
+use Rattle.ubik_node.proofs.Endings.{behind_ends}
+use Rattle.ubik_node.proofs.Turning.{asks_answered}
+use Rattle.ubik_node.proofs.nodes.Node.poll_asked.Goals as goal
+
+pub returns : goal.returns
+returns g c =
+    let st = c.args.self.now.state in
+    let next = c.args.next in
+    let m = member_of st in
+    let poll = polled_of next in
+    let asked = outputs_of (asks_versions m poll.number (is_marked (marked (length st.cell) c.answered.result.set))) in
+    behind_ends g.D.Disk (asks_versions m poll.number (has_answered poll)) c.polled.result
+    (c.ask_versions.ensures.asked ∙ ap (λ (p : ℕ). c.args.out.now ++ outputs_of (asks_versions m p (is_marked (marked (length st.cell) c.answered.result.set)))) c.poll.ensures ∙ ap (λ (o : List Output). o ++ asked) c.requires.empty
+    ∙ ap (λ (shown : List Shown). outputs_of shown) (asks_answered m poll (length st.cell) next.servers c.answered.result.set c.answered.ensures c.requires.of_cell.servers)) c.polled.ensures
+
+pub polled-requires-clause-moment : goal.polled-requires-clause-moment
+polled-requires-clause-moment g c = c.requires.moment
+
+pub polled-requires-clause-not_halted : goal.polled-requires-clause-not_halted
+polled-requires-clause-not_halted g c = c.requires.not_halted
+
+pub polled-requires-clause-stored : goal.polled-requires-clause-stored
+polled-requires-clause-stored g c = c.requires.stored
+
+pub polled-requires-clause-few : goal.polled-requires-clause-few
+polled-requires-clause-few g c = omega (arith, c.ask_versions.ensures.few, ap length c.requires.empty)
+
+pub polled-requires-clause-of_cell : goal.polled-requires-clause-of_cell
+polled-requires-clause-of_cell g c = c.requires.of_cell
+
+pub polled-requires-clause-phase : goal.polled-requires-clause-phase
+polled-requires-clause-phase g c = c.requires.phase
+
+pub ask_versions-requires : goal.ask_versions-requires
+ask_versions-requires g c = omega (arith, ap length c.requires.empty)

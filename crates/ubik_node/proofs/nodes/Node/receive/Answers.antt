@@ -1,0 +1,238 @@
+use Rattle.std.proofs.Common.{◌≡◌, ◌<◌, ◌∙◌, ℕ, Bool, [], Some, List, length, slice_get, refl, sym, ap, subst, arith}
+use Rattle.std.proofs.lemmas.Option.{slice_get_within}
+use Rattle.ubik_types.specs.declared.hosts.Host.{Host}
+use Rattle.ubik_types.specs.declared.versions.Version.{Version}
+use Rattle.ubik_calls.specs.declared.packets.Body.{Body}
+use Rattle.ubik_calls.specs.declared.packets.Body.TheVariants as body
+use Rattle.ubik_node.specs.Built.{BodyTakesNoMemory, IsBuiltBody}
+use Rattle.ubik_node.specs.Node.{held}
+use Rattle.ubik_node.specs.State.{member_of, server_of}
+use Rattle.ubik_node.proofs.Endings.{rests_ends, shown_ends}
+use Rattle.ubik_node.proofs.Places.{placed}
+use Rattle.ubik_node.proofs.Told.{sent_as}
+use Rattle.ubik_node.proofs.Voted.{behind, ignored_ends, placed_ends}
+use Rattle.ubik_node.proofs.nodes.Node.receive.Goals as goal
+
+inside : (hosts : List Host) (k : ℕ) (host : Host) → slice_get hosts k ≡ Some host → k < length hosts
+inside hosts k host there = slice_get_within hosts k host there
+
+pub returns-in_default-clause-ends : goal.returns-in_default-clause-ends
+returns-in_default-clause-ends g c = λ db short.
+    let n = c.args.self.now in
+    ignored_ends g.D.Disk db (member_of n.state) (server_of n.state) c.args.now c.args.packet.now short _ (placed _ _ _ c.index.ensures.found c.index.ensures.only ∙ c.in_default.is)
+    (rests_ends g.D.Disk (held n) c.requires.stored c.requires.not_halted (record { server = refl; calls = refl; outputs = c.requires.empty }))
+
+pub returns-in-Beacon-clause-ends : goal.returns-in-Beacon-clause-ends
+returns-in-Beacon-clause-ends g c = λ db short.
+    let n = c.args.self.now in
+    placed_ends g.D.Disk db (member_of n.state) (server_of n.state) c.args.now c.args.packet.now short _ c.in-Some.from (body.Beacon c.in-Beacon.start c.in-Beacon.claim c.in-Beacon.ready c.in-Beacon.version) (placed _ _ _ c.index.ensures.found c.index.ensures.only ∙ c.in-Some.is) c.in-Beacon.is
+    (shown_ends g.D.Disk (held n) n.state c.hear_beacon.new.self c.requires.stored c.requires.not_halted refl refl c.hear_beacon.ensures.kept (behind _ _ _ c.hear_beacon.ensures.shows))
+
+pub returns-in-Vote-clause-ends : goal.returns-in-Vote-clause-ends
+returns-in-Vote-clause-ends g c = λ db short.
+    let n = c.args.self.now in
+    placed_ends g.D.Disk db (member_of n.state) (server_of n.state) c.args.now c.args.packet.now short _ c.in-Some.from (body.Vote c.in-Vote.start c.in-Vote.yes) (placed _ _ _ c.index.ensures.found c.index.ensures.only ∙ c.in-Some.is) c.in-Vote.is
+    (shown_ends g.D.Disk (held n) n.state c.hear_vote.new.self c.requires.stored c.requires.not_halted refl refl c.hear_vote.ensures.kept (record { server = c.hear_vote.ensures.shows.server; calls = c.hear_vote.ensures.shows.calls; outputs = c.requires.empty }))
+
+pub returns-in-GetVersion-clause-ends : goal.returns-in-GetVersion-clause-ends
+returns-in-GetVersion-clause-ends g c = λ db short.
+    let n = c.args.self.now in
+    placed_ends g.D.Disk db (member_of n.state) (server_of n.state) c.args.now c.args.packet.now short _ c.in-Some.from (body.GetVersion c.in-GetVersion.poll) (placed _ _ _ c.index.ensures.found c.index.ensures.only ∙ c.in-Some.is) c.in-GetVersion.is
+    (rests_ends g.D.Disk (held n) c.requires.stored c.requires.not_halted (record {
+      server = refl;
+      calls = refl;
+      outputs =
+          sent_as (member_of n.state) c.args.packet.now.from c.args.out.now c.send.new.out (body.VersionIs c.in-GetVersion.poll n.state.version) (body.VersionIs c.in-GetVersion.poll n.state.version) c.send.ensures.sent c.requires.empty
+          refl;
+    }))
+
+pub returns-in-VersionKept-clause-ends : goal.returns-in-VersionKept-clause-ends
+returns-in-VersionKept-clause-ends g c = λ db short.
+    let n = c.args.self.now in
+    placed_ends g.D.Disk db (member_of n.state) (server_of n.state) c.args.now c.args.packet.now short _ c.in-Some.from (body.VersionKept c.in-VersionKept.version) (placed _ _ _ c.index.ensures.found c.index.ensures.only ∙ c.in-Some.is) c.in-VersionKept.is
+    (shown_ends g.D.Disk (held n) n.state c.hear_kept.new.self c.requires.stored c.requires.not_halted refl refl c.hear_kept.ensures.kept (c.hear_kept.ensures.shows db c.args.now short))
+
+pub returns-in-VersionIs-clause-ends : goal.returns-in-VersionIs-clause-ends
+returns-in-VersionIs-clause-ends g c = λ db short.
+    let n = c.args.self.now in
+    placed_ends g.D.Disk db (member_of n.state) (server_of n.state) c.args.now c.args.packet.now short _ c.in-Some.from (body.VersionIs c.in-VersionIs.poll c.in-VersionIs.version) (placed _ _ _ c.index.ensures.found c.index.ensures.only ∙ c.in-Some.is) c.in-VersionIs.is
+    (c.hear_version.ensures db short)
+
+pub returns-in-GetPiece-clause-ends : goal.returns-in-GetPiece-clause-ends
+returns-in-GetPiece-clause-ends g c = λ db short.
+    let n = c.args.self.now in
+    placed_ends g.D.Disk db (member_of n.state) (server_of n.state) c.args.now c.args.packet.now short _ c.in-Some.from (body.GetPiece c.in-GetPiece.poll c.in-GetPiece.version c.in-GetPiece.offset) (placed _ _ _ c.index.ensures.found c.index.ensures.only ∙ c.in-Some.is) c.in-GetPiece.is
+    c.tell_piece.ensures
+
+pub returns-in-PieceKept-clause-ends : goal.returns-in-PieceKept-clause-ends
+returns-in-PieceKept-clause-ends g c = λ db short.
+    let n = c.args.self.now in
+    placed_ends g.D.Disk db (member_of n.state) (server_of n.state) c.args.now c.args.packet.now short _ c.in-Some.from (body.PieceKept _ c.in-PieceKept.version c.in-PieceKept.next) (placed _ _ _ c.index.ensures.found c.index.ensures.only ∙ c.in-Some.is) c.in-PieceKept.is
+    c.send_next.ensures
+
+pub returns-in-SetVersion-clause-ends : goal.returns-in-SetVersion-clause-ends
+returns-in-SetVersion-clause-ends g c = λ db short.
+    let n = c.args.self.now in
+    placed_ends g.D.Disk db (member_of n.state) (server_of n.state) c.args.now c.args.packet.now short _ c.in-Some.from (body.SetVersion c.in-SetVersion.poll c.in-SetVersion.old c.in-SetVersion.new) (placed _ _ _ c.index.ensures.found c.index.ensures.only ∙ c.in-Some.is) c.in-SetVersion.is
+    c.set_version.ensures
+
+pub returns-in-Piece-clause-ends : goal.returns-in-Piece-clause-ends
+returns-in-Piece-clause-ends g c = λ db short.
+    let n = c.args.self.now in
+    placed_ends g.D.Disk db (member_of n.state) (server_of n.state) c.args.now c.args.packet.now short _ c.in-Some.from (body.Piece c.in-Piece.poll c.in-Piece.version c.in-Piece.total c.in-Piece.offset c.as_slice.result.now) (placed _ _ _ c.index.ensures.found c.index.ensures.only ∙ c.in-Some.is) (c.in-Piece.is ∙ ap (λ (bytes : List ℕ). body.Piece c.in-Piece.poll c.in-Piece.version c.in-Piece.total c.in-Piece.offset bytes) (sym c.as_slice.ensures))
+    c.fetch_piece.ensures
+
+pub returns-in-SendPiece-clause-ends : goal.returns-in-SendPiece-clause-ends
+returns-in-SendPiece-clause-ends g c = λ db short.
+    let n = c.args.self.now in
+    placed_ends g.D.Disk db (member_of n.state) (server_of n.state) c.args.now c.args.packet.now short _ c.in-Some.from (body.SendPiece c.in-SendPiece.poll c.in-SendPiece.version c.in-SendPiece.total c.in-SendPiece.offset c.as_slice-in-SendPiece.result.now) (placed _ _ _ c.index.ensures.found c.index.ensures.only ∙ c.in-Some.is) (c.in-SendPiece.is ∙ ap (λ (bytes : List ℕ). body.SendPiece c.in-SendPiece.poll c.in-SendPiece.version c.in-SendPiece.total c.in-SendPiece.offset bytes) (sym c.as_slice-in-SendPiece.ensures))
+    c.take_piece.ensures
+
+pub returns-in-VersionIs-clause-memory : goal.returns-in-VersionIs-clause-memory
+returns-in-VersionIs-clause-memory g c = λ takes. absurd (subst BodyTakesNoMemory c.in-VersionIs.is takes)
+
+pub returns-in-GetPiece-clause-memory : goal.returns-in-GetPiece-clause-memory
+returns-in-GetPiece-clause-memory g c = λ takes. absurd (subst BodyTakesNoMemory c.in-GetPiece.is takes)
+
+pub returns-in-PieceKept-clause-memory : goal.returns-in-PieceKept-clause-memory
+returns-in-PieceKept-clause-memory g c = λ takes. absurd (subst BodyTakesNoMemory c.in-PieceKept.is takes)
+
+pub returns-in-SetVersion-clause-memory : goal.returns-in-SetVersion-clause-memory
+returns-in-SetVersion-clause-memory g c = λ takes. absurd (subst BodyTakesNoMemory c.in-SetVersion.is takes)
+
+pub returns-in-Piece-clause-memory : goal.returns-in-Piece-clause-memory
+returns-in-Piece-clause-memory g c = λ takes. absurd (subst BodyTakesNoMemory c.in-Piece.is takes)
+
+pub returns-in-SendPiece-clause-memory : goal.returns-in-SendPiece-clause-memory
+returns-in-SendPiece-clause-memory g c = λ takes. absurd (subst BodyTakesNoMemory c.in-SendPiece.is takes)
+
+pub hear_beacon-requires-clause-from : goal.hear_beacon-requires-clause-from
+hear_beacon-requires-clause-from g c = inside c.args.self.now.state.cell c.in-Some.from c.args.packet.now.from c.in-Some.ensures.found
+
+pub hear_beacon-requires-clause-empty : goal.hear_beacon-requires-clause-empty
+hear_beacon-requires-clause-empty g c = c.requires.empty
+
+pub hear_kept-requires-clause-from : goal.hear_kept-requires-clause-from
+hear_kept-requires-clause-from g c = inside c.args.self.now.state.cell c.in-Some.from c.args.packet.now.from c.in-Some.ensures.found
+
+pub hear_kept-requires-clause-empty : goal.hear_kept-requires-clause-empty
+hear_kept-requires-clause-empty g c = c.requires.empty
+
+pub hear_version-requires-clause-moment : goal.hear_version-requires-clause-moment
+hear_version-requires-clause-moment g c = c.requires.moment
+
+pub hear_version-requires-clause-not_halted : goal.hear_version-requires-clause-not_halted
+hear_version-requires-clause-not_halted g c = c.requires.not_halted
+
+pub hear_version-requires-clause-stored : goal.hear_version-requires-clause-stored
+hear_version-requires-clause-stored g c = c.requires.stored
+
+pub hear_version-requires-clause-empty : goal.hear_version-requires-clause-empty
+hear_version-requires-clause-empty g c = c.requires.empty
+
+pub hear_version-requires-clause-from : goal.hear_version-requires-clause-from
+hear_version-requires-clause-from g c = inside c.args.self.now.state.cell c.in-Some.from c.args.packet.now.from c.in-Some.ensures.found
+
+pub hear_version-requires-clause-version : goal.hear_version-requires-clause-version
+hear_version-requires-clause-version g c = subst IsBuiltBody c.in-VersionIs.is c.requires.kind
+
+pub tell_piece-requires-clause-not_halted : goal.tell_piece-requires-clause-not_halted
+tell_piece-requires-clause-not_halted g c = c.requires.not_halted
+
+pub tell_piece-requires-clause-stored : goal.tell_piece-requires-clause-stored
+tell_piece-requires-clause-stored g c = c.requires.stored
+
+pub tell_piece-requires-clause-empty : goal.tell_piece-requires-clause-empty
+tell_piece-requires-clause-empty g c = c.requires.empty
+
+pub send_next-requires-clause-not_halted : goal.send_next-requires-clause-not_halted
+send_next-requires-clause-not_halted g c = c.requires.not_halted
+
+pub send_next-requires-clause-stored : goal.send_next-requires-clause-stored
+send_next-requires-clause-stored g c = c.requires.stored
+
+pub send_next-requires-clause-empty : goal.send_next-requires-clause-empty
+send_next-requires-clause-empty g c = c.requires.empty
+
+pub set_version-requires-clause-not_halted : goal.set_version-requires-clause-not_halted
+set_version-requires-clause-not_halted g c = c.requires.not_halted
+
+pub set_version-requires-clause-stored : goal.set_version-requires-clause-stored
+set_version-requires-clause-stored g c = c.requires.stored
+
+pub set_version-requires-clause-empty : goal.set_version-requires-clause-empty
+set_version-requires-clause-empty g c = c.requires.empty
+
+pub set_version-requires-clause-version : goal.set_version-requires-clause-version
+set_version-requires-clause-version g c = subst IsBuiltBody c.in-SetVersion.is c.requires.kind
+
+pub fetch_piece-requires-clause-moment : goal.fetch_piece-requires-clause-moment
+fetch_piece-requires-clause-moment g c = c.requires.moment
+
+pub fetch_piece-requires-clause-not_halted : goal.fetch_piece-requires-clause-not_halted
+fetch_piece-requires-clause-not_halted g c = c.requires.not_halted
+
+pub fetch_piece-requires-clause-stored : goal.fetch_piece-requires-clause-stored
+fetch_piece-requires-clause-stored g c = c.requires.stored
+
+pub fetch_piece-requires-clause-empty : goal.fetch_piece-requires-clause-empty
+fetch_piece-requires-clause-empty g c = c.requires.empty
+
+pub take_piece-requires-clause-not_halted : goal.take_piece-requires-clause-not_halted
+take_piece-requires-clause-not_halted g c = c.requires.not_halted
+
+pub take_piece-requires-clause-stored : goal.take_piece-requires-clause-stored
+take_piece-requires-clause-stored g c = c.requires.stored
+
+pub take_piece-requires-clause-empty : goal.take_piece-requires-clause-empty
+take_piece-requires-clause-empty g c = c.requires.empty
+
+pub take_piece-requires-clause-version : goal.take_piece-requires-clause-version
+take_piece-requires-clause-version g c = subst IsBuiltBody c.in-SendPiece.is c.requires.kind
+
+pub hear_vote-requires : goal.hear_vote-requires
+hear_vote-requires g c = inside c.args.self.now.state.cell c.in-Some.from c.args.packet.now.from c.in-Some.ensures.found
+
+pub send-requires : goal.send-requires
+send-requires g c = omega (arith, ap length c.requires.empty)
+
+pub returns-in-Beacon-clause-memory : goal.returns-in-Beacon-clause-memory
+returns-in-Beacon-clause-memory g c = λ takes. refl
+
+pub returns-in-Vote-clause-memory : goal.returns-in-Vote-clause-memory
+returns-in-Vote-clause-memory g c = λ takes. refl
+
+pub returns-in-GetVersion-clause-memory : goal.returns-in-GetVersion-clause-memory
+returns-in-GetVersion-clause-memory g c = λ takes. refl
+
+pub returns-in-VersionKept-clause-memory : goal.returns-in-VersionKept-clause-memory
+returns-in-VersionKept-clause-memory g c = λ takes. refl
+
+pub returns-in_default-clause-memory : goal.returns-in_default-clause-memory
+returns-in_default-clause-memory g c = λ takes. refl
+
+-- a packet of a kind that is built is none of a write
+built_none : (b : Body) → IsBuiltBody b → ((start : ℕ) (claim ready : Bool) (version : Version) → b ≡ body.Beacon start claim ready version → ⊥) → ((start : ℕ) (granted : Bool) → b ≡ body.Vote start granted → ⊥)
+    → ((poll : ℕ) → b ≡ body.GetVersion poll → ⊥) → ((version : Version) → b ≡ body.VersionKept version → ⊥) → ((poll : ℕ) (version : Version) → b ≡ body.VersionIs poll version → ⊥)
+    → ((poll : ℕ) (version : Version) (offset : ℕ) → b ≡ body.GetPiece poll version offset → ⊥) → ((poll : ℕ) (version : Version) (next : ℕ) → b ≡ body.PieceKept poll version next → ⊥)
+    → ((poll : ℕ) (old new : Version) → b ≡ body.SetVersion poll old new → ⊥) → ((poll : ℕ) (version : Version) (total offset : ℕ) (bytes : List ℕ) → b ≡ body.Piece poll version total offset bytes → ⊥)
+    → ((poll : ℕ) (version : Version) (total offset : ℕ) (bytes : List ℕ) → b ≡ body.SendPiece poll version total offset bytes → ⊥) → ⊥
+built_none (body.Beacon start claim ready version) is no0 no1 no2 no3 no4 no5 no6 no7 no8 no9 = no0 start claim ready version refl
+built_none (body.Vote start granted) is no0 no1 no2 no3 no4 no5 no6 no7 no8 no9 = no1 start granted refl
+built_none (body.GetVersion poll) is no0 no1 no2 no3 no4 no5 no6 no7 no8 no9 = no2 poll refl
+built_none (body.VersionKept version) is no0 no1 no2 no3 no4 no5 no6 no7 no8 no9 = no3 version refl
+built_none (body.VersionIs poll version) is no0 no1 no2 no3 no4 no5 no6 no7 no8 no9 = no4 poll version refl
+built_none (body.GetPiece poll version offset) is no0 no1 no2 no3 no4 no5 no6 no7 no8 no9 = no5 poll version offset refl
+built_none (body.PieceKept poll version next) is no0 no1 no2 no3 no4 no5 no6 no7 no8 no9 = no6 poll version next refl
+built_none (body.SetVersion poll old new) is no0 no1 no2 no3 no4 no5 no6 no7 no8 no9 = no7 poll old new refl
+built_none (body.Piece poll version total offset bytes) is no0 no1 no2 no3 no4 no5 no6 no7 no8 no9 = no8 poll version total offset bytes refl
+built_none (body.SendPiece poll version total offset bytes) is no0 no1 no2 no3 no4 no5 no6 no7 no8 no9 = no9 poll version total offset bytes refl
+built_none (body.Begin old new pieces len) is no0 no1 no2 no3 no4 no5 no6 no7 no8 no9 = is
+built_none (body.PutPiece new number bytes) is no0 no1 no2 no3 no4 no5 no6 no7 no8 no9 = is
+built_none (body.Commit old new) is no0 no1 no2 no3 no4 no5 no6 no7 no8 no9 = is
+built_none (body.Abort new) is no0 no1 no2 no3 no4 no5 no6 no7 no8 no9 = is
+
+pub unreachable-requires : goal.unreachable-requires
+unreachable-requires g c =
+    let d = c.in_default-body in
+    built_none c.args.packet.now.body c.requires.kind d.not-Beacon d.not-Vote d.not-GetVersion d.not-VersionKept d.not-VersionIs d.not-GetPiece d.not-PieceKept d.not-SetVersion d.not-Piece d.not-SendPiece

@@ -1,0 +1,293 @@
+//! What a server tells of its database, and what it hears of those of others.
+ghost use Rattle.std.specs.Prelude.{◌≡◌, ◌≤◌, ◌<◌, ◌↔◌, ◌==◌, ◌&&◌, ◌||◌, not, nat_lt, ℕ, Bool, List, [], length, false, None, IsSome, IsTrue};
+ghost use Rattle.ubik_types.specs.Moment.{IsMoment};
+ghost use Rattle.ubik_types.specs.Version.{IsVersion, version_eq};
+ghost use Rattle.cell_model.specs.Receiver.{get_piece_received};
+ghost use Rattle.cell_model.specs.Recovery.{fetch_refused, lacking_sent, piece_kept_received, sent_piece, told_to_spread, version_is_received, version_kept_received};
+ghost use Rattle.cell_model.specs.Step.{quiet, sends_to, showing};
+ghost use Rattle.ubik_recovery.specs.Record.{best_of, host_of, polled_of, spread_of};
+ghost use Rattle.ubik_node.specs.Spreading.{IsSpreading, answer_heard};
+ghost use Rattle.db_image.specs.Database.{Database};
+
+use crate::nodes::Node;
+use crate::outputs::Outputs;
+use crate::pieces::read_piece;
+use crate::state::State;
+use crate::steady_disks::SteadyDisk;
+use db_image::DraftService;
+use ubik_calls::Body;
+use ubik_store::StoreFault;
+use ubik_types::{Host, Phase, Version};
+
+impl State {
+    ghost use Rattle.ubik_node.specs.State.{server_of, member_of, Keeps, ShowsBehind};
+
+    /// Whether the own database goes to the others, and those that have it are counted.
+    pub fn is_spreading(&self) -> bool
+        ensures { IsTrue result ↔ IsSpreading self.now.recovery.phase }
+    {
+        matches!(self.recovery.phase(), Phase::Send | Phase::Ready)
+    }
+
+    /// Whether the own image is of a version, and a piece of it begins at an offset.
+    fn has_piece(&self, version: Version, offset: u32) -> bool
+        ensures { result ≡ (version_eq self.now.version version && (offset == 0 || nat_lt offset (length self.now.image))) }
+    {
+        self.version == version && (offset == 0 || offset < self.image.len())
+    }
+
+    /// Whether the own image is of a version, and goes on past an offset.
+    fn goes_on(&self, version: Version, next: u32) -> bool
+        ensures { result ≡ (version_eq version self.now.version && nat_lt next (length self.now.image)) }
+    {
+        version == self.version && next < self.image.len()
+    }
+
+    /// Whether a version is the one before the relabelling, which no commit has followed.
+    fn is_before(&self, version: Version) -> bool
+        ensures { result ≡ (self.now.version.counter == 1 && version_eq version self.now.recovery.old_version) }
+    {
+        self.version.counter == 1 && version == self.recovery.old()
+    }
+
+    /// Whether the server from which the best version is fetched has another one.
+    fn is_refused(&self, from: usize, version: Version) -> bool
+        ensures { result ≡ (from == host_of self.now.recovery && not (version_eq version (best_of self.now.recovery))) }
+    {
+        let (best, server) = self.recovery.best();
+        from == server && version != best
+    }
+
+    /// Version told in a fetch: where the server that is asked has another one a new poll begins.
+    fn hear_fetched(&mut self, now: u32, from: usize, version: Version)
+        ensures server { (fetch_refused (member_of self.old) (server_of self.old) now (host_of self.old.recovery) (best_of self.old.recovery) from version)
+            ≡ quiet (server_of self.new) }
+        ensures kept { Keeps self.old self.new }
+    {
+        let refused = self.is_refused(from, version);
+        if refused {
+            self.begin_poll(now);
+        }
+    }
+
+    /// A server of the cell says that its database is the one of this version.
+    pub fn hear_kept(&mut self, from: usize, version: Version, out: &mut Outputs)
+        requires from { from < length self.old.cell }
+        requires empty { out.old ≡ [] }
+        ensures shows { (db : Database) (now : ℕ) (short : List Bool)
+            → ShowsBehind (version_kept_received db (member_of self.old) (server_of self.old) now from version short (server_of self.old).phase)
+            (server_of self.new) [] out.new }
+        ensures kept { Keeps self.old self.new }
+    {
+        if self.is_spreading() && version == self.version {
+            self.add_holder(from, out);
+        }
+    }
+}
+
+impl<D: SteadyDisk, V: DraftService> Node<D, V> {
+    ghost use Rattle.ubik_node.specs.Node.{Ends, held, IsStored, Knows, own_member, up_server};
+
+    /// The piece from a place on of the own image goes to a host.
+    fn send_piece(&mut self, host: Host, at: u32, out: &mut Outputs) -> Result<(), StoreFault>
+        requires not_halted { self.old.halted ≡ false }
+        requires stored { IsStored D.Disk self.old }
+        requires empty { out.old ≡ [] }
+        requires within { at ≤ length self.old.state.image }
+        ensures { Ends D.Disk (IsSome (D.files self.old.store.disk))
+            (showing (up_server self.old) (sends_to (own_member self.old) host (sent_piece (up_server self.old) self.old.state.recovery.poll at)))
+            [] out.new (held self.old) (held self.new) result }
+    {
+        let bytes = read_piece(self.alloc, &mut self.store, at)?;
+        let piece = Body::SendPiece {
+            poll: self.state.recovery.poll(),
+            version: self.state.version,
+            total: self.state.image.len(),
+            offset: at,
+            bytes,
+        };
+        self.state.send(host, piece, out);
+        Ok(())
+    }
+
+    /// Get piece: a host asks for a piece of the image of a version.
+    pub(crate) fn tell_piece(
+        &mut self,
+        host: Host,
+        poll: u32,
+        version: Version,
+        offset: u32,
+        out: &mut Outputs,
+    ) -> Result<(), StoreFault>
+        requires not_halted { self.old.halted ≡ false }
+        requires stored { IsStored D.Disk self.old }
+        requires empty { out.old ≡ [] }
+        ensures { Ends D.Disk (IsSome (D.files self.old.store.disk))
+            (get_piece_received (own_member self.old) (up_server self.old) host poll version offset)
+            [] out.new (held self.old) (held self.new) result }
+    {
+        let total = self.state.image.len();
+        let has = self.state.has_piece(version, offset);
+        if !has {
+            let version = self.state.version;
+            self.state
+                .send(host, Body::VersionIs { poll, version }, out);
+            return Ok(());
+        }
+        let bytes = read_piece(self.alloc, &mut self.store, offset)?;
+        let piece = Body::Piece {
+            poll,
+            version,
+            total,
+            offset,
+            bytes,
+        };
+        self.state.send(host, piece, out);
+        Ok(())
+    }
+
+    /// Piece kept: a host has the image of that version up to a place.
+    pub(crate) fn send_next(
+        &mut self,
+        host: Host,
+        version: Version,
+        next: u32,
+        out: &mut Outputs,
+    ) -> Result<(), StoreFault>
+        requires not_halted { self.old.halted ≡ false }
+        requires stored { IsStored D.Disk self.old }
+        requires empty { out.old ≡ [] }
+        ensures { Ends D.Disk (IsSome (D.files self.old.store.disk))
+            (piece_kept_received (own_member self.old) (up_server self.old) host version next (up_server self.old).phase)
+            [] out.new (held self.old) (held self.new) result }
+    {
+        let spreads = self.state.is_spreading();
+        let goes_on = self.state.goes_on(version, next);
+        if !spreads {
+            return Ok(());
+        }
+        if goes_on {
+            return self.send_piece(host, next, out);
+        }
+        Ok(())
+    }
+
+    /// A server with another version than the own one is sent what it lacks.
+    fn send_lacking(
+        &mut self,
+        host: Host,
+        version: Version,
+        out: &mut Outputs,
+    ) -> Result<(), StoreFault>
+        requires not_halted { self.old.halted ≡ false }
+        requires stored { IsStored D.Disk self.old }
+        requires empty { out.old ≡ [] }
+        ensures { Ends D.Disk (IsSome (D.files self.old.store.disk))
+            (lacking_sent (own_member self.old) (up_server self.old) host (polled_of self.old.state.recovery) (spread_of self.old.state.recovery) version None)
+            [] out.new (held self.old) (held self.new) result }
+    {
+        let has_old = self.state.is_before(version);
+        if !has_old {
+            return self.send_piece(host, 0, out);
+        }
+        let change = Body::SetVersion {
+            poll: self.state.recovery.poll(),
+            old: self.state.recovery.old(),
+            new: self.state.version,
+        };
+        self.state.send(host, change, out);
+        Ok(())
+    }
+
+    /// Version told: by a server of the cell, for the poll of that number.
+    pub(crate) fn hear_version(
+        &mut self,
+        now: u32,
+        from: usize,
+        host: Host,
+        poll: u32,
+        version: Version,
+        out: &mut Outputs,
+    ) -> Result<(), StoreFault>
+        requires moment { IsMoment now }
+        requires not_halted { self.old.halted ≡ false }
+        requires stored { IsStored D.Disk self.old }
+        requires empty { out.old ≡ [] }
+        requires from { from < length self.old.state.cell }
+        requires version { IsVersion version }
+        ensures { (db : Database) (short : List Bool) → Ends D.Disk (IsSome (D.files self.old.store.disk))
+            (version_is_received db (own_member self.old) (up_server self.old) now host from poll version short (up_server self.old).phase)
+            [] out.new (held self.old) (held self.new) result }
+    {
+        match self.state.recovery.phase() {
+            Phase::Poll => self.hear_answer(now, from, poll, version, out),
+            Phase::Fetch => {
+                self.state.hear_fetched(now, from, version);
+                Ok(())
+            }
+            Phase::Send | Phase::Ready => self.hear_told(from, host, poll, version, out),
+            Phase::None | Phase::Relabel => Ok(()),
+        }
+    }
+
+    /// Version told in a poll, for that one: it counts as an answer.
+    fn hear_answer(
+        &mut self,
+        now: u32,
+        from: usize,
+        poll: u32,
+        version: Version,
+        out: &mut Outputs,
+    ) -> Result<(), StoreFault>
+        requires moment { IsMoment now }
+        requires not_halted { self.old.halted ≡ false }
+        requires stored { IsStored D.Disk self.old }
+        requires empty { out.old ≡ [] }
+        requires from { from < length self.old.state.cell }
+        requires version { IsVersion version }
+        requires phase { self.old.state.recovery.phase ≡ Phase.Poll }
+        ensures { Ends D.Disk (Knows D.Disk self.old)
+            (answer_heard (own_member self.old) (up_server self.old) now (polled_of self.old.state.recovery) from poll version)
+            [] out.new (held self.old) (held self.new) result }
+    {
+        let counts = poll == self.state.recovery.poll();
+        if !counts {
+            return Ok(());
+        }
+        let mut next = self.state.recovery.marks();
+        next.answer(from, version);
+        self.polled(next, now, out)
+    }
+
+    /// Version told in Send or Ready, for the poll of the node: the own version makes a holder, and a server with another one is sent what it
+    /// lacks.
+    fn hear_told(
+        &mut self,
+        from: usize,
+        host: Host,
+        poll: u32,
+        version: Version,
+        out: &mut Outputs,
+    ) -> Result<(), StoreFault>
+        requires not_halted { self.old.halted ≡ false }
+        requires stored { IsStored D.Disk self.old }
+        requires empty { out.old ≡ [] }
+        requires from { from < length self.old.state.cell }
+        requires phase { IsSpreading self.old.state.recovery.phase }
+        ensures { (db : Database) (now : ℕ) (short : List Bool) → Ends D.Disk (IsSome (D.files self.old.store.disk))
+            (told_to_spread db (own_member self.old) (up_server self.old) now host from (polled_of self.old.state.recovery) (spread_of self.old.state.recovery)
+            poll version short)
+            [] out.new (held self.old) (held self.new) result }
+    {
+        let counts = poll == self.state.recovery.poll();
+        let same = version == self.state.version;
+        if !counts {
+            return Ok(());
+        }
+        if !same {
+            return self.send_lacking(host, version, out);
+        }
+        self.state.add_holder(from, out);
+        Ok(())
+    }
+}
