@@ -9,7 +9,7 @@ use Rattle.ubik_calls.specs.declared.packets.Packet.{Packet}
 use Rattle.cell_model.specs.declared.events.NodeEvent.{NodeEvent}
 use Rattle.cell_model.specs.declared.events.NodeEvent.TheVariants as event
 use Rattle.cell_model.specs.Step.{host_at}
-use Rattle.cell_model.specs.Voters.{VotersVote}
+use Rattle.cell_places.specs.Places.{PacketsHavePlaces}
 use Rattle.cell_model.specs.World.{Site, Trigger, Beacon_turn, Recover_turn, Asking, Event, Tick, Tick_all, Crash, Restart, site_of, is_down, may_tick, tick_at, ticked}
 use Rattle.cell_script.specs.declared.lines.Line.{Line}
 use Rattle.cell_script.specs.declared.lines.Line.TheVariants as line
@@ -36,7 +36,7 @@ none_seen : (n k : ℕ) (o : Option Site) → happenings_of (shown_site n k o) �
 none_seen n k None = refl
 none_seen n k (Some site) = refl
 
-module _ (law : VotersVote) (script_db : ScriptDatabase) (asks : ℕ) (c : Cell) (fits : Fits asks c.run.world)
+module _ (law : PacketsHavePlaces) (script_db : ScriptDatabase) (asks : ℕ) (c : Cell) (fits : Fits asks c.run.world)
     (each : length c.handed ≡ length c.run.world.packets) where
   abbrev IsPartOf : ℕ → Cell_run → Type 0
   IsPartOf later r = IsPart script_db later c.opening c.events c.run r
@@ -133,7 +133,6 @@ module _ (law : VotersVote) (script_db : ScriptDatabase) (asks : ℕ) (c : Cell)
         there = at.there;
         inside = at.inside;
         site_fits = at.fit;
-        taken = tt;
         asked = tt;
         call = tt;
       }))
@@ -146,8 +145,6 @@ module _ (law : VotersVote) (script_db : ScriptDatabase) (asks : ℕ) (c : Cell)
         there = at.there;
         inside = at.inside;
         site_fits = at.fit;
-        taken = omega
-            (arith, usual.built, at.inside);
         asked = tt;
         call = tt;
       }))
@@ -202,7 +199,6 @@ module _ (law : VotersVote) (script_db : ScriptDatabase) (asks : ℕ) (c : Cell)
           there = at.there;
           inside = at.inside;
           site_fits = at.fit;
-          taken = tt;
           asked = (omega arith, omega arith);
           call = names words call is;
         }))

@@ -8,7 +8,7 @@ use Rattle.db_image.specs.Database.{Database}
 use Rattle.cell_model.specs.declared.events.NodeEvent.{NodeEvent}
 use Rattle.cell_model.specs.Book.{Run, run_after, run_through}
 use Rattle.cell_model.specs.Node.{Node, Down, Halted, Up, Server}
-use Rattle.cell_model.specs.Voters.{VotersVote}
+use Rattle.cell_places.specs.Places.{PacketsHavePlaces}
 use Rattle.cell_model.specs.World.{Site, World, Trigger, Event, Step, Stop, Fault, Happening, Sent, Announced, Replied, Lost, Stops, Halts, Restarts, Stays_down, IsRun, happens, world_after, seen_of, is_down, may_be_down}
 use Rattle.cell_runs.specs.declared.limits.TheConstants.{MAX_PACKETS, MAX_PACKET_BYTES}
 use Rattle.cell_runs.specs.declared.endings.Ending.{Ending}
@@ -187,7 +187,7 @@ joined_part script_db asks later opening before run r next first goes second =
 
 -- ---- a step
 
-module _ (law : VotersVote) (script_db : ScriptDatabase) (asks later : ℕ) (c : Cell) (choice : Choice) (trigger : Trigger) (k : ℕ)
+module _ (law : PacketsHavePlaces) (script_db : ScriptDatabase) (asks later : ℕ) (c : Cell) (choice : Choice) (trigger : Trigger) (k : ℕ)
     (e : NodeEvent) (site : Site)
     (fits : Fits asks c.run.world) (each : length c.handed ≡ length c.run.world.packets)
     (is : IsOccasion script_db.database asks later c.run.world trigger k e site) where
