@@ -10,7 +10,10 @@ use Rattle.cell_model.specs.declared.events.NodeEvent.{NodeEvent}
 use Rattle.cell_model.specs.declared.events.NodeEvent.TheVariants as event
 use Rattle.cell_model.specs.Node.{Node, Down, Halted, Up, Server}
 use Rattle.cell_model.specs.NodeRule.{step_of, refusals}
-use Rattle.cell_model.specs.World.{Site, World, Trigger, Event, Tick, Tick_all, Step, Stop, Fault, Crash, Restart, Happened, SiteHappened, packets_of, happened_at, happens_at, step_at, stop_at, fault_at, crash_at, restart_at, ticked, tick_at, occasion, member, site_of, triggered, happens, may_tick, is_down, has_disk, is_new_ask, holds_at, occurs, may_be_down, may_step, may_stop, may_fail, IsEvent}
+use Rattle.cell_model.specs.World.{Site, World, Trigger, Event, Tick, Tick_all, Step, Stop, Fault, Crash, Restart, Happened, SiteHappened, packets_of}
+use Rattle.cell_model.specs.World.{happened_at, happens_at, step_at, stop_at, fault_at, crash_at, restart_at, ticked, tick_at, occasion, member}
+use Rattle.cell_model.specs.World.{site_of, triggered, happens, may_tick, is_down, has_disk, is_new_ask, holds_at, occurs, may_be_down, may_step}
+use Rattle.cell_model.specs.World.{may_stop, may_fail, IsEvent}
 use Rattle.cell_places.specs.Places.{IsBetween, IsPlacedStep, PacketsHavePlaces}
 use Rattle.script_laws.specs.Runs.{AsksACall, IsScripted}
 use Rattle.script_laws.proofs.Worlds.{AskFits, NodeFits, SiteFits, Fits, asked_fit, new_ask, site_later, fits_at, ticked_fits, all_ticked_fits}

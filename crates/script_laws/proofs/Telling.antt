@@ -1,5 +1,6 @@
 -- What any lines tell is what is seen of a run of the world.
-use Rattle.std.proofs.Common.{Bool, true, false, cond, ◌≡◌, ◌⊎◌, inl, inr, ℕ, zero, suc, ◌+◌, ◌≤◌, List, [], ◌∷◌, ◌++◌, length, refl, sym, ap, subst, ◌∙◌, append_assoc, arith}
+use Rattle.std.proofs.Common.{Bool, true, false, cond, ◌≡◌, ◌⊎◌, inl, inr, ℕ, zero, suc, ◌+◌, ◌≤◌, List, [], ◌∷◌, ◌++◌, length, refl, sym, ap, subst}
+use Rattle.std.proofs.Common.{◌∙◌, append_assoc, arith}
 use Rattle.std.proofs.lemmas.Grind.{flat_map-append}
 use Rattle.std.proofs.lemmas.List.{append-nil}
 use Rattle.std.proofs.lemmas.List.Elements.{All-nil, All-append}
@@ -19,7 +20,10 @@ use Rattle.cell_script.specs.declared.lines.Why.{Why}
 use Rattle.cell_script.specs.Meaning.{line_of}
 use Rattle.cell_runs.specs.declared.limits.TheConstants.{MAX_LINES}
 use Rattle.cell_runs.specs.declared.endings.Ending.{Ending}
-use Rattle.cell_runs.specs.Script.{Choice, LineRead, Opening, Cell, Cell_run, Stage, Line_run, Run_or_why, ScriptEnd, Told, hosts_from, hosts_of, fails_at, first_choice, opened_cell, kind_of_cell, cell_size_of, servers_of, next_line, in_stage, asked, run_in, run_first, run_standing, line_run, meaning_run, or_refused, line_result, first_told, end_text, ended_at, told_with, told_after, told_from, told}
+use Rattle.cell_runs.specs.Script.{Choice, LineRead, Opening, Cell, Cell_run, Stage, Line_run, Run_or_why, ScriptEnd, Told, hosts_from, hosts_of}
+use Rattle.cell_runs.specs.Script.{fails_at, first_choice, opened_cell, kind_of_cell, cell_size_of, servers_of, next_line, in_stage, asked, run_in}
+use Rattle.cell_runs.specs.Script.{run_first, run_standing, line_run, meaning_run, or_refused, line_result, first_told, end_text, ended_at, told_with}
+use Rattle.cell_runs.specs.Script.{told_after, told_from, told}
 use Rattle.cell_runs.specs.ScriptDatabase.{ScriptDatabase, Databases}
 use Rattle.cell_runs.specs.Trace.{TraceItem, Tells, trace, item_text}
 use Rattle.script_laws.specs.Runs.{NamesCalls, database_of, first_of, happenings_of, passes_packets, IsScripted, IsRunOf, IsRunOfCell, ScriptsAreRuns}
