@@ -1,7 +1,8 @@
 //! Laws of recovery: each is the clause of a call that does nothing.
+ghost use Rattle.std.specs.Prelude.{◌≢◌};
 ghost use Rattle.recovery_laws.specs.Memory.{MemoryIsTold};
 ghost use Rattle.recovery_laws.specs.Spreads.{RecoverySpreads};
-ghost use Rattle.recovery_laws.specs.Stands.{ImagesStand};
+ghost use Rattle.recovery_laws.specs.Stands.{ImagesStand, IsService};
 
 use cell_pages::law_one_label;
 use db_image::DraftService;
@@ -25,9 +26,11 @@ pub fn law_memory_is_told()
 
 /// In each cell, whatever happens, the image of each durable state stands for a state of the database, and so does that of each server that
 /// is up, and of each piece of an image that was ever sent; and the image that is left where a server stops, or its disk fails, after the first
-/// durable calls of a step. So it is over each database that is one over drafts, whose blocks have a length.
+/// durable calls of a step (`stand`). It is asked of the database that it is one over drafts, whose blocks have a length: then it has
+/// all that is asked (`service`).
 pub fn law_images_stand<S: DraftService>()
-    ensures { ImagesStand S.standing }
+    ensures service { S.standing.database.block ≢ 0 → IsService S.standing }
+    ensures stand { ImagesStand S.standing }
 {
     law_one_label();
 }

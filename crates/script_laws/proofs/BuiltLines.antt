@@ -1,5 +1,6 @@
 -- A line that means something is built: what is built later is told before its numbers are judged.
-use Rattle.std.proofs.Common.{Bool, true, false, cond, true≢false, ◌≡◌, ◌⊎◌, inl, inr, ℕ, ◌≤◌, ◌&&◌, nat_lt, List, [], ◌∷◌, length, Option, Some, None, IfSome, Result, Ok, Err, IfOk, refl, sym, ◌∙◌, arith}
+use Rattle.std.proofs.Common.{Bool, true, false, cond, true≢false, ◌≡◌, ◌⊎◌, inl, inr, ℕ, ◌≤◌, ◌&&◌, nat_lt, List, [], ◌∷◌, length, Option, Some}
+use Rattle.std.proofs.Common.{None, IfSome, Result, Ok, Err, IfOk, refl, sym, ◌∙◌, arith}
 use Rattle.std.proofs.lemmas.Bool.{cond_both}
 use Rattle.std.proofs.lemmas.Bool.Decides.{nat_tests}
 use Rattle.std.specs.Prelude.{codes, option_map}
@@ -8,7 +9,9 @@ use Rattle.std.specs.Str.{bytes_eq}
 use Rattle.disk_base.specs.declared.disks.Fill.{Fill}
 use Rattle.script_words.specs.Numbers.{number_of, number_within}
 use Rattle.ubik_types.specs.declared.limits.TheConstants.{MAXSERVERS}
-use Rattle.cell_script.specs.Meaning.{kind_of, server_of, or_number, numbered_cell, cell_in, numbered_tick, numbered_stop, fill_of, line_of_server, line_of_packet, with_number, or_syntax, line_of_one, line_of_two, line_of_three, ask_line, line_of_counted, whole_line, is_later, unless_later, line_of_words, line_of_split, is_idle}
+use Rattle.cell_script.specs.Meaning.{kind_of, server_of, or_number, numbered_cell, cell_in, numbered_tick, numbered_stop, fill_of, line_of_server}
+use Rattle.cell_script.specs.Meaning.{line_of_packet, with_number, or_syntax, line_of_one, line_of_two, line_of_three, ask_line, line_of_counted}
+use Rattle.cell_script.specs.Meaning.{whole_line, is_later, unless_later, line_of_words, line_of_split, is_idle}
 use Rattle.cell_script.specs.Words.{words_of}
 use Rattle.cell_script.specs.declared.lines.TheConstants.{MAX_CLOCK, MAX_TICK, MAX_STOP}
 use Rattle.cell_script.specs.declared.readers.TheConstants.{MAX_LINE}

@@ -10,7 +10,7 @@ use Rattle.cell_model.specs.declared.events.NodeEvent.{NodeEvent}
 use Rattle.cell_model.specs.declared.events.NodeEvent.TheVariants as event
 use Rattle.cell_model.specs.Book.{Run}
 use Rattle.cell_model.specs.NodeRule.{place_of}
-use Rattle.cell_model.specs.Voters.{IsVotePacket, VotersVote}
+use Rattle.cell_places.specs.Places.{IsBetween, PacketsHavePlaces}
 use Rattle.cell_model.specs.World as world
 use Rattle.cell_model.specs.World.{Site, World, Trigger, Delivery}
 use Rattle.cell_runs.specs.declared.endings.Ending.{Ending}
@@ -37,11 +37,11 @@ arrival : (db : Database) (asks : ℕ) (w : World) (number : ℕ) → Fits asks 
     → IsArrival db asks w number
 arrival db asks w zero fits some within = absurd (omega arith)
 arrival db asks w (suc n) fits some within =
-    let there = element_there (IsVotePacket w.hosts) w.packets n (omega arith) fits.packets in
+    let there = element_there (IsBetween w.hosts) w.packets n (omega arith) fits.packets in
     let p : Packet = there.0 in
     let at : slice_get w.packets n ≡ Some p = there.1 in
-    let votes : IsVotePacket w.hosts p = there.2 in
-    let place = is_place (place_of w.hosts p.to) votes.receiver in
+    let between : IsBetween w.hosts p = there.2 in
+    let place = is_place (place_of w.hosts p.to) between.receiver in
     let inside = (position-Some (λ (other : Host). other.0 == p.to.0) w.hosts place.0 p.to place.1).0 in
     let site = site_there asks w place.0 fits inside in
     record {
@@ -54,13 +54,12 @@ arrival db asks w (suc n) fits some within =
         there = site.1;
         inside = inside;
         site_fits = site.2;
-        taken = record { votes = votes.votes; sender = votes.sender; receiver = votes.receiver };
         asked = tt;
         call = tt;
       };
     }
 
-module _ (law : VotersVote) (script_db : ScriptDatabase) (asks : ℕ) where
+module _ (law : PacketsHavePlaces) (script_db : ScriptDatabase) (asks : ℕ) where
   pub delivered_part : (c : Cell) (choice : Choice) (number : ℕ) → Fits asks c.run.world → length c.handed ≡ length c.run.world.packets
       → 0 < number → number ≤ length c.run.world.packets
       → IsPart script_db asks c.opening c.events c.run (delivered script_db c choice number)
@@ -86,7 +85,7 @@ unless_part script_db asks opening before run r next None goes first second =
     joined_part script_db asks asks opening before run r next first goes second
 unless_part script_db asks opening before run r next (Some ending) goes first second = first
 
-pub all_part : (law : VotersVote) (script_db : ScriptDatabase) (asks most : ℕ) (c : Cell) (choices : List Choice) (o : Option ℕ)
+pub all_part : (law : PacketsHavePlaces) (script_db : ScriptDatabase) (asks most : ℕ) (c : Cell) (choices : List Choice) (o : Option ℕ)
     → first_waiting 1 c.handed ≡ o → Fits asks c.run.world
     → length c.handed ≡ length c.run.world.packets
     → IsPart script_db asks c.opening c.events c.run (all_delivered script_db most c choices o)

@@ -1,5 +1,6 @@
 -- What each line of a script is in a cell that stands: a part that goes on with its run, or it is refused.
-use Rattle.std.proofs.Common.{Bool, true, false, cond, true≢false, ◌≡◌, ℕ, suc, ◌+◌, ◌-◌, ◌<◌, ◌≤◌, ◌&&◌, nat_lt, nat_le, List, [], ◌∷◌, length, refl, sym, ap, ◌∙◌, arith}
+use Rattle.std.proofs.Common.{Bool, true, false, cond, true≢false, ◌≡◌, ℕ, suc, ◌+◌, ◌-◌, ◌<◌, ◌≤◌, ◌&&◌, nat_lt, nat_le, List, [], ◌∷◌, length, refl}
+use Rattle.std.proofs.Common.{sym, ap, ◌∙◌, arith}
 use Rattle.std.proofs.lemmas.Bool.{cond_both}
 use Rattle.std.proofs.lemmas.Bool.Decides.{nat_tests}
 use Rattle.std.proofs.lemmas.List.{length-set}
@@ -9,13 +10,16 @@ use Rattle.ubik_calls.specs.declared.packets.Packet.{Packet}
 use Rattle.cell_model.specs.declared.events.NodeEvent.{NodeEvent}
 use Rattle.cell_model.specs.declared.events.NodeEvent.TheVariants as event
 use Rattle.cell_model.specs.Step.{host_at}
-use Rattle.cell_model.specs.Voters.{VotersVote}
-use Rattle.cell_model.specs.World.{Site, Trigger, Beacon_turn, Recover_turn, Asking, Event, Tick, Tick_all, Crash, Restart, site_of, is_down, may_tick, tick_at, ticked}
+use Rattle.cell_places.specs.Places.{PacketsHavePlaces}
+use Rattle.cell_model.specs.World.{Site, Trigger, Beacon_turn, Recover_turn, Asking, Event, Tick, Tick_all, Crash, Restart, site_of, is_down}
+use Rattle.cell_model.specs.World.{may_tick, tick_at, ticked}
 use Rattle.cell_script.specs.declared.lines.Line.{Line}
 use Rattle.cell_script.specs.declared.lines.Line.TheVariants as line
 use Rattle.cell_script.specs.declared.lines.Why.TheVariants as why
 use Rattle.cell_runs.specs.declared.limits.TheConstants.{MAX_PACKETS}
-use Rattle.cell_runs.specs.Script.{Choice, Cell, Cell_run, Run_or_why, cell_size_of, at_server, at_up, at_down, at_packet, is_down_at, unless_skewed, with_event, node_in, first_choice, first_waiting, dropped_of, delivered, resting, shown_site, stepped, run_in, asked, asked_in}
+use Rattle.cell_runs.specs.Script.{Choice, Cell, Cell_run, Run_or_why, cell_size_of, at_server, at_up, at_down, at_packet, is_down_at, unless_skewed}
+use Rattle.cell_runs.specs.Script.{with_event, node_in, first_choice, first_waiting, dropped_of, delivered, resting, shown_site, stepped, run_in}
+use Rattle.cell_runs.specs.Script.{asked, asked_in}
 use Rattle.cell_runs.specs.ScriptDatabase.{ScriptDatabase}
 use Rattle.script_laws.specs.Runs.{happenings_of}
 use Rattle.script_laws.proofs.Deliveries.{delivered_part, all_part}
@@ -36,7 +40,7 @@ none_seen : (n k : ℕ) (o : Option Site) → happenings_of (shown_site n k o) �
 none_seen n k None = refl
 none_seen n k (Some site) = refl
 
-module _ (law : VotersVote) (script_db : ScriptDatabase) (asks : ℕ) (c : Cell) (fits : Fits asks c.run.world)
+module _ (law : PacketsHavePlaces) (script_db : ScriptDatabase) (asks : ℕ) (c : Cell) (fits : Fits asks c.run.world)
     (each : length c.handed ≡ length c.run.world.packets) where
   abbrev IsPartOf : ℕ → Cell_run → Type 0
   IsPartOf later r = IsPart script_db later c.opening c.events c.run r
@@ -133,7 +137,6 @@ module _ (law : VotersVote) (script_db : ScriptDatabase) (asks : ℕ) (c : Cell)
         there = at.there;
         inside = at.inside;
         site_fits = at.fit;
-        taken = tt;
         asked = tt;
         call = tt;
       }))
@@ -146,8 +149,6 @@ module _ (law : VotersVote) (script_db : ScriptDatabase) (asks : ℕ) (c : Cell)
         there = at.there;
         inside = at.inside;
         site_fits = at.fit;
-        taken = omega
-            (arith, usual.built, at.inside);
         asked = tt;
         call = tt;
       }))
@@ -202,7 +203,6 @@ module _ (law : VotersVote) (script_db : ScriptDatabase) (asks : ℕ) (c : Cell)
           there = at.there;
           inside = at.inside;
           site_fits = at.fit;
-          taken = tt;
           asked = (omega arith, omega arith);
           call = names words call is;
         }))

@@ -1,5 +1,6 @@
 -- A part of a line: the events that it brings to a cell, and what it tells of them.
-use Rattle.std.proofs.Common.{Bool, true, false, cond, true≢false, ◌≡◌, ℕ, ◌+◌, ◌-◌, List, [], ◌∷◌, ◌++◌, length, refl, sym, ap, subst, ◌∙◌, append_assoc, arith}
+use Rattle.std.proofs.Common.{Bool, true, false, cond, true≢false, ◌≡◌, ℕ, ◌+◌, ◌-◌, List, [], ◌∷◌, ◌++◌, length, refl, sym, ap, subst, ◌∙◌}
+use Rattle.std.proofs.Common.{append_assoc, arith}
 use Rattle.std.proofs.lemmas.List.{append-nil, length-append, length-replicate}
 use Rattle.std.proofs.lemmas.List.Elements.{All-nil, All-cons, All-append}
 use Rattle.std.specs.Prelude.{Option, Some, None, All, replicate, set, nat_lt}
@@ -8,13 +9,16 @@ use Rattle.db_image.specs.Database.{Database}
 use Rattle.cell_model.specs.declared.events.NodeEvent.{NodeEvent}
 use Rattle.cell_model.specs.Book.{Run, run_after, run_through}
 use Rattle.cell_model.specs.Node.{Node, Down, Halted, Up, Server}
-use Rattle.cell_model.specs.Voters.{VotersVote}
-use Rattle.cell_model.specs.World.{Site, World, Trigger, Event, Step, Stop, Fault, Happening, Sent, Announced, Replied, Lost, Stops, Halts, Restarts, Stays_down, IsRun, happens, world_after, seen_of, is_down, may_be_down}
+use Rattle.cell_places.specs.Places.{PacketsHavePlaces}
+use Rattle.cell_model.specs.World.{Site, World, Trigger, Event, Step, Stop, Fault, Happening, Sent, Announced, Replied, Lost, Stops, Halts, Restarts}
+use Rattle.cell_model.specs.World.{Stays_down, IsRun, happens, world_after, seen_of, is_down, may_be_down}
 use Rattle.cell_runs.specs.declared.limits.TheConstants.{MAX_PACKETS, MAX_PACKET_BYTES}
 use Rattle.cell_runs.specs.declared.endings.Ending.{Ending}
 use Rattle.cell_runs.specs.declared.endings.Ending.TheVariants.{Limit}
 use Rattle.cell_runs.specs.declared.endings.Which.TheVariants.{Packets, PacketBytes}
-use Rattle.cell_runs.specs.Script.{Choice, Armed, Opening, Cell, Cell_run, Within, bytes_of, counted_on, within, within_more, within_packet, with_event, joined_run, DiskOutcome, Serves, Fails_after, Stops_after, outcome_at, outcome_of, armed_at, node_in, place_in, stepped_so, stepped}
+use Rattle.cell_runs.specs.Script.{Choice, Armed, Opening, Cell, Cell_run, Within, bytes_of, counted_on, within, within_more, within_packet}
+use Rattle.cell_runs.specs.Script.{with_event, joined_run, DiskOutcome, Serves, Fails_after, Stops_after, outcome_at, outcome_of, armed_at, node_in}
+use Rattle.cell_runs.specs.Script.{place_in, stepped_so, stepped}
 use Rattle.cell_runs.specs.ScriptDatabase.{ScriptDatabase}
 use Rattle.cell_runs.specs.Trace.{TraceItem, Tells, Shows}
 use Rattle.script_laws.specs.Runs.{happenings_of, is_of_packets, IsScripted}
@@ -187,7 +191,7 @@ joined_part script_db asks later opening before run r next first goes second =
 
 -- ---- a step
 
-module _ (law : VotersVote) (script_db : ScriptDatabase) (asks later : ℕ) (c : Cell) (choice : Choice) (trigger : Trigger) (k : ℕ)
+module _ (law : PacketsHavePlaces) (script_db : ScriptDatabase) (asks later : ℕ) (c : Cell) (choice : Choice) (trigger : Trigger) (k : ℕ)
     (e : NodeEvent) (site : Site)
     (fits : Fits asks c.run.world) (each : length c.handed ≡ length c.run.world.packets)
     (is : IsOccasion script_db.database asks later c.run.world trigger k e site) where

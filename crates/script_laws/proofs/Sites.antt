@@ -1,11 +1,14 @@
 -- In the cell of a script each host has its site: no event, and so no line, adds or takes one.
-use Rattle.std.proofs.Common.{Bool, true, false, cond, ◌≡◌, ℕ, zero, suc, ◌-◌, ◌<◌, ◌&&◌, List, [], ◌∷◌, ◌+◌, Option, Some, None, IfSome, Result, Ok, Err, IfOk, length, nat_le, nat_lt, refl, sym, subst, ◌∙◌, arith}
+use Rattle.std.proofs.Common.{Bool, true, false, cond, ◌≡◌, ℕ, zero, suc, ◌-◌, ◌<◌, ◌&&◌, List, [], ◌∷◌, ◌+◌, Option, Some, None, IfSome, Result, Ok}
+use Rattle.std.proofs.Common.{Err, IfOk, length, nat_le, nat_lt, refl, sym, subst, ◌∙◌, arith}
 use Rattle.std.proofs.lemmas.List.{length-map, length-set}
 use Rattle.std.specs.Prelude.{drop, map, set, slice_get}
 use Rattle.db_image.specs.Database.{Database}
 use Rattle.cell_model.specs.declared.events.NodeEvent.{NodeEvent}
 use Rattle.cell_model.specs.Step.{Member, host_at}
-use Rattle.cell_model.specs.World.{Site, World, Trigger, Delivery, Beacon_turn, Recover_turn, Asking, Event, Tick, Tick_all, Step, Stop, Fault, Crash, Restart, SiteHappened, member, site_of, occasion, first_site, step_at, stop_at, fault_at, crash_at, restart_at, may_tick, tick_at, ticked, happens_at, triggered, happens}
+use Rattle.cell_model.specs.World.{Site, World, Trigger, Delivery, Beacon_turn, Recover_turn, Asking, Event, Tick, Tick_all, Step, Stop, Fault, Crash}
+use Rattle.cell_model.specs.World.{Restart, SiteHappened, member, site_of, occasion, first_site, step_at, stop_at, fault_at, crash_at, restart_at}
+use Rattle.cell_model.specs.World.{may_tick, tick_at, ticked, happens_at, triggered, happens}
 use Rattle.cell_script.specs.declared.lines.Line.{Line}
 use Rattle.cell_script.specs.declared.lines.Line.TheVariants as line
 use Rattle.cell_script.specs.declared.lines.Why.{Why}
@@ -13,7 +16,12 @@ use Rattle.cell_script.specs.declared.lines.Why.TheVariants as why
 use Rattle.cell_script.specs.Meaning.{line_of}
 use Rattle.cell_runs.specs.declared.endings.Ending.{Ending}
 use Rattle.cell_runs.specs.declared.limits.TheConstants.{MAX_LINES, MAX_PACKETS}
-use Rattle.cell_runs.specs.Script.{Choice, LineRead, Cell, Stage, Line_run, Cell_run, Run_or_why, ScriptEnd, Told, DiskOutcome, Serves, Fails_after, Stops_after, first_choice, with_event, armed_at, counted_on, outcome_of, place_in, stepped_so, stepped, delivered, first_waiting, dropped_of, all_delivered, unless_ended, resting, cell_size_of, servers_of, at_server, at_up, at_down, at_packet, is_down_at, unless_skewed, shown_site, run_in, asked_in, asked, in_stage, next_line, hosts_of, fails_at, run_first, kind_of_cell, run_standing, line_run, meaning_run, or_refused, line_result, told_with, told_after}
+use Rattle.cell_runs.specs.Script.{Choice, LineRead, Cell, Stage, Line_run, Cell_run, Run_or_why, ScriptEnd, Told, DiskOutcome, Serves, Fails_after}
+use Rattle.cell_runs.specs.Script.{Stops_after, first_choice, with_event, armed_at, counted_on, outcome_of, place_in, stepped_so, stepped, delivered}
+use Rattle.cell_runs.specs.Script.{first_waiting, dropped_of, all_delivered, unless_ended, resting, cell_size_of, servers_of, at_server, at_up}
+use Rattle.cell_runs.specs.Script.{at_down, at_packet, is_down_at, unless_skewed, shown_site, run_in, asked_in, asked, in_stage, next_line, hosts_of}
+use Rattle.cell_runs.specs.Script.{fails_at, run_first, kind_of_cell, run_standing, line_run, meaning_run, or_refused, line_result, told_with}
+use Rattle.cell_runs.specs.Script.{told_after}
 use Rattle.cell_runs.specs.ScriptDatabase.{ScriptDatabase, Databases}
 use Rattle.script_laws.proofs.Telling.{length-hosts, length-fails}
 use Rattle.script_laws.proofs.Worlds.{length-tick}

@@ -1,6 +1,7 @@
 -- Where no fault of a disk is told of a line, no choice in it matters: a step in which a disk fails or stops tells of it, and so does
 -- an opening in which one fails.
-use Rattle.std.proofs.Common.{Bool, true, false, cond, ◌≡◌, ℕ, zero, suc, ◌+◌, ◌-◌, ◌<◌, ◌==◌, ◌&&◌, nat_lt, nat_le, List, [], ◌∷◌, ◌++◌, length, refl, ap, ◌∙◌, arith}
+use Rattle.std.proofs.Common.{Bool, true, false, cond, ◌≡◌, ℕ, zero, suc, ◌+◌, ◌-◌, ◌<◌, ◌==◌, ◌&&◌, nat_lt, nat_le, List, [], ◌∷◌, ◌++◌, length}
+use Rattle.std.proofs.Common.{refl, ap, ◌∙◌, arith}
 use Rattle.std.proofs.lemmas.Bool.Decides.{nat_tests}
 use Rattle.std.specs.Prelude.{Option, Some, None, Result, Ok, Err, IfOk, map, drop, set}
 use Rattle.db_image.specs.Database.{Database}
@@ -8,7 +9,9 @@ use Rattle.cell_model.specs.declared.events.NodeEvent.{NodeEvent}
 use Rattle.cell_model.specs.declared.events.NodeEvent.TheVariants as event
 use Rattle.cell_model.specs.Node.{Node, Down, Halted, Up, Server}
 use Rattle.cell_model.specs.NodeRule.{refusals}
-use Rattle.cell_model.specs.World.{Site, World, Trigger, Beacon_turn, Recover_turn, Asking, Delivery, Fault, Stop, Restart, Halts, Happened, member, site_of, occasion, seen_from, first_seen, stop_at, fault_at, restart_at, happened_at, happens_at, triggered, happens}
+use Rattle.cell_model.specs.World.{Site, World, Trigger, Beacon_turn, Recover_turn, Asking, Delivery, Fault, Stop, Restart, Halts, Happened, member}
+use Rattle.cell_model.specs.World.{site_of, occasion, seen_from, first_seen, stop_at, fault_at, restart_at, happened_at, happens_at, triggered}
+use Rattle.cell_model.specs.World.{happens}
 use Rattle.cell_script.specs.Meaning.{line_of}
 use Rattle.cell_script.specs.declared.lines.Line.{Line}
 use Rattle.cell_script.specs.declared.lines.Line.TheVariants as line
@@ -18,7 +21,11 @@ use Rattle.cell_runs.specs.declared.limits.TheConstants.{MAX_LINES, MAX_PACKETS}
 use Rattle.cell_runs.specs.declared.endings.Ending.{Ending}
 use Rattle.cell_runs.specs.declared.endings.Ending.TheVariants.{Limit}
 use Rattle.cell_runs.specs.declared.endings.Which.TheVariants.{Lines}
-use Rattle.cell_runs.specs.Script.{Choice, sound, first_choice, Cell, Cell_run, Stage, Line_run, Run_or_why, DiskOutcome, Fails_after, Stops_after, outcome_of_stop, outcome_at, outcome_of, node_in, place_in, bytes_of, within, stepped_so, stepped, delivered, first_waiting, joined_run, unless_ended, all_delivered, at_up, at_down, is_down_at, with_event, cell_size_of, run_in, asked, asked_in, in_stage, fails_at, opened_cell, kind_of_cell, run_first, run_standing, line_run, meaning_run, or_refused, servers_of, next_line, line_result}
+use Rattle.cell_runs.specs.Script.{Choice, sound, first_choice, Cell, Cell_run, Stage, Line_run, Run_or_why, DiskOutcome, Fails_after, Stops_after}
+use Rattle.cell_runs.specs.Script.{outcome_of_stop, outcome_at, outcome_of, node_in, place_in, bytes_of, within, stepped_so, stepped, delivered}
+use Rattle.cell_runs.specs.Script.{first_waiting, joined_run, unless_ended, all_delivered, at_up, at_down, is_down_at, with_event, cell_size_of}
+use Rattle.cell_runs.specs.Script.{run_in, asked, asked_in, in_stage, fails_at, opened_cell, kind_of_cell, run_first, run_standing, line_run}
+use Rattle.cell_runs.specs.Script.{meaning_run, or_refused, servers_of, next_line, line_result}
 use Rattle.cell_runs.specs.ScriptDatabase.{ScriptDatabase, Databases}
 use Rattle.cell_runs.specs.Trace.{TraceItem, Tells, Shows, fault_count}
 use Rattle.script_laws.specs.Sound.{HasNoFault}

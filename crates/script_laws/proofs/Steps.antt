@@ -10,10 +10,13 @@ use Rattle.cell_model.specs.declared.events.NodeEvent.{NodeEvent}
 use Rattle.cell_model.specs.declared.events.NodeEvent.TheVariants as event
 use Rattle.cell_model.specs.Node.{Node, Down, Halted, Up, Server}
 use Rattle.cell_model.specs.NodeRule.{step_of, refusals}
-use Rattle.cell_model.specs.Voters.{IsVotePacket, IsVoterStep, IsTaken, VotersVote}
-use Rattle.cell_model.specs.World.{Site, World, Trigger, Event, Tick, Tick_all, Step, Stop, Fault, Crash, Restart, Happened, SiteHappened, packets_of, happened_at, happens_at, step_at, stop_at, fault_at, crash_at, restart_at, ticked, tick_at, occasion, member, site_of, triggered, happens, may_tick, is_down, has_disk, is_new_ask, holds_at, occurs, may_be_down, may_step, may_stop, may_fail, IsEvent}
+use Rattle.cell_model.specs.World.{Site, World, Trigger, Event, Tick, Tick_all, Step, Stop, Fault, Crash, Restart, Happened, SiteHappened, packets_of}
+use Rattle.cell_model.specs.World.{happened_at, happens_at, step_at, stop_at, fault_at, crash_at, restart_at, ticked, tick_at, occasion, member}
+use Rattle.cell_model.specs.World.{site_of, triggered, happens, may_tick, is_down, has_disk, is_new_ask, holds_at, occurs, may_be_down, may_step}
+use Rattle.cell_model.specs.World.{may_stop, may_fail, IsEvent}
+use Rattle.cell_places.specs.Places.{IsBetween, IsPlacedStep, PacketsHavePlaces}
 use Rattle.script_laws.specs.Runs.{AsksACall, IsScripted}
-use Rattle.script_laws.proofs.Worlds.{AskFits, NodeFits, SiteFits, Fits, asked_fit, new_ask, voter_at, site_later, fits_at, ticked_fits, all_ticked_fits}
+use Rattle.script_laws.proofs.Worlds.{AskFits, NodeFits, SiteFits, Fits, asked_fit, new_ask, site_later, fits_at, ticked_fits, all_ticked_fits}
 
 both : (a b : Bool) → a ≡ true → b ≡ true → (a && b) ≡ true
 both true b first second = second
@@ -30,7 +33,7 @@ pub record IsLegal (db : Database) (later : ℕ) (w : World) (e : Event) : Type 
 -- so of one that happens at a server
 happened_legal : (db : Database) (asks later : ℕ) (w : World) (k : ℕ) (e : Event) (h : SiteHappened) → asks ≤ later → Fits asks w
     → happens db w e ≡ happened_at w k h → IsEvent w e → IsScripted db e
-    → SiteFits w.hosts later h.site → All (IsVotePacket w.hosts) (packets_of h.shown) → IsLegal db later w e
+    → SiteFits w.hosts later h.site → All (IsBetween w.hosts) (packets_of h.shown) → IsLegal db later w e
 happened_legal db asks later w k e h more fits is event scripted site packets = record {
   event = event;
   scripted = scripted;
@@ -47,18 +50,17 @@ refusals_send P event.BeaconTurn = All-nil P
 refusals_send P event.RecoverTurn = All-nil P
 refusals_send P (event.Ask id call) = All-nil P
 
--- a trigger brings an event that a server of the cell takes
+-- a trigger brings an event to a server of the cell
 pub record IsOccasion (db : Database) (asks later : ℕ) (w : World) (trigger : Trigger) (k : ℕ) (e : NodeEvent) (site : Site) : Type 0 where
   pub more : asks ≤ later
   pub brought : occasion w trigger ≡ Some (k, e)
   pub there : site_of w k ≡ Some site
   pub inside : k < length w.hosts
   pub site_fits : SiteFits w.hosts asks site
-  pub taken : IsTaken (member w k) e
   pub asked : AskFits asks later e
   pub call : AsksACall db trigger
 
-module _ (law : VotersVote) (db : Database) (asks later : ℕ) (w : World) (fits : Fits asks w) (trigger : Trigger) (k : ℕ) (e : NodeEvent)
+module _ (law : PacketsHavePlaces) (db : Database) (asks later : ℕ) (w : World) (fits : Fits asks w) (trigger : Trigger) (k : ℕ) (e : NodeEvent)
     (site : Site) (is : IsOccasion db asks later w trigger k e site) where
   -- ---- a step
 
@@ -67,18 +69,18 @@ module _ (law : VotersVote) (db : Database) (asks later : ℕ) (w : World) (fits
   stepped_site (Halted h) fit =
       record { ids = asked_fit asks later site.asked e is.more is.asked is.site_fits.ids; node = is.site_fits.node }
   stepped_site (Up s) fit =
-      let t : IsVoterStep (member w k) (step_of db (member w k) s site.clock e []) =
-      law.steps db (member w k) s site.clock e [] is.inside (voter_at w.hosts 0 k s fit) is.taken in
+      let t : IsPlacedStep (member w k) (step_of db (member w k) s site.clock e []) =
+      law.steps db (member w k) s site.clock e [] is.inside fit in
       record {
         ids = asked_fit asks later site.asked e is.more is.asked is.site_fits.ids;
-        node = voter_at w.hosts k 0 (step_of db (member w k) s site.clock e []).server t.server;
+        node = t.phase;
       }
 
   stepped_packets : (node : Node) → NodeFits w.hosts node
-      → All (IsVotePacket w.hosts) (packets_of (step_at db (member w k) trigger e [] site node).shown)
-  stepped_packets Down fit = All-nil (IsVotePacket w.hosts)
-  stepped_packets (Halted h) fit = refusals_send (IsVotePacket w.hosts) e
-  stepped_packets (Up s) fit = (law.steps db (member w k) s site.clock e [] is.inside (voter_at w.hosts 0 k s fit) is.taken).packets
+      → All (IsBetween w.hosts) (packets_of (step_at db (member w k) trigger e [] site node).shown)
+  stepped_packets Down fit = All-nil (IsBetween w.hosts)
+  stepped_packets (Halted h) fit = refusals_send (IsBetween w.hosts) e
+  stepped_packets (Up s) fit = (law.steps db (member w k) s site.clock e [] is.inside fit).packets
 
   may_be : (b : Bool) → is_down site.node ≡ b → (b ≡ true → may_be_down trigger ≡ true)
       → cond b (may_be_down trigger) (is_new_ask site.asked e) ≡ true
@@ -108,7 +110,7 @@ module _ (law : VotersVote) (db : Database) (asks later : ℕ) (w : World) (fits
         ∙ both (not (is_down site.node)) (is_new_ask site.asked e) (ap (λ (node : Node). not (is_down node)) up)
         (new_ask asks later site.asked e is.asked is.site_fits.ids))
         (is.call, refl)
-        (record { ids = (site_later w.hosts asks later site is.more is.site_fits).ids; node = tt }) (All-nil (IsVotePacket w.hosts))
+        (record { ids = (site_later w.hosts asks later site is.more is.site_fits).ids; node = tt }) (All-nil (IsBetween w.hosts))
 
     pub fault_legal : IsLegal db later w (Fault trigger [] made)
     fault_legal =
@@ -120,25 +122,25 @@ module _ (law : VotersVote) (db : Database) (asks later : ℕ) (w : World) (fits
         ∙ both (has_disk site.node) (is_new_ask site.asked e) (ap has_disk up) (new_ask asks later site.asked e is.asked is.site_fits.ids))
         (is.call, refl)
         (record { ids = asked_fit asks later site.asked e is.more is.asked is.site_fits.ids; node = tt })
-        (refusals_send (IsVotePacket w.hosts) e)
+        (refusals_send (IsBetween w.hosts) e)
 
 -- ---- the other events
 
-module _ (law : VotersVote) (db : Database) (asks : ℕ) (w : World) (fits : Fits asks w) (k : ℕ) (site : Site)
+module _ (law : PacketsHavePlaces) (db : Database) (asks : ℕ) (w : World) (fits : Fits asks w) (k : ℕ) (site : Site)
     (there : site_of w k ≡ Some site) (fit : SiteFits w.hosts asks site) where
   pub crash_legal : IsLegal db asks w (Crash k)
   crash_legal =
       happened_legal db asks asks w k (Crash k) (crash_at site) (omega arith) fits (ap (happens_at w k crash_at) there)
       (ap is_some there) tt
-      (record { ids = fit.ids; node = tt }) (All-nil (IsVotePacket w.hosts))
+      (record { ids = fit.ids; node = tt }) (All-nil (IsBetween w.hosts))
 
   opened_fits : (failed : Bool) → SiteFits w.hosts asks (restart_at (length w.hosts) k failed site).site
   opened_fits true = fit
-  opened_fits false = record { ids = tt; node = law.first (record { hosts = w.hosts; me = 0 }) site.durable site.clock }
+  opened_fits false = record { ids = tt; node = law.first (length w.hosts) site.durable site.clock }
 
-  opened_sends : (failed : Bool) → All (IsVotePacket w.hosts) (packets_of (restart_at (length w.hosts) k failed site).shown)
-  opened_sends true = All-nil (IsVotePacket w.hosts)
-  opened_sends false = All-nil (IsVotePacket w.hosts)
+  opened_sends : (failed : Bool) → All (IsBetween w.hosts) (packets_of (restart_at (length w.hosts) k failed site).shown)
+  opened_sends true = All-nil (IsBetween w.hosts)
+  opened_sends false = All-nil (IsBetween w.hosts)
 
   pub restart_legal : (failed : Bool) → is_down site.node ≡ true → IsLegal db asks w (Restart k failed)
   restart_legal failed down =

@@ -1,5 +1,6 @@
 -- What any lines tell is what is seen of a run of the world.
-use Rattle.std.proofs.Common.{Bool, true, false, cond, ◌≡◌, ◌⊎◌, inl, inr, ℕ, zero, suc, ◌+◌, ◌≤◌, List, [], ◌∷◌, ◌++◌, length, refl, sym, ap, subst, ◌∙◌, append_assoc, arith}
+use Rattle.std.proofs.Common.{Bool, true, false, cond, ◌≡◌, ◌⊎◌, inl, inr, ℕ, zero, suc, ◌+◌, ◌≤◌, List, [], ◌∷◌, ◌++◌, length, refl, sym, ap, subst}
+use Rattle.std.proofs.Common.{◌∙◌, append_assoc, arith}
 use Rattle.std.proofs.lemmas.Grind.{flat_map-append}
 use Rattle.std.proofs.lemmas.List.{append-nil}
 use Rattle.std.proofs.lemmas.List.Elements.{All-nil, All-append}
@@ -10,7 +11,7 @@ use Rattle.ubik_types.specs.Hosts.{IsCell, IsAscending}
 use Rattle.ubik_types.specs.Moment.{IsMoment}
 use Rattle.db_image.specs.Database.{Database}
 use Rattle.cell_model.specs.Book.{Run, first_run, run_through}
-use Rattle.cell_model.specs.Voters.{VotersVote}
+use Rattle.cell_places.specs.Places.{PacketsHavePlaces}
 use Rattle.cell_model.specs.World.{World, Event, Happening, IsFirst, IsRun, first_world, first_seen, seen_of, world_after}
 use Rattle.cell_script.specs.declared.lines.Kind.{Kind}
 use Rattle.cell_script.specs.declared.lines.Line.{Line}
@@ -19,7 +20,10 @@ use Rattle.cell_script.specs.declared.lines.Why.{Why}
 use Rattle.cell_script.specs.Meaning.{line_of}
 use Rattle.cell_runs.specs.declared.limits.TheConstants.{MAX_LINES}
 use Rattle.cell_runs.specs.declared.endings.Ending.{Ending}
-use Rattle.cell_runs.specs.Script.{Choice, LineRead, Opening, Cell, Cell_run, Stage, Line_run, Run_or_why, ScriptEnd, Told, hosts_from, hosts_of, fails_at, first_choice, opened_cell, kind_of_cell, cell_size_of, servers_of, next_line, in_stage, asked, run_in, run_first, run_standing, line_run, meaning_run, or_refused, line_result, first_told, end_text, ended_at, told_with, told_after, told_from, told}
+use Rattle.cell_runs.specs.Script.{Choice, LineRead, Opening, Cell, Cell_run, Stage, Line_run, Run_or_why, ScriptEnd, Told, hosts_from, hosts_of}
+use Rattle.cell_runs.specs.Script.{fails_at, first_choice, opened_cell, kind_of_cell, cell_size_of, servers_of, next_line, in_stage, asked, run_in}
+use Rattle.cell_runs.specs.Script.{run_first, run_standing, line_run, meaning_run, or_refused, line_result, first_told, end_text, ended_at, told_with}
+use Rattle.cell_runs.specs.Script.{told_after, told_from, told}
 use Rattle.cell_runs.specs.ScriptDatabase.{ScriptDatabase, Databases}
 use Rattle.cell_runs.specs.Trace.{TraceItem, Tells, trace, item_text}
 use Rattle.script_laws.specs.Runs.{NamesCalls, database_of, first_of, happenings_of, passes_packets, IsScripted, IsRunOf, IsRunOfCell, ScriptsAreRuns}
@@ -124,7 +128,7 @@ goes_on : (dbs : Databases) (c : Cell) (st : Stage) (r : Run_or_why)
 goes_on dbs c st (Err w) part = tt
 goes_on dbs c st (Ok r) part = record { stage = st; r = r; is = refl; part = part }
 
-module _ (law : VotersVote) (dbs : Databases) (names : NamesCalls dbs) where
+module _ (law : PacketsHavePlaces) (dbs : Databases) (names : NamesCalls dbs) where
   other_line : (st : Stage) (choices : List Choice) (c : Cell) (l : Line) → Fits st.asks c.run.world
       → length c.handed ≡ length c.run.world.packets → IsUsual (cell_size_of c) l
       → IfOk (in_stage st (run_in (dbs (kind_of_cell c)) c choices l)) (GoesOn dbs c)
@@ -231,7 +235,7 @@ trace-append : (script_db : ScriptDatabase) (hosts : List Host) (items more : Li
     → trace script_db hosts (items ++ more) ≡ trace script_db hosts items ++ trace script_db hosts more
 trace-append script_db hosts items more = flat_map-append (item_text script_db hosts) items more
 
-opened_line : VotersVote → (dbs : Databases) (t : Told) (run : Line_run) → t.ended ≡ None → SoFar dbs t None → Opens run
+opened_line : PacketsHavePlaces → (dbs : Databases) (t : Told) (run : Line_run) → t.ended ≡ None → SoFar dbs t None → Opens run
     → SoFar dbs (told_with dbs t (Ok run)) run.stage.cell
 opened_line law dbs t run goes so is =
     subst (λ (x : Line_run). SoFar dbs (told_with dbs t (Ok x)) x.stage.cell) (sym is.is) (record {
@@ -348,7 +352,7 @@ module _ (dbs : Databases) (t : Told) (c : Cell) (stage : Stage) (r : Cell_run) 
 
 -- ---- each line, and all
 
-ran_line : VotersVote → (dbs : Databases) (t : Told) (run : Line_run) (cell : Option Cell) → t.ended ≡ None → SoFar dbs t cell
+ran_line : PacketsHavePlaces → (dbs : Databases) (t : Told) (run : Line_run) (cell : Option Cell) → t.ended ≡ None → SoFar dbs t cell
     → IsLine dbs cell run → SoFar dbs (told_with dbs t (Ok run)) run.stage.cell
 ran_line law dbs t run None goes so (inl is) =
     subst (λ (x : Line_run). SoFar dbs (told_with dbs t (Ok x)) x.stage.cell) (sym is.is)
@@ -360,12 +364,12 @@ ran_line law dbs t run (Some c) goes so is =
     subst (λ (x : Line_run). SoFar dbs (told_with dbs t (Ok x)) x.stage.cell) (sym is.is)
     (so_far_after dbs t c is.stage is.r goes so is.part)
 
-with_line : VotersVote → (dbs : Databases) (t : Told) (o : Result Line_run Ending) → t.ended ≡ None → SoFar dbs t t.stage.cell
+with_line : PacketsHavePlaces → (dbs : Databases) (t : Told) (o : Result Line_run Ending) → t.ended ≡ None → SoFar dbs t t.stage.cell
     → IfOk o (IsLine dbs t.stage.cell) → SoFar dbs (told_with dbs t o) (told_with dbs t o).stage.cell
 with_line law dbs t (Err ending) goes so is = ended_line dbs t ending t.stage.cell goes so
 with_line law dbs t (Ok run) goes so is = ran_line law dbs t run t.stage.cell goes so is
 
-module _ (law : VotersVote) (dbs : Databases) (names : NamesCalls dbs) where
+module _ (law : PacketsHavePlaces) (dbs : Databases) (names : NamesCalls dbs) where
   one_line : (t : Told) (r : LineRead) (ended : Option ScriptEnd) → t.ended ≡ ended → SoFar dbs t t.stage.cell
       → SoFar dbs (told_after dbs t r ended) (told_after dbs t r ended).stage.cell
   one_line t r None goes so =
@@ -381,6 +385,6 @@ run_so_far : (dbs : Databases) (t : Told) (cell : Option Cell) → SoFar dbs t c
 run_so_far dbs t None so = so
 run_so_far dbs t (Some c) so = so.run
 
-pub scripts_are_runs : VotersVote → ScriptsAreRuns
+pub scripts_are_runs : PacketsHavePlaces → ScriptsAreRuns
 scripts_are_runs law dbs names readings =
     run_so_far dbs (told dbs readings) (told dbs readings).stage.cell (from_lines law dbs names first_told readings (refl, refl))

@@ -1,4 +1,4 @@
--- Worlds that scripts lead to: servers take part in votes, packets are of votes, and ids are of so many calls.
+-- Worlds that scripts lead to: servers have their places, packets go from host to host of the cell, and ids are of so many calls.
 use Rattle.std.proofs.Common.{Bool, true, false, not, ◌==◌, ◌&&◌, ◌≡◌, ℕ, zero, suc, ◌<◌, ◌≤◌, List, [], ◌∷◌, length, slice_get, refl, ap, ◌∙◌, arith}
 use Rattle.std.proofs.lemmas.Bool.Decides.{nat_tests}
 use Rattle.std.proofs.lemmas.List.{length-set}
@@ -9,9 +9,9 @@ use Rattle.ubik_types.specs.declared.hosts.Host.{Host}
 use Rattle.cell_model.specs.declared.events.NodeEvent.{NodeEvent}
 use Rattle.cell_model.specs.declared.events.NodeEvent.TheVariants as event
 use Rattle.cell_model.specs.Durable.{no_database}
-use Rattle.cell_model.specs.Node.{Node, Down, Halted, Up, Server}
-use Rattle.cell_model.specs.Voters.{IsVotePacket, IsVoter, VotersVote}
+use Rattle.cell_model.specs.Node.{Node, Down, Halted, Up}
 use Rattle.cell_model.specs.World.{Site, World, SiteHappened, packets_of, happened_at, asked_after, is_new_ask, ticked, tick_at, first_site, first_world}
+use Rattle.cell_places.specs.Places.{IsPhaseOf, IsBetween, PacketsHavePlaces}
 
 -- ---- ids
 
@@ -52,15 +52,11 @@ new_ask asks later ids (event.Ask id call) is fit = not_among asks id ids fit is
 
 -- ---- sites and worlds
 
--- a server that is up takes part in votes; at which place of its cell does not matter
+-- the phase of a server that is up has a place for each server of the cell
 abbrev pub NodeFits : List Host → Node → Type 0
 NodeFits hosts Down = Unit {0}
 NodeFits hosts (Halted h) = Unit {0}
-NodeFits hosts (Up s) = IsVoter (record { hosts = hosts; me = 0 }) s
-
-pub voter_at : (hosts : List Host) (a b : ℕ) (s : Server) → IsVoter (record { hosts = hosts; me = a }) s
-    → IsVoter (record { hosts = hosts; me = b }) s
-voter_at hosts a b s voter = record { phase = voter.phase; flight = voter.flight; waiting = voter.waiting }
+NodeFits hosts (Up s) = IsPhaseOf (length hosts) s.phase
 
 pub record SiteFits (hosts : List Host) (asks : ℕ) (site : Site) : Type 0 where
   pub ids : IdsFit asks site.asked
@@ -69,7 +65,7 @@ pub record SiteFits (hosts : List Host) (asks : ℕ) (site : Site) : Type 0 wher
 pub record Fits (asks : ℕ) (w : World) : Type 0 where
   pub each : length w.sites ≡ length w.hosts
   pub sites : All (SiteFits w.hosts asks) w.sites
-  pub packets : All (IsVotePacket w.hosts) w.packets
+  pub packets : All (IsBetween w.hosts) w.packets
 
 pub site_later : (hosts : List Host) (asks later : ℕ) (site : Site) → asks ≤ later → SiteFits hosts asks site → SiteFits hosts later site
 site_later hosts asks later site more fit = record { ids = more_ids asks later site.asked more fit.ids; node = fit.node }
@@ -95,11 +91,11 @@ site_there asks w k fits inside = element_there (SiteFits w.hosts asks) w.sites 
 
 -- what happens at one server
 pub fits_at : (asks later : ℕ) (w : World) (k : ℕ) (h : SiteHappened) → asks ≤ later → Fits asks w → SiteFits w.hosts later h.site
-    → All (IsVotePacket w.hosts) (packets_of h.shown) → Fits later (happened_at w k h).world
+    → All (IsBetween w.hosts) (packets_of h.shown) → Fits later (happened_at w k h).world
 fits_at asks later w k h more fits site packets = record {
   each = length-set w.sites k h.site ∙ fits.each;
   sites = All-set (SiteFits w.hosts later) w.sites k h.site site (more_fits asks later w more fits).sites;
-  packets = All-append (IsVotePacket w.hosts) w.packets (packets_of h.shown) fits.packets packets;
+  packets = All-append (IsBetween w.hosts) w.packets (packets_of h.shown) fits.packets packets;
 }
 
 -- ---- ticks
@@ -142,17 +138,17 @@ all_ticked_fits asks w seconds fits = record {
 
 -- ---- the first world
 
-first_site_fits : VotersVote → (hosts : List Host) (asks clock : ℕ) (failed : Bool)
+first_site_fits : PacketsHavePlaces → (hosts : List Host) (asks clock : ℕ) (failed : Bool)
     → SiteFits hosts asks (first_site (length hosts) clock failed)
 first_site_fits law hosts asks clock true = record { ids = tt; node = tt }
 first_site_fits law hosts asks clock false =
-    record { ids = tt; node = law.first (record { hosts = hosts; me = 0 }) no_database clock }
+    record { ids = tt; node = law.first (length hosts) no_database clock }
 
 length-first : (n clock : ℕ) (failed : List Bool) → length (map (first_site n clock) failed) ≡ length failed
 length-first n clock [] = refl
 length-first n clock (one ∷ failed) = ap suc (length-first n clock failed)
 
-first_sites_fit : VotersVote → (hosts : List Host) (asks clock : ℕ) (failed : List Bool)
+first_sites_fit : PacketsHavePlaces → (hosts : List Host) (asks clock : ℕ) (failed : List Bool)
     → All (SiteFits hosts asks) (map (first_site (length hosts) clock) failed)
 first_sites_fit law hosts asks clock [] = All-nil (SiteFits hosts asks)
 first_sites_fit law hosts asks clock (one ∷ failed) =
@@ -160,10 +156,10 @@ first_sites_fit law hosts asks clock (one ∷ failed) =
     (first_site_fits law hosts asks clock one)
     (first_sites_fit law hosts asks clock failed)
 
-pub first_fits : VotersVote → (hosts : List Host) (asks clock : ℕ) (failed : List Bool) → length failed ≡ length hosts
+pub first_fits : PacketsHavePlaces → (hosts : List Host) (asks clock : ℕ) (failed : List Bool) → length failed ≡ length hosts
     → Fits asks (first_world hosts clock failed)
 first_fits law hosts asks clock failed each = record {
   each = length-first (length hosts) clock failed ∙ each;
   sites = first_sites_fit law hosts asks clock failed;
-  packets = All-nil (IsVotePacket hosts);
+  packets = All-nil (IsBetween hosts);
 }

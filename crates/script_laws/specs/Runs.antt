@@ -2,7 +2,7 @@
 use Rattle.std.specs.Prelude.{ℕ, ◌≡◌, Bool, true, false, Option, Some, None, IsSome, All, List, [], ◌∷◌, ◌++◌, length}
 use Rattle.db_image.specs.Database.{Database}
 use Rattle.cell_model.specs.Book.{Run, first_run, run_through}
-use Rattle.cell_model.specs.World.{World, Trigger, Asking, Event, Step, Stop, Fault, Happening, IsFirst, IsRun, first_seen, seen_of}
+use Rattle.cell_model.specs.World.{Trigger, Asking, Event, Step, Stop, Fault, Happening, IsFirst, IsRun, first_seen, seen_of}
 use Rattle.cell_script.specs.declared.lines.Kind.{Kind}
 use Rattle.cell_runs.specs.declared.endings.Ending.{Ending}
 use Rattle.cell_runs.specs.declared.endings.Ending.TheVariants.{Limit}

@@ -3,7 +3,7 @@ ghost use Rattle.script_laws.specs.Built.{LinesAreBuilt};
 ghost use Rattle.script_laws.specs.Runs.{ScriptsAreRuns};
 ghost use Rattle.script_laws.specs.Sound.{FaultsHaveServers, SoundFronts, SoundScripts};
 
-use cell_model::law_voters_vote;
+use cell_places::law_packets_have_places;
 
 /// A line that means something is built: it opens no cell of a location database, and lets a server recover only where the cell
 /// has no other.
@@ -17,7 +17,7 @@ pub fn law_lines_are_built()
 pub fn law_scripts_are_runs()
     ensures { ScriptsAreRuns }
 {
-    law_voters_vote();
+    law_packets_have_places();
 }
 
 /// Where no fault of a disk is told, no choice of what disks do matters: the same lines where every disk is sound leave and tell
