@@ -7,7 +7,8 @@ use Rattle.ubik_calls.specs.Length.{packet_length}
 use Rattle.cell_model.specs.declared.events.Output.{Output}
 use Rattle.cell_model.specs.declared.events.Output.TheVariants as output
 use Rattle.cell_model.specs.Step.{Evaluation, Shown}
-use Rattle.cell_model.specs.World.{Happening, Sent, Announced, Replied, Lost, Stops, Halts, Restarts, Stays_down, packet_of, packets_of, seen_of_output, seen_from}
+use Rattle.cell_model.specs.World.{Happening, Sent, Announced, Replied, Lost, Stops, Halts, Restarts, Stays_down, packet_of, packets_of, seen_of_output}
+use Rattle.cell_model.specs.World.{seen_from}
 use Rattle.cell_runs.specs.declared.endings.Ending.{Ending}
 use Rattle.cell_runs.specs.ScriptDatabase.{ScriptDatabase}
 use Rattle.cell_runs.specs.Script.{Within, within, within_more, within_packet, bytes_of, passed_by}
@@ -70,7 +71,8 @@ module _ (script_db : ScriptDatabase) (hosts : List Host) (k : ℕ) where
       (unless_passed t passed (told_of script_db hosts k (with_shown script_db hosts k t (record { output = output.Send p; evaluation = evaluation })) shown))
   sends t p evaluation shown marks (Some ending) is rest =
       let item = Tells (Sent (length t.sent + 1) p) in
-      let e = ap (λ (o : Option Ending). within_packet item o (within (bytes_of t.sent + packet_length p) (seen_from k (length t.sent + 1 + 1) shown ++ marks))) is in
+      let e = ap (λ (o : Option Ending). within_packet item o (within (bytes_of t.sent + packet_length p) (seen_from k (length t.sent + 1 + 1) shown ++ marks)))
+      is in
       record {
         ending = ap (λ (w : Within). w.ending) e;
         whole = λ never. cc;
@@ -99,10 +101,12 @@ module _ (script_db : ScriptDatabase) (hosts : List Host) (k : ℕ) where
       → passed_by (length t.sent + 1) (bytes_of t.sent + packet_length p) ≡ passed
       → Agrees (with_shown script_db hosts k t (record { output = output.Send p; evaluation = evaluation })) shown marks
       (told_of script_db hosts k (with_shown script_db hosts k t (record { output = output.Send p; evaluation = evaluation })) shown)
-      → Agrees t (record { output = output.Send p; evaluation = evaluation } ∷ shown) marks (told_of script_db hosts k t (record { output = output.Send p; evaluation = evaluation } ∷ shown))
+      → Agrees t (record { output = output.Send p; evaluation = evaluation } ∷ shown) marks
+      (told_of script_db hosts k t (record { output = output.Send p; evaluation = evaluation } ∷ shown))
   passes t p evaluation shown marks passed is rest =
       let it : Shown = record { output = output.Send p; evaluation = evaluation } in
-      let P : Option Ending → Type 0 = λ o. Agrees t (it ∷ shown) marks (unless_passed t o (told_of script_db hosts k (with_shown script_db hosts k t it) shown)) in
+      let P : Option Ending → Type 0 = λ o. Agrees t (it ∷ shown) marks
+      (unless_passed t o (told_of script_db hosts k (with_shown script_db hosts k t it) shown)) in
       subst P (sym is) (sends t p evaluation shown marks passed is rest)
 
   pub agrees : (t : Telling) (shown : List Shown) (marks : List Happening) → AreMarks marks → Agrees t shown marks (told_of script_db hosts k t shown)
@@ -116,7 +120,8 @@ module _ (script_db : ScriptDatabase) (hosts : List Host) (k : ℕ) where
       }
   agrees t (one ∷ shown) marks are = by one.output one.evaluation (λ u. agrees u shown marks are)
     where
-      by : (o : Output) (e : Option Evaluation) → ((u : Telling) → Agrees u shown marks (told_of script_db hosts k u shown)) → Agrees t (record { output = o; evaluation = e } ∷ shown) marks (told_of script_db hosts k t (record { output = o; evaluation = e } ∷ shown))
+      by : (o : Output) (e : Option Evaluation) → ((u : Telling) → Agrees u shown marks (told_of script_db hosts k u shown))
+          → Agrees t (record { output = o; evaluation = e } ∷ shown) marks (told_of script_db hosts k t (record { output = o; evaluation = e } ∷ shown))
       by (output.Send p) e rest =
           passes t p e shown marks (passed_by (length t.sent + 1) (bytes_of t.sent + packet_length p)) refl
           (rest (with_shown script_db hosts k t (record { output = output.Send p; evaluation = e })))
@@ -128,15 +133,19 @@ module _ (script_db : ScriptDatabase) (hosts : List Host) (k : ℕ) where
           unsent t it shown marks _ refl refl refl (rest (with_shown script_db hosts k t it))
 
 -- outputs tell no fault
-pub few_faults : (k j bytes number : ℕ) (shown : List Shown) (marks : List Happening) → AreMarks marks → fault_count j (within bytes (seen_from k number shown ++ marks)).items ≤ fault_count j (map Tells marks)
+pub few_faults : (k j bytes number : ℕ) (shown : List Shown) (marks : List Happening) → AreMarks marks
+    → fault_count j (within bytes (seen_from k number shown ++ marks)).items ≤ fault_count j (map Tells marks)
 few_faults k j bytes number [] marks are =
     let e = ap (λ (w : Within). fault_count j w.items) (marks_within bytes marks are) in omega (arith, e)
 few_faults k j bytes number (one ∷ shown) marks are = by one.output one.evaluation (λ b n. few_faults k j b n shown marks are)
   where
-    by : (o : Output) (e : Option Evaluation) → ((b n : ℕ) → fault_count j (within b (seen_from k n shown ++ marks)).items ≤ fault_count j (map Tells marks)) → fault_count j (within bytes (seen_from k number (record { output = o; evaluation = e } ∷ shown) ++ marks)).items ≤ fault_count j (map Tells marks)
+    by : (o : Output) (e : Option Evaluation) → ((b n : ℕ) → fault_count j (within b (seen_from k n shown ++ marks)).items ≤ fault_count j (map Tells marks))
+        → fault_count j (within bytes (seen_from k number (record { output = o; evaluation = e } ∷ shown) ++ marks)).items ≤ fault_count j (map Tells marks)
     by (output.Send p) e rest = passed (passed_by number (bytes + packet_length p))
       where
-        passed : (o : Option Ending) → fault_count j (within_packet (Tells (Sent number p)) o (within (bytes + packet_length p) (seen_from k (number + 1) shown ++ marks))).items ≤ fault_count j (map Tells marks)
+        passed : (o : Option Ending)
+            → fault_count j (within_packet (Tells (Sent number p)) o (within (bytes + packet_length p) (seen_from k (number + 1) shown ++ marks))).items ≤
+            fault_count j (map Tells marks)
         passed (Some ending) = omega arith
         passed None = let r = rest (bytes + packet_length p) (number + 1) in omega (arith, r)
     by (output.Reply id r) e rest = let few = rest bytes number in omega (arith, few)

@@ -1,5 +1,6 @@
 -- Disks that are to stop.
-use Rattle.std.proofs.Common.{if◌then◌else◌, ◌≡◌, ◌⊎◌, inl, inr, ◌<◌, ◌≤◌, ◌+◌, ◌-◌, ℕ, zero, suc, Bool, true, false, Option, Some, None, List, [], ◌∷◌, set, take, refl, sym, ap, subst, ◌∙◌, arith}
+use Rattle.std.proofs.Common.{if◌then◌else◌, ◌≡◌, ◌⊎◌, inl, inr, ◌<◌, ◌≤◌, ◌+◌, ◌-◌, ℕ, zero, suc, Bool, true, false, Option, Some, None, List, [], ◌∷◌, set}
+use Rattle.std.proofs.Common.{take, refl, sym, ap, subst, ◌∙◌, arith}
 use Rattle.std.specs.Prelude.{nat_lt, slice_get}
 use Rattle.std.proofs.lemmas.Bool.{eq-eqb, ne_eqb}
 use Rattle.std.proofs.lemmas.Bool.Decides.{nat_tests}
@@ -37,7 +38,8 @@ pub stops_past : (n left : ℕ) (fill : Fill) → left < n → after_changes n (
 stops_past zero left fill less = absurd (omega arith)
 stops_past (suc n) left fill less = by (nat_lt left n) refl (λ earlier. stops_past n left fill earlier)
   where
-    by : (b : Bool) → nat_lt left n ≡ b → (left < n → after_changes n (ToStop left fill) ≡ Stopped fill) → after_changes (suc n) (ToStop left fill) ≡ Stopped fill
+    by : (b : Bool) → nat_lt left n ≡ b → (left < n → after_changes n (ToStop left fill) ≡ Stopped fill)
+        → after_changes (suc n) (ToStop left fill) ≡ Stopped fill
     by true is before = ap after_change (before (grind (arith, nat_tests)))
     by false is before =
         let same : left ≡ n = grind (arith, nat_tests) in
@@ -70,7 +72,8 @@ AreFew calls = (calls ≡ []) ⊎ ((made : Made) × (calls ≡ made ∷ []))
 -- ---- which disk stops in a step
 
 -- a disk that a step does not stop is counted on
-pub counts_on : (armed : Option Armed) (before : DiskStop) (calls : ℕ) → StopsAs armed before → (IsStopped (after_changes calls before) → ⊥) → StopsAs (counted_on calls armed) (after_changes calls before)
+pub counts_on : (armed : Option Armed) (before : DiskStop) (calls : ℕ) → StopsAs armed before → (IsStopped (after_changes calls before) → ⊥)
+    → StopsAs (counted_on calls armed) (after_changes calls before)
 counts_on None before calls stops runs = ap (after_changes calls) stops ∙ never_stops calls
 counts_on (Some armed) before calls stops runs =
     let fill = stops.1.0 in
@@ -83,7 +86,8 @@ counts_on (Some armed) before calls stops runs =
     )
 
 -- it is not to stop in it
-pub none_stops : (v : Version) (calls : List Made) (armed : Option Armed) (before : DiskStop) → AreFew calls → StopsAs armed before → (IsStopped (after_changes (calls_on_all v calls) before) → ⊥) → stops_in v calls armed ≡ None
+pub none_stops : (v : Version) (calls : List Made) (armed : Option Armed) (before : DiskStop) → AreFew calls → StopsAs armed before
+    → (IsStopped (after_changes (calls_on_all v calls) before) → ⊥) → stops_in v calls armed ≡ None
 none_stops v calls None before few stops runs = refl
 none_stops v calls (Some armed) before few stops runs = by few
   where
@@ -105,8 +109,10 @@ none_stops v calls (Some armed) before few stops runs = by few
 
 -- the durable call in which it stops
 pub whole_before : (v : Version) (calls : List Made) (armed : Option Armed) (before : DiskStop) (whole rise : ℕ) → AreFew calls → StopsAs armed before
-    → (IsStopped (after_changes (calls_on_all v (take whole calls)) before) → ⊥) → IsStopped (after_changes rise before) → rise ≤ calls_on_all v (take (whole + 1) calls) → stops_in v calls armed ≡ Some whole
-whole_before v calls None before whole rise few stops runs stopped most = absurd (unarmed_runs rise (subst (λ (s : DiskStop). IsStopped (after_changes rise s)) stops stopped))
+    → (IsStopped (after_changes (calls_on_all v (take whole calls)) before) → ⊥) → IsStopped (after_changes rise before)
+    → rise ≤ calls_on_all v (take (whole + 1) calls) → stops_in v calls armed ≡ Some whole
+whole_before v calls None before whole rise few stops runs stopped most =
+    absurd (unarmed_runs rise (subst (λ (s : DiskStop). IsStopped (after_changes rise s)) stops stopped))
 whole_before v calls (Some armed) before whole rise few stops runs stopped most = by few whole low high
   where
     left : ℕ
@@ -135,7 +141,8 @@ whole_before v calls (Some armed) before whole rise few stops runs stopped most 
         ∙ ap (λ (b : Bool). if b then Some 0 else one_more (calls_before_stop (version_after made.call) (left - calls_on v made) [])) first
     by (inr (made, one)) (suc w) few_made more =
         let all : calls_on_all v (take (suc w) calls) ≡ calls_on_all v (take (suc w + 1) calls) =
-        ap (λ (l : List Made). calls_on_all v (take (suc w) l)) one ∙ takes w ∙ sym (takes_more w) ∙ sym (ap (λ (l : List Made). calls_on_all v (take (suc w + 1) l)) one) in
+        ap (λ (l : List Made). calls_on_all v (take (suc w) l)) one ∙ takes w ∙ sym (takes_more w)
+        ∙ sym (ap (λ (l : List Made). calls_on_all v (take (suc w + 1) l)) one) in
         absurd (omega (arith, all, few_made, more))
       where
         takes : (n : ℕ) → calls_on_all v (take (suc n) (made ∷ [])) ≡ calls_on v made + 0
@@ -148,7 +155,8 @@ whole_before v calls (Some armed) before whole rise few stops runs stopped most 
 -- ---- the disks of a cell
 
 module _ {D V : Type 0} (g : Ghosts D) where
-  pub armed_here : (sites : List (Site D V)) (armed : List (Option Armed)) (k : ℕ) (site : Site D V) → AreArmed g sites armed → slice_get sites k ≡ Some site → IsArmedAs (server_node site.server) (armed_at armed k) (g.stop (site_disk site))
+  pub armed_here : (sites : List (Site D V)) (armed : List (Option Armed)) (k : ℕ) (site : Site D V) → AreArmed g sites armed → slice_get sites k ≡ Some site
+      → IsArmedAs (server_node site.server) (armed_at armed k) (g.stop (site_disk site))
   armed_here [] armed k site are there = cc
   armed_here (x ∷ sites) [] k site are there = absurd are
   armed_here (x ∷ sites) (a ∷ armed) zero site are there =
@@ -156,7 +164,8 @@ module _ {D V : Type 0} (g : Ghosts D) where
   armed_here (x ∷ sites) (a ∷ armed) (suc k) site are there = armed_here sites armed k site are.1 there
 
   -- another server, and another stop of its disk
-  pub armed_set : (sites : List (Site D V)) (armed : List (Option Armed)) (k : ℕ) (later : Site D V) (stop : Option Armed) → AreArmed g sites armed → IsArmedAs (server_node later.server) stop (g.stop (site_disk later)) → AreArmed g (set sites k later) (set armed k stop)
+  pub armed_set : (sites : List (Site D V)) (armed : List (Option Armed)) (k : ℕ) (later : Site D V) (stop : Option Armed) → AreArmed g sites armed
+      → IsArmedAs (server_node later.server) stop (g.stop (site_disk later)) → AreArmed g (set sites k later) (set armed k stop)
   armed_set [] [] k later stop are is = tt
   armed_set [] (a ∷ armed) k later stop are is = absurd are
   armed_set (x ∷ sites) [] k later stop are is = absurd are
@@ -164,7 +173,8 @@ module _ {D V : Type 0} (g : Ghosts D) where
   armed_set (x ∷ sites) (a ∷ armed) (suc k) later stop are is = (are.0, armed_set sites armed k later stop are.1 is)
 
   -- another server alone
-  pub armed_still : (sites : List (Site D V)) (armed : List (Option Armed)) (k : ℕ) (later : Site D V) → AreArmed g sites armed → IsArmedAs (server_node later.server) (armed_at armed k) (g.stop (site_disk later)) → AreArmed g (set sites k later) armed
+  pub armed_still : (sites : List (Site D V)) (armed : List (Option Armed)) (k : ℕ) (later : Site D V) → AreArmed g sites armed
+      → IsArmedAs (server_node later.server) (armed_at armed k) (g.stop (site_disk later)) → AreArmed g (set sites k later) armed
   armed_still [] [] k later are is = tt
   armed_still [] (a ∷ armed) k later are is = absurd are
   armed_still (x ∷ sites) [] k later are is = absurd are

@@ -1,5 +1,6 @@
 -- The disks of a cell hold its run after one more event.
-use Rattle.std.proofs.Common.{if◌then◌else◌, ◌≡◌, ◌≢◌, inl, ◌≤◌, ◌+◌, ℕ, zero, suc, Bool, true, false, Option, Some, None, List, [], ◌∷◌, ◌++◌, length, take, sum, refl, sym, ap, subst, ◌∙◌, arith}
+use Rattle.std.proofs.Common.{if◌then◌else◌, ◌≡◌, ◌≢◌, inl, ◌≤◌, ◌+◌, ℕ, zero, suc, Bool, true, false, Option, Some, None, List, [], ◌∷◌, ◌++◌, length, take}
+use Rattle.std.proofs.Common.{sum, refl, sym, ap, subst, ◌∙◌, arith}
 use Rattle.std.specs.Prelude.{fold}
 use Rattle.std.proofs.lemmas.Bool.{eq-eqb, ne_eqb}
 use Rattle.db_image.specs.Database.{Database}
@@ -7,7 +8,9 @@ use Rattle.ubik_types.specs.declared.hosts.Host.{Host}
 use Rattle.ubik_types.specs.declared.versions.Version.{Version}
 use Rattle.cell_model.specs.declared.events.NodeEvent.{NodeEvent}
 use Rattle.cell_model.specs.Durable.{Made, version_after}
-use Rattle.cell_model.specs.World.{Site as ModelSite, World, Event, Tick, Tick_all, Step, Stop, Fault, Crash, Restart, SiteHappened, calls_on, entries_from, first_world, happens, happens_at, member, site_of, step_at, stop_at, fault_at, crash_at, restart_at, triggered, occasion, world_after}
+use Rattle.cell_model.specs.World.{Site as ModelSite, World, Event, Tick, Tick_all, Step, Stop, Fault, Crash, Restart, SiteHappened, calls_on, entries_from}
+use Rattle.cell_model.specs.World.{first_world, happens, happens_at, member, site_of, step_at, stop_at, fault_at, crash_at, restart_at, triggered, occasion}
+use Rattle.cell_model.specs.World.{world_after}
 use Rattle.cell_runs.specs.Script.{Cell, Opening, calls_on_all, first_of}
 use Rattle.cell_sites.specs.Counts.{AreCountsFrom, HoldRun, IsCountOf, IsCutShort, IsRiseIn, IsRiseOver, IsSurplus, calls_of}
 use Rattle.cell_sites.specs.Disks.{AreReadBy, Held}
@@ -31,11 +34,13 @@ hosts_stay db w (Fault trigger short made) = triggered_hosts w (λ m e site. fau
 hosts_stay db w (Crash server) = at_hosts w server crash_at (site_of w server)
 hosts_stay db w (Restart server failed) = at_hosts w server (restart_at (length w.hosts) server failed) (site_of w server)
 
-world_more : (db : Database) (w : World) (events : List Event) (e : Event) → world_after db w (events ++ e ∷ []) ≡ (happens db (world_after db w events) e).world
+world_more : (db : Database) (w : World) (events : List Event) (e : Event)
+    → world_after db w (events ++ e ∷ []) ≡ (happens db (world_after db w events) e).world
 world_more db w [] e = refl
 world_more db w (x ∷ events) e = world_more db (happens db w x).world events e
 
-rise_more : (db : Database) (w : World) (events : List Event) (e : Event) (k rise more : ℕ) → IsRiseOver db w events k rise → IsRiseIn db (world_after db w events) e k more → IsRiseOver db w (events ++ e ∷ []) k (rise + more)
+rise_more : (db : Database) (w : World) (events : List Event) (e : Event) (k rise more : ℕ) → IsRiseOver db w events k rise
+    → IsRiseIn db (world_after db w events) e k more → IsRiseOver db w (events ++ e ∷ []) k (rise + more)
 rise_more db w [] e k rise more over last = (more, 0, last, refl, omega (arith, over))
 rise_more db w (x ∷ events) e k rise more over last =
     let rest = rise_more db (happens db w x).world events e k over.1 more over.3 last in
@@ -54,7 +59,8 @@ pub moved_same : (R : ℕ → Held → Held → Type 0) (k : ℕ) (xs : List Hel
 moved_same R k [] each = tt
 moved_same R k (x ∷ xs) each = (each k x, moved_same R (k + 1) xs each)
 
-pub moved_as : (R S : ℕ → Held → Held → Type 0) (k : ℕ) (xs ys : List Held) → ((j : ℕ) (x y : Held) → R j x y → S j x y) → AreMoved R k xs ys → AreMoved S k xs ys
+pub moved_as : (R S : ℕ → Held → Held → Type 0) (k : ℕ) (xs ys : List Held) → ((j : ℕ) (x y : Held) → R j x y → S j x y) → AreMoved R k xs ys
+    → AreMoved S k xs ys
 moved_as R S k [] [] goes moved = tt
 moved_as R S k [] (y ∷ ys) goes moved = absurd moved
 moved_as R S k (x ∷ xs) [] goes moved = absurd moved
@@ -64,7 +70,8 @@ moved_as R S k (x ∷ xs) (y ∷ ys) goes moved = (goes k x y moved.0, moved_as 
 abbrev CountGoes : Database → (c d : Cell) → (short later : Bool) → ℕ → Held → Held → Type 0
 CountGoes db c d short later k x y = (failed : Bool) (before : ℕ) → IsCountOf db c short k failed before x.steps → IsCountOf db d later k failed before y.steps
 
-counts_moved : (db : Database) (c d : Cell) (short later : Bool) (k : ℕ) (failed : List Bool) (given : List ℕ) (xs ys : List Held) → AreMoved (CountGoes db c d short later) k xs ys → AreCountsFrom db c short k failed given xs → AreCountsFrom db d later k failed given ys
+counts_moved : (db : Database) (c d : Cell) (short later : Bool) (k : ℕ) (failed : List Bool) (given : List ℕ) (xs ys : List Held)
+    → AreMoved (CountGoes db c d short later) k xs ys → AreCountsFrom db c short k failed given xs → AreCountsFrom db d later k failed given ys
 counts_moved db c d short later k [] [] [] [] moved counts = tt
 counts_moved db c d short later k [] [] [] (y ∷ ys) moved counts = absurd moved
 counts_moved db c d short later k [] [] (x ∷ xs) ys moved counts = absurd counts
@@ -107,7 +114,8 @@ module _ (db : Database) (c d : Cell) (given : List ℕ) where
           opening = counted.opening;
           opens = counted.opens;
           rise = counted.rise + more;
-          rises = subst (λ (w : World). IsRiseOver db w d.events k (counted.rise + more)) (sym first) (subst (λ (l : List Event). IsRiseOver db (first_of c) l k (counted.rise + more)) (sym goes.events) rises);
+          rises = subst (λ (w : World). IsRiseOver db w d.events k (counted.rise + more)) (sym first)
+              (subst (λ (l : List Event). IsRiseOver db (first_of c) l k (counted.rise + more)) (sym goes.events) rises);
           surplus = 0;
           over = refl;
           is = let was = counted.is in let none = counted.over in omega (arith, is, was, none);
@@ -142,7 +150,9 @@ module _ (db : Database) (c d : Cell) (given : List ℕ) where
 
     -- a count that goes on by this surplus
     abbrev pub Adds : ℕ → Held → Held → Type 0
-    Adds k x y = (surplus : ℕ) × ((was : ℕ) → IsSurplus short (site_of c.run.world k) was → IsSurplus later (site_of c.run.world k) (was + surplus)) × (y.steps ≡ x.steps + surplus)
+    Adds k x y =
+        (surplus : ℕ) × ((was : ℕ) → IsSurplus short (site_of c.run.world k) was → IsSurplus later (site_of c.run.world k) (was + surplus)) ×
+        (y.steps ≡ x.steps + surplus)
 
     added : (k : ℕ) (x y : Held) → Adds k x y → CountGoes db c d short later k x y
     added k x y (surplus, over, is) = λ failed before counted.
@@ -150,7 +160,8 @@ module _ (db : Database) (c d : Cell) (given : List ℕ) where
           opening = counted.opening;
           opens = counted.opens;
           rise = counted.rise;
-          rises = subst (λ (w : World). IsRiseOver db w d.events k counted.rise) (sym still) (subst (λ (l : List Event). IsRiseOver db (first_of c) l k counted.rise) (sym events_still) counted.rises);
+          rises = subst (λ (w : World). IsRiseOver db w d.events k counted.rise) (sym still)
+              (subst (λ (l : List Event). IsRiseOver db (first_of c) l k counted.rise) (sym events_still) counted.rises);
           surplus = counted.surplus + surplus;
           over = subst (λ (w : World). IsSurplus later (site_of w k) (counted.surplus + surplus)) (sym same.world) (over counted.surplus counted.over);
           is = let was = counted.is in omega (arith, is, was);
@@ -188,16 +199,19 @@ pub same_run : {db : Database} (c d : Cell) → d.opening ≡ c.opening → d.ev
 same_run c d opening events world = record { opening = opening; events = events ∙ sym (no_events c.events); world = world }
 
 -- another cell with the same run
-pub hold_as : (db : Database) (c d : Cell) (given : List ℕ) (short : Bool) (xs : List Held) → GoesOn db c d [] → HoldRun db given short c xs → HoldRun db given short d xs
+pub hold_as : (db : Database) (c d : Cell) (given : List ℕ) (short : Bool) (xs : List Held) → GoesOn db c d [] → HoldRun db given short c xs
+    → HoldRun db given short d xs
 hold_as db c d given short xs same hold =
     hold_added db c d given same short short xs xs hold (subst (λ (w : World). AreReadBy w.sites xs) (sym same.world) hold.read)
     (moved_same _ 0 xs (λ j x. (0, (λ was is. nothing_added (site_of c.run.world j) short was is), omega arith)))
 
 -- the same disks as far as a run holds them
-pub hold_still : (db : Database) (c : Cell) (given : List ℕ) (xs ys : List Held) → AreReadBy c.run.world.sites ys → AreMoved (λ k x y. y.steps ≡ x.steps) 0 xs ys → HoldRun db given false c xs → HoldRun db given false c ys
+pub hold_still : (db : Database) (c : Cell) (given : List ℕ) (xs ys : List Held) → AreReadBy c.run.world.sites ys
+    → AreMoved (λ k x y. y.steps ≡ x.steps) 0 xs ys → HoldRun db given false c xs → HoldRun db given false c ys
 hold_still db c given xs ys read moved hold =
     hold_added db c c given (same_run c c refl refl refl) false false xs ys hold read
-    (moved_as (λ k x y. y.steps ≡ x.steps) _ 0 xs ys (λ j x y is. (0, (λ was over. nothing_added (site_of c.run.world j) false was over), omega (arith, is))) moved)
+    (moved_as (λ k x y. y.steps ≡ x.steps) _ 0 xs ys (λ j x y is. (0, (λ was over. nothing_added (site_of c.run.world j) false was over), omega (arith, is)))
+    moved)
 
 pub hold_short : (db : Database) (c : Cell) (given : List ℕ) (xs : List Held) → HoldRun db given false c xs → HoldRun db given true c xs
 hold_short db c given xs hold =
@@ -234,7 +248,8 @@ sum_cons x xs = let one = sum_from (0 + x) xs in omega (arith, one)
 
 pub sum_on : (v : Version) (calls : List Made) → sum (each_on v calls) ≡ calls_on_all v calls
 sum_on v [] = refl
-sum_on v (made ∷ calls) = sum_cons (calls_on v made) (each_on (version_after made.call) calls) ∙ ap (λ (n : ℕ). calls_on v made + n) (sum_on (version_after made.call) calls)
+sum_on v (made ∷ calls) =
+    sum_cons (calls_on v made) (each_on (version_after made.call) calls) ∙ ap (λ (n : ℕ). calls_on v made + n) (sum_on (version_after made.call) calls)
 
 -- a server that made none
 pub none_cut : (calls : List ℕ) (made : ℕ) → calls ≡ [] → IsCutShort calls made 0

@@ -1,5 +1,6 @@
 -- Packets that are handed over or dropped in a running cell.
-use Rattle.std.proofs.Common.{sum, ◌≡◌, inl, inr, ◌<◌, ◌-◌, ℕ, zero, suc, Bool, true, false, Option, Some, None, Ok, List, [], ◌∷◌, ◌++◌, set, refl, sym, ap, subst, ◌∙◌, arith}
+use Rattle.std.proofs.Common.{sum, ◌≡◌, inl, inr, ◌<◌, ◌-◌, ℕ, zero, suc, Bool, true, false, Option, Some, None, Ok, List, [], ◌∷◌, ◌++◌, set, refl, sym, ap}
+use Rattle.std.proofs.Common.{subst, ◌∙◌, arith}
 use Rattle.std.specs.Prelude.{All, slice_get}
 use Rattle.std.specs.Option.{option_and_then, option_map}
 use Rattle.std.proofs.lemmas.List.{append-nil}
@@ -12,7 +13,8 @@ use Rattle.ubik_calls.specs.declared.packets.Packet.{Packet}
 use Rattle.cell_model.specs.declared.events.NodeEvent.TheVariants as event
 use Rattle.cell_model.specs.NodeRule.{place_of}
 use Rattle.cell_model.specs.Voters.{IsVotePacket}
-use Rattle.cell_model.specs.World.{Site as ModelSite, World, Delivery, Step, Lost, Happened, SiteHappened, happened_at, occasion, only_marks, lost_at, packet_numbered}
+use Rattle.cell_model.specs.World.{Site as ModelSite, World, Delivery, Step, Lost, Happened, SiteHappened, happened_at, occasion, only_marks, lost_at}
+use Rattle.cell_model.specs.World.{packet_numbered}
 use Rattle.cell_model.specs.World as world
 use Rattle.cell_runs.specs.declared.endings.Ending.{Ending}
 use Rattle.cell_runs.specs.ScriptDatabase.{ScriptDatabase}
@@ -43,7 +45,9 @@ with_packets running p = record running { packets = p }
 abbrev pub with_handed : Cell → List Bool → Cell
 with_handed c handed = record c { handed = handed }
 
-pub stands_with : {D V : Type 0} {gs : Ghosts D} {database : Database} {given : List ℕ} (running : OpenCell D V) (c : Cell) (p : Traffic) (handed : List Bool) → IsModelledBy gs database given running c → p.sent ≡ running.packets.sent → handed ≡ p.handed → IsModelledBy gs database given (with_packets running p) (with_handed c handed)
+pub stands_with : {D V : Type 0} {gs : Ghosts D} {database : Database} {given : List ℕ} (running : OpenCell D V) (c : Cell) (p : Traffic) (handed : List Bool)
+    → IsModelledBy gs database given running c → p.sent ≡ running.packets.sent → handed ≡ p.handed
+    → IsModelledBy gs database given (with_packets running p) (with_handed c handed)
 stands_with running c p handed stands sent is =
     record {
       hosts = stands.hosts;
@@ -54,7 +58,8 @@ stands_with running c p handed stands sent is =
       disks = hold_as _ c (with_handed c handed) _ false _ (same_run c (with_handed c handed) refl refl refl) stands.disks;
     }
 
-pub sound_with : {D V : Type 0} {standing : Standing} (g : Ghosts D) (bound : ℕ) (running : OpenCell D V) (p : Traffic) → IsSound g standing bound running → p.sent ≡ running.packets.sent → IsSound g standing bound (with_packets running p)
+pub sound_with : {D V : Type 0} {standing : Standing} (g : Ghosts D) (bound : ℕ) (running : OpenCell D V) (p : Traffic) → IsSound g standing bound running
+    → p.sent ≡ running.packets.sent → IsSound g standing bound (with_packets running p)
 sound_with g bound running p sound sent =
     record {
       some = sound.some;
@@ -67,13 +72,19 @@ sound_with g bound running p sound sent =
     }
 
 -- what is told of the cell with other packets is told of the cell
-pub told_before : {D V : Type 0} {given : List ℕ} (g : Ghosts D) (script_db : ScriptDatabase) (running after : OpenCell D V) (p : Traffic) (run : List Choice → Run_or_why) (ended : Option Ending) (tb ta : List ℕ) → CellTold g script_db given run ended (with_packets running p) after tb ta → CellTold g script_db given run ended running after tb ta
+pub told_before : {D V : Type 0} {given : List ℕ} (g : Ghosts D) (script_db : ScriptDatabase) (running after : OpenCell D V) (p : Traffic) (run : List Choice
+    → Run_or_why) (ended : Option Ending) (tb ta : List ℕ) → CellTold g script_db given run ended (with_packets running p) after tb ta
+    → CellTold g script_db given run ended running after tb ta
 told_before g script_db running after p run ended tb ta told =
     record { choices = told.choices; ran = told.ran; is = told.is; ends = told.ends; cell = told.cell; told = told.told; causes = told.causes }
 
-pub short_before : {D V : Type 0} {database : Database} {given : List ℕ} (g : Ghosts D) (running after : OpenCell D V) (p : Traffic) (run : List Choice → Run_or_why) (c : Cell) (handed : List Bool) → IsShort g database given run (with_handed c handed) (with_packets running p) after → IsShort g database given run c running after
-short_before g running after p run c handed (inl hold) = inl (hold_as _ (with_handed c handed) c _ true _ (same_run (with_handed c handed) c refl refl refl) hold)
-short_before g running after p run c handed (inr later) = inr (record { choices = later.choices; ran = later.ran; is = later.is; disks = later.disks; causes = later.causes })
+pub short_before : {D V : Type 0} {database : Database} {given : List ℕ} (g : Ghosts D) (running after : OpenCell D V) (p : Traffic) (run : List Choice
+    → Run_or_why) (c : Cell) (handed : List Bool) → IsShort g database given run (with_handed c handed) (with_packets running p) after
+    → IsShort g database given run c running after
+short_before g running after p run c handed (inl hold) =
+    inl (hold_as _ (with_handed c handed) c _ true _ (same_run (with_handed c handed) c refl refl refl) hold)
+short_before g running after p run c handed (inr later) =
+    inr (record { choices = later.choices; ran = later.ran; is = later.is; disks = later.disks; causes = later.causes })
 
 -- ---- where a packet goes
 
@@ -81,7 +92,8 @@ pub numbered : (w : World) (number : ℕ) (p : Packet) → 0 < number → slice_
 numbered w zero p some there = absurd (omega arith)
 numbered w (suc n) p some there = let e : suc n - 1 ≡ n = omega arith in sym (ap (slice_get w.packets) e) ∙ there
 
-pub occasion_of : (w : World) (number k : ℕ) (p : Packet) → packet_numbered w number ≡ Some p → place_of w.hosts p.to ≡ Some k → occasion w (Delivery number) ≡ Some (k, event.Packet p)
+pub occasion_of : (w : World) (number k : ℕ) (p : Packet) → packet_numbered w number ≡ Some p → place_of w.hosts p.to ≡ Some k
+    → occasion w (Delivery number) ≡ Some (k, event.Packet p)
 occasion_of w number k p there place =
     ap (λ (o : Option Packet). option_and_then (world.delivered w.hosts) o) there
     ∙ ap (λ (o : Option ℕ). option_map (λ (j : ℕ). (j, event.Packet p)) o) place
@@ -96,8 +108,10 @@ set_same {X} (y ∷ xs) (suc k) x there = ap (λ (l : List X). y ∷ l) (set_sam
 
 -- ---- a server that is down loses the packet
 
-pub lost : {D V : Type 0} {given : List ℕ} (g : Ghosts D) (script_db : ScriptDatabase) (running : OpenCell D V) (c : Cell) (number k : ℕ) (p : Packet) (text_before text_after : List ℕ) → IsModelledBy g script_db.database given running c → (down : IsDownAt running k)
-    → occasion c.run.world (Delivery number) ≡ Some (k, event.Packet p) → text_after ≡ text_before ++ item_text script_db running.hosts.items (Tells (Lost number))
+pub lost : {D V : Type 0} {given : List ℕ} (g : Ghosts D) (script_db : ScriptDatabase) (running : OpenCell D V) (c : Cell) (number k : ℕ) (p : Packet)
+    (text_before text_after : List ℕ) → IsModelledBy g script_db.database given running c → (down : IsDownAt running k)
+    → occasion c.run.world (Delivery number) ≡ Some (k, event.Packet p)
+    → text_after ≡ text_before ++ item_text script_db running.hosts.items (Tells (Lost number))
     → CellTold g script_db given (λ choices. Ok (stepped script_db c (first_choice choices) (Delivery number))) None running running text_before text_after
 lost {D} {V} {given} g script_db running c number k p tb ta stands down o told =
     let site : Site D V = record { clock = down.clock; server = Down down.disk } in
@@ -107,10 +121,13 @@ lost {D} {V} {given} g script_db running c number k p tb ta stands down o told =
     let here = armed_here g running.sites.items c.armed k site stands.armed down.there in
     let same : running.sites.items ≡ set running.sites.items k site = sym (set_same running.sites.items k site down.there) in
     let happened_so = down_happens script_db.database c.run.world (Delivery number) k (event.Packet p) m.s o m.there m.is.node in
-    let goes : GoesOn script_db.database c (cell_after (with_armed c armed) (Step (Delivery number) []) (happened_at c.run.world k h)) (Step (Delivery number) [] ∷ []) =
+    let goes : GoesOn script_db.database c (cell_after (with_armed c armed) (Step (Delivery number) []) (happened_at c.run.world k h))
+    (Step (Delivery number) [] ∷ []) =
     record { opening = refl; events = refl; world = ap (λ (x : Happened). x.world) (sym happened_so) } in
-    whole g script_db given running running c stands k (Step (Delivery number) []) h armed (λ choices. Ok (stepped script_db c (first_choice choices) (Delivery number))) []
-    (ap Ok (stepped_down script_db c (Delivery number) k (event.Packet p) m.s o m.there m.is.node ∙ ap (happened (with_armed c armed) (Step (Delivery number) [])) happened_so))
+    whole g script_db given running running c stands k (Step (Delivery number) []) h armed
+    (λ choices. Ok (stepped script_db c (first_choice choices) (Delivery number))) []
+    (ap Ok (stepped_down script_db c (Delivery number) k (event.Packet p) m.s o m.there m.is.node
+    ∙ ap (happened (with_armed c armed) (Step (Delivery number) [])) happened_so))
     tt site site down.there same (omega arith) (λ j other. refl)
     tb tb ta refl
     (told ∙ ap (λ (l : List ℕ). tb ++ l) (sym (append-nil (item_text script_db running.hosts.items (Tells (Lost number))))))
@@ -120,18 +137,22 @@ lost {D} {V} {given} g script_db running c number k p tb ta stands down o told =
     m.is
     (subst (λ (l : List (Site D V)). AreArmed g l armed) (sym same)
     (armed_set g running.sites.items c.armed k site (counted_on 0 (armed_at c.armed k)) stands.armed (ap (counted_on 0) here.0, here.1)))
-    (hold_more script_db.database c (cell_after (with_armed c armed) (Step (Delivery number) []) (happened_at c.run.world k h)) given (Step (Delivery number) []) goes (helds g running) (helds g running) stands.disks
+    (hold_more script_db.database c (cell_after (with_armed c armed) (Step (Delivery number) []) (happened_at c.run.world k h)) given
+    (Step (Delivery number) []) goes (helds g running) (helds g running) stands.disks
     (subst (λ (l : List ModelSite). AreReadBy l (helds g running)) (sym (set_same c.run.world.sites k m.s m.there)) stands.disks.read)
     (moved_same _ 0 (helds g running) (λ j x. (0, sym (ap (λ (y : Happened). sum (calls_of j y.entries)) happened_so), omega arith))))
 
 -- ---- a packet that was sent
 
 -- the cell from which a packet is handed over, and where it goes
-pub record HandedOver {D V : Type 0} (g : Ghosts D) (database : Database) (given : List ℕ) (running : OpenCell D V) (c : Cell) (p : Traffic) (number k : ℕ) (packet : Packet) : Type 0 where
+pub record HandedOver {D V : Type 0} (g : Ghosts D) (database : Database) (given : List ℕ) (running : OpenCell D V) (c : Cell) (p : Traffic) (number k : ℕ)
+    (packet : Packet) : Type 0 where
   pub stands : IsModelledBy g database given (with_packets running p) (with_handed c (set c.handed (number - 1) true))
   pub goes : occasion c.run.world (Delivery number) ≡ Some (k, event.Packet packet)
 
-pub handed_cell : {D V : Type 0} {gs : Ghosts D} {database : Database} {given : List ℕ} (running : OpenCell D V) (c : Cell) (p : Traffic) (number k : ℕ) (packet sent : Packet) → IsModelledBy gs database given running c → p ≡ handed_over running.packets number → 0 < number → slice_get p.sent (number - 1) ≡ Some sent → packet ≡ sent → place_of running.hosts.items packet.to ≡ Some k
+pub handed_cell : {D V : Type 0} {gs : Ghosts D} {database : Database} {given : List ℕ} (running : OpenCell D V) (c : Cell) (p : Traffic) (number k : ℕ)
+    (packet sent : Packet) → IsModelledBy gs database given running c → p ≡ handed_over running.packets number → 0 < number → slice_get p.sent (number - 1) ≡
+    Some sent → packet ≡ sent → place_of running.hosts.items packet.to ≡ Some k
     → HandedOver gs database given running c p number k packet
 handed_cell running c p number k packet sent stands is some there same place =
     record {

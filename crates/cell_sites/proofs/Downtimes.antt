@@ -1,5 +1,6 @@
 -- Servers that stop, go down, and come back.
-use Rattle.std.proofs.Common.{if◌then◌else◌, ◌≡◌, ◌≢◌, inl, inr, ◌<◌, ◌≤◌, ◌+◌, ℕ, Bool, true, false, Option, Some, None, IsSome, IsSomeAnd, Result, Ok, Err, List, [], ◌∷◌, ◌++◌, length, map, set, refl, sym, ap, subst, ◌∙◌, arith}
+use Rattle.std.proofs.Common.{if◌then◌else◌, ◌≡◌, ◌≢◌, inl, inr, ◌<◌, ◌≤◌, ◌+◌, ℕ, Bool, true, false, Option, Some, None, IsSome, IsSomeAnd, Result, Ok, Err}
+use Rattle.std.proofs.Common.{List, [], ◌∷◌, ◌++◌, length, map, set, refl, sym, ap, subst, ◌∙◌, arith}
 use Rattle.std.specs.Prelude.{OnOk, slice_get}
 use Rattle.std.proofs.lemmas.Bool.{eq-eqb, ne_eqb}
 use Rattle.std.proofs.lemmas.List.{append-nil, length-set}
@@ -18,7 +19,8 @@ use Rattle.cell_model.specs.Durable.{Durable}
 use Rattle.cell_model.specs.Node as model
 use Rattle.cell_model.specs.Step.{Member, Shown}
 use Rattle.cell_model.specs.Voters.{IsVoter}
-use Rattle.cell_model.specs.World.{Site as ModelSite, Crash, Restart, Restarts, Stays_down, Happened, SiteHappened, crash_at, happened_at, happens, happens_at, packets_of, restart_at, site_of}
+use Rattle.cell_model.specs.World.{Site as ModelSite, Crash, Restart, Restarts, Stays_down, Happened, SiteHappened, crash_at, happened_at, happens, happens_at}
+use Rattle.cell_model.specs.World.{packets_of, restart_at, site_of}
 use Rattle.cell_runs.specs.ScriptDatabase.{ScriptDatabase}
 use Rattle.cell_runs.specs.Script.{Armed, Cell, Choice, Run_or_why, armed_at, cell_after, first_choice, happened, resting, with_event}
 use Rattle.cell_runs.specs.Trace.{Tells, fault_count, trace}
@@ -49,7 +51,6 @@ use Rattle.cell_sites.proofs.AtPlace.{IsSiteAt, site_at, sites_set}
 use Rattle.cell_sites.proofs.Counting.{hold_added, hold_as, hold_more, hold_still, no_surplus, same_run}
 use Rattle.cell_sites.proofs.Delivering.{set_same}
 use Rattle.cell_sites.proofs.Happening.{with_armed}
-use Rattle.cell_sites.proofs.Nodes.{node_votes}
 use Rattle.cell_sites.proofs.Plainly.{and_some, make_if, make_some, of_some, some_of}
 use Rattle.cell_sites.proofs.Reading.{read_at}
 use Rattle.cell_sites.proofs.Running.{held_at, moved_set, reads_both, reads_set, rises_set, short_after, whole}
@@ -66,7 +67,8 @@ zero_add n = omega arith
 
 -- ---- another server at a place
 
-module _ {D V : Type 0} (g : Ghosts D) (running after : OpenCell D V) (k : ℕ) (site later : Site D V) (there : slice_get running.sites.items k ≡ Some site) (sites : after.sites.items ≡ set running.sites.items k later) where
+module _ {D V : Type 0} (g : Ghosts D) (running after : OpenCell D V) (k : ℕ) (site later : Site D V) (there : slice_get running.sites.items k ≡ Some site)
+    (sites : after.sites.items ≡ set running.sites.items k later) where
   -- no disk failed fewer times
   pub rises_at : g.faults (site_disk site) ≤ g.faults (site_disk later) → AreRises 0 [] (helds g running) (helds g after)
   rises_at kept =
@@ -76,10 +78,12 @@ module _ {D V : Type 0} (g : Ghosts D) (running after : OpenCell D V) (k : ℕ) 
   pub many_at : length after.sites.items ≡ length running.sites.items
   many_at = ap length sites ∙ length-set running.sites.items k later
 
-  pub sound_at_place : {standing : Standing} (bound : ℕ) → IsSound g standing bound running → later.clock ≡ site.clock → IsSoundServer g (member_at running k) later.clock later.server → IsSoundDisk g standing (site_disk later)
+  pub sound_at_place : {standing : Standing} (bound : ℕ) → IsSound g standing bound running → later.clock ≡ site.clock
+      → IsSoundServer g (member_at running k) later.clock later.server → IsSoundDisk g standing (site_disk later)
       → after.hosts.items ≡ running.hosts.items → after.packets ≡ running.packets → after.outputs ≡ running.outputs → IsSound g standing bound after
   sound_at_place bound sound clock is disk hosts packets outputs =
-      sound_after g bound running after k site later [] sound there clock is disk sites hosts (packets ∙ none_sent running.packets) (All-nil _) (outputs ∙ sound.told)
+      sound_after g bound running after k site later [] sound there clock is disk sites hosts (packets ∙ none_sent running.packets) (All-nil _)
+      (outputs ∙ sound.told)
 
 -- ---- a disk that is armed
 
@@ -93,14 +97,17 @@ armed_so false s before None calls fill stops =
 armed_so false s before (Some a) calls fill stops =
     (omega arith, (fill, ap (λ (b : DiskStop). armed b calls fill) stops.1.1 ∙ ap (λ (n : ℕ). ToStop n fill) (omega arith)))
 
-module _ {D V : Type 0} (g : Ghosts D) (running after : OpenCell D V) (k clock calls : ℕ) (fill : Fill) (node later : Node D V) (there : slice_get running.sites.items k ≡ Some (up_site clock node)) (sites : after.sites.items ≡ set running.sites.items k (up_site clock later))
-    (hosts : after.hosts.items ≡ running.hosts.items) (packets : after.packets ≡ running.packets) (disk : IsArmed g calls fill node.store.disk later.store.disk) (same : (later.state ≡ node.state) × (later.halted ≡ node.halted) × (later.last ≡ node.last)) where
+module _ {D V : Type 0} (g : Ghosts D) (running after : OpenCell D V) (k clock calls : ℕ) (fill : Fill) (node later : Node D V)
+    (there : slice_get running.sites.items k ≡ Some (up_site clock node)) (sites : after.sites.items ≡ set running.sites.items k (up_site clock later))
+    (hosts : after.hosts.items ≡ running.hosts.items) (packets : after.packets ≡ running.packets) (disk : IsArmed g calls fill node.store.disk later.store.disk)
+    (same : (later.state ≡ node.state) × (later.halted ≡ node.halted) × (later.last ≡ node.last)) where
   node_same : node_of later ≡ node_of node
   node_same =
       ap (λ (h : Bool). if h then model.Halted (model.halted_from (up_server later)) else model.Up (up_server later)) same.1
       ∙ ap (λ (s : State). if node.halted then model.Halted (model.halted_from (server_of s)) else model.Up (server_of s)) same.0
 
-  pub arm_told : (script_db : ScriptDatabase) (given : List ℕ) (c : Cell) (run : List Choice → Run_or_why) (text : List ℕ) → IsModelledBy g script_db.database given running c
+  pub arm_told : (script_db : ScriptDatabase) (given : List ℕ) (c : Cell) (run : List Choice → Run_or_why) (text : List ℕ)
+      → IsModelledBy g script_db.database given running c
       → ((choices : List Choice) → run choices ≡ Ok (resting (record c { armed = set c.armed k (Some (record { calls = calls; made = 0 })) })))
       → CellTold g script_db given run None running after text text
   arm_told script_db given c run text stands does =
@@ -117,7 +124,8 @@ module _ {D V : Type 0} (g : Ghosts D) (running after : OpenCell D V) (k clock c
           hosts = stands.hosts ∙ sym hosts;
           sites = subst (λ (l : List (Site D V)). AreSitesOf l c.run.world.sites) (sym sites)
               (subst (λ (l : List ModelSite). AreSitesOf (set running.sites.items k (up_site clock later)) l) (set_same c.run.world.sites k site.s site.there)
-              (sites_set running.sites.items c.run.world.sites k (up_site clock later) site.s stands.sites (record { clock = site.is.clock; node = site.is.node ∙ sym node_same })));
+              (sites_set running.sites.items c.run.world.sites k (up_site clock later) site.s stands.sites
+              (record { clock = site.is.clock; node = site.is.node ∙ sym node_same })));
           sent = stands.sent ∙ ap (λ (t : Traffic). t.sent) (sym packets);
           handed = stands.handed ∙ ap (λ (t : Traffic). t.handed) (sym packets);
           armed = subst (λ (l : List (Site D V)). AreArmed g l now) (sym sites)
@@ -130,13 +138,15 @@ module _ {D V : Type 0} (g : Ghosts D) (running after : OpenCell D V) (k clock c
               (hold_still script_db.database c given (helds g running) (map (held_at {V = V} g) (set running.sites.items k (up_site clock later)))
               (reads_set g c.run.world.sites running.sites.items k site.s (up_site clock later) stands.disks.read site.there
               (subst (λ (f : Option Files). IsSomeAnd f (StandsAs site.s.durable)) (sym disk.files) read))
-              (moved_set g (λ j x y. y.steps ≡ x.steps) 0 k running.sites.items (up_site clock node) (up_site clock later) there disk.steps (λ j x other. refl)) stands.disks));
+              (moved_set g (λ j x y. y.steps ≡ x.steps) 0 k running.sites.items (up_site clock node) (up_site clock later) there disk.steps (λ j x other. refl))
+              stands.disks));
         };
         told = sym (append-nil text);
         causes = rises_at g running after k (up_site clock node) (up_site clock later) there sites (let f = disk.faults in omega (arith, f));
       }
 
-module _ {D V : Type 0} (g : Ghosts D) (clock calls : ℕ) (fill : Fill) (node later : Node D V) (disk : IsArmed g calls fill node.store.disk later.store.disk) (same : (later.state ≡ node.state) × (later.halted ≡ node.halted) × (later.last ≡ node.last)) where
+module _ {D V : Type 0} (g : Ghosts D) (clock calls : ℕ) (fill : Fill) (node later : Node D V) (disk : IsArmed g calls fill node.store.disk later.store.disk)
+    (same : (later.state ≡ node.state) × (later.halted ≡ node.halted) × (later.last ≡ node.last)) where
   -- it stays sound
   pub arm_disk : {standing : Standing} → IsSoundDisk g standing node.store.disk → IsSoundDisk g standing later.store.disk
   arm_disk {standing} sound =
@@ -147,7 +157,8 @@ module _ {D V : Type 0} (g : Ghosts D) (clock calls : ℕ) (fill : Fill) (node l
         settled = make_if (g.files later.store.disk) at.0 (λ fs. Only fs (g.may_leave later.store.disk)) is
             (λ c left. of_some (g.files node.store.disk) at.0 (λ fs. Only fs (g.may_leave node.store.disk)) at.1 sound.settled c (disk.crash.no_more c left));
         plain = make_if (g.files later.store.disk) at.0 IsPlain is (of_some (g.files node.store.disk) at.0 IsPlain at.1 sound.plain);
-        stands = make_if (g.files later.store.disk) at.0 (StandsForSome standing) is (of_some (g.files node.store.disk) at.0 (StandsForSome standing) at.1 sound.stands);
+        stands = make_if (g.files later.store.disk) at.0 (StandsForSome standing) is
+            (of_some (g.files node.store.disk) at.0 (StandsForSome standing) at.1 sound.stands);
       }
 
   pub arm_node : (m : Member) → IsSoundNode g m clock node → IsStored g later → IsSoundNode g m clock later
@@ -156,14 +167,15 @@ module _ {D V : Type 0} (g : Ghosts D) (clock calls : ℕ) (fill : Fill) (node l
       record {
         last = let l = sound.last in let is = same.2 in omega (arith, l, is);
         member = member;
-        voter = subst (λ (n : Member). IsVoter n (up_server later)) member (node_votes later);
+        voter = λ up. subst (λ (s : State). IsVoter m (server_of s)) (sym same.0) (sound.voter (sym same.1 ∙ up));
         stored = stored;
       }
 
 -- ---- a server that goes down
 
 -- a settled disk is revived as it is
-pub revived_read : {D : Type 0} {standing : Standing} (g : Ghosts D) (old new : D) (d : Durable) → IsSoundDisk g standing old → IsRevived g old new → IsSomeAnd (g.files old) (StandsAs d) → IsSomeAnd (g.files new) (StandsAs d)
+pub revived_read : {D : Type 0} {standing : Standing} (g : Ghosts D) (old new : D) (d : Durable) → IsSoundDisk g standing old → IsRevived g old new
+    → IsSomeAnd (g.files old) (StandsAs d) → IsSomeAnd (g.files new) (StandsAs d)
 revived_read g old new d sound revived read =
     let at = some_of (g.files old) sound.told in
     let there = some_of (g.files new) (revived.told (g.tells_now old sound.told)) in
@@ -171,7 +183,8 @@ revived_read g old new d sound revived read =
     let same : there.0 ≡ at.0 = of_some (g.files old) at.0 (λ fs. Only fs (g.may_leave old)) at.1 sound.settled there.0 left.0 in
     make_some (g.files new) there.0 (StandsAs d) there.1 (subst (StandsAs d) (sym same) (and_some (g.files old) at.0 (StandsAs d) at.1 read))
 
-pub revived_sound : {D : Type 0} {standing : Standing} (g : Ghosts D) (old new : D) → IsSoundDisk g standing old → IsRevived g old new → IsSoundDisk g standing new
+pub revived_sound : {D : Type 0} {standing : Standing} (g : Ghosts D) (old new : D) → IsSoundDisk g standing old → IsRevived g old new
+    → IsSoundDisk g standing new
 revived_sound {D} {standing} g old new sound revived =
     let at = some_of (g.files old) sound.told in
     let some = revived.told (g.tells_now old sound.told) in
@@ -182,17 +195,20 @@ revived_sound {D} {standing} g old new sound revived =
       told = some;
       settled = make_if (g.files new) there.0 (λ fs. Only fs (g.may_leave new)) there.1 left.1;
       plain = make_if (g.files new) there.0 IsPlain there.1 (subst IsPlain (sym same) (of_some (g.files old) at.0 IsPlain at.1 sound.plain));
-      stands = make_if (g.files new) there.0 (StandsForSome standing) there.1 (subst (StandsForSome standing) (sym same) (of_some (g.files old) at.0 (StandsForSome standing) at.1 sound.stands));
+      stands = make_if (g.files new) there.0 (StandsForSome standing) there.1
+          (subst (StandsForSome standing) (sym same) (of_some (g.files old) at.0 (StandsForSome standing) at.1 sound.stands));
     }
 
-module _ {D V : Type 0} {standing : Standing} (g : Ghosts D) (running after : OpenCell D V) (k : ℕ) (down : TakenDown g k running after) (disk : IsSoundDisk g standing (server_disk down.server)) where
+module _ {D V : Type 0} {standing : Standing} (g : Ghosts D) (running after : OpenCell D V) (k : ℕ) (down : TakenDown g k running after)
+    (disk : IsSoundDisk g standing (server_disk down.server)) where
   abbrev pub before_site : Site D V
   before_site = record { clock = down.clock; server = down.server }
 
   abbrev pub down_site : Site D V
   down_site = record { clock = down.clock; server = Down down.disk }
 
-  pub crash_told : (script_db : ScriptDatabase) (given : List ℕ) (c : Cell) (run : List Choice → Run_or_why) (text : List ℕ) → IsModelledBy g script_db.database given running c
+  pub crash_told : (script_db : ScriptDatabase) (given : List ℕ) (c : Cell) (run : List Choice → Run_or_why) (text : List ℕ)
+      → IsModelledBy g script_db.database given running c
       → ((choices : List Choice) → run choices ≡ Ok (with_event script_db (record c { armed = set c.armed k None }) (Crash k)))
       → CellTold g script_db given run None running after text text
   crash_told script_db given c run text stands does =
@@ -202,21 +218,29 @@ module _ {D V : Type 0} {standing : Standing} (g : Ghosts D) (running after : Op
       let read = read_at g c.run.world.sites running.sites.items k site.s before_site stands.disks.read site.there down.there in
       let happened_so : happens script_db.database c.run.world (Crash k) ≡ happened_at c.run.world k h = ap (happens_at c.run.world k crash_at) site.there in
       let cell_next = cell_after (with_armed c now) (Crash k) (happened_at c.run.world k h) in
-      whole g script_db given running after c stands k (Crash k) h now run [] (does [] ∙ ap (λ (x : Happened). Ok (happened (with_armed c now) (Crash k) x)) happened_so) tt before_site down_site down.there down.sites
+      whole g script_db given running after c stands k (Crash k) h now run []
+      (does [] ∙ ap (λ (x : Happened). Ok (happened (with_armed c now) (Crash k) x)) happened_so) tt before_site down_site down.there down.sites
       (let f = down.revived.faults in omega (arith, f)) (λ j other. refl)
-      text text text (ap (λ (t : Traffic). record { after = record { text = text; sent = t.sent }; ending = None }) (sym down.packets)) (sym (append-nil text)) down.hosts (down.packets ∙ none_sent running.packets) (record { clock = site.is.clock; node = refl })
-      (subst (λ (l : List (Site D V)). AreArmed g l now) (sym down.sites) (armed_set g running.sites.items c.armed k down_site None stands.armed (refl, down.revived.unarmed)))
+      text text text (ap (λ (t : Traffic). record { after = record { text = text; sent = t.sent }; ending = None }) (sym down.packets)) (sym (append-nil text))
+      down.hosts (down.packets ∙ none_sent running.packets) (record { clock = site.is.clock; node = refl })
+      (subst (λ (l : List (Site D V)). AreArmed g l now) (sym down.sites)
+      (armed_set g running.sites.items c.armed k down_site None stands.armed (refl, down.revived.unarmed)))
       (subst (λ (l : List (Site D V)). HoldRun script_db.database given false cell_next (map (held_at {V = V} g) l)) (sym down.sites)
-      (hold_more script_db.database c cell_next given (Crash k) (record { opening = refl; events = refl; world = ap (λ (x : Happened). x.world) (sym happened_so) }) (helds g running) (map (held_at {V = V} g) (set running.sites.items k down_site)) stands.disks
-      (reads_both g c.run.world.sites running.sites.items k h.site down_site stands.disks.read (revived_read g (server_disk down.server) down.disk site.s.durable disk down.revived read))
-      (moved_set g (λ j x y. (more : ℕ) × (more ≡ 0) × (y.steps ≡ x.steps + more)) 0 k running.sites.items before_site down_site down.there (0, refl, (let s = down.revived.steps in omega (arith, s))) (λ j x other. (0, refl, omega arith)))))
+      (hold_more script_db.database c cell_next given (Crash k) (record
+      { opening = refl; events = refl; world = ap (λ (x : Happened). x.world) (sym happened_so) }) (helds g running)
+      (map (held_at {V = V} g) (set running.sites.items k down_site)) stands.disks
+      (reads_both g c.run.world.sites running.sites.items k h.site down_site stands.disks.read
+      (revived_read g (server_disk down.server) down.disk site.s.durable disk down.revived read))
+      (moved_set g (λ j x y. (more : ℕ) × (more ≡ 0) × (y.steps ≡ x.steps + more)) 0 k running.sites.items before_site down_site down.there
+      (0, refl, (let s = down.revived.steps in omega (arith, s))) (λ j x other. (0, refl, omega arith)))))
 
   pub crash_rises : AreRises 0 [] (helds g running) (helds g after)
   crash_rises = rises_at g running after k before_site down_site down.there down.sites (let f = down.revived.faults in omega (arith, f))
 
   pub crash_sound : (bound : ℕ) → IsSound g standing bound running → IsSound g standing bound after
   crash_sound bound sound =
-      sound_at_place g running after k before_site down_site down.there down.sites bound sound refl tt (revived_sound g (server_disk down.server) down.disk disk down.revived) down.hosts down.packets down.outputs
+      sound_at_place g running after k before_site down_site down.there down.sites bound sound refl tt
+      (revived_sound g (server_disk down.server) down.disk disk down.revived) down.hosts down.packets down.outputs
 
 -- ---- a server that is opened again
 
@@ -229,7 +253,9 @@ down_sound g m clock (Up n) is = absurd (by n.halted is)
     by true is = cc
     by false is = cc
 
-module _ {D V : Type 0} {standing : Standing} (g : Ghosts D) (script_db : ScriptDatabase) (running after : OpenCell D V) (k : ℕ) (result : Result (Unit {0}) NoMemory) (tb ta : List ℕ) (bound : ℕ) (sound : IsSound g standing bound running) (re : SiteReopened g standing script_db k result running after tb ta) (disk : IsSoundDisk g standing re.disk) where
+module _ {D V : Type 0} {standing : Standing} (g : Ghosts D) (script_db : ScriptDatabase) (running after : OpenCell D V) (k : ℕ)
+    (result : Result (Unit {0}) NoMemory) (tb ta : List ℕ) (bound : ℕ) (sound : IsSound g standing bound running)
+    (re : SiteReopened g standing script_db k result running after tb ta) (disk : IsSoundDisk g standing re.disk) where
   abbrev pub closed_site : Site D V
   closed_site = record { clock = re.clock; server = Down re.disk }
 
@@ -246,14 +272,16 @@ module _ {D V : Type 0} {standing : Standing} (g : Ghosts D) (script_db : Script
   pub reopen_rises : AreRises 0 [] (helds g running) (helds g after)
   reopen_rises = rises_at g running after k closed_site open_site re.there re.sites some_durable.1.never_falls
 
-  server_sound : (end : OpenEnd) (d : Durable) → ServerIs g (member_at running k) re.clock d end re.disk re.server → IsSoundServer g (member_at running k) re.clock re.server
+  server_sound : (end : OpenEnd) (d : Durable) → ServerIs g (member_at running k) re.clock d end re.disk re.server
+      → IsSoundServer g (member_at running k) re.clock re.server
   server_sound (opened.Up version) d is = is.2
   server_sound opened.StaysDown d is = down_sound g (member_at running k) re.clock re.server is.0
   server_sound opened.NoMemory d is = down_sound g (member_at running k) re.clock re.server is
 
   pub reopen_sound : (other : ℕ) → IsSound g standing other running → IsSound g standing other after
   reopen_sound other still =
-      sound_at_place g running after k closed_site open_site re.there re.sites other still refl (server_sound re.end some_durable.0 some_durable.1.is) some_durable.1.sound re.hosts re.packets re.outputs
+      sound_at_place g running after k closed_site open_site re.there re.sites other still refl (server_sound re.end some_durable.0 some_durable.1.is)
+      some_durable.1.sound re.hosts re.packets re.outputs
 
   pub reopen_many : length after.sites.items ≡ length running.sites.items
   reopen_many = many_at g running after k closed_site open_site re.there re.sites
@@ -269,7 +297,8 @@ module _ {D V : Type 0} {standing : Standing} (g : Ghosts D) (script_db : Script
     opens = re.opens site.s.durable read
 
     -- the calls of the opening
-    opens_over : (failed : Bool) → is_cut_short re.end ≡ failed → (rise : ℕ) × OpensAt (site_of c.run.world k) failed rise × (g.steps (server_disk re.server) ≡ g.steps re.disk + rise)
+    opens_over : (failed : Bool) → is_cut_short re.end ≡ failed
+        → (rise : ℕ) × OpensAt (site_of c.run.world k) failed rise × (g.steps (server_disk re.server) ≡ g.steps re.disk + rise)
     opens_over failed is =
         let calls = opens.calls in (
           calls.rise,
@@ -291,7 +320,9 @@ module _ {D V : Type 0} {standing : Standing} (g : Ghosts D) (script_db : Script
     abbrev pub restarts : List Choice → Run_or_why
     restarts choices = Ok (with_event script_db c (Restart k (first_choice choices).fails))
 
-    module _ (failed : Bool) (cut : is_cut_short re.end ≡ failed) (node_is : server_node re.server ≡ (if failed then model.Down else model.Up (model.opened_server (length running.hosts.items) site.s.durable re.clock))) (faulted : failed ≡ true → g.faults re.disk < g.faults (server_disk re.server)) where
+    module _ (failed : Bool) (cut : is_cut_short re.end ≡ failed)
+        (node_is : server_node re.server ≡ (if failed then model.Down else model.Up (model.opened_server (length running.hosts.items) site.s.durable re.clock)))
+        (faulted : failed ≡ true → g.faults re.disk < g.faults (server_disk re.server)) where
       abbrev pub h : SiteHappened
       h = restart_at (length c.run.world.hosts) k failed site.s
 
@@ -309,7 +340,9 @@ module _ {D V : Type 0} {standing : Standing} (g : Ghosts D) (script_db : Script
       clock_same true = refl
       clock_same false = refl
 
-      node_next : (b : Bool) → (restart_at (length c.run.world.hosts) k b site.s).site.node ≡ (if b then model.Down else model.Up (model.opened_server (length running.hosts.items) site.s.durable re.clock))
+      node_next : (b : Bool)
+          → (restart_at (length c.run.world.hosts) k b site.s).site.node ≡
+          (if b then model.Down else model.Up (model.opened_server (length running.hosts.items) site.s.durable re.clock))
       node_next true = site.is.node
       node_next false =
           ap (λ (hosts : List Host). model.Up (model.opened_server (length hosts) site.s.durable site.s.clock)) stands.hosts
@@ -323,7 +356,8 @@ module _ {D V : Type 0} {standing : Standing} (g : Ghosts D) (script_db : Script
       shown_none true = refl
       shown_none false = refl
 
-      faults_told : (b : Bool) → (b ≡ true → g.faults re.disk < g.faults (server_disk re.server)) → g.faults re.disk ≤ g.faults (server_disk re.server) → g.faults re.disk + fault_count k (map Tells (restart_at (length c.run.world.hosts) k b site.s).marks) ≤ g.faults (server_disk re.server)
+      faults_told : (b : Bool) → (b ≡ true → g.faults re.disk < g.faults (server_disk re.server)) → g.faults re.disk ≤ g.faults (server_disk re.server)
+          → g.faults re.disk + fault_count k (map Tells (restart_at (length c.run.world.hosts) k b site.s).marks) ≤ g.faults (server_disk re.server)
       faults_told true rose kept =
           let one : fault_count k (map Tells (Stays_down k ∷ [])) ≡ 1 = ap (λ (b : Bool). (if b then 1 else 0) + 0) (eq-eqb k k refl) in
           let more = rose refl in omega (arith, one, more)
@@ -337,13 +371,18 @@ module _ {D V : Type 0} {standing : Standing} (g : Ghosts D) (script_db : Script
       hold_next =
           let over = opens_over failed cut in
           subst (λ (l : List (Site D V)). HoldRun script_db.database given false cell_next (map (held_at {V = V} g) l)) (sym re.sites)
-          (hold_more script_db.database c cell_next given (Restart k failed) (record { opening = refl; events = refl; world = ap (λ (x : Happened). x.world) (sym happened_so) }) (helds g running) (map (held_at {V = V} g) (set running.sites.items k open_site)) stands.disks
-          (reads_both g c.run.world.sites running.sites.items k h.site open_site stands.disks.read (subst (λ (d : Durable). IsSomeAnd (g.files (server_disk re.server)) (StandsAs d)) (sym (durable_same failed)) opens.stands))
-          (moved_set g (λ j x y. (more : ℕ) × IsRiseIn script_db.database c.run.world (Restart k failed) j more × (y.steps ≡ x.steps + more)) 0 k running.sites.items closed_site open_site re.there
+          (hold_more script_db.database c cell_next given (Restart k failed)
+          (record { opening = refl; events = refl; world = ap (λ (x : Happened). x.world) (sym happened_so) }) (helds g running)
+          (map (held_at {V = V} g) (set running.sites.items k open_site)) stands.disks
+          (reads_both g c.run.world.sites running.sites.items k h.site open_site stands.disks.read
+          (subst (λ (d : Durable). IsSomeAnd (g.files (server_disk re.server)) (StandsAs d)) (sym (durable_same failed)) opens.stands))
+          (moved_set g (λ j x y. (more : ℕ) × IsRiseIn script_db.database c.run.world (Restart k failed) j more × (y.steps ≡ x.steps + more)) 0 k
+          running.sites.items closed_site open_site re.there
           (over.0, here_rise (0 + k) (sym (zero_add k)) over.0 over.1, over.2)
           (λ j x other. (0, other_rise j (λ same. other (same ∙ zero_add k)), omega arith))))
         where
-          here_rise : (j : ℕ) → j ≡ k → (rise : ℕ) → OpensAt (site_of c.run.world k) failed rise → IsRiseIn script_db.database c.run.world (Restart k failed) j rise
+          here_rise : (j : ℕ) → j ≡ k → (rise : ℕ) → OpensAt (site_of c.run.world k) failed rise
+              → IsRiseIn script_db.database c.run.world (Restart k failed) j rise
           here_rise j same rise over =
               let P : Bool → Type 0 = λ b. OpensWhere b (site_of c.run.world j) failed rise in
               subst P (sym (eq-eqb k j (sym same))) (subst (λ (n : ℕ). OpensAt (site_of c.run.world n) failed rise) (sym same) over)
@@ -357,11 +396,14 @@ module _ {D V : Type 0} {standing : Standing} (g : Ghosts D) (script_db : Script
       unfolding choice_of
       line_is = ap (λ (x : Happened). Ok (happened c (Restart k failed) x)) happened_so
 
-      pub reopen_told : (marks : ta ≡ tb ++ trace script_db running.hosts.items (map Tells h.marks)) → CellTold g script_db given restarts None running after tb ta
+      pub reopen_told : (marks : ta ≡ tb ++ trace script_db running.hosts.items (map Tells h.marks))
+          → CellTold g script_db given restarts None running after tb ta
       reopen_told marks =
-          whole g script_db given running after c stands k (Restart k failed) h c.armed restarts (choice_of failed ∷ []) line_is (marks_are failed) closed_site open_site re.there re.sites
+          whole g script_db given running after c stands k (Restart k failed) h c.armed restarts (choice_of failed ∷ []) line_is (marks_are failed) closed_site
+          open_site re.there re.sites
           (faults_told failed faulted opens.never_falls) (faults_others failed)
-          tb tb ta (ap (told_of script_db running.hosts.items k (record { text = tb; sent = running.packets.sent })) (shown_none failed) ∙ ap (λ (t : Traffic). record { after = record { text = tb; sent = t.sent }; ending = None }) (sym re.packets)) marks re.hosts
+          tb tb ta (ap (told_of script_db running.hosts.items k (record { text = tb; sent = running.packets.sent })) (shown_none failed)
+          ∙ ap (λ (t : Traffic). record { after = record { text = tb; sent = t.sent }; ending = None }) (sym re.packets)) marks re.hosts
           (re.packets ∙ none_sent running.packets ∙ ap (λ (l : List Shown). sent_all running.packets (packets_of l)) (sym (shown_none failed)))
           (record { clock = clock_same failed ∙ site.is.clock; node = node_next failed ∙ sym node_is })
           (subst (λ (l : List (Site D V)). AreArmed g l c.armed) (sym re.sites) (armed_still g running.sites.items c.armed k open_site stands.armed arms))
@@ -371,16 +413,20 @@ module _ {D V : Type 0} {standing : Standing} (g : Ghosts D) (script_db : Script
           arms =
               let was = armed_here g running.sites.items c.armed k closed_site stands.armed re.there in
               subst (λ (n : model.Node). IsArmedAs n (armed_at c.armed k) (g.stop (server_disk re.server))) (sym node_is)
-              (subst (λ (a : Option Armed). IsArmedAs (if failed then model.Down else model.Up (model.opened_server (length running.hosts.items) site.s.durable re.clock)) a (g.stop (server_disk re.server))) (sym was.0)
+              (subst (λ (a : Option Armed). IsArmedAs (if failed then model.Down else model.Up
+              (model.opened_server (length running.hosts.items) site.s.durable re.clock)) a (g.stop (server_disk re.server))) (sym was.0)
               (so failed (opens.unarmed was.1)))
             where
-              so : (b : Bool) → g.stop (server_disk re.server) ≡ Unarmed → IsArmedAs (if b then model.Down else model.Up (model.opened_server (length running.hosts.items) site.s.durable re.clock)) None (g.stop (server_disk re.server))
+              so : (b : Bool) → g.stop (server_disk re.server) ≡ Unarmed
+                  → IsArmedAs (if b then model.Down else model.Up (model.opened_server (length running.hosts.items) site.s.durable re.clock)) None
+                  (g.stop (server_disk re.server))
               so true unarmed = (refl, unarmed)
               so false unarmed = unarmed
 
       pub reopen_short_after : IsShort g script_db.database given restarts c running after
       reopen_short_after =
-          short_after g script_db given running after c stands k (Restart k failed) h c.armed restarts (choice_of failed ∷ []) line_is (marks_are failed) closed_site open_site re.there re.sites
+          short_after g script_db given running after c stands k (Restart k failed) h c.armed restarts (choice_of failed ∷ []) line_is (marks_are failed)
+          closed_site open_site re.there re.sites
           (faults_told failed faulted opens.never_falls) (faults_others failed) hold_next
 
     -- ---- by how it ended
@@ -419,13 +465,16 @@ module _ {D V : Type 0} {standing : Standing} (g : Ghosts D) (script_db : Script
         surplus is =
             let over = opens_over true (cut_as opened.NoMemory is) in
             subst (λ (l : List (Site D V)). HoldRun script_db.database given true c (map (held_at {V = V} g) l)) (sym re.sites)
-            (hold_added script_db.database c c given (same_run c c refl refl refl) false true (helds g running) (map (held_at {V = V} g) (set running.sites.items k open_site)) stands.disks
+            (hold_added script_db.database c c given (same_run c c refl refl refl) false true (helds g running)
+            (map (held_at {V = V} g) (set running.sites.items k open_site)) stands.disks
             (reads_set g c.run.world.sites running.sites.items k site.s open_site stands.disks.read site.there opens.stands)
-            (moved_set g (λ j x y. (more : ℕ) × ((was : ℕ) → IsSurplus false (site_of c.run.world j) was → IsSurplus true (site_of c.run.world j) (was + more)) × (y.steps ≡ x.steps + more)) 0 k running.sites.items closed_site open_site re.there
+            (moved_set g (λ j x y. (more : ℕ) × ((was : ℕ) → IsSurplus false (site_of c.run.world j) was → IsSurplus true (site_of c.run.world j)
+            (was + more)) × (y.steps ≡ x.steps + more)) 0 k running.sites.items closed_site open_site re.there
             (over.0, (λ was none. inr (here_over (0 + k) (sym (zero_add k)) was none over.0 over.1)), over.2)
             (λ j x other. (0, (λ was none. no_surplus (site_of c.run.world j) was none), omega arith))))
           where
-            here_over : (j : ℕ) → j ≡ k → (was : ℕ) → was ≡ 0 → (rise : ℕ) → OpensAt (site_of c.run.world k) true rise → OpensAt (site_of c.run.world j) true (was + rise)
+            here_over : (j : ℕ) → j ≡ k → (was : ℕ) → was ≡ 0 → (rise : ℕ) → OpensAt (site_of c.run.world k) true rise
+                → OpensAt (site_of c.run.world j) true (was + rise)
             here_over j same was none rise over =
                 let sum : rise ≡ was + rise = omega (arith, none) in
                 subst (λ (n : ℕ). OpensAt (site_of c.run.world j) true n) sum (subst (λ (n : ℕ). OpensAt (site_of c.run.world n) true rise) (sym same) over)

@@ -25,7 +25,10 @@ use Rattle.cell_sites.proofs.Soundly.{host_count}
 abbrev pub with_packets : {D V : Type 0} → OpenCell D V → Traffic → OpenCell D V
 with_packets running packets = record running { packets = packets }
 
-pub packets_told : {D V : Type 0} {given : List ℕ} (g : Ghosts D) (db : ScriptDatabase) (running : OpenCell D V) (c : Cell) (packets : Traffic) (handed : List Bool) (run : List Choice → Run_or_why) (text : List ℕ) → ((choices : List Choice) → run choices ≡ Ok (resting (record c { handed = handed }))) → packets.sent ≡ running.packets.sent → packets.handed ≡ handed → IsModelledBy g db.database given running c → CellTold g db given run None running (with_packets running packets) text text
+pub packets_told : {D V : Type 0} {given : List ℕ} (g : Ghosts D) (db : ScriptDatabase) (running : OpenCell D V) (c : Cell) (packets : Traffic)
+    (handed : List Bool) (run : List Choice → Run_or_why) (text : List ℕ) →
+    ((choices : List Choice) → run choices ≡ Ok (resting (record c { handed = handed }))) → packets.sent ≡ running.packets.sent → packets.handed ≡ handed →
+    IsModelledBy g db.database given running c → CellTold g db given run None running (with_packets running packets) text text
 packets_told g db running c packets handed run text does sent same stands =
     record {
       choices = [];
@@ -45,14 +48,17 @@ packets_told g db running c packets handed run text does sent same stands =
     }
 
 -- one packet
-pub one_handed : {D V : Type 0} {gs : Ghosts D} {database : Database} {given : List ℕ} (running : OpenCell D V) (c : Cell) (packets : Traffic) (n number : ℕ) → packets ≡ handed_over running.packets n → n ≡ number → IsModelledBy gs database given running c → packets.handed ≡ set c.handed (number - 1) true
+pub one_handed : {D V : Type 0} {gs : Ghosts D} {database : Database} {given : List ℕ} (running : OpenCell D V) (c : Cell) (packets : Traffic) (n number : ℕ)
+    → packets ≡ handed_over running.packets n → n ≡ number → IsModelledBy gs database given running c → packets.handed ≡ set c.handed (number - 1) true
 one_handed running c packets n number is same stands =
     ap (λ (t : Traffic). t.handed) is
     ∙ ap (λ (m : ℕ). set running.packets.handed (m - 1) true) same
     ∙ ap (λ (l : List Bool). set l (number - 1) true) (sym stands.handed)
 
 -- the packets of one host
-pub host_handed : {D V : Type 0} {gs : Ghosts D} {database : Database} {given : List ℕ} (running : OpenCell D V) (c : Cell) (packets : Traffic) (k : ℕ) (host : Host) → packets ≡ dropped_all running.packets host → slice_get running.hosts.items k ≡ Some host → IsModelledBy gs database given running c → packets.handed ≡ dropped_of (host_at c.run.world.hosts k) c.run.world.packets c.handed
+pub host_handed : {D V : Type 0} {gs : Ghosts D} {database : Database} {given : List ℕ} (running : OpenCell D V) (c : Cell) (packets : Traffic) (k : ℕ)
+    (host : Host) → packets ≡ dropped_all running.packets host → slice_get running.hosts.items k ≡ Some host → IsModelledBy gs database given running c →
+    packets.handed ≡ dropped_of (host_at c.run.world.hosts k) c.run.world.packets c.handed
 host_handed running c packets k host is there stands =
     let at : host_at c.run.world.hosts k ≡ host =
     ap (λ (l : List Host). host_at l k) stands.hosts ∙ ap (λ (o : Option Host). unwrap_or o (record { 0 = 0 })) there in
@@ -62,7 +68,8 @@ host_handed running c packets k host is there stands =
     ∙ ap (λ (l : List Bool). dropped_of (host_at c.run.world.hosts k) c.run.world.packets l) (sym stands.handed)
 
 -- a server that is up has a host
-pub host_within : {D V : Type 0} {standing : Standing} (g : Ghosts D) (bound : ℕ) (running : OpenCell D V) (k : ℕ) → IsSound g standing bound running → IsUpAt running k → k < length running.hosts.items
+pub host_within : {D V : Type 0} {standing : Standing} (g : Ghosts D) (bound : ℕ) (running : OpenCell D V) (k : ℕ) → IsSound g standing bound running
+    → IsUpAt running k → k < length running.hosts.items
 host_within g bound running k sound up =
     let within = slice_get_within running.sites.items k _ up.there in
     let count = host_count g bound running sound in

@@ -10,6 +10,7 @@ use Rattle.ubik_types.specs.Version.{version_lt}
 use Rattle.ubik_types.specs.Votes.{beacon_is_due}
 use Rattle.ubik_types.specs.declared.images.Change.{Change}
 use Rattle.ubik_types.specs.Phase.{Polled, PhaseRecord, NoPhase, Poll, Fetch, Relabel, Send, Ready}
+use Rattle.lock_table.specs.declared.tables.TheConstants.{MAX_WAITING}
 use Rattle.ubik_calls.specs.declared.packets.Packet.{Packet}
 use Rattle.ubik_calls.specs.declared.packets.Body.{Body}
 use Rattle.ubik_calls.specs.declared.packets.Body.TheVariants as body
@@ -28,7 +29,8 @@ use Rattle.cell_model.specs.Recovery.{first_of_epoch, own_relabelling, relabelle
 use Rattle.cell_model.specs.Step.{Announced_image, Beacon_image, Member, Stepped, cell_size, told_version, followed, is_ready, is_short, leased, short_after}
 use Rattle.cell_model.specs.Voters.{IsOfVotes, IsTaken}
 use Rattle.cell_model.specs.Voting.{beacon_turn}
-use Rattle.cell_model.specs.Writes.{announced_image, next_version, own_commit, own_write_begun, flight_settled, settled, settled_in, turned, write_turn, written_changes, written_in, written_small, written_within}
+use Rattle.cell_model.specs.Writes.{announced_image, next_version, own_commit, own_write_begun, flight_settled, settled, settled_in, turned, write_turn}
+use Rattle.cell_model.specs.Writes.{written_changes, written_in, written_small, written_within}
 use Rattle.cell_sites.proofs.Arming.{AreFew}
 
 -- a step with at most one
@@ -75,13 +77,15 @@ settled_rests m s (Ready poll spread announced) = flight_rests m s poll spread a
 relabelled_few : (m : Member) (s : Server) (poll : Polled) (now : ℕ) → Few (relabelled m s poll now)
 relabelled_few m s poll now =
     few_cond (nat_lt s.version.epoch now) _ _
-    (let t = relabelled_to m s poll (first_of_epoch now) in one_then (own_relabelling (first_of_epoch now)) t (settled m) refl (settled_rests m t.server t.server.phase)) (record { few = inl refl })
+    (let t = relabelled_to m s poll (first_of_epoch now) in one_then (own_relabelling (first_of_epoch now)) t (settled m) refl
+    (settled_rests m t.server t.server.phase)) (record { few = inl refl })
 
 best_few : (m : Member) (s : Server) (poll : Polled) (now : ℕ) (best : _) → Few (polled_best m s poll now best)
 best_few m s poll now best = few_cond (version_lt s.version best) _ _ (record { few = inl refl }) (relabelled_few m s poll now)
 
 polled_few : (m : Member) (s : Server) (poll : Polled) (now : ℕ) → Few (polled m s poll now)
-polled_few m s poll now = few_cond (is_majority (cell_size m) (map is_some poll.answers)) _ _ (best_few m s poll now (best_answer poll)) (record { few = inl refl })
+polled_few m s poll now =
+    few_cond (is_majority (cell_size m) (map is_some poll.answers)) _ _ (best_few m s poll now (best_answer poll)) (record { few = inl refl })
 
 asked_few : (m : Member) (s : Server) (poll : Polled) (now : ℕ) → Few (poll_asked m s poll now)
 asked_few m s poll now = record { few = (polled_few m s poll now).few }
@@ -108,7 +112,8 @@ module _ (db : Database) (m : Member) (s : Server) (now id : ℕ) (call : List �
   in_few answer image changes (Send poll spread) = record { few = inl refl }
   in_few answer image changes (Ready poll spread announced) =
       let t = own_write_begun m s now id call answer image changes poll spread in
-      one_then (own_commit (next_version s.version) changes image (record { moment = now; call = call })) t (settled m) refl (settled_rests m t.server t.server.phase)
+      one_then (own_commit (next_version s.version) changes image (record { moment = now; call = call })) t (settled m) refl
+      (settled_rests m t.server t.server.phase)
 
   changes_few : (answer image : List ℕ) (changes : List Change) → Few (written_changes m s now id call answer image changes)
   changes_few answer image changes = few_cond (s.version.counter == MAX_COUNTER) _ _ (record { few = inl refl }) (in_few answer image changes s.phase)
@@ -135,27 +140,34 @@ module _ (db : Database) (m : Member) (s : Server) (now id : ℕ) (call : List �
 
   write_few : (short : Bool) (f : Option Flight) → Few (write_asked db m s now id call short f)
   write_few short None = turn_few short
-  write_few short (Some f) = few_cond (nat_le 64 (length s.waiting)) _ _ (record { few = inl refl }) (few_cond (short) _ _ (record { few = inl refl }) (record { few = inl refl }))
+  write_few short (Some f) =
+      few_cond (nat_le MAX_WAITING (length s.waiting)) _ _ (record { few = inl refl })
+      (few_cond (short) _ _ (record { few = inl refl }) (record { few = inl refl }))
 
   served_few : (writes short : Bool) → Few (served db m s now id call writes short)
-  served_few writes short = few_cond (writes) _ _ (write_few short s.flight) (read_few (announced_image s) (Announced_image (told_version s.phase s.version)) short)
+  served_few writes short =
+      few_cond (writes) _ _ (write_few short s.flight) (read_few (announced_image s) (Announced_image (told_version s.phase s.version)) short)
 
   elsewhere_few : (writes short may_read : Bool) → Few (asked_elsewhere db m s now id call writes short may_read)
-  elsewhere_few writes short may_read = few_cond (writes) _ _ (record { few = inl refl }) (few_cond (may_read) _ _ (read_few s.image (Beacon_image s.version) short) (record { few = inl refl }))
+  elsewhere_few writes short may_read =
+      few_cond (writes) _ _ (record { few = inl refl }) (few_cond (may_read) _ _ (read_few s.image (Beacon_image s.version) short) (record { few = inl refl }))
 
   as_few : (short : Bool) (o : Option Bool) → Few (asked_as db m s now id call short o)
   as_few short None = record { few = inl refl }
   as_few short (Some writes) =
-      few_cond (leased m s now) _ _ (few_cond (is_ready s.phase) _ _ (served_few writes short) (record { few = inl refl })) (elsewhere_few writes short (allows_reads s.version now s.beacon))
+      few_cond (leased m s now) _ _ (few_cond (is_ready s.phase) _ _ (served_few writes short) (record { few = inl refl }))
+      (elsewhere_few writes short (allows_reads s.version now s.beacon))
 
 -- ---- an event
 
-votes_rest : (db : Database) (m : Member) (s : Server) (now k : ℕ) (host : Host) (short : List Bool) (b : Body) → IsOfVotes b → Rests (received_from db m s now host k b short)
+votes_rest : (db : Database) (m : Member) (s : Server) (now k : ℕ) (host : Host) (short : List Bool) (b : Body) → IsOfVotes b
+    → Rests (received_from db m s now host k b short)
 votes_rest db m s now k host short (body.Beacon start claim ready version) votes = record { none = refl }
 votes_rest db m s now k host short (body.Vote start granted) votes = record { none = refl }
 votes_rest db m s now k host short _ votes = absurd votes
 
-packet_rests : (db : Database) (m : Member) (s : Server) (now : ℕ) (p : Packet) (short : List Bool) (place : Option ℕ) → IsOfVotes p.body → Rests (received_packet db m s now p short place)
+packet_rests : (db : Database) (m : Member) (s : Server) (now : ℕ) (p : Packet) (short : List Bool) (place : Option ℕ) → IsOfVotes p.body
+    → Rests (received_packet db m s now p short place)
 packet_rests db m s now p short None votes = record { none = refl }
 packet_rests db m s now p short (Some k) votes = votes_rest db m s now k p.from short p.body votes
 
@@ -182,8 +194,10 @@ step_few db m s now e short taken =
     (handled_few db m (lapsed m s now).server now e (short_after (lapsed m s now).shown short) taken)).few
 
 -- a packet of votes brings none
-pub packet_none : (db : Database) (m : Member) (s : Server) (now : ℕ) (p : Packet) (short : List Bool) → IsOfVotes p.body → (step_of db m s now (event.Packet p) short).calls ≡ []
+pub packet_none : (db : Database) (m : Member) (s : Server) (now : ℕ) (p : Packet) (short : List Bool) → IsOfVotes p.body
+    → (step_of db m s now (event.Packet p) short).calls ≡ []
 unfolding step_of
 packet_none db m s now p short votes =
-    ap (λ (l : List Made). l ++ (handled db m (lapsed m s now).server now (event.Packet p) (short_after (lapsed m s now).shown short)).calls) (lapsed_rests m s now).none
+    ap (λ (l : List Made). l ++ (handled db m (lapsed m s now).server now (event.Packet p) (short_after (lapsed m s now).shown short)).calls)
+    (lapsed_rests m s now).none
     ∙ (packet_rests db m (lapsed m s now).server now p (short_after (lapsed m s now).shown short) (place_of m.hosts p.from) votes).none

@@ -1,11 +1,13 @@
 -- Waiting packets that are delivered one after the other.
-use Rattle.std.proofs.Common.{◌≡◌, inl, ◌<◌, ◌≤◌, ◌+◌, ℕ, zero, suc, Bool, true, false, Option, Some, None, Ok, List, [], ◌∷◌, ◌++◌, length, refl, sym, ap, subst, ◌∙◌, arith, append_assoc}
+use Rattle.std.proofs.Common.{◌≡◌, inl, ◌<◌, ◌≤◌, ◌+◌, ℕ, zero, suc, Bool, true, false, Option, Some, None, Ok, List, [], ◌∷◌, ◌++◌, length, refl, sym, ap}
+use Rattle.std.proofs.Common.{subst, ◌∙◌, arith, append_assoc}
 use Rattle.std.proofs.lemmas.List.{append-nil}
 use Rattle.disk_base.specs.declared.disks.Disk.{Ghosts}
 use Rattle.ubik_types.specs.declared.hosts.Host.{Host}
 use Rattle.cell_runs.specs.declared.endings.Ending.{Ending}
 use Rattle.cell_runs.specs.ScriptDatabase.{ScriptDatabase}
-use Rattle.cell_runs.specs.Script.{Cell, Cell_run, Choice, Run_or_why, all_delivered, delivered, first_choice, first_waiting, hosts_of, joined_run, resting, unless_ended}
+use Rattle.cell_runs.specs.Script.{Cell, Cell_run, Choice, Run_or_why, all_delivered, delivered, first_choice, first_waiting, hosts_of, joined_run, resting}
+use Rattle.cell_runs.specs.Script.{unless_ended}
 use Rattle.cell_runs.specs.Trace.{TraceItem, trace, item_text}
 use Rattle.cell_sites.specs.declared.cells.OpenCell.{OpenCell}
 use Rattle.cell_sites.specs.Counts.{HoldRun}
@@ -19,7 +21,8 @@ use Rattle.db_image.specs.Standing.{Standing}
 
 -- ---- joining what is told
 
-trace-append : (script_db : ScriptDatabase) (hosts : List Host) (items more : List TraceItem) → trace script_db hosts (items ++ more) ≡ trace script_db hosts items ++ trace script_db hosts more
+trace-append : (script_db : ScriptDatabase) (hosts : List Host) (items more : List TraceItem)
+    → trace script_db hosts (items ++ more) ≡ trace script_db hosts items ++ trace script_db hosts more
 trace-append script_db hosts [] more = refl
 trace-append script_db hosts (item ∷ items) more =
     ap (λ (l : List ℕ). item_text script_db hosts item ++ l) (trace-append script_db hosts items more)
@@ -40,17 +43,21 @@ joined items more r = ap (λ (l : List TraceItem). record r { items = l }) (sym 
 -- ---- the loop
 
 -- what was delivered so far, with some choices: what it comes to in all is that, and then what it comes to from here with so much fuel
-pub record SoFar {D V : Type 0} (g : Ghosts D) (script_db : ScriptDatabase) (given : List ℕ) (most fuel : ℕ) (c : Cell) (start now : OpenCell D V) (text_before text : List ℕ) : Type 0 where
+pub record SoFar {D V : Type 0} (g : Ghosts D) (script_db : ScriptDatabase) (given : List ℕ) (most fuel : ℕ) (c : Cell) (start now : OpenCell D V)
+    (text_before text : List ℕ) : Type 0 where
   pub cell : Cell
   pub stands : IsModelledBy g script_db.database given now cell
   pub items : List TraceItem
   pub done : List Choice
-  pub is : (more : List Choice) → all_delivered script_db most c (done ++ more) (first_waiting 1 c.handed) ≡ joined_run items (all_delivered script_db fuel cell more (first_waiting 1 cell.handed))
+  pub is : (more : List Choice)
+      → all_delivered script_db most c (done ++ more) (first_waiting 1 c.handed) ≡ joined_run items
+      (all_delivered script_db fuel cell more (first_waiting 1 cell.handed))
   pub told : text ≡ text_before ++ trace script_db start.hosts.items items
   pub causes : AreRises 0 items (helds g start) (helds g now)
   pub hosts : now.hosts.items ≡ start.hosts.items
 
-pub record Follows {D V : Type 0} (g : Ghosts D) (standing : Standing) (script_db : ScriptDatabase) (most fuel : ℕ) (start now : OpenCell D V) (text_before text : List ℕ) : Type 0 where
+pub record Follows {D V : Type 0} (g : Ghosts D) (standing : Standing) (script_db : ScriptDatabase) (most fuel : ℕ) (start now : OpenCell D V)
+    (text_before text : List ℕ) : Type 0 where
   pub runs : (given : List ℕ) (c : Cell) → IsModelledBy g script_db.database given start c → SoFar g script_db given most fuel c start now text_before text
   pub sound : (bound : ℕ) → IsSound g standing bound start → IsSound g standing bound now
   pub rises : AreRises 0 [] (helds g start) (helds g now)
@@ -61,7 +68,8 @@ no_rise : (k : ℕ) (disks : List Held) → AreRises k [] disks disks
 no_rise k [] = tt
 no_rise k (disk ∷ disks) = (omega arith, no_rise (k + 1) disks)
 
-pub follows_none : {D V : Type 0} {standing : Standing} (g : Ghosts D) (script_db : ScriptDatabase) (most fuel : ℕ) (start : OpenCell D V) (text : List ℕ) → fuel ≡ most → Follows g standing script_db most fuel start start text text
+pub follows_none : {D V : Type 0} {standing : Standing} (g : Ghosts D) (script_db : ScriptDatabase) (most fuel : ℕ) (start : OpenCell D V) (text : List ℕ)
+    → fuel ≡ most → Follows g standing script_db most fuel start start text text
 follows_none g script_db most fuel start text same =
     record {
       runs = λ given c stands. record {
@@ -80,7 +88,10 @@ follows_none g script_db most fuel start text same =
       keeps = λ given c hold. hold;
     }
 
-module _ {D V : Type 0} (g : Ghosts D) (script_db : ScriptDatabase) (given : List ℕ) (most fuel : ℕ) (c : Cell) (start now later : OpenCell D V) (tb text after : List ℕ) (so : SoFar g script_db given most (suc fuel) c start now tb text) (number : ℕ) (waits : first_waiting 1 so.cell.handed ≡ Some number) (ended : Option Ending) (told : CellTold g script_db given (λ choices. Ok (delivered script_db so.cell (first_choice choices) number)) ended now later text after) where
+module _ {D V : Type 0} (g : Ghosts D) (script_db : ScriptDatabase) (given : List ℕ) (most fuel : ℕ) (c : Cell) (start now later : OpenCell D V)
+    (tb text after : List ℕ) (so : SoFar g script_db given most (suc fuel) c start now tb text) (number : ℕ)
+    (waits : first_waiting 1 so.cell.handed ≡ Some number) (ended : Option Ending)
+    (told : CellTold g script_db given (λ choices. Ok (delivered script_db so.cell (first_choice choices) number)) ended now later text after) where
   -- what one more packet comes to
   one_more : (more : List Choice) → all_delivered script_db most c ((so.done ++ first_choice told.choices ∷ []) ++ more) (first_waiting 1 c.handed)
       ≡ joined_run so.items (unless_ended told.ran told.ran.ending (all_delivered script_db fuel told.ran.cell more (first_waiting 1 told.ran.cell.handed)))
@@ -100,7 +111,8 @@ module _ {D V : Type 0} (g : Ghosts D) (script_db : ScriptDatabase) (given : Lis
       ∙ ap (λ (l : List ℕ). tb ++ l) (sym (trace-append script_db start.hosts.items so.items told.ran.items))
 
   -- the script goes on
-  pub goes_on : ended ≡ None → IsModelledBy g script_db.database given later told.ran.cell → later.hosts.items ≡ now.hosts.items → SoFar g script_db given most fuel c start later tb after
+  pub goes_on : ended ≡ None → IsModelledBy g script_db.database given later told.ran.cell → later.hosts.items ≡ now.hosts.items
+      → SoFar g script_db given most fuel c start later tb after
   goes_on none stands hosts =
       record {
         cell = told.ran.cell;
@@ -109,7 +121,8 @@ module _ {D V : Type 0} (g : Ghosts D) (script_db : ScriptDatabase) (given : Lis
         done = so.done ++ first_choice told.choices ∷ [];
         is = λ more.
             one_more more
-            ∙ ap (λ (e : Option Ending). joined_run so.items (unless_ended told.ran e (all_delivered script_db fuel told.ran.cell more (first_waiting 1 told.ran.cell.handed)))) (told.ends ∙ none)
+            ∙ ap (λ (e : Option Ending). joined_run so.items (unless_ended told.ran e
+            (all_delivered script_db fuel told.ran.cell more (first_waiting 1 told.ran.cell.handed)))) (told.ends ∙ none)
             ∙ joined so.items told.ran.items (all_delivered script_db fuel told.ran.cell more (first_waiting 1 told.ran.cell.handed));
         told = all_told;
         causes = rises_both 0 so.items told.ran.items (helds g start) (helds g now) (helds g later) so.causes told.causes;
@@ -123,7 +136,8 @@ module _ {D V : Type 0} (g : Ghosts D) (script_db : ScriptDatabase) (given : Lis
       record {
         choices = (so.done ++ first_choice told.choices ∷ []) ++ [];
         ran = joined_run so.items told.ran;
-        is = ap Ok (one_more [] ∙ ap (λ (e : Option Ending). joined_run so.items (unless_ended told.ran e (all_delivered script_db fuel told.ran.cell [] (first_waiting 1 told.ran.cell.handed)))) (told.ends ∙ some));
+        is = ap Ok (one_more [] ∙ ap (λ (e : Option Ending). joined_run so.items
+            (unless_ended told.ran e (all_delivered script_db fuel told.ran.cell [] (first_waiting 1 told.ran.cell.handed)))) (told.ends ∙ some));
         ends = told.ends ∙ some;
         cell = hold;
         told = all_told;
@@ -131,7 +145,8 @@ module _ {D V : Type 0} (g : Ghosts D) (script_db : ScriptDatabase) (given : Lis
       }
 
 -- no packet waits any more, or there is no fuel left
-pub followed : {D V : Type 0} (g : Ghosts D) (script_db : ScriptDatabase) (given : List ℕ) (most fuel : ℕ) (c : Cell) (start now : OpenCell D V) (tb text : List ℕ) (so : SoFar g script_db given most fuel c start now tb text)
+pub followed : {D V : Type 0} (g : Ghosts D) (script_db : ScriptDatabase) (given : List ℕ) (most fuel : ℕ) (c : Cell) (start now : OpenCell D V)
+    (tb text : List ℕ) (so : SoFar g script_db given most fuel c start now tb text)
     → all_delivered script_db fuel so.cell [] (first_waiting 1 so.cell.handed) ≡ resting so.cell
     → CellTold g script_db given (λ choices. Ok (all_delivered script_db most c choices (first_waiting 1 c.handed))) None start now tb text
 followed g script_db given most fuel c start now tb text so rests =
@@ -145,7 +160,8 @@ followed g script_db given most fuel c start now tb text so rests =
       causes = subst (λ (l : List TraceItem). AreRises 0 l (helds g start) (helds g now)) (sym (append-nil so.items)) so.causes;
     }
 
-pub none_left : (script_db : ScriptDatabase) (fuel : ℕ) (c : Cell) → first_waiting 1 c.handed ≡ None → all_delivered script_db fuel c [] (first_waiting 1 c.handed) ≡ resting c
+pub none_left : (script_db : ScriptDatabase) (fuel : ℕ) (c : Cell) → first_waiting 1 c.handed ≡ None
+    → all_delivered script_db fuel c [] (first_waiting 1 c.handed) ≡ resting c
 none_left script_db fuel c none = ap (all_delivered script_db fuel c []) none
 
 pub no_fuel : (script_db : ScriptDatabase) (c : Cell) (o : Option ℕ) → all_delivered script_db zero c [] o ≡ resting c
@@ -165,16 +181,21 @@ is_waiting k (true ∷ handed) number waits =
     let later = is_waiting (k + 1) handed number waits in (omega (arith, later.0), omega (arith, later.1))
 
 -- sound cells of as many servers have the same hosts
-pub same_hosts : {D V : Type 0} {standing : Standing} (g : Ghosts D) (bound other : ℕ) (now later : OpenCell D V) → IsSound g standing bound now → IsSound g standing other later → length later.sites.items ≡ length now.sites.items → later.hosts.items ≡ now.hosts.items
+pub same_hosts : {D V : Type 0} {standing : Standing} (g : Ghosts D) (bound other : ℕ) (now later : OpenCell D V) → IsSound g standing bound now
+    → IsSound g standing other later → length later.sites.items ≡ length now.sites.items → later.hosts.items ≡ now.hosts.items
 same_hosts g bound other now later sound sounds same = sounds.hosts ∙ ap hosts_of same ∙ sym sound.hosts
 
-module _ {D V : Type 0} {standing : Standing} (g : Ghosts D) (script_db : ScriptDatabase) (most n fuel bound : ℕ) (start now later : OpenCell D V) (tb text after : List ℕ) (follows : Follows g standing script_db most n start now tb text) (less : n ≡ suc fuel) (sound : IsSound g standing bound start) (number : ℕ) (waits : first_waiting 1 now.packets.handed ≡ Some number) where
+module _ {D V : Type 0} {standing : Standing} (g : Ghosts D) (script_db : ScriptDatabase) (most n fuel bound : ℕ) (start now later : OpenCell D V)
+    (tb text after : List ℕ) (follows : Follows g standing script_db most n start now tb text) (less : n ≡ suc fuel) (sound : IsSound g standing bound start)
+    (number : ℕ) (waits : first_waiting 1 now.packets.handed ≡ Some number) where
   before : (given : List ℕ) (c : Cell) → IsModelledBy g script_db.database given start c → SoFar g script_db given most (suc fuel) c start now tb text
   before given c stands = subst (λ (m : ℕ). SoFar g script_db given most m c start now tb text) less (follows.runs given c stands)
 
   -- one more packet was handed over
-  pub follows_more : ((given : List ℕ) (c : Cell) → IsModelledBy g script_db.database given now c → CellTold g script_db given (λ choices. Ok (delivered script_db c (first_choice choices) number)) None now later text after)
-      → ((b : ℕ) → IsSound g standing b now → IsSound g standing b later) → AreRises 0 [] (helds g now) (helds g later) → length later.sites.items ≡ length now.sites.items
+  pub follows_more : ((given : List ℕ) (c : Cell) → IsModelledBy g script_db.database given now c
+      → CellTold g script_db given (λ choices. Ok (delivered script_db c (first_choice choices) number)) None now later text after)
+      → ((b : ℕ) → IsSound g standing b now → IsSound g standing b later) → AreRises 0 [] (helds g now) (helds g later)
+      → length later.sites.items ≡ length now.sites.items
       → ((given : List ℕ) (c : Cell) → HoldRun script_db.database given false c (helds g now) → HoldRun script_db.database given false c (helds g later))
       → Follows g standing script_db most fuel start later tb after
   follows_more told sounds rises same keeps =
@@ -191,15 +212,19 @@ module _ {D V : Type 0} {standing : Standing} (g : Ghosts D) (script_db : Script
       }
 
   -- the next one passes a limit
-  pub limit_there : (given : List ℕ) (c : Cell) → IsModelledBy g script_db.database given start c → (ending : Ending) → ((d : Cell) → IsModelledBy g script_db.database given now d → CellTold g script_db given (λ choices. Ok (delivered script_db d (first_choice choices) number)) (Some ending) now later text after)
+  pub limit_there : (given : List ℕ) (c : Cell) → IsModelledBy g script_db.database given start c → (ending : Ending)
+      → ((d : Cell) → IsModelledBy g script_db.database given now d
+      → CellTold g script_db given (λ choices. Ok (delivered script_db d (first_choice choices) number)) (Some ending) now later text after)
       → CellTold g script_db given (λ choices. Ok (all_delivered script_db most c choices (first_waiting 1 c.handed))) (Some ending) start later tb after
   limit_there given c stands ending told =
       let so = before given c stands in
       let t = told so.cell so.stands in
-      ends_there g script_db given most fuel c start now later tb text after so number (ap (first_waiting 1) so.stands.handed ∙ waits) (Some ending) t ending refl t.cell
+      ends_there g script_db given most fuel c start now later tb text after so number (ap (first_waiting 1) so.stands.handed ∙ waits) (Some ending) t ending
+      refl t.cell
 
 -- none waits any more
-pub all_followed : {D V : Type 0} {standing : Standing} (g : Ghosts D) (script_db : ScriptDatabase) (most fuel : ℕ) (start now : OpenCell D V) (tb text : List ℕ) → Follows g standing script_db most fuel start now tb text
+pub all_followed : {D V : Type 0} {standing : Standing} (g : Ghosts D) (script_db : ScriptDatabase) (most fuel : ℕ) (start now : OpenCell D V)
+    (tb text : List ℕ) → Follows g standing script_db most fuel start now tb text
     → first_waiting 1 now.packets.handed ≡ None → (given : List ℕ) (c : Cell) → IsModelledBy g script_db.database given start c
     → CellTold g script_db given (λ choices. Ok (all_delivered script_db most c choices (first_waiting 1 c.handed))) None start now tb text
 all_followed g script_db most fuel start now tb text follows none given c stands =
@@ -207,16 +232,20 @@ all_followed g script_db most fuel start now tb text follows none given c stands
     followed g script_db given most fuel c start now tb text so (none_left script_db fuel so.cell (ap (first_waiting 1) so.stands.handed ∙ none))
 
 -- as many were handed over as a script may send
-pub fuel_followed : {D V : Type 0} {standing : Standing} (g : Ghosts D) (script_db : ScriptDatabase) (most fuel : ℕ) (start now : OpenCell D V) (tb text : List ℕ) → Follows g standing script_db most fuel start now tb text
+pub fuel_followed : {D V : Type 0} {standing : Standing} (g : Ghosts D) (script_db : ScriptDatabase) (most fuel : ℕ) (start now : OpenCell D V)
+    (tb text : List ℕ) → Follows g standing script_db most fuel start now tb text
     → fuel ≡ zero → (given : List ℕ) (c : Cell) → IsModelledBy g script_db.database given start c
     → CellTold g script_db given (λ choices. Ok (all_delivered script_db most c choices (first_waiting 1 c.handed))) None start now tb text
 fuel_followed g script_db most fuel start now tb text follows none given c stands =
     let so = follows.runs given c stands in
-    followed g script_db given most fuel c start now tb text so (ap (λ (m : ℕ). all_delivered script_db m so.cell [] (first_waiting 1 so.cell.handed)) none ∙ no_fuel script_db so.cell (first_waiting 1 so.cell.handed))
+    followed g script_db given most fuel c start now tb text so (ap (λ (m : ℕ). all_delivered script_db m so.cell [] (first_waiting 1 so.cell.handed)) none
+    ∙ no_fuel script_db so.cell (first_waiting 1 so.cell.handed))
 
 -- memory ran out in the next one
-pub short_there : {D V : Type 0} {standing : Standing} (g : Ghosts D) (script_db : ScriptDatabase) (most fuel : ℕ) (start now later : OpenCell D V) (tb text : List ℕ) → Follows g standing script_db most fuel start now tb text
+pub short_there : {D V : Type 0} {standing : Standing} (g : Ghosts D) (script_db : ScriptDatabase) (most fuel : ℕ) (start now later : OpenCell D V)
+    (tb text : List ℕ) → Follows g standing script_db most fuel start now tb text
     → ((given : List ℕ) (c : Cell) → HoldRun script_db.database given false c (helds g now) → HoldRun script_db.database given false c (helds g later))
-    → (run : List Choice → Run_or_why) (given : List ℕ) (c : Cell) → IsModelledBy g script_db.database given start c → IsShort g script_db.database given run c start later
+    → (run : List Choice → Run_or_why) (given : List ℕ) (c : Cell) → IsModelledBy g script_db.database given start c
+    → IsShort g script_db.database given run c start later
 short_there g script_db most fuel start now later tb text follows keeps run given c stands =
     inl (hold_short script_db.database c given (helds g later) (keeps given c (follows.keeps given c stands.disks)))

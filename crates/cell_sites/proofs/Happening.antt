@@ -7,20 +7,24 @@ use Rattle.cell_model.specs.Durable.{Made}
 use Rattle.cell_model.specs.Node as model
 use Rattle.cell_model.specs.NodeRule.{step_of}
 use Rattle.cell_model.specs.Book.{clock_at, clock_in}
-use Rattle.cell_model.specs.World.{World, Site, Trigger, Step, Fault, Stop, happens, happens_at, happened_at, triggered, occasion, member, step_at, fault_at, stop_at, step_up, fault_up, stop_up, halted_step, only_marks, lost_at}
+use Rattle.cell_model.specs.World.{World, Site, Trigger, Step, Fault, Stop, happens, happens_at, happened_at, triggered, occasion, member, step_at, fault_at}
+use Rattle.cell_model.specs.World.{stop_at, step_up, fault_up, stop_up, halted_step, only_marks, lost_at}
 use Rattle.cell_runs.specs.ScriptDatabase.{ScriptDatabase}
-use Rattle.cell_runs.specs.Script.{Armed, Cell, Choice, sound, DiskOutcome, Serves, Fails_after, Stops_after, armed_at, counted_on, stops_in, calls_on_all, outcome_of_stop, outcome_up, outcome_at, outcome_of, node_in, place_in, stepped_so, stepped, with_event}
+use Rattle.cell_runs.specs.Script.{Armed, Cell, Choice, sound, DiskOutcome, Serves, Fails_after, Stops_after, armed_at, counted_on, stops_in, calls_on_all}
+use Rattle.cell_runs.specs.Script.{outcome_of_stop, outcome_up, outcome_at, outcome_of, node_in, place_in, stepped_so, stepped, with_event}
 
 -- ---- the world
 
-module _ (db : Database) (w : World) (trigger : Trigger) (k : ℕ) (e : NodeEvent) (site : Site) (o : occasion w trigger ≡ Some (k, e)) (there : slice_get w.sites k ≡ Some site) where
+module _ (db : Database) (w : World) (trigger : Trigger) (k : ℕ) (e : NodeEvent) (site : Site) (o : occasion w trigger ≡ Some (k, e))
+    (there : slice_get w.sites k ≡ Some site) where
   -- a step at its site
   step_happens : happens db w (Step trigger []) ≡ happened_at w k (step_at db (member w k) trigger e [] site site.node)
   step_happens =
       ap (triggered w (λ m e site. step_at db m trigger e [] site site.node)) o
       ∙ ap (happens_at w k (λ site. step_at db (member w k) trigger e [] site site.node)) there
 
-  pub up_happens : (s : model.Server) → site.node ≡ model.Up s → happens db w (Step trigger []) ≡ happened_at w k (step_up k site e s.version (step_of db (member w k) s site.clock e []))
+  pub up_happens : (s : model.Server) → site.node ≡ model.Up s
+      → happens db w (Step trigger []) ≡ happened_at w k (step_up k site e s.version (step_of db (member w k) s site.clock e []))
   up_happens s is = step_happens ∙ ap (λ (n : model.Node). happened_at w k (step_at db (member w k) trigger e [] site n)) is
 
   pub halted_happens : (h : model.HaltedServer) → site.node ≡ model.Halted h → happens db w (Step trigger []) ≡ happened_at w k (halted_step site e)
@@ -29,13 +33,15 @@ module _ (db : Database) (w : World) (trigger : Trigger) (k : ℕ) (e : NodeEven
   pub down_happens : site.node ≡ model.Down → happens db w (Step trigger []) ≡ happened_at w k (only_marks site (lost_at trigger))
   down_happens is = step_happens ∙ ap (λ (n : model.Node). happened_at w k (step_at db (member w k) trigger e [] site n)) is
 
-  pub fault_happens : (s : model.Server) (made : ℕ) → site.node ≡ model.Up s → happens db w (Fault trigger [] made) ≡ happened_at w k (fault_up k site e s (step_of db (member w k) s site.clock e []) made)
+  pub fault_happens : (s : model.Server) (made : ℕ) → site.node ≡ model.Up s
+      → happens db w (Fault trigger [] made) ≡ happened_at w k (fault_up k site e s (step_of db (member w k) s site.clock e []) made)
   fault_happens s made is =
       ap (triggered w (λ m e site. fault_at db m e [] made site site.node)) o
       ∙ ap (happens_at w k (λ site. fault_at db (member w k) e [] made site site.node)) there
       ∙ ap (λ (n : model.Node). happened_at w k (fault_at db (member w k) e [] made site n)) is
 
-  pub stop_happens : (s : model.Server) (made : ℕ) → site.node ≡ model.Up s → happens db w (Stop trigger [] made) ≡ happened_at w k (stop_up k site s.version (step_of db (member w k) s site.clock e []) made)
+  pub stop_happens : (s : model.Server) (made : ℕ) → site.node ≡ model.Up s
+      → happens db w (Stop trigger [] made) ≡ happened_at w k (stop_up k site s.version (step_of db (member w k) s site.clock e []) made)
   stop_happens s made is =
       ap (triggered w (λ m e site. stop_at db m e [] made site site.node)) o
       ∙ ap (happens_at w k (λ site. stop_at db (member w k) e [] made site site.node)) there
@@ -55,22 +61,28 @@ fails_after made = record { fails = true; made = made; took = false }
 abbrev pub stops_so : Bool → Choice
 stops_so took = record { fails = false; made = 0; took = took }
 
-module _ (script_db : ScriptDatabase) (c : Cell) (trigger : Trigger) (k : ℕ) (e : NodeEvent) (site : Site) (o : occasion c.run.world trigger ≡ Some (k, e)) (there : slice_get c.run.world.sites k ≡ Some site) where
-  outcome_is : (choice : Choice) → outcome_of script_db.database c.run.world choice c.armed (occasion c.run.world trigger) ≡ outcome_at script_db.database c.run.world choice c.armed (k, e) site.node
+module _ (script_db : ScriptDatabase) (c : Cell) (trigger : Trigger) (k : ℕ) (e : NodeEvent) (site : Site) (o : occasion c.run.world trigger ≡ Some (k, e))
+    (there : slice_get c.run.world.sites k ≡ Some site) where
+  outcome_is : (choice : Choice)
+      → outcome_of script_db.database c.run.world choice c.armed (occasion c.run.world trigger) ≡ outcome_at script_db.database c.run.world choice c.armed
+      (k, e) site.node
   outcome_is choice =
       ap (outcome_of script_db.database c.run.world choice c.armed) o
       ∙ ap (λ (s : Option Site). outcome_at script_db.database c.run.world choice c.armed (k, e) (node_in s)) there
 
-  as_outcome : (choice : Choice) (outcome : DiskOutcome) → outcome_at script_db.database c.run.world choice c.armed (k, e) site.node ≡ outcome → stepped script_db c choice trigger ≡ stepped_so script_db c trigger k outcome
+  as_outcome : (choice : Choice) (outcome : DiskOutcome) → outcome_at script_db.database c.run.world choice c.armed (k, e) site.node ≡ outcome
+      → stepped script_db c choice trigger ≡ stepped_so script_db c trigger k outcome
   as_outcome choice outcome is =
       ap (λ (p : ℕ). stepped_so script_db c trigger p (outcome_of script_db.database c.run.world choice c.armed (occasion c.run.world trigger))) (ap place_in o)
       ∙ ap (stepped_so script_db c trigger k) (outcome_is choice ∙ is)
 
   -- a server that makes no call of its disk
-  pub stepped_down : site.node ≡ model.Down → stepped script_db c sound trigger ≡ with_event script_db (with_armed c (set c.armed k (counted_on 0 (armed_at c.armed k)))) (Step trigger [])
+  pub stepped_down : site.node ≡ model.Down
+      → stepped script_db c sound trigger ≡ with_event script_db (with_armed c (set c.armed k (counted_on 0 (armed_at c.armed k)))) (Step trigger [])
   stepped_down is = as_outcome sound (Serves 0) (ap (outcome_at script_db.database c.run.world sound c.armed (k, e)) is)
 
-  pub stepped_halted : (h : model.HaltedServer) → site.node ≡ model.Halted h → stepped script_db c sound trigger ≡ with_event script_db (with_armed c (set c.armed k (counted_on 0 (armed_at c.armed k)))) (Step trigger [])
+  pub stepped_halted : (h : model.HaltedServer) → site.node ≡ model.Halted h
+      → stepped script_db c sound trigger ≡ with_event script_db (with_armed c (set c.armed k (counted_on 0 (armed_at c.armed k)))) (Step trigger [])
   stepped_halted h is = as_outcome sound (Serves 0) (ap (outcome_at script_db.database c.run.world sound c.armed (k, e)) is)
 
   module _ (s : model.Server) (up : site.node ≡ model.Up s) where
@@ -81,14 +93,16 @@ module _ (script_db : ScriptDatabase) (c : Cell) (trigger : Trigger) (k : ℕ) (
     clock_here : clock_at c.run.world k ≡ site.clock
     clock_here = ap clock_in there
 
-    outcome_here : (choice : Choice) → outcome_at script_db.database c.run.world choice c.armed (k, e) site.node ≡ outcome_up choice s.version calls_here (armed_at c.armed k)
+    outcome_here : (choice : Choice)
+        → outcome_at script_db.database c.run.world choice c.armed (k, e) site.node ≡ outcome_up choice s.version calls_here (armed_at c.armed k)
     outcome_here choice =
         ap (outcome_at script_db.database c.run.world choice c.armed (k, e)) up
         ∙ ap (λ (now : ℕ). outcome_up choice s.version (step_of script_db.database (member c.run.world k) s now e []).calls (armed_at c.armed k)) clock_here
 
     -- a step that the disk serves
     pub stepped_served : stops_in s.version calls_here (armed_at c.armed k) ≡ None
-        → stepped script_db c sound trigger ≡ with_event script_db (with_armed c (set c.armed k (counted_on (calls_on_all s.version calls_here) (armed_at c.armed k)))) (Step trigger [])
+        → stepped script_db c sound trigger ≡ with_event script_db (with_armed c
+        (set c.armed k (counted_on (calls_on_all s.version calls_here) (armed_at c.armed k)))) (Step trigger [])
     stepped_served none =
         as_outcome sound (Serves (calls_on_all s.version calls_here))
         (outcome_here sound ∙ ap (outcome_of_stop (calls_on_all s.version calls_here) false) none)
@@ -99,7 +113,8 @@ module _ (script_db : ScriptDatabase) (c : Cell) (trigger : Trigger) (k : ℕ) (
 
     -- one in which it stops
     pub stepped_stops : (took : Bool) (whole : ℕ) → stops_in s.version calls_here (armed_at c.armed k) ≡ Some whole
-        → stepped script_db c (stops_so took) trigger ≡ with_event script_db (with_armed c (set c.armed k None)) (Stop trigger [] (if took then whole + 1 else whole))
+        → stepped script_db c (stops_so took) trigger ≡ with_event script_db (with_armed c (set c.armed k None))
+        (Stop trigger [] (if took then whole + 1 else whole))
     stepped_stops took whole is =
         as_outcome (stops_so took) (Stops_after (if took then whole + 1 else whole))
         (outcome_here (stops_so took) ∙ ap (outcome_of_stop (calls_on_all s.version calls_here) took) is)

@@ -30,7 +30,8 @@ rest_ascending a [] up = tt
 rest_ascending a (b ∷ hosts) up = up.1
 
 -- what is in a list and behind its first is so in another that begins with the same
-behind : (x : Host) (xs ys : List Host) → IsAscending (x ∷ xs) → ((z : Host) → Contains (x ∷ xs) z → Contains (x ∷ ys) z) → (z : Host) → Contains xs z → Contains ys z
+behind : (x : Host) (xs ys : List Host) → IsAscending (x ∷ xs) → ((z : Host) → Contains (x ∷ xs) z → Contains (x ∷ ys) z) → (z : Host) → Contains xs z
+    → Contains ys z
 behind x xs ys up all z (k, lt, is) = by (all z (suc k, omega arith, is))
   where
     by : Contains (x ∷ ys) z → Contains ys z
@@ -55,7 +56,8 @@ same_first x y xs ys up up' (suc k, lt, is) (suc j, lt', is') =
     absurd (omega (arith, one, two, e, f))
 
 -- two ascending lists of the same hosts are the same
-pub same_ascending : (xs ys : List Host) → IsAscending xs → IsAscending ys → ((z : Host) → Contains xs z → Contains ys z) → ((z : Host) → Contains ys z → Contains xs z) → xs ≡ ys
+pub same_ascending : (xs ys : List Host) → IsAscending xs → IsAscending ys → ((z : Host) → Contains xs z → Contains ys z)
+    → ((z : Host) → Contains ys z → Contains xs z) → xs ≡ ys
 same_ascending [] [] up up' to from = refl
 same_ascending [] (y ∷ ys) up up' to from = absurd (none_in y (from y (0, omega arith, refl)))
 same_ascending (x ∷ xs) [] up up' to from = absurd (none_in x (to x (0, omega arith, refl)))

@@ -36,8 +36,11 @@ moved_first i j (x ∷ xs) [] moved = absurd moved
 moved_first i j (x ∷ xs) (y ∷ ys) moved = (moved.0, moved_first (i + 1) (j + 1) xs ys moved.1)
 
 module _ {D V : Type 0} (g : Ghosts D) where
-  reads_keep : (ss : List ModelSite) (sites : List (Site D V)) (k : ℕ) (site later : Site D V) → slice_get sites k ≡ Some site → HoldsFor (held_at g site) (held_at g later)
-      → AreReadBy ss (map (held_at {V = V} g) sites) → AreReadBy ss (map (held_at {V = V} g) (set sites k later)) × AreMoved (λ j x y. y.steps ≡ x.steps) k (map (held_at {V = V} g) sites) (map (held_at {V = V} g) (set sites k later))
+  reads_keep : (ss : List ModelSite) (sites : List (Site D V)) (k : ℕ) (site later : Site D V) → slice_get sites k ≡ Some site
+      → HoldsFor (held_at g site) (held_at g later)
+      → AreReadBy ss (map (held_at {V = V} g) sites)
+      → AreReadBy ss (map (held_at {V = V} g) (set sites k later)) × AreMoved (λ j x y. y.steps ≡ x.steps) k (map (held_at {V = V} g) sites)
+      (map (held_at {V = V} g) (set sites k later))
   reads_keep ss [] k site later there one read = cc
   reads_keep [] (x ∷ sites) k site later there one read = absurd read
   reads_keep (s ∷ ss) (x ∷ sites) zero site later there one read =
@@ -55,13 +58,15 @@ module _ {D V : Type 0} (g : Ghosts D) where
       let rest = reads_keep ss sites k site later there one read.1 in
       ((read.0, rest.0), (refl, moved_first k (suc k + 1) (map (held_at {V = V} g) sites) (map (held_at {V = V} g) (set sites k later)) rest.1))
 
-  pub keeps : {standing : Standing} (script_db : ScriptDatabase) (before mid after : OpenCell D V) (k : ℕ) (p : Packet) (end : SiteEnd) (bound : ℕ) → IsSound g standing bound before → IsTaken (member_at before k) (event.Packet p)
+  pub keeps : {standing : Standing} (script_db : ScriptDatabase) (before mid after : OpenCell D V) (k : ℕ) (p : Packet) (end : SiteEnd) (bound : ℕ)
+      → IsSound g standing bound before → IsTaken (member_at before k) (event.Packet p)
       → SiteStepped g standing script_db.database k (event.Packet p) end before mid → after.sites.items ≡ mid.sites.items
       → (given : List ℕ) (c : Cell) → HoldRun script_db.database given false c (helds g before) → HoldRun script_db.database given false c (helds g after)
   keeps script_db before mid after k p end bound sound taken ss sites given c hold =
       let at = here g bound before k ss.clock ss.node sound ss.there in
       let later : Site D V = record { clock = ss.clock; server = ss.server } in
-      let one = packet_holds g script_db.database (member_at before k) ss.clock p taken.votes ss.node ss.later ss.out ss.server mid.outputs at.sound at.disk end ss.step ss.becomes in
+      let one = packet_holds g script_db.database (member_at before k) ss.clock p taken.votes ss.node ss.later ss.out ss.server mid.outputs at.sound at.disk end
+      ss.step ss.becomes in
       let kept = reads_keep c.run.world.sites before.sites.items k (up_site ss.clock ss.node) later ss.there one hold.read in
       subst (λ (l : List (Site D V)). HoldRun script_db.database given false c (map (held_at {V = V} g) l)) (sym (sites ∙ ss.sites))
       (hold_still script_db.database c given (helds g before) (map (held_at {V = V} g) (set before.sites.items k later)) kept.0

@@ -1,5 +1,6 @@
 -- What the model makes of a step of a server that is up.
-use Rattle.std.proofs.Common.{if◌then◌else◌, ◌≡◌, ◌≢◌, ◌⊎◌, inl, inr, ◌<◌, ◌+◌, ℕ, zero, suc, Bool, true, false, Option, Some, None, List, [], ◌∷◌, length, map, set, sum, take, get_or, refl, sym, ap, subst, ◌∙◌, arith}
+use Rattle.std.proofs.Common.{if◌then◌else◌, ◌≡◌, ◌≢◌, ◌⊎◌, inl, inr, ◌<◌, ◌+◌, ℕ, zero, suc, Bool, true, false, Option, Some, None, List, [], ◌∷◌, length, map}
+use Rattle.std.proofs.Common.{set, sum, take, get_or, refl, sym, ap, subst, ◌∙◌, arith}
 use Rattle.std.specs.Prelude.{All, IsSome, IsSomeAnd, slice_get}
 use Rattle.std.proofs.lemmas.Bool.{eq-eqb, ne_eqb}
 use Rattle.std.proofs.lemmas.List.Elements.{All-nil}
@@ -9,12 +10,13 @@ use Rattle.ubik_types.specs.declared.hosts.Host.{Host}
 use Rattle.cell_model.specs.declared.events.NodeEvent.{NodeEvent}
 use Rattle.cell_model.specs.declared.events.NodeEvent.TheVariants as event
 use Rattle.cell_model.specs.declared.events.Output.{Output}
-use Rattle.cell_model.specs.Durable.{Durable, durable_after_all}
+use Rattle.cell_model.specs.Durable.{Durable, Made, durable_after_all}
 use Rattle.cell_model.specs.Node as model
 use Rattle.cell_model.specs.NodeRule.{step_of, refusals}
 use Rattle.cell_model.specs.Step.{Member, Shown, Stepped, outputs_of}
 use Rattle.cell_model.specs.Voters.{AnswersCall, AsksNoOther, IsTaken, IsVotePacket, IsVoter, VotersVote}
-use Rattle.cell_model.specs.World.{Site as ModelSite, Trigger, Event, Step, Stop, Fault, Happened, Happening, Halts, Stops, SiteHappened, entries_from, happened_at, happens, halted_step, fault_up, step_up, stop_up, occasion, member, packets_of}
+use Rattle.cell_model.specs.World.{Site as ModelSite, Trigger, Event, Step, Stop, Fault, Happened, Happening, Halts, Stops, SiteHappened, entries_from}
+use Rattle.cell_model.specs.World.{happened_at, happens, halted_step, fault_up, step_up, stop_up, occasion, member, packets_of}
 use Rattle.cell_model.proofs.WholeWorld.{step_leads}
 use Rattle.cell_runs.specs.ScriptDatabase.{ScriptDatabase}
 use Rattle.cell_runs.specs.Script.{Armed, Cell, Choice, armed_at, calls_on_all, counted_on, first_choice, happened, stepped}
@@ -37,10 +39,11 @@ use Rattle.cell_sites.specs.Stepped.{StaysSound, member_at, up_site}
 use Rattle.cell_sites.proofs.Arming.{AreFew, armed_here, armed_set, armed_still, counts_on, none_stops, whole_before}
 use Rattle.cell_sites.proofs.Counting.{calls_other, calls_own, none_cut, sum_on}
 use Rattle.cell_sites.proofs.FewCalls.{step_few}
-use Rattle.cell_sites.proofs.Happening.{up_happens, halted_happens, fault_happens, stop_happens, fails_after, stepped_fails, stepped_halted, stepped_served, stepped_stops, stops_so, with_armed}
+use Rattle.cell_sites.proofs.Happening.{up_happens, halted_happens, fault_happens, stop_happens, fails_after, stepped_fails, stepped_halted, stepped_served}
+use Rattle.cell_sites.proofs.Happening.{stepped_stops, stops_so, with_armed}
 use Rattle.cell_sites.proofs.Nodes.{is_up}
 use Rattle.cell_sites.proofs.Plainly.{and_some, make_some}
-use Rattle.cell_sites.proofs.Serving.{Failed, FilesAt, failed_in, files_at, one_durable, rise_most, runs_still, served_rise}
+use Rattle.cell_sites.proofs.Serving.{Failed, FilesAt, failed_in, fails_first, files_at, one_durable, rise_most, runs_still, served_rise}
 use Rattle.cell_sites.proofs.Shortage.{IsEither, step_either}
 use Rattle.db_image.specs.Standing.{Standing}
 
@@ -66,7 +69,8 @@ marks_one k = (
 )
 
 -- the event of the world that a step is, with the choices that bring it, and what it makes of the disk
-pub record StepMade {D V : Type 0} (g : Ghosts D) (script_db : ScriptDatabase) (c : Cell) (running : OpenCell D V) (k : ℕ) (trigger : Trigger) (call : List ℕ) (marks : List Happening) (before after : Site D V) (out : List Output) : Type 0 where
+pub record StepMade {D V : Type 0} (g : Ghosts D) (script_db : ScriptDatabase) (c : Cell) (running : OpenCell D V) (k : ℕ) (trigger : Trigger) (call : List ℕ)
+    (marks : List Happening) (before after : Site D V) (out : List Output) : Type 0 where
   pub ev : Event
   pub h : SiteHappened
   pub choices : List Choice
@@ -100,7 +104,12 @@ refusals_rest event.BeaconTurn hosts = All-nil _
 refusals_rest event.RecoverTurn hosts = All-nil _
 refusals_rest (event.Ask id call) hosts = All-nil _
 
-module _ {D V : Type 0} {standing : Standing} (g : Ghosts D) (script_db : ScriptDatabase) (given : List ℕ) (before : OpenCell D V) (c : Cell) (stands : IsModelledBy g script_db.database given before c) (law : VotersVote) (k : ℕ) (e : NodeEvent) (trigger : Trigger) (o : occasion c.run.world trigger ≡ Some (k, e)) (site : ModelSite) (there : slice_get c.run.world.sites k ≡ Some site) (call : List ℕ) (clock : ℕ) (node : Node D V) (placed : slice_get before.sites.items k ≡ Some (up_site clock node)) (clocks : site.clock ≡ clock) (stood : site.node ≡ node_of node) (me : k < length before.hosts.items) (taken : IsTaken (member_at before k) e) (asks : AsksNoOther e call) (was : IsSoundNode g (member_at before k) clock node) (disk : IsSoundDisk g standing node.store.disk) (read : IsReadBy site (held g node.store.disk)) where
+module _ {D V : Type 0} {standing : Standing} (g : Ghosts D) (script_db : ScriptDatabase) (given : List ℕ) (before : OpenCell D V) (c : Cell)
+    (stands : IsModelledBy g script_db.database given before c) (law : VotersVote) (k : ℕ) (e : NodeEvent) (trigger : Trigger)
+    (o : occasion c.run.world trigger ≡ Some (k, e)) (site : ModelSite) (there : slice_get c.run.world.sites k ≡ Some site) (call : List ℕ) (clock : ℕ)
+    (node : Node D V) (placed : slice_get before.sites.items k ≡ Some (up_site clock node)) (clocks : site.clock ≡ clock) (stood : site.node ≡ node_of node)
+    (me : k < length before.hosts.items) (taken : IsTaken (member_at before k) e) (asks : AsksNoOther e call)
+    (was : IsSoundNode g (member_at before k) clock node) (disk : IsSoundDisk g standing node.store.disk) (read : IsReadBy site (held g node.store.disk)) where
   -- the server in its cell, as the model has it
   same_member : member c.run.world k ≡ member_at before k
   same_member = ap (λ (hosts : List Host). record { hosts = hosts; me = k }) stands.hosts
@@ -117,8 +126,8 @@ module _ {D V : Type 0} {standing : Standing} (g : Ghosts D) (script_db : Script
       ap (λ (m : Member). step_of script_db.database m s site.clock e []) same_member
       ∙ ap (λ (now : ℕ). step_of script_db.database (member_at before k) s now e []) clocks
 
-  voter : (s : model.Server) → up_server node ≡ s → IsVoter (member_at before k) s
-  voter s is = subst (IsVoter (member_at before k)) is was.voter
+  voter : (s : model.Server) → (node.halted ≡ false) × (up_server node ≡ s) → IsVoter (member_at before k) s
+  voter s is = subst (IsVoter (member_at before k)) is.1 (was.voter is.0)
 
   -- at most one durable call
   few : (s : model.Server) → AreFew (model_of s).calls
@@ -140,10 +149,12 @@ module _ {D V : Type 0} {standing : Standing} (g : Ghosts D) (script_db : Script
       (armed_here g before.sites.items c.armed k (up_site clock node) stands.armed placed)
 
   -- the entries of the step where it is made whole
-  entries_are : (s : model.Server) → node_of node ≡ model.Up s → (j : ℕ) → calls_of j (happens script_db.database c.run.world (Step trigger [])).entries ≡ calls_of j (entries_from k s.version (model_of s).calls)
+  entries_are : (s : model.Server) → node_of node ≡ model.Up s → (j : ℕ)
+      → calls_of j (happens script_db.database c.run.world (Step trigger [])).entries ≡ calls_of j (entries_from k s.version (model_of s).calls)
   entries_are s up j = ap (λ (h : Happened). calls_of j h.entries) (up_happens script_db.database c.run.world trigger k e site o there s (stood ∙ up))
 
-  entries_none : (s : model.Server) → node_of node ≡ model.Up s → (j : ℕ) → j ≢ k → calls_of j (happens script_db.database c.run.world (Step trigger [])).entries ≡ []
+  entries_none : (s : model.Server) → node_of node ≡ model.Up s → (j : ℕ) → j ≢ k
+      → calls_of j (happens script_db.database c.run.world (Step trigger [])).entries ≡ []
   entries_none s up j other = entries_are s up j ∙ calls_other j k s.version (model_of s).calls other
 
   -- a server that was up, and the step that it made, which is the one for which all memory was found, or came short
@@ -154,19 +165,29 @@ module _ {D V : Type 0} {standing : Standing} (g : Ghosts D) (script_db : Script
     pub makes : Makes (made_of s short) (node_of later) out (Serves g (durable_in s) b a)
     pub either : IsEither s (made_of s short) (made_of s [])
 
-  pub done_by : (later : Node D V) (out : List Output) (b a : D) → Steps g script_db.database (member_at before k) Done e clock (node_of node) (node_of later) out b a → DoneBy later out b a
+  pub done_by : (later : Node D V) (out : List Output) (b a : D)
+      → Steps g script_db.database (member_at before k) Done e clock (node_of node) (node_of later) out b a → DoneBy later out b a
   done_by later out b a steps = by (node_of node) refl steps
     where
       by : (x : model.Node) → node_of node ≡ x → Steps g script_db.database (member_at before k) Done e clock x (node_of later) out b a → DoneBy later out b a
       by model.Down is steps = absurd steps
       by (model.Halted h) is steps = absurd steps
       by (model.Up s) is (short, makes) =
-          let takes = voter s (is_up node s is).1 in
-          record { s = s; short = short; up = is; makes = makes; either = step_either script_db.database (member_at before k) s clock e short taken takes.flight takes.waiting }
+          let takes = voter s (is_up node s is) in
+          record {
+            s = s;
+            short = short;
+            up = is;
+            makes = makes;
+            either = step_either script_db.database (member_at before k) s clock e short taken takes.flight
+                takes.waiting;
+          }
 
   -- ---- a step for which memory was found
 
-  module _ (later : Node D V) (out : List Output) (done : DoneBy later out node.store.disk later.store.disk) (same : made_of done.s done.short ≡ made_of done.s []) (calls : Calls g node later Done) (sound_later : StaysSound g standing (member_at before k) clock later) where
+  module _ (later : Node D V) (out : List Output) (done : DoneBy later out node.store.disk later.store.disk)
+      (same : made_of done.s done.short ≡ made_of done.s []) (calls : Calls g node later Done)
+      (sound_later : StaysSound g standing (member_at before k) clock later) where
     abbrev t : Stepped
     t = model_of done.s
 
@@ -199,7 +220,7 @@ module _ {D V : Type 0} {standing : Standing} (g : Ghosts D) (script_db : Script
         let s = done.s in
         let armed = armed_at c.armed k in
         let n = calls_on_all s.version t.calls in
-        let steps = law.steps script_db.database (member_at before k) s clock e [] me (voter s (is_up node s done.up).1) taken in
+        let steps = law.steps script_db.database (member_at before k) s clock e [] me (voter s (is_up node s done.up)) taken in
         let at_later = files_at g (member_at before k) clock later t.server sound_later.node sound_later.disk later_up in
         let happened_so = up_happens script_db.database c.run.world trigger k e site o there s (stood ∙ done.up) in
         record {
@@ -208,12 +229,13 @@ module _ {D V : Type 0} {standing : Standing} (g : Ghosts D) (script_db : Script
           choices = [];
           armed = set c.armed k (counted_on n armed);
           is =
-              stepped_served script_db c trigger k e site o there s (stood ∙ done.up) (none_stops s.version t.calls armed (g.stop node.store.disk) (few s) (stops s done.up) runs)
+              stepped_served script_db c trigger k e site o there s (stood ∙ done.up) (none_stops s.version t.calls armed (g.stop node.store.disk) (few s)
+              (stops s done.up) runs)
               ∙ ap (happened (with_armed c (set c.armed k (counted_on n armed))) (Step trigger [])) happened_so;
           happens_so = happened_so;
           outputs = sym (done.makes.outputs ∙ ap (λ (x : Stepped). outputs_of x.shown) t_is);
           answers = subst (λ (x : Stepped). All (λ one. AnswersCall call one) x.shown) (sym (model_step s))
-              (law.answers script_db.database (member_at before k) s clock e [] call me (voter s (is_up node s done.up).1) taken asks);
+              (law.answers script_db.database (member_at before k) s clock e [] call me (voter s (is_up node s done.up)) taken asks);
           votes = subst (λ (x : Stepped). All (IsVotePacket before.hosts.items) (packets_of x.shown)) (sym (model_step s)) steps.packets;
           stood = record { clock = clocks; node = sym later_up };
           marked = refl;
@@ -222,7 +244,8 @@ module _ {D V : Type 0} {standing : Standing} (g : Ghosts D) (script_db : Script
               (subst (StopsAs (counted_on n armed)) (sym stop_is) (counts_on armed (g.stop node.store.disk) n (stops s done.up) runs)));
           reads = make_some (g.files later.store.disk) at_later.files (StandsAs (durable_after_all site.durable t.calls)) at_later.is
               (subst (λ (d : Durable). StandsAs d at_later.files)
-              (sym (step_leads script_db.database (member c.run.world k) s site.clock e []) ∙ ap (λ (d : Durable). durable_after_all d t.calls) (sym (durable_is s done.up)))
+              (sym (step_leads script_db.database (member c.run.world k) s site.clock e [])
+              ∙ ap (λ (d : Durable). durable_after_all d t.calls) (sym (durable_is s done.up)))
               at_later.stands);
           rises = (n, sym (ap sum (entries_are s done.up k ∙ calls_own k s.version t.calls) ∙ sum_on s.version t.calls), rose);
           rests = λ j other. sym (ap sum (entries_none s done.up j other));
@@ -230,12 +253,14 @@ module _ {D V : Type 0} {standing : Standing} (g : Ghosts D) (script_db : Script
 
   -- ---- a step of a server that was halted
 
-  pub made_rested : (later : Node D V) (out : List Output) → node.halted ≡ true → Steps g script_db.database (member_at before k) Halted e clock (node_of node) (node_of later) out node.store.disk later.store.disk
+  pub made_rested : (later : Node D V) (out : List Output) → node.halted ≡ true
+      → Steps g script_db.database (member_at before k) Halted e clock (node_of node) (node_of later) out node.store.disk later.store.disk
       → StepMade g script_db c before k trigger call [] (up_site clock node) (up_site clock later) out
   made_rested later out halts steps =
       let h = model.halted_from (up_server node) in
       let halted : node_of node ≡ model.Halted h = ap (λ (b : Bool). if b then model.Halted h else model.Up (up_server node)) halts in
-      let is = subst (λ (x : model.Node). Steps g script_db.database (member_at before k) Halted e clock x (node_of later) out node.store.disk later.store.disk) halted steps in
+      let is = subst (λ (x : model.Node). Steps g script_db.database (member_at before k) Halted e clock x (node_of later) out node.store.disk later.store.disk)
+      halted steps in
       let armed = set c.armed k (counted_on 0 (armed_at c.armed k)) in
       let happened_so = halted_happens script_db.database c.run.world trigger k e site o there h (stood ∙ halted) in
       record {
@@ -259,7 +284,9 @@ module _ {D V : Type 0} {standing : Standing} (g : Ghosts D) (script_db : Script
 
   -- ---- a step in which the disk failed
 
-  module _ (out : List Output) (failed later : D) (up : node.halted ≡ false) (after : model.Node) (steps : Steps g script_db.database (member_at before k) Halted e clock (node_of node) after out node.store.disk failed) (revived : IsRevived g failed later) (told : IsSome (g.files later)) where
+  module _ (out : List Output) (failed later : D) (up : node.halted ≡ false) (after : model.Node)
+      (steps : Steps g script_db.database (member_at before k) Halted e clock (node_of node) after out node.store.disk failed)
+      (revived : IsRevived g failed later) (told : IsSome (g.files later)) where
     abbrev pub s : model.Server
     s = up_server node
 
@@ -272,8 +299,17 @@ module _ {D V : Type 0} {standing : Standing} (g : Ghosts D) (script_db : Script
     is_so : Steps g script_db.database (member_at before k) Halted e clock (model.Up s) after out node.store.disk failed
     is_so = subst (λ (x : model.Node). Steps g script_db.database (member_at before k) Halted e clock x after out node.store.disk failed) is_up_here steps
 
+    -- where memory was not found no durable call was made, and so none of those that the model has
     pub fails : FailsIn g (durable_in s) node.store.disk failed u.calls
-    fails = subst (λ (x : Stepped). FailsIn g (durable_in s) node.store.disk failed x.calls) (sym (model_step s)) is_so.2
+    fails =
+        let takes = voter s (up, refl) in
+        by (step_either script_db.database (member_at before k) s clock e is_so.2 taken takes.flight takes.waiting)
+      where
+        by : IsEither s (made_of s is_so.2) (made_of s []) → FailsIn g (durable_in s) node.store.disk failed u.calls
+        by (inl same) = subst (λ (x : Stepped). FailsIn g (durable_in s) node.store.disk failed x.calls) (same ∙ sym (model_step s)) is_so.3
+        by (inr came) =
+            fails_first g (durable_in s) node.store.disk failed u.calls
+            (subst (λ (l : List Made). FailsIn g (durable_in s) node.store.disk failed l) came.calls is_so.3)
 
     so : Failed g s node.store.disk later u.calls fails.whole
     so = failed_in g node s failed later u.calls (files s is_up_here) (few s) fails revived told
@@ -292,7 +328,8 @@ module _ {D V : Type 0} {standing : Standing} (g : Ghosts D) (script_db : Script
     cut_none j other = none_cut (calls_of j (happens script_db.database c.run.world (Step trigger [])).entries) made (entries_none s is_up_here j other)
 
     -- without a stop: the server is halted
-    pub made_fault : (halted : Node D V) → halted.store.disk ≡ later → node_of halted ≡ after → StepMade g script_db c before k trigger call (end_marks k ended.Halts) (up_site clock node) (up_site clock halted) out
+    pub made_fault : (halted : Node D V) → halted.store.disk ≡ later → node_of halted ≡ after
+        → StepMade g script_db c before k trigger call (end_marks k ended.Halts) (up_site clock node) (up_site clock halted) out
     made_fault halted place node_is =
         let happened_so = fault_happens script_db.database c.run.world trigger k e site o there s made (stood ∙ is_up_here) in
         record {
@@ -315,12 +352,15 @@ module _ {D V : Type 0} {standing : Standing} (g : Ghosts D) (script_db : Script
         }
 
     -- with a stop: it is down, and shows nothing
-    pub made_stop : (calls : (most : ℕ) × CallsAtMost g most node.store.disk failed ((Halted ≡ Halted) × (node.halted ≡ false))) → IsStopped (g.stop failed) → StepMade g script_db c before k trigger call (end_marks k ended.Stops) (up_site clock node) (record { clock = clock; server = Down later }) []
+    pub made_stop : (calls : (most : ℕ) × CallsAtMost g most node.store.disk failed ((Halted ≡ Halted) × (node.halted ≡ false))) → IsStopped (g.stop failed)
+        → StepMade g script_db c before k trigger call (end_marks k ended.Stops) (up_site clock node) (record { clock = clock; server = Down later }) []
     made_stop calls stopped =
         let happened_so = stop_happens script_db.database c.run.world trigger k e site o there s made (stood ∙ is_up_here) in
         let advanced = calls.1.advances in
-        let rise_is : advanced.calls ≡ so.rise = let is = advanced.steps in let still = revived.steps in let rose = so.steps in omega (arith, is, still, rose) in
-        let stop_is : g.stop failed ≡ after_changes so.rise (g.stop node.store.disk) = advanced.stop ∙ ap (λ (m : ℕ). after_changes m (g.stop node.store.disk)) rise_is in
+        let rise_is : advanced.calls ≡ so.rise = let is = advanced.steps in let still = revived.steps in let rose = so.steps in omega
+        (arith, is, still, rose) in
+        let stop_is : g.stop failed ≡ after_changes so.rise (g.stop node.store.disk) = advanced.stop
+        ∙ ap (λ (m : ℕ). after_changes m (g.stop node.store.disk)) rise_is in
         let whole = whole_before s.version u.calls (armed_at c.armed k) (g.stop node.store.disk) fails.whole so.rise (few s) (stops s is_up_here)
         (runs_still g node s failed later u.calls (files s is_up_here) (few s) fails) (subst IsStopped stop_is stopped)
         (rise_most g node s failed later u.calls (files s is_up_here) (few s) fails so.rise (sym revived.steps ∙ so.steps)) in

@@ -12,6 +12,7 @@ use Rattle.ubik_types.specs.Phase.{Polled, Spread, PhaseRecord, NoPhase, Poll, F
 use Rattle.ubik_types.specs.Quorum.{is_majority}
 use Rattle.ubik_types.specs.Version.{version_lt}
 use Rattle.ubik_types.specs.Votes.{beacon_is_due}
+use Rattle.lock_table.specs.declared.tables.TheConstants.{MAX_WAITING}
 use Rattle.ubik_calls.specs.declared.packets.Packet.{Packet}
 use Rattle.ubik_calls.specs.declared.packets.Body.{Body}
 use Rattle.ubik_calls.specs.declared.packets.Body.TheVariants as body
@@ -45,7 +46,8 @@ first_meant standing d [] meant = meant
 first_meant standing d (made ∷ calls) meant = meant.0
 
 -- so after the first so many
-pub taken_meant : (standing : Standing) (d : Durable) (calls : List Made) (n : ℕ) → AllMeant standing d calls → IsMeantImage standing (durable_after_all d (take n calls)).image
+pub taken_meant : (standing : Standing) (d : Durable) (calls : List Made) (n : ℕ) → AllMeant standing d calls
+    → IsMeantImage standing (durable_after_all d (take n calls)).image
 taken_meant standing d calls zero meant = first_meant standing d calls meant
 taken_meant standing d [] (suc n) meant = meant
 taken_meant standing d (made ∷ calls) (suc n) meant = taken_meant standing (durable_after d made.call) calls n meant.1
@@ -55,7 +57,8 @@ none_more standing d calls none meant = subst (AllMeant standing d) (sym none) m
 
 -- ---- holders
 
-majority_none : (m : Member) (s : Server) (poll : Polled) (spread : Spread) (announced : Version) (f : Option Flight) → (flight_settled m s poll spread announced f).calls ≡ []
+majority_none : (m : Member) (s : Server) (poll : Polled) (spread : Spread) (announced : Version) (f : Option Flight)
+    → (flight_settled m s poll spread announced f).calls ≡ []
 majority_none m s poll spread announced None = refl
 majority_none m s poll spread announced (Some f) =
     cond_both (is_majority (cell_size m) spread.holders) _ _ (λ (t : Stepped). t.calls ≡ []) (λ _. refl) (λ _. refl)
@@ -71,7 +74,8 @@ settled_none m s (Ready poll spread announced) = majority_none m s poll spread a
 
 -- ---- one step
 
-module _ (standing : Standing) (keeps : (image : List ℕ) (now : ℕ) (call : List ℕ) → IsMeantImage standing image → IsMeantImage standing (standing.database.call image now call).image) where
+module _ (standing : Standing) (keeps : (image : List ℕ) (now : ℕ) (call : List ℕ) → IsMeantImage standing image → IsMeantImage standing
+    (standing.database.call image now call).image) where
   abbrev db : Database
   db = standing.database
 
@@ -141,7 +145,7 @@ module _ (standing : Standing) (keeps : (image : List ℕ) (now : ℕ) (call : L
         let o = db.call s.image now call in
         cond_both short _ _ Meant (λ _. meant) (λ _. turned_meant id call o.image o.reply (keeps s.image now call meant))
     written_meant id call short (Some f) =
-        cond_both (nat_le 64 (length s.waiting)) _ _ Meant (λ _. meant) (λ _. cond_both short _ _ Meant (λ _. meant) (λ _. meant))
+        cond_both (nat_le MAX_WAITING (length s.waiting)) _ _ Meant (λ _. meant) (λ _. cond_both short _ _ Meant (λ _. meant) (λ _. meant))
 
     served_meant : (id : ℕ) (call : List ℕ) (writes short : Bool) → Meant (served db m s now id call writes short)
     served_meant id call true short = written_meant id call short s.flight
@@ -202,7 +206,8 @@ module _ (standing : Standing) (keeps : (image : List ℕ) (now : ℕ) (call : L
   pub step_meant : (m : Member) (s : Server) (now : ℕ) (e : NodeEvent) (short : List Bool) → IsBuilt m e → IsMeantImage standing s.image
       → AllMeant standing (durable s.version s.image) (step_of db m s now e short).calls
   unfolding step_of
-  step_meant m s now e short built meant = cond_both (leased m s now) _ _ After (λ _. flying s.flight) (λ _. handled_meant m (with_phase (without_writes s) NoPhase) now meant e _ built)
+  step_meant m s now e short built meant =
+      cond_both (leased m s now) _ _ After (λ _. flying s.flight) (λ _. handled_meant m (with_phase (without_writes s) NoPhase) now meant e _ built)
     where
       After : Stepped → Type 0
       After t = AllMeant standing (durable s.version s.image) (followed t (λ after. handled db m after now e (short_after t.shown short))).calls
@@ -221,6 +226,8 @@ taken_built m event.RecoverTurn taken = taken
 taken_built m (event.Ask id call) taken = taken
 
 -- what a database does is meant wherever its image stands
-pub keeps_meant : (standing : Standing) → ((image : List ℕ) (s : standing.State) (now : ℕ) (call : List ℕ) → standing.StandsFor image s → IsMeantOver standing image s (standing.database.call image now call) (standing.meaning.call s now call))
+pub keeps_meant : (standing : Standing)
+    → ((image : List ℕ) (s : standing.State) (now : ℕ) (call : List ℕ) → standing.StandsFor image s
+    → IsMeantOver standing image s (standing.database.call image now call) (standing.meaning.call s now call))
     → (image : List ℕ) (now : ℕ) (call : List ℕ) → IsMeantImage standing image → IsMeantImage standing (standing.database.call image now call).image
 keeps_meant standing is_meant image now call (s, stands) = ((standing.meaning.call s now call).state, (is_meant image s now call stands).stands)

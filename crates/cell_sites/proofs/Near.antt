@@ -1,5 +1,6 @@
 -- Clocks that are near, before and after a tick.
-use Rattle.std.proofs.Common.{◌≡◌, ◌≢◌, ◌<◌, ◌≤◌, ◌+◌, ◌&&◌, ◌⊎◌, ℕ, zero, suc, Bool, true, false, List, [], ◌∷◌, length, map, set, get_or, inl, inr, refl, ap, ◌∙◌, arith}
+use Rattle.std.proofs.Common.{◌≡◌, ◌≢◌, ◌<◌, ◌≤◌, ◌+◌, ◌&&◌, ◌⊎◌, ℕ, zero, suc, Bool, true, false, List, [], ◌∷◌, length, map, set, get_or, inl, inr, refl, ap}
+use Rattle.std.proofs.Common.{◌∙◌, arith}
 use Rattle.std.specs.Prelude.{nat_le, nat_lt}
 use Rattle.std.specs.List.{list_all}
 use Rattle.std.proofs.lemmas.Bool.{leb-true, le-leb}
@@ -48,7 +49,8 @@ length_set (y ∷ xs) zero x = refl
 length_set (y ∷ xs) (suc k) x = let rest = length_set xs k x in omega (arith, rest)
 
 -- the clock at a place went forward to one that is not too far past any other one
-pub near_set : (clocks : List ℕ) (k now : ℕ) → AreNear clocks → k < length clocks → get_or clocks k 0 ≤ now → ((j : ℕ) → j < length clocks → j ≢ k → now ≤ get_or clocks j 0 + SKEW) → AreNear (set clocks k now)
+pub near_set : (clocks : List ℕ) (k now : ℕ) → AreNear clocks → k < length clocks → get_or clocks k 0 ≤ now
+    → ((j : ℕ) → j < length clocks → j ≢ k → now ≤ get_or clocks j 0 + SKEW) → AreNear (set clocks k now)
 near_set clocks k now near there later ok i j lt lt' =
     let at : get_or (set clocks k now) k 0 ≡ now = get_or-set_same clocks k now 0 there in
     let same : length (set clocks k now) ≡ length clocks = length_set clocks k now in
@@ -79,7 +81,8 @@ near_set clocks k now near there later ok i j lt lt' =
     ]
 
 -- what such a clock may be
-pub near_unset : (clocks : List ℕ) (k now : ℕ) → AreNear (set clocks k now) → k < length clocks → (j : ℕ) → j < length clocks → j ≢ k → now ≤ get_or clocks j 0 + SKEW
+pub near_unset : (clocks : List ℕ) (k now : ℕ) → AreNear (set clocks k now) → k < length clocks → (j : ℕ) → j < length clocks → j ≢ k
+    → now ≤ get_or clocks j 0 + SKEW
 near_unset clocks k now near there j lt other =
     let at : get_or (set clocks k now) k 0 ≡ now = get_or-set_same clocks k now 0 there in
     let same : length (set clocks k now) ≡ length clocks = length_set clocks k now in

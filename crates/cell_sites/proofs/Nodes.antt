@@ -1,5 +1,6 @@
 -- The server that is up, after a step.
 use Rattle.std.proofs.Common.{if◌then◌else◌, ◌≡◌, ◌⊎◌, inl, inr, ◌≤◌, ℕ, Bool, true, false, List, [], IsSome, refl, sym, ap, subst, ◌∙◌, arith}
+use Rattle.std.proofs.lemmas.Bool.{false≢true}
 use Rattle.disk_base.specs.declared.disks.Disk.{Ghosts}
 use Rattle.disk_base.specs.Crash.{Only}
 use Rattle.disk_base.specs.Files.{Files}
@@ -7,26 +8,21 @@ use Rattle.disk_base.specs.Runs.{OnlyReads}
 use Rattle.disk_base.specs.Stops.{IsStopped}
 use Rattle.db_image.specs.Database.{Database}
 use Rattle.db_image.specs.Standing.{Standing}
-use Rattle.ubik_types.specs.declared.versions.Version.{Version}
 use Rattle.cell_model.specs.declared.events.NodeEvent.{NodeEvent}
 use Rattle.cell_model.specs.declared.events.Output.{Output}
 use Rattle.cell_model.specs.Durable.{Durable, Made}
 use Rattle.cell_model.specs.Node as model
 use Rattle.cell_model.specs.NodeRule.{step_of}
-use Rattle.cell_model.specs.Step.{Member, cell_size}
-use Rattle.cell_model.specs.Voters.{IsVoter, IsAlonePhase}
-use Rattle.ubik_types.specs.Phase.{NoPhase}
+use Rattle.cell_model.specs.Step.{Member}
+use Rattle.cell_model.specs.Voters.{IsVoter}
 use Rattle.ubik_store.specs.Gaps.{IsPlain}
 use Rattle.ubik_node.specs.declared.nodes.Node.{Node}
 use Rattle.ubik_node.specs.declared.nodes.StepEnd.{StepEnd}
 use Rattle.ubik_node.specs.declared.nodes.StepEnd.TheVariants.{Done, Halted, NoMemory}
-use Rattle.ubik_node.specs.declared.progress.Progress.{Progress}
-use Rattle.ubik_node.specs.declared.progress.Progress.TheVariants as progress
 use Rattle.ubik_node.specs.Disk.{IsRevived, LeavesWithin}
 use Rattle.ubik_node.specs.Node.{Calls, IsStored, Steps, durable_in, last_after, node_of, own_member, up_server}
 use Rattle.ubik_node.specs.declared.state.State.{State}
 use Rattle.ubik_node.specs.State.{member_of, server_of}
-use Rattle.ubik_node.specs.Progress.{is_held, phase_record}
 use Rattle.cell_sites.specs.declared.steps.SiteEnd.TheVariants as ended
 use Rattle.cell_sites.specs.Sound.{IsSoundDisk, IsSoundNode, StandsForSome}
 use Rattle.cell_sites.specs.Stepped.{NodeStepped}
@@ -53,21 +49,11 @@ is_up n s is = by_up n.halted (up_server n) s is
 pub is_halted : {D V : Type 0} (n : Node D V) (h : model.HaltedServer) → node_of n ≡ model.Halted h → n.halted ≡ true
 is_halted n h is = by_halted n.halted (up_server n) h is
 
--- ---- it takes part in votes
-
-phase_of_voter : (own : Version) (size : ℕ) (p : Progress) → (is_held p ≡ true → size ≡ 1) → (phase_record own p ≡ NoPhase) ⊎ ((size ≡ 1) × IsAlonePhase own (phase_record own p))
-phase_of_voter own size progress.None alone = inl refl
-phase_of_voter own size (progress.Poll poll) alone = inr (alone refl, refl)
-phase_of_voter own size (progress.Relabel poll) alone = inr (alone refl, tt)
-phase_of_voter own size (progress.Ready poll old) alone = inr (alone refl, refl)
-
-pub node_votes : {D V : Type 0} (n : Node D V) → IsVoter (own_member n) (up_server n)
-node_votes n = record { phase = phase_of_voter n.state.version (cell_size (own_member n)) n.state.progress n.state.alone; flight = refl; waiting = refl }
-
 -- ---- disks
 
 -- a disk that was revived is sound where what a crash leaves of it is plain
-pub sound_revived : {D : Type 0} {standing : Standing} (g : Ghosts D) (failed later : D) → IsRevived g failed later → g.tells failed ≡ true → ((fs : Files) → g.may_leave failed fs → IsPlain fs × StandsForSome standing fs) → IsSoundDisk g standing later
+pub sound_revived : {D : Type 0} {standing : Standing} (g : Ghosts D) (failed later : D) → IsRevived g failed later → g.tells failed ≡ true
+    → ((fs : Files) → g.may_leave failed fs → IsPlain fs × StandsForSome standing fs) → IsSoundDisk g standing later
 sound_revived {D} {standing} g failed later revived tells plain =
     let there = some_of (g.files later) (revived.told tells) in
     let left = of_some (g.files later) there.0 (λ fs. g.may_leave failed fs × Only fs (g.may_leave later)) there.1 revived.left in
@@ -79,7 +65,8 @@ sound_revived {D} {standing} g failed later revived tells plain =
     }
 
 -- one that was only read stays so
-pub sound_read : {D : Type 0} {standing : Standing} (g : Ghosts D) (old new : D) → IsSoundDisk g standing old → OnlyReads g old new ⊥ → IsSoundDisk g standing new
+pub sound_read : {D : Type 0} {standing : Standing} (g : Ghosts D) (old new : D) → IsSoundDisk g standing old → OnlyReads g old new ⊥
+    → IsSoundDisk g standing new
 sound_read {D} {standing} g old new sound reads =
     let there = some_of (g.files old) sound.told in
     let same : g.files new ≡ g.files old = reads.files (λ never. never) in
@@ -88,13 +75,15 @@ sound_read {D} {standing} g old new sound reads =
       told = subst IsSome (sym same) sound.told;
       settled = make_if (g.files new) there.0 (λ fs. Only fs (g.may_leave new)) (same ∙ there.1) (λ c left. only c (reads.crash.no_more c left));
       plain = make_if (g.files new) there.0 IsPlain (same ∙ there.1) (of_some (g.files old) there.0 IsPlain there.1 sound.plain);
-      stands = make_if (g.files new) there.0 (StandsForSome standing) (same ∙ there.1) (of_some (g.files old) there.0 (StandsForSome standing) there.1 sound.stands);
+      stands = make_if (g.files new) there.0 (StandsForSome standing)
+          (same ∙ there.1) (of_some (g.files old) there.0 (StandsForSome standing) there.1 sound.stands);
     }
 
 -- ---- a step
 
 -- where a step was made the server was up, and is
-pub made_up : {D : Type 0} (g : Ghosts D) (db : Database) (m : Member) (e : NodeEvent) (now : ℕ) (x after : model.Node) (out : List Output) (old new : D) → Steps g db m Done e now x after out old new → ((s : model.Server) × (x ≡ model.Up s)) × ((t : model.Server) × (after ≡ model.Up t))
+pub made_up : {D : Type 0} (g : Ghosts D) (db : Database) (m : Member) (e : NodeEvent) (now : ℕ) (x after : model.Node) (out : List Output) (old new : D)
+    → Steps g db m Done e now x after out old new → ((s : model.Server) × (x ≡ model.Up s)) × ((t : model.Server) × (after ≡ model.Up t))
 made_up g db m e now model.Down after out old new steps = absurd steps
 made_up g db m e now (model.Halted h) after out old new steps = absurd steps
 made_up g db m e now (model.Up s) after out old new (short, makes) = ((s, refl), (_, makes.server))
@@ -108,43 +97,84 @@ abbrev pub LeadsOn : Standing → Member → NodeEvent → ℕ → model.Node �
 LeadsOn standing m e now x =
     (s : model.Server) → x ≡ model.Up s → (short : List Bool) → AllMeant standing (durable_in s) (step_of standing.database m s now e short).calls
 
-pub made_leaves : {D : Type 0} (g : Ghosts D) (standing : Standing) (m : Member) (e : NodeEvent) (now : ℕ) (x after : model.Node) (out : List Output) (old new : D) → LeadsOn standing m e now x
+pub made_leaves : {D : Type 0} (g : Ghosts D) (standing : Standing) (m : Member) (e : NodeEvent) (now : ℕ) (x after : model.Node) (out : List Output)
+    (old new : D) → LeadsOn standing m e now x
     → Steps g standing.database m Done e now x after out old new → Leaves g standing old new
 made_leaves g standing m e now model.Down after out old new leads steps = absurd steps
 made_leaves g standing m e now (model.Halted h) after out old new leads steps = absurd steps
 made_leaves g standing m e now (model.Up s) after out old new leads (short, makes) = (_, _, makes.disk.leaves, leads s refl short)
 
-pub halted_leaves : {D V : Type 0} (g : Ghosts D) (standing : Standing) (m : Member) (e : NodeEvent) (now : ℕ) (node : Node D V) (after : model.Node) (out : List Output) (old new : D) → LeadsOn standing m e now (node_of node)
+pub halted_leaves : {D V : Type 0} (g : Ghosts D) (standing : Standing) (m : Member) (e : NodeEvent) (now : ℕ) (node : Node D V) (after : model.Node)
+    (out : List Output) (old new : D) → LeadsOn standing m e now (node_of node)
     → node.halted ≡ false → Steps g standing.database m Halted e now (node_of node) after out old new → Leaves g standing old new
 halted_leaves g standing m e now node after out old new leads up steps =
     let s = up_server node in
     let is : node_of node ≡ model.Up s = ap (λ (b : Bool). if b then model.Halted (model.halted_from s) else model.Up s) up in
     let so = subst (λ (x : model.Node). Steps g standing.database m Halted e now x after out old new) is steps in
-    (_, _, so.2.leaves, leads s is [])
+    (_, _, so.3.leaves, leads s is so.2)
 
 -- a step that ended so leaves the server halted
-pub halts : {D V : Type 0} (g : Ghosts D) (db : Database) (m : Member) (e : NodeEvent) (now : ℕ) (x : model.Node) (later : Node D V) (out : List Output) (old new : D) → Steps g db m Halted e now x (node_of later) out old new → later.halted ≡ true
+pub halts : {D V : Type 0} (g : Ghosts D) (db : Database) (m : Member) (e : NodeEvent) (now : ℕ) (x : model.Node) (later : Node D V) (out : List Output)
+    (old new : D) → Steps g db m Halted e now x (node_of later) out old new → later.halted ≡ true
 halts g db m e now model.Down later out old new steps = absurd steps
 halts g db m e now (model.Halted h) later out old new steps = is_halted later h steps.0
 halts g db m e now (model.Up s) later out old new steps = is_halted later (model.halted_from s) steps.0
 
+-- memory ran out at a server that is up, and nothing changed
+pub record IsShortStep {D : Type 0} (g : Ghosts D) (x after : model.Node) (out : List Output) (old new : D) : Type 0 where
+  pub same : after ≡ x
+  pub quiet : out ≡ []
+  pub reads : OnlyReads g old new ⊥
+
+pub short_step : {D : Type 0} (g : Ghosts D) (db : Database) (m : Member) (e : NodeEvent) (now : ℕ) (x after : model.Node) (out : List Output) (old new : D)
+    → Steps g db m NoMemory e now x after out old new → IsShortStep g x after out old new
+short_step g db m e now model.Down after out old new steps = absurd steps
+short_step g db m e now (model.Halted h) after out old new steps = absurd steps
+short_step g db m e now (model.Up s) after out old new (same, quiet, reads) = record { same = same; quiet = quiet; reads = reads }
+
+-- ---- it takes part in votes
+
+-- the server after the step does, from this server on
+abbrev pub VotesOn : Database → Member → NodeEvent → ℕ → model.Node → Type 0
+VotesOn db m e now x = (s : model.Server) → x ≡ model.Up s → (short : List Bool) → IsVoter m (step_of db m s now e short).server
+
+made_votes : {D V : Type 0} (g : Ghosts D) (db : Database) (m : Member) (e : NodeEvent) (now : ℕ) (x : model.Node) (later : Node D V) (out : List Output)
+    (old new : D)
+    → VotesOn db m e now x → Steps g db m Done e now x (node_of later) out old new → IsVoter m (up_server later)
+made_votes g db m e now model.Down later out old new votes steps = absurd steps
+made_votes g db m e now (model.Halted h) later out old new votes steps = absurd steps
+made_votes g db m e now (model.Up s) later out old new votes (short, makes) =
+    subst (IsVoter m) (sym (is_up later (step_of db m s now e short).server makes.server).1) (votes s refl short)
+
+-- a server that stays as it is
+same_votes : {D V : Type 0} (m : Member) (node later : Node D V) → node_of later ≡ node_of node → (node.halted ≡ false → IsVoter m (up_server node))
+    → later.halted ≡ false → IsVoter m (up_server later)
+same_votes m node later same voter up =
+    let s = up_server later in
+    let is : node_of later ≡ model.Up s = ap (λ (b : Bool). if b then model.Halted (model.halted_from s) else model.Up s) up in
+    let was = is_up node s (sym same ∙ is) in
+    subst (IsVoter m) was.1 (voter was.0)
+
 -- a halted server leaves its disk alone
-pub halted_rests : {D V : Type 0} (g : Ghosts D) (db : Database) (m : Member) (e : NodeEvent) (now : ℕ) (node : Node D V) (after : model.Node) (out : List Output) (old new : D) → node.halted ≡ true → Steps g db m Halted e now (node_of node) after out old new → new ≡ old
+pub halted_rests : {D V : Type 0} (g : Ghosts D) (db : Database) (m : Member) (e : NodeEvent) (now : ℕ) (node : Node D V) (after : model.Node)
+    (out : List Output) (old new : D) → node.halted ≡ true → Steps g db m Halted e now (node_of node) after out old new → new ≡ old
 halted_rests g db m e now node after out old new halted steps =
     let h = model.halted_from (up_server node) in
     let is : node_of node ≡ model.Halted h = ap (λ (b : Bool). if b then model.Halted h else model.Up (up_server node)) halted in
     (subst (λ (x : model.Node). Steps g db m Halted e now x after out old new) is steps).2
 
 -- what is left of a plain file is plain
-pub plain_left : {D : Type 0} {standing : Standing} (g : Ghosts D) (old new : D) → IsSoundDisk g standing old → Leaves g standing old new → (fs : Files) → g.may_leave new fs → IsPlain fs × StandsForSome standing fs
+pub plain_left : {D : Type 0} {standing : Standing} (g : Ghosts D) (old new : D) → IsSoundDisk g standing old → Leaves g standing old new → (fs : Files)
+    → g.may_leave new fs → IsPlain fs × StandsForSome standing fs
 plain_left {D} {standing} g old new sound (d, calls, leaves, meant) fs left =
     let there = some_of (g.files old) sound.told in (
       left_plain g d old new calls there.0 fs there.1 (of_some (g.files old) there.0 IsPlain there.1 sound.plain) leaves left,
       left_stands g standing d old new calls there.0 fs there.1 leaves meant left,
     )
 
-module _ {D V : Type 0} {standing : Standing} (g : Ghosts D) (m : Member) (clock : ℕ) (e : NodeEvent) (node : Node D V) (out : List Output) (sound : IsSoundNode g m clock node) (disk : IsSoundDisk g standing node.store.disk)
-    (leads : LeadsOn standing m e clock (node_of node)) where
+module _ {D V : Type 0} {standing : Standing} (g : Ghosts D) (m : Member) (clock : ℕ) (e : NodeEvent) (node : Node D V) (out : List Output)
+    (sound : IsSoundNode g m clock node) (disk : IsSoundDisk g standing node.store.disk)
+    (leads : LeadsOn standing m e clock (node_of node)) (votes : VotesOn standing.database m e clock (node_of node)) where
   abbrev db : Database
   db = standing.database
 
@@ -153,25 +183,33 @@ module _ {D V : Type 0} {standing : Standing} (g : Ghosts D) (m : Member) (clock
   lasts Halted last within = omega arith
   lasts NoMemory last within = within
 
-  sound_later : (later : Node D V) (end : StepEnd) → own_member later ≡ own_member node → IsStored g later → later.last ≡ last_after end node.last clock → IsSoundNode g m clock later
-  sound_later later end member stored last =
+  sound_later : (later : Node D V) (end : StepEnd) → own_member later ≡ own_member node → (later.halted ≡ false → IsVoter m (up_server later))
+      → IsStored g later → later.last ≡ last_after end node.last clock
+      → IsSoundNode g m clock later
+  sound_later later end member voter stored last =
       record {
         last = let within = lasts end node.last sound.last in omega (arith, within, last);
         member = member ∙ sound.member;
-        voter = subst (λ (n : Member). IsVoter n (up_server later)) (member ∙ sound.member) (node_votes later);
+        voter = voter;
         stored = stored;
       }
 
+  -- of a halted server nothing is said
+  not_up : (later : Node D V) → later.halted ≡ true → later.halted ≡ false → IsVoter m (up_server later)
+  not_up later halted up = absurd (false≢true (sym up ∙ halted))
+
   -- it was made
   pub done_now : (later : Node D V) → Steps g db m Done e clock (node_of node) (node_of later) out node.store.disk later.store.disk
-      → own_member later ≡ own_member node → IsStored g later → (IsSome (g.files node.store.disk) → IsSome (g.files later.store.disk)) → Calls g node later Done → later.last ≡ last_after Done node.last clock
+      → own_member later ≡ own_member node → IsStored g later → (IsSome (g.files node.store.disk) → IsSome (g.files later.store.disk)) → Calls g node later Done
+      → later.last ≡ last_after Done node.last clock
       → NodeStepped g standing db m clock e ended.Made node later out
   done_now later steps member stored others calls last =
       let made = made_up g db m e clock (node_of node) (node_of later) out node.store.disk later.store.disk steps in
       let up = (is_up later made.1.0 made.1.1).0 in
       let there = some_of (g.files later.store.disk) (others disk.told) in
       let left =
-      plain_left g node.store.disk later.store.disk disk (made_leaves g standing m e clock (node_of node) (node_of later) out node.store.disk later.store.disk leads steps) there.0
+      plain_left g node.store.disk later.store.disk disk (made_leaves g standing m e clock (node_of node) (node_of later) out node.store.disk later.store.disk
+      leads steps) there.0
       (g.may_be_read later.store.disk there.0 there.1) in
       record {
         end = Done;
@@ -179,7 +217,8 @@ module _ {D V : Type 0} {standing : Standing} (g : Ghosts D) (m : Member) (clock
         steps = steps;
         calls = calls;
         sound = record {
-          node = sound_later later Done member stored last;
+          node = sound_later later Done member (λ _. made_votes g db m e clock (node_of node) later out node.store.disk later.store.disk votes steps) stored
+              last;
           disk = record {
             told = others disk.told;
             settled = (stored.sound.ready (stored.failed ∙ up)).settled;
@@ -200,7 +239,8 @@ module _ {D V : Type 0} {standing : Standing} (g : Ghosts D) (m : Member) (clock
         steps = steps;
         calls = calls;
         sound = record {
-          node = sound_later later Halted member stored last;
+          node = sound_later later Halted member (not_up later (halts g db m e clock (node_of node) later out node.store.disk later.store.disk steps)) stored
+              last;
           disk = subst (IsSoundDisk g standing) (sym (halted_rests g db m e clock node (node_of later) out node.store.disk later.store.disk halted steps)) disk;
         };
       }
@@ -210,13 +250,18 @@ module _ {D V : Type 0} {standing : Standing} (g : Ghosts D) (m : Member) (clock
       → own_member later ≡ own_member node → IsStored g later → later.last ≡ last_after NoMemory node.last clock
       → NodeStepped g standing db m clock e ended.NoMemory node later out
   short_now later steps member stored last =
+      let short = short_step g db m e clock (node_of node) (node_of later) out node.store.disk later.store.disk steps in
       record {
         steps = steps;
-        sound = record { node = sound_later later NoMemory member stored last; disk = sound_read g node.store.disk later.store.disk disk steps.2 };
+        sound = record {
+          node = sound_later later NoMemory member (same_votes m node later short.same sound.voter) stored last;
+          disk = sound_read g node.store.disk later.store.disk disk short.reads;
+        };
       }
 
   -- its disk stopped
-  pub stopped_now : (later : Node D V) → node.halted ≡ false → Steps g db m Halted e clock (node_of node) (node_of later) out node.store.disk later.store.disk → Calls g node later Halted → IsStopped (g.stop later.store.disk)
+  pub stopped_now : (later : Node D V) → node.halted ≡ false → Steps g db m Halted e clock (node_of node) (node_of later) out node.store.disk later.store.disk
+      → Calls g node later Halted → IsStopped (g.stop later.store.disk)
       → NodeStepped g standing db m clock e ended.Stops node later out
   stopped_now later up steps calls stopped =
       record {
@@ -230,7 +275,8 @@ module _ {D V : Type 0} {standing : Standing} (g : Ghosts D) (m : Member) (clock
       }
 
   -- its disk failed, and the files were opened anew
-  pub halted_now : (mid later : Node D V) → node.halted ≡ false → Steps g db m Halted e clock (node_of node) (node_of mid) out node.store.disk mid.store.disk → Calls g node mid Halted → (IsStopped (g.stop mid.store.disk) → ⊥)
+  pub halted_now : (mid later : Node D V) → node.halted ≡ false → Steps g db m Halted e clock (node_of node) (node_of mid) out node.store.disk mid.store.disk
+      → Calls g node mid Halted → (IsStopped (g.stop mid.store.disk) → ⊥)
       → IsRevived g mid.store.disk later.store.disk → (later.state ≡ mid.state) × (later.halted ≡ mid.halted) × (later.last ≡ mid.last)
       → own_member mid ≡ own_member node → IsStored g later → mid.last ≡ last_after Halted node.last clock
       → NodeStepped g standing db m clock e ended.Halts node later out
@@ -246,8 +292,10 @@ module _ {D V : Type 0} {standing : Standing} (g : Ghosts D) (m : Member) (clock
         fault = calls.1.cause.rose (refl, up);
         revived = revived;
         sound = record {
-          node = sound_later later Halted (ap (λ (st : State). member_of st) same.0 ∙ member) stored (same.2 ∙ last);
+          node = sound_later later Halted (ap (λ (st : State). member_of st) same.0 ∙ member)
+              (not_up later (same.1 ∙ halts g db m e clock (node_of node) mid out node.store.disk mid.store.disk steps)) stored (same.2 ∙ last);
           disk = sound_revived g mid.store.disk later.store.disk revived (calls.1.tells ∙ g.tells_now node.store.disk disk.told)
-              (plain_left g node.store.disk mid.store.disk disk (halted_leaves g standing m e clock node (node_of mid) out node.store.disk mid.store.disk leads up steps));
+              (plain_left g node.store.disk mid.store.disk disk (halted_leaves g standing m e clock node (node_of mid) out node.store.disk mid.store.disk leads
+              up steps));
         };
       }

@@ -1,5 +1,6 @@
 -- One more server is opened, until all are.
-use Rattle.std.proofs.Common.{if◌then◌else◌, ◌≡◌, ◌≢◌, ◌<◌, ◌≤◌, ◌+◌, ◌++◌, ℕ, zero, suc, Bool, true, false, List, [], ◌∷◌, Vec, length, map, get_or, replicate, Some, None, Result, Ok, Err, IsSomeAnd, refl, sym, ap, subst, ◌∙◌, arith}
+use Rattle.std.proofs.Common.{if◌then◌else◌, ◌≡◌, ◌≢◌, ◌<◌, ◌≤◌, ◌+◌, ◌++◌, ℕ, zero, suc, Bool, true, false, List, [], ◌∷◌, Vec, length, map, get_or, replicate}
+use Rattle.std.proofs.Common.{Some, None, Result, Ok, Err, IsSomeAnd, refl, sym, ap, subst, ◌∙◌, arith}
 use Rattle.std.specs.Prelude.{All, OnOk}
 use Rattle.std.proofs.lemmas.List.{append_assoc, length-map, map-append}
 use Rattle.std.proofs.lemmas.Grind.{flat_map-append}
@@ -53,7 +54,8 @@ length_snoc [] x = refl
 length_snoc (y ∷ xs) x = let rest = length_snoc xs x in omega (arith, rest)
 
 -- as many servers were opened as it was told of
-pub opened_length : {D V : Type 0} (sites : List (Site D V)) (n clock : ℕ) (failed : List Bool) → AreSitesOf sites (map (first_site n clock) failed) → length sites ≡ length failed
+pub opened_length : {D V : Type 0} (sites : List (Site D V)) (n clock : ℕ) (failed : List Bool) → AreSitesOf sites (map (first_site n clock) failed)
+    → length sites ≡ length failed
 opened_length sites n clock failed are =
     sym (sites_length sites (map (first_site n clock) failed) are) ∙ length-map failed (first_site n clock)
 
@@ -63,7 +65,8 @@ fresh_plain : IsPlain no_files
 fresh_plain = discarded_is_plain no_files (short_log_is_discarded [] (omega arith)) (λ _. refl)
 
 -- a server can be opened over it
-pub fresh_sound : {D : Type 0} {standing : Standing} (g : Ghosts D) (disk : D) → g.files disk ≡ Some no_files → IsSettled (g.files disk) (g.may_leave disk) → IsMeantImage standing [] → IsSoundDisk g standing disk
+pub fresh_sound : {D : Type 0} {standing : Standing} (g : Ghosts D) (disk : D) → g.files disk ≡ Some no_files → IsSettled (g.files disk) (g.may_leave disk)
+    → IsMeantImage standing [] → IsSoundDisk g standing disk
 fresh_sound {D} {standing} g disk empty settled meant = record {
   told = some_told (g.files disk) no_files empty;
   settled = settled;
@@ -78,7 +81,8 @@ fresh_told g disk empty = told_at (g.files disk) no_files (StandsAs no_database)
 -- ---- one server
 
 -- it was opened on no database, or stays down and tells so
-pub record OneOpened {D V : Type 0} (g : Ghosts D) (standing : Standing) (db : ScriptDatabase) (hosts : List Host) (me clock : ℕ) (disk : D) (s : Server D V) (text_before text_after : List ℕ) : Type 0 where
+pub record OneOpened {D V : Type 0} (g : Ghosts D) (standing : Standing) (db : ScriptDatabase) (hosts : List Host) (me clock : ℕ) (disk : D) (s : Server D V)
+    (text_before text_after : List ℕ) : Type 0 where
   pub fails : Bool
   pub node : server_node s ≡ (first_site (length hosts) clock fails).node
   pub sound : IsSoundServer g (record { hosts = hosts; me = me }) clock s
@@ -92,7 +96,8 @@ pub record OneOpened {D V : Type 0} (g : Ghosts D) (standing : Standing) (db : S
   pub told : text_after ≡ text_before ++ trace db hosts (map Tells (first_seen me (fails ∷ [])))
 
 -- the calls of an opening over empty files
-first_calls : {D : Type 0} (g : Ghosts D) (failed : Bool) (disk after : D) → g.files disk ≡ Some no_files → (o : OpensDisk g failed disk after) → OpensFirst failed o.rise
+first_calls : {D : Type 0} (g : Ghosts D) (failed : Bool) (disk after : D) → g.files disk ≡ Some no_files → (o : OpensDisk g failed disk after)
+    → OpensFirst failed o.rise
 first_calls g failed disk after empty o =
     let same : Some o.files ≡ Some no_files = sym o.there ∙ empty in
     let is : o.files ≡ no_files = cc in
@@ -102,13 +107,15 @@ never_down : (halted : Bool) (h : model.HaltedServer) (u : model.Server) → (if
 never_down true h u same = let never : model.Halted h ≡ model.Down = same in cc
 never_down false h u same = let never : model.Up u ≡ model.Down = same in cc
 
-down_is : {D V : Type 0} (g : Ghosts D) (hosts : List Host) (me clock : ℕ) (s : Server D V) → server_node s ≡ model.Down → IsSoundServer g (record { hosts = hosts; me = me }) clock s
+down_is : {D V : Type 0} (g : Ghosts D) (hosts : List Host) (me clock : ℕ) (s : Server D V) → server_node s ≡ model.Down
+    → IsSoundServer g (record { hosts = hosts; me = me }) clock s
 down_is g hosts me clock (server.Down disk) is = tt
 down_is g hosts me clock (server.Up n) is = absurd (never_down n.halted (model.halted_from (up_server n)) (up_server n) is)
 
 module _ {D V : Type 0} (g : Ghosts D) (db : ScriptDatabase) (hosts : List Host) (me clock : ℕ) (disk : D) (s : Server D V) (text_before text_after : List ℕ)
     (empty : g.files disk ≡ Some no_files) (unarmed : g.stop disk ≡ Unarmed) where
-  pub one_opened : {standing : Standing} (end : OpenEnd) → ServerOpens g standing (record { hosts = hosts; me = me }) clock no_database end disk s → end ≢ opened.NoMemory
+  pub one_opened : {standing : Standing} (end : OpenEnd) → ServerOpens g standing (record { hosts = hosts; me = me }) clock no_database end disk s
+      → end ≢ opened.NoMemory
       → text_after ≡ text_before ++ marks_text (opened_marks me end) → OneOpened g standing db hosts me clock disk s text_before text_after
   one_opened (opened.Up version) one other text = record {
     fails = false;
@@ -143,7 +150,8 @@ rises_short : (failed : Bool) (rise : ℕ) → OpensFirst failed rise → OpensF
 rises_short true rise opens = opens
 rises_short false rise opens = let is = opens.2 in (opens.0, opens.1, omega (arith, is))
 
-pub one_emptied : {D V : Type 0} {standing : Standing} (g : Ghosts D) (hosts : List Host) (me clock : ℕ) (disk : D) (s : Server D V) (end : OpenEnd) → g.files disk ≡ Some no_files
+pub one_emptied : {D V : Type 0} {standing : Standing} (g : Ghosts D) (hosts : List Host) (me clock : ℕ) (disk : D) (s : Server D V) (end : OpenEnd)
+    → g.files disk ≡ Some no_files
     → ServerOpens g standing (record { hosts = hosts; me = me }) clock no_database end disk s → IsEmptied g disk (server_disk s)
 one_emptied g hosts me clock disk s end empty one = record {
   never_falls = one.never_falls;
@@ -153,14 +161,16 @@ one_emptied g hosts me clock disk s end empty one = record {
 
 -- ---- one more
 
-read_push : (ss : List ModelSite) (disks : List Held) (s : ModelSite) (disk : Held) → AreReadBy ss disks → IsReadBy s disk → AreReadBy (ss ++ s ∷ []) (disks ++ disk ∷ [])
+read_push : (ss : List ModelSite) (disks : List Held) (s : ModelSite) (disk : Held) → AreReadBy ss disks → IsReadBy s disk
+    → AreReadBy (ss ++ s ∷ []) (disks ++ disk ∷ [])
 read_push [] [] s disk are is = (is, tt)
 read_push [] (x ∷ disks) s disk are is = absurd are
 read_push (t ∷ ss) [] s disk are is = absurd are
 read_push (t ∷ ss) (x ∷ disks) s disk are is = (are.0, read_push ss disks s disk are.1 is)
 
 counts_push : (failed : List Bool) (given : List ℕ) (disks : List Held) (fails : Bool) (before : ℕ) (disk : Held) → AreFirstCounts failed given disks
-    → (opening : ℕ) × OpensFirst fails opening × (disk.steps ≡ before + opening) → AreFirstCounts (failed ++ fails ∷ []) (given ++ before ∷ []) (disks ++ disk ∷ [])
+    → (opening : ℕ) × OpensFirst fails opening × (disk.steps ≡ before + opening)
+    → AreFirstCounts (failed ++ fails ∷ []) (given ++ before ∷ []) (disks ++ disk ∷ [])
 counts_push [] [] [] fails before disk are is = (is, tt)
 counts_push [] [] (x ∷ disks) fails before disk are is = absurd are
 counts_push [] (b ∷ given) disks fails before disk are is = absurd are
@@ -168,11 +178,15 @@ counts_push (f ∷ failed) [] disks fails before disk are is = absurd are
 counts_push (f ∷ failed) (b ∷ given) [] fails before disk are is = absurd are
 counts_push (f ∷ failed) (b ∷ given) (x ∷ disks) fails before disk are is = (are.0, counts_push failed given disks fails before disk are.1 is)
 
-unarmed_push : {D V : Type 0} (g : Ghosts D) (sites : List (Site D V)) (site : Site D V) → AreUnarmed g sites → g.stop (site_disk site) ≡ Unarmed → AreUnarmed g (sites ++ site ∷ [])
+unarmed_push : {D V : Type 0} (g : Ghosts D) (sites : List (Site D V)) (site : Site D V) → AreUnarmed g sites → g.stop (site_disk site) ≡ Unarmed
+    → AreUnarmed g (sites ++ site ∷ [])
 unarmed_push g [] site are is = (is, tt)
 unarmed_push g (x ∷ sites) site are is = (are.0, unarmed_push g sites site are.1 is)
 
-pub next_opened : {D V : Type 0} {standing : Standing} (g : Ghosts D) (db : ScriptDatabase) (clock : ℕ) (given : List D) (running : OpenCell D V) (before told after : List ℕ) (disk : D) (s : Server D V) (sites : Vec (Site D V) Global) → IsMoment clock → sites.items ≡ running.sites.items ++ record { clock = clock; server = s } ∷ [] → OneOpened g standing db running.hosts.items (length running.sites.items) clock disk s told after → ArePartOpened g standing db clock given running before told → ArePartOpened g standing db clock (given ++ disk ∷ []) (record running { sites = sites }) before after
+pub next_opened : {D V : Type 0} {standing : Standing} (g : Ghosts D) (db : ScriptDatabase) (clock : ℕ) (given : List D) (running : OpenCell D V)
+    (before told after : List ℕ) (disk : D) (s : Server D V) (sites : Vec (Site D V) Global) → IsMoment clock → sites.items ≡ running.sites.items ++ record
+    { clock = clock; server = s } ∷ [] → OneOpened g standing db running.hosts.items (length running.sites.items) clock disk s told after → ArePartOpened g
+    standing db clock given running before told → ArePartOpened g standing db clock (given ++ disk ∷ []) (record running { sites = sites }) before after
 next_opened {D} {V} {standing} g db clock given running before told after disk s sites moment pushed one p =
     let items = running.sites.items in
     let site : Site D V = record { clock = clock; server = s } in
@@ -202,7 +216,9 @@ next_opened {D} {V} {standing} g db clock given running before told after disk s
           ∙ append_assoc before (trace db hosts (opening_items failed)) (trace db hosts more)
           ∙ ap (λ (l : List ℕ). before ++ l) (sym (flat_map-append (item_text db hosts) (opening_items failed) more))
           ∙ ap (λ (l : List TraceItem). before ++ trace db hosts l) (sym (items_more failed one.fails));
-      causes = subst (λ (l : List Held). AreRises 0 (opening_items (failed ++ one.fails ∷ [])) l (helds g (record running { sites = sites }))) (sym (map-append (held g) given (disk ∷ [])))
+      causes =
+          subst (λ (l : List Held). AreRises 0 (opening_items (failed ++ one.fails ∷ [])) l (helds g (record running { sites = sites })))
+          (sym (map-append (held g) given (disk ∷ [])))
           (subst (λ (l : List Held). AreRises 0 (opening_items (failed ++ one.fails ∷ [])) (all_held g given ++ held g disk ∷ []) l) now
           (rises_more failed one.fails (all_held g given) (helds g running) (held g disk) (held g (server_disk s))
           (each ∙ sym (length-map given (held g))) p.causes one.cause));
@@ -210,26 +226,35 @@ next_opened {D} {V} {standing} g db clock given running before told after disk s
           (subst (λ (l : List ModelSite). AreReadBy l (helds g running ++ held g (server_disk s) ∷ [])) (sym (map-append first failed (one.fails ∷ [])))
           (read_push (map first failed) (helds g running) (first one.fails) (held g (server_disk s)) p.read one.stands));
       counts = subst (λ (l : List Held). AreFirstCounts (failed ++ one.fails ∷ []) (counts_of g (given ++ disk ∷ [])) l) now
-          (subst (λ (l : List ℕ). AreFirstCounts (failed ++ one.fails ∷ []) l (helds g running ++ held g (server_disk s) ∷ [])) (sym (map-append g.steps given (disk ∷ [])))
-          (counts_push failed (counts_of g given) (helds g running) one.fails (g.steps disk) (held g (server_disk s)) p.counts (one.opening, one.opens, one.steps)));
+          (subst (λ (l : List ℕ). AreFirstCounts (failed ++ one.fails ∷ []) l (helds g running ++ held g (server_disk s) ∷ []))
+          (sym (map-append g.steps given (disk ∷ [])))
+          (counts_push failed (counts_of g given) (helds g running) one.fails (g.steps disk) (held g (server_disk s)) p.counts
+          (one.opening, one.opens, one.steps)));
       unarmed = subst (λ (l : List (Site D V)). AreUnarmed g l) (sym pushed) (unarmed_push g items site p.unarmed one.unarmed);
     }
 
-pub next_added : {D V : Type 0} (g : Ghosts D) (clock : ℕ) (running : OpenCell D V) (disk : D) (s : Server D V) (sites : Vec (Site D V) Global) → sites.items ≡ running.sites.items ++ record { clock = clock; server = s } ∷ [] → IsEmptied g disk (server_disk s) → IsAdded g disk running (record running { sites = sites })
+pub next_added : {D V : Type 0} (g : Ghosts D) (clock : ℕ) (running : OpenCell D V) (disk : D) (s : Server D V) (sites : Vec (Site D V) Global)
+    → sites.items ≡ running.sites.items ++ record { clock = clock; server = s } ∷ [] → IsEmptied g disk (server_disk s)
+    → IsAdded g disk running (record running { sites = sites })
 next_added {D} {V} g clock running disk s sites pushed kept =
     record {
       kept = server_disk s;
-      disks = ap (map (λ (x : Site D V). site_disk x)) pushed ∙ map-append (λ (x : Site D V). site_disk x) running.sites.items (record { clock = clock; server = s } ∷ []);
+      disks = ap (map (λ (x : Site D V). site_disk x)) pushed ∙ map-append (λ (x : Site D V). site_disk x) running.sites.items
+          (record { clock = clock; server = s } ∷ []);
       emptied = kept;
     }
 
 -- the same where hosts and place are those that were handed over, and the call did not fail
-pub next_opened_at : {standing : Standing} {D V T E : Type 0} (r : Result T E) (g : Ghosts D) (db : ScriptDatabase) (clock : ℕ) (running : OpenCell D V) (told after : List ℕ) (disk : D) (s : Server D V) (end : OpenEnd) (sites : Vec (Site D V) Global) (hosts : List Host) (me : ℕ) → hosts ≡ running.hosts.items → me ≡ length running.sites.items → IsMoment clock → sites.items ≡ running.sites.items ++ record { clock = clock; server = s } ∷ []
+pub next_opened_at : {standing : Standing} {D V T E : Type 0} (r : Result T E) (g : Ghosts D) (db : ScriptDatabase) (clock : ℕ) (running : OpenCell D V)
+    (told after : List ℕ) (disk : D) (s : Server D V) (end : OpenEnd) (sites : Vec (Site D V) Global) (hosts : List Host) (me : ℕ) → hosts ≡ running.hosts.items
+    → me ≡ length running.sites.items → IsMoment clock → sites.items ≡ running.sites.items ++ record { clock = clock; server = s } ∷ []
     → g.files disk ≡ Some no_files → g.stop disk ≡ Unarmed → ServerOpens g standing (record { hosts = hosts; me = me }) clock no_database end disk s
     → OnOk r ((end ≢ opened.NoMemory) × (after ≡ told ++ marks_text (opened_marks me end)))
-    → OnOk r ((given : List D) (before : List ℕ) → ArePartOpened g standing db clock given running before told → ArePartOpened g standing db clock (given ++ disk ∷ []) (record running { sites = sites }) before after)
+    → OnOk r ((given : List D) (before : List ℕ) → ArePartOpened g standing db clock given running before told
+    → ArePartOpened g standing db clock (given ++ disk ∷ []) (record running { sites = sites }) before after)
 next_opened_at (Err e) g db clock running told after disk s end sites hosts me same place moment pushed empty unarmed one tells = tt
-next_opened_at {standing} {D} {V} (Ok x) g db clock running told after disk s end sites hosts me same place moment pushed empty unarmed one tells = λ given before p.
+next_opened_at {standing} {D} {V} (Ok x) g db clock running told after disk s end sites hosts me same place moment pushed empty unarmed one tells =
+    λ given before p.
     next_opened g db clock given running before told after disk s sites moment pushed
     (subst (λ (n : ℕ). OneOpened g standing db running.hosts.items n clock disk s told after) place
     (subst (λ (l : List Host). OneOpened g standing db l me clock disk s told after) same
@@ -237,7 +262,8 @@ next_opened_at {standing} {D} {V} (Ok x) g db clock running told after disk s en
 
 -- ---- all of them
 
-first_clock : (n clock : ℕ) (failed : List Bool) (k : ℕ) → k < length (clocks_of (map (first_site n clock) failed)) → get_or (clocks_of (map (first_site n clock) failed)) k 0 ≡ clock
+first_clock : (n clock : ℕ) (failed : List Bool) (k : ℕ) → k < length (clocks_of (map (first_site n clock) failed))
+    → get_or (clocks_of (map (first_site n clock) failed)) k 0 ≡ clock
 first_clock n clock [] k less = absurd (omega arith)
 first_clock n clock (fails ∷ failed) zero less = refl
 first_clock n clock (fails ∷ failed) (suc k) less = first_clock n clock failed k (omega arith)
@@ -256,7 +282,8 @@ all_unarmed g [] are = tt
 all_unarmed g (site ∷ sites) are = (armed_none (server_node site.server) (g.stop (site_disk site)) are.0, all_unarmed g sites are.1)
 
 -- no event was yet
-first_counts : (db : Database) (c : Cell) (k : ℕ) (failed : List Bool) (given : List ℕ) (disks : List Held) → c.events ≡ [] → AreFirstCounts failed given disks → AreCountsFrom db c false k failed given disks
+first_counts : (db : Database) (c : Cell) (k : ℕ) (failed : List Bool) (given : List ℕ) (disks : List Held) → c.events ≡ [] → AreFirstCounts failed given disks
+    → AreCountsFrom db c false k failed given disks
 first_counts db c k [] [] [] none are = tt
 first_counts db c k [] [] (x ∷ disks) none are = absurd are
 first_counts db c k [] (b ∷ given) disks none are = absurd are
@@ -275,7 +302,9 @@ first_counts db c k (f ∷ failed) (b ∷ given) (x ∷ disks) none are = (
   first_counts db c (k + 1) failed given disks none are.1,
 )
 
-pub all_opened : {D V : Type 0} {standing : Standing} (g : Ghosts D) (db : ScriptDatabase) (clock : ℕ) (k : Kind) (given : List D) (running : OpenCell D V) (before after : List ℕ) → HasRoom running → length given ≡ length running.hosts.items → ArePartOpened g standing db clock given running before after → IsOpened g standing db clock k given running before after
+pub all_opened : {D V : Type 0} {standing : Standing} (g : Ghosts D) (db : ScriptDatabase) (clock : ℕ) (k : Kind) (given : List D) (running : OpenCell D V)
+    (before after : List ℕ) → HasRoom running → length given ≡ length running.hosts.items → ArePartOpened g standing db clock given running before after →
+    IsOpened g standing db clock k given running before after
 all_opened {D} {V} g db clock k given running before after room same p =
     let items = running.sites.items in
     let hosts = running.hosts.items in

@@ -11,7 +11,8 @@ use Rattle.cell_sites.specs.Opened.{opening_items}
 
 -- ---- what is told of an opening
 
-pub seen_more : (k : ℕ) (failed : List Bool) (fails : Bool) → first_seen k (failed ++ fails ∷ []) ≡ first_seen k failed ++ first_seen (k + length failed) (fails ∷ [])
+pub seen_more : (k : ℕ) (failed : List Bool) (fails : Bool)
+    → first_seen k (failed ++ fails ∷ []) ≡ first_seen k failed ++ first_seen (k + length failed) (fails ∷ [])
 seen_more k [] fails = ap (λ (n : ℕ). first_seen n (fails ∷ [])) (omega arith)
 seen_more k (true ∷ failed) fails =
     ap (λ (l : List _). Stays_down k ∷ l)
@@ -19,7 +20,8 @@ seen_more k (true ∷ failed) fails =
 seen_more k (false ∷ failed) fails =
     seen_more (k + 1) failed fails ∙ ap (λ (n : ℕ). first_seen (k + 1) failed ++ first_seen n (fails ∷ [])) (omega arith)
 
-pub items_more : (failed : List Bool) (fails : Bool) → opening_items (failed ++ fails ∷ []) ≡ opening_items failed ++ map Tells (first_seen (length failed) (fails ∷ []))
+pub items_more : (failed : List Bool) (fails : Bool)
+    → opening_items (failed ++ fails ∷ []) ≡ opening_items failed ++ map Tells (first_seen (length failed) (fails ∷ []))
 items_more failed fails =
     ap (map Tells) (seen_more 0 failed fails)
     ∙ map-append Tells (first_seen 0 failed) (first_seen (0 + length failed) (fails ∷ []))
@@ -58,7 +60,9 @@ count_at j k true is =
     omega (arith, one)
 
 -- more is told, which is no fault of these servers
-rises_push : (k : ℕ) (items more : List TraceItem) (before after : List Held) (x y : Held) → AreRises k items before after → ((j : ℕ) → j < k + length before → fault_count j more ≡ 0) → x.faults + fault_count (k + length before) (items ++ more) ≤ y.faults → AreRises k (items ++ more) (before ++ x ∷ []) (after ++ y ∷ [])
+rises_push : (k : ℕ) (items more : List TraceItem) (before after : List Held) (x y : Held) → AreRises k items before after
+    → ((j : ℕ) → j < k + length before → fault_count j more ≡ 0) → x.faults + fault_count (k + length before) (items ++ more) ≤ y.faults
+    → AreRises k (items ++ more) (before ++ x ∷ []) (after ++ y ∷ [])
 rises_push k items more [] [] x y are none last =
     let P : ℕ → Type 0 = λ n. x.faults + fault_count n (items ++ more) ≤ y.faults in
     let same : k + 0 ≡ k = omega arith in
@@ -75,7 +79,9 @@ rises_push k items more (a ∷ before) (b ∷ after) x y are none last =
     )
 
 -- one more server was opened
-pub rises_more : (failed : List Bool) (fails : Bool) (before after : List Held) (x y : Held) → length failed ≡ length before → AreRises 0 (opening_items failed) before after → x.faults + of fails ≤ y.faults → AreRises 0 (opening_items (failed ++ fails ∷ [])) (before ++ x ∷ []) (after ++ y ∷ [])
+pub rises_more : (failed : List Bool) (fails : Bool) (before after : List Held) (x y : Held) → length failed ≡ length before
+    → AreRises 0 (opening_items failed) before after → x.faults + of fails ≤ y.faults
+    → AreRises 0 (opening_items (failed ++ fails ∷ [])) (before ++ x ∷ []) (after ++ y ∷ [])
 rises_more failed fails before after x y same are last =
     let more = map Tells (first_seen (length failed) (fails ∷ [])) in
     let old = count_behind (0 + length before) 0 failed (omega (arith, same)) in

@@ -1,5 +1,6 @@
 -- A server that is opened over a disk whose files stand for a durable state.
-use Rattle.std.proofs.Common.{if◌then◌else◌, ◌≡◌, ◌≢◌, ◌+◌, ◌-◌, ℕ, zero, suc, Bool, true, false, List, take, length, Option, Some, None, IfSome, IsSome, IsSomeAnd, refl, sym, ap, subst, ◌∙◌, arith}
+use Rattle.std.proofs.Common.{if◌then◌else◌, ◌≡◌, ◌≢◌, ◌+◌, ◌-◌, ℕ, zero, suc, Bool, true, false, List, take, length, Option, Some, None, IfSome, IsSome}
+use Rattle.std.proofs.Common.{IsSomeAnd, refl, sym, ap, subst, ◌∙◌, arith}
 use Rattle.std.proofs.lemmas.Bool.{false≢true}
 use Rattle.std.proofs.lemmas.Slice.Eq.{bytes_eq-Decides}
 use Rattle.std.specs.Str.{bytes_eq}
@@ -44,7 +45,8 @@ rested : (fs : Files) (v : Version) (image : List ℕ) → IsAtRest v (image_of 
 rested fs v image rests same =
     subst (λ (xs : List ℕ). StandsFor fs v xs) same (by_label fs v (short_log_is_discarded fs.log (omega (arith, ap length rests.log))) rests.label)
 
-rested_all : (files : Option Files) (v w : Version) (image : List ℕ) → v ≡ w → IsSome files → IfSome files (λ fs. IsAtRest v (image_of fs.database) fs) → IfSome (image_in files) (λ xs. xs ≡ image)
+rested_all : (files : Option Files) (v w : Version) (image : List ℕ) → v ≡ w → IsSome files → IfSome files (λ fs. IsAtRest v (image_of fs.database) fs)
+    → IfSome (image_in files) (λ xs. xs ≡ image)
     → IsSomeAnd files (StandsAs (durable w image))
 rested_all None v w image same some rests is = absurd (false≢true some)
 rested_all (Some fs) v w image same some rests is = rested fs w image (subst (λ (x : Version). IsAtRest x (image_of fs.database) fs) same rests) is
@@ -82,7 +84,8 @@ told_at files fs P is holds = let Q : Option Files → Type 0 = λ o. IsSomeAnd 
 pub if_told : (files : Option Files) (fs : Files) (P : Files → Type 0) → files ≡ Some fs → P fs → IfSome files P
 if_told files fs P is holds = let Q : Option Files → Type 0 = λ o. IfSome o P in subst Q (sym is) holds
 
-pub some_stands : (standing : Standing) (files : Option Files) (d : Durable) → IsSomeAnd files (StandsAs d) → IsMeantImage standing d.image → IfSome files (StandsForSome standing)
+pub some_stands : (standing : Standing) (files : Option Files) (d : Durable) → IsSomeAnd files (StandsAs d) → IsMeantImage standing d.image
+    → IfSome files (StandsForSome standing)
 some_stands standing None d stands meant = tt
 some_stands standing (Some fs) d stands meant = (d, stands, meant)
 
@@ -99,7 +102,8 @@ one_durable fs d e x y =
     let same = stands_once fs e.version d.version e.image d.image y x in
     ap (λ (v : Version). durable v e.image) same.0 ∙ ap (λ (i : List ℕ). durable d.version i) same.1
 
-module _ {D : Type 0} {standing : Standing} (g : Ghosts D) (disk new : D) (F : Type 0) (d : Durable) (sound : IsSoundDisk g standing disk) (stands : IsSomeAnd (g.files disk) (StandsAs d)) (opening : IsOpening g disk new F) where
+module _ {D : Type 0} {standing : Standing} (g : Ghosts D) (disk new : D) (F : Type 0) (d : Durable) (sound : IsSoundDisk g standing disk)
+    (stands : IsSomeAnd (g.files disk) (StandsAs d)) (opening : IsOpening g disk new F) where
   -- the files before it
   abbrev pub before : Told (g.files disk)
   before = told_files (g.files disk) sound.told
@@ -134,7 +138,8 @@ module _ {D : Type 0} {standing : Standing} (g : Ghosts D) (disk new : D) (F : T
   pub opens_short : (after : D) → g.steps after ≡ g.steps new → OpensDisk g true disk after
   opens_short after same =
       let few : RisesAtMost opens.0 (g.steps disk) (g.steps new) =
-      of_told (g.files disk) before.fs (λ fs. (calls : ℕ) → OpensIn fs calls → RisesAtMost calls (g.steps disk) (g.steps new)) before.is opening.few opens.0 opens.1 in
+      of_told (g.files disk) before.fs (λ fs. (calls : ℕ) → OpensIn fs calls → RisesAtMost calls (g.steps disk) (g.steps new)) before.is opening.few opens.0
+      opens.1 in
       let low = few.0 in
       let high = few.1 in
       let rise = g.steps new - g.steps disk in
@@ -159,7 +164,8 @@ module _ {D V : Type 0} (g : Ghosts D) (n : Node D V) (stored : IsStored g n) (w
   -- its disk stands for its version and image
   pub node_stands : IsSome (g.files n.store.disk) → IsSomeAnd (g.files n.store.disk) (StandsAs (durable n.state.version n.state.image))
   node_stands some =
-      rested_all (g.files n.store.disk) n.store.version n.state.version n.state.image stored.version some (stored.sound.ready (stored.failed ∙ went)).rests (stored.image went)
+      rested_all (g.files n.store.disk) n.store.version n.state.version n.state.image (stored.version went) some
+      (stored.sound.ready (stored.failed ∙ went)).rests (stored.image went)
 
   pub node_settled : IsSettled (g.files n.store.disk) (g.may_leave n.store.disk)
   node_settled = (stored.sound.ready (stored.failed ∙ went)).settled
@@ -220,12 +226,13 @@ module _ {D V : Type 0} {standing : Standing} (g : Ghosts D) (hosts cell : List 
     unarmed = unarmed_after (g.steps disk) (g.steps n.store.disk) (g.stop disk) (g.stop n.store.disk) opening.calls.advances;
     never_falls = opening.calls.cause.never_falls;
     is = (
-      up ∙ ap (λ (l : List Host). model.Up (model.opened_server (length l) e clock)) same ∙ ap (λ (x : Durable). model.Up (model.opened_server (length hosts) x clock)) is_d,
+      up ∙ ap (λ (l : List Host). model.Up (model.opened_server (length l) e clock)) same
+          ∙ ap (λ (x : Durable). model.Up (model.opened_server (length hosts) x clock)) is_d,
       is ∙ ap (λ (u : model.Server). u.version) server_up.1,
       record {
         last = omega (arith, last);
         member = mine ∙ ap (λ (l : List Host). record { hosts = l; me = me }) same;
-        voter = subst (λ (u : model.Server). IsVoter m u) (sym server_up.1) (votes m d clock);
+        voter = λ _. subst (λ (u : model.Server). IsVoter m u) (sym server_up.1) (votes m d clock);
         stored = stored;
       },
     );
@@ -245,48 +252,54 @@ module _ {D : Type 0} {standing : Standing} (g : Ghosts D) (m : Member) (clock :
     (sound : IsSoundDisk g standing disk) (stands : IsSomeAnd (g.files disk) (StandsAs d)) (opening : IsOpening g disk refused (why ≡ DiskFault))
     (refuses : IfSome (g.files disk) (λ fs. RefusesFiles fs why)) (unarmed : g.stop revived ≡ Unarmed)
     (left : IfSome (g.files revived) (λ fs. g.may_leave refused fs × Only fs (g.may_leave revived)))
-    (told_then : g.tells refused ≡ true → IsSome (g.files revived)) (steps : g.steps revived ≡ g.steps refused) (faults : g.faults revived ≡ g.faults refused) where
-  abbrev there_then : Told (g.files disk)
-  there_then = before g disk refused (why ≡ DiskFault) d sound stands opening
+    (told_then : g.tells refused ≡ true → IsSome (g.files revived)) (steps : g.steps revived ≡ g.steps refused) (faults : g.faults revived ≡ g.faults refused)
+  where
+    abbrev there_then : Told (g.files disk)
+    there_then = before g disk refused (why ≡ DiskFault) d sound stands opening
 
-  abbrev now_told : Told (g.files revived)
-  now_told = told_files (g.files revived) (told_then (opening.calls.tells ∙ g.tells_now disk sound.told))
+    abbrev now_told : Told (g.files revived)
+    now_told = told_files (g.files revived) (told_then (opening.calls.tells ∙ g.tells_now disk sound.told))
 
-  now_left : g.may_leave refused now_told.fs × Only now_told.fs (g.may_leave revived)
-  now_left = of_told (g.files revived) now_told.fs (λ fs. g.may_leave refused fs × Only fs (g.may_leave revived)) now_told.is left
+    now_left : g.may_leave refused now_told.fs × Only now_told.fs (g.may_leave revived)
+    now_left = of_told (g.files revived) now_told.fs (λ fs. g.may_leave refused fs × Only fs (g.may_leave revived)) now_told.is left
 
-  pub opened_down : {V : Type 0} → (end : OpenEnd) → (is_cut : is_cut_short end ≡ true)
-      → ServerIs {V = V} g m clock d end disk (server.Down revived) → ServerOpens {V = V} g standing m clock d end disk (server.Down revived)
-  opened_down end is_cut is = record {
-    stands = told_at (g.files revived) now_told.fs (StandsAs d) now_told.is
-        (leaves_same g disk refused (why ≡ DiskFault) d sound stands opening now_told.fs now_left.0);
-    sound = record {
-      told = some_told (g.files revived) now_told.fs now_told.is;
-      settled = if_told (g.files revived) now_told.fs (λ fs. Only fs (g.may_leave revived)) now_told.is now_left.1;
-      plain = if_told (g.files revived) now_told.fs IsPlain now_told.is
-          (leaves_plain g disk refused (why ≡ DiskFault) d sound stands opening now_told.fs now_left.0);
-      stands = if_told (g.files revived) now_told.fs (StandsForSome standing) now_told.is
-          (d, leaves_same g disk refused (why ≡ DiskFault) d sound stands opening now_told.fs now_left.0, meant g disk refused (why ≡ DiskFault) d sound stands opening);
-    };
-    calls = subst (λ (b : Bool). OpensDisk g b disk revived) (sym is_cut) (opens_short g disk refused (why ≡ DiskFault) d sound stands opening revived steps);
-    unarmed = λ was. unarmed;
-    never_falls = let kept = opening.calls.cause.never_falls in omega (arith, kept, faults);
-    is = is;
-  }
+    pub opened_down : {V : Type 0} → (end : OpenEnd) → (is_cut : is_cut_short end ≡ true)
+        → ServerIs {V = V} g m clock d end disk (server.Down revived) → ServerOpens {V = V} g standing m clock d end disk (server.Down revived)
+    opened_down end is_cut is = record {
+      stands = told_at (g.files revived) now_told.fs (StandsAs d) now_told.is
+          (leaves_same g disk refused (why ≡ DiskFault) d sound stands opening now_told.fs now_left.0);
+      sound = record {
+        told = some_told (g.files revived) now_told.fs now_told.is;
+        settled = if_told (g.files revived) now_told.fs (λ fs. Only fs (g.may_leave revived)) now_told.is now_left.1;
+        plain = if_told (g.files revived) now_told.fs IsPlain now_told.is
+            (leaves_plain g disk refused (why ≡ DiskFault) d sound stands opening now_told.fs now_left.0);
+        stands = if_told (g.files revived) now_told.fs (StandsForSome standing) now_told.is (
+          d,
+          leaves_same g disk refused (why ≡ DiskFault) d sound stands opening now_told.fs now_left.0,
+          meant g disk refused (why ≡ DiskFault) d sound stands
+              opening,
+        );
+      };
+      calls = subst (λ (b : Bool). OpensDisk g b disk revived) (sym is_cut) (opens_short g disk refused (why ≡ DiskFault) d sound stands opening revived steps);
+      unarmed = λ was. unarmed;
+      never_falls = let kept = opening.calls.cause.never_falls in omega (arith, kept, faults);
+      is = is;
+    }
 
-  -- the disk failed
-  pub down_by_fault : {V : Type 0} → why ≢ NoMemory → ServerOpens {V = V} g standing m clock d opened.StaysDown disk (server.Down revived)
-  down_by_fault other =
-      let fault = refused_so there_then.fs d why (stood g disk refused (why ≡ DiskFault) d sound stands opening)
-      (of_told (g.files disk) there_then.fs (λ fs. RefusesFiles fs why) there_then.is refuses) other in
-      let rose = opening.calls.cause.rose fault in
-      opened_down opened.StaysDown refl (refl, omega (arith, rose, faults))
+    -- the disk failed
+    pub down_by_fault : {V : Type 0} → why ≢ NoMemory → ServerOpens {V = V} g standing m clock d opened.StaysDown disk (server.Down revived)
+    down_by_fault other =
+        let fault = refused_so there_then.fs d why (stood g disk refused (why ≡ DiskFault) d sound stands opening)
+        (of_told (g.files disk) there_then.fs (λ fs. RefusesFiles fs why) there_then.is refuses) other in
+        let rose = opening.calls.cause.rose fault in
+        opened_down opened.StaysDown refl (refl, omega (arith, rose, faults))
 
-  pub down_by_memory : {V : Type 0} → ServerOpens {V = V} g standing m clock d opened.NoMemory disk (server.Down revived)
-  down_by_memory = opened_down opened.NoMemory refl refl
+    pub down_by_memory : {V : Type 0} → ServerOpens {V = V} g standing m clock d opened.NoMemory disk (server.Down revived)
+    down_by_memory = opened_down opened.NoMemory refl refl
 
 -- no opening was begun
-pub not_opened : {D V : Type 0} {standing : Standing} (g : Ghosts D) (m : Member) (clock : ℕ) (disk : D) (d : Durable) → IsSoundDisk g standing disk → IsSomeAnd (g.files disk) (StandsAs d)
+pub not_opened : {D V : Type 0} {standing : Standing} (g : Ghosts D) (m : Member) (clock : ℕ) (disk : D) (d : Durable) → IsSoundDisk g standing disk
+    → IsSomeAnd (g.files disk) (StandsAs d)
     → ServerOpens {V = V} g standing m clock d opened.NoMemory disk (server.Down disk)
 not_opened g mine clock disk d sound stands =
     let there = told_files (g.files disk) sound.told in

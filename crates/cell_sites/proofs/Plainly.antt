@@ -29,14 +29,20 @@ make_some o x P is holds = subst (λ y. IsSomeAnd y P) (sym is) holds
 pub make_if : {X : Type 0} (o : Option X) (x : X) (P : X → Type 0) → o ≡ Some x → P x → IfSome o P
 make_if o x P is holds = subst (λ y. IfSome y P) (sym is) holds
 
+pub if_more : {X : Type 0} (o : Option X) (P Q : X → Type 0) → ((x : X) → P x → Q x) → IfSome o P → IfSome o Q
+if_more None P Q more holds = tt
+if_more (Some x) P Q more holds = more x holds
+
 -- plain files stay plain
-pub left_plain : {D : Type 0} (g : Ghosts D) (d : Durable) (old new : D) (calls : List Made) (fs later : Files) → g.files old ≡ Some fs → IsPlain fs → LeavesWithin g d old new calls → g.may_leave new later → IsPlain later
+pub left_plain : {D : Type 0} (g : Ghosts D) (d : Durable) (old new : D) (calls : List Made) (fs later : Files) → g.files old ≡ Some fs → IsPlain fs
+    → LeavesWithin g d old new calls → g.may_leave new later → IsPlain later
 left_plain g d old new calls fs later is plain leaves left =
     let run = of_some (g.files old) fs (λ fs. IsPlain fs → LeavesOnly g.steps g.left_since old new IsPlain) is leaves.plain plain in
     run.each later (g.counts_now new (g.steps old) later run.later left)
 
 -- and what is left stands for some durable state, whose image stands where those that the calls lead to do
-pub left_stands : {D : Type 0} (g : Ghosts D) (standing : Standing) (d : Durable) (old new : D) (calls : List Made) (fs later : Files) → g.files old ≡ Some fs → LeavesWithin g d old new calls → AllMeant standing d calls → g.may_leave new later
+pub left_stands : {D : Type 0} (g : Ghosts D) (standing : Standing) (d : Durable) (old new : D) (calls : List Made) (fs later : Files) → g.files old ≡ Some fs
+    → LeavesWithin g d old new calls → AllMeant standing d calls → g.may_leave new later
     → StandsForSome standing later
 left_stands g standing d old new calls fs later is leaves meant left =
     let run = of_some (g.files old) fs (λ _. LeavesOnly g.steps g.left_since old new (StandsWithin d calls)) is leaves.moments in

@@ -1,5 +1,6 @@
 -- What a step of one server of a running cell tells, and what it leaves.
-use Rattle.std.proofs.Common.{◌≡◌, ◌≢◌, inr, ◌<◌, ◌≤◌, ◌+◌, ℕ, zero, suc, Bool, false, Option, Some, None, Ok, List, [], ◌∷◌, ◌++◌, length, replicate, map, set, sym, ap, subst, ◌∙◌, arith}
+use Rattle.std.proofs.Common.{◌≡◌, ◌≢◌, inr, ◌<◌, ◌≤◌, ◌+◌, ℕ, zero, suc, Bool, false, Option, Some, None, Ok, List, [], ◌∷◌, ◌++◌, length, replicate, map, set}
+use Rattle.std.proofs.Common.{sym, ap, subst, ◌∙◌, arith}
 use Rattle.std.specs.Prelude.{slice_get}
 use Rattle.std.proofs.lemmas.List.{length-append}
 use Rattle.disk_base.specs.declared.disks.Disk.{Ghosts}
@@ -52,13 +53,17 @@ module _ {D V : Type 0} (g : Ghosts D) where
       )
 
   -- a site that became another one moves its disk alone
-  pub moved_set : (R : ℕ → Held → Held → Type 0) (p k : ℕ) (sites : List (Site D V)) (site later : Site D V) → slice_get sites k ≡ Some site → R (p + k) (held_at site) (held_at later) → ((j : ℕ) (x : Held) → j ≢ p + k → R j x x)
+  pub moved_set : (R : ℕ → Held → Held → Type 0) (p k : ℕ) (sites : List (Site D V)) (site later : Site D V) → slice_get sites k ≡ Some site
+      → R (p + k) (held_at site) (held_at later) → ((j : ℕ) (x : Held) → j ≢ p + k → R j x x)
       → AreMoved R p (map held_at sites) (map held_at (set sites k later))
   moved_set R p k [] site later there one others = cc
   moved_set R p zero (x ∷ sites) site later there one others =
       let same : site ≡ x = cc in
-      let here : p + 0 ≡ p = omega arith in
-      (subst (λ (y : Site D V). R p (held_at y) (held_at later)) same (subst (λ (n : ℕ). R n (held_at site) (held_at later)) here one), rest (p + 1) sites (omega arith))
+      let here : p + 0 ≡ p = omega arith in (
+        subst (λ (y : Site D V). R p (held_at y) (held_at later)) same (subst (λ (n : ℕ). R n (held_at site) (held_at later)) here one),
+        rest (p + 1) sites
+            (omega arith),
+      )
     where
       rest : (q : ℕ) (more : List (Site D V)) → p < q → AreMoved R q (map held_at more) (map held_at more)
       rest q [] past = tt
@@ -66,17 +71,20 @@ module _ {D V : Type 0} (g : Ghosts D) where
   moved_set R p (suc k) (x ∷ sites) site later there one others =
       let here : p + suc k ≡ p + 1 + k = omega arith in (
         others p (held_at x) (λ e. omega (arith, e)),
-        moved_set R (p + 1) k sites site later there (subst (λ (n : ℕ). R n (held_at site) (held_at later)) here one) (λ j y other. others j y (λ e. other (e ∙ here))),
+        moved_set R (p + 1) k sites site later there (subst (λ (n : ℕ). R n (held_at site) (held_at later)) here one)
+            (λ j y other. others j y (λ e. other (e ∙ here))),
       )
 
-  pub reads_set : (ss : List ModelSite) (sites : List (Site D V)) (k : ℕ) (s : ModelSite) (later : Site D V) → AreReadBy ss (map held_at sites) → slice_get ss k ≡ Some s → IsReadBy s (held_at later) → AreReadBy ss (map held_at (set sites k later))
+  pub reads_set : (ss : List ModelSite) (sites : List (Site D V)) (k : ℕ) (s : ModelSite) (later : Site D V) → AreReadBy ss (map held_at sites)
+      → slice_get ss k ≡ Some s → IsReadBy s (held_at later) → AreReadBy ss (map held_at (set sites k later))
   reads_set [] sites k s later read there is = cc
   reads_set (x ∷ ss) [] k s later read there is = absurd read
   reads_set (x ∷ ss) (y ∷ sites) zero s later read there is =
       let same : s ≡ x = cc in (subst (λ (z : ModelSite). IsReadBy z (held_at later)) same is, read.1)
   reads_set (x ∷ ss) (y ∷ sites) (suc k) s later read there is = (read.0, reads_set ss sites k s later read.1 there is)
 
-  pub reads_both : (ss : List ModelSite) (sites : List (Site D V)) (k : ℕ) (s : ModelSite) (later : Site D V) → AreReadBy ss (map held_at sites) → IsReadBy s (held_at later) → AreReadBy (set ss k s) (map held_at (set sites k later))
+  pub reads_both : (ss : List ModelSite) (sites : List (Site D V)) (k : ℕ) (s : ModelSite) (later : Site D V) → AreReadBy ss (map held_at sites)
+      → IsReadBy s (held_at later) → AreReadBy (set ss k s) (map held_at (set sites k later))
   reads_both [] [] k s later read is = tt
   reads_both [] (y ∷ sites) k s later read is = absurd read
   reads_both (x ∷ ss) [] k s later read is = absurd read
@@ -86,7 +94,12 @@ module _ {D V : Type 0} (g : Ghosts D) where
 -- ---- a step
 
 -- a line of a cell whose disks are armed so
-module _ {D V : Type 0} (g : Ghosts D) (script_db : ScriptDatabase) (given : List ℕ) (before after : OpenCell D V) (c : Cell) (stands : IsModelledBy g script_db.database given before c) (k : ℕ) (ev : Event) (h : SiteHappened) (armed : List (Option Armed)) (run : List Choice → Run_or_why) (choices : List Choice) (is : run choices ≡ Ok (happened (with_armed c armed) ev (happened_at c.run.world k h))) (marks : AreMarks h.marks) (site later : Site D V) (there : slice_get before.sites.items k ≡ Some site) (sites : after.sites.items ≡ set before.sites.items k later) (rises : g.faults (site_disk site) + fault_count k (map Tells h.marks) ≤ g.faults (site_disk later)) (others : (j : ℕ) → j ≢ k → fault_count j (map Tells h.marks) ≡ 0) where
+module _ {D V : Type 0} (g : Ghosts D) (script_db : ScriptDatabase) (given : List ℕ) (before after : OpenCell D V) (c : Cell)
+    (stands : IsModelledBy g script_db.database given before c) (k : ℕ) (ev : Event) (h : SiteHappened) (armed : List (Option Armed))
+    (run : List Choice → Run_or_why) (choices : List Choice) (is : run choices ≡ Ok (happened (with_armed c armed) ev (happened_at c.run.world k h)))
+    (marks : AreMarks h.marks) (site later : Site D V) (there : slice_get before.sites.items k ≡ Some site)
+    (sites : after.sites.items ≡ set before.sites.items k later) (rises : g.faults (site_disk site) + fault_count k (map Tells h.marks) ≤ g.faults
+    (site_disk later)) (others : (j : ℕ) → j ≢ k → fault_count j (map Tells h.marks) ≡ 0) where
   -- the cell after it
   abbrev pub cell_then : Cell
   cell_then = cell_after (with_armed c armed) ev (happened_at c.run.world k h)
@@ -109,7 +122,8 @@ module _ {D V : Type 0} (g : Ghosts D) (script_db : ScriptDatabase) (given : Lis
       let here = few k in
       subst (λ (l : List (Site D V)). AreRises 0 told_in.items (helds g before) (map (held_at {V = V} g) l)) (sym sites)
       (rises_set g told_in.items 0 k before.sites.items site later there
-      (let first : fault_count (0 + k) told_in.items ≡ fault_count k told_in.items = ap (λ (n : ℕ). fault_count n told_in.items) (zero_add k) in omega (arith, rises, here, first))
+      (let first : fault_count (0 + k) told_in.items ≡ fault_count k told_in.items = ap (λ (n : ℕ). fault_count n told_in.items) (zero_add k) in omega
+      (arith, rises, here, first))
       (λ j other. let none = others j (λ e. other (e ∙ sym (zero_add k))) in let less = few j in omega (arith, none, less)))
     where
       zero_add : (n : ℕ) → 0 + n ≡ n
@@ -117,14 +131,16 @@ module _ {D V : Type 0} (g : Ghosts D) (script_db : ScriptDatabase) (given : Lis
 
   -- all was told
   pub whole : (text_before text text_after : List ℕ)
-      → told_of script_db before.hosts.items k (record { text = text_before; sent = before.packets.sent }) h.shown ≡ record { after = record { text = text; sent = after.packets.sent }; ending = None }
+      → told_of script_db before.hosts.items k (record { text = text_before; sent = before.packets.sent }) h.shown ≡ record
+      { after = record { text = text; sent = after.packets.sent }; ending = None }
       → text_after ≡ text ++ trace script_db before.hosts.items (map Tells h.marks)
       → after.hosts.items ≡ before.hosts.items → after.packets ≡ sent_all before.packets (packets_of h.shown) → IsSiteOf later h.site
       → AreArmed g after.sites.items armed → HoldRun script_db.database given false cell_then (helds g after)
       → CellTold g script_db given run None before after text_before text_after
   whole tb text ta told marked hosts packets stood arms hold =
       let agree = agrees script_db before.hosts.items k (record { text = tb; sent = before.packets.sent }) h.shown h.marks marks in
-      let ended : (told_of script_db before.hosts.items k (record { text = tb; sent = before.packets.sent }) h.shown).ending ≡ None = ap (λ (r : TellingRun). r.ending) told in
+      let ended : (told_of script_db before.hosts.items k (record { text = tb; sent = before.packets.sent }) h.shown).ending ≡ None = ap
+      (λ (r : TellingRun). r.ending) told in
       record {
         choices = choices;
         ran = happened (with_armed c armed) ev (happened_at c.run.world k h);
@@ -132,7 +148,8 @@ module _ {D V : Type 0} (g : Ghosts D) (script_db : ScriptDatabase) (given : Lis
         ends = ap (λ (w : Within). w.ending) as_seen ∙ agree.ending ∙ ended;
         cell = record {
           hosts = stands.hosts ∙ sym hosts;
-          sites = subst (λ (l : List (Site D V)). AreSitesOf l (set c.run.world.sites k h.site)) (sym sites) (sites_set before.sites.items c.run.world.sites k later h.site stands.sites stood);
+          sites = subst (λ (l : List (Site D V)). AreSitesOf l (set c.run.world.sites k h.site)) (sym sites)
+              (sites_set before.sites.items c.run.world.sites k later h.site stands.sites stood);
           sent = ap (λ (l : List Packet). l ++ packets_of h.shown) stands.sent ∙ sym (ap (λ (t : Traffic). t.sent) packets);
           handed =
               ap (λ (n : ℕ). c.handed ++ replicate n false) (let len = length-append c.run.world.packets (packets_of h.shown) in omega (arith, len))
@@ -149,23 +166,33 @@ module _ {D V : Type 0} (g : Ghosts D) (script_db : ScriptDatabase) (given : Lis
 
   -- a packet passed a limit
   pub part : (ending : Ending) (text_before text_after : List ℕ) (sent : List Packet)
-      → told_of script_db before.hosts.items k (record { text = text_before; sent = before.packets.sent }) h.shown ≡ record { after = record { text = text_after; sent = sent }; ending = Some ending }
+      → told_of script_db before.hosts.items k (record { text = text_before; sent = before.packets.sent }) h.shown ≡ record
+      { after = record { text = text_after; sent = sent }; ending = Some ending }
       → HoldRun script_db.database given false cell_then (helds g after)
       → CellTold g script_db given run (Some ending) before after text_before text_after
   part ending tb ta sent told hold =
       let agree = agrees script_db before.hosts.items k (record { text = tb; sent = before.packets.sent }) h.shown h.marks marks in
-      let ended : (told_of script_db before.hosts.items k (record { text = tb; sent = before.packets.sent }) h.shown).ending ≡ Some ending = ap (λ (r : TellingRun). r.ending) told in
+      let ended : (told_of script_db before.hosts.items k (record { text = tb; sent = before.packets.sent }) h.shown).ending ≡ Some ending = ap
+      (λ (r : TellingRun). r.ending) told in
       record {
         choices = choices;
         ran = happened (with_armed c armed) ev (happened_at c.run.world k h);
         is = is;
         ends = ap (λ (w : Within). w.ending) as_seen ∙ agree.ending ∙ ended;
         cell = hold;
-        told = ap (λ (r : TellingRun). r.after.text) (sym told) ∙ agree.part ending ended ∙ ap (λ (w : Within). tb ++ trace script_db before.hosts.items w.items) (sym as_seen);
+        told = ap (λ (r : TellingRun). r.after.text) (sym told) ∙ agree.part ending ended
+            ∙ ap (λ (w : Within). tb ++ trace script_db before.hosts.items w.items) (sym as_seen);
         causes = causes;
       }
 
   -- memory ran out once the step was made
   pub short_after : HoldRun script_db.database given false cell_then (helds g after) → IsShort g script_db.database given run c before after
   short_after hold =
-      inr (record { choices = choices; ran = happened (with_armed c armed) ev (happened_at c.run.world k h); is = is; disks = hold_short script_db.database cell_then given (helds g after) hold; causes = causes })
+      inr (record {
+        choices = choices;
+        ran = happened (with_armed c armed) ev (happened_at c.run.world k h);
+        is = is;
+        disks = hold_short script_db.database
+            cell_then given (helds g after) hold;
+        causes = causes;
+      })

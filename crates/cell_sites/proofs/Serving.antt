@@ -1,11 +1,13 @@
 -- What a step leaves of the disk of its server, as the model counts it.
-use Rattle.std.proofs.Common.{if◌then◌else◌, ◌≡◌, inl, inr, ◌≤◌, ◌+◌, ◌-◌, ◌==◌, ℕ, zero, suc, Bool, true, false, Option, Some, None, IfSome, IsSome, IsSomeAnd, List, [], ◌∷◌, length, take, sum, refl, sym, ap, subst, ◌∙◌, arith}
+use Rattle.std.proofs.Common.{if◌then◌else◌, ◌≡◌, inl, inr, ◌≤◌, ◌+◌, ◌-◌, ◌==◌, ℕ, zero, suc, Bool, true, false, Option, Some, None, IfSome, IsSome, IsSomeAnd}
+use Rattle.std.proofs.Common.{List, [], ◌∷◌, length, take, sum, refl, sym, ap, subst, ◌∙◌, arith}
 use Rattle.std.specs.Prelude.{not, nat_lt}
 use Rattle.std.proofs.lemmas.Bool.Decides.{nat_tests}
 use Rattle.disk_base.specs.declared.disks.Disk.{Ghosts}
 use Rattle.disk_base.specs.Crash.{Narrows, Only}
 use Rattle.disk_base.specs.Files.{Files}
 use Rattle.disk_base.specs.Stops.{IsStopped, after_changes}
+use Rattle.disk_base.proofs.Runs.{widened}
 use Rattle.page_file.specs.Label.{version_by, version_of_database, version_of_label}
 use Rattle.page_file.specs.declared.label.TheConstants.{LABEL_LEN}
 use Rattle.page_file.specs.Pages.{image_of}
@@ -24,14 +26,14 @@ use Rattle.cell_model.specs.Step.{Member}
 use Rattle.cell_model.specs.World.{calls_on}
 use Rattle.cell_runs.specs.Script.{calls_on_all}
 use Rattle.ubik_node.specs.declared.nodes.Node.{Node}
-use Rattle.ubik_node.specs.Disk.{FailsIn, IsRevived, Serves, StandsAs, StandsBetween, calls_made, has_label}
+use Rattle.ubik_node.specs.Disk.{FailsIn, IsRevived, Serves, StandsAs, StandsBetween, StandsWithin, calls_made, has_label}
 use Rattle.ubik_node.specs.Node.{durable_in, node_of}
 use Rattle.cell_sites.specs.Counts.{IsCutShort}
 use Rattle.cell_sites.specs.Sound.{IsSoundDisk, IsSoundNode}
 use Rattle.cell_sites.proofs.Arming.{AreFew}
 use Rattle.cell_sites.proofs.Counting.{each_on, sum_cons}
 use Rattle.cell_sites.proofs.Nodes.{is_up}
-use Rattle.cell_sites.proofs.Plainly.{make_some, of_some, some_of}
+use Rattle.cell_sites.proofs.Plainly.{if_more, make_some, of_some, some_of}
 use Rattle.cell_sites.proofs.Standing.{stands_once}
 use Rattle.db_image.specs.Standing.{Standing}
 
@@ -56,11 +58,13 @@ unlabelled file v is short = by (length file == 0) refl
   where
     by : (b : Bool) → (length file == 0) ≡ b → v ≡ zero_version
     by true empty =
-        let first : Some zero_version ≡ Some v = sym (ap (λ (b : Bool). if b then Some zero_version else version_by (length file) (take LABEL_LEN file)) empty) ∙ is in cc
+        let first : Some zero_version ≡ Some v = sym (ap (λ (b : Bool). if b then Some zero_version else version_by (length file) (take LABEL_LEN file)) empty)
+        ∙ is in cc
     by false some =
         let none : None ≡ Some v =
         sym (ap (λ (b : Bool). if b then Some zero_version else version_by (length file) (take LABEL_LEN file)) some
-        ∙ ap (λ (b : Bool). if b then None else (if nat_lt (LABEL_LEN + MAX_IMAGE) (length file) then None else version_of_label (take LABEL_LEN file))) short) ∙ is in cc
+        ∙ ap (λ (b : Bool). if b then None else (if nat_lt (LABEL_LEN + MAX_IMAGE) (length file) then None else version_of_label (take LABEL_LEN file))) short)
+        ∙ is in cc
 
 -- at rest a database file has a label where its version is not the first one
 pub label_says : (fs : Files) (v : Version) → IsAtRest v (image_of fs.database) fs → IsPlain fs → has_label fs.database ≡ not (version_eq v zero_version)
@@ -68,7 +72,8 @@ label_says fs v rests plain = by (version_eq v zero_version) refl
   where
     by : (b : Bool) → version_eq v zero_version ≡ b → has_label fs.database ≡ not b
     by true is =
-        let none : fs.database ≡ [] = plain.unlabelled (short_log_is_discarded fs.log (omega (arith, ap length rests.log))) (rests.label ∙ ap Some (same_zero v is)) in
+        let none : fs.database ≡ [] = plain.unlabelled (short_log_is_discarded fs.log (omega (arith, ap length rests.log)))
+        (rests.label ∙ ap Some (same_zero v is)) in
         ap has_label none
     by false is = long (nat_lt (length fs.database) LABEL_LEN) refl
       where
@@ -80,7 +85,8 @@ label_says fs v rests plain = by (version_eq v zero_version) refl
 
 -- ---- how many changing calls
 
-pub made_on : (labelled : Bool) (v : Version) (calls : List Made) → AreFew calls → labelled ≡ not (version_eq v zero_version) → calls_made labelled calls ≡ calls_on_all v calls
+pub made_on : (labelled : Bool) (v : Version) (calls : List Made) → AreFew calls → labelled ≡ not (version_eq v zero_version)
+    → calls_made labelled calls ≡ calls_on_all v calls
 made_on labelled v calls (inl none) same = ap (calls_made labelled) none ∙ sym (ap (calls_on_all v) none)
 made_on labelled v calls (inr (made, one)) same =
     ap (calls_made labelled) one ∙ ap (λ (b : Bool). disk_calls b made.call + 0) same ∙ sym (ap (calls_on_all v) one)
@@ -98,7 +104,8 @@ take_each : (n : ℕ) (v : Version) (calls : List Made) → sum (take n (each_on
 take_each zero v calls = refl
 take_each (suc n) v [] = refl
 take_each (suc n) v (made ∷ calls) =
-    sum_cons (calls_on v made) (take n (each_on (version_after made.call) calls)) ∙ ap (λ (k : ℕ). calls_on v made + k) (take_each n (version_after made.call) calls)
+    sum_cons (calls_on v made) (take n (each_on (version_after made.call) calls))
+    ∙ ap (λ (k : ℕ). calls_on v made + k) (take_each n (version_after made.call) calls)
 
 -- ---- a server that is up
 
@@ -111,19 +118,23 @@ pub record FilesAt {D V : Type 0} (g : Ghosts D) (node : Node D V) (s : model.Se
   pub label : has_label files.database ≡ not (version_eq s.version zero_version)
   pub runs : IsStopped (g.stop node.store.disk) → ⊥
 
-pub files_at : {D V : Type 0} {standing : Standing} (g : Ghosts D) (m : Member) (clock : ℕ) (node : Node D V) (s : model.Server) → IsSoundNode g m clock node → IsSoundDisk g standing node.store.disk → node_of node ≡ model.Up s → FilesAt g node s
+pub files_at : {D V : Type 0} {standing : Standing} (g : Ghosts D) (m : Member) (clock : ℕ) (node : Node D V) (s : model.Server) → IsSoundNode g m clock node
+    → IsSoundDisk g standing node.store.disk → node_of node ≡ model.Up s → FilesAt g node s
 files_at {D} {V} g m clock node s sound disk up =
     let is_it = is_up node s up in
     let there = some_of (g.files node.store.disk) disk.told in
     let ready = sound.stored.sound.ready (sound.stored.failed ∙ is_it.0) in
-    let version : node.store.version ≡ s.version = sound.stored.version ∙ ap (λ (u : model.Server). u.version) is_it.1 in
-    let rests = subst (λ (v : Version). IsAtRest v (image_of there.0.database) there.0) version (of_some (g.files node.store.disk) there.0 (λ fs. IsAtRest node.store.version (image_of fs.database) fs) there.1 ready.rests) in
-    let image : image_of there.0.database ≡ s.image = image_at (g.files node.store.disk) there.0 node.state.image there.1 (sound.stored.image is_it.0) ∙ ap (λ (u : model.Server). u.image) is_it.1 in
+    let version : node.store.version ≡ s.version = sound.stored.version is_it.0 ∙ ap (λ (u : model.Server). u.version) is_it.1 in
+    let rests = subst (λ (v : Version). IsAtRest v (image_of there.0.database) there.0) version
+    (of_some (g.files node.store.disk) there.0 (λ fs. IsAtRest node.store.version (image_of fs.database) fs) there.1 ready.rests) in
+    let image : image_of there.0.database ≡ s.image = image_at (g.files node.store.disk) there.0 node.state.image there.1 (sound.stored.image is_it.0)
+    ∙ ap (λ (u : model.Server). u.image) is_it.1 in
     let plain = of_some (g.files node.store.disk) there.0 IsPlain there.1 disk.plain in
     record {
       files = there.0;
       is = there.1;
-      stands = subst (λ (i : List ℕ). StandsFor there.0 s.version i) image (by_label there.0 s.version (short_log_is_discarded there.0.log (omega (arith, ap length rests.log))) rests.label);
+      stands = subst (λ (i : List ℕ). StandsFor there.0 s.version i) image
+          (by_label there.0 s.version (short_log_is_discarded there.0.log (omega (arith, ap length rests.log))) rests.label);
       plain = plain;
       label = label_says there.0 s.version rests plain;
       runs = ready.runs;
@@ -135,12 +146,47 @@ files_at {D} {V} g m clock node s sound disk up =
 -- ---- a step that was made
 
 -- its durable calls made just these changing calls
-pub served_rise : {D V : Type 0} (g : Ghosts D) (node : Node D V) (s : model.Server) (new : D) (calls : List Made) → FilesAt g node s → AreFew calls → Serves g (durable_in s) node.store.disk new calls → g.steps new ≡ g.steps node.store.disk + calls_on_all s.version calls
+pub served_rise : {D V : Type 0} (g : Ghosts D) (node : Node D V) (s : model.Server) (new : D) (calls : List Made) → FilesAt g node s → AreFew calls
+    → Serves g (durable_in s) node.store.disk new calls → g.steps new ≡ g.steps node.store.disk + calls_on_all s.version calls
 served_rise {D} g node s new calls at few serves =
     of_some (g.files node.store.disk) at.files (λ fs. g.steps new ≡ g.steps node.store.disk + calls_made (has_label fs.database) calls) at.is serves.steps
     ∙ ap (λ (n : ℕ). g.steps node.store.disk + n) (made_on (has_label at.files.database) s.version calls few at.label)
 
 -- ---- a step in which the disk failed
+
+none_taken : (n : ℕ) → ◌≡◌ {A = List Made} (take n []) []
+none_taken zero = refl
+none_taken (suc n) = refl
+
+-- A disk that failed in a step without a durable call failed as well before the end of the first of any, none of which took place.
+pub fails_first : {D : Type 0} (g : Ghosts D) (d : Durable) (old new : D) (calls : List Made) → FailsIn g d old new [] → FailsIn g d old new calls
+fails_first {D} g d old new calls fails =
+    record {
+      leaves = record {
+        moments = if_more (g.files old) _ _ (λ fs run. widened g.steps g.left_since old new (StandsWithin d []) (StandsWithin d calls) within run)
+            fails.leaves.moments;
+        plain = fails.leaves.plain;
+      };
+      whole = 0;
+      now = if_more (g.files old) _ _ (λ fs narrows c left. between c (narrows c left)) fails.now;
+      least = if_more (g.files old) _ _ (λ fs least. let none = none_made fs fails.whole in omega (arith, least, none)) fails.least;
+      most = if_more (g.files old) _ _ (λ fs most. let none = none_made fs (fails.whole + 1) in omega (arith, most, none)) fails.most;
+      running = if_more (g.files old) _ _ (λ fs runs stopped. runs (subst (λ (n : ℕ). IsStopped (after_changes n (g.stop old))) (sym (none_made fs fails.whole))
+          stopped)) fails.running;
+    }
+  where
+    none_made : (fs : Files) (n : ℕ) → calls_made (has_label fs.database) (take n []) ≡ 0
+    none_made fs n = ap (calls_made (has_label fs.database)) (none_taken n)
+
+    still : (n : ℕ) (c : Files) → StandsAs (durable_after_all d (take n [])) c → StandsAs d c
+    still n c stands = subst (λ (l : List Made). StandsAs (durable_after_all d l) c) (none_taken n) stands
+
+    within : (c : Files) → StandsWithin d [] c → StandsWithin d calls c
+    within c (made, few, stands) = (0, omega arith, still made c stands)
+
+    between : (c : Files) → StandsBetween d [] fails.whole c → StandsBetween d calls 0 c
+    between c (inl stands) = inl (still fails.whole c stands)
+    between c (inr stands) = inl (still (fails.whole + 1) c stands)
 
 -- once the files are opened anew they stand for the state after the first so many durable calls
 pub record Failed {D : Type 0} (g : Ghosts D) (s : model.Server) (old later : D) (calls : List Made) (whole : ℕ) : Type 0 where
@@ -150,7 +196,8 @@ pub record Failed {D : Type 0} (g : Ghosts D) (s : model.Server) (old later : D)
   pub steps : g.steps later ≡ g.steps old + rise
   pub cut : IsCutShort (each_on s.version calls) (if took then whole + 1 else whole) rise
 
-module _ {D V : Type 0} (g : Ghosts D) (node : Node D V) (s : model.Server) (failed later : D) (calls : List Made) (at : FilesAt g node s) (few : AreFew calls) (fails : FailsIn g (durable_in s) node.store.disk failed calls) where
+module _ {D V : Type 0} (g : Ghosts D) (node : Node D V) (s : model.Server) (failed later : D) (calls : List Made) (at : FilesAt g node s) (few : AreFew calls)
+    (fails : FailsIn g (durable_in s) node.store.disk failed calls) where
   abbrev old : D
   old = node.store.disk
 
@@ -159,25 +206,29 @@ module _ {D V : Type 0} (g : Ghosts D) (node : Node D V) (s : model.Server) (fai
 
   low : g.steps old + calls_on_all s.version (take fails.whole calls) ≤ g.steps failed
   low =
-      let least = of_some (g.files old) at.files (λ fs. g.steps old + calls_made (has_label fs.database) (take fails.whole calls) ≤ g.steps failed) at.is fails.least in
+      let least = of_some (g.files old) at.files (λ fs. g.steps old + calls_made (has_label fs.database) (take fails.whole calls) ≤ g.steps failed) at.is
+      fails.least in
       let made = made_of fails.whole in omega (arith, least, made)
 
   high : g.steps failed ≤ g.steps old + calls_on_all s.version (take (fails.whole + 1) calls)
   high =
-      let most = of_some (g.files old) at.files (λ fs. g.steps failed ≤ g.steps old + calls_made (has_label fs.database) (take (fails.whole + 1) calls)) at.is fails.most in
+      let most = of_some (g.files old) at.files (λ fs. g.steps failed ≤ g.steps old + calls_made (has_label fs.database) (take (fails.whole + 1) calls)) at.is
+      fails.most in
       let made = made_of (fails.whole + 1) in omega (arith, most, made)
 
   -- the disk had not stopped once the whole calls were made
   pub runs_still : IsStopped (after_changes (calls_on_all s.version (take fails.whole calls)) (g.stop old)) → ⊥
   runs_still stopped =
-      of_some (g.files old) at.files (λ fs. IsStopped (after_changes (calls_made (has_label fs.database) (take fails.whole calls)) (g.stop old)) → ⊥) at.is fails.running
+      of_some (g.files old) at.files (λ fs. IsStopped (after_changes (calls_made (has_label fs.database) (take fails.whole calls)) (g.stop old)) → ⊥) at.is
+      fails.running
       (subst (λ (n : ℕ). IsStopped (after_changes n (g.stop old))) (sym (made_of fails.whole)) stopped)
 
   pub rise_most : (rise : ℕ) → g.steps failed ≡ g.steps old + rise → rise ≤ calls_on_all s.version (take (fails.whole + 1) calls)
   rise_most rise is = omega (arith, high, is)
 
   pub failed_in : (revived : IsRevived g failed later) → IsSome (g.files later) → Failed g s old later calls fails.whole
-  failed_in revived told = by (of_some (g.files old) at.files (λ _. Narrows (StandsBetween (durable_in s) calls fails.whole) (g.may_leave failed)) at.is fails.now there.0 left)
+  failed_in revived told =
+      by (of_some (g.files old) at.files (λ _. Narrows (StandsBetween (durable_in s) calls fails.whole) (g.may_leave failed)) at.is fails.now there.0 left)
     where
       there : (fs : Files) × (g.files later ≡ Some fs)
       there = some_of (g.files later) told

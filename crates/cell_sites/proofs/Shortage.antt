@@ -50,7 +50,8 @@ module _ (db : Database) (m : Member) (s : Server) (now id : ℕ) (call : List �
   served_either true = write_either s.flight none
   served_either false = inr (short refl)
 
-  elsewhere_either : (writes may_read : Bool) → IsEither s (asked_elsewhere db m s now id call writes true may_read) (asked_elsewhere db m s now id call writes false may_read)
+  elsewhere_either : (writes may_read : Bool)
+      → IsEither s (asked_elsewhere db m s now id call writes true may_read) (asked_elsewhere db m s now id call writes false may_read)
   elsewhere_either true may_read = inl refl
   elsewhere_either false true = inr (short refl)
   elsewhere_either false false = inl refl
@@ -67,27 +68,34 @@ module _ (db : Database) (m : Member) (s : Server) (now id : ℕ) (call : List �
   asked_either false = inl refl
 
 -- a packet of votes takes no memory
-votes_same : (db : Database) (m : Member) (s : Server) (now k : ℕ) (host : Host) (short : List Bool) (b : Body) → IsOfVotes b → received_from db m s now host k b short ≡ received_from db m s now host k b []
+votes_same : (db : Database) (m : Member) (s : Server) (now k : ℕ) (host : Host) (short : List Bool) (b : Body) → IsOfVotes b
+    → received_from db m s now host k b short ≡ received_from db m s now host k b []
 votes_same db m s now k host short (body.Beacon start claim ready version) votes = refl
 votes_same db m s now k host short (body.Vote start granted) votes = refl
 votes_same db m s now k host short _ votes = absurd votes
 
-packet_same : (db : Database) (m : Member) (s : Server) (now : ℕ) (p : Packet) (short : List Bool) (place : Option ℕ) → IsOfVotes p.body → received_packet db m s now p short place ≡ received_packet db m s now p [] place
+packet_same : (db : Database) (m : Member) (s : Server) (now : ℕ) (p : Packet) (short : List Bool) (place : Option ℕ) → IsOfVotes p.body
+    → received_packet db m s now p short place ≡ received_packet db m s now p [] place
 packet_same db m s now p short None votes = refl
 packet_same db m s now p short (Some k) votes = votes_same db m s now k p.from short p.body votes
 
-handled_either : (db : Database) (m : Member) (s : Server) (now : ℕ) (e : NodeEvent) (short : List Bool) → IsTaken m e → s.flight ≡ None → IsEither s (handled db m s now e short) (handled db m s now e [])
+handled_either : (db : Database) (m : Member) (s : Server) (now : ℕ) (e : NodeEvent) (short : List Bool) → IsTaken m e → s.flight ≡ None
+    → IsEither s (handled db m s now e short) (handled db m s now e [])
 handled_either db m s now (event.Packet p) short taken none = inl (packet_same db m s now p short (place_of m.hosts p.from) taken.votes)
 handled_either db m s now event.BeaconTurn short taken none = inl refl
 handled_either db m s now event.RecoverTurn short taken none = inl refl
 handled_either db m s now (event.Ask id call) short taken none = asked_either db m s now id call none (is_short short)
 
-pub step_either : (db : Database) (m : Member) (s : Server) (now : ℕ) (e : NodeEvent) (short : List Bool) → IsTaken m e → s.flight ≡ None → s.waiting ≡ [] → IsEither s (step_of db m s now e short) (step_of db m s now e [])
+pub step_either : (db : Database) (m : Member) (s : Server) (now : ℕ) (e : NodeEvent) (short : List Bool) → IsTaken m e → s.flight ≡ None → s.waiting ≡ []
+    → IsEither s (step_of db m s now e short) (step_of db m s now e [])
 unfolding step_of
-step_either db m s now e choices taken no_flight no_line = cond_both (leased m s now) _ _ P (λ _. kept s.flight no_flight) (λ _. lapses _ _ s.flight s.waiting no_flight no_line)
+step_either db m s now e choices taken no_flight no_line =
+    cond_both (leased m s now) _ _ P (λ _. kept s.flight no_flight) (λ _. lapses _ _ s.flight s.waiting no_flight no_line)
   where
     P : Stepped → Type 0
-    P t = IsEither s (followed t (λ after. handled db m after now e (short_after t.shown choices))) (followed t (λ after. handled db m after now e (short_after t.shown [])))
+    P t =
+        IsEither s (followed t (λ after. handled db m after now e (short_after t.shown choices)))
+        (followed t (λ after. handled db m after now e (short_after t.shown [])))
 
     kept : (f : Option Flight) → f ≡ None → P (write_lapsed m s now f)
     kept None is = handled_either db m s now e choices taken no_flight
@@ -103,7 +111,8 @@ step_either db m s now e choices taken no_flight no_line = cond_both (leased m s
     lapsed_either (inl same) = inl same
     lapsed_either (inr c) = inr (came _ c)
 
-    lapses : (one other : Reply) (f : Option Flight) (waiting : List Waiting) → f ≡ None → waiting ≡ [] → P (showing dropped (flight_refused f one ++ waiting_refused waiting other))
+    lapses : (one other : Reply) (f : Option Flight) (waiting : List Waiting) → f ≡ None → waiting ≡ []
+        → P (showing dropped (flight_refused f one ++ waiting_refused waiting other))
     lapses one other None [] none is = lapsed_either (handled_either db m dropped now e choices taken refl)
     lapses one other None (w ∷ waiting) none is = absurd (cc)
     lapses one other (Some f) waiting none is = absurd (cc)
@@ -115,18 +124,22 @@ pub record KeepsDatabase (s t : Server) : Type 0 where
   pub version : t.version ≡ s.version
   pub image_is : t.image ≡ s.image
 
-votes_keep : (db : Database) (m : Member) (s : Server) (now k : ℕ) (host : Host) (short : List Bool) (b : Body) → IsOfVotes b → KeepsDatabase s (received_from db m s now host k b short).server
+votes_keep : (db : Database) (m : Member) (s : Server) (now k : ℕ) (host : Host) (short : List Bool) (b : Body) → IsOfVotes b
+    → KeepsDatabase s (received_from db m s now host k b short).server
 votes_keep db m s now k host short (body.Beacon start claim ready version) votes = record { version = refl; image_is = refl }
 votes_keep db m s now k host short (body.Vote start granted) votes = record { version = refl; image_is = refl }
 votes_keep db m s now k host short _ votes = absurd votes
 
-received_keeps : (db : Database) (m : Member) (s : Server) (now : ℕ) (p : Packet) (short : List Bool) (place : Option ℕ) → IsOfVotes p.body → KeepsDatabase s (received_packet db m s now p short place).server
+received_keeps : (db : Database) (m : Member) (s : Server) (now : ℕ) (p : Packet) (short : List Bool) (place : Option ℕ) → IsOfVotes p.body
+    → KeepsDatabase s (received_packet db m s now p short place).server
 received_keeps db m s now p short None votes = record { version = refl; image_is = refl }
 received_keeps db m s now p short (Some k) votes = votes_keep db m s now k p.from short p.body votes
 
-pub packet_keeps : (db : Database) (m : Member) (s : Server) (now : ℕ) (p : Packet) (short : List Bool) → IsOfVotes p.body → s.flight ≡ None → KeepsDatabase s (step_of db m s now (event.Packet p) short).server
+pub packet_keeps : (db : Database) (m : Member) (s : Server) (now : ℕ) (p : Packet) (short : List Bool) → IsOfVotes p.body → s.flight ≡ None
+    → KeepsDatabase s (step_of db m s now (event.Packet p) short).server
 unfolding step_of
-packet_keeps db m s now p choices votes no_flight = cond_both (leased m s now) _ _ P (λ _. kept s.flight no_flight) (λ _. lapses (writes_refused m s now phases.None))
+packet_keeps db m s now p choices votes no_flight =
+    cond_both (leased m s now) _ _ P (λ _. kept s.flight no_flight) (λ _. lapses (writes_refused m s now phases.None))
   where
     P : Stepped → Type 0
     P t = KeepsDatabase s (followed t (λ after. handled db m after now (event.Packet p) (short_after t.shown choices))).server

@@ -1,5 +1,6 @@
 -- What is shown of a server.
-use Rattle.std.proofs.Common.{if◌then◌else◌, ◌≡◌, ◌+◌, ◌++◌, ℕ, Bool, true, false, List, [], ◌∷◌, length, Option, Some, None, Result, Ok, Err, refl, sym, ap, subst, ◌∙◌, arith}
+use Rattle.std.proofs.Common.{if◌then◌else◌, ◌≡◌, ◌+◌, ◌++◌, ℕ, Bool, true, false, List, [], ◌∷◌, length, Option, Some, None, Result, Ok, Err, refl, sym, ap}
+use Rattle.std.proofs.Common.{subst, ◌∙◌, arith}
 use Rattle.std.specs.Prelude.{slice_get, IsErrAnd}
 use Rattle.std.proofs.lemmas.List.{append-nil}
 use Rattle.db_image.specs.Database.{Database}
@@ -34,7 +35,9 @@ shows_none : (k j clock : ℕ) (showing : Option Showing) (disks : List Held) �
 shows_none k j clock showing [] = tt
 shows_none k j clock showing (disk ∷ disks) = (omega arith, shows_none (k + 1) j clock showing disks)
 
-shown_is : {D V : Type 0} {gs : Ghosts D} {database : Database} {given : List ℕ} (running : OpenCell D V) (c : Cell) (k : ℕ) (site : Site D V) (showing : Option Showing) → IsModelledBy gs database given running c → slice_get running.sites.items k ≡ Some site → showing ≡ showing_of (cell_size_of c) (server_node site.server) → shown_site (cell_size_of c) k (site_of c.run.world k) ≡ Shows k site.clock showing ∷ []
+shown_is : {D V : Type 0} {gs : Ghosts D} {database : Database} {given : List ℕ} (running : OpenCell D V) (c : Cell) (k : ℕ) (site : Site D V)
+    (showing : Option Showing) → IsModelledBy gs database given running c → slice_get running.sites.items k ≡ Some site → showing ≡ showing_of (cell_size_of c)
+    (server_node site.server) → shown_site (cell_size_of c) k (site_of c.run.world k) ≡ Shows k site.clock showing ∷ []
 shown_is running c k site showing stands there is =
     let at = site_at running.sites.items c.run.world.sites k site stands.sites there in
     ap (shown_site (cell_size_of c) k) at.there
@@ -42,7 +45,11 @@ shown_is running c k site showing stands there is =
     ∙ ap (λ (n : model.Node). Shows k site.clock (showing_of (cell_size_of c) n) ∷ []) at.is.node
     ∙ ap (λ (o : Option Showing). Shows k site.clock o ∷ []) (sym is)
 
-pub show_told : {D V : Type 0} {given : List ℕ} (g : Ghosts D) (db : ScriptDatabase) (running : OpenCell D V) (c : Cell) (k : ℕ) (site : Site D V) (showing : Option Showing) (run : Run_or_why) (hosts : List Host) (before after : List ℕ) → IsModelledBy g db.database given running c → slice_get running.sites.items k ≡ Some site → hosts ≡ running.hosts.items → showing ≡ showing_of (cell_size_of c) (server_node site.server) → run ≡ Ok (record { cell = c; items = shown_site (cell_size_of c) k (site_of c.run.world k); ending = None }) → after ≡ before ++ item_text db hosts (Shows k site.clock showing) → CellTold g db given (λ choices. run) None running running before after
+pub show_told : {D V : Type 0} {given : List ℕ} (g : Ghosts D) (db : ScriptDatabase) (running : OpenCell D V) (c : Cell) (k : ℕ) (site : Site D V)
+    (showing : Option Showing) (run : Run_or_why) (hosts : List Host) (before after : List ℕ) → IsModelledBy g db.database given running c →
+    slice_get running.sites.items k ≡ Some site → hosts ≡ running.hosts.items → showing ≡ showing_of (cell_size_of c) (server_node site.server) → run ≡ Ok
+    (record { cell = c; items = shown_site (cell_size_of c) k (site_of c.run.world k); ending = None }) → after ≡ before ++ item_text db hosts
+    (Shows k site.clock showing) → CellTold g db given (λ choices. run) None running running before after
 show_told g db running c k site showing run hosts before after stands there same is does told =
     let items = shown_is running c k site showing stands there is in
     record {
@@ -59,17 +66,29 @@ show_told g db running c k site showing run hosts before after stands there same
           (shows_none 0 k site.clock showing (helds g running));
     }
 
-pub showing_down : {D V : Type 0} (n : ℕ) (s : Server D V) (disk : D) (showing : Option Showing) → s ≡ server.Down disk → showing ≡ None → showing ≡ showing_of n (server_node s)
+pub showing_down : {D V : Type 0} (n : ℕ) (s : Server D V) (disk : D) (showing : Option Showing) → s ≡ server.Down disk → showing ≡ None
+    → showing ≡ showing_of n (server_node s)
 showing_down {D} {V} n s disk showing is none = none ∙ ap (λ (t : Server D V). showing_of n (server_node t)) (sym is)
 
-showing_up : (halted : Bool) (n : ℕ) (u : model.Server) → showing_of n (if halted then model.Halted (model.halted_from u) else model.Up u) ≡ Some (record { version = u.version; phase = phase_of u.phase; until = lease_end n u.starts; len = length u.image })
+showing_up : (halted : Bool) (n : ℕ) (u : model.Server)
+    → showing_of n (if halted then model.Halted (model.halted_from u) else model.Up u) ≡ Some
+    (record { version = u.version; phase = phase_of u.phase; until = lease_end n u.starts; len = length u.image })
 showing_up true n u = refl
 showing_up false n u = refl
 
 mine : {D V : Type 0} (g : Ghosts D) (m : Member) (clock : ℕ) (s : Server D V) (n : Node D V) → s ≡ server.Up n → IsSoundServer g m clock s → own_member n ≡ m
 mine {D} {V} g m clock s n is sound = (subst (λ (t : Server D V). IsSoundServer g m clock t) is sound).member
 
-pub shown_up : {D V : Type 0} {standing : Standing} {database : Database} {given : List ℕ} (g : Ghosts D) (bound : ℕ) (running : OpenCell D V) (c : Cell) (k : ℕ) (site : Site D V) (n : Node D V) (showing : Option Showing) → IsSound g standing bound running → IsModelledBy g database given running c → slice_get running.sites.items k ≡ Some site → site.server ≡ server.Up n → showing ≡ Some (record { version = (up_server n).version; phase = phase_of (up_server n).phase; until = lease_end (member_size (own_member n)) (up_server n).starts; len = length (up_server n).image }) → showing ≡ showing_of (cell_size_of c) (server_node site.server)
+pub shown_up : {D V : Type 0} {standing : Standing} {database : Database} {given : List ℕ} (g : Ghosts D) (bound : ℕ) (running : OpenCell D V) (c : Cell)
+    (k : ℕ) (site : Site D V) (n : Node D V) (showing : Option Showing) → IsSound g standing bound running → IsModelledBy g database given running c →
+    slice_get running.sites.items k ≡ Some site → site.server ≡ server.Up n → showing ≡ Some
+    (record {
+      version = (up_server n).version;
+      phase = phase_of (up_server n).phase;
+      until = lease_end (member_size (own_member n)) (up_server n).starts;
+      len =
+          length (up_server n).image;
+    }) → showing ≡ showing_of (cell_size_of c) (server_node site.server)
 shown_up {D} {V} g bound running c k site n showing sound stands there is told =
     let u = up_server n in
     let at = sound_at g running.hosts.items 0 bound running.sites.items k site sound.sites there in

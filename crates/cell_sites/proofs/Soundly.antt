@@ -26,7 +26,8 @@ use Rattle.cell_sites.proofs.Hosts.{length-hosts_of}
 use Rattle.db_image.specs.Standing.{Standing}
 
 -- as many hosts as sites
-pub host_count : {D V : Type 0} {standing : Standing} (g : Ghosts D) (bound : ℕ) (running : OpenCell D V) → IsSound g standing bound running → length running.hosts.items ≡ length running.sites.items
+pub host_count : {D V : Type 0} {standing : Standing} (g : Ghosts D) (bound : ℕ) (running : OpenCell D V) → IsSound g standing bound running
+    → length running.hosts.items ≡ length running.sites.items
 host_count g bound running sound = ap length sound.hosts ∙ length-hosts_of (length running.sites.items)
 
 -- what is known of the server at a place that is up
@@ -37,7 +38,8 @@ pub record IsHere {D V : Type 0} (g : Ghosts D) (standing : Standing) (bound : �
   pub disk : IsSoundDisk g standing node.store.disk
   pub me : k < length running.hosts.items
 
-pub here : {D V : Type 0} {standing : Standing} (g : Ghosts D) (bound : ℕ) (running : OpenCell D V) (k clock : ℕ) (node : Node D V) → IsSound g standing bound running → slice_get running.sites.items k ≡ Some (up_site clock node) → IsHere g standing bound running k clock node
+pub here : {D V : Type 0} {standing : Standing} (g : Ghosts D) (bound : ℕ) (running : OpenCell D V) (k clock : ℕ) (node : Node D V)
+    → IsSound g standing bound running → slice_get running.sites.items k ≡ Some (up_site clock node) → IsHere g standing bound running k clock node
 here g bound running k clock node sound there =
     let site = sound_at g running.hosts.items 0 bound running.sites.items k (up_site clock node) sound.sites there in
     let lt = slice_get_within running.sites.items k (up_site clock node) there in
@@ -52,15 +54,18 @@ here g bound running k clock node sound there =
     }
 
 -- a clock that stays
-pub clocks_set : {D V : Type 0} (sites : List (Site D V)) (k : ℕ) (site later : Site D V) → slice_get sites k ≡ Some site → later.clock ≡ site.clock → clocks_in (set sites k later) ≡ clocks_in sites
+pub clocks_set : {D V : Type 0} (sites : List (Site D V)) (k : ℕ) (site later : Site D V) → slice_get sites k ≡ Some site → later.clock ≡ site.clock
+    → clocks_in (set sites k later) ≡ clocks_in sites
 clocks_set [] k site later there same = cc
 clocks_set {D} {V} (x ∷ sites) zero site later there same =
     let e : x ≡ site = cc in ap (λ (n : ℕ). n ∷ clocks_in sites) (same ∙ sym (ap (λ (s : Site D V). s.clock) e))
 clocks_set (x ∷ sites) (suc k) site later there same = ap (λ (l : List ℕ). x.clock ∷ l) (clocks_set sites k site later there same)
 
 -- the cell stays sound, where another sound server takes the place of one
-pub sound_after : {D V : Type 0} {standing : Standing} (g : Ghosts D) (bound : ℕ) (before after : OpenCell D V) (k : ℕ) (site later : Site D V) (packets : List Packet)
-    → IsSound g standing bound before → slice_get before.sites.items k ≡ Some site → later.clock ≡ site.clock → IsSoundServer g (member_at before k) later.clock later.server → IsSoundDisk g standing (site_disk later)
+pub sound_after : {D V : Type 0} {standing : Standing} (g : Ghosts D) (bound : ℕ) (before after : OpenCell D V) (k : ℕ) (site later : Site D V)
+    (packets : List Packet)
+    → IsSound g standing bound before → slice_get before.sites.items k ≡ Some site → later.clock ≡ site.clock
+    → IsSoundServer g (member_at before k) later.clock later.server → IsSoundDisk g standing (site_disk later)
     → after.sites.items ≡ set before.sites.items k later → after.hosts.items ≡ before.hosts.items → after.packets ≡ sent_all before.packets packets
     → All (IsVotePacket before.hosts.items) packets → after.outputs ≡ [] → IsSound g standing bound after
 sound_after {D} {V} {standing} g bound before after k site later packets sound there clock is disk sites hosts sent votes empty =
@@ -89,21 +94,26 @@ sound_after {D} {V} {standing} g bound before after k site later packets sound t
 
 -- no packet was sent
 pub none_sent : (t : Traffic) → t ≡ sent_all t []
-none_sent t = ap (λ (l : List Packet). record t { sent = l }) (sym (append-nil t.sent)) ∙ ap (λ (l : List Bool). record { sent = t.sent ++ []; handed = l }) (sym (append-nil t.handed))
+none_sent t =
+    ap (λ (l : List Packet). record t { sent = l }) (sym (append-nil t.sent))
+    ∙ ap (λ (l : List Bool). record { sent = t.sent ++ []; handed = l }) (sym (append-nil t.handed))
 
 -- the disk of a site is sound
-pub disk_here : {D V : Type 0} {standing : Standing} (g : Ghosts D) (bound : ℕ) (running : OpenCell D V) (k : ℕ) (site : Site D V) → IsSound g standing bound running → slice_get running.sites.items k ≡ Some site → IsSoundDisk g standing (site_disk site)
+pub disk_here : {D V : Type 0} {standing : Standing} (g : Ghosts D) (bound : ℕ) (running : OpenCell D V) (k : ℕ) (site : Site D V)
+    → IsSound g standing bound running → slice_get running.sites.items k ≡ Some site → IsSoundDisk g standing (site_disk site)
 disk_here g bound running k site sound there = (sound_at g running.hosts.items 0 bound running.sites.items k site sound.sites there).disk
 
 -- the site at a place, as an index reads it
-pub found_up : {D V : Type 0} (running : OpenCell D V) (k : ℕ) (site : Site D V) (node : Node D V) → IsUpAt running k → site ≡ get_or running.sites.items k site → site.server ≡ Up node → slice_get running.sites.items k ≡ Some (up_site site.clock node)
+pub found_up : {D V : Type 0} (running : OpenCell D V) (k : ℕ) (site : Site D V) (node : Node D V) → IsUpAt running k → site ≡ get_or running.sites.items k site
+    → site.server ≡ Up node → slice_get running.sites.items k ≡ Some (up_site site.clock node)
 found_up {D} {V} running k site node up value is =
     let lt = slice_get_within running.sites.items k (up_site up.clock up.node) up.there in
     slice_get_read running.sites.items (length running.sites.items) k site refl lt value
     ∙ ap (λ (s : Server D V). Some (record { clock = site.clock; server = s })) is
 
 -- it is not down
-pub not_down : {D V : Type 0} (running : OpenCell D V) (k : ℕ) (site : Site D V) (disk : D) → IsUpAt running k → site ≡ get_or running.sites.items k site → site.server ≡ Down disk → ⊥
+pub not_down : {D V : Type 0} (running : OpenCell D V) (k : ℕ) (site : Site D V) (disk : D) → IsUpAt running k → site ≡ get_or running.sites.items k site
+    → site.server ≡ Down disk → ⊥
 not_down {D} {V} running k site disk up value is =
     let lt = slice_get_within running.sites.items k (up_site up.clock up.node) up.there in
     let there = slice_get_read running.sites.items (length running.sites.items) k site refl lt value in

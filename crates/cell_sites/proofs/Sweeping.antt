@@ -1,5 +1,6 @@
 -- How far the packets of each host were dropped.
-use Rattle.std.proofs.Common.{◌≡◌, ◌<◌, ◌≤◌, ◌+◌, ℕ, zero, suc, Bool, true, false, List, [], ◌∷◌, ◌++◌, length, take, drop, get_or, set, map, refl, sym, ap, ◌∙◌, arith, add-one, if◌then◌else◌}
+use Rattle.std.proofs.Common.{◌≡◌, ◌<◌, ◌≤◌, ◌+◌, ℕ, zero, suc, Bool, true, false, List, [], ◌∷◌, ◌++◌, length, take, drop, get_or, set, map, refl, sym, ap}
+use Rattle.std.proofs.Common.{◌∙◌, arith, add-one, if◌then◌else◌}
 use Rattle.std.specs.Prelude.{◌==◌}
 use Rattle.std.proofs.lemmas.Bool.{eq-eqb, ne_eqb, eqb-true}
 use Rattle.std.proofs.lemmas.List.Elements.{All-map, All-weaker}
@@ -13,13 +14,15 @@ use Rattle.cell_sites.proofs.Waiting.{Covers, covers_swept, dropped_covers, drop
 
 -- ---- a list that is mapped in place
 
-pub map_step : {X : Type 0} (f : X → X) (s s' : List X) (i : ℕ) (d : X) → i < length s → s' ≡ set s i (f (get_or s i d)) → take i s ++ map f (drop i s) ≡ take (i + 1) s' ++ map f (drop (i + 1) s')
+pub map_step : {X : Type 0} (f : X → X) (s s' : List X) (i : ℕ) (d : X) → i < length s → s' ≡ set s i (f (get_or s i d))
+    → take i s ++ map f (drop i s) ≡ take (i + 1) s' ++ map f (drop (i + 1) s')
 map_step {X} f s s' i d within is =
     by s i within
     ∙ ap (λ (l : List X). take (suc i) l ++ map f (drop (suc i) l)) (sym is)
     ∙ ap (λ (n : ℕ). take n s' ++ map f (drop n s')) (sym (add-one i))
   where
-    by : (l : List X) (k : ℕ) → k < length l → take k l ++ map f (drop k l) ≡ take (suc k) (set l k (f (get_or l k d))) ++ map f (drop (suc k) (set l k (f (get_or l k d))))
+    by : (l : List X) (k : ℕ) → k < length l
+        → take k l ++ map f (drop k l) ≡ take (suc k) (set l k (f (get_or l k d))) ++ map f (drop (suc k) (set l k (f (get_or l k d))))
     by [] k lt = absurd (omega arith)
     by (x ∷ l) zero lt = refl
     by (x ∷ l) (suc k) lt = ap (λ (r : List X). x ∷ r) (by l k (omega arith))
@@ -53,7 +56,8 @@ swept_within host end n swept near within =
 same_host : (one other : Host) (p : Packet) → one.0 ≡ other.0 → is_of_host one p ≡ is_of_host other p
 same_host one other p is = ap (λ (h : Host). is_of_host h p) (ap (λ (n : ℕ). record { 0 = n }) is)
 
-pub dropped_are_swept : (host : Host) (end : ℕ) (sent : List Packet) (handed : List Bool) (swept : List Swept) → length handed ≡ length sent → AreSwept sent handed swept → AreSwept sent (dropped_of host sent handed) (map (swept_to host end) swept)
+pub dropped_are_swept : (host : Host) (end : ℕ) (sent : List Packet) (handed : List Bool) (swept : List Swept) → length handed ≡ length sent
+    → AreSwept sent handed swept → AreSwept sent (dropped_of host sent handed) (map (swept_to host end) swept)
 dropped_are_swept host end sent handed swept same are =
     All-map (λ (s : Swept). HasSwept sent after s.host s.below) (swept_to host end) swept
     (All-weaker (λ (s : Swept). HasSwept sent handed s.host s.below) (λ (s : Swept). HasSwept sent after s.host (swept_to host end s).below) one swept are)
@@ -70,10 +74,12 @@ dropped_are_swept host end sent handed swept same are =
         (λ is. of_host s (eqb-true s.host.0 host.0 is))
         (covers_swept sent handed after s.host s.below (dropped_covers host sent handed same) before)
 
-pub covers_are_swept : (sent : List Packet) (before after : List Bool) (swept : List Swept) → Covers before after → AreSwept sent before swept → AreSwept sent after swept
+pub covers_are_swept : (sent : List Packet) (before after : List Bool) (swept : List Swept) → Covers before after → AreSwept sent before swept
+    → AreSwept sent after swept
 covers_are_swept sent before after swept covers are =
     All-weaker (λ (s : Swept). HasSwept sent before s.host s.below) (λ (s : Swept). HasSwept sent after s.host s.below)
     (λ s one. covers_swept sent before after s.host s.below covers one) swept are
 
-pub push_are_swept : (sent : List Packet) (handed : List Bool) (p : Packet) (swept : List Swept) → AreWithin (length sent) swept → AreSwept sent handed swept → AreSwept (sent ++ p ∷ []) (handed ++ false ∷ []) swept
+pub push_are_swept : (sent : List Packet) (handed : List Bool) (p : Packet) (swept : List Swept) → AreWithin (length sent) swept → AreSwept sent handed swept
+    → AreSwept (sent ++ p ∷ []) (handed ++ false ∷ []) swept
 push_are_swept sent handed p swept within are = λ k d lt. push_swept sent handed p (get_or swept k d).host (get_or swept k d).below (within k d lt) (are k d lt)

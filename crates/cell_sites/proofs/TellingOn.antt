@@ -18,21 +18,30 @@ abbrev pub telling : List ℕ → Traffic → Telling
 telling text packets = record { text = text; sent = packets.sent }
 
 -- what is left of a list that is shown, and what it comes to
-pub record Rest (script_db : ScriptDatabase) (hosts : List Host) (k : ℕ) (call : List ℕ) (run : TellingRun) (text : List ℕ) (packets : Traffic) (out : List Output) : Type 0 where
+pub record Rest (script_db : ScriptDatabase) (hosts : List Host) (k : ℕ) (call : List ℕ) (run : TellingRun) (text : List ℕ) (packets : Traffic)
+    (out : List Output) : Type 0 where
   pub shown : List Shown
   pub outputs : outputs_of shown ≡ out
   pub answers : All (λ one. AnswersCall call one) shown
   pub same : run ≡ told_of script_db hosts k (telling text packets) shown
 
-pub record TellsOn (script_db : ScriptDatabase) (hosts : List Host) (k : ℕ) (call : List ℕ) (text_before : List ℕ) (packets_before : Traffic) (out_before : List Output) (text : List ℕ) (packets : Traffic) (out : List Output) : Type 0 where
-  pub rest : (shown : List Shown) → outputs_of shown ≡ out_before → All (λ one. AnswersCall call one) shown → Rest script_db hosts k call (told_of script_db hosts k (telling text_before packets_before) shown) text packets out
+pub record TellsOn (script_db : ScriptDatabase) (hosts : List Host) (k : ℕ) (call : List ℕ) (text_before : List ℕ) (packets_before : Traffic)
+    (out_before : List Output) (text : List ℕ) (packets : Traffic) (out : List Output) : Type 0 where
+  pub rest : (shown : List Shown) → outputs_of shown ≡ out_before → All (λ one. AnswersCall call one) shown
+      → Rest script_db hosts k call (told_of script_db hosts k (telling text_before packets_before) shown) text packets out
   pub votes : All MayBeTold out
   pub found : All IsNotShort out → All IsNotShort out_before
   pub sends : sent_all packets (filter_map packet_in out) ≡ sent_all packets_before (filter_map packet_in out_before)
 
-pub tells_none : (script_db : ScriptDatabase) (hosts : List Host) (k : ℕ) (call text : List ℕ) (packets : Traffic) (out : List Output) → All MayBeTold out → TellsOn script_db hosts k call text packets out text packets out
+pub tells_none : (script_db : ScriptDatabase) (hosts : List Host) (k : ℕ) (call text : List ℕ) (packets : Traffic) (out : List Output) → All MayBeTold out
+    → TellsOn script_db hosts k call text packets out text packets out
 tells_none script_db hosts k call text packets out votes =
-    record { rest = λ shown outputs answers. record { shown = shown; outputs = outputs; answers = answers; same = refl }; votes = votes; found = λ none. none; sends = refl }
+    record {
+      rest = λ shown outputs answers. record { shown = shown; outputs = outputs; answers = answers; same = refl };
+      votes = votes;
+      found = λ none. none;
+      sends = refl;
+    }
 
 -- one more packet, and then these
 sent_more_all : (packets : Traffic) (p : Option Packet) (more : List Packet) → sent_all (sent_maybe packets p) more ≡ sent_all packets (cons_option p more)
@@ -43,20 +52,29 @@ sent_more_all packets (Some p) more =
     ap (λ (l : List Packet). record { sent = l; handed = (packets.handed ++ false ∷ []) ++ replicate (length more) false }) front
     ∙ ap (λ (l : List Bool). record { sent = packets.sent ++ p ∷ more; handed = l }) handed
 
-module _ (script_db : ScriptDatabase) (hosts : List Host) (k : ℕ) (call text_before : List ℕ) (packets_before : Traffic) (out_before : List Output) (text : List ℕ) (packets : Traffic) (o : Output) (out : List Output) (on : TellsOn script_db hosts k call text_before packets_before out_before text packets (o ∷ out)) where
+module _ (script_db : ScriptDatabase) (hosts : List Host) (k : ℕ) (call text_before : List ℕ) (packets_before : Traffic) (out_before : List Output)
+    (text : List ℕ) (packets : Traffic) (o : Output) (out : List Output)
+    (on : TellsOn script_db hosts k call text_before packets_before out_before text packets (o ∷ out)) where
   -- what is told of the first output that is left
-  first_of : (run : TellingRun) → Rest script_db hosts k call run text packets (o ∷ out) → (one : Shown) × (shown : List Shown) × (one.output ≡ o) × (outputs_of shown ≡ out) × AnswersCall call one × All (λ one. AnswersCall call one) shown
-      × (run ≡ unless_passed (telling text packets) (passed_in (telling text packets) (packet_of one)) (told_of script_db hosts k (with_shown script_db hosts k (telling text packets) one) shown))
+  first_of : (run : TellingRun) → Rest script_db hosts k call run text packets (o ∷ out)
+      → (one : Shown) × (shown : List Shown) × (one.output ≡ o) × (outputs_of shown ≡ out) × AnswersCall call one × All (λ one. AnswersCall call one) shown
+      × (run ≡ unless_passed (telling text packets) (passed_in (telling text packets) (packet_of one))
+      (told_of script_db hosts k (with_shown script_db hosts k (telling text packets) one) shown))
   first_of run rest = by rest.shown rest.outputs rest.answers rest.same
     where
-      by : (shown : List Shown) → outputs_of shown ≡ o ∷ out → All (λ one. AnswersCall call one) shown → run ≡ told_of script_db hosts k (telling text packets) shown → (one : Shown) × (shown : List Shown) × (one.output ≡ o) × (outputs_of shown ≡ out) × AnswersCall call one × All (λ one. AnswersCall call one) shown
-          × (run ≡ unless_passed (telling text packets) (passed_in (telling text packets) (packet_of one)) (told_of script_db hosts k (with_shown script_db hosts k (telling text packets) one) shown))
+      by : (shown : List Shown) → outputs_of shown ≡ o ∷ out → All (λ one. AnswersCall call one) shown
+          → run ≡ told_of script_db hosts k (telling text packets) shown
+          → (one : Shown) × (shown : List Shown) × (one.output ≡ o) × (outputs_of shown ≡ out) × AnswersCall call one × All (λ one. AnswersCall call one) shown
+          × (run ≡ unless_passed (telling text packets) (passed_in (telling text packets) (packet_of one))
+          (told_of script_db hosts k (with_shown script_db hosts k (telling text packets) one) shown))
       by [] outputs answers same = cc
       by (one ∷ shown) outputs answers same =
           (one, shown, cc, cc, All-head (λ one. AnswersCall call one) one shown answers, All-tail (λ one. AnswersCall call one) one shown answers, same)
 
   pub tells_more : (text_after : List ℕ) (packets_after : Traffic)
-      → ((one : Shown) → one.output ≡ o → AnswersCall call one → (passed_in (telling text packets) (packet_in o) ≡ None) × (telling text_after packets_after ≡ with_shown script_db hosts k (telling text packets) one))
+      → ((one : Shown) → one.output ≡ o → AnswersCall call one
+      → (passed_in (telling text packets) (packet_in o) ≡ None) × (telling text_after packets_after ≡ with_shown script_db hosts k (telling text packets)
+      one))
       → IsNotShort o → packets_after ≡ sent_maybe packets (packet_in o)
       → TellsOn script_db hosts k call text_before packets_before out_before text_after packets_after out
   tells_more ta pa told found sends =
@@ -64,12 +82,15 @@ module _ (script_db : ScriptDatabase) (hosts : List Host) (k : ℕ) (call text_b
         rest = λ shown outputs answers.
             let f = first_of _ (on.rest shown outputs answers) in
             let t = told f.0 f.2 f.4 in
-            let none : passed_in (telling text packets) (packet_of f.0) ≡ None = ap (λ (x : Output). passed_in (telling text packets) (packet_in x)) f.2 ∙ t.0 in
+            let none : passed_in (telling text packets) (packet_of f.0) ≡ None = ap (λ (x : Output). passed_in (telling text packets) (packet_in x)) f.2
+            ∙ t.0 in
             record {
               shown = f.1;
               outputs = f.3;
               answers = f.5;
-              same = f.6 ∙ ap (λ (e : Option Ending). unless_passed (telling text packets) e (told_of script_db hosts k (with_shown script_db hosts k (telling text packets) f.0) f.1)) none
+              same =
+                  f.6 ∙ ap (λ (e : Option Ending). unless_passed (telling text packets) e
+                  (told_of script_db hosts k (with_shown script_db hosts k (telling text packets) f.0) f.1)) none
                   ∙ ap (λ (u : Telling). told_of script_db hosts k u f.1) (sym t.1);
             };
         votes = All-tail MayBeTold o out on.votes;
@@ -83,11 +104,14 @@ module _ (script_db : ScriptDatabase) (hosts : List Host) (k : ℕ) (call text_b
       → told_of script_db hosts k (telling text_before packets_before) shown ≡ record { after = telling text packets; ending = Some ending }
   tells_part ending passed shown outputs answers =
       let f = first_of _ (on.rest shown outputs answers) in
-      let e : passed_in (telling text packets) (packet_of f.0) ≡ Some ending = ap (λ (x : Output). passed_in (telling text packets) (packet_in x)) f.2 ∙ passed in
-      f.6 ∙ ap (λ (e : Option Ending). unless_passed (telling text packets) e (told_of script_db hosts k (with_shown script_db hosts k (telling text packets) f.0) f.1)) e
+      let e : passed_in (telling text packets) (packet_of f.0) ≡ Some ending = ap (λ (x : Output). passed_in (telling text packets) (packet_in x)) f.2
+      ∙ passed in
+      f.6 ∙ ap (λ (e : Option Ending). unless_passed (telling text packets) e
+      (told_of script_db hosts k (with_shown script_db hosts k (telling text packets) f.0) f.1)) e
 
 -- the end
-pub tells_all : (script_db : ScriptDatabase) (hosts : List Host) (k : ℕ) (call text_before : List ℕ) (packets_before : Traffic) (out_before : List Output) (text : List ℕ) (packets : Traffic) (out : List Output) → out ≡ []
+pub tells_all : (script_db : ScriptDatabase) (hosts : List Host) (k : ℕ) (call text_before : List ℕ) (packets_before : Traffic) (out_before : List Output)
+    (text : List ℕ) (packets : Traffic) (out : List Output) → out ≡ []
     → TellsOn script_db hosts k call text_before packets_before out_before text packets out
     → (shown : List Shown) → outputs_of shown ≡ out_before → All (λ one. AnswersCall call one) shown
     → told_of script_db hosts k (telling text_before packets_before) shown ≡ record { after = telling text packets; ending = None }
@@ -95,6 +119,7 @@ tells_all script_db hosts k call tb pb ob text packets out none on shown outputs
     let rest = on.rest shown outputs answers in
     by rest.shown (rest.outputs ∙ none) rest.same
   where
-    by : (left : List Shown) → outputs_of left ≡ [] → told_of script_db hosts k (telling tb pb) shown ≡ told_of script_db hosts k (telling text packets) left → told_of script_db hosts k (telling tb pb) shown ≡ record { after = telling text packets; ending = None }
+    by : (left : List Shown) → outputs_of left ≡ [] → told_of script_db hosts k (telling tb pb) shown ≡ told_of script_db hosts k (telling text packets) left
+        → told_of script_db hosts k (telling tb pb) shown ≡ record { after = telling text packets; ending = None }
     by [] nothing same = same
     by (one ∷ left) nothing same = cc

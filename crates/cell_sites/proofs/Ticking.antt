@@ -1,5 +1,6 @@
 -- Clocks of a running cell that go forward.
-use Rattle.std.proofs.Common.{if◌then◌else◌, ◌≡◌, ◌<◌, ◌≤◌, ◌+◌, ◌-◌, ◌^◌, ◌&&◌, ◌++◌, ℕ, zero, suc, Bool, true, false, Option, List, [], ◌∷◌, Some, None, Result, Ok, Err, length, map, set, get_or, replicate, refl, sym, ap, subst, ◌∙◌, arith}
+use Rattle.std.proofs.Common.{if◌then◌else◌, ◌≡◌, ◌<◌, ◌≤◌, ◌+◌, ◌-◌, ◌^◌, ◌&&◌, ◌++◌, ℕ, zero, suc, Bool, true, false, Option, List, [], ◌∷◌, Some, None}
+use Rattle.std.proofs.Common.{Result, Ok, Err, length, map, set, get_or, replicate, refl, sym, ap, subst, ◌∙◌, arith}
 use Rattle.std.specs.Prelude.{slice_get, IsErrAnd}
 use Rattle.std.specs.Vec.{with_item, with_items}
 use Rattle.std.proofs.lemmas.List.{append-nil, length-set, length-map, map-set}
@@ -34,13 +35,15 @@ use Rattle.cell_sites.proofs.Waiting.{items_with}
 
 -- ---- one site
 
-pub server_later : {D V : Type 0} (g : Ghosts D) (m : Member) (clock later : ℕ) (s : Server D V) → clock ≤ later → IsSoundServer g m clock s → IsSoundServer g m later s
+pub server_later : {D V : Type 0} (g : Ghosts D) (m : Member) (clock later : ℕ) (s : Server D V) → clock ≤ later → IsSoundServer g m clock s
+    → IsSoundServer g m later s
 server_later g m clock later (server.Down disk) le sound = sound
 server_later g m clock later (server.Up n) le sound =
     let last = sound.last in
     record { last = omega (arith, last, le); member = sound.member; voter = sound.voter; stored = sound.stored }
 
-pub site_later : {D V : Type 0} {standing : Standing} (g : Ghosts D) (m : Member) (bound seconds : ℕ) (site : Site D V) → site.clock + seconds ≤ MAX_MOMENT → IsSoundSite g standing m bound site → IsSoundSite g standing m (bound + seconds) (ticked_on seconds site)
+pub site_later : {D V : Type 0} {standing : Standing} (g : Ghosts D) (m : Member) (bound seconds : ℕ) (site : Site D V) → site.clock + seconds ≤ MAX_MOMENT
+    → IsSoundSite g standing m bound site → IsSoundSite g standing m (bound + seconds) (ticked_on seconds site)
 site_later g m bound seconds site fits sound =
     let some = sound.moment.some in
     let within = sound.within in
@@ -52,7 +55,8 @@ site_later g m bound seconds site fits sound =
       disk = sound.disk;
     }
 
-pub sound_weaker : {D V : Type 0} (g : Ghosts D) (standing : Standing) (hosts : List Host) (place bound more : ℕ) (sites : List (Site D V)) → bound ≤ more → AreSound g standing hosts place bound sites → AreSound g standing hosts place more sites
+pub sound_weaker : {D V : Type 0} (g : Ghosts D) (standing : Standing) (hosts : List Host) (place bound more : ℕ) (sites : List (Site D V)) → bound ≤ more
+    → AreSound g standing hosts place bound sites → AreSound g standing hosts place more sites
 sound_weaker g standing hosts place bound more [] le sound = tt
 sound_weaker g standing hosts place bound more (site ∷ sites) le sound =
     let within = sound.0.within in (
@@ -60,7 +64,9 @@ sound_weaker g standing hosts place bound more (site ∷ sites) le sound =
       sound_weaker g standing hosts (place + 1) bound more sites le sound.1,
     )
 
-sound_ticked : {D V : Type 0} (g : Ghosts D) (standing : Standing) (hosts : List Host) (place bound bound' seconds : ℕ) (sites : List (Site D V)) → bound + seconds ≤ MAX_MOMENT → AreSound g standing hosts place bound sites → AreSound g standing hosts place bound' sites → AreSound g standing hosts place (bound' + seconds) (map (ticked_on seconds) sites)
+sound_ticked : {D V : Type 0} (g : Ghosts D) (standing : Standing) (hosts : List Host) (place bound bound' seconds : ℕ) (sites : List (Site D V))
+    → bound + seconds ≤ MAX_MOMENT → AreSound g standing hosts place bound sites → AreSound g standing hosts place bound' sites
+    → AreSound g standing hosts place (bound' + seconds) (map (ticked_on seconds) sites)
 sound_ticked g standing hosts place bound bound' seconds [] fits sound sound' = tt
 sound_ticked g standing hosts place bound bound' seconds (site ∷ sites) fits sound sound' =
     let within = sound.0.within in (
@@ -70,7 +76,9 @@ sound_ticked g standing hosts place bound bound' seconds (site ∷ sites) fits s
 
 -- ---- clocks
 
-moments_in : {D V : Type 0} (g : Ghosts D) (standing : Standing) (hosts : List Host) (place bound : ℕ) (sites : List (Site D V)) → AreSound g standing hosts place bound sites → (k : ℕ) → k < length (clocks_in sites) → (0 < get_or (clocks_in sites) k 0) × (get_or (clocks_in sites) k 0 ≤ MAX_MOMENT)
+moments_in : {D V : Type 0} (g : Ghosts D) (standing : Standing) (hosts : List Host) (place bound : ℕ) (sites : List (Site D V))
+    → AreSound g standing hosts place bound sites → (k : ℕ) → k < length (clocks_in sites)
+    → (0 < get_or (clocks_in sites) k 0) × (get_or (clocks_in sites) k 0 ≤ MAX_MOMENT)
 moments_in g standing hosts place bound [] sound k less = absurd (omega arith)
 moments_in g standing hosts place bound (site ∷ sites) sound zero less =
     let fits = sound.0.moment.fits in
@@ -102,7 +110,8 @@ left_of true b is = refl
 left_of false b is = is
 
 -- clocks of a sound cell may be those after a tick
-pub may : {D V : Type 0} {standing : Standing} (g : Ghosts D) (bound : ℕ) (after : OpenCell D V) (ss : List ModelSite) → IsSound g standing bound after → AreSitesOf after.sites.items ss → may_tick ss ≡ true
+pub may : {D V : Type 0} {standing : Standing} (g : Ghosts D) (bound : ℕ) (after : OpenCell D V) (ss : List ModelSite) → IsSound g standing bound after
+    → AreSitesOf after.sites.items ss → may_tick ss ≡ true
 may {D} {V} {standing} g bound after ss sound are =
     let clocks = sites_clocks after.sites.items ss are in
     subst (λ (l : List ℕ). (are_near l && are_moments l) ≡ true) (sym clocks)
@@ -114,7 +123,9 @@ may {D} {V} {standing} g bound after ss sound are =
 abbrev pub ticked_at : {D V : Type 0} → OpenCell D V → ℕ → ℕ → Site D V → OpenCell D V
 ticked_at running k seconds site = record running { sites = with_item running.sites k (ticked_on seconds site) }
 
-pub tick_sound : {D V : Type 0} {standing : Standing} (g : Ghosts D) (bound most : ℕ) (running : OpenCell D V) (k seconds : ℕ) (site : Site D V) → IsSound g standing bound running → site.clock + seconds ≤ MAX_MOMENT → slice_get running.sites.items k ≡ Some site → IsNearAt running.sites.items k (site.clock + seconds) → IsSound g standing (bound + seconds) (ticked_at running k seconds site)
+pub tick_sound : {D V : Type 0} {standing : Standing} (g : Ghosts D) (bound most : ℕ) (running : OpenCell D V) (k seconds : ℕ) (site : Site D V)
+    → IsSound g standing bound running → site.clock + seconds ≤ MAX_MOMENT → slice_get running.sites.items k ≡ Some site
+    → IsNearAt running.sites.items k (site.clock + seconds) → IsSound g standing (bound + seconds) (ticked_at running k seconds site)
 tick_sound {D} {V} {standing} g bound most running k seconds site sound fits there near =
     let items = running.sites.items in
     let x = ticked_on seconds site in
@@ -131,7 +142,8 @@ tick_sound {D} {V} {standing} g bound most running k seconds site sound fits the
       hosts = sound.hosts ∙ ap hosts_of (sym same);
       sites = sound_set g running.hosts.items 0 (bound + seconds) items k x
           (sound_weaker g standing running.hosts.items 0 bound (bound + seconds) items (omega arith) sound.sites)
-          (site_later g (record { hosts = running.hosts.items; me = 0 + k }) bound seconds site fits (sound_at g running.hosts.items 0 bound items k site sound.sites there));
+          (site_later g (record { hosts = running.hosts.items; me = 0 + k }) bound seconds site fits
+          (sound_at g running.hosts.items 0 bound items k site sound.sites there));
       near = ap are_near clocks ∙ near_make (set (clocks_in items) k x.clock)
           (near_set (clocks_in items) k x.clock (near_read (clocks_in items) sound.near) (omega (arith, within, as_many)) (omega (arith, old))
           (λ j less other.
@@ -148,13 +160,16 @@ none_more xs handed =
     let none : length xs - length xs ≡ 0 = omega arith in
     ap (λ (n : ℕ). handed ++ replicate n false) none ∙ append-nil handed
 
-pub tick_sites_of : {D V : Type 0} {gs : Ghosts D} {database : Database} {given : List ℕ} (running : OpenCell D V) (c : Cell) (k seconds : ℕ) (site : Site D V) → IsModelledBy gs database given running c → slice_get running.sites.items k ≡ Some site → AreSitesOf (ticked_at running k seconds site).sites.items (tick_at c.run.world.sites k seconds)
+pub tick_sites_of : {D V : Type 0} {gs : Ghosts D} {database : Database} {given : List ℕ} (running : OpenCell D V) (c : Cell) (k seconds : ℕ) (site : Site D V)
+    → IsModelledBy gs database given running c → slice_get running.sites.items k ≡ Some site
+    → AreSitesOf (ticked_at running k seconds site).sites.items (tick_at c.run.world.sites k seconds)
 tick_sites_of {D} {V} running c k seconds site stands there =
     let same : get_or running.sites.items k site ≡ site = get_or_from_slice_get running.sites.items k site site there in
     subst (λ (s : Site D V). AreSitesOf (set running.sites.items k (ticked_on seconds s)) (tick_at c.run.world.sites k seconds)) same
     (sites_ticked running.sites.items c.run.world.sites k seconds site stands.sites)
 
-pub helds_ticked : {D V : Type 0} (g : Ghosts D) (running : OpenCell D V) (k seconds : ℕ) (site : Site D V) → slice_get running.sites.items k ≡ Some site → helds g (ticked_at running k seconds site) ≡ helds g running
+pub helds_ticked : {D V : Type 0} (g : Ghosts D) (running : OpenCell D V) (k seconds : ℕ) (site : Site D V) → slice_get running.sites.items k ≡ Some site
+    → helds g (ticked_at running k seconds site) ≡ helds g running
 helds_ticked {D} {V} g running k seconds site there =
     let same : get_or running.sites.items k site ≡ site = get_or_from_slice_get running.sites.items k site site there in
     map-set_same (λ (s : Site D V). held g (site_disk s)) running.sites.items k (ticked_on seconds site) site
@@ -172,13 +187,16 @@ reads_all [] seconds disks read = read
 reads_all (s ∷ ss) seconds [] read = absurd read
 reads_all (s ∷ ss) seconds (disk ∷ disks) read = (read.0, reads_all ss seconds disks read.1)
 
-armed_all : {D V : Type 0} (g : Ghosts D) (sites : List (Site D V)) (armed : List (Option Armed)) (seconds : ℕ) → AreArmed g sites armed → AreArmed g (map (ticked_on seconds) sites) armed
+armed_all : {D V : Type 0} (g : Ghosts D) (sites : List (Site D V)) (armed : List (Option Armed)) (seconds : ℕ) → AreArmed g sites armed
+    → AreArmed g (map (ticked_on seconds) sites) armed
 armed_all g [] [] seconds are = tt
 armed_all g [] (a ∷ armed) seconds are = absurd are
 armed_all g (x ∷ sites) [] seconds are = absurd are
 armed_all g (x ∷ sites) (a ∷ armed) seconds are = (are.0, armed_all g sites armed seconds are.1)
 
-pub tick_stands : {D V : Type 0} {given : List ℕ} (gs : Ghosts D) (db : ScriptDatabase) (running : OpenCell D V) (c : Cell) (k seconds : ℕ) (site : Site D V) → IsModelledBy gs db.database given running c → slice_get running.sites.items k ≡ Some site → IsModelledBy gs db.database given (ticked_at running k seconds site) (with_event db c (Tick k seconds)).cell
+pub tick_stands : {D V : Type 0} {given : List ℕ} (gs : Ghosts D) (db : ScriptDatabase) (running : OpenCell D V) (c : Cell) (k seconds : ℕ) (site : Site D V)
+    → IsModelledBy gs db.database given running c → slice_get running.sites.items k ≡ Some site
+    → IsModelledBy gs db.database given (ticked_at running k seconds site) (with_event db c (Tick k seconds)).cell
 tick_stands {D} {V} {given} gs db running c k seconds site stands there =
     let here = armed_here gs running.sites.items c.armed k site stands.armed there in
     record {
@@ -187,13 +205,19 @@ tick_stands {D} {V} {given} gs db running c k seconds site stands there =
       sent = stands.sent;
       handed = none_more c.run.world.packets c.handed ∙ stands.handed;
       armed = armed_still gs running.sites.items c.armed k (ticked_on seconds site) stands.armed here;
-      disks = subst (λ (l : List Held). HoldRun db.database given false (with_event db c (Tick k seconds)).cell l) (sym (helds_ticked gs running k seconds site there))
-          (hold_more db.database c (with_event db c (Tick k seconds)).cell given (Tick k seconds) (record { opening = refl; events = refl; world = refl }) (helds gs running) (helds gs running) stands.disks
+      disks =
+          subst (λ (l : List Held). HoldRun db.database given false (with_event db c (Tick k seconds)).cell l)
+          (sym (helds_ticked gs running k seconds site there))
+          (hold_more db.database c (with_event db c (Tick k seconds)).cell given (Tick k seconds) (record { opening = refl; events = refl; world = refl })
+          (helds gs running) (helds gs running) stands.disks
           (reads_ticked c.run.world.sites k seconds (helds gs running) stands.disks.read)
           (moved_same _ 0 (helds gs running) (λ j x. (0, refl, omega arith))));
     }
 
-pub tick_told : {D V : Type 0} {standing : Standing} {given : List ℕ} (g : Ghosts D) (db : ScriptDatabase) (bound : ℕ) (running : OpenCell D V) (c : Cell) (k seconds : ℕ) (site : Site D V) (run : Run_or_why) (text : List ℕ) → IsSound g standing bound running → bound + seconds ≤ MAX_MOMENT → IsModelledBy g db.database given running c → slice_get running.sites.items k ≡ Some site → IsNearAt running.sites.items k (site.clock + seconds) → run ≡ unless_skewed db c (tick_at c.run.world.sites k seconds) (Tick k seconds) → CellTold g db given (λ choices. run) None running (ticked_at running k seconds site) text text
+pub tick_told : {D V : Type 0} {standing : Standing} {given : List ℕ} (g : Ghosts D) (db : ScriptDatabase) (bound : ℕ) (running : OpenCell D V) (c : Cell)
+    (k seconds : ℕ) (site : Site D V) (run : Run_or_why) (text : List ℕ) → IsSound g standing bound running → bound + seconds ≤ MAX_MOMENT → IsModelledBy g
+    db.database given running c → slice_get running.sites.items k ≡ Some site → IsNearAt running.sites.items k (site.clock + seconds) → run ≡ unless_skewed db c
+    (tick_at c.run.world.sites k seconds) (Tick k seconds) → CellTold g db given (λ choices. run) None running (ticked_at running k seconds site) text text
 tick_told g db bound running c k seconds site run text sound fits stands there near is =
     let at = sound_at g running.hosts.items 0 bound running.sites.items k site sound.sites there in
     let within = at.within in
@@ -202,7 +226,8 @@ tick_told g db bound running c k seconds site run text sound fits stands there n
       choices = [];
       ran = with_event db c (Tick k seconds);
       is = is ∙ ap (λ (b : Bool). if b then Ok (with_event db c (Tick k seconds)) else Err why.Skew)
-          (may g (bound + seconds) (ticked_at running k seconds site) (tick_at c.run.world.sites k seconds) after (tick_sites_of running c k seconds site stands there));
+          (may g (bound + seconds) (ticked_at running k seconds site) (tick_at c.run.world.sites k seconds) after
+          (tick_sites_of running c k seconds site stands there));
       ends = refl;
       cell = tick_stands g db running c k seconds site stands there;
       told = sym (append-nil text);
@@ -210,7 +235,9 @@ tick_told g db bound running c k seconds site run text sound fits stands there n
     }
 
 -- one that would part the clocks
-pub tick_skews : {D V : Type 0} {gs : Ghosts D} {given : List ℕ} (db : ScriptDatabase) (running : OpenCell D V) (c : Cell) (k seconds : ℕ) (site : Site D V) → IsModelledBy gs db.database given running c → slice_get running.sites.items k ≡ Some site → (IsNearAt running.sites.items k (site.clock + seconds) → ⊥) → unless_skewed db c (tick_at c.run.world.sites k seconds) (Tick k seconds) ≡ Err why.Skew
+pub tick_skews : {D V : Type 0} {gs : Ghosts D} {given : List ℕ} (db : ScriptDatabase) (running : OpenCell D V) (c : Cell) (k seconds : ℕ) (site : Site D V)
+    → IsModelledBy gs db.database given running c → slice_get running.sites.items k ≡ Some site → (IsNearAt running.sites.items k (site.clock + seconds) → ⊥)
+    → unless_skewed db c (tick_at c.run.world.sites k seconds) (Tick k seconds) ≡ Err why.Skew
 tick_skews {D} {V} db running c k seconds site stands there parted = by (may_tick ss) refl
   where
     ss : List ModelSite
@@ -224,7 +251,8 @@ tick_skews {D} {V} db running c k seconds site stands there parted = by (may_tic
         let x = ticked_on seconds site in
         let are = tick_sites_of running c k seconds site stands there in
         let clocks : clocks_of ss ≡ set (clocks_in items) k x.clock = sites_clocks (set items k x) ss are ∙ map-set (λ (s : Site D V). s.clock) items k x in
-        let near = near_read (set (clocks_in items) k x.clock) (subst (λ (l : List ℕ). are_near l ≡ true) clocks (left_of (are_near (clocks_of ss)) (are_moments (clocks_of ss)) is)) in
+        let near = near_read (set (clocks_in items) k x.clock) (subst (λ (l : List ℕ). are_near l ≡ true) clocks
+        (left_of (are_near (clocks_of ss)) (are_moments (clocks_of ss)) is)) in
         let as_many : length (clocks_in items) ≡ length items = length-map items (λ (s : Site D V). s.clock) in
         let here = slice_get_within items k site there in
         let there' = slice_get_within items j other at in
@@ -241,24 +269,30 @@ tick_skews {D} {V} db running c k seconds site stands there parted = by (may_tic
 abbrev pub all_ticked : {D V : Type 0} → OpenCell D V → List (Site D V) → OpenCell D V
 all_ticked running sites = record running { sites = with_items running.sites sites }
 
-all_items : {D V : Type 0} (running : OpenCell D V) (sites : List (Site D V)) (seconds : ℕ) → sites ≡ map (ticked_on seconds) running.sites.items → (all_ticked running sites).sites.items ≡ map (ticked_on seconds) running.sites.items
+all_items : {D V : Type 0} (running : OpenCell D V) (sites : List (Site D V)) (seconds : ℕ) → sites ≡ map (ticked_on seconds) running.sites.items
+    → (all_ticked running sites).sites.items ≡ map (ticked_on seconds) running.sites.items
 all_items running sites seconds are =
     items_with running.sites sites (ap length are ∙ length-map running.sites.items (ticked_on seconds)) ∙ are
 
-clocks_ticked : {D V : Type 0} (sites : List (Site D V)) (seconds : ℕ) → clocks_in (map (ticked_on seconds) sites) ≡ map (λ (n : ℕ). n + seconds) (clocks_in sites)
+clocks_ticked : {D V : Type 0} (sites : List (Site D V)) (seconds : ℕ)
+    → clocks_in (map (ticked_on seconds) sites) ≡ map (λ (n : ℕ). n + seconds) (clocks_in sites)
 clocks_ticked [] seconds = refl
 clocks_ticked (site ∷ sites) seconds = ap (λ (l : List ℕ). (site.clock + seconds) ∷ l) (clocks_ticked sites seconds)
 
-helds_of_ticked : {D V : Type 0} (g : Ghosts D) (sites : List (Site D V)) (seconds : ℕ) → map (λ (s : Site D V). held g (site_disk s)) (map (ticked_on seconds) sites) ≡ map (λ (s : Site D V). held g (site_disk s)) sites
+helds_of_ticked : {D V : Type 0} (g : Ghosts D) (sites : List (Site D V)) (seconds : ℕ)
+    → map (λ (s : Site D V). held g (site_disk s)) (map (ticked_on seconds) sites) ≡ map (λ (s : Site D V). held g (site_disk s)) sites
 helds_of_ticked g [] seconds = refl
 helds_of_ticked g (site ∷ sites) seconds = ap (λ (l : List Held). held g (site_disk site) ∷ l) (helds_of_ticked g sites seconds)
 
-pub helds_all : {D V : Type 0} (g : Ghosts D) (running : OpenCell D V) (sites : List (Site D V)) (seconds : ℕ) → sites ≡ map (ticked_on seconds) running.sites.items → helds g (all_ticked running sites) ≡ helds g running
+pub helds_all : {D V : Type 0} (g : Ghosts D) (running : OpenCell D V) (sites : List (Site D V)) (seconds : ℕ)
+    → sites ≡ map (ticked_on seconds) running.sites.items → helds g (all_ticked running sites) ≡ helds g running
 helds_all {D} {V} g running sites seconds are =
     ap (map (λ (s : Site D V). held g (site_disk s))) (all_items running sites seconds are)
     ∙ helds_of_ticked g running.sites.items seconds
 
-pub all_sound : {D V : Type 0} {standing : Standing} (g : Ghosts D) (bound bound' : ℕ) (running : OpenCell D V) (sites : List (Site D V)) (seconds : ℕ) → sites ≡ map (ticked_on seconds) running.sites.items → IsSound g standing bound running → bound + seconds ≤ MAX_MOMENT → IsSound g standing bound' running → IsSound g standing (bound' + seconds) (all_ticked running sites)
+pub all_sound : {D V : Type 0} {standing : Standing} (g : Ghosts D) (bound bound' : ℕ) (running : OpenCell D V) (sites : List (Site D V)) (seconds : ℕ)
+    → sites ≡ map (ticked_on seconds) running.sites.items → IsSound g standing bound running → bound + seconds ≤ MAX_MOMENT → IsSound g standing bound' running
+    → IsSound g standing (bound' + seconds) (all_ticked running sites)
 all_sound {D} {V} {standing} g bound bound' running sites seconds are sound fits sound' =
     let items = running.sites.items in
     let after = map (ticked_on seconds) items in
@@ -278,15 +312,21 @@ all_sound {D} {V} {standing} g bound bound' running sites seconds are sound fits
       told = sound.told;
     }
 
-pub all_told : {D V : Type 0} {standing : Standing} {given : List ℕ} (g : Ghosts D) (db : ScriptDatabase) (bound : ℕ) (running : OpenCell D V) (sites : List (Site D V)) (c : Cell) (seconds : ℕ) (text : List ℕ) → sites ≡ map (ticked_on seconds) running.sites.items → IsSound g standing bound running → bound + seconds ≤ MAX_MOMENT → IsModelledBy g db.database given running c → CellTold g db given (λ choices. unless_skewed db c (map (ticked seconds) c.run.world.sites) (Tick_all seconds)) None running (all_ticked running sites) text text
+pub all_told : {D V : Type 0} {standing : Standing} {given : List ℕ} (g : Ghosts D) (db : ScriptDatabase) (bound : ℕ) (running : OpenCell D V)
+    (sites : List (Site D V)) (c : Cell) (seconds : ℕ) (text : List ℕ) → sites ≡ map (ticked_on seconds) running.sites.items → IsSound g standing bound running
+    → bound + seconds ≤ MAX_MOMENT → IsModelledBy g db.database given running c
+    → CellTold g db given (λ choices. unless_skewed db c (map (ticked seconds) c.run.world.sites) (Tick_all seconds)) None running (all_ticked running sites)
+    text text
 all_told {D} {V} {standing} {given} g db bound running sites c seconds text are sound fits stands =
     let is = all_items running sites seconds are in
-    let ss = subst (λ (l : List (Site D V)). AreSitesOf l (map (ticked seconds) c.run.world.sites)) (sym is) (sites_all_ticked running.sites.items c.run.world.sites seconds stands.sites) in
+    let ss = subst (λ (l : List (Site D V)). AreSitesOf l (map (ticked seconds) c.run.world.sites)) (sym is)
+    (sites_all_ticked running.sites.items c.run.world.sites seconds stands.sites) in
     record {
       choices = [];
       ran = with_event db c (Tick_all seconds);
       is = ap (λ (b : Bool). if b then Ok (with_event db c (Tick_all seconds)) else Err why.Skew)
-          (may g (bound + seconds) (all_ticked running sites) (map (ticked seconds) c.run.world.sites) (all_sound g bound bound running sites seconds are sound fits sound) ss);
+          (may g (bound + seconds) (all_ticked running sites) (map (ticked seconds) c.run.world.sites)
+          (all_sound g bound bound running sites seconds are sound fits sound) ss);
       ends = refl;
       cell = record {
         hosts = stands.hosts;
@@ -294,8 +334,10 @@ all_told {D} {V} {standing} {given} g db bound running sites c seconds text are 
         sent = stands.sent;
         handed = none_more c.run.world.packets c.handed ∙ stands.handed;
         armed = subst (λ (l : List (Site D V)). AreArmed g l c.armed) (sym is) (armed_all g running.sites.items c.armed seconds stands.armed);
-        disks = subst (λ (l : List Held). HoldRun db.database given false (with_event db c (Tick_all seconds)).cell l) (sym (helds_all g running sites seconds are))
-            (hold_more db.database c (with_event db c (Tick_all seconds)).cell given (Tick_all seconds) (record { opening = refl; events = refl; world = refl }) (helds g running) (helds g running) stands.disks
+        disks =
+            subst (λ (l : List Held). HoldRun db.database given false (with_event db c (Tick_all seconds)).cell l) (sym (helds_all g running sites seconds are))
+            (hold_more db.database c (with_event db c (Tick_all seconds)).cell given (Tick_all seconds) (record { opening = refl; events = refl; world = refl })
+            (helds g running) (helds g running) stands.disks
             (reads_all c.run.world.sites seconds (helds g running) stands.disks.read)
             (moved_same _ 0 (helds g running) (λ j x. (0, refl, omega arith))));
       };
@@ -303,7 +345,8 @@ all_told {D} {V} {standing} {given} g db bound running sites c seconds text are 
       causes = rises_same (helds g running) (helds g (all_ticked running sites)) (helds_all g running sites seconds are);
     }
 
-pub fits_at : {D V : Type 0} {standing : Standing} (g : Ghosts D) (bound seconds : ℕ) (running : OpenCell D V) (k : ℕ) (site : Site D V) → IsSound g standing bound running → bound + seconds ≤ MAX_MOMENT → slice_get running.sites.items k ≡ Some site → site.clock + seconds ≤ MAX_MOMENT
+pub fits_at : {D V : Type 0} {standing : Standing} (g : Ghosts D) (bound seconds : ℕ) (running : OpenCell D V) (k : ℕ) (site : Site D V)
+    → IsSound g standing bound running → bound + seconds ≤ MAX_MOMENT → slice_get running.sites.items k ≡ Some site → site.clock + seconds ≤ MAX_MOMENT
 fits_at g bound seconds running k site sound fits there =
     let at = sound_at g running.hosts.items 0 bound running.sites.items k site sound.sites there in
     let within = at.within in
@@ -316,7 +359,9 @@ refused_so (Ok x) w w' is is' = absurd is
 refused_so (Err e) w w' is is' = cc
 
 -- a site that is written as it was read, but for its clock
-pub ticked_so : {D V : Type 0} (running : OpenCell D V) (k seconds : ℕ) (site other : Site D V) → slice_get running.sites.items k ≡ Some site → slice_get running.sites.items k ≡ Some other → ticked_at running k seconds site ≡ record running { sites = with_item running.sites k (record { clock = site.clock + seconds; server = other.server }) }
+pub ticked_so : {D V : Type 0} (running : OpenCell D V) (k seconds : ℕ) (site other : Site D V) → slice_get running.sites.items k ≡ Some site
+    → slice_get running.sites.items k ≡ Some other
+    → ticked_at running k seconds site ≡ record running { sites = with_item running.sites k (record { clock = site.clock + seconds; server = other.server }) }
 ticked_so {D} {V} running k seconds site other there there' =
     let same : site ≡ other = cc in
     ap (λ (s : Site D V). record running { sites = with_item running.sites k (record { clock = site.clock + seconds; server = s.server }) }) same

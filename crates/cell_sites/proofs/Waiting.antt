@@ -1,5 +1,6 @@
 -- Which packets wait.
-use Rattle.std.proofs.Common.{Vec, ◌≡◌, ◌<◌, ◌≤◌, ◌+◌, ℕ, zero, suc, Bool, true, false, ◌||◌, Some, None, List, [], ◌∷◌, ◌++◌, length, take, drop, get_or, set, refl, sym, ap, ◌∙◌, arith, add-one, if◌then◌else◌, inl, inr}
+use Rattle.std.proofs.Common.{Vec, ◌≡◌, ◌<◌, ◌≤◌, ◌+◌, ℕ, zero, suc, Bool, true, false, ◌||◌, Some, None, List, [], ◌∷◌, ◌++◌, length, take, drop, get_or, set}
+use Rattle.std.proofs.Common.{refl, sym, ap, ◌∙◌, arith, add-one, if◌then◌else◌, inl, inr}
 use Rattle.std.proofs.lemmas.Bool.Decides.{nat_tests}
 use Rattle.std.specs.Prelude.{slice_get, ◌==◌, nat_lt}
 use Rattle.std.proofs.lemmas.List.{take-append-drop}
@@ -17,7 +18,8 @@ use Rattle.cell_sites.specs.Swept.{NoneWaits, HasSwept}
 
 -- ---- the first that waits
 
-pub waits_at : (n : ℕ) (handed : List Bool) (place : ℕ) → NoneWaits handed place → place < length handed → get_or handed place true ≡ false → first_waiting n handed ≡ Some (n + place)
+pub waits_at : (n : ℕ) (handed : List Bool) (place : ℕ) → NoneWaits handed place → place < length handed → get_or handed place true ≡ false
+    → first_waiting n handed ≡ Some (n + place)
 waits_at n [] place none within waits = absurd (omega arith)
 waits_at n (h ∷ more) zero none within waits =
     ap (λ (b : Bool). if b then first_waiting (n + 1) more else Some n) waits ∙ ap Some (omega arith)
@@ -33,7 +35,8 @@ none_waits n (h ∷ more) none =
     ∙ none_waits (n + 1) more (λ k lt. none (suc k) (omega arith))
 
 -- none below a place waits, and none from there up to another
-pub none_upto : (handed : List Bool) (low place : ℕ) → NoneWaits handed low → ((k : ℕ) → low ≤ k → k < place → get_or handed k false ≡ true) → NoneWaits handed place
+pub none_upto : (handed : List Bool) (low place : ℕ) → NoneWaits handed low → ((k : ℕ) → low ≤ k → k < place → get_or handed k false ≡ true)
+    → NoneWaits handed place
 none_upto handed low place none more k lt = elim (cases_lt k low) [ inl below ↦ none k below | inr from ↦ more k from lt ]
 
 -- ---- fewer wait
@@ -45,7 +48,8 @@ Covers before after = (k : ℕ) → get_or before k false ≡ true → get_or af
 pub covers_none : (before after : List Bool) (low : ℕ) → Covers before after → NoneWaits before low → NoneWaits after low
 covers_none before after low covers none k lt = covers k (none k lt)
 
-pub covers_swept : (sent : List Packet) (before after : List Bool) (host : Host) (below : ℕ) → Covers before after → HasSwept sent before host below → HasSwept sent after host below
+pub covers_swept : (sent : List Packet) (before after : List Bool) (host : Host) (below : ℕ) → Covers before after → HasSwept sent before host below
+    → HasSwept sent after host below
 covers_swept sent before after host below covers swept k p lt there is = covers k (swept k p lt there is)
 
 pub set_covers : (handed : List Bool) (i : ℕ) → Covers handed (set handed i true)
@@ -79,7 +83,8 @@ dropped_covers host (p ∷ sent) (h ∷ more) same zero is = or_left h (is_of_ho
 dropped_covers host (p ∷ sent) (h ∷ more) same (suc k) is = dropped_covers host sent more (omega arith) k is
 
 -- those of the host wait no longer
-pub dropped_swept : (host : Host) (sent : List Packet) (handed : List Bool) (below : ℕ) → length handed ≡ length sent → HasSwept sent (dropped_of host sent handed) host below
+pub dropped_swept : (host : Host) (sent : List Packet) (handed : List Bool) (below : ℕ) → length handed ≡ length sent
+    → HasSwept sent (dropped_of host sent handed) host below
 dropped_swept host [] handed below same k p lt there is = cc
 dropped_swept host (q ∷ sent) [] below same k p lt there is = absurd (omega arith)
 dropped_swept host (q ∷ sent) (h ∷ more) below same zero p lt there is =
@@ -97,7 +102,8 @@ length-dropped host (p ∷ sent) (h ∷ more) same =
 -- ---- the walk
 
 -- where it begins: none of those before it waits
-pub walk_begins : (host : Host) (sent : List Packet) (handed : List Bool) (from : ℕ) → length handed ≡ length sent → HasSwept sent handed host from → from ≤ length sent → dropped_of host sent handed ≡ take from handed ++ dropped_of host (drop from sent) (drop from handed)
+pub walk_begins : (host : Host) (sent : List Packet) (handed : List Bool) (from : ℕ) → length handed ≡ length sent → HasSwept sent handed host from
+    → from ≤ length sent → dropped_of host sent handed ≡ take from handed ++ dropped_of host (drop from sent) (drop from handed)
 walk_begins host sent handed zero same swept within = refl
 walk_begins host [] handed (suc from) same swept within = absurd (omega arith)
 walk_begins host (p ∷ sent) [] (suc from) same swept within = absurd (omega arith)
@@ -114,7 +120,10 @@ walk_begins host (p ∷ sent) (h ∷ more) (suc from) same swept within =
         none false = refl
 
 -- a packet of the host
-pub walk_drops : (host : Host) (sent : List Packet) (handed : List Bool) (k : ℕ) (p : Packet) → length handed ≡ length sent → slice_get sent k ≡ Some p → is_of_host host p ≡ true → take k handed ++ dropped_of host (drop k sent) (drop k handed) ≡ take (suc k) (set handed k true) ++ dropped_of host (drop (suc k) sent) (drop (suc k) (set handed k true))
+pub walk_drops : (host : Host) (sent : List Packet) (handed : List Bool) (k : ℕ) (p : Packet) → length handed ≡ length sent → slice_get sent k ≡ Some p
+    → is_of_host host p ≡ true
+    → take k handed ++ dropped_of host (drop k sent) (drop k handed) ≡ take (suc k) (set handed k true) ++ dropped_of host (drop (suc k) sent)
+    (drop (suc k) (set handed k true))
 walk_drops host [] handed k p same there is = cc
 walk_drops host (q ∷ sent) [] k p same there is = absurd (omega arith)
 walk_drops host (q ∷ sent) (h ∷ more) zero p same there is =
@@ -124,7 +133,9 @@ walk_drops host (q ∷ sent) (h ∷ more) (suc k) p same there is =
     ap (λ (l : List Bool). h ∷ l) (walk_drops host sent more k p (omega arith) there is)
 
 -- another packet
-pub walk_passes : (host : Host) (sent : List Packet) (handed : List Bool) (k : ℕ) (p : Packet) → length handed ≡ length sent → slice_get sent k ≡ Some p → is_of_host host p ≡ false → take k handed ++ dropped_of host (drop k sent) (drop k handed) ≡ take (suc k) handed ++ dropped_of host (drop (suc k) sent) (drop (suc k) handed)
+pub walk_passes : (host : Host) (sent : List Packet) (handed : List Bool) (k : ℕ) (p : Packet) → length handed ≡ length sent → slice_get sent k ≡ Some p
+    → is_of_host host p ≡ false
+    → take k handed ++ dropped_of host (drop k sent) (drop k handed) ≡ take (suc k) handed ++ dropped_of host (drop (suc k) sent) (drop (suc k) handed)
 walk_passes host [] handed k p same there is = cc
 walk_passes host (q ∷ sent) [] k p same there is = absurd (omega arith)
 walk_passes host (q ∷ sent) (h ∷ more) zero p same there is =
@@ -139,7 +150,8 @@ walk_passes host (q ∷ sent) (h ∷ more) (suc k) p same there is =
     ap (λ (l : List Bool). h ∷ l) (walk_passes host sent more k p (omega arith) there is)
 
 -- the end
-pub walk_ends : (host : Host) (sent : List Packet) (handed : List Bool) → take (length sent) handed ++ dropped_of host (drop (length sent) sent) (drop (length sent) handed) ≡ handed
+pub walk_ends : (host : Host) (sent : List Packet) (handed : List Bool)
+    → take (length sent) handed ++ dropped_of host (drop (length sent) sent) (drop (length sent) handed) ≡ handed
 walk_ends host sent handed =
     ap (λ (l : List Packet). take (length sent) handed ++ dropped_of host l (drop (length sent) handed)) (all sent)
     ∙ take-append-drop (length sent) handed
@@ -155,7 +167,8 @@ bytes_of-push [] p = omega arith
 bytes_of-push (q ∷ sent) p = let rest = bytes_of-push sent p in omega (arith, rest)
 
 -- a packet below a place is none that is sent now
-pub push_swept : (sent : List Packet) (handed : List Bool) (p : Packet) (host : Host) (below : ℕ) → below ≤ length sent → HasSwept sent handed host below → HasSwept (sent ++ p ∷ []) (handed ++ false ∷ []) host below
+pub push_swept : (sent : List Packet) (handed : List Bool) (p : Packet) (host : Host) (below : ℕ) → below ≤ length sent → HasSwept sent handed host below
+    → HasSwept (sent ++ p ∷ []) (handed ++ false ∷ []) host below
 push_swept sent handed p host below within swept k q lt there is =
     push_covers handed k (swept k q lt (front sent k (omega arith) there) is)
   where
@@ -167,19 +180,24 @@ push_swept sent handed p host below within swept k q lt there is =
 -- ---- places in the words of the code
 
 -- the walk goes on over a packet of the host
-pub walk_drops_at : (host : Host) (sent : List Packet) (handed after : List Bool) (k : ℕ) (p : Packet) → length handed ≡ length sent → slice_get sent k ≡ Some p → is_of_host host p ≡ true → after ≡ set handed k true → take k handed ++ dropped_of host (drop k sent) (drop k handed) ≡ take (k + 1) after ++ dropped_of host (drop (k + 1) sent) (drop (k + 1) after)
+pub walk_drops_at : (host : Host) (sent : List Packet) (handed after : List Bool) (k : ℕ) (p : Packet) → length handed ≡ length sent → slice_get sent k ≡ Some p
+    → is_of_host host p ≡ true → after ≡ set handed k true
+    → take k handed ++ dropped_of host (drop k sent) (drop k handed) ≡ take (k + 1) after ++ dropped_of host (drop (k + 1) sent) (drop (k + 1) after)
 walk_drops_at host sent handed after k p same there is e =
     walk_drops host sent handed k p same there is
     ∙ ap (λ (h : List Bool). take (suc k) h ++ dropped_of host (drop (suc k) sent) (drop (suc k) h)) (sym e)
     ∙ ap (λ (n : ℕ). take n after ++ dropped_of host (drop n sent) (drop n after)) (sym (add-one k))
 
-pub walk_passes_at : (host : Host) (sent : List Packet) (handed after : List Bool) (k : ℕ) (p : Packet) → length handed ≡ length sent → slice_get sent k ≡ Some p → is_of_host host p ≡ false → after ≡ handed → take k handed ++ dropped_of host (drop k sent) (drop k handed) ≡ take (k + 1) after ++ dropped_of host (drop (k + 1) sent) (drop (k + 1) after)
+pub walk_passes_at : (host : Host) (sent : List Packet) (handed after : List Bool) (k : ℕ) (p : Packet) → length handed ≡ length sent
+    → slice_get sent k ≡ Some p → is_of_host host p ≡ false → after ≡ handed
+    → take k handed ++ dropped_of host (drop k sent) (drop k handed) ≡ take (k + 1) after ++ dropped_of host (drop (k + 1) sent) (drop (k + 1) after)
 walk_passes_at host sent handed after k p same there is e =
     walk_passes host sent handed k p same there is
     ∙ ap (λ (h : List Bool). take (suc k) h ++ dropped_of host (drop (suc k) sent) (drop (suc k) h)) (sym e)
     ∙ ap (λ (n : ℕ). take n after ++ dropped_of host (drop n sent) (drop n after)) (sym (add-one k))
 
-pub walk_ends_at : (host : Host) (sent : List Packet) (handed : List Bool) (k : ℕ) → k ≡ length sent → take k handed ++ dropped_of host (drop k sent) (drop k handed) ≡ handed
+pub walk_ends_at : (host : Host) (sent : List Packet) (handed : List Bool) (k : ℕ) → k ≡ length sent
+    → take k handed ++ dropped_of host (drop k sent) (drop k handed) ≡ handed
 walk_ends_at host sent handed k is = ap (λ (n : ℕ). take n handed ++ dropped_of host (drop n sent) (drop n handed)) is ∙ walk_ends host sent handed
 
 pub is_of : (host : Host) (p : Packet) → p.from.0 ≡ host.0 → is_of_host host p ≡ true
@@ -205,6 +223,10 @@ pub passed_none : (number bytes : ℕ) → passed_by number bytes ≡ None → (
 passed_none number bytes none = by (nat_lt MAX_PACKETS number) refl (nat_lt MAX_PACKET_BYTES bytes) refl
   where
     by : (b : Bool) → nat_lt MAX_PACKETS number ≡ b → (c : Bool) → nat_lt MAX_PACKET_BYTES bytes ≡ c → (number ≤ MAX_PACKETS) × (bytes ≤ MAX_PACKET_BYTES)
-    by true is c eq = let over : Some (Limit Packets) ≡ None = sym (ap (λ (b : Bool). if b then Some (Limit Packets) else (if nat_lt MAX_PACKET_BYTES bytes then Some (Limit PacketBytes) else None)) is) ∙ none in absurd cc
-    by false is true eq = let over : Some (Limit PacketBytes) ≡ None = sym (ap (λ (b : Bool). if b then Some (Limit Packets) else (if nat_lt MAX_PACKET_BYTES bytes then Some (Limit PacketBytes) else None)) is ∙ ap (λ (b : Bool). if b then Some (Limit PacketBytes) else None) eq) ∙ none in absurd cc
+    by true is c eq = let over : Some (Limit Packets) ≡ None = sym
+        (ap (λ (b : Bool). if b then Some (Limit Packets) else (if nat_lt MAX_PACKET_BYTES bytes then Some (Limit PacketBytes) else None)) is)
+        ∙ none in absurd cc
+    by false is true eq = let over : Some (Limit PacketBytes) ≡ None = sym
+        (ap (λ (b : Bool). if b then Some (Limit Packets) else (if nat_lt MAX_PACKET_BYTES bytes then Some (Limit PacketBytes) else None)) is
+        ∙ ap (λ (b : Bool). if b then Some (Limit PacketBytes) else None) eq) ∙ none in absurd cc
     by false is false eq = (ltb_not MAX_PACKETS number is, ltb_not MAX_PACKET_BYTES bytes eq)

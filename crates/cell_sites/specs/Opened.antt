@@ -47,7 +47,8 @@ AreUnarmed g (site ∷ sites) = (g.stop (site_disk site) ≡ Unarmed) × AreUnar
 
 -- The first servers of a cell were opened over these disks, at a clock; where a disk failed in that, its server is down. What is told of
 -- that was added to a text, and each fault is one of its disk.
-pub record ArePartOpened {D V : Type 0} (g : Ghosts D) (standing : Standing) (db : ScriptDatabase) (clock : ℕ) (given : List D) (running : OpenCell D V) (text_before text_after : List ℕ) : Type 0 where
+pub record ArePartOpened {D V : Type 0} (g : Ghosts D) (standing : Standing) (db : ScriptDatabase) (clock : ℕ) (given : List D) (running : OpenCell D V)
+    (text_before text_after : List ℕ) : Type 0 where
   pub failed : List Bool
   pub each : length failed ≡ length given
   pub sites : AreSitesOf running.sites.items (map (first_site (length running.hosts.items) clock) failed)
@@ -67,7 +68,8 @@ pub record IsAdded {D V : Type 0} (g : Ghosts D) (disk : D) (before after : Open
   pub emptied : IsEmptied g disk kept
 
 -- A cell was opened, whose servers have these disks: it is that of some choices of where a disk fails.
-pub record IsOpened {D V : Type 0} (g : Ghosts D) (standing : Standing) (db : ScriptDatabase) (clock : ℕ) (k : Kind) (given : List D) (running : OpenCell D V) (text_before text_after : List ℕ) : Type 0 where
+pub record IsOpened {D V : Type 0} (g : Ghosts D) (standing : Standing) (db : ScriptDatabase) (clock : ℕ) (k : Kind) (given : List D) (running : OpenCell D V)
+    (text_before text_after : List ℕ) : Type 0 where
   pub choices : List Choice
   pub stands : IsModelledBy g db.database (counts_of g given) running (opened_cell (length given) clock k (fails_at (length given) choices))
   pub sound : IsSound g standing clock running

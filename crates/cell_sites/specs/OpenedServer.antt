@@ -48,7 +48,8 @@ ServerIs g m clock d opened.StaysDown disk server = (server_node server ≡ Down
 ServerIs g m clock d opened.NoMemory disk server = server_node server ≡ Down
 
 -- A server was opened over a disk whose files stand for a durable state, done or not: they stand for it still.
-pub record ServerOpens {D V : Type 0} (g : Ghosts D) (standing : Standing) (m : Member) (clock : ℕ) (d : Durable) (end : OpenEnd) (disk : D) (server : Server D V) : Type 0 where
+pub record ServerOpens {D V : Type 0} (g : Ghosts D) (standing : Standing) (m : Member) (clock : ℕ) (d : Durable) (end : OpenEnd) (disk : D)
+    (server : Server D V) : Type 0 where
   pub stands : IsSomeAnd (g.files (server_disk server)) (StandsAs d)
   pub sound : IsSoundDisk g standing (server_disk server)
   pub calls : OpensDisk g (is_cut_short end) disk (server_disk server)

@@ -23,7 +23,8 @@ reopened_marks k opened.StaysDown = Stays_down k ∷ []
 reopened_marks k opened.NoMemory = []
 
 -- The server at a place, which was down, was opened over its disk; nothing else of the cell changed.
-pub record SiteReopened {D V : Type 0} (g : Ghosts D) (standing : Standing) (db : ScriptDatabase) (k : ℕ) (result : Result (Unit {0}) NoMemory) (before after : OpenCell D V) (text_before text_after : List ℕ) : Type 0 where
+pub record SiteReopened {D V : Type 0} (g : Ghosts D) (standing : Standing) (db : ScriptDatabase) (k : ℕ) (result : Result (Unit {0}) NoMemory)
+    (before after : OpenCell D V) (text_before text_after : List ℕ) : Type 0 where
   pub clock : ℕ
   pub disk : D
   pub there : slice_get before.sites.items k ≡ Some (record { clock = clock; server = server.Down disk })

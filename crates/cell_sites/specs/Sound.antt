@@ -1,5 +1,5 @@
 -- What is kept true of a running cell.
-use Rattle.std.specs.Prelude.{◌≡◌, ◌+◌, ◌≤◌, ℕ, true, IfSome, IsSome, All, List, [], ◌∷◌, length, map}
+use Rattle.std.specs.Prelude.{◌≡◌, ◌+◌, ◌≤◌, ℕ, true, false, IfSome, IsSome, All, List, [], ◌∷◌, length, map}
 use Rattle.disk_base.specs.declared.disks.Disk.{Ghosts}
 use Rattle.disk_base.specs.Crash.{IsSettled}
 use Rattle.disk_base.specs.Files.{Files}
@@ -22,11 +22,11 @@ use Rattle.ubik_node.specs.declared.nodes.Node.{Node}
 use Rattle.ubik_node.specs.Disk.{StandsAs}
 use Rattle.ubik_node.specs.Node.{own_member, up_server, IsStored}
 
--- A server that is up: its store has its version and its image; or it is halted.
+-- A server that is up: it takes part in votes, and its store has its version and its image; or it is halted.
 pub record IsSoundNode {D V : Type 0} (g : Ghosts D) (m : Member) (clock : ℕ) (n : Node D V) : Type 0 where
   pub last : n.last ≤ clock
   pub member : own_member n ≡ m
-  pub voter : IsVoter m (up_server n)
+  pub voter : n.halted ≡ false → IsVoter m (up_server n)
   pub stored : IsStored g n
 
 abbrev pub IsSoundServer : {D V : Type 0} → Ghosts D → Member → (clock : ℕ) → Server D V → Type 0

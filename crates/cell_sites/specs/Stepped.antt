@@ -37,7 +37,8 @@ pub record StaysSound {D V : Type 0} (g : Ghosts D) (standing : Standing) (m : M
   pub disk : IsSoundDisk g standing later.store.disk
 
 -- the step was made, or the server was halted before
-pub record IsMade {D V : Type 0} (g : Ghosts D) (standing : Standing) (db : Database) (m : Member) (clock : ℕ) (event : NodeEvent) (node later : Node D V) (out : List Output) : Type 0 where
+pub record IsMade {D V : Type 0} (g : Ghosts D) (standing : Standing) (db : Database) (m : Member) (clock : ℕ) (event : NodeEvent) (node later : Node D V)
+    (out : List Output) : Type 0 where
   pub end : StepEnd
   pub ends : (end ≡ Done) ⊎ ((end ≡ Halted) × (node.halted ≡ true))
   pub steps : Steps g db m end event clock (node_of node) (node_of later) out node.store.disk later.store.disk
@@ -45,7 +46,8 @@ pub record IsMade {D V : Type 0} (g : Ghosts D) (standing : Standing) (db : Data
   pub sound : StaysSound g standing m clock later
 
 -- the disk failed in it without a stop, and its files were opened anew
-pub record IsHalted {D V : Type 0} (g : Ghosts D) (standing : Standing) (db : Database) (m : Member) (clock : ℕ) (event : NodeEvent) (node later : Node D V) (out : List Output) : Type 0 where
+pub record IsHalted {D V : Type 0} (g : Ghosts D) (standing : Standing) (db : Database) (m : Member) (clock : ℕ) (event : NodeEvent) (node later : Node D V)
+    (out : List Output) : Type 0 where
   pub failed : D
   pub was : node.halted ≡ false
   pub steps : Steps g db m Halted event clock (node_of node) (node_of later) out node.store.disk failed
@@ -55,7 +57,8 @@ pub record IsHalted {D V : Type 0} (g : Ghosts D) (standing : Standing) (db : Da
   pub sound : StaysSound g standing m clock later
 
 -- the disk stopped in it, and is as it stopped: a server can be opened over what a crash leaves of it
-pub record IsStoppedIn {D V : Type 0} (g : Ghosts D) (standing : Standing) (db : Database) (m : Member) (clock : ℕ) (event : NodeEvent) (node later : Node D V) (out : List Output) : Type 0 where
+pub record IsStoppedIn {D V : Type 0} (g : Ghosts D) (standing : Standing) (db : Database) (m : Member) (clock : ℕ) (event : NodeEvent)
+    (node later : Node D V) (out : List Output) : Type 0 where
   pub was : node.halted ≡ false
   pub steps : Steps g db m Halted event clock (node_of node) (node_of later) out node.store.disk later.store.disk
   pub calls : Calls g node later Halted
@@ -64,19 +67,22 @@ pub record IsStoppedIn {D V : Type 0} (g : Ghosts D) (standing : Standing) (db :
   pub fault : g.faults node.store.disk < g.faults later.store.disk
 
 -- memory ran out in it, and nothing changed
-pub record IsShortIn {D V : Type 0} (g : Ghosts D) (standing : Standing) (db : Database) (m : Member) (clock : ℕ) (event : NodeEvent) (node later : Node D V) (out : List Output) : Type 0 where
+pub record IsShortIn {D V : Type 0} (g : Ghosts D) (standing : Standing) (db : Database) (m : Member) (clock : ℕ) (event : NodeEvent) (node later : Node D V)
+    (out : List Output) : Type 0 where
   pub steps : Steps g db m NoMemory event clock (node_of node) (node_of later) out node.store.disk later.store.disk
   pub sound : StaysSound g standing m clock later
 
 -- A server made a step of the rules at its clock, with these outputs, by how it ended for the cell.
-abbrev pub NodeStepped : {D V : Type 0} → Ghosts D → Standing → Database → Member → (clock : ℕ) → NodeEvent → SiteEnd → (node later : Node D V) → List Output → Type 0
+abbrev pub NodeStepped : {D V : Type 0} → Ghosts D → Standing → Database → Member → (clock : ℕ) → NodeEvent → SiteEnd → (node later : Node D V) → List Output
+    → Type 0
 NodeStepped g standing db m clock event ended.Made node later out = IsMade g standing db m clock event node later out
 NodeStepped g standing db m clock event ended.Halts node later out = IsHalted g standing db m clock event node later out
 NodeStepped g standing db m clock event ended.Stops node later out = IsStoppedIn g standing db m clock event node later out
 NodeStepped g standing db m clock event ended.NoMemory node later out = IsShortIn g standing db m clock event node later out
 
 -- The server at a place made such a step, and is there still, whatever its disk did; nothing else of the cell changed.
-pub record UpStepped {D V : Type 0} (g : Ghosts D) (standing : Standing) (db : Database) (k : ℕ) (event : NodeEvent) (end : SiteEnd) (before after : OpenCell D V) : Type 0 where
+pub record UpStepped {D V : Type 0} (g : Ghosts D) (standing : Standing) (db : Database) (k : ℕ) (event : NodeEvent) (end : SiteEnd)
+    (before after : OpenCell D V) : Type 0 where
   pub clock : ℕ
   pub node : Node D V
   pub there : slice_get before.sites.items k ≡ Some (up_site clock node)
@@ -93,7 +99,8 @@ Becomes g ended.Stops later out server left = ((disk : _) × (server ≡ Down di
 Becomes g _ later out server left = (server ≡ Up later) × (left ≡ out)
 
 -- The server at a place made such a step; nothing else of the cell changed.
-pub record SiteStepped {D V : Type 0} (g : Ghosts D) (standing : Standing) (db : Database) (k : ℕ) (event : NodeEvent) (end : SiteEnd) (before after : OpenCell D V) : Type 0 where
+pub record SiteStepped {D V : Type 0} (g : Ghosts D) (standing : Standing) (db : Database) (k : ℕ) (event : NodeEvent) (end : SiteEnd)
+    (before after : OpenCell D V) : Type 0 where
   pub clock : ℕ
   pub node : Node D V
   pub there : slice_get before.sites.items k ≡ Some (up_site clock node)

@@ -18,7 +18,8 @@ IsAfter g db given None running c = IsModelledBy g db given running c
 IsAfter g db given (Some ending) running c = HoldRun db given false c (helds g running)
 
 -- A line was run with some choices: it ended so, what it told was added to a text, and each fault that it told is one of that disk.
-pub record CellTold {D V : Type 0} (g : Ghosts D) (db : ScriptDatabase) (given : List ℕ) (run : List Choice → Run_or_why) (ended : Option Ending) (before after : OpenCell D V) (text_before text_after : List ℕ) : Type 0 where
+pub record CellTold {D V : Type 0} (g : Ghosts D) (db : ScriptDatabase) (given : List ℕ) (run : List Choice → Run_or_why) (ended : Option Ending)
+    (before after : OpenCell D V) (text_before text_after : List ℕ) : Type 0 where
   pub choices : List Choice
   pub ran : Cell_run
   pub is : run choices ≡ Ok ran
@@ -32,7 +33,8 @@ abbrev pub IsRefused : Why → (List Choice → Run_or_why) → Type 0
 IsRefused why run = (choices : List Choice) → run choices ≡ Err why
 
 -- Memory ran out in a line that was run with some choices, perhaps before all was told: the disks hold what it left.
-pub record IsShortAfter {D V : Type 0} (g : Ghosts D) (db : Database) (given : List ℕ) (run : List Choice → Run_or_why) (before after : OpenCell D V) : Type 0 where
+pub record IsShortAfter {D V : Type 0} (g : Ghosts D) (db : Database) (given : List ℕ) (run : List Choice → Run_or_why)
+    (before after : OpenCell D V) : Type 0 where
   pub choices : List Choice
   pub ran : Cell_run
   pub is : run choices ≡ Ok ran

@@ -30,14 +30,21 @@ impl<D: SteadyDisk + StopDisk, V: DraftWords> OpenCell<D, V> {
     pub fn deliver(&mut self, number: u64, text: &mut String) -> Result<(), LineFault>
         requires { (bound : ℕ) × IsSound D.Disk V.standing bound self.old }
         ensures told { result ≡ Ok tt → (given : List ℕ) (c : Cell) → IsModelledBy D.Disk V.standing.database given self.old c →
-            CellTold D.Disk (script_database V.standing.database V.words) given (λ choices. run_in (script_database V.standing.database V.words) c choices (line.Deliver number)) None self.old self.new (string_bytes text.old) (string_bytes text.new) }
-        ensures limit { (which : AWhich) → result ≡ Err (LineFault.Limit which) → (given : List ℕ) (c : Cell) → IsModelledBy D.Disk V.standing.database given self.old c →
-            CellTold D.Disk (script_database V.standing.database V.words) given (λ choices. run_in (script_database V.standing.database V.words) c choices (line.Deliver number)) (Some (ending.Limit which)) self.old self.new (string_bytes text.old) (string_bytes text.new) }
+            CellTold D.Disk (script_database V.standing.database V.words) given
+            (λ choices. run_in (script_database V.standing.database V.words) c choices (line.Deliver number))
+            None self.old self.new (string_bytes text.old) (string_bytes text.new) }
+        ensures limit { (which : AWhich) → result ≡ Err (LineFault.Limit which) →
+            (given : List ℕ) (c : Cell) → IsModelledBy D.Disk V.standing.database given self.old c →
+            CellTold D.Disk (script_database V.standing.database V.words) given
+            (λ choices. run_in (script_database V.standing.database V.words) c choices (line.Deliver number))
+            (Some (ending.Limit which)) self.old self.new (string_bytes text.old) (string_bytes text.new) }
         ensures refused { (why : AWhy) → result ≡ Err (LineFault.Refused why) → (self.new ≡ self.old)
-            × ((given : List ℕ) (c : Cell) → IsModelledBy D.Disk V.standing.database given self.old c → IsRefused why (λ choices. run_in (script_database V.standing.database V.words) c choices (line.Deliver number))) }
+            × ((given : List ℕ) (c : Cell) → IsModelledBy D.Disk V.standing.database given self.old c → IsRefused why
+            (λ choices. run_in (script_database V.standing.database V.words) c choices (line.Deliver number))) }
         ensures quiet { (why : AWhy) → result ≡ Err (LineFault.Refused why) → string_bytes text.new ≡ string_bytes text.old }
         ensures short { result ≡ Err LineFault.NoMemory → (given : List ℕ) (c : Cell) → IsModelledBy D.Disk V.standing.database given self.old c →
-            IsShort D.Disk V.standing.database given (λ choices. run_in (script_database V.standing.database V.words) c choices (line.Deliver number)) c self.old self.new }
+            IsShort D.Disk V.standing.database given
+            (λ choices. run_in (script_database V.standing.database V.words) c choices (line.Deliver number)) c self.old self.new }
         ensures sound { result ≡ Ok tt → (bound : ℕ) → IsSound D.Disk V.standing bound self.old → IsSound D.Disk V.standing bound self.new }
         ensures never_falls { AreRises 0 [] (helds D.Disk self.old) (helds D.Disk self.new) }
         ensures same { length self.new.sites.items ≡ length self.old.sites.items }
@@ -51,12 +58,18 @@ impl<D: SteadyDisk + StopDisk, V: DraftWords> OpenCell<D, V> {
     pub fn deliver_all(&mut self, text: &mut String) -> Result<(), LineFault>
         requires { (bound : ℕ) × IsSound D.Disk V.standing bound self.old }
         ensures told { result ≡ Ok tt → (given : List ℕ) (c : Cell) → IsModelledBy D.Disk V.standing.database given self.old c →
-            CellTold D.Disk (script_database V.standing.database V.words) given (λ choices. run_in (script_database V.standing.database V.words) c choices line.DeliverAll) None self.old self.new (string_bytes text.old) (string_bytes text.new) }
-        ensures limit { (which : AWhich) → result ≡ Err (LineFault.Limit which) → (given : List ℕ) (c : Cell) → IsModelledBy D.Disk V.standing.database given self.old c →
-            CellTold D.Disk (script_database V.standing.database V.words) given (λ choices. run_in (script_database V.standing.database V.words) c choices line.DeliverAll) (Some (ending.Limit which)) self.old self.new (string_bytes text.old) (string_bytes text.new) }
+            CellTold D.Disk (script_database V.standing.database V.words) given
+            (λ choices. run_in (script_database V.standing.database V.words) c choices line.DeliverAll)
+            None self.old self.new (string_bytes text.old) (string_bytes text.new) }
+        ensures limit { (which : AWhich) → result ≡ Err (LineFault.Limit which) →
+            (given : List ℕ) (c : Cell) → IsModelledBy D.Disk V.standing.database given self.old c →
+            CellTold D.Disk (script_database V.standing.database V.words) given
+            (λ choices. run_in (script_database V.standing.database V.words) c choices line.DeliverAll)
+            (Some (ending.Limit which)) self.old self.new (string_bytes text.old) (string_bytes text.new) }
         ensures refused { (why : AWhy) → result ≢ Err (LineFault.Refused why) }
         ensures short { result ≡ Err LineFault.NoMemory → (given : List ℕ) (c : Cell) → IsModelledBy D.Disk V.standing.database given self.old c →
-            IsShort D.Disk V.standing.database given (λ choices. run_in (script_database V.standing.database V.words) c choices line.DeliverAll) c self.old self.new }
+            IsShort D.Disk V.standing.database given
+            (λ choices. run_in (script_database V.standing.database V.words) c choices line.DeliverAll) c self.old self.new }
         ensures sound { result ≡ Ok tt → (bound : ℕ) → IsSound D.Disk V.standing bound self.old → IsSound D.Disk V.standing bound self.new }
         ensures never_falls { AreRises 0 [] (helds D.Disk self.old) (helds D.Disk self.new) }
         ensures same { length self.new.sites.items ≡ length self.old.sites.items }
@@ -76,17 +89,24 @@ impl<D: SteadyDisk + StopDisk, V: DraftWords> OpenCell<D, V> {
         requires some { 0 < number }
         requires sent { number ≤ length self.old.packets.sent }
         ensures told { result ≡ Ok tt → (given : List ℕ) (c : Cell) → IsModelledBy D.Disk V.standing.database given self.old c →
-            CellTold D.Disk (script_database V.standing.database V.words) given (λ choices. Ok (delivered (script_database V.standing.database V.words) c (first_choice choices) number)) None self.old self.new (string_bytes text.old) (string_bytes text.new) }
-        ensures limit { (which : AWhich) → result ≡ Err (LineFault.Limit which) → (given : List ℕ) (c : Cell) → IsModelledBy D.Disk V.standing.database given self.old c →
-            CellTold D.Disk (script_database V.standing.database V.words) given (λ choices. Ok (delivered (script_database V.standing.database V.words) c (first_choice choices) number)) (Some (ending.Limit which)) self.old self.new (string_bytes text.old) (string_bytes text.new) }
+            CellTold D.Disk (script_database V.standing.database V.words) given
+            (λ choices. Ok (delivered (script_database V.standing.database V.words) c (first_choice choices) number))
+            None self.old self.new (string_bytes text.old) (string_bytes text.new) }
+        ensures limit { (which : AWhich) → result ≡ Err (LineFault.Limit which) →
+            (given : List ℕ) (c : Cell) → IsModelledBy D.Disk V.standing.database given self.old c →
+            CellTold D.Disk (script_database V.standing.database V.words) given
+            (λ choices. Ok (delivered (script_database V.standing.database V.words) c (first_choice choices) number))
+            (Some (ending.Limit which)) self.old self.new (string_bytes text.old) (string_bytes text.new) }
         ensures refused { (why : AWhy) → result ≢ Err (LineFault.Refused why) }
         ensures short { result ≡ Err LineFault.NoMemory → (given : List ℕ) (c : Cell) → IsModelledBy D.Disk V.standing.database given self.old c →
-            IsShort D.Disk V.standing.database given (λ choices. Ok (delivered (script_database V.standing.database V.words) c (first_choice choices) number)) c self.old self.new }
+            IsShort D.Disk V.standing.database given
+            (λ choices. Ok (delivered (script_database V.standing.database V.words) c (first_choice choices) number)) c self.old self.new }
         ensures sound { result ≡ Ok tt → (bound : ℕ) → IsSound D.Disk V.standing bound self.old → IsSound D.Disk V.standing bound self.new }
         ensures never_falls { AreRises 0 [] (helds D.Disk self.old) (helds D.Disk self.new) }
         ensures same { length self.new.sites.items ≡ length self.old.sites.items }
         // A packet of votes leaves what the disks hold.
-        ensures keeps { (given : List ℕ) (c : Cell) → HoldRun V.standing.database given false c (helds D.Disk self.old) → HoldRun V.standing.database given false c (helds D.Disk self.new) }
+        ensures keeps { (given : List ℕ) (c : Cell) → HoldRun V.standing.database given false c (helds D.Disk self.old) →
+            HoldRun V.standing.database given false c (helds D.Disk self.new) }
     {
         self.packets.hand_over(number);
         let packet = copy_of_votes(self.packets.packet(number));

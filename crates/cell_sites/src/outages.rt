@@ -74,13 +74,17 @@ impl<D: SteadyDisk + StopDisk, V: DraftWords> OpenCell<D, V> {
     pub fn restart(&mut self, server: u64, text: &mut String) -> Result<(), LineFault>
         requires { (bound : ℕ) × IsSound D.Disk V.standing bound self.old }
         ensures told { result ≡ Ok tt → (given : List ℕ) (c : Cell) → IsModelledBy D.Disk V.standing.database given self.old c →
-            CellTold D.Disk (script_database V.standing.database V.words) given (λ choices. run_in (script_database V.standing.database V.words) c choices (line.Restart server)) None self.old self.new (string_bytes text.old) (string_bytes text.new) }
+            CellTold D.Disk (script_database V.standing.database V.words) given
+            (λ choices. run_in (script_database V.standing.database V.words) c choices (line.Restart server))
+            None self.old self.new (string_bytes text.old) (string_bytes text.new) }
         ensures limit { (which : AWhich) → result ≢ Err (LineFault.Limit which) }
         ensures refused { (why : AWhy) → result ≡ Err (LineFault.Refused why) → (self.new ≡ self.old)
-            × ((given : List ℕ) (c : Cell) → IsModelledBy D.Disk V.standing.database given self.old c → IsRefused why (λ choices. run_in (script_database V.standing.database V.words) c choices (line.Restart server))) }
+            × ((given : List ℕ) (c : Cell) → IsModelledBy D.Disk V.standing.database given self.old c → IsRefused why
+            (λ choices. run_in (script_database V.standing.database V.words) c choices (line.Restart server))) }
         ensures quiet { (why : AWhy) → result ≡ Err (LineFault.Refused why) → string_bytes text.new ≡ string_bytes text.old }
         ensures short { result ≡ Err LineFault.NoMemory → (given : List ℕ) (c : Cell) → IsModelledBy D.Disk V.standing.database given self.old c →
-            IsShort D.Disk V.standing.database given (λ choices. run_in (script_database V.standing.database V.words) c choices (line.Restart server)) c self.old self.new }
+            IsShort D.Disk V.standing.database given
+            (λ choices. run_in (script_database V.standing.database V.words) c choices (line.Restart server)) c self.old self.new }
         ensures sound { result ≡ Ok tt → (bound : ℕ) → IsSound D.Disk V.standing bound self.old → IsSound D.Disk V.standing bound self.new }
         ensures never_falls { AreRises 0 [] (helds D.Disk self.old) (helds D.Disk self.new) }
         ensures same { length self.new.sites.items ≡ length self.old.sites.items }
@@ -93,7 +97,8 @@ impl<D: SteadyDisk + StopDisk, V: DraftWords> OpenCell<D, V> {
     fn reopen(&mut self, k: usize, text: &mut String) -> Result<(), NoMemory>
         requires sound { (bound : ℕ) × IsSound D.Disk V.standing bound self.old }
         requires down { IsDownAt self.old k }
-        ensures { SiteReopened D.Disk V.standing (script_database V.standing.database V.words) k result self.old self.new (string_bytes text.old) (string_bytes text.new) }
+        ensures { SiteReopened D.Disk V.standing (script_database V.standing.database V.words) k result self.old self.new
+            (string_bytes text.old) (string_bytes text.new) }
     {
         let Site { clock, server } = self.sites.remove(k);
         let (server, end) = open_server(self.alloc, &self.hosts, k, server.close(), clock);

@@ -1,5 +1,6 @@
 //! The packets that the servers of a cell send one another.
-ghost use Rattle.std.specs.Prelude.{◌≡◌, ◌<◌, ◌≤◌, ◌+◌, ◌-◌, ◌++◌, ◌∷◌, [], true, false, length, set, slice_get, slice_index_or, OnOk, OnErr, Some, None, IfOk, map, ℕ, Bool, List};
+ghost use Rattle.std.specs.Prelude.{◌≡◌, ◌<◌, ◌≤◌, ◌+◌, ◌-◌, ◌++◌, ◌∷◌, [], true, false, length};
+ghost use Rattle.std.specs.Prelude.{set, slice_get, slice_index_or, OnOk, OnErr, Some, None, IfOk, map, ℕ, Bool, List};
 ghost use Rattle.std.specs.Option.{option_map};
 ghost use Rattle.cell_sites.specs.Swept.{HasSwept};
 ghost use Rattle.cell_sites.specs.SweptTo.{swept_to, AreSwept, AreWithin};

@@ -1,7 +1,7 @@
 //! Steps of one server: its turns, and the calls that it is asked.
 ghost use Rattle.std.specs.Prelude.{◌≡◌, ◌≢◌, ◌<◌, ◌≤◌, ◌+◌, ◌-◌, ◌++◌, ℕ, List, Some, None, All, OnOk, IfOk, Ok, Err, false, length, filter_map, []};
 ghost use Rattle.std.specs.String.{string_bytes};
-ghost use Rattle.cell_model.specs.Step.{Shown, outputs_of};
+ghost use Rattle.cell_model.specs.Step.{Shown, cell_size, outputs_of};
 ghost use Rattle.cell_model.specs.World.{Trigger, occasion, packet_in};
 ghost use Rattle.ubik_calls.specs.declared.packets.Packet.{Packet as APacket};
 ghost use Rattle.cell_sites.specs.Telling.{IsNotShort, MayBeTold, WholeTold, told_of};
@@ -39,14 +39,21 @@ impl<D: SteadyDisk + StopDisk, V: DraftWords> OpenCell<D, V> {
     pub fn beacon(&mut self, server: u64, text: &mut String) -> Result<(), LineFault>
         requires { (bound : ℕ) × IsSound D.Disk V.standing bound self.old }
         ensures told { result ≡ Ok tt → (given : List ℕ) (c : Cell) → IsModelledBy D.Disk V.standing.database given self.old c →
-            CellTold D.Disk (script_database V.standing.database V.words) given (λ choices. run_in (script_database V.standing.database V.words) c choices (line.Beacon server)) None self.old self.new (string_bytes text.old) (string_bytes text.new) }
-        ensures limit { (which : AWhich) → result ≡ Err (LineFault.Limit which) → (given : List ℕ) (c : Cell) → IsModelledBy D.Disk V.standing.database given self.old c →
-            CellTold D.Disk (script_database V.standing.database V.words) given (λ choices. run_in (script_database V.standing.database V.words) c choices (line.Beacon server)) (Some (ending.Limit which)) self.old self.new (string_bytes text.old) (string_bytes text.new) }
+            CellTold D.Disk (script_database V.standing.database V.words) given
+            (λ choices. run_in (script_database V.standing.database V.words) c choices (line.Beacon server))
+            None self.old self.new (string_bytes text.old) (string_bytes text.new) }
+        ensures limit { (which : AWhich) → result ≡ Err (LineFault.Limit which) →
+            (given : List ℕ) (c : Cell) → IsModelledBy D.Disk V.standing.database given self.old c →
+            CellTold D.Disk (script_database V.standing.database V.words) given
+            (λ choices. run_in (script_database V.standing.database V.words) c choices (line.Beacon server))
+            (Some (ending.Limit which)) self.old self.new (string_bytes text.old) (string_bytes text.new) }
         ensures refused { (why : AWhy) → result ≡ Err (LineFault.Refused why) → (self.new ≡ self.old)
-            × ((given : List ℕ) (c : Cell) → IsModelledBy D.Disk V.standing.database given self.old c → IsRefused why (λ choices. run_in (script_database V.standing.database V.words) c choices (line.Beacon server))) }
+            × ((given : List ℕ) (c : Cell) → IsModelledBy D.Disk V.standing.database given self.old c → IsRefused why
+            (λ choices. run_in (script_database V.standing.database V.words) c choices (line.Beacon server))) }
         ensures quiet { (why : AWhy) → result ≡ Err (LineFault.Refused why) → string_bytes text.new ≡ string_bytes text.old }
         ensures short { result ≡ Err LineFault.NoMemory → (given : List ℕ) (c : Cell) → IsModelledBy D.Disk V.standing.database given self.old c →
-            IsShort D.Disk V.standing.database given (λ choices. run_in (script_database V.standing.database V.words) c choices (line.Beacon server)) c self.old self.new }
+            IsShort D.Disk V.standing.database given
+            (λ choices. run_in (script_database V.standing.database V.words) c choices (line.Beacon server)) c self.old self.new }
         ensures sound { result ≡ Ok tt → (bound : ℕ) → IsSound D.Disk V.standing bound self.old → IsSound D.Disk V.standing bound self.new }
         ensures never_falls { AreRises 0 [] (helds D.Disk self.old) (helds D.Disk self.new) }
         ensures same { length self.new.sites.items ≡ length self.old.sites.items }
@@ -60,14 +67,21 @@ impl<D: SteadyDisk + StopDisk, V: DraftWords> OpenCell<D, V> {
         requires sound { (bound : ℕ) × IsSound D.Disk V.standing bound self.old }
         requires alone { length self.old.sites.items ≡ 1 }
         ensures told { result ≡ Ok tt → (given : List ℕ) (c : Cell) → IsModelledBy D.Disk V.standing.database given self.old c →
-            CellTold D.Disk (script_database V.standing.database V.words) given (λ choices. run_in (script_database V.standing.database V.words) c choices (line.Recover server)) None self.old self.new (string_bytes text.old) (string_bytes text.new) }
-        ensures limit { (which : AWhich) → result ≡ Err (LineFault.Limit which) → (given : List ℕ) (c : Cell) → IsModelledBy D.Disk V.standing.database given self.old c →
-            CellTold D.Disk (script_database V.standing.database V.words) given (λ choices. run_in (script_database V.standing.database V.words) c choices (line.Recover server)) (Some (ending.Limit which)) self.old self.new (string_bytes text.old) (string_bytes text.new) }
+            CellTold D.Disk (script_database V.standing.database V.words) given
+            (λ choices. run_in (script_database V.standing.database V.words) c choices (line.Recover server))
+            None self.old self.new (string_bytes text.old) (string_bytes text.new) }
+        ensures limit { (which : AWhich) → result ≡ Err (LineFault.Limit which) →
+            (given : List ℕ) (c : Cell) → IsModelledBy D.Disk V.standing.database given self.old c →
+            CellTold D.Disk (script_database V.standing.database V.words) given
+            (λ choices. run_in (script_database V.standing.database V.words) c choices (line.Recover server))
+            (Some (ending.Limit which)) self.old self.new (string_bytes text.old) (string_bytes text.new) }
         ensures refused { (why : AWhy) → result ≡ Err (LineFault.Refused why) → (self.new ≡ self.old)
-            × ((given : List ℕ) (c : Cell) → IsModelledBy D.Disk V.standing.database given self.old c → IsRefused why (λ choices. run_in (script_database V.standing.database V.words) c choices (line.Recover server))) }
+            × ((given : List ℕ) (c : Cell) → IsModelledBy D.Disk V.standing.database given self.old c → IsRefused why
+            (λ choices. run_in (script_database V.standing.database V.words) c choices (line.Recover server))) }
         ensures quiet { (why : AWhy) → result ≡ Err (LineFault.Refused why) → string_bytes text.new ≡ string_bytes text.old }
         ensures short { result ≡ Err LineFault.NoMemory → (given : List ℕ) (c : Cell) → IsModelledBy D.Disk V.standing.database given self.old c →
-            IsShort D.Disk V.standing.database given (λ choices. run_in (script_database V.standing.database V.words) c choices (line.Recover server)) c self.old self.new }
+            IsShort D.Disk V.standing.database given
+            (λ choices. run_in (script_database V.standing.database V.words) c choices (line.Recover server)) c self.old self.new }
         ensures sound { result ≡ Ok tt → (bound : ℕ) → IsSound D.Disk V.standing bound self.old → IsSound D.Disk V.standing bound self.new }
         ensures never_falls { AreRises 0 [] (helds D.Disk self.old) (helds D.Disk self.new) }
         ensures same { length self.new.sites.items ≡ length self.old.sites.items }
@@ -86,14 +100,21 @@ impl<D: SteadyDisk + StopDisk, V: DraftWords> OpenCell<D, V> {
     ) -> Result<(), LineFault>
         requires { (bound : ℕ) × IsSound D.Disk V.standing bound self.old }
         ensures told { result ≡ Ok tt → (given : List ℕ) (c : Cell) → IsModelledBy D.Disk V.standing.database given self.old c →
-            CellTold D.Disk (script_database V.standing.database V.words) given (λ choices. asked_at (script_database V.standing.database V.words) c (first_choice choices) id call (Some server)) None self.old self.new (string_bytes text.old) (string_bytes text.new) }
-        ensures limit { (which : AWhich) → result ≡ Err (LineFault.Limit which) → (given : List ℕ) (c : Cell) → IsModelledBy D.Disk V.standing.database given self.old c →
-            CellTold D.Disk (script_database V.standing.database V.words) given (λ choices. asked_at (script_database V.standing.database V.words) c (first_choice choices) id call (Some server)) (Some (ending.Limit which)) self.old self.new (string_bytes text.old) (string_bytes text.new) }
+            CellTold D.Disk (script_database V.standing.database V.words) given
+            (λ choices. asked_at (script_database V.standing.database V.words) c (first_choice choices) id call (Some server))
+            None self.old self.new (string_bytes text.old) (string_bytes text.new) }
+        ensures limit { (which : AWhich) → result ≡ Err (LineFault.Limit which) →
+            (given : List ℕ) (c : Cell) → IsModelledBy D.Disk V.standing.database given self.old c →
+            CellTold D.Disk (script_database V.standing.database V.words) given
+            (λ choices. asked_at (script_database V.standing.database V.words) c (first_choice choices) id call (Some server))
+            (Some (ending.Limit which)) self.old self.new (string_bytes text.old) (string_bytes text.new) }
         ensures refused { (why : AWhy) → result ≡ Err (LineFault.Refused why) → (self.new ≡ self.old)
-            × ((given : List ℕ) (c : Cell) → IsModelledBy D.Disk V.standing.database given self.old c → IsRefused why (λ choices. asked_at (script_database V.standing.database V.words) c (first_choice choices) id call (Some server))) }
+            × ((given : List ℕ) (c : Cell) → IsModelledBy D.Disk V.standing.database given self.old c → IsRefused why
+            (λ choices. asked_at (script_database V.standing.database V.words) c (first_choice choices) id call (Some server))) }
         ensures quiet { (why : AWhy) → result ≡ Err (LineFault.Refused why) → string_bytes text.new ≡ string_bytes text.old }
         ensures short { result ≡ Err LineFault.NoMemory → (given : List ℕ) (c : Cell) → IsModelledBy D.Disk V.standing.database given self.old c →
-            IsShort D.Disk V.standing.database given (λ choices. asked_at (script_database V.standing.database V.words) c (first_choice choices) id call (Some server)) c self.old self.new }
+            IsShort D.Disk V.standing.database given
+            (λ choices. asked_at (script_database V.standing.database V.words) c (first_choice choices) id call (Some server)) c self.old self.new }
         ensures sound { result ≡ Ok tt → (bound : ℕ) → IsSound D.Disk V.standing bound self.old → IsSound D.Disk V.standing bound self.new }
         ensures never_falls { AreRises 0 [] (helds D.Disk self.old) (helds D.Disk self.new) }
         ensures same { length self.new.sites.items ≡ length self.old.sites.items }
@@ -115,17 +136,30 @@ impl<D: SteadyDisk + StopDisk, V: DraftWords> OpenCell<D, V> {
         requires up { IsUpAt self.old k }
         requires taken { IsTaken (member_at self.old k) event }
         requires asks { AsksNoOther event call.now }
-        ensures told { result ≡ Ok tt → (given : List ℕ) (c : Cell) (trigger : Trigger) → IsModelledBy D.Disk V.standing.database given self.old c → occasion c.run.world trigger ≡ Some (k, event) →
-            CellTold D.Disk (script_database V.standing.database V.words) given (λ choices. Ok (stepped (script_database V.standing.database V.words) c (first_choice choices) trigger)) None self.old self.new (string_bytes text.old) (string_bytes text.new) }
-        ensures limit { (which : AWhich) → result ≡ Err (LineFault.Limit which) → (given : List ℕ) (c : Cell) (trigger : Trigger) → IsModelledBy D.Disk V.standing.database given self.old c → occasion c.run.world trigger ≡ Some (k, event) →
-            CellTold D.Disk (script_database V.standing.database V.words) given (λ choices. Ok (stepped (script_database V.standing.database V.words) c (first_choice choices) trigger)) (Some (ending.Limit which)) self.old self.new (string_bytes text.old) (string_bytes text.new) }
+        ensures told { result ≡ Ok tt →
+            (given : List ℕ) (c : Cell) (trigger : Trigger) → IsModelledBy D.Disk V.standing.database given self.old c →
+            occasion c.run.world trigger ≡ Some (k, event) →
+            CellTold D.Disk (script_database V.standing.database V.words) given
+            (λ choices. Ok (stepped (script_database V.standing.database V.words) c (first_choice choices) trigger))
+            None self.old self.new (string_bytes text.old) (string_bytes text.new) }
+        ensures limit { (which : AWhich) → result ≡ Err (LineFault.Limit which) →
+            (given : List ℕ) (c : Cell) (trigger : Trigger) → IsModelledBy D.Disk V.standing.database given self.old c →
+            occasion c.run.world trigger ≡ Some (k, event) →
+            CellTold D.Disk (script_database V.standing.database V.words) given
+            (λ choices. Ok (stepped (script_database V.standing.database V.words) c (first_choice choices) trigger))
+            (Some (ending.Limit which)) self.old self.new (string_bytes text.old) (string_bytes text.new) }
         ensures refused { (why : AWhy) → result ≢ Err (LineFault.Refused why) }
-        ensures short { result ≡ Err LineFault.NoMemory → (given : List ℕ) (c : Cell) (trigger : Trigger) → IsModelledBy D.Disk V.standing.database given self.old c → occasion c.run.world trigger ≡ Some (k, event) →
-            IsShort D.Disk V.standing.database given (λ choices. Ok (stepped (script_database V.standing.database V.words) c (first_choice choices) trigger)) c self.old self.new }
+        ensures short { result ≡ Err LineFault.NoMemory →
+            (given : List ℕ) (c : Cell) (trigger : Trigger) → IsModelledBy D.Disk V.standing.database given self.old c →
+            occasion c.run.world trigger ≡ Some (k, event) →
+            IsShort D.Disk V.standing.database given
+            (λ choices. Ok (stepped (script_database V.standing.database V.words) c (first_choice choices) trigger)) c self.old self.new }
         ensures sound { result ≡ Ok tt → (bound : ℕ) → IsSound D.Disk V.standing bound self.old → IsSound D.Disk V.standing bound self.new }
         ensures never_falls { AreRises 0 [] (helds D.Disk self.old) (helds D.Disk self.new) }
         // A packet of votes leaves what the disks hold.
-        ensures keeps { (packet : APacket) → event ≡ NodeEvent.Packet packet → (given : List ℕ) (c : Cell) → HoldRun V.standing.database given false c (helds D.Disk self.old) → HoldRun V.standing.database given false c (helds D.Disk self.new) }
+        ensures keeps { (packet : APacket) → event ≡ NodeEvent.Packet packet →
+            (given : List ℕ) (c : Cell) → HoldRun V.standing.database given false c (helds D.Disk self.old) →
+            HoldRun V.standing.database given false c (helds D.Disk self.new) }
         ensures same { length self.new.sites.items ≡ length self.old.sites.items }
     {
         law_voters_vote();
@@ -151,9 +185,12 @@ impl<D: SteadyDisk + StopDisk, V: DraftWords> OpenCell<D, V> {
         requires place { k < 20 }
         requires votes { All MayBeTold self.old.outputs }
         ensures told { result ≡ Ok tt → (shown : List Shown) → outputs_of shown ≡ self.old.outputs → All (λ one. AnswersCall call.now one) shown →
-            WholeTold (script_database V.standing.database V.words) self.old.hosts.items k halts (record { text = string_bytes text.old; sent = self.old.packets.sent }) shown (string_bytes text.new) self.new.packets.sent }
-        ensures limit { (which : AWhich) → result ≡ Err (LineFault.Limit which) → (shown : List Shown) → outputs_of shown ≡ self.old.outputs → All (λ one. AnswersCall call.now one) shown →
-            told_of (script_database V.standing.database V.words) self.old.hosts.items k (record { text = string_bytes text.old; sent = self.old.packets.sent }) shown
+            WholeTold (script_database V.standing.database V.words) self.old.hosts.items k halts
+            (record { text = string_bytes text.old; sent = self.old.packets.sent }) shown (string_bytes text.new) self.new.packets.sent }
+        ensures limit { (which : AWhich) → result ≡ Err (LineFault.Limit which) →
+            (shown : List Shown) → outputs_of shown ≡ self.old.outputs → All (λ one. AnswersCall call.now one) shown →
+            told_of (script_database V.standing.database V.words) self.old.hosts.items k
+            (record { text = string_bytes text.old; sent = self.old.packets.sent }) shown
             ≡ record { after = record { text = string_bytes text.new; sent = self.new.packets.sent }; ending = Some (ending.Limit which) } }
         ensures refused { (why : AWhy) → result ≢ Err (LineFault.Refused why) }
         ensures found { result ≡ Ok tt → All IsNotShort self.old.outputs }
@@ -237,12 +274,14 @@ fn step_node<D: SteadyDisk + StopDisk, V: DraftWords>(
     out: &mut Outputs,
 ) -> SiteEnd
     requires moment { IsMoment clock }
+    requires place { (own_member node.old).me < cell_size (own_member node.old) }
     requires sound { IsSoundNode D.Disk (own_member node.old) clock node.old }
     requires taken { IsTaken (own_member node.old) event }
     requires disk { IsSoundDisk D.Disk V.standing node.old.store.disk }
     requires empty { out.old ≡ [] }
     ensures { NodeStepped D.Disk V.standing V.standing.database (own_member node.old) clock event result node.old node.new out.new }
 {
+    law_voters_vote();
     let was_halted = node.halted();
     match node.step(clock, event, out) {
         StepEnd::Done => SiteEnd::Made,

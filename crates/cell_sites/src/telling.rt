@@ -35,7 +35,8 @@ pub fn tell_outputs<V: DraftWords>(
     ensures told { OnOk result ((shown : List Shown) → outputs_of shown ≡ out.old → All (λ one. AnswersCall call.now one) shown →
         told_of (script_database V.standing.database V.words) hosts.now server (record { text = string_bytes text.old; sent = packets.old.sent }) shown
         ≡ record { after = record { text = string_bytes text.new; sent = packets.new.sent }; ending = None }) }
-    ensures limit { (which : Which) → result ≡ Err (LineFault.Limit which) → (shown : List Shown) → outputs_of shown ≡ out.old → All (λ one. AnswersCall call.now one) shown →
+    ensures limit { (which : Which) → result ≡ Err (LineFault.Limit which) →
+        (shown : List Shown) → outputs_of shown ≡ out.old → All (λ one. AnswersCall call.now one) shown →
         told_of (script_database V.standing.database V.words) hosts.now server (record { text = string_bytes text.old; sent = packets.old.sent }) shown
         ≡ record { after = record { text = string_bytes text.new; sent = packets.new.sent }; ending = Some (ending.Limit which) } }
     ensures refused { (why : Why) → result ≢ Err (LineFault.Refused why) }

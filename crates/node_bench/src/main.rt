@@ -7,12 +7,12 @@ ghost use Rattle.std.specs.Prelude.{◌≡◌, ◌≤◌, IfOk, IfSome, IsTrue, 
 ghost use Rattle.disk_base.specs.Crash.{IsSettled};
 ghost use Rattle.disk_base.specs.Files.{no_files};
 ghost use Rattle.cell_model.specs.Step.{cell_size};
+ghost use Rattle.ubik_node.specs.Built.{IsBuilt};
 ghost use Rattle.ubik_node.specs.Node.{IsStored, own_member};
 ghost use Rattle.page_file.specs.declared.label.TheConstants.{MAX_DATABASE_LEN};
 ghost use Rattle.node_bench.specs.Answers.{is_answer, answers};
-ghost use Rattle.node_bench.specs.Events.{IsOwn};
 
-use bench_calls::{Asked, call_of};
+use bench_calls::{Asked, Idle, Task, call_of, task_of};
 use disk_base::{DiskEnd, FileNo, MemDisk, RoomEnd, StopDisk};
 use page_file::MAX_DATABASE_LEN;
 use pt_calls::PtService;
@@ -63,14 +63,13 @@ fn filled<D: StopDisk + Drop>(disk: D, file: &[u8]) -> Option<D>
     Some(disk)
 }
 
-/// One step of a server that is alone at the moment of all steps, and what it put out; none where it was not made.
+/// One step at the moment of all steps, and what it put out; none where it was not made.
 fn step<D: SteadyDisk>(
     alloc: Global,
     node: &mut Server<D>,
     event: NodeEvent,
 ) -> Result<Option<Outputs>, NoMemory>
-    requires own { IsOwn event }
-    requires alone { cell_size (own_member node.old) ≡ 1 }
+    requires built { IsBuilt (own_member node.old) event }
     requires stored { IsStored D.Disk node.old }
     ensures member { own_member node.new ≡ own_member node.old }
     ensures stored { IsStored D.Disk node.new }
@@ -86,8 +85,7 @@ fn step<D: SteadyDisk>(
 /// A server alone in its cell over a disk, after a beacon turn and a recovery turn; none where one of them was not made.
 fn started<D: SteadyDisk + Drop>(alloc: Global, disk: D) -> Result<Option<Server<D>>, NoMemory>
     requires settled { IsSettled (D.files disk) (D.may_leave disk) }
-    ensures stored { IfOk result (λ started. IfSome started (IsStored D.Disk)) }
-    ensures alone { IfOk result (λ started. IfSome started (λ node. cell_size (own_member node) ≡ 1)) }
+    ensures { IfOk result (λ started. IfSome started (IsStored D.Disk)) }
 {
     let Ok(cell) = Cell::new(alloc, &[Host(1)]) else {
         return Ok(None);
@@ -139,8 +137,7 @@ fn asked_often<D: SteadyDisk>(
     asked: Asked,
     times: u32,
 ) -> Result<u32, NoMemory>
-    requires stored { IsStored D.Disk node.old }
-    requires alone { cell_size (own_member node.old) ≡ 1 }
+    requires { IsStored D.Disk node.old }
     ensures few { IfOk result (λ done. done ≤ times) }
 {
     let mut done = 0;
@@ -157,7 +154,7 @@ fn asked_often<D: SteadyDisk>(
 }
 
 /// Asks so many calls of a server over this database file; whether each of them was answered.
-fn is_done(alloc: Global, file: &[u8], asked: Asked, times: u32) -> Result<bool, NoMemory>
+fn is_done(alloc: Global, file: &[u8], task: Task) -> Result<bool, NoMemory>
     requires { length file.now ≤ MAX_DATABASE_LEN }
 {
     let Some(disk) = filled(MemDisk::new(alloc, &[])?, file) else {
@@ -166,26 +163,17 @@ fn is_done(alloc: Global, file: &[u8], asked: Asked, times: u32) -> Result<bool,
     let Some(mut node) = started(alloc, disk)? else {
         return Ok(false);
     };
-    Ok(asked_often(alloc, &mut node, asked, times)? == times)
+    Ok(asked_often(alloc, &mut node, task.asked, task.times)? == task.times)
 }
 
 fn main(rt: HostRuntime) -> ExitCode {
-    let Ok(mut words) = env::args(&rt) else {
+    let Ok(words) = env::args(&rt) else {
         return ExitCode::from(WORDS);
     };
-    let Some(kind) = words.nth(1) else {
-        return ExitCode::SUCCESS;
-    };
-    let Some(times) = words.next() else {
-        return ExitCode::from(WORDS);
-    };
-    let Ok(times) = times.parse() else {
-        return ExitCode::from(WORDS);
-    };
-    let asked = match kind.as_str() {
-        "newentry" => Asked::NewEntry,
-        "nametoid" => Asked::NameToId,
-        _ => return ExitCode::from(WORDS),
+    let task = match task_of(words) {
+        Ok(task) => task,
+        Err(Idle::NoWords) => return ExitCode::SUCCESS,
+        Err(Idle::FaultyWords) => return ExitCode::from(WORDS),
     };
     // Memory for it at once: what a growing list gave back would hide a copy from whoever measures.
     let Ok(mut file) = Vec::with_capacity(rt.alloc(), MAX_DATABASE_LEN as usize) else {
@@ -194,7 +182,7 @@ fn main(rt: HostRuntime) -> ExitCode {
     if rt.reader().read_to_end(&mut file).is_err() || file.len() as u64 > MAX_DATABASE_LEN {
         return ExitCode::from(FAILED);
     }
-    match is_done(rt.alloc(), &file, asked, times) {
+    match is_done(rt.alloc(), &file, task) {
         Ok(true) => ExitCode::SUCCESS,
         _ => ExitCode::from(FAILED),
     }

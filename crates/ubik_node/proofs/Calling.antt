@@ -1,5 +1,5 @@
 -- How rules end that make one durable call, after reads.
-use Rattle.std.proofs.Common.{◌≡◌, ◌≢◌, ◌≤◌, ◌+◌, ◌++◌, ◌⊎◌, inr, IfErr, ℕ, true, false, List, [], ◌∷◌, Option, Some, None, IsSome, length, Result, Ok, Err, IsErrOf, refl, sym, ap, subst, ◌∙◌, arith}
+use Rattle.std.proofs.Common.{◌≡◌, ◌≢◌, ◌+◌, ◌++◌, ◌⊎◌, inr, IfErr, ℕ, true, false, List, [], ◌∷◌, Option, Some, None, IsSome, length, Result, Ok, Err, IsErrOf, refl, sym, ap, subst, ◌∙◌, arith}
 use Rattle.std.specs.Option.{option_map}
 use Rattle.std.proofs.lemmas.Bool.{false≢true}
 use Rattle.ubik_types.specs.declared.images.Change.{Change}
@@ -17,7 +17,7 @@ use Rattle.ubik_store.specs.declared.stores.Store.{Store}
 use Rattle.ubik_store.specs.declared.transactions.Transaction.{Transaction}
 use Rattle.ubik_store.specs.DurableCall.{Commits, EndsAs, HasFailed, IsDurable, Refuses}
 use Rattle.ubik_store.specs.Gaps.{CutsNoPut}
-use Rattle.ubik_store.specs.Store.{IsReady, IsSound, StaysAsItWas, changes_begun, image_in}
+use Rattle.ubik_store.specs.Store.{IsSound, StaysAsItWas, changes_begun, image_in}
 use Rattle.ubik_store.proofs.Applied.{calls_as, calls_joined, calls_of}
 use Rattle.cell_model.specs.declared.events.Output.{Output}
 use Rattle.cell_model.specs.Node.{Server}

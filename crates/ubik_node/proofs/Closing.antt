@@ -1,8 +1,7 @@
 -- A step, from the end of its rule.
-use Rattle.std.proofs.Common.{◌≡◌, ◌≢◌, ◌↔◌, ◌<◌, ◌++◌, ℕ, Bool, true, false, cond, Option, List, [], IsSome, length, Result, Ok, Err, OnErr, IsErrOf, IsOk, refl, sym, ap, subst, ◌∙◌, arith}
+use Rattle.std.proofs.Common.{◌≡◌, ◌≢◌, ◌↔◌, ℕ, Bool, true, false, cond, List, [], IsSome, Result, Ok, Err, OnErr, IsErrOf, IsOk, refl, sym, ap, subst, ◌∙◌, arith}
 use Rattle.std.proofs.lemmas.Bool.{false≢true}
 use Rattle.disk_base.specs.declared.disks.Disk.{Ghosts}
-use Rattle.disk_base.specs.Files.{Files}
 use Rattle.disk_base.specs.Runs.{OnlyReads}
 use Rattle.db_image.specs.Database.{Database}
 use Rattle.ubik_store.specs.declared.faults.StoreFault.{StoreFault}
@@ -10,7 +9,7 @@ use Rattle.ubik_store.specs.declared.faults.StoreFault.TheVariants as fault
 use Rattle.ubik_store.proofs.Applied.{calls_as}
 use Rattle.cell_model.specs.declared.events.NodeEvent.{NodeEvent}
 use Rattle.cell_model.specs.declared.events.Output.{Output}
-use Rattle.cell_model.specs.Durable.{Durable, Made}
+use Rattle.cell_model.specs.Durable.{Durable}
 use Rattle.cell_model.specs.Node as model
 use Rattle.cell_model.specs.NodeRule.{refusals, step_of}
 use Rattle.cell_model.specs.Step.{Member, Stepped, outputs_of}

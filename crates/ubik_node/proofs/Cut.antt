@@ -1,5 +1,5 @@
 -- A piece that is cut from an image.
-use Rattle.std.proofs.Common.{◌≡◌, ◌≤◌, ◌-◌, ◌∙◌, ℕ, min, take, drop, List, length, Option, Some, None, IfSome, refl, sym, ap, arith}
+use Rattle.std.proofs.Common.{◌≡◌, ◌-◌, ◌∙◌, ℕ, min, take, drop, List, length, Option, Some, None, IfSome, sym, ap}
 use Rattle.std.proofs.lemmas.List.{length-drop, take_min}
 use Rattle.disk_base.specs.Files.{Files}
 use Rattle.page_file.specs.Pages.{AgreesIn, Known, image_of}

@@ -1,5 +1,5 @@
 -- How rules end.
-use Rattle.std.proofs.Common.{◌≡◌, ◌≢◌, ◌≤◌, ◌++◌, ◌⊎◌, ⊎_elim, inr, ℕ, List, [], ◌∷◌, false, true, Option, IsSome, length, Result, Ok, Err, OnOk, IsErrAnd, IsErrOf, refl, sym, ap, subst, ◌∙◌, append_assoc, arith}
+use Rattle.std.proofs.Common.{◌≡◌, ◌≢◌, ◌++◌, ◌⊎◌, ⊎_elim, inr, ℕ, List, [], false, Option, IsSome, length, Result, Ok, Err, IsErrAnd, refl, sym, ap, subst, ◌∙◌, append_assoc, arith}
 use Rattle.std.proofs.lemmas.List.{map-append}
 use Rattle.disk_base.specs.declared.disks.Disk.{Ghosts}
 use Rattle.disk_base.specs.declared.disks.FileNo.TheVariants.{Database}
@@ -8,16 +8,15 @@ use Rattle.disk_base.specs.Runs.{OnlyReads}
 use Rattle.disk_base.proofs.Runs.{reads_change_none}
 use Rattle.ubik_store.specs.declared.faults.StoreFault.{StoreFault}
 use Rattle.ubik_store.specs.declared.faults.StoreFault.TheVariants.{DiskFault, NoMemory}
-use Rattle.ubik_store.specs.declared.stores.Store.{Store}
 use Rattle.ubik_store.specs.Store.{IsReady, image_in}
 use Rattle.ubik_store.proofs.Applied.{calls_as, calls_of}
 use Rattle.ubik_store.proofs.Telling.{ok_map}
 use Rattle.cell_model.specs.declared.events.Output.{Output}
 use Rattle.cell_model.specs.Durable.{Made}
 use Rattle.cell_model.specs.Node.{Server}
-use Rattle.cell_model.specs.Step.{Member, Shown, Stepped, outputs_of}
+use Rattle.cell_model.specs.Step.{Shown, Stepped, outputs_of}
 use Rattle.ubik_node.specs.declared.state.State.{State}
-use Rattle.ubik_node.specs.Disk.{FailsIn, Serves}
+use Rattle.ubik_node.specs.Disk.{Serves}
 use Rattle.ubik_node.specs.Node.{CallsSo, Ends, HasFailedStore, Held, IsKept, IsMade, durable_in}
 use Rattle.ubik_node.specs.State.{Keeps, ShowsBehind, member_of, server_of}
 use Rattle.ubik_node.proofs.Durables.{IsThere, fails_reads, serves_reads}

@@ -21,7 +21,7 @@ use Rattle.cell_model.specs.Durable as durable
 use Rattle.cell_model.specs.Node.{Server, ReceivedText}
 use Rattle.cell_model.specs.Pieces.{piece_from}
 use Rattle.cell_model.specs.Polls.{entry_at, only_holder}
-use Rattle.cell_model.specs.Recovery.{bytes_received, fetch_installed, fetch_went_on, first_of_epoch, installed, is_whole, own_relabelling, piece_fits, piece_received, relabelled, relabelled_to, spread_answer, text_with}
+use Rattle.cell_model.specs.Recovery.{bytes_received, fetch_went_on, first_of_epoch, installed, is_whole, own_relabelling, piece_fits, piece_received, relabelled, relabelled_to, spread_answer, text_with}
 use Rattle.cell_model.specs.Step.{Member, Stepped, followed, host_at, is_fetch, outputs_of, quiet, sends_to, sends_to_each, showing, with_database, with_phase}
 use Rattle.cell_model.specs.Writes.{settled}
 use Rattle.ubik_recovery.specs.Record as recovery

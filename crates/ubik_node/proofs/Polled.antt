@@ -6,7 +6,7 @@ use Rattle.ubik_types.specs.declared.phases.Phase.TheVariants as phase
 use Rattle.ubik_types.specs.declared.versions.Version.{Version}
 use Rattle.ubik_types.specs.Version.{IsVersion, version_lt, zero_version}
 use Rattle.cell_model.specs.Node.{ReceivedText}
-use Rattle.cell_model.specs.Polls.{best_version, entry_at, only_at}
+use Rattle.cell_model.specs.Polls.{best_version, only_at}
 use Rattle.cell_model.specs.Step.{is_ready}
 use Rattle.ubik_recovery.specs.Record.{RecoveryRecord, answered_by, best_of, is_fetch, no_recovery, phase_record, poll_begun, record_in, with_text}
 use Rattle.ubik_node.specs.Recovering.{AreVersions, IsOfCell}

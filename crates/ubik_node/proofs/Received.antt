@@ -1,5 +1,5 @@
 -- What a server takes over of another one's database.
-use Rattle.std.proofs.Common.{◌≡◌, ◌≢◌, ◌≤◌, ◌<◌, ◌+◌, ◌⊎◌, ⊎_elim, ◌↔◌, ◌++◌, ◌==◌, ◌&&◌, ◌||◌, ℕ, zero, suc, Bool, true, false, cond, nat_lt, IsTrue, Option, Some, None, IfSome, IsSome, List, [], ◌∷◌, length, take, drop, replicate, refl, sym, ap, subst, ◌∙◌, arith}
+use Rattle.std.proofs.Common.{◌≡◌, ◌≤◌, ◌+◌, ⊎_elim, ◌↔◌, ◌++◌, ◌==◌, ◌&&◌, ◌||◌, ℕ, zero, suc, Bool, true, false, cond, IsTrue, Option, Some, None, IfSome, IsSome, List, [], ◌∷◌, length, take, drop, replicate, refl, sym, ap, ◌∙◌, arith}
 use Rattle.std.proofs.lemmas.List.{append-nil, length-append, length-take-le, take_all}
 use Rattle.std.proofs.lemmas.Bool.{false≢true}
 use Rattle.std.proofs.lemmas.Bool.Decides.{nat_tests}
@@ -17,7 +17,7 @@ use Rattle.ubik_store.specs.Store.{image_in}
 use Rattle.cell_model.specs.Node.{Server, ReceivedText}
 use Rattle.cell_model.specs.Receiver.{answers_version_is, answers_version_kept, is_sending, relabelled_by, send_piece_received, set_version_received, text_went_on}
 use Rattle.cell_model.specs.Recovery.{continues, installed, is_whole, text_continued, text_with}
-use Rattle.cell_model.specs.Step.{Member, Stepped, followed, is_fetch, quiet, sends_to, showing}
+use Rattle.cell_model.specs.Step.{Member, followed, is_fetch, quiet, sends_to, showing}
 use Rattle.ubik_recovery.specs.declared.texts.TextSource.{TextSource}
 use Rattle.ubik_recovery.specs.Record.{RecoveryRecord, phase_record, record_in, with_text}
 use Rattle.ubik_recovery.specs.Rules.{recovering}

@@ -1,21 +1,19 @@
 -- What a server tells of its database, and hears of those of others.
-use Rattle.std.proofs.Common.{◌≡◌, ◌<◌, ◌++◌, ◌==◌, ◌&&◌, ◌||◌, ◌⊎◌, inl, inr, ℕ, Bool, true, false, nat_lt, Option, None, List, [], length, refl, sym, ap, ◌∙◌}
+use Rattle.std.proofs.Common.{◌≡◌, ◌++◌, ◌==◌, ◌&&◌, ◌||◌, ◌⊎◌, inl, inr, ℕ, Bool, true, false, nat_lt, Option, None, List, [], length, refl, ap, ◌∙◌}
 use Rattle.ubik_types.specs.declared.hosts.Host.{Host}
 use Rattle.ubik_types.specs.declared.phases.Phase.{Phase}
 use Rattle.ubik_types.specs.declared.phases.Phase.TheVariants as phase
 use Rattle.ubik_types.specs.declared.versions.Version.{Version}
 use Rattle.ubik_types.specs.Version.{version_eq}
-use Rattle.ubik_types.specs.Phase.{Polled, Spread}
 use Rattle.ubik_calls.specs.declared.packets.Body.{Body}
 use Rattle.ubik_calls.specs.declared.packets.Body.TheVariants as body
 use Rattle.db_image.specs.Database.{Database}
 use Rattle.cell_model.specs.declared.events.Output.{Output}
 use Rattle.cell_model.specs.Node.{Flight, Server}
 use Rattle.cell_model.specs.Pieces.{piece_from}
-use Rattle.cell_model.specs.Polls.{polling, with_answer}
 use Rattle.cell_model.specs.Receiver.{answers_version_is, get_piece_received}
-use Rattle.cell_model.specs.Recovery.{fetch_refused, holder_added, lacking_sent, next_sent, piece_kept_received, polled, sent_piece, told_to_spread, version_is_received}
-use Rattle.cell_model.specs.Step.{Member, Stepped, outputs_of, quiet, sends_to, showing}
+use Rattle.cell_model.specs.Recovery.{fetch_refused, holder_added, lacking_sent, next_sent, piece_kept_received, sent_piece, told_to_spread, version_is_received}
+use Rattle.cell_model.specs.Step.{Member, outputs_of, quiet, sends_to, showing}
 use Rattle.ubik_recovery.specs.Record.{RecoveryRecord, best_of, host_of, phase_record, polled_of, record_in, spread_of}
 use Rattle.ubik_node.specs.Spreading.{IsSpreading, answer_heard}
 

@@ -1,5 +1,5 @@
 -- Polls and the recovery turn, by the recovery that the server has.
-use Rattle.std.proofs.Common.{◌≡◌, ◌≤◌, ◌<◌, ◌+◌, ◌/◌, ◌++◌, ◌↔◌, ℕ, zero, suc, Bool, true, false, cond, leb, ltb, nat_lt, IsTrue, Option, Some, None, List, [], ◌∷◌, length, map, is_some, refl, sym, ap, subst, ◌∙◌, arith}
+use Rattle.std.proofs.Common.{◌≡◌, ◌≤◌, ◌+◌, ◌↔◌, ℕ, zero, suc, Bool, true, false, cond, nat_lt, IsTrue, Option, Some, None, List, [], ◌∷◌, length, map, is_some, refl, sym, ap, ◌∙◌, arith}
 use Rattle.std.specs.Option.{ForSome}
 use Rattle.std.proofs.lemmas.Bool.{false≢true}
 use Rattle.std.proofs.lemmas.Bool.Decides.{nat_tests}
@@ -9,17 +9,17 @@ use Rattle.ubik_types.specs.declared.versions.Version.{Version}
 use Rattle.ubik_types.specs.declared.limits.TheConstants.{SMALLTIME}
 use Rattle.ubik_types.specs.Phase as model
 use Rattle.ubik_types.specs.Phase.{Polled, PhaseRecord}
-use Rattle.ubik_types.specs.Quorum.{IsMajority, is_majority, marked, size}
+use Rattle.ubik_types.specs.Quorum.{IsMajority, is_majority, marked}
 use Rattle.ubik_calls.specs.declared.packets.Body.{Body}
 use Rattle.ubik_calls.specs.declared.packets.Body.TheVariants as body
 use Rattle.ubik_types.specs.Version.{version_lt}
 use Rattle.cell_model.specs.Node.{Server, ReceivedText}
-use Rattle.cell_model.specs.Polls.{best_answer, entry_at, first_with, is_marked, new_poll, only_at, polling, with_answer}
+use Rattle.cell_model.specs.Polls.{entry_at, is_marked, new_poll, only_at, polling, with_answer}
 use Rattle.cell_model.specs.Recovery as rule
 use Rattle.cell_model.specs.Recovery.{asks_versions, bytes_received, has_answered, fetched_from, first_of_epoch, polled, polled_best, poll_asked, relabelled, relabelled_to}
-use Rattle.cell_model.specs.Step.{Member, Stepped, cell_size, followed, host_at, leased, quiet, sends_to, showing, with_phase}
+use Rattle.cell_model.specs.Step.{Member, cell_size, followed, host_at, leased, quiet, sends_to, showing, with_phase}
 use Rattle.cell_model.specs.Writes.{settled}
-use Rattle.ubik_recovery.specs.Record.{RecoveryRecord, adopted, answered_by, best_of, host_of, in_phase, is_fetch, phase_record, poll_begun, polled_of, record_in, text_through, with_text}
+use Rattle.ubik_recovery.specs.Record.{RecoveryRecord, adopted, answered_by, best_of, host_of, is_fetch, phase_record, poll_begun, polled_of, record_in, with_text}
 use Rattle.ubik_recovery.specs.Rules.{recovering}
 use Rattle.ubik_recovery.specs.Text.{received_bytes}
 use Rattle.ubik_node.proofs.Relabelled.{sends_same}

@@ -28,13 +28,16 @@ returns-after-why g c = λ d stands.
     let e = c.in-Err.ensures in
     let r = c.revive.ensures in
     let m : Member = record { hosts = c.args.hosts.now; me = c.args.me } in
-    let P : OpenEnd → Type 0 = λ end. ServerOpens {V = g.row.V.Denot} g.D.Disk g.V.DraftService.standing m c.args.clock d end c.args.disk (server.Down c.revive.new.self) in
+    let P : OpenEnd → Type 0 = λ end. ServerOpens {V = g.row.V.Denot} g.D.Disk g.V.DraftService.standing m c.args.clock d end c.args.disk
+    (server.Down c.revive.new.self) in
     elim c.match-why.branch [
       | in-NoMemory w ↦
           subst P (sym w.end-is)
-          (down_by_memory g.D.Disk m c.args.clock c.args.disk c.in-Err.field-0.disk c.revive.new.self d c.in-Err.field-0.why c.requires.sound stands e.opening e.refused r.unarmed r.left r.tells_files r.steps r.faults)
+          (down_by_memory g.D.Disk m c.args.clock c.args.disk c.in-Err.field-0.disk c.revive.new.self d c.in-Err.field-0.why c.requires.sound stands e.opening
+          e.refused r.unarmed r.left r.tells_files r.steps r.faults)
       | in_default-why w ↦
           subst P (sym w.end-is)
-          (down_by_fault g.D.Disk m c.args.clock c.args.disk c.in-Err.field-0.disk c.revive.new.self d c.in-Err.field-0.why c.requires.sound stands e.opening e.refused r.unarmed r.left r.tells_files r.steps r.faults
+          (down_by_fault g.D.Disk m c.args.clock c.args.disk c.in-Err.field-0.disk c.revive.new.self d c.in-Err.field-0.why c.requires.sound stands e.opening
+          e.refused r.unarmed r.left r.tells_files r.steps r.faults
           (λ same. w.in_default-why.not-NoMemory same))
     ]

@@ -26,7 +26,8 @@ returns-in_err-k-clause-never_falls g c = rises_same _ _ refl
 pub returns-clause-told : goal.returns-clause-told
 returns-clause-told g c = λ ok given cell stands.
     let same : c.in_ok-asked.asked ≡ c.args.call = c.in_ok-asked.ensures ∙ c.as_slice.ensures in
-    let o : Some (c.in_ok-k.k, event.Ask c.args.id c.args.call) ≡ Some (c.in_ok-k.k, event.Ask c.args.id c.in_ok-asked.asked) = ap (λ (bytes : List ℕ). Some (c.in_ok-k.k, event.Ask c.args.id bytes)) (sym same) in
+    let o : Some (c.in_ok-k.k, event.Ask c.args.id c.args.call) ≡ Some (c.in_ok-k.k, event.Ask c.args.id c.in_ok-asked.asked) = ap
+    (λ (bytes : List ℕ). Some (c.in_ok-k.k, event.Ask c.args.id bytes)) (sym same) in
     let db = script_database g.V.DraftService.standing.database g.V.DraftWords.words in
     let does : List Choice → ℕ → Cell_run = λ choices k. stepped db cell (first_choice choices) (Asking k c.args.id c.args.call) in
     told_as g.D.Disk (λ choices. asked_at db cell (first_choice choices) c.args.id c.args.call (Some c.args.server)) (λ choices. Ok (does choices c.in_ok-k.k))
@@ -36,7 +37,8 @@ returns-clause-told g c = λ ok given cell stands.
 pub returns-clause-limit : goal.returns-clause-limit
 returns-clause-limit g c = λ which is given cell stands.
     let same : c.in_ok-asked.asked ≡ c.args.call = c.in_ok-asked.ensures ∙ c.as_slice.ensures in
-    let o : Some (c.in_ok-k.k, event.Ask c.args.id c.args.call) ≡ Some (c.in_ok-k.k, event.Ask c.args.id c.in_ok-asked.asked) = ap (λ (bytes : List ℕ). Some (c.in_ok-k.k, event.Ask c.args.id bytes)) (sym same) in
+    let o : Some (c.in_ok-k.k, event.Ask c.args.id c.args.call) ≡ Some (c.in_ok-k.k, event.Ask c.args.id c.in_ok-asked.asked) = ap
+    (λ (bytes : List ℕ). Some (c.in_ok-k.k, event.Ask c.args.id bytes)) (sym same) in
     let db = script_database g.V.DraftService.standing.database g.V.DraftWords.words in
     let does : List Choice → ℕ → Cell_run = λ choices k. stepped db cell (first_choice choices) (Asking k c.args.id c.args.call) in
     told_as g.D.Disk (λ choices. asked_at db cell (first_choice choices) c.args.id c.args.call (Some c.args.server)) (λ choices. Ok (does choices c.in_ok-k.k))
@@ -46,7 +48,8 @@ returns-clause-limit g c = λ which is given cell stands.
 pub returns-clause-short : goal.returns-clause-short
 returns-clause-short g c = λ is given cell stands.
     let same : c.in_ok-asked.asked ≡ c.args.call = c.in_ok-asked.ensures ∙ c.as_slice.ensures in
-    let o : Some (c.in_ok-k.k, event.Ask c.args.id c.args.call) ≡ Some (c.in_ok-k.k, event.Ask c.args.id c.in_ok-asked.asked) = ap (λ (bytes : List ℕ). Some (c.in_ok-k.k, event.Ask c.args.id bytes)) (sym same) in
+    let o : Some (c.in_ok-k.k, event.Ask c.args.id c.args.call) ≡ Some (c.in_ok-k.k, event.Ask c.args.id c.in_ok-asked.asked) = ap
+    (λ (bytes : List ℕ). Some (c.in_ok-k.k, event.Ask c.args.id bytes)) (sym same) in
     let db = script_database g.V.DraftService.standing.database g.V.DraftWords.words in
     let does : List Choice → ℕ → Cell_run = λ choices k. stepped db cell (first_choice choices) (Asking k c.args.id c.args.call) in
     short_as g.D.Disk (λ choices. asked_at db cell (first_choice choices) c.args.id c.args.call (Some c.args.server)) (λ choices. Ok (does choices c.in_ok-k.k))

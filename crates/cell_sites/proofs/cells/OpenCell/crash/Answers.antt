@@ -33,19 +33,22 @@ returns-clause-told g c = λ ok given cell text stands.
     let db = script_database g.V.DraftService.standing.database g.V.DraftWords.words in
     let down = c.take_down.ensures in
     let does : ℕ → Cell_run = λ k. with_event db (record cell { armed = set cell.armed k None }) (Crash k) in
-    crash_told g.D.Disk c.args.self.now c.take_down.new.self c.in_ok-k.k down (disk_here g.D.Disk c.requires.0 c.args.self.now c.in_ok-k.k _ c.requires.1 down.there) db given cell
+    crash_told g.D.Disk c.args.self.now c.take_down.new.self c.in_ok-k.k down
+    (disk_here g.D.Disk c.requires.0 c.args.self.now c.in_ok-k.k _ c.requires.1 down.there) db given cell
     (λ choices. run_in db cell choices (line.Crash c.args.server)) text stands
     (λ choices. c.in_ok-k.ensures.up cell does (size_of g.D.Disk c.requires.0 c.args.self.now cell c.requires.1 stands) stands.sites)
 
 pub returns-clause-sound : goal.returns-clause-sound
 returns-clause-sound g c = λ bound still.
     let down = c.take_down.ensures in
-    crash_sound g.D.Disk c.args.self.now c.take_down.new.self c.in_ok-k.k down (disk_here g.D.Disk c.requires.0 c.args.self.now c.in_ok-k.k _ c.requires.1 down.there) bound still
+    crash_sound g.D.Disk c.args.self.now c.take_down.new.self c.in_ok-k.k down
+    (disk_here g.D.Disk c.requires.0 c.args.self.now c.in_ok-k.k _ c.requires.1 down.there) bound still
 
 pub returns-clause-never_falls : goal.returns-clause-never_falls
 returns-clause-never_falls g c =
     let down = c.take_down.ensures in
-    crash_rises g.D.Disk c.args.self.now c.take_down.new.self c.in_ok-k.k down (disk_here g.D.Disk c.requires.0 c.args.self.now c.in_ok-k.k _ c.requires.1 down.there)
+    crash_rises g.D.Disk c.args.self.now c.take_down.new.self c.in_ok-k.k down
+    (disk_here g.D.Disk c.requires.0 c.args.self.now c.in_ok-k.k _ c.requires.1 down.there)
 
 pub returns-clause-same : goal.returns-clause-same
 returns-clause-same g c = many_at g.D.Disk c.args.self.now c.take_down.new.self c.in_ok-k.k _ _ c.take_down.ensures.there c.take_down.ensures.sites

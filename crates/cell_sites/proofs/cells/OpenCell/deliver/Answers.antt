@@ -12,7 +12,8 @@ returns-in_err-number-clause-never_falls g c = rises_same _ _ refl
 pub returns-clause-limit : goal.returns-clause-limit
 returns-clause-limit g c = λ which is given cell stands.
     let db = script_database g.V.DraftService.standing.database g.V.DraftWords.words in
-    told_as g.D.Disk (λ choices. run_in db cell choices (line.Deliver c.args.number)) (λ choices. Ok (delivered db cell (first_choice choices) c.in_ok-number.number))
+    told_as g.D.Disk (λ choices. run_in db cell choices (line.Deliver c.args.number))
+    (λ choices. Ok (delivered db cell (first_choice choices) c.in_ok-number.number))
     (λ choices. c.in_ok-number.ensures.there cell (delivered db cell (first_choice choices) c.args.number) (ap length stands.sent)
     ∙ ap (λ (n : ℕ). Ok (delivered db cell (first_choice choices) n)) (sym c.in_ok-number.ensures.sent.0))
     db _ _ _ _ _ (c.deliver_sent.ensures.limit which is given cell stands)

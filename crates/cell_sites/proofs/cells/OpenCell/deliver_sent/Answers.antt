@@ -17,7 +17,8 @@ use Rattle.cell_sites.proofs.cells.OpenCell.deliver_sent.Goals as goal
 pub is_up-requires : goal.is_up-requires
 is_up-requires g c =
     let to = c.copy_of_votes-packet.result.to in
-    let place : place_of c.args.self.now.hosts.items to ≡ Some c.in-Some.k = sym (c.place_of.ensures ∙ ap (λ (h : List Host). place_of h to) c.deref.ensures.value) ∙ c.in-Some.is in
+    let place : place_of c.args.self.now.hosts.items to ≡ Some c.in-Some.k = sym
+    (c.place_of.ensures ∙ ap (λ (h : List Host). place_of h to) c.deref.ensures.value) ∙ c.in-Some.is in
     let lt = (position-Some (λ (other : Host). other.0 == to.0) c.args.self.now.hosts.items c.in-Some.k (record { 0 = 0 }) place).0 in
     let count = host_count g.D.Disk c.requires.sound.0 c.args.self.now c.requires.sound.1 in
     omega (arith, lt, count)
@@ -34,25 +35,33 @@ returns-then-is_up-clause-told g c = λ ok given cell stands.
     let db = script_database g.V.DraftService.standing.database g.V.DraftWords.words in
     let to = c.copy_of_votes-packet.result.to in
     let p = c.hand_over.new.self in
-    let place : place_of c.args.self.now.hosts.items to ≡ Some c.in-Some.k = sym (c.place_of.ensures ∙ ap (λ (h : List Host). place_of h to) c.deref.ensures.value) ∙ c.in-Some.is in
-    let h = handed_cell c.args.self.now cell p c.args.number c.in-Some.k c.copy_of_votes-packet.result c.packet.result.now stands c.hand_over.ensures c.requires.some c.packet.ensures c.copy_of_votes-packet.ensures place in
-    told_before g.D.Disk db c.args.self.now c.step.new.self p _ _ _ _ (c.step.ensures.told ok given (with_handed cell (set cell.handed (c.args.number - 1) true)) (Delivery c.args.number) h.stands h.goes)
+    let place : place_of c.args.self.now.hosts.items to ≡ Some c.in-Some.k = sym
+    (c.place_of.ensures ∙ ap (λ (h : List Host). place_of h to) c.deref.ensures.value) ∙ c.in-Some.is in
+    let h = handed_cell c.args.self.now cell p c.args.number c.in-Some.k c.copy_of_votes-packet.result c.packet.result.now stands c.hand_over.ensures
+    c.requires.some c.packet.ensures c.copy_of_votes-packet.ensures place in
+    told_before g.D.Disk db c.args.self.now c.step.new.self p _ _ _ _
+    (c.step.ensures.told ok given (with_handed cell (set cell.handed (c.args.number - 1) true)) (Delivery c.args.number) h.stands h.goes)
 
 pub returns-then-is_up-clause-limit : goal.returns-then-is_up-clause-limit
 returns-then-is_up-clause-limit g c = λ which is given cell stands.
     let db = script_database g.V.DraftService.standing.database g.V.DraftWords.words in
     let to = c.copy_of_votes-packet.result.to in
     let p = c.hand_over.new.self in
-    let place : place_of c.args.self.now.hosts.items to ≡ Some c.in-Some.k = sym (c.place_of.ensures ∙ ap (λ (h : List Host). place_of h to) c.deref.ensures.value) ∙ c.in-Some.is in
-    let h = handed_cell c.args.self.now cell p c.args.number c.in-Some.k c.copy_of_votes-packet.result c.packet.result.now stands c.hand_over.ensures c.requires.some c.packet.ensures c.copy_of_votes-packet.ensures place in
-    told_before g.D.Disk db c.args.self.now c.step.new.self p _ _ _ _ (c.step.ensures.limit which is given (with_handed cell (set cell.handed (c.args.number - 1) true)) (Delivery c.args.number) h.stands h.goes)
+    let place : place_of c.args.self.now.hosts.items to ≡ Some c.in-Some.k = sym
+    (c.place_of.ensures ∙ ap (λ (h : List Host). place_of h to) c.deref.ensures.value) ∙ c.in-Some.is in
+    let h = handed_cell c.args.self.now cell p c.args.number c.in-Some.k c.copy_of_votes-packet.result c.packet.result.now stands c.hand_over.ensures
+    c.requires.some c.packet.ensures c.copy_of_votes-packet.ensures place in
+    told_before g.D.Disk db c.args.self.now c.step.new.self p _ _ _ _
+    (c.step.ensures.limit which is given (with_handed cell (set cell.handed (c.args.number - 1) true)) (Delivery c.args.number) h.stands h.goes)
 
 pub returns-then-is_up-clause-short : goal.returns-then-is_up-clause-short
 returns-then-is_up-clause-short g c = λ is given cell stands.
     let to = c.copy_of_votes-packet.result.to in
     let p = c.hand_over.new.self in
-    let place : place_of c.args.self.now.hosts.items to ≡ Some c.in-Some.k = sym (c.place_of.ensures ∙ ap (λ (h : List Host). place_of h to) c.deref.ensures.value) ∙ c.in-Some.is in
-    let h = handed_cell c.args.self.now cell p c.args.number c.in-Some.k c.copy_of_votes-packet.result c.packet.result.now stands c.hand_over.ensures c.requires.some c.packet.ensures c.copy_of_votes-packet.ensures place in
+    let place : place_of c.args.self.now.hosts.items to ≡ Some c.in-Some.k = sym
+    (c.place_of.ensures ∙ ap (λ (h : List Host). place_of h to) c.deref.ensures.value) ∙ c.in-Some.is in
+    let h = handed_cell c.args.self.now cell p c.args.number c.in-Some.k c.copy_of_votes-packet.result c.packet.result.now stands c.hand_over.ensures
+    c.requires.some c.packet.ensures c.copy_of_votes-packet.ensures place in
     short_before g.D.Disk c.args.self.now c.step.new.self p _ cell (set cell.handed (c.args.number - 1) true)
     (c.step.ensures.short is given (with_handed cell (set cell.handed (c.args.number - 1) true)) (Delivery c.args.number) h.stands h.goes)
 
@@ -64,7 +73,8 @@ pub returns-then-is_up-clause-keeps : goal.returns-then-is_up-clause-keeps
 returns-then-is_up-clause-keeps g c = λ given cell hold. c.step.ensures.keeps c.copy_of_votes-packet.result refl given cell hold
 
 pub returns-in_err-tell_mark-clause-short : goal.returns-in_err-tell_mark-clause-short
-returns-in_err-tell_mark-clause-short g c = λ is given cell stands. inl (nothing_done g.D.Disk g.V.DraftService.standing.database given c.args.self.now cell stands)
+returns-in_err-tell_mark-clause-short g c =
+    λ is given cell stands. inl (nothing_done g.D.Disk g.V.DraftService.standing.database given c.args.self.now cell stands)
 
 pub returns-in_err-tell_mark-clause-never_falls : goal.returns-in_err-tell_mark-clause-never_falls
 returns-in_err-tell_mark-clause-never_falls g c = rises_same _ _ refl
@@ -77,8 +87,11 @@ returns-clause-told g c = λ ok given cell stands.
     let db = script_database g.V.DraftService.standing.database g.V.DraftWords.words in
     let to = c.copy_of_votes-packet.result.to in
     let p = c.hand_over.new.self in
-    let place : place_of c.args.self.now.hosts.items to ≡ Some c.in-Some.k = sym (c.place_of.ensures ∙ ap (λ (h : List Host). place_of h to) c.deref.ensures.value) ∙ c.in-Some.is in
-    let h = handed_cell c.args.self.now cell p c.args.number c.in-Some.k c.copy_of_votes-packet.result c.packet.result.now stands c.hand_over.ensures c.requires.some c.packet.ensures c.copy_of_votes-packet.ensures place in
+    let place : place_of c.args.self.now.hosts.items to ≡ Some c.in-Some.k = sym
+    (c.place_of.ensures ∙ ap (λ (h : List Host). place_of h to) c.deref.ensures.value) ∙ c.in-Some.is in
+    let h = handed_cell c.args.self.now cell p c.args.number c.in-Some.k c.copy_of_votes-packet.result c.packet.result.now stands c.hand_over.ensures
+    c.requires.some c.packet.ensures c.copy_of_votes-packet.ensures place in
     told_before g.D.Disk db c.args.self.now (with_packets c.args.self.now p) p _ _ _ _
-    (lost g.D.Disk db (with_packets c.args.self.now p) (with_handed cell (set cell.handed (c.args.number - 1) true)) c.args.number c.in-Some.k c.copy_of_votes-packet.result (string_bytes c.args.text.now) (string_bytes c.tell_mark.new.text)
+    (lost g.D.Disk db (with_packets c.args.self.now p) (with_handed cell (set cell.handed (c.args.number - 1) true)) c.args.number c.in-Some.k
+    c.copy_of_votes-packet.result (string_bytes c.args.text.now) (string_bytes c.tell_mark.new.text)
     h.stands c.if-is_up.ensures h.goes c.in_ok-tell_mark.ensures)

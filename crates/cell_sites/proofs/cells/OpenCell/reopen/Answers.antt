@@ -48,7 +48,8 @@ open_server-server-requires-clause-sound g c =
     let running = c.args.self.now in
     let within = slice_get_within running.sites.items c.args.k _ c.requires.down.there in
     let there = site_there running.sites.items c.args.k c.remove-clock.result within c.remove-clock.ensures.value in
-    subst (λ (d : _). IsSoundDisk g.D.Disk g.V.DraftService.standing d) (sym c.close.ensures) (disk_here g.D.Disk c.requires.sound.0 running c.args.k c.remove-clock.result c.requires.sound.1 there)
+    subst (λ (d : _). IsSoundDisk g.D.Disk g.V.DraftService.standing d) (sym c.close.ensures)
+    (disk_here g.D.Disk c.requires.sound.0 running c.args.k c.remove-clock.result c.requires.sound.1 there)
 
 pub returns : goal.returns
 returns g c =
@@ -72,7 +73,8 @@ returns g c =
       end = opened.1;
       server = opened.0;
       opens = λ d stands.
-          subst (λ (h : List Host). ServerOpens g.D.Disk g.V.DraftService.standing (record { hosts = h; me = c.args.k }) site.clock d opened.1 disk opened.0) c.deref.ensures.value
+          subst (λ (h : List Host). ServerOpens g.D.Disk g.V.DraftService.standing (record { hosts = h; me = c.args.k }) site.clock d opened.1 disk opened.0)
+          c.deref.ensures.value
           (c.open_server-server.ensures d stands);
       sites = c.put_site.ensures.sites
           ∙ ap (λ (l : List (Site _ _)). insert l c.args.k (record { clock = site.clock; server = opened.0 })) c.remove-clock.ensures.items
@@ -80,5 +82,6 @@ returns g c =
       hosts = ap (λ (v : Vec Host Global). v.items) c.put_site.ensures.same.0;
       packets = c.put_site.ensures.same.1;
       outputs = c.put_site.ensures.same.2;
-      told = λ ok. let t = ok_says c.tell_reopened.result ok c.tell_reopened.ensures in (t.0, t.1 (script_database g.V.DraftService.standing.database g.V.DraftWords.words) running.hosts.items);
+      told = λ ok. let t = ok_says c.tell_reopened.result ok c.tell_reopened.ensures in
+          (t.0, t.1 (script_database g.V.DraftService.standing.database g.V.DraftWords.words) running.hosts.items);
     }

@@ -31,13 +31,21 @@ returns-in_err-reopen-clause-short g c = λ out given cell stands.
     let does : List Choice → ℕ → Cell_run = λ choices k. with_event db cell (Restart k (first_choice choices).fails) in
     short_as g.D.Disk (λ choices. run_in db cell choices (line.Restart c.args.server)) (λ choices. Ok (does choices c.in_ok-k.k))
     (λ choices. c.in_ok-k.ensures.down cell (does choices) (size_of g.D.Disk c.requires.0 c.args.self.now cell c.requires.1 stands) stands.sites)
-    cell _ _ (reopen_short g.D.Disk (script_database g.V.DraftService.standing.database g.V.DraftWords.words) c.args.self.now c.reopen.new.self c.in_ok-k.k _ (string_bytes c.args.text.now) (string_bytes c.reopen.new.text) c.requires.0 c.requires.1 c.in_err-reopen.ensures (disk_here g.D.Disk c.requires.0 c.args.self.now c.in_ok-k.k _ c.requires.1 c.in_err-reopen.ensures.there) given cell stands)
+    cell _ _ (reopen_short g.D.Disk (script_database g.V.DraftService.standing.database g.V.DraftWords.words) c.args.self.now c.reopen.new.self c.in_ok-k.k _
+    (string_bytes c.args.text.now) (string_bytes c.reopen.new.text) c.requires.0 c.requires.1 c.in_err-reopen.ensures
+    (disk_here g.D.Disk c.requires.0 c.args.self.now c.in_ok-k.k _ c.requires.1 c.in_err-reopen.ensures.there) given cell stands)
 
 pub returns-in_err-reopen-clause-never_falls : goal.returns-in_err-reopen-clause-never_falls
-returns-in_err-reopen-clause-never_falls g c = reopen_rises g.D.Disk (script_database g.V.DraftService.standing.database g.V.DraftWords.words) c.args.self.now c.reopen.new.self c.in_ok-k.k _ (string_bytes c.args.text.now) (string_bytes c.reopen.new.text) c.requires.0 c.requires.1 c.in_err-reopen.ensures (disk_here g.D.Disk c.requires.0 c.args.self.now c.in_ok-k.k _ c.requires.1 c.in_err-reopen.ensures.there)
+returns-in_err-reopen-clause-never_falls g c =
+    reopen_rises g.D.Disk (script_database g.V.DraftService.standing.database g.V.DraftWords.words) c.args.self.now c.reopen.new.self c.in_ok-k.k _
+    (string_bytes c.args.text.now) (string_bytes c.reopen.new.text) c.requires.0 c.requires.1 c.in_err-reopen.ensures
+    (disk_here g.D.Disk c.requires.0 c.args.self.now c.in_ok-k.k _ c.requires.1 c.in_err-reopen.ensures.there)
 
 pub returns-in_err-reopen-clause-same : goal.returns-in_err-reopen-clause-same
-returns-in_err-reopen-clause-same g c = reopen_many g.D.Disk (script_database g.V.DraftService.standing.database g.V.DraftWords.words) c.args.self.now c.reopen.new.self c.in_ok-k.k _ (string_bytes c.args.text.now) (string_bytes c.reopen.new.text) c.requires.0 c.requires.1 c.in_err-reopen.ensures (disk_here g.D.Disk c.requires.0 c.args.self.now c.in_ok-k.k _ c.requires.1 c.in_err-reopen.ensures.there)
+returns-in_err-reopen-clause-same g c =
+    reopen_many g.D.Disk (script_database g.V.DraftService.standing.database g.V.DraftWords.words) c.args.self.now c.reopen.new.self c.in_ok-k.k _
+    (string_bytes c.args.text.now) (string_bytes c.reopen.new.text) c.requires.0 c.requires.1 c.in_err-reopen.ensures
+    (disk_here g.D.Disk c.requires.0 c.args.self.now c.in_ok-k.k _ c.requires.1 c.in_err-reopen.ensures.there)
 
 pub returns-clause-told : goal.returns-clause-told
 returns-clause-told g c = λ ok given cell stands.
@@ -45,13 +53,24 @@ returns-clause-told g c = λ ok given cell stands.
     let does : List Choice → ℕ → Cell_run = λ choices k. with_event db cell (Restart k (first_choice choices).fails) in
     told_as g.D.Disk (λ choices. run_in db cell choices (line.Restart c.args.server)) (λ choices. Ok (does choices c.in_ok-k.k))
     (λ choices. c.in_ok-k.ensures.down cell (does choices) (size_of g.D.Disk c.requires.0 c.args.self.now cell c.requires.1 stands) stands.sites)
-    db _ _ _ _ _ (reopen_line g.D.Disk (script_database g.V.DraftService.standing.database g.V.DraftWords.words) c.args.self.now c.reopen.new.self c.in_ok-k.k (Ok tt) (string_bytes c.args.text.now) (string_bytes c.reopen.new.text) c.requires.0 c.requires.1 c.in_ok-reopen.ensures (disk_here g.D.Disk c.requires.0 c.args.self.now c.in_ok-k.k _ c.requires.1 c.in_ok-reopen.ensures.there) given cell stands refl)
+    db _ _ _ _ _ (reopen_line g.D.Disk (script_database g.V.DraftService.standing.database g.V.DraftWords.words) c.args.self.now c.reopen.new.self c.in_ok-k.k
+    (Ok tt) (string_bytes c.args.text.now) (string_bytes c.reopen.new.text) c.requires.0 c.requires.1 c.in_ok-reopen.ensures
+    (disk_here g.D.Disk c.requires.0 c.args.self.now c.in_ok-k.k _ c.requires.1 c.in_ok-reopen.ensures.there) given cell stands refl)
 
 pub returns-clause-sound : goal.returns-clause-sound
-returns-clause-sound g c = λ ok bound still. reopen_sound g.D.Disk (script_database g.V.DraftService.standing.database g.V.DraftWords.words) c.args.self.now c.reopen.new.self c.in_ok-k.k (Ok tt) (string_bytes c.args.text.now) (string_bytes c.reopen.new.text) c.requires.0 c.requires.1 c.in_ok-reopen.ensures (disk_here g.D.Disk c.requires.0 c.args.self.now c.in_ok-k.k _ c.requires.1 c.in_ok-reopen.ensures.there) bound still
+returns-clause-sound g c =
+    λ ok bound still. reopen_sound g.D.Disk (script_database g.V.DraftService.standing.database g.V.DraftWords.words) c.args.self.now c.reopen.new.self
+    c.in_ok-k.k (Ok tt) (string_bytes c.args.text.now) (string_bytes c.reopen.new.text) c.requires.0 c.requires.1 c.in_ok-reopen.ensures
+    (disk_here g.D.Disk c.requires.0 c.args.self.now c.in_ok-k.k _ c.requires.1 c.in_ok-reopen.ensures.there) bound still
 
 pub returns-clause-never_falls : goal.returns-clause-never_falls
-returns-clause-never_falls g c = reopen_rises g.D.Disk (script_database g.V.DraftService.standing.database g.V.DraftWords.words) c.args.self.now c.reopen.new.self c.in_ok-k.k (Ok tt) (string_bytes c.args.text.now) (string_bytes c.reopen.new.text) c.requires.0 c.requires.1 c.in_ok-reopen.ensures (disk_here g.D.Disk c.requires.0 c.args.self.now c.in_ok-k.k _ c.requires.1 c.in_ok-reopen.ensures.there)
+returns-clause-never_falls g c =
+    reopen_rises g.D.Disk (script_database g.V.DraftService.standing.database g.V.DraftWords.words) c.args.self.now c.reopen.new.self c.in_ok-k.k (Ok tt)
+    (string_bytes c.args.text.now) (string_bytes c.reopen.new.text) c.requires.0 c.requires.1 c.in_ok-reopen.ensures
+    (disk_here g.D.Disk c.requires.0 c.args.self.now c.in_ok-k.k _ c.requires.1 c.in_ok-reopen.ensures.there)
 
 pub returns-clause-same : goal.returns-clause-same
-returns-clause-same g c = reopen_many g.D.Disk (script_database g.V.DraftService.standing.database g.V.DraftWords.words) c.args.self.now c.reopen.new.self c.in_ok-k.k (Ok tt) (string_bytes c.args.text.now) (string_bytes c.reopen.new.text) c.requires.0 c.requires.1 c.in_ok-reopen.ensures (disk_here g.D.Disk c.requires.0 c.args.self.now c.in_ok-k.k _ c.requires.1 c.in_ok-reopen.ensures.there)
+returns-clause-same g c =
+    reopen_many g.D.Disk (script_database g.V.DraftService.standing.database g.V.DraftWords.words) c.args.self.now c.reopen.new.self c.in_ok-k.k (Ok tt)
+    (string_bytes c.args.text.now) (string_bytes c.reopen.new.text) c.requires.0 c.requires.1 c.in_ok-reopen.ensures
+    (disk_here g.D.Disk c.requires.0 c.args.self.now c.in_ok-k.k _ c.requires.1 c.in_ok-reopen.ensures.there)

@@ -4,7 +4,8 @@ use Rattle.cell_sites.proofs.cells.OpenCell.step_site.Goals as goal
 
 pub take_down-requires : goal.take_down-requires
 take_down-requires g c = record {
-  place = placed g.D.Disk g.V.DraftService.standing.database c.args.k c.args.event c.step_up-end.result c.args.self.now c.step_up-end.new.self c.step_up-end.ensures;
+  place = placed g.D.Disk g.V.DraftService.standing.database c.args.k c.args.event c.step_up-end.result c.args.self.now c.step_up-end.new.self
+      c.step_up-end.ensures;
 }
 
 pub returns-in-Stops : goal.returns-in-Stops
@@ -15,4 +16,5 @@ returns-in-Stops g c =
 
 pub returns-in_default : goal.returns-in_default
 returns-in_default g c =
-    stays_up g.D.Disk g.V.DraftService.standing.database c.args.k c.args.event c.step_up-end.result c.args.self.now c.step_up-end.new.self c.step_up-end.ensures c.in_default.not-Stops
+    stays_up g.D.Disk g.V.DraftService.standing.database c.args.k c.args.event c.step_up-end.result c.args.self.now c.step_up-end.new.self c.step_up-end.ensures
+    c.in_default.not-Stops

@@ -1,5 +1,5 @@
-use Rattle.std.proofs.Common.{refl, subst, sym}
-use Rattle.cell_model.specs.Step.{Member}
+use Rattle.std.proofs.Common.{◌<◌, refl, subst, sym}
+use Rattle.cell_model.specs.Step.{Member, cell_size}
 use Rattle.cell_model.specs.Voters.{IsTaken}
 use Rattle.cell_sites.specs.Sound.{IsSoundNode}
 use Rattle.cell_sites.specs.Stepped.{NodeStepped}
@@ -11,6 +11,13 @@ step_node-requires-clause-moment g c =
     let site = c.index_mut-site.result.now in
     let there = found_up c.args.self.now c.args.k site c.in-Up.node c.requires.up c.index_mut-site.ensures.value c.in-Up.is in
     (here g.D.Disk c.requires.sound.0 c.args.self.now c.args.k site.clock c.in-Up.node c.requires.sound.1 there).moment
+
+pub step_node-requires-clause-place : goal.step_node-requires-clause-place
+step_node-requires-clause-place g c =
+    let site = c.index_mut-site.result.now in
+    let there = found_up c.args.self.now c.args.k site c.in-Up.node c.requires.up c.index_mut-site.ensures.value c.in-Up.is in
+    let at = here g.D.Disk c.requires.sound.0 c.args.self.now c.args.k site.clock c.in-Up.node c.requires.sound.1 there in
+    subst (λ (m : Member). m.me < cell_size m) (sym at.sound.member) at.me
 
 pub step_node-requires-clause-sound : goal.step_node-requires-clause-sound
 step_node-requires-clause-sound g c =
@@ -42,7 +49,8 @@ returns g c =
       node = c.in-Up.node;
       there = there;
       later = c.step_node.new.node;
-      step = subst (λ (m : Member). NodeStepped g.D.Disk g.V.DraftService.standing g.V.DraftService.standing.database m site.clock c.args.event c.step_node.result c.in-Up.node c.step_node.new.node c.step_node.new.out) at.sound.member c.step_node.ensures;
+      step = subst (λ (m : Member). NodeStepped g.D.Disk g.V.DraftService.standing g.V.DraftService.standing.database m site.clock c.args.event
+          c.step_node.result c.in-Up.node c.step_node.new.node c.step_node.new.out) at.sound.member c.step_node.ensures;
       sites = refl;
       hosts = refl;
       packets = refl;

@@ -32,7 +32,8 @@ index_mut-requires g c =
     omega (arith, within, c.args.self.now.sites.ok.0)
 
 pub unreachable-requires : goal.unreachable-requires
-unreachable-requires g c = not_down c.args.self.now c.in_ok-k.k c.index_mut.result.now c.in_default.field-0 c.in_ok-k.ensures.place.1 c.index_mut.ensures.value c.in_default.is
+unreachable-requires g c =
+    not_down c.args.self.now c.in_ok-k.k c.index_mut.result.now c.in_default.field-0 c.in_ok-k.ensures.place.1 c.index_mut.ensures.value c.in_default.is
 
 pub arm-requires : goal.arm-requires
 arm-requires g c =
@@ -46,7 +47,8 @@ returns-clause-told g c = λ ok given cell text stands.
     let site = c.index_mut.result.now in
     let there = found_up c.args.self.now c.in_ok-k.k site c.in-Up.node c.in_ok-k.ensures.place.1 c.index_mut.ensures.value c.in-Up.is in
     let does : ℕ → Cell_run = λ k. resting (record cell { armed = set cell.armed k (Some (record { calls = c.args.calls; made = 0 })) }) in
-    arm_told g.D.Disk c.args.self.now _ c.in_ok-k.k site.clock c.args.calls c.args.fill c.in-Up.node c.arm.new.self there refl refl refl c.arm.ensures.disk c.arm.ensures.same db given cell
+    arm_told g.D.Disk c.args.self.now _ c.in_ok-k.k site.clock c.args.calls c.args.fill c.in-Up.node c.arm.new.self there refl refl refl c.arm.ensures.disk
+    c.arm.ensures.same db given cell
     (λ choices. run_in db cell choices (line.Stop c.args.server c.args.calls c.args.fill)) text stands
     (λ choices. c.in_ok-k.ensures.up cell does (size_of g.D.Disk c.requires.0 c.args.self.now cell c.requires.1 stands) stands.sites)
 
@@ -57,7 +59,8 @@ returns-clause-sound g c = λ bound still.
     let there = found_up c.args.self.now k site c.in-Up.node c.in_ok-k.ensures.place.1 c.index_mut.ensures.value c.in-Up.is in
     let at = here g.D.Disk bound c.args.self.now k site.clock c.in-Up.node still there in
     sound_at_place g.D.Disk c.args.self.now _ k (up_site site.clock c.in-Up.node) (up_site site.clock c.arm.new.self) there refl bound still refl
-    (arm_node g.D.Disk site.clock c.args.calls c.args.fill c.in-Up.node c.arm.new.self c.arm.ensures.disk c.arm.ensures.same (member_at c.args.self.now k) at.sound c.arm.ensures.stored)
+    (arm_node g.D.Disk site.clock c.args.calls c.args.fill c.in-Up.node c.arm.new.self c.arm.ensures.disk c.arm.ensures.same (member_at c.args.self.now k)
+    at.sound c.arm.ensures.stored)
     (arm_disk g.D.Disk site.clock c.args.calls c.args.fill c.in-Up.node c.arm.new.self c.arm.ensures.disk c.arm.ensures.same at.disk)
     refl refl refl
 
@@ -66,4 +69,5 @@ returns-clause-never_falls g c =
     let site = c.index_mut.result.now in
     let there = found_up c.args.self.now c.in_ok-k.k site c.in-Up.node c.in_ok-k.ensures.place.1 c.index_mut.ensures.value c.in-Up.is in
     let same = c.arm.ensures.disk.faults in
-    rises_set g.D.Disk [] 0 c.in_ok-k.k c.args.self.now.sites.items (up_site site.clock c.in-Up.node) (up_site site.clock c.arm.new.self) there (omega (arith, same)) (λ j other. refl)
+    rises_set g.D.Disk [] 0 c.in_ok-k.k c.args.self.now.sites.items (up_site site.clock c.in-Up.node) (up_site site.clock c.arm.new.self) there
+    (omega (arith, same)) (λ j other. refl)

@@ -18,7 +18,8 @@ pub returns-in_err-k-clause-refused : goal.returns-in_err-k-clause-refused
 returns-in_err-k-clause-refused g c = λ w is. (
   refl,
   λ given c' stands choices.
-      c.in_err-k.ensures.there c' (λ k. unless_skewed (script_database g.V.DraftService.standing.database g.V.DraftWords.words) c' (tick_at c'.run.world.sites k c.args.seconds) (Tick k c.args.seconds)) (cell_size g.D.Disk c.requires.0 c.args.self.now c' c.requires.1 stands)
+      c.in_err-k.ensures.there c' (λ k. unless_skewed (script_database g.V.DraftService.standing.database g.V.DraftWords.words) c'
+      (tick_at c'.run.world.sites k c.args.seconds) (Tick k c.args.seconds)) (cell_size g.D.Disk c.requires.0 c.args.self.now c' c.requires.1 stands)
       ∙ ap Err (refused_so c.from_residual.result c.in_err-k.field-0.0 w c.from_residual.ensures.1 is),
 )
 
@@ -36,8 +37,11 @@ returns-then-not-is_near-clause-refused g c = λ w is.
     let there = site_there c.args.self.now.sites.items c.in_ok-k.k c.index.result.now c.in_ok-k.ensures.place.1 c.index.ensures in (
       refl,
       λ given c' stands choices.
-          c.in_ok-k.ensures.there c' (λ k. unless_skewed (script_database g.V.DraftService.standing.database g.V.DraftWords.words) c' (tick_at c'.run.world.sites k c.args.seconds) (Tick k c.args.seconds)) (cell_size g.D.Disk c.requires.0 c.args.self.now c' c.requires.1 stands)
-          ∙ tick_skews (script_database g.V.DraftService.standing.database g.V.DraftWords.words) c.args.self.now c' c.in_ok-k.k c.args.seconds c.index.result.now stands there (λ near. let t = c.is_near.ensures.1 (subst (λ (l : List _). IsNearAt l c.in_ok-k.k (c.index.result.now.clock + c.args.seconds)) (sym c.deref.ensures.value) near) in cc)
+          c.in_ok-k.ensures.there c' (λ k. unless_skewed (script_database g.V.DraftService.standing.database g.V.DraftWords.words) c'
+          (tick_at c'.run.world.sites k c.args.seconds) (Tick k c.args.seconds)) (cell_size g.D.Disk c.requires.0 c.args.self.now c' c.requires.1 stands)
+          ∙ tick_skews (script_database g.V.DraftService.standing.database g.V.DraftWords.words) c.args.self.now c' c.in_ok-k.k c.args.seconds
+          c.index.result.now stands there (λ near. let t = c.is_near.ensures.1
+          (subst (λ (l : List _). IsNearAt l c.in_ok-k.k (c.index.result.now.clock + c.args.seconds)) (sym c.deref.ensures.value) near) in cc)
           ∙ ap Err (let same : why.Skew ≡ w = cc in same),
     )
 
@@ -52,8 +56,10 @@ returns-clause-told g c = λ is given c' text stands.
     let there' = site_there c.args.self.now.sites.items k c.index_mut.result.now c.in_ok-k.ensures.place.1 c.index_mut.ensures.value in
     let passed : c.is_near.result ≡ true = cc in
     let near = subst (λ (l : List _). IsNearAt l k (c.index.result.now.clock + c.args.seconds)) c.deref.ensures.value (c.is_near.ensures.0 passed) in
-    let does = c.in_ok-k.ensures.there c' (λ k. unless_skewed db c' (tick_at c'.run.world.sites k c.args.seconds) (Tick k c.args.seconds)) (cell_size g.D.Disk c.requires.0 c.args.self.now c' c.requires.1 stands) in
-    subst (λ (after : OpenCell _ _). CellTold g.D.Disk db given (λ choices. run_in db c' choices (line.Tick c.args.server c.args.seconds)) None c.args.self.now after text text)
+    let does = c.in_ok-k.ensures.there c' (λ k. unless_skewed db c' (tick_at c'.run.world.sites k c.args.seconds) (Tick k c.args.seconds))
+    (cell_size g.D.Disk c.requires.0 c.args.self.now c' c.requires.1 stands) in
+    subst (λ (after : OpenCell _ _). CellTold g.D.Disk db given (λ choices. run_in db c' choices (line.Tick c.args.server c.args.seconds)) None c.args.self.now
+    after text text)
     (ticked_so c.args.self.now k c.args.seconds c.index.result.now c.index_mut.result.now there there')
     (tick_told g.D.Disk db c.requires.0 c.args.self.now c' k c.args.seconds c.index.result.now _ text c.requires.1 c.requires.2 stands there near does)
 

@@ -14,7 +14,8 @@ tick_sites-requires g c = λ k site there.
 pub returns-clause-told : goal.returns-clause-told
 returns-clause-told g c = λ given c' text stands.
     let are = c.tick_sites.ensures ∙ ap (map (ticked_on c.args.seconds)) c.deref_mut.ensures.value in
-    all_told g.D.Disk (script_database g.V.DraftService.standing.database g.V.DraftWords.words) c.requires.0 c.args.self.now c.tick_sites.new.sites c' c.args.seconds text are c.requires.1 c.requires.2 stands
+    all_told g.D.Disk (script_database g.V.DraftService.standing.database g.V.DraftWords.words) c.requires.0 c.args.self.now c.tick_sites.new.sites c'
+    c.args.seconds text are c.requires.1 c.requires.2 stands
 
 pub returns-clause-sound : goal.returns-clause-sound
 returns-clause-sound g c = λ bound sound.

@@ -31,8 +31,10 @@ invariant_of-self c =
       bytes = kept.bytes;
       light = kept.light;
       low = kept.low;
-      none = subst (λ (h : List Bool). NoneWaits h a.low) (sym handed) (covers_none a.handed.items after a.low (dropped_covers c.args.host a.sent.items a.handed.items kept.each) kept.none);
-      within = subst (λ (s : List Swept). AreWithin (length a.sent.items) s) (sym places) (swept_within c.args.host end (length a.sent.items) a.swept.items (omega (arith, len)) kept.within);
+      none = subst (λ (h : List Bool). NoneWaits h a.low) (sym handed)
+          (covers_none a.handed.items after a.low (dropped_covers c.args.host a.sent.items a.handed.items kept.each) kept.none);
+      within = subst (λ (s : List Swept). AreWithin (length a.sent.items) s) (sym places)
+          (swept_within c.args.host end (length a.sent.items) a.swept.items (omega (arith, len)) kept.within);
       swept = subst (λ (s : List Swept). AreSwept a.sent.items (with_items a.handed c.drop_from.new.handed).items s) (sym places)
           (subst (λ (h : List Bool). AreSwept a.sent.items h (map (swept_to c.args.host end) a.swept.items)) (sym handed)
           (dropped_are_swept c.args.host end a.sent.items a.handed.items a.swept.items kept.each kept.swept));

@@ -28,7 +28,8 @@ invariant_of-self-2 c =
       bytes = bytes;
       light = let n = ap bytes_of same in omega (arith, within.1, n, c.self.invariant.bytes, c.packet_len.ensures);
       low = omega (arith, count, c.self.invariant.low);
-      none = subst (λ (h : List Bool). NoneWaits h a.low) (sym handed) (covers_none a.handed.items (a.handed.items ++ false ∷ []) a.low (push_covers a.handed.items) c.self.invariant.none);
+      none = subst (λ (h : List Bool). NoneWaits h a.low) (sym handed)
+          (covers_none a.handed.items (a.handed.items ++ false ∷ []) a.low (push_covers a.handed.items) c.self.invariant.none);
       within = λ k d lt. let w = c.self.invariant.within k d lt in omega (arith, w, count);
       swept = subst (λ (s : List Packet). AreSwept s c.push.new.self.items a.swept.items) (sym sent)
           (subst (λ (h : List Bool). AreSwept (a.sent.items ++ p ∷ []) h a.swept.items) (sym handed)

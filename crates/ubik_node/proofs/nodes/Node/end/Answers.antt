@@ -1,7 +1,7 @@
-use Rattle.std.proofs.Common.{◌≡◌, ◌∙◌, [], true, refl, ap}
+use Rattle.std.proofs.Common.{◌∙◌, true, refl, ap}
 use Rattle.cell_model.specs.Node.{Server}
 use Rattle.cell_model.specs.Step.{Member}
-use Rattle.ubik_node.specs.Node.{Held, held}
+use Rattle.ubik_node.specs.Node.{held}
 use Rattle.ubik_node.specs.Recovering.{restored_over}
 use Rattle.ubik_node.specs.State.{member_of, server_with}
 use Rattle.ubik_node.proofs.Closing.{closes_done, closes_failed, closes_short}

@@ -1,8 +1,5 @@
-use Rattle.std.proofs.Common.{◌≡◌, ◌≢◌, ◌+◌, ◌∙◌, ◌++◌, ℕ, true, false, Some, List, length, refl, sym, ap, rules, arith, eq-eqb, ne_eqb}
+use Rattle.std.proofs.Common.{◌≡◌, ◌≢◌, ◌+◌, ◌∙◌, true, false, Some, length, refl, sym, ap, rules, arith, eq-eqb, ne_eqb}
 use Rattle.std.proofs.lemmas.Bool.{false≢true}
-use Rattle.cell_model.specs.declared.events.Output.{Output}
-use Rattle.cell_model.specs.Step.{Member, host_at, outputs_of, sends_to}
-use Rattle.ubik_calls.specs.declared.packets.Body.TheVariants as body
 use Rattle.ubik_recovery.specs.Record.{with_text}
 use Rattle.ubik_recovery.specs.Text.{with_piece}
 use Rattle.ubik_node.specs.declared.state.State.{State}

@@ -1,6 +1,5 @@
-use Rattle.std.proofs.Common.{◌≡◌, ◌∙◌, ◌++◌, true, false, nat_lt, List, [], IsSome, None, length, Ok, Err, refl, sym, ap, subst, rules, arith}
+use Rattle.std.proofs.Common.{◌≡◌, ◌∙◌, true, false, nat_lt, List, [], IsSome, None, length, Ok, Err, refl, sym, ap, subst, rules, arith}
 use Rattle.cell_model.specs.declared.events.Output.{Output}
-use Rattle.cell_model.specs.Node.{Server}
 use Rattle.cell_model.specs.Recovery.{installed, relabelled}
 use Rattle.cell_model.specs.Step.{Member, followed, with_phase}
 use Rattle.ubik_types.specs.declared.hosts.Host.{Host}

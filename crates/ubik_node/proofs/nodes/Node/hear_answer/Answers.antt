@@ -1,4 +1,4 @@
-use Rattle.std.proofs.Common.{◌≡◌, ◌<◌, ◌≤◌, ◌==◌, ◌∙◌, [], Bool, None, length, true, false, cond, refl, sym, ap, subst, rules, arith}
+use Rattle.std.proofs.Common.{◌≡◌, ◌==◌, ◌∙◌, Bool, None, length, true, false, cond, refl, sym, ap, subst, rules, arith}
 use Rattle.cell_model.specs.Polls.{with_answer}
 use Rattle.cell_model.specs.Recovery.{polled}
 use Rattle.cell_model.specs.Step.{Stepped, quiet}

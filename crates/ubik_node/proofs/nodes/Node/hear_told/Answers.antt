@@ -1,4 +1,4 @@
-use Rattle.std.proofs.Common.{◌≡◌, ◌==◌, ◌∙◌, [], List, true, false, refl, rules, ap, sym, length, arith, subst}
+use Rattle.std.proofs.Common.{◌≡◌, ◌==◌, List, true, false, refl, rules, ap, length, arith, subst}
 use Rattle.ubik_types.specs.Version.{version_eq}
 use Rattle.cell_model.specs.declared.events.Output.{Output}
 use Rattle.cell_model.specs.Recovery.{holder_added}

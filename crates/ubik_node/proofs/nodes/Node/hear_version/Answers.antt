@@ -1,4 +1,4 @@
-use Rattle.std.proofs.Common.{◌≡◌, ◌∙◌, [], inl, inr, refl, rules, sym}
+use Rattle.std.proofs.Common.{◌∙◌, refl, rules, sym}
 use Rattle.ubik_node.specs.Node.{held}
 use Rattle.ubik_node.specs.State.{member_of, server_of}
 use Rattle.ubik_node.proofs.Endings.{known_ends, rests_ends, same_ends, shown_ends}

@@ -1,13 +1,12 @@
-use Rattle.std.proofs.Common.{◌≡◌, ◌≤◌, ◌<◌, ◌∙◌, [], ℕ, List, Option, length, refl, sym, ap, subst, arith}
+use Rattle.std.proofs.Common.{◌∙◌, ℕ, List, length, refl, sym, ap, arith}
 use Rattle.cell_model.specs.Durable as durable
 use Rattle.cell_model.specs.Durable.{Received}
 use Rattle.cell_model.specs.Step.{with_database}
 use Rattle.ubik_store.specs.DurableCall.{whole_image}
-use Rattle.ubik_store.specs.Store.{IsTooLong, image_in}
+use Rattle.ubik_store.specs.Store.{IsTooLong}
 use Rattle.ubik_node.specs.Node.{held}
 use Rattle.ubik_node.specs.State.{member_of, server_of}
 use Rattle.ubik_node.proofs.Calling.{call_failed, call_made}
-use Rattle.ubik_node.proofs.Durables.{IsThere}
 use Rattle.ubik_node.proofs.Endings.{handed_ends, ok_not, reads_none}
 use Rattle.ubik_node.proofs.HeldImages.{held_length, held_there}
 use Rattle.ubik_node.proofs.Received.{effect_whole, held_text}

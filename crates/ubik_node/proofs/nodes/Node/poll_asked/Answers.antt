@@ -1,4 +1,4 @@
-use Rattle.std.proofs.Common.{◌++◌, ◌≤◌, ◌+◌, ℕ, [], List, ap, ◌∙◌, length, arith}
+use Rattle.std.proofs.Common.{◌++◌, ℕ, List, ap, ◌∙◌, length, arith}
 use Rattle.ubik_types.specs.Quorum.{marked}
 use Rattle.ubik_recovery.specs.Record.{polled_of}
 use Rattle.cell_model.specs.declared.events.Output.{Output}

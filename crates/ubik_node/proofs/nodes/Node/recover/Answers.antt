@@ -1,7 +1,7 @@
-use Rattle.std.proofs.Common.{◌≡◌, ◌≤◌, ◌∙◌, ℕ, List, [], None, true, false, length, refl, rules, sym, ap, subst, arith}
+use Rattle.std.proofs.Common.{◌≡◌, ◌≤◌, ◌∙◌, ℕ, List, true, false, length, refl, rules, sym, ap, subst, arith}
 use Rattle.ubik_types.specs.declared.phases.Phase.TheVariants as phase
 use Rattle.cell_model.specs.Recovery.{poll_asked, recovered, relabelled}
-use Rattle.ubik_recovery.specs.Record.{RecoveryRecord, adopted, is_fetch, polled_of, with_text}
+use Rattle.ubik_recovery.specs.Record.{RecoveryRecord, adopted, is_fetch, polled_of}
 use Rattle.ubik_node.specs.Node.{held}
 use Rattle.ubik_node.specs.Recovering.{IsOfCell}
 use Rattle.ubik_node.specs.State.{ShowsBehind, member_of, server_of, server_with}

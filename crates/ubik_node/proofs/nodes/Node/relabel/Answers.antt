@@ -1,4 +1,4 @@
-use Rattle.std.proofs.Common.{◌≡◌, ◌<◌, ◌++◌, ◌∷◌, ◌∙◌, ℕ, true, false, nat_lt, List, [], length, IsSome, refl, sym, ap, subst, arith}
+use Rattle.std.proofs.Common.{◌≡◌, ◌<◌, ◌∷◌, ◌∙◌, ℕ, true, nat_lt, List, [], length, refl, sym, ap, subst, arith}
 use Rattle.std.specs.Result.{is_err}
 use Rattle.std.proofs.lemmas.Bool.{false≢true}
 use Rattle.std.proofs.lemmas.Bool.Decides.{nat_tests}
@@ -13,7 +13,7 @@ use Rattle.cell_model.specs.Durable.{Made}
 use Rattle.cell_model.specs.Node.{Server}
 use Rattle.cell_model.specs.Polls.{only_holder}
 use Rattle.cell_model.specs.Recovery.{first_of_epoch, own_relabelling, relabelled_to}
-use Rattle.cell_model.specs.Step.{Member, with_database, with_phase}
+use Rattle.cell_model.specs.Step.{Member}
 use Rattle.cell_model.specs.Writes.{settled}
 use Rattle.ubik_node.specs.Node.{held}
 use Rattle.ubik_node.specs.State.{ShowsBehind, member_of, server_of, server_with}

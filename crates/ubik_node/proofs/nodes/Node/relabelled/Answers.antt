@@ -1,4 +1,4 @@
-use Rattle.std.proofs.Common.{◌≡◌, false, nat_lt, refl, rules, sym, ap}
+use Rattle.std.proofs.Common.{◌≡◌, false, nat_lt, refl, rules, sym}
 use Rattle.std.proofs.lemmas.List.{append-nil}
 use Rattle.ubik_recovery.specs.Record.{adopted}
 use Rattle.ubik_node.specs.Node.{held}

@@ -1,4 +1,4 @@
-use Rattle.std.proofs.Common.{◌≡◌, ◌∙◌, [], ℕ, length, refl, sym, ap, arith}
+use Rattle.std.proofs.Common.{◌∙◌, ℕ, length, refl, sym, ap, arith}
 use Rattle.ubik_types.specs.declared.versions.Version.{Version}
 use Rattle.ubik_calls.specs.declared.packets.Body.TheVariants as body
 use Rattle.ubik_node.specs.Node.{held}

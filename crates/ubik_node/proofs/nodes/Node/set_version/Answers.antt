@@ -1,4 +1,4 @@
-use Rattle.std.proofs.Common.{◌≡◌, ◌≤◌, ◌<◌, ◌∙◌, ◌++◌, ◌&&◌, [], true, false, ℕ, List, Option, length, refl, rules, sym, ap, subst, arith}
+use Rattle.std.proofs.Common.{◌≡◌, ◌∙◌, ◌++◌, ◌&&◌, [], true, false, length, refl, rules, sym, ap, arith}
 use Rattle.std.proofs.lemmas.Bool.{false≢true}
 use Rattle.std.proofs.lemmas.Bool.Decides.{nat_tests}
 use Rattle.ubik_types.specs.declared.versions.Version.{Version}
@@ -7,15 +7,13 @@ use Rattle.ubik_types.specs.Version.{version_eq, version_lt}
 use Rattle.ubik_calls.specs.declared.packets.Body.TheVariants as body
 use Rattle.cell_model.specs.Durable as durable
 use Rattle.cell_model.specs.Durable.{Received}
-use Rattle.cell_model.specs.Node.{Server}
-use Rattle.cell_model.specs.Receiver.{is_sending}
-use Rattle.cell_model.specs.Step.{Member, outputs_of, sends_to, with_database}
+use Rattle.cell_model.specs.Step.{Member, outputs_of, sends_to}
 use Rattle.ubik_store.specs.DurableCall.{IsNeverLong}
 use Rattle.ubik_store.specs.Store.{image_in}
 use Rattle.ubik_node.specs.Node.{held}
 use Rattle.ubik_node.specs.State.{member_of, server_of}
 use Rattle.ubik_node.proofs.Calling.{call_failed, call_made}
-use Rattle.ubik_node.proofs.Durables.{IsThere, image_then}
+use Rattle.ubik_node.proofs.Durables.{image_then}
 use Rattle.ubik_node.proofs.Endings.{handed_ends, ok_not, reads_none, rests_ends, same_ends}
 use Rattle.ubik_node.proofs.Received.{sending_is, set_had, set_ignored, set_made, set_refused}
 use Rattle.ubik_node.proofs.Told.{sent_as}

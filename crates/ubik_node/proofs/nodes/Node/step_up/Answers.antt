@@ -1,4 +1,4 @@
-use Rattle.std.proofs.Common.{◌≡◌, ◌≢◌, ◌<◌, [], IfSome, IsSome, OnErr, refl, sym, ap, subst, ◌∙◌, List, ℕ, rules}
+use Rattle.std.proofs.Common.{◌≡◌, ◌≢◌, ◌<◌, [], IfSome, IsSome, refl, sym, ap, subst, ◌∙◌, List, ℕ, rules}
 use Rattle.ubik_types.specs.declared.versions.Version.{Version}
 use Rattle.cell_model.specs.declared.events.NodeEvent.{NodeEvent}
 use Rattle.cell_model.specs.declared.events.NodeEvent.TheVariants.{Packet, BeaconTurn, RecoverTurn, Ask}

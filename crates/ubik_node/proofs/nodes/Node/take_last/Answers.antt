@@ -1,4 +1,4 @@
-use Rattle.std.proofs.Common.{◌≡◌, ◌≤◌, ◌+◌, ◌∙◌, ◌++◌, ℕ, true, false, List, Option, length, take, refl, sym, ap, subst, rules, arith, length-take}
+use Rattle.std.proofs.Common.{◌≡◌, ◌+◌, ◌∙◌, ◌++◌, ℕ, true, false, List, length, take, sym, ap, subst, arith, length-take}
 use Rattle.std.specs.Result.{is_err}
 use Rattle.std.proofs.lemmas.List.{take-take}
 use Rattle.ubik_types.specs.declared.versions.Version.{Version}

@@ -1,8 +1,6 @@
-use Rattle.std.proofs.Common.{◌≡◌, ◌≢◌, ◌+◌, ◌∙◌, ◌++◌, ℕ, cond, true, false, Some, None, is_some, Option, List, length, refl, sym, ap, rules, arith, eq-eqb, ne_eqb}
+use Rattle.std.proofs.Common.{◌≡◌, ◌≢◌, ◌+◌, ◌∙◌, ◌++◌, ℕ, true, false, Some, length, refl, sym, ap, rules, arith, eq-eqb, ne_eqb}
 use Rattle.std.proofs.lemmas.Bool.{false≢true}
 use Rattle.ubik_types.specs.Version.{version_eq, version_lt}
-use Rattle.cell_model.specs.declared.events.Output.{Output}
-use Rattle.cell_model.specs.Node.{ReceivedText}
 use Rattle.cell_model.specs.Receiver.{is_sending}
 use Rattle.cell_model.specs.Recovery.{installed, text_with}
 use Rattle.cell_model.specs.Step.{Member, is_fetch, outputs_of, sends_to}
