@@ -23,6 +23,7 @@ pub mod Relabelled
 pub mod Rested
 pub mod Sending
 pub mod Served
+pub mod Serves
 pub mod Spread
 pub mod Stepping
 pub mod Told

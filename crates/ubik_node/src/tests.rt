@@ -1,12 +1,13 @@
 //! A server over a disk in memory, with a small database: alone in its cell, and one of three.
-ghost use Rattle.std.specs.Prelude.{◌≡◌, ◌≢◌, ◌<◌, ◌≤◌, IfOk, IfErr, IfSome, IsErrOf, MatchResult, Some, length, true};
+ghost use Rattle.std.specs.Prelude.{◌≡◌, ◌≢◌, ◌<◌, ◌≤◌, ◌↔◌, IsTrue, IfOk, IfErr, IfSome, IsErrOf, MatchResult, Some, length, true};
 ghost use Rattle.disk_base.specs.Crash.{IsSettled};
 ghost use Rattle.cell_model.specs.Step.{cell_size};
 ghost use Rattle.db_image.specs.Ends.{EndsBy, IsShort};
 ghost use Rattle.db_image.specs.Images.{IsOfImage, OnlyReads};
 ghost use Rattle.ubik_node.specs.Appending.{appended, appending};
 ghost use Rattle.ubik_node.specs.Built.{IsBuilt};
-ghost use Rattle.ubik_node.specs.Node.{IsStored, node_of, own_member};
+ghost use Rattle.ubik_node.specs.Node.{IsStored, node_of, own_member, up_server};
+ghost use Rattle.ubik_types.specs.Phase.{phase_of};
 
 use super::*;
 use db_image::{CallEnd, Draft, DraftService, ImageRead, RecordFault};
@@ -531,7 +532,9 @@ fn halts<D: SteadyDisk>(
     node: &mut Server<D>,
     id: u32,
 ) -> Result<(), Fail>
+    requires alone { cell_size (own_member node.old) ≡ 1 }
     requires stored { IsStored D.Disk node.old }
+    ensures member { own_member node.new ≡ own_member node.old }
     ensures stored { IsStored D.Disk node.new }
 {
     let mut out = ask(rt, alloc, node, (1077, id, b"ab"), StepEnd::Halted)?;
@@ -647,6 +650,13 @@ fn no_second_yes_within_75_seconds(rt: HostRuntime) -> Result<(), Fail> {
     Ok(())
 }
 
+/// Whether calls are served at a server.
+fn is_ready<D: SteadyDisk>(node: &Server<D>) -> bool
+    ensures { IsTrue result ↔ (phase_of (up_server node.now).phase ≡ Phase.Ready) }
+{
+    matches!(node.phase(), Phase::Ready)
+}
+
 /// A call that the server names the sync site for, which it heard at 1076.
 fn sends_on<D: SteadyDisk>(
     rt: &impl Abort,
@@ -657,11 +667,21 @@ fn sends_on<D: SteadyDisk>(
     requires stored { IsStored D.Disk node.old }
     ensures stored { IsStored D.Disk node.new }
 {
-    let mut out = ask(rt, alloc, node, asked, StepEnd::Done)?;
+    let (now, id, bytes) = asked;
+    let call = bytes_of(alloc, bytes)?;
+    let serves = is_ready(node);
+    assert!(rt; !serves);
+    let mut out = step(
+        rt,
+        alloc,
+        node,
+        now,
+        NodeEvent::Ask { id, call },
+        StepEnd::Done,
+    )?;
     assert!(rt;
-        is_elsewhere(&out.take(), asked.1, (Host(1), 1076)),
-        "call {}",
-        asked.1
+        is_elsewhere(&out.take(), id, (Host(1), 1076)),
+        "call {id}"
     );
     Ok(())
 }
