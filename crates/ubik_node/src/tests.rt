@@ -679,10 +679,7 @@ fn sends_on<D: SteadyDisk>(
         NodeEvent::Ask { id, call },
         StepEnd::Done,
     )?;
-    assert!(rt;
-        is_elsewhere(&out.take(), id, (Host(1), 1076)),
-        "call {id}"
-    );
+    assert!(rt; is_elsewhere(&out.take(), id, (Host(1), 1076)), "call {id}");
     Ok(())
 }
 
