@@ -7,10 +7,10 @@ ghost use Rattle.std.specs.Prelude.{◌≡◌, ◌≤◌, IfOk, IfSome, IsTrue, 
 ghost use Rattle.disk_base.specs.Crash.{IsSettled};
 ghost use Rattle.disk_base.specs.Files.{no_files};
 ghost use Rattle.cell_model.specs.Step.{cell_size};
-ghost use Rattle.ubik_node.specs.Built.{IsBuilt};
 ghost use Rattle.ubik_node.specs.Node.{IsStored, own_member};
 ghost use Rattle.page_file.specs.declared.label.TheConstants.{MAX_DATABASE_LEN};
 ghost use Rattle.node_bench.specs.Answers.{is_answer, answers};
+ghost use Rattle.node_bench.specs.Events.{IsOwn};
 
 use bench_calls::{Asked, Idle, Task, call_of, task_of};
 use disk_base::{DiskEnd, FileNo, MemDisk, RoomEnd, StopDisk};
@@ -63,13 +63,14 @@ fn filled<D: StopDisk + Drop>(disk: D, file: &[u8]) -> Option<D>
     Some(disk)
 }
 
-/// One step at the moment of all steps, and what it put out; none where it was not made.
+/// One step of a server that is alone at the moment of all steps, and what it put out; none where it was not made.
 fn step<D: SteadyDisk>(
     alloc: Global,
     node: &mut Server<D>,
     event: NodeEvent,
 ) -> Result<Option<Outputs>, NoMemory>
-    requires built { IsBuilt (own_member node.old) event }
+    requires own { IsOwn event }
+    requires alone { cell_size (own_member node.old) ≡ 1 }
     requires stored { IsStored D.Disk node.old }
     ensures member { own_member node.new ≡ own_member node.old }
     ensures stored { IsStored D.Disk node.new }
@@ -85,7 +86,8 @@ fn step<D: SteadyDisk>(
 /// A server alone in its cell over a disk, after a beacon turn and a recovery turn; none where one of them was not made.
 fn started<D: SteadyDisk + Drop>(alloc: Global, disk: D) -> Result<Option<Server<D>>, NoMemory>
     requires settled { IsSettled (D.files disk) (D.may_leave disk) }
-    ensures { IfOk result (λ started. IfSome started (IsStored D.Disk)) }
+    ensures stored { IfOk result (λ started. IfSome started (IsStored D.Disk)) }
+    ensures alone { IfOk result (λ started. IfSome started (λ node. cell_size (own_member node) ≡ 1)) }
 {
     let Ok(cell) = Cell::new(alloc, &[Host(1)]) else {
         return Ok(None);
@@ -137,7 +139,8 @@ fn asked_often<D: SteadyDisk>(
     asked: Asked,
     times: u32,
 ) -> Result<u32, NoMemory>
-    requires { IsStored D.Disk node.old }
+    requires stored { IsStored D.Disk node.old }
+    requires alone { cell_size (own_member node.old) ≡ 1 }
     ensures few { IfOk result (λ done. done ≤ times) }
 {
     let mut done = 0;
