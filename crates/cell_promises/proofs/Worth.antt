@@ -3,30 +3,27 @@ use Rattle.std.proofs.Common.{◌≡◌, ◌≤◌, ℕ, List, [], ◌∷◌, �
 use Rattle.std.proofs.lemmas.List.Elements.{All-weaker}
 use Rattle.std.specs.Prelude.{All, Contains}
 use Rattle.db_image.specs.Database.{Database}
+use Rattle.db_image.specs.Standing.{Standing}
 use Rattle.ubik_calls.specs.declared.replies.Reply.{Reply}
 use Rattle.ubik_calls.specs.declared.replies.Reply.TheVariants as reply
 use Rattle.cell_model.specs.Book.{Book, Given, Run, order_of, first_run, run_through}
 use Rattle.cell_model.specs.Durable.{Transaction}
-use Rattle.cell_model.specs.KeptLaws.{ChangesNothing, IsPlaced, IsReplyOf}
-use Rattle.cell_model.specs.SingleCopy.{image_after}
-use Rattle.cell_model.proofs.BookVersions.{image_from-append}
+use Rattle.cell_model.specs.KeptLaws.{IsPlaced, IsReplyOf}
 use Rattle.cell_model.specs.Step.{Basis, Announced_image, Beacon_image, Commit_on}
 use Rattle.cell_model.specs.World.{World, Event, IsRun, IsFirst, happens, world_after}
 use Rattle.cell_pages.specs.Images.{KeepsImages}
 use Rattle.cell_orders.specs.Laws as laws
 use Rattle.cell_orders.specs.Replies.{transaction_in, LeavesCopy, IsSingleReply, IsAtSync}
-use Rattle.prdb_entries.specs.Registry.{Registry}
-use Rattle.pt_calls.specs.Laws.{DoesWhatIsMeant, LeavesStates, NeverShrinks}
-use Rattle.pt_calls.specs.Meaning.{pt_meaning}
-use Rattle.pt_calls.specs.Standing.{StandsFor, pt_database}
 use Rattle.cell_script.specs.declared.lines.Kind.{Kind}
-use Rattle.cell_runs.specs.Script.{Cell, Told, told}
+use Rattle.cell_runs.specs.Script.{Cell, Told, kind_of_cell, told}
 use Rattle.cell_runs.specs.ScriptDatabase.{Databases}
 use Rattle.script_laws.specs.Runs.{NamesCalls, IsRunOfCell, ScriptsAreRuns, database_of, run_of, first_of}
 use Rattle.script_laws.proofs.Parts.{run-append}
-use Rattle.script_promises.specs.Databases.{databases}
-use Rattle.cell_promises.specs.Promises.{HasOrder, ScriptsHaveOrder, meant_state, LeavesState, IsMeantReply, HasMeaning, CellsKeepPromises}
-use Rattle.cell_promises.proofs.Standing.{IsMeantAt, image_stands, reply_meant, state_left}
+use Rattle.script_promises.specs.Databases.{databases, standing_of, standings}
+use Rattle.script_promises.specs.Kept.{state_after}
+use Rattle.script_promises.specs.Lawful.{IsLawful}
+use Rattle.script_promises.proofs.SingleStates.{image_stands, reply_meant, state_left}
+use Rattle.cell_promises.specs.Promises.{HasOrder, ScriptsHaveOrder, LeavesState, IsMeantReply, HasMeaning, CellsKeepPromises}
 
 -- the laws of runs, of every cell
 pub record OrderLaws : Type 0 where
@@ -103,69 +100,49 @@ pub scripts_have_order : OrderLaws → ScriptsAreRuns → ScriptsHaveOrder
 scripts_have_order laws_hold runs dbs names keep readings =
     cell_order laws_hold dbs keep (told dbs readings) (told dbs readings).stage.cell (runs dbs names readings)
 
--- ---- the protection database
+-- ---- a database with what it means
 
-pub record ProtectionLaws : Type 0 where
-  pub means : DoesWhatIsMeant
-  pub leaves : LeavesStates
-  pub never_shrinks : NeverShrinks
-  pub first : StandsFor [] pt_meaning.first
+module _ (d : Standing) (of : IsLawful d) where
+  pub keeps_images : KeepsImages d.database
+  keeps_images = record { block = λ is. absurd (omega (arith, is, of.block)); grows = of.never_shrinks }
 
-module _ (of : ProtectionLaws) where
-  pub keeps_images : KeepsImages pt_database
-  keeps_images = record { block = (λ is. absurd (omega arith)); grows = of.never_shrinks }
-
-  means : (image : List ℕ) (s : Registry) (now : ℕ) (bytes : List ℕ) → StandsFor image s → IsMeantAt pt_database pt_meaning StandsFor image s now bytes
-  means image s now bytes stands =
-      let m = of.means image s now bytes stands in
-      record { reply = m.reply; stands = m.stands; moves = of.leaves image s now bytes stands }
-
-  -- a transaction that changes nothing of the single copy leaves the state
-  left : (list : List Transaction) (t : Transaction) → ChangesNothing pt_database list t → meant_state (list ++ t ∷ []) ≡ meant_state list
-  left list t none =
-      state_left pt_database pt_meaning StandsFor of.first means list t (none.1 (omega arith) longer)
-    where
-      longer : length (image_after pt_database list) ≤ length (image_after pt_database (list ++ t ∷ []))
-      longer =
-          subst (λ (image : List ℕ). length (image_after pt_database list) ≤ length image) (sym (image_from-append pt_database [] list (t ∷ [])))
-          (of.never_shrinks (image_after pt_database list) t.moment t.call)
-
-  leaves_state : (list : List Transaction) (g : Given) (b : Basis) (r : Reply) → LeavesCopy pt_database list g b r → LeavesState list g b r
+  leaves_state : (list : List Transaction) (g : Given) (b : Basis) (r : Reply) → LeavesCopy d.database list g b r → LeavesState d list g b r
   leaves_state list g (Commit_on old new) r is = tt
-  leaves_state list g (Announced_image v) (reply.Ok fields) is = λ writes. left list (transaction_in g) (is writes)
-  leaves_state list g (Beacon_image v) (reply.Ok fields) is = λ writes. left list (transaction_in g) (is writes)
+  leaves_state list g (Announced_image v) (reply.Ok fields) is = λ writes. state_left d of list (transaction_in g) (is writes)
+  leaves_state list g (Beacon_image v) (reply.Ok fields) is = λ writes. state_left d of list (transaction_in g) (is writes)
   leaves_state list g (Announced_image v) _ is = tt
   leaves_state list g (Beacon_image v) _ is = tt
 
-  meant_reply : (book : Book) (order : List Transaction) (g : Given) → IsSingleReply pt_database book order g → IsMeantReply book g
+  meant_reply : (book : Book) (order : List Transaction) (g : Given) → IsSingleReply d.database book order g → IsMeantReply d book g
   meant_reply book order g is = record {
     list = is.list;
     listed = is.listed;
     meant =
-        subst (λ r. IsReplyOf r g.reply)
-        (reply_meant pt_database pt_meaning StandsFor of.first means is.list g.evaluation.moment g.evaluation.call)
-        (is.replied keeps_images);
+        subst (λ r. IsReplyOf r g.reply) (reply_meant d of is.list g.evaluation.moment g.evaluation.call) (is.replied keeps_images);
     leaves = leaves_state is.list g g.evaluation.basis g.reply (is.leaves keeps_images);
   }
 
-  has_meaning : (c : Cell) → HasOrder pt_database c → HasMeaning c
+  has_meaning : (c : Cell) → HasOrder d.database c → HasMeaning d c
   has_meaning c is = record {
     order = is;
     states = λ front back split k site s get up ready.
-        subst (λ (image : List ℕ). StandsFor image (meant_state (order_of (run_of pt_database c front).announcements)))
+        subst (λ (image : List ℕ). d.StandsFor image (state_after d (order_of (run_of d.database c front).announcements)))
         (sym (is.sites front back split k site s get up ready))
-        (image_stands pt_database pt_meaning StandsFor of.first means (order_of (run_of pt_database c front).announcements));
+        (image_stands d of (order_of (run_of d.database c front).announcements));
     replies = λ front back split.
-        All-weaker (IsSingleReply pt_database (run_of pt_database c front).book (order_of (run_of pt_database c front).announcements))
-        (IsMeantReply (run_of pt_database c front).book)
-        (λ g single. meant_reply (run_of pt_database c front).book (order_of (run_of pt_database c front).announcements) g single)
-        (run_of pt_database c front).given (is.replies front back split);
+        All-weaker (IsSingleReply d.database (run_of d.database c front).book (order_of (run_of d.database c front).announcements))
+        (IsMeantReply d (run_of d.database c front).book)
+        (λ g single. meant_reply (run_of d.database c front).book (order_of (run_of d.database c front).announcements) g single)
+        (run_of d.database c front).given (is.replies front back split);
   }
 
-  over_cell : (cell : Option Cell) → IfSome cell (λ c. HasOrder (database_of databases c) c) → IfSome cell HasMeaning
+-- ---- the cells of scripts
+
+module _ (lawful : (k : Kind) → IsLawful (standings k)) where
+  over_cell : (cell : Option Cell) → IfSome cell (λ c. HasOrder (database_of databases c) c) → IfSome cell (λ c. HasMeaning (standing_of c) c)
   over_cell None is = tt
-  over_cell (Some c) is = has_meaning c is
+  over_cell (Some c) is = has_meaning (standing_of c) (lawful (kind_of_cell c)) c is
 
   pub cells_keep_promises : ScriptsHaveOrder → NamesCalls databases → CellsKeepPromises
   cells_keep_promises has names readings =
-      over_cell (told databases readings).stage.cell (has databases names (λ k. keeps_images) readings)
+      over_cell (told databases readings).stage.cell (has databases names (λ k. keeps_images (standings k) (lawful k)) readings)

@@ -1,7 +1,8 @@
 -- What the run of a script is worth in a cell of every size (own).
 use Rattle.std.specs.Prelude.{◌≡◌, ℕ, true, Some, IfSome, List, [], ◌∷◌, ◌++◌, All}
 use Rattle.db_image.specs.Database.{Database}
-use Rattle.db_image.specs.Meaning.{state_of, reply_of}
+use Rattle.db_image.specs.Meaning.{reply_of}
+use Rattle.db_image.specs.Standing.{Standing}
 use Rattle.ubik_calls.specs.declared.replies.Reply.{Reply}
 use Rattle.ubik_calls.specs.declared.replies.Reply.TheVariants as reply
 use Rattle.cell_model.specs.Book.{Book, Given, list_of, order_of, is_ready_site, site_database}
@@ -15,14 +16,12 @@ use Rattle.cell_model.specs.World.{Site, Event, member, site_of, happens}
 use Rattle.cell_pages.specs.Images.{KeepsImages}
 use Rattle.cell_orders.specs.Asked.{AnswersAsk}
 use Rattle.cell_orders.specs.Replies.{transaction_in, version_in_reply, IsSingleReply, IsAtSync, HasEvaluation, PrefixesStay}
-use Rattle.prdb_entries.specs.Registry.{Registry}
-use Rattle.pt_calls.specs.Meaning.{pt_meaning}
-use Rattle.pt_calls.specs.Standing.{StandsFor, pt_database}
 use Rattle.cell_script.specs.declared.lines.Kind.{Kind}
 use Rattle.cell_runs.specs.Script.{LineRead, Cell, told}
 use Rattle.cell_runs.specs.ScriptDatabase.{Databases}
 use Rattle.script_laws.specs.Runs.{NamesCalls, database_of, run_of}
-use Rattle.script_promises.specs.Databases.{databases}
+use Rattle.script_promises.specs.Databases.{databases, standing_of}
+use Rattle.script_promises.specs.Kept.{state_after}
 
 -- One order, what is kept in it, and single replies: of the run of a cell over this database.
 pub record HasOrder (db : Database) (c : Cell) : Type 0 where
@@ -59,36 +58,32 @@ ScriptsHaveOrder =
     (dbs : Databases) → NamesCalls dbs → ((k : Kind) → KeepsImages (dbs k).database) → (readings : List LineRead) →
     IfSome (told dbs readings).stage.cell (λ c. HasOrder (database_of dbs c) c)
 
--- ---- the protection database
-
--- the state of the single copy after these transactions
-abbrev pub meant_state : List Transaction → Registry
-meant_state transactions = state_of pt_meaning transactions
+-- ---- a database with what it means
 
 -- an Ok to a call that writes, which is no commit's, leaves the state
-abbrev pub LeavesState : List Transaction → Given → Basis → Reply → Type 0
-LeavesState list g (Commit_on old new) r = Unit {0}
-LeavesState list g _ (reply.Ok fields) =
-    pt_database.writes g.evaluation.call ≡ Some true → meant_state (list ++ transaction_in g ∷ []) ≡ meant_state list
-LeavesState list g _ r = Unit {0}
+abbrev pub LeavesState : Standing → List Transaction → Given → Basis → Reply → Type 0
+LeavesState d list g (Commit_on old new) r = Unit {0}
+LeavesState d list g _ (reply.Ok fields) =
+    d.database.writes g.evaluation.call ≡ Some true → state_after d (list ++ transaction_in g ∷ []) ≡ state_after d list
+LeavesState d list g _ r = Unit {0}
 
 -- the reply is what its call means for the state of the list of the version under it
-pub record IsMeantReply (book : Book) (g : Given) : Type 0 where
+pub record IsMeantReply (d : Standing) (book : Book) (g : Given) : Type 0 where
   pub list : List Transaction
   pub listed : list_of book (version_in_reply g) ≡ Some list
-  pub meant : IsReplyOf (reply_of pt_meaning list g.evaluation.moment g.evaluation.call) g.reply
-  pub leaves : LeavesState list g g.evaluation.basis g.reply
+  pub meant : IsReplyOf (reply_of d.meaning list g.evaluation.moment g.evaluation.call) g.reply
+  pub leaves : LeavesState d list g g.evaluation.basis g.reply
 
-pub record HasMeaning (c : Cell) : Type 0 where
-  pub order : HasOrder pt_database c
+pub record HasMeaning (d : Standing) (c : Cell) : Type 0 where
+  pub order : HasOrder d.database c
   -- the database of each ready sync site stands for the state of the order
   pub states : (front back : List Event) → c.events ≡ front ++ back →
-      let r = run_of pt_database c front in
+      let r = run_of d.database c front in
       (k : ℕ) (site : Site) (s : Server) → site_of r.world k ≡ Some site → site.node ≡ Up s →
-      is_ready_site (member r.world k) site.clock (Up s) ≡ true → StandsFor (site_database s) (meant_state (order_of r.announcements))
+      is_ready_site (member r.world k) site.clock (Up s) ≡ true → d.StandsFor (site_database s) (state_after d (order_of r.announcements))
   pub replies : (front back : List Event) → c.events ≡ front ++ back →
-      let r = run_of pt_database c front in All (IsMeantReply r.book) r.given
+      let r = run_of d.database c front in All (IsMeantReply d r.book) r.given
 
--- Whatever the lines, and whatever the disks do: a cell that stands after them has this.
+-- Whatever the lines, and whatever the disks do: a cell that stands after them has this, of its own database.
 abbrev pub CellsKeepPromises : Type 0
-CellsKeepPromises = (readings : List LineRead) → IfSome (told databases readings).stage.cell HasMeaning
+CellsKeepPromises = (readings : List LineRead) → IfSome (told databases readings).stage.cell (λ c. HasMeaning (standing_of c) c)

@@ -5,9 +5,8 @@ use cell_orders::{
     law_acknowledged_stay, law_announcements_grow, law_prefixes_stay, law_replies,
     law_sites_serve_the_order,
 };
-use pt_calls::{an_image_stands_for_one_state, calls_are_meant};
 use script_laws::law_scripts_are_runs;
-use script_promises::law_words_are_calls;
+use script_promises::{law_location_is_lawful, law_protection_is_lawful, law_words_are_calls};
 
 /// Whatever the lines of a script, whatever the disks do, and over whatever databases no call of which makes an image shorter: in a cell
 /// of 1 to 20 servers transactions have one order, which only grows; what was acknowledged stays in it, at its place; the database
@@ -24,13 +23,13 @@ pub fn law_scripts_have_order()
     law_scripts_are_runs();
 }
 
-/// So it is of scripts over the protection database; and there each ready sync site's database stands for the state of the order, and each
-/// reply is what its call means for the state of the list after which it is the single copy's.
+/// So it is of scripts over the protection and the location database; and there each ready sync site's database stands for the state of
+/// the order, and each reply is what its call means for the state of the list after which it is the single copy's.
 pub fn law_cells_keep_promises()
     ensures { CellsKeepPromises }
 {
     law_scripts_have_order();
     law_words_are_calls();
-    calls_are_meant();
-    an_image_stands_for_one_state();
+    law_protection_is_lawful();
+    law_location_is_lawful();
 }

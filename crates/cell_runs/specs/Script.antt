@@ -14,7 +14,7 @@ use Rattle.cell_model.specs.Book.{Run, first_run, run_with, clock_at}
 use Rattle.cell_model.specs.Durable.{Made, version_after}
 use Rattle.cell_model.specs.Node.{Node, Down, Halted, Up, Server}
 use Rattle.cell_model.specs.NodeRule.{place_of, step_of}
-use Rattle.cell_model.specs.Step.{host_at}
+use Rattle.cell_model.specs.Step.{host_at, is_ready}
 use Rattle.cell_model.specs.World.{Site, World, Trigger, Delivery, Beacon_turn, Recover_turn, Asking, Event, Tick, Tick_all, Step, Stop, Fault, Crash, Restart, Happening, Sent, Happened, happens, first_world, first_seen, calls_on, occasion, member, site_of, is_down, may_tick, tick_at, ticked}
 use Rattle.cell_script.specs.declared.lines.Kind.{Kind}
 use Rattle.cell_script.specs.declared.lines.Line.{Line}
@@ -40,15 +40,39 @@ pub record Choice : Type 0 where
 abbrev pub sound : Choice
 sound = record { fails = false; made = 0; took = false }
 
--- the choice for the first step of a line; where nothing is said of it the disk is sound
-abbrev pub first_choice : List Choice → Choice
-first_choice [] = sound
-first_choice (choice ∷ _) = choice
+-- the first of these choices; where nothing is said of it the disk is sound
+abbrev pub choice_of : List Choice → Choice
+choice_of [] = sound
+choice_of (choice ∷ _) = choice
 
--- a line that was read, and the choices of the steps and openings in it, in their order
+-- The choices of a line: those of the steps and openings in it, in their order; and how many packets it hands over at most, where it
+-- hands over all that wait. That is as many as a script may send, but where memory runs out in the line, which ends the run: there the
+-- disks hold what the deliveries before that left.
+pub record Choices : Type 0 where
+  pub each : List Choice
+  pub most : ℕ
+
+-- every disk is sound, and the line is run to its end
+abbrev pub sound_choices : Choices
+sound_choices = record { each = []; most = MAX_PACKETS }
+
+-- the line is run to its end
+abbrev pub IsWhole : Choices → Type 0
+IsWhole choices = choices.most ≡ MAX_PACKETS
+
+-- the choice for the first step of a line
+abbrev pub first_choice : Choices → Choice
+first_choice choices = choice_of choices.each
+
+-- a line that was read, and the choices of it
 pub record LineRead : Type 0 where
   pub line : List ℕ
-  pub choices : List Choice
+  pub choices : Choices
+
+-- each line is run to its end
+abbrev pub AreWhole : List LineRead → Type 0
+AreWhole [] = Unit {0}
+AreWhole (r ∷ readings) = IsWhole r.choices × AreWhole readings
 
 -- a disk that is to stop: how many changing calls it lets pass, and how many there were since
 pub record Armed : Type 0 where
@@ -257,7 +281,7 @@ abbrev pub all_delivered : ScriptDatabase → (most : ℕ) → Cell → List Cho
 all_delivered script_db most c choices None = resting c
 all_delivered script_db zero c choices (Some number) = resting c
 all_delivered script_db (suc most) c choices (Some number) =
-    let r = delivered script_db c (first_choice choices) number in
+    let r = delivered script_db c (choice_of choices) number in
     unless_ended r r.ending (all_delivered script_db most r.cell (drop 1 choices) (first_waiting 1 r.cell.handed))
 
 -- packets to or from a host wait no longer
@@ -312,7 +336,7 @@ abbrev pub unless_skewed : ScriptDatabase → Cell → List Site → Event → R
 unless_skewed script_db c sites e = if may_tick sites then Ok (with_event script_db c e) else Err why.Skew
 
 -- the line in a cell that stands, but for an ask
-abbrev pub run_in : ScriptDatabase → Cell → List Choice → Line → Run_or_why
+abbrev pub run_in : ScriptDatabase → Cell → Choices → Line → Run_or_why
 run_in script_db c choices (line.Tick server seconds) =
     at_server c server (λ k. unless_skewed script_db c (tick_at c.run.world.sites k seconds) (Tick k seconds))
 run_in script_db c choices (line.TickAll seconds) =
@@ -323,7 +347,7 @@ run_in script_db c choices (line.Deliver packet) = at_packet c packet (delivered
 run_in script_db c choices (line.Drop packet) = at_packet c packet (resting (record c { handed = set c.handed (packet - 1) true }))
 run_in script_db c choices (line.DropAll server) =
     at_up c server (λ k. resting (record c { handed = dropped_of (host_at c.run.world.hosts k) c.run.world.packets c.handed }))
-run_in script_db c choices line.DeliverAll = Ok (all_delivered script_db MAX_PACKETS c choices (first_waiting 1 c.handed))
+run_in script_db c choices line.DeliverAll = Ok (all_delivered script_db choices.most c choices.each (first_waiting 1 c.handed))
 run_in script_db c choices (line.Stop server calls f) =
     at_up c server (λ k. resting (record c { armed = set c.armed k (Some (record { calls = calls; made = 0 })) }))
 run_in script_db c choices (line.Crash server) =
@@ -340,10 +364,26 @@ run_in script_db c choices (line.Cell servers clock k) = Err why.Cell
 run_in script_db c choices line.Nothing = Ok (resting c)
 run_in script_db c choices (line.Ask server words) = Err why.Syntax
 
+-- a server that is up serves calls, as far as its last step tells
+abbrev pub serves_calls : Node → Bool
+serves_calls (Up s) = is_ready s.phase
+serves_calls _ = false
+
+abbrev pub does_write : Option Bool → Bool
+does_write None = false
+does_write (Some writes) = writes
+
+-- A call that is not built yet: it writes, and server `number`, counted from 1, serves calls in a cell of several servers.
+abbrev pub is_later_write : Database → Cell → ℕ → List ℕ → Bool
+is_later_write db c number call =
+    nat_lt 0 number && nat_lt 1 (cell_size_of c) && serves_calls (node_in (site_of c.run.world (number - 1))) && does_write (db.writes call)
+
 -- a call at a server that is up, under the next number
 abbrev pub asked_at : ScriptDatabase → Cell → Choice → ℕ → List ℕ → Option ℕ → Run_or_why
 asked_at script_db c choice id call None = Err why.Number
-asked_at script_db c choice id call (Some number) = at_up c number (λ k. stepped script_db c choice (Asking k id call))
+asked_at script_db c choice id call (Some number) =
+    if is_later_write script_db.database c number call then Err why.Unbuilt
+    else at_up c number (λ k. stepped script_db c choice (Asking k id call))
 
 abbrev pub asked_in : ScriptDatabase → Cell → Choice → ℕ → List (List ℕ) → Option ℕ → Option (List ℕ) → Run_or_why
 asked_in script_db c choice id words server None = if script_db.words.is_unbuilt words then Err why.Unbuilt else Err why.Syntax
@@ -364,7 +404,7 @@ in_stage st (Ok r) =
 -- at each server of n whether the disk fails in the opening
 abbrev pub fails_at : ℕ → List Choice → List Bool
 fails_at zero choices = []
-fails_at (suc n) choices = (first_choice choices).fails ∷ fails_at n (drop 1 choices)
+fails_at (suc n) choices = (choice_of choices).fails ∷ fails_at n (drop 1 choices)
 
 abbrev pub opened_cell : ℕ → ℕ → Kind → List Bool → Cell
 opened_cell n clock k failed =
@@ -377,16 +417,16 @@ opened_cell n clock k failed =
     }
 
 -- a cell is opened: at first and once
-abbrev pub opened : Stage → List Choice → ℕ → ℕ → Kind → Line_run
+abbrev pub opened : Stage → Choices → ℕ → ℕ → Kind → Line_run
 opened st choices n clock k =
     record {
-      stage = record st { cell = Some (opened_cell n clock k (fails_at n choices)) };
-      items = map Tells (first_seen 0 (fails_at n choices));
+      stage = record st { cell = Some (opened_cell n clock k (fails_at n choices.each)) };
+      items = map Tells (first_seen 0 (fails_at n choices.each));
       ending = None;
     }
 
 -- where no cell stands: a cell may be opened, and of an ask the number of the server is judged alone
-abbrev pub run_first : Stage → List Choice → Line → Result Line_run Why
+abbrev pub run_first : Stage → Choices → Line → Result Line_run Why
 run_first st choices line.Nothing = Ok (record { stage = st; items = []; ending = None })
 run_first st choices (line.Cell servers clock k) = Ok (opened st choices servers clock k)
 run_first st choices (line.Ask None words) = Err why.Number
@@ -395,18 +435,18 @@ run_first st choices _ = Err why.Cell
 abbrev pub kind_of_cell : Cell → Kind
 kind_of_cell c = c.opening.kind
 
-abbrev pub run_standing : Databases → Stage → List Choice → Cell → Line → Result Line_run Why
+abbrev pub run_standing : Databases → Stage → Choices → Cell → Line → Result Line_run Why
 run_standing dbs st choices c (line.Ask server words) =
     in_stage (record st { asks = st.asks + 1 })
     (asked (dbs (kind_of_cell c)) c (first_choice choices) (st.asks + 1) words server)
 run_standing dbs st choices c l = in_stage st (run_in (dbs (kind_of_cell c)) c choices l)
 
-abbrev pub line_run : Databases → Stage → List Choice → Line → Option Cell → Result Line_run Why
+abbrev pub line_run : Databases → Stage → Choices → Line → Option Cell → Result Line_run Why
 line_run dbs st choices l None = run_first st choices l
 line_run dbs st choices l (Some c) = run_standing dbs st choices c l
 
 -- a line that was understood, or was not
-abbrev pub meaning_run : Databases → Stage → List Choice → Result Line Why → Result Line_run Why
+abbrev pub meaning_run : Databases → Stage → Choices → Result Line Why → Result Line_run Why
 meaning_run dbs st choices (Err w) = Err w
 meaning_run dbs st choices (Ok l) = line_run dbs st choices l st.cell
 
@@ -423,7 +463,7 @@ servers_of (Some c) = cell_size_of c
 abbrev pub line_result : Databases → Stage → LineRead → Result Line_run Ending
 line_result dbs st r =
     if nat_le MAX_LINES st.lines then Err (Limit Lines)
-    else or_refused (meaning_run dbs (next_line st) r.choices (line_of (servers_of st.cell) r.line))
+    else or_refused (meaning_run dbs (next_line st) r.choices (line_of r.line))
 
 -- where a script ended before its end: the number of the line, and why
 pub record ScriptEnd : Type 0 where

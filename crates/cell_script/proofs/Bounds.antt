@@ -7,7 +7,7 @@ use Rattle.std.specs.Str.{bytes_eq}
 use Rattle.ubik_types.specs.declared.limits.TheConstants.{MAXSERVERS}
 use Rattle.disk_base.specs.declared.disks.Fill.{Fill}
 use Rattle.script_words.specs.Numbers.{number_of, number_within}
-use Rattle.cell_script.specs.Meaning.{HasBounds, kind_of, server_of, fill_of, or_number, numbered_cell, cell_in, numbered_tick, numbered_stop, line_of_server, line_of_packet, with_number, or_syntax, line_of_one, line_of_two, line_of_three, ask_line, line_of_counted, whole_line, is_later, unless_later, line_of_words}
+use Rattle.cell_script.specs.Meaning.{HasBounds, kind_of, server_of, fill_of, or_number, numbered_cell, cell_in, numbered_tick, numbered_stop, line_of_server, line_of_packet, with_number, or_syntax, line_of_one, line_of_two, line_of_three, ask_line, line_of_counted, whole_line}
 use Rattle.cell_script.specs.declared.lines.TheConstants.{MAX_CLOCK, MAX_TICK, MAX_STOP}
 use Rattle.cell_script.specs.declared.lines.Kind.{Kind}
 use Rattle.cell_script.specs.declared.lines.Line.{Line}
@@ -150,23 +150,8 @@ counted_bounds first (a ∷ b ∷ []) = two_bounds first a b
 counted_bounds first (a ∷ b ∷ c ∷ []) = three_bounds first a b c
 counted_bounds first (a ∷ b ∷ c ∷ d ∷ more) = tt
 
-whole_bounds : (words : List (List ℕ)) → IfOk (whole_line words) HasBounds
+-- the line of these words
+pub whole_bounds : (words : List (List ℕ)) → IfOk (whole_line words) HasBounds
 whole_bounds [] = tt
 whole_bounds (first ∷ arguments) =
     if_ok HasBounds (bytes_eq first (codes "ask")) _ _ (ask_bounds arguments) (counted_bounds first arguments)
-
-unless_bounds : (later : Bool) (r : Result Line Why) → IfOk r HasBounds → IfOk (unless_later later r) HasBounds
-unless_bounds true (Ok l) bounds = tt
-unless_bounds true (Err why.Syntax) bounds = tt
-unless_bounds true (Err why.Number) bounds = tt
-unless_bounds true (Err why.Cell) bounds = tt
-unless_bounds true (Err why.Server) bounds = tt
-unless_bounds true (Err why.State) bounds = tt
-unless_bounds true (Err why.Packet) bounds = tt
-unless_bounds true (Err why.Skew) bounds = tt
-unless_bounds true (Err why.Unbuilt) bounds = tt
-unless_bounds false r bounds = bounds
-
--- the line of these words
-pub words_bounds : (servers : ℕ) (words : List (List ℕ)) → IfOk (line_of_words servers words) HasBounds
-words_bounds servers words = unless_bounds (is_later servers words) (whole_line words) (whole_bounds words)

@@ -15,7 +15,7 @@ use Rattle.cell_script.specs.declared.lines.Kind.TheVariants.{Location, Protecti
 use Rattle.cell_script.specs.declared.lines.Line.{Line}
 use Rattle.cell_script.specs.declared.lines.Line.TheVariants.{Nothing, Cell, Tick, TickAll, Beacon, Recover, Deliver, Drop, DropAll, DeliverAll, Ask, Stop, Crash, Restart, Show}
 use Rattle.cell_script.specs.declared.lines.Why.{Why}
-use Rattle.cell_script.specs.declared.lines.Why.TheVariants.{Syntax, Number, Unbuilt}
+use Rattle.cell_script.specs.declared.lines.Why.TheVariants.{Syntax, Number}
 
 -- the kind of a database
 abbrev pub kind_of : List ℕ → Option Kind
@@ -115,36 +115,20 @@ whole_line [] = Err Syntax
 whole_line (first ∷ arguments) =
     if bytes_eq first (codes "ask") then ask_line arguments else line_of_counted first arguments
 
--- Lines that are not built yet, by their words and by how many servers the cell has that stands, 0 where none does: a location
--- database, and recovery in a cell of several servers.
-abbrev pub is_later : (servers : ℕ) → List (List ℕ) → Bool
-is_later servers (first ∷ a ∷ []) = bytes_eq first (codes "recover") && nat_lt 1 servers
-is_later servers (first ∷ a ∷ b ∷ c ∷ []) = bytes_eq first (codes "cell") && bytes_eq c (codes "vl")
-is_later servers _ = false
-
--- that a line is not built is judged after its syntax, and before its numbers
-abbrev pub unless_later : Bool → Result Line Why → Result Line Why
-unless_later true (Ok l) = Err Unbuilt
-unless_later true (Err Number) = Err Unbuilt
-unless_later later r = r
-
-abbrev pub line_of_words : (servers : ℕ) → List (List ℕ) → Result Line Why
-line_of_words servers words = unless_later (is_later servers words) (whole_line words)
-
-abbrev pub line_of_split : (servers : ℕ) → Option (List (List ℕ)) → Result Line Why
-line_of_split servers None = Err Syntax
-line_of_split servers (Some words) = line_of_words servers words
+abbrev pub line_of_split : Option (List (List ℕ)) → Result Line Why
+line_of_split None = Err Syntax
+line_of_split (Some words) = whole_line words
 
 -- an empty line, or a comment, which begins with `#`
 abbrev pub is_idle : List ℕ → Bool
 is_idle [] = true
 is_idle (b ∷ bytes) = b == 35
 
--- what a line means where a cell of so many servers stands, or none, or why it means nothing
-abbrev pub line_of : (servers : ℕ) → List ℕ → Result Line Why
-line_of servers bytes =
+-- what a line means, or why it means nothing
+abbrev pub line_of : List ℕ → Result Line Why
+line_of bytes =
     if nat_lt MAX_LINE (length bytes) then Err Syntax
-    else (if is_idle bytes then Ok Nothing else line_of_split servers (words_of bytes))
+    else (if is_idle bytes then Ok Nothing else line_of_split (words_of bytes))
 
 -- the numbers of a line are within their bounds
 abbrev pub HasBounds : Line → Type 0

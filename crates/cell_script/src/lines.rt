@@ -1,6 +1,6 @@
 //! The lines of a script, understood.
 ghost use Rattle.std.specs.Prelude.{◌≡◌, IfOk};
-ghost use Rattle.cell_script.specs.Meaning.{ask_line, server_of, line_of_server, with_number, or_syntax, line_of_none, line_of_one, line_of_two, line_of_three, line_of_counted, whole_line, is_later, line_of_words, is_idle, line_of, HasBounds};
+ghost use Rattle.cell_script.specs.Meaning.{ask_line, server_of, line_of_server, with_number, or_syntax, line_of_none, line_of_one, line_of_two, line_of_three, line_of_counted, whole_line, is_idle, line_of, HasBounds};
 
 use crate::arguments::{cell_line, server_of, stop_line};
 use crate::readers::MAX_LINE;
@@ -120,14 +120,9 @@ pub enum Line {
     },
 }
 
-/// What a line means where a cell of so many servers stands, 0 where none does; or why it is refused, as far as
-/// the line alone tells. The error is want of memory.
-pub fn line_meaning(
-    alloc: Global,
-    line: &[u8],
-    servers: usize,
-) -> Result<Result<Line, Why>, NoMemory>
-    ensures meaning { IfOk result (λ meaning. meaning ≡ line_of servers line.now) }
+/// What a line means, or why it is refused, as far as the line alone tells. The error is want of memory.
+pub fn line_meaning(alloc: Global, line: &[u8]) -> Result<Result<Line, Why>, NoMemory>
+    ensures meaning { IfOk result (λ meaning. meaning ≡ line_of line.now) }
     ensures bounds { IfOk result (λ meaning. IfOk meaning HasBounds) }
 {
     if line.len() > MAX_LINE {
@@ -138,7 +133,7 @@ pub fn line_meaning(
     }
     match split_words(alloc, line)? {
         None => Ok(Err(Why::Syntax)),
-        Some(words) => Ok(words_meaning(words, servers)),
+        Some(words) => Ok(whole_line(words)),
     }
 }
 
@@ -149,36 +144,6 @@ fn is_idle(line: &[u8]) -> bool
     match line {
         [] => true,
         [first, ..] => *first == b'#',
-    }
-}
-
-/// What a line of these words means: that it is not built is judged after its syntax, and before its numbers.
-fn words_meaning(words: Words, servers: usize) -> Result<Line, Why>
-    ensures { result ≡ line_of_words servers words }
-{
-    if !is_later(words.as_slice(), servers) {
-        return whole_line(words);
-    }
-    match whole_line(words) {
-        Ok(_) | Err(Why::Number) => Err(Why::Unbuilt),
-        Err(why) => Err(why),
-    }
-}
-
-/// Whether a line of these words is not built yet: a location database, and recovery in a cell of several servers.
-fn is_later(words: &[Bytes], servers: usize) -> bool
-    ensures { result ≡ is_later servers words.now }
-{
-    match words {
-        [first, _] => match first.as_slice() {
-            b"recover" => servers > 1,
-            _ => false,
-        },
-        [first, _, _, last] => match first.as_slice() {
-            b"cell" => last.as_slice() == b"vl".as_slice(),
-            _ => false,
-        },
-        _ => false,
     }
 }
 

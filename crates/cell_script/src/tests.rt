@@ -51,19 +51,18 @@ fn fill_name(fill: Fill) -> &'static str {
     }
 }
 
-/// A line means this where a cell of so many servers stands.
+/// A line means this.
 fn expect(
     rt: &impl Abort,
     alloc: Global,
-    servers: usize,
     line: &[u8],
     want: Result<Outline, Why>,
 ) -> Result<(), Fail> {
-    let seen = match line_meaning(alloc, line, servers)? {
+    let seen = match line_meaning(alloc, line)? {
         Ok(line) => Ok(outline(&line)),
         Err(why) => Err(why),
     };
-    assert_eq!(rt; seen, want, "in a cell of {servers}");
+    assert_eq!(rt; seen, want);
     Ok(())
 }
 
@@ -85,36 +84,35 @@ fn understands_lines_without_a_server(rt: HostRuntime) -> Result<(), Fail> {
         ("drop 18446744073709551615", ("drop", u64::MAX, 0, 0)),
         ("deliverall", ("deliverall", 0, 0, 0)),
     ] {
-        expect(&rt, rt.alloc(), 0, line.as_bytes(), Ok(want))?;
+        expect(&rt, rt.alloc(), line.as_bytes(), Ok(want))?;
     }
     Ok(())
 }
 
 #[test]
 fn understands_lines_that_name_a_server(rt: HostRuntime) -> Result<(), Fail> {
-    for (servers, line, want) in [
-        (3usize, "tick 3 50000", ("tick", 3u64, 50_000u32, 0usize)),
-        (3, "tick 18446744073709551615 1", ("tick", u64::MAX, 1, 0)),
-        (3, "beacon\t1", ("beacon", 1, 0, 0)),
-        (3, "beacon 18446744073709551615", ("beacon", u64::MAX, 0, 0)),
-        (1, "recover 1", ("recover", 1, 0, 0)),
-        (0, "recover 21", ("recover", 21, 0, 0)),
-        (3, "dropall 2", ("dropall", 2, 0, 0)),
-        (3, "show 4", ("show", 4, 0, 0)),
-        (3, "ask 1 newentry smith 0 0", ("ask", 1, 0, 4)),
-        (3, "ask 0 nametoid", ("ask", 0, 0, 1)),
-        (3, "ask -1 idtoname 7", ("ask", 0, 0, 2)),
-        (0, "stop 1 0 old", ("stop with old bytes", 1, 0, 0)),
+    for (line, want) in [
+        ("tick 3 50000", ("tick", 3u64, 50_000u32, 0usize)),
+        ("tick 18446744073709551615 1", ("tick", u64::MAX, 1, 0)),
+        ("beacon\t1", ("beacon", 1, 0, 0)),
+        ("beacon 18446744073709551615", ("beacon", u64::MAX, 0, 0)),
+        ("recover 1", ("recover", 1, 0, 0)),
+        ("recover 21", ("recover", 21, 0, 0)),
+        ("dropall 2", ("dropall", 2, 0, 0)),
+        ("show 4", ("show", 4, 0, 0)),
+        ("ask 1 newentry smith 0 0", ("ask", 1, 0, 4)),
+        ("ask 0 nametoid", ("ask", 0, 0, 1)),
+        ("ask -1 idtoname 7", ("ask", 0, 0, 2)),
+        ("stop 1 0 old", ("stop with old bytes", 1, 0, 0)),
         (
-            3,
             "stop 4 1000000 new",
             ("stop with new bytes", 4, 1_000_000, 0),
         ),
-        (1, "stop 1 7 255", ("stop with a byte", 1, 7, 0)),
-        (1, "crash 1", ("crash", 1, 0, 0)),
-        (20, "restart 20", ("restart", 20, 0, 0)),
+        ("stop 1 7 255", ("stop with a byte", 1, 7, 0)),
+        ("crash 1", ("crash", 1, 0, 0)),
+        ("restart 20", ("restart", 20, 0, 0)),
     ] {
-        expect(&rt, rt.alloc(), servers, line.as_bytes(), Ok(want))?;
+        expect(&rt, rt.alloc(), line.as_bytes(), Ok(want))?;
     }
     Ok(())
 }
@@ -144,7 +142,7 @@ fn refuses_blanks_and_words_that_are_none(rt: HostRuntime) -> Result<(), Fail> {
         "cell 3 x v",
         "cell 1 1000 PT",
     ] {
-        expect(&rt, rt.alloc(), 3, line.as_bytes(), Err(Why::Syntax))?;
+        expect(&rt, rt.alloc(), line.as_bytes(), Err(Why::Syntax))?;
     }
     Ok(())
 }
@@ -181,61 +179,48 @@ fn refuses_another_count_of_words(rt: HostRuntime) -> Result<(), Fail> {
         "show",
         "show 0 0",
     ] {
-        expect(&rt, rt.alloc(), 3, line.as_bytes(), Err(Why::Syntax))?;
-    }
-    Ok(())
-}
-
-#[test]
-fn tells_what_is_not_built_before_the_numbers(rt: HostRuntime) -> Result<(), Fail> {
-    for (servers, line) in [
-        (0usize, "cell 3 x vl"),
-        (0, "cell 0 0 vl"),
-        (3, "cell 1 1000 vl"),
-        (2, "recover 1"),
-        (3, "recover x"),
-        (20, "recover 0"),
-    ] {
-        expect(&rt, rt.alloc(), servers, line.as_bytes(), Err(Why::Unbuilt))?;
+        expect(&rt, rt.alloc(), line.as_bytes(), Err(Why::Syntax))?;
     }
     Ok(())
 }
 
 #[test]
 fn refuses_numbers(rt: HostRuntime) -> Result<(), Fail> {
-    for (servers, line) in [
-        (0usize, "cell 21 1 pt"),
-        (0, "cell 0 1 pt"),
-        (0, "cell 1 0 pt"),
-        (0, "cell 1 1000000001 pt"),
-        (0, "cell x y pt"),
-        (3, "tick 0 1"),
-        (3, "tick 1 0"),
-        (3, "tick 1 50001"),
-        (3, "tickall 0"),
-        (3, "tickall 50001"),
-        (3, "tickall 05"),
-        (3, "tickall -0"),
-        (3, "beacon 0"),
-        (3, "beacon +1"),
-        (3, "beacon 18446744073709551616"),
-        (1, "recover x"),
-        (0, "recover 0"),
-        (3, "deliver -0"),
-        (3, "deliver 18446744073709551616"),
-        (3, "drop 05"),
-        (3, "drop x"),
-        (3, "dropall 0"),
-        (3, "show 00"),
-        (1, "stop 0 0 old"),
-        (1, "stop 1 1000001 old"),
-        (1, "stop 1 x mad"),
-        (1, "stop 1 0 256"),
-        (1, "crash x"),
-        (3, "crash 0"),
-        (1, "restart 0"),
+    for line in [
+        "cell 21 1 pt",
+        "cell 0 1 pt",
+        "cell 1 0 pt",
+        "cell 1 1000000001 pt",
+        "cell x y pt",
+        "cell 0 1 vl",
+        "cell 3 x vl",
+        "tick 0 1",
+        "tick 1 0",
+        "tick 1 50001",
+        "tickall 0",
+        "tickall 50001",
+        "tickall 05",
+        "tickall -0",
+        "beacon 0",
+        "beacon +1",
+        "beacon 18446744073709551616",
+        "recover x",
+        "recover 0",
+        "deliver -0",
+        "deliver 18446744073709551616",
+        "drop 05",
+        "drop x",
+        "dropall 0",
+        "show 00",
+        "stop 0 0 old",
+        "stop 1 1000001 old",
+        "stop 1 x mad",
+        "stop 1 0 256",
+        "crash x",
+        "crash 0",
+        "restart 0",
     ] {
-        expect(&rt, rt.alloc(), servers, line.as_bytes(), Err(Why::Number))?;
+        expect(&rt, rt.alloc(), line.as_bytes(), Err(Why::Number))?;
     }
     Ok(())
 }
@@ -255,7 +240,7 @@ fn refuses_long_lines(rt: HostRuntime) -> Result<(), Fail> {
         line.extend_from_slice(first.as_bytes())?;
         line.resize(len - 1, b' ')?;
         line.push(b'7')?;
-        expect(&rt, rt.alloc(), 1, &line, want)?;
+        expect(&rt, rt.alloc(), &line, want)?;
     }
     Ok(())
 }

@@ -1,5 +1,5 @@
 -- Disks that are to stop.
-use Rattle.std.proofs.Common.{if◌then◌else◌, ◌≡◌, ◌⊎◌, inl, inr, ◌<◌, ◌≤◌, ◌+◌, ◌-◌, ℕ, zero, suc, Bool, true, false, Option, Some, None, List, [], ◌∷◌, set}
+use Rattle.std.proofs.Common.{if◌then◌else◌, ◌≡◌, ◌<◌, ◌≤◌, ◌+◌, ◌-◌, ℕ, zero, suc, Bool, true, false, Option, Some, None, List, [], ◌∷◌, set}
 use Rattle.std.proofs.Common.{take, refl, sym, ap, subst, ◌∙◌, arith}
 use Rattle.std.specs.Prelude.{nat_lt, slice_get}
 use Rattle.std.proofs.lemmas.Bool.{eq-eqb, ne_eqb}
@@ -63,11 +63,35 @@ is_past n left fill stopped = by (nat_lt left n) refl
 pub unarmed_runs : (n : ℕ) → IsStopped (after_changes n Unarmed) → ⊥
 unarmed_runs n stopped = subst IsStopped (never_stops n) stopped
 
--- ---- at most one durable call
+-- ---- where a disk stops that lets so many changing calls pass
 
--- none, or one
-abbrev pub AreFew : List Made → Type 0
-AreFew calls = (calls ≡ []) ⊎ ((made : Made) × (calls ≡ made ∷ []))
+pub take_nil : {X : Type 0} (n : ℕ) → take n ([] : List X) ≡ []
+take_nil zero = refl
+take_nil (suc n) = refl
+
+none_before : (v : Version) (left : ℕ) (calls : List Made) → calls_on_all v calls ≤ left → calls_before_stop v left calls ≡ None
+none_before v left [] within = refl
+none_before v left (made ∷ calls) within =
+    let passes_it : nat_lt left (calls_on v made) ≡ false = grind (arith, nat_tests, within) in
+    let rest = none_before (version_after made.call) (left - calls_on v made) calls (omega (arith, within)) in
+    ap (λ (b : Bool). if b then Some 0 else one_more (calls_before_stop (version_after made.call) (left - calls_on v made) calls)) passes_it
+    ∙ ap one_more rest
+
+at_call : (v : Version) (left : ℕ) (calls : List Made) (w : ℕ) → calls_on_all v (take w calls) ≤ left → left < calls_on_all v (take (w + 1) calls)
+    → calls_before_stop v left calls ≡ Some w
+at_call v left [] w low high = let none = ap (calls_on_all v) (take_nil {X = Made} (w + 1)) in absurd (omega (arith, none, high))
+at_call v left (made ∷ calls) zero low high =
+    let first : nat_lt left (calls_on v made) ≡ true = grind (arith, nat_tests, high) in
+    ap (λ (b : Bool). if b then Some 0 else one_more (calls_before_stop (version_after made.call) (left - calls_on v made) calls)) first
+at_call v left (made ∷ calls) (suc w) low high =
+    let next : suc w + 1 ≡ suc (w + 1) = omega arith in
+    let most = ap (λ (n : ℕ). calls_on_all v (take n (made ∷ calls))) next in
+    let passes_it : nat_lt left (calls_on v made) ≡ false = grind (arith, nat_tests, low) in
+    let rest =
+    at_call (version_after made.call) (left - calls_on v made) calls w (omega (arith, low)) (omega (arith, low, high, most)) in
+    let one : w + 1 ≡ suc w = omega arith in
+    ap (λ (b : Bool). if b then Some 0 else one_more (calls_before_stop (version_after made.call) (left - calls_on v made) calls)) passes_it
+    ∙ ap one_more rest ∙ ap Some one
 
 -- ---- which disk stops in a step
 
@@ -86,71 +110,26 @@ counts_on (Some armed) before calls stops runs =
     )
 
 -- it is not to stop in it
-pub none_stops : (v : Version) (calls : List Made) (armed : Option Armed) (before : DiskStop) → AreFew calls → StopsAs armed before
+pub none_stops : (v : Version) (calls : List Made) (armed : Option Armed) (before : DiskStop) → StopsAs armed before
     → (IsStopped (after_changes (calls_on_all v calls) before) → ⊥) → stops_in v calls armed ≡ None
-none_stops v calls None before few stops runs = refl
-none_stops v calls (Some armed) before few stops runs = by few
-  where
-    left : ℕ
-    left = armed.calls - armed.made
-
-    within : calls_on_all v calls ≤ left
-    within =
-        not_past (calls_on_all v calls) left stops.1.0
-        (λ stopped. runs (subst (λ (s : DiskStop). IsStopped (after_changes (calls_on_all v calls) s)) (sym stops.1.1) stopped))
-
-    by : AreFew calls → calls_before_stop v left calls ≡ None
-    by (inl none) = ap (calls_before_stop v left) none
-    by (inr (made, one)) =
-        let most : calls_on v made ≤ left = let sum : calls_on_all v calls ≡ calls_on v made + 0 = ap (calls_on_all v) one in omega (arith, sum, within) in
-        let passes_it : nat_lt left (calls_on v made) ≡ false = grind (arith, nat_tests) in
-        ap (calls_before_stop v left) one
-        ∙ ap (λ (b : Bool). if b then Some 0 else one_more (calls_before_stop (version_after made.call) (left - calls_on v made) [])) passes_it
+none_stops v calls None before stops runs = refl
+none_stops v calls (Some armed) before stops runs =
+    none_before v (armed.calls - armed.made) calls
+    (not_past (calls_on_all v calls) (armed.calls - armed.made) stops.1.0
+    (λ stopped. runs (subst (λ (s : DiskStop). IsStopped (after_changes (calls_on_all v calls) s)) (sym stops.1.1) stopped)))
 
 -- the durable call in which it stops
-pub whole_before : (v : Version) (calls : List Made) (armed : Option Armed) (before : DiskStop) (whole rise : ℕ) → AreFew calls → StopsAs armed before
+pub whole_before : (v : Version) (calls : List Made) (armed : Option Armed) (before : DiskStop) (whole rise : ℕ) → StopsAs armed before
     → (IsStopped (after_changes (calls_on_all v (take whole calls)) before) → ⊥) → IsStopped (after_changes rise before)
     → rise ≤ calls_on_all v (take (whole + 1) calls) → stops_in v calls armed ≡ Some whole
-whole_before v calls None before whole rise few stops runs stopped most =
+whole_before v calls None before whole rise stops runs stopped most =
     absurd (unarmed_runs rise (subst (λ (s : DiskStop). IsStopped (after_changes rise s)) stops stopped))
-whole_before v calls (Some armed) before whole rise few stops runs stopped most = by few whole low high
-  where
-    left : ℕ
-    left = armed.calls - armed.made
-
-    low : calls_on_all v (take whole calls) ≤ left
-    low =
-        not_past (calls_on_all v (take whole calls)) left stops.1.0
-        (λ is. runs (subst (λ (s : DiskStop). IsStopped (after_changes (calls_on_all v (take whole calls)) s)) (sym stops.1.1) is))
-
-    high : left < calls_on_all v (take (whole + 1) calls)
-    high =
-        let past = is_past rise left stops.1.0 (subst (λ (s : DiskStop). IsStopped (after_changes rise s)) stops.1.1 stopped) in
-        omega (arith, past, most)
-
-    none_of : (n : ℕ) → calls_on_all v (take n []) ≡ 0
-    none_of zero = refl
-    none_of (suc n) = refl
-
-    by : AreFew calls → (w : ℕ) → calls_on_all v (take w calls) ≤ left → left < calls_on_all v (take (w + 1) calls) → calls_before_stop v left calls ≡ Some w
-    by (inl none) w few_made more = let no = ap (λ (l : List Made). calls_on_all v (take (w + 1) l)) none ∙ none_of (w + 1) in absurd (omega (arith, no, more))
-    by (inr (made, one)) zero few_made more =
-        let sum : calls_on_all v (take 1 calls) ≡ calls_on v made + 0 = ap (λ (l : List Made). calls_on_all v (take 1 l)) one in
-        let first : nat_lt left (calls_on v made) ≡ true = grind (arith, nat_tests) in
-        ap (calls_before_stop v left) one
-        ∙ ap (λ (b : Bool). if b then Some 0 else one_more (calls_before_stop (version_after made.call) (left - calls_on v made) [])) first
-    by (inr (made, one)) (suc w) few_made more =
-        let all : calls_on_all v (take (suc w) calls) ≡ calls_on_all v (take (suc w + 1) calls) =
-        ap (λ (l : List Made). calls_on_all v (take (suc w) l)) one ∙ takes w ∙ sym (takes_more w)
-        ∙ sym (ap (λ (l : List Made). calls_on_all v (take (suc w + 1) l)) one) in
-        absurd (omega (arith, all, few_made, more))
-      where
-        takes : (n : ℕ) → calls_on_all v (take (suc n) (made ∷ [])) ≡ calls_on v made + 0
-        takes zero = refl
-        takes (suc n) = refl
-
-        takes_more : (n : ℕ) → calls_on_all v (take (suc n + 1) (made ∷ [])) ≡ calls_on v made + 0
-        takes_more n = let is : suc n + 1 ≡ suc (suc n) = omega arith in ap (λ (m : ℕ). calls_on_all v (take m (made ∷ []))) is
+whole_before v calls (Some armed) before whole rise stops runs stopped most =
+    at_call v (armed.calls - armed.made) calls whole
+    (not_past (calls_on_all v (take whole calls)) (armed.calls - armed.made) stops.1.0
+    (λ is. runs (subst (λ (s : DiskStop). IsStopped (after_changes (calls_on_all v (take whole calls)) s)) (sym stops.1.1) is)))
+    (let past = is_past rise (armed.calls - armed.made) stops.1.0 (subst (λ (s : DiskStop). IsStopped (after_changes rise s)) stops.1.1 stopped) in
+    omega (arith, past, most))
 
 -- ---- the disks of a cell
 

@@ -5,7 +5,6 @@ use Rattle.std.specs.Prelude.{insert, remove, slice_get}
 use Rattle.ubik_types.specs.declared.hosts.Host.{Host}
 use Rattle.std.proofs.lemmas.Option.{slice_get_read}
 use Rattle.db_image.specs.Database.{Database}
-use Rattle.db_image.specs.Standing.{Standing}
 use Rattle.disk_base.specs.declared.disks.Disk.{Ghosts}
 use Rattle.cell_model.specs.Node as model
 use Rattle.cell_model.specs.World.{Site as ModelSite, clocks_of, is_down, tick_at, ticked}
@@ -19,7 +18,7 @@ use Rattle.cell_sites.specs.declared.sites.Server.TheVariants as server
 use Rattle.cell_sites.specs.Disks.{Held, AreRises}
 use Rattle.cell_sites.specs.Places.{ticked_on}
 use Rattle.cell_sites.specs.Sites.{AreSitesOf, IsSiteOf, IsModelledBy, server_node}
-use Rattle.cell_sites.specs.Sound.{AreSound, IsSound, IsSoundSite, clocks_in}
+use Rattle.cell_sites.specs.Sound.{AreSound, IsSteady, IsSoundSite, clocks_in}
 use Rattle.cell_sites.specs.declared.sites.Site.{Site}
 
 pub sites_length : {D V : Type 0} (sites : List (Site D V)) (ss : List ModelSite) → AreSitesOf sites ss → length ss ≡ length sites
@@ -86,44 +85,44 @@ sites_all_ticked (x ∷ sites) (s ∷ ss) seconds are = (is_ticked x s seconds a
 
 -- ---- sound sites
 
-pub sound_at : {D V : Type 0} {standing : Standing} (g : Ghosts D) (hosts : List Host) (place bound : ℕ) (sites : List (Site D V)) (k : ℕ) (site : Site D V)
-    → AreSound g standing hosts place bound sites → slice_get sites k ≡ Some site → IsSoundSite g standing (record { hosts = hosts; me = place + k }) bound site
-sound_at {D} {V} {standing} g hosts place bound [] k site are there = cc
-sound_at {D} {V} {standing} g hosts place bound (x ∷ sites) zero site are there =
+pub sound_at : {D V : Type 0} (g : Ghosts D) (hosts : List Host) (place bound : ℕ) (sites : List (Site D V)) (k : ℕ) (site : Site D V)
+    → AreSound g hosts place bound sites → slice_get sites k ≡ Some site → IsSoundSite g (record { hosts = hosts; me = place + k }) bound site
+sound_at {D} {V} g hosts place bound [] k site are there = cc
+sound_at {D} {V} g hosts place bound (x ∷ sites) zero site are there =
     let same : x ≡ site = cc in
     let me : place ≡ place + 0 = omega arith in
-    subst (λ (n : ℕ). IsSoundSite g standing (record { hosts = hosts; me = n }) bound site) me
-    (subst (λ (y : Site D V). IsSoundSite g standing (record { hosts = hosts; me = place }) bound y) same are.0)
-sound_at {D} {V} {standing} g hosts place bound (x ∷ sites) (suc k) site are there =
+    subst (λ (n : ℕ). IsSoundSite g (record { hosts = hosts; me = n }) bound site) me
+    (subst (λ (y : Site D V). IsSoundSite g (record { hosts = hosts; me = place }) bound y) same are.0)
+sound_at {D} {V} g hosts place bound (x ∷ sites) (suc k) site are there =
     let me : place + 1 + k ≡ place + suc k = omega arith in
-    subst (λ (n : ℕ). IsSoundSite g standing (record { hosts = hosts; me = n }) bound site) me
+    subst (λ (n : ℕ). IsSoundSite g (record { hosts = hosts; me = n }) bound site) me
     (sound_at g hosts (place + 1) bound sites k site are.1 there)
 
-pub sound_set : {D V : Type 0} {standing : Standing} (g : Ghosts D) (hosts : List Host) (place bound : ℕ) (sites : List (Site D V)) (k : ℕ) (site : Site D V)
-    → AreSound g standing hosts place bound sites → IsSoundSite g standing (record { hosts = hosts; me = place + k }) bound site
-    → AreSound g standing hosts place bound (set sites k site)
-sound_set {D} {V} {standing} g hosts place bound [] k site are is = tt
-sound_set {D} {V} {standing} g hosts place bound (x ∷ sites) zero site are is =
+pub sound_set : {D V : Type 0} (g : Ghosts D) (hosts : List Host) (place bound : ℕ) (sites : List (Site D V)) (k : ℕ) (site : Site D V)
+    → AreSound g hosts place bound sites → IsSoundSite g (record { hosts = hosts; me = place + k }) bound site
+    → AreSound g hosts place bound (set sites k site)
+sound_set {D} {V} g hosts place bound [] k site are is = tt
+sound_set {D} {V} g hosts place bound (x ∷ sites) zero site are is =
     let me : place + 0 ≡ place = omega arith in
-    (subst (λ (n : ℕ). IsSoundSite g standing (record { hosts = hosts; me = n }) bound site) me is, are.1)
-sound_set {D} {V} {standing} g hosts place bound (x ∷ sites) (suc k) site are is =
+    (subst (λ (n : ℕ). IsSoundSite g (record { hosts = hosts; me = n }) bound site) me is, are.1)
+sound_set {D} {V} g hosts place bound (x ∷ sites) (suc k) site are is =
     let me : place + suc k ≡ place + 1 + k = omega arith in (
       are.0,
       sound_set g hosts (place + 1) bound sites k site are.1
-          (subst (λ (n : ℕ). IsSoundSite g standing (record { hosts = hosts; me = n }) bound site) me is),
+          (subst (λ (n : ℕ). IsSoundSite g (record { hosts = hosts; me = n }) bound site) me is),
     )
 
-pub sound_push : {D V : Type 0} {standing : Standing} (g : Ghosts D) (hosts : List Host) (place bound : ℕ) (sites : List (Site D V)) (site : Site D V)
-    → AreSound g standing hosts place bound sites → IsSoundSite g standing (record { hosts = hosts; me = place + length sites }) bound site
-    → AreSound g standing hosts place bound (sites ++ site ∷ [])
-sound_push {D} {V} {standing} g hosts place bound [] site are is =
+pub sound_push : {D V : Type 0} (g : Ghosts D) (hosts : List Host) (place bound : ℕ) (sites : List (Site D V)) (site : Site D V)
+    → AreSound g hosts place bound sites → IsSoundSite g (record { hosts = hosts; me = place + length sites }) bound site
+    → AreSound g hosts place bound (sites ++ site ∷ [])
+sound_push {D} {V} g hosts place bound [] site are is =
     let me : place + 0 ≡ place = omega arith in
-    (subst (λ (n : ℕ). IsSoundSite g standing (record { hosts = hosts; me = n }) bound site) me is, tt)
-sound_push {D} {V} {standing} g hosts place bound (x ∷ sites) site are is =
+    (subst (λ (n : ℕ). IsSoundSite g (record { hosts = hosts; me = n }) bound site) me is, tt)
+sound_push {D} {V} g hosts place bound (x ∷ sites) site are is =
     let me : place + length (x ∷ sites) ≡ place + 1 + length sites = omega arith in (
       are.0,
       sound_push g hosts (place + 1) bound sites site are.1
-          (subst (λ (n : ℕ). IsSoundSite g standing (record { hosts = hosts; me = n }) bound site) me is),
+          (subst (λ (n : ℕ). IsSoundSite g (record { hosts = hosts; me = n }) bound site) me is),
     )
 
 -- ---- disks
@@ -158,8 +157,8 @@ up_at {D} {V} running c k site n stands there is =
     ap (λ (o : Option ModelSite). is_down (node_in o)) at.there ∙ ap is_down (at.is.node ∙ ap (λ (s : Server D V). server_node s) is)
     ∙ is_up n.halted (up_server n)
 
-pub cell_size : {D V : Type 0} {standing : Standing} {database : Database} {given : List ℕ} (g : Ghosts D) (bound : ℕ) (running : OpenCell D V) (c : Cell)
-    → IsSound g standing bound running → IsModelledBy g database given running c → cell_size_of c ≡ length running.sites.items
+pub cell_size : {D V : Type 0} {database : Database} {given : List ℕ} (g : Ghosts D) (bound : ℕ) (running : OpenCell D V) (c : Cell)
+    → IsSteady g bound running → IsModelledBy g database given running c → cell_size_of c ≡ length running.sites.items
 cell_size g bound running c sound stands =
     ap (λ (l : List Host). length l) (stands.hosts ∙ sound.hosts) ∙ length-hosts_of (length running.sites.items)
 

@@ -6,19 +6,18 @@ use Rattle.std.specs.Option.{option_and_then, option_map}
 use Rattle.std.proofs.lemmas.List.{append-nil}
 use Rattle.std.proofs.lemmas.Option.{get_or_from_slice_get, slice_get_within}
 use Rattle.db_image.specs.Database.{Database}
-use Rattle.db_image.specs.Standing.{Standing}
 use Rattle.disk_base.specs.declared.disks.Disk.{Ghosts}
 use Rattle.ubik_types.specs.declared.hosts.Host.{Host}
 use Rattle.ubik_calls.specs.declared.packets.Packet.{Packet}
 use Rattle.cell_model.specs.declared.events.NodeEvent.TheVariants as event
 use Rattle.cell_model.specs.NodeRule.{place_of}
-use Rattle.cell_model.specs.Voters.{IsVotePacket}
-use Rattle.cell_model.specs.World.{Site as ModelSite, World, Delivery, Step, Lost, Happened, SiteHappened, happened_at, occasion, only_marks, lost_at}
+use Rattle.recovery_laws.specs.HasNoWrite.{IsRecoveryPacket}
+use Rattle.cell_model.specs.World.{Site as ModelSite, World, Delivery, Step, Lost, Happened, SiteHappened, happened_at, occasion, only_marks}
 use Rattle.cell_model.specs.World.{packet_numbered}
 use Rattle.cell_model.specs.World as world
 use Rattle.cell_runs.specs.declared.endings.Ending.{Ending}
 use Rattle.cell_runs.specs.ScriptDatabase.{ScriptDatabase}
-use Rattle.cell_runs.specs.Script.{armed_at, cell_after, counted_on, Cell, Choice, Run_or_why, first_choice, happened, stepped}
+use Rattle.cell_runs.specs.Script.{armed_at, cell_after, counted_on, Cell, Run_or_why, first_choice, happened, stepped, Choices}
 use Rattle.cell_runs.specs.Trace.{Tells, item_text}
 use Rattle.cell_sites.specs.declared.cells.OpenCell.{OpenCell}
 use Rattle.cell_sites.specs.declared.sites.Server.TheVariants.{Down}
@@ -27,7 +26,7 @@ use Rattle.cell_sites.specs.Disks.{AreReadBy}
 use Rattle.cell_sites.specs.Places.{IsDownAt}
 use Rattle.cell_sites.specs.Counts.{calls_of}
 use Rattle.cell_sites.specs.Sites.{AreArmed, IsModelledBy, helds}
-use Rattle.cell_sites.specs.Sound.{IsSound}
+use Rattle.cell_sites.specs.Sound.{IsSteady}
 use Rattle.cell_sites.specs.Told.{CellTold, IsShort}
 use Rattle.cell_sites.specs.Traffic.{Traffic, handed_over}
 use Rattle.cell_sites.proofs.AtPlace.{site_at}
@@ -58,8 +57,8 @@ stands_with running c p handed stands sent is =
       disks = hold_as _ c (with_handed c handed) _ false _ (same_run c (with_handed c handed) refl refl refl) stands.disks;
     }
 
-pub sound_with : {D V : Type 0} {standing : Standing} (g : Ghosts D) (bound : ℕ) (running : OpenCell D V) (p : Traffic) → IsSound g standing bound running
-    → p.sent ≡ running.packets.sent → IsSound g standing bound (with_packets running p)
+pub sound_with : {D V : Type 0} (g : Ghosts D) (bound : ℕ) (running : OpenCell D V) (p : Traffic) → IsSteady g bound running
+    → p.sent ≡ running.packets.sent → IsSteady g bound (with_packets running p)
 sound_with g bound running p sound sent =
     record {
       some = sound.some;
@@ -67,18 +66,19 @@ sound_with g bound running p sound sent =
       hosts = sound.hosts;
       sites = sound.sites;
       near = sound.near;
-      packets = subst (λ (l : List Packet). All (IsVotePacket running.hosts.items) l) (sym sent) sound.packets;
+      packets = subst (λ (l : List Packet). All (IsRecoveryPacket running.hosts.items) l) (sym sent) sound.packets;
       told = sound.told;
     }
 
 -- what is told of the cell with other packets is told of the cell
-pub told_before : {D V : Type 0} {given : List ℕ} (g : Ghosts D) (script_db : ScriptDatabase) (running after : OpenCell D V) (p : Traffic) (run : List Choice
+pub told_before : {D V : Type 0} {given : List ℕ} (g : Ghosts D) (script_db : ScriptDatabase) (running after : OpenCell D V) (p : Traffic) (run : Choices
     → Run_or_why) (ended : Option Ending) (tb ta : List ℕ) → CellTold g script_db given run ended (with_packets running p) after tb ta
     → CellTold g script_db given run ended running after tb ta
 told_before g script_db running after p run ended tb ta told =
-    record { choices = told.choices; ran = told.ran; is = told.is; ends = told.ends; cell = told.cell; told = told.told; causes = told.causes }
+    record { choices = told.choices; whole = told.whole; ran = told.ran; is = told.is; ends = told.ends; cell = told.cell; told = told.told; causes =
+    told.causes }
 
-pub short_before : {D V : Type 0} {database : Database} {given : List ℕ} (g : Ghosts D) (running after : OpenCell D V) (p : Traffic) (run : List Choice
+pub short_before : {D V : Type 0} {database : Database} {given : List ℕ} (g : Ghosts D) (running after : OpenCell D V) (p : Traffic) (run : Choices
     → Run_or_why) (c : Cell) (handed : List Bool) → IsShort g database given run (with_handed c handed) (with_packets running p) after
     → IsShort g database given run c running after
 short_before g running after p run c handed (inl hold) =

@@ -17,12 +17,12 @@ use Rattle.ubik_types.specs.declared.versions.Version.{Version}
 use Rattle.ubik_store.specs.Gaps.{IsPlain}
 use Rattle.cell_model.specs.Durable.{Durable}
 use Rattle.cell_model.specs.Node as model
-use Rattle.cell_model.specs.Step.{Member, Shown}
-use Rattle.cell_model.specs.Voters.{IsVoter}
+use Rattle.cell_model.specs.Step.{Member, Shown, cell_size}
+use Rattle.recovery_laws.specs.HasNoWrite.{HasNoWrite}
 use Rattle.cell_model.specs.World.{Site as ModelSite, Crash, Restart, Restarts, Stays_down, Happened, SiteHappened, crash_at, happened_at, happens, happens_at}
 use Rattle.cell_model.specs.World.{packets_of, restart_at, site_of}
 use Rattle.cell_runs.specs.ScriptDatabase.{ScriptDatabase}
-use Rattle.cell_runs.specs.Script.{Armed, Cell, Choice, Run_or_why, armed_at, cell_after, first_choice, happened, resting, with_event}
+use Rattle.cell_runs.specs.Script.{Armed, Cell, Choice, Run_or_why, armed_at, cell_after, first_choice, happened, resting, with_event, Choices, sound_choices}
 use Rattle.cell_runs.specs.Trace.{Tells, fault_count, trace}
 use Rattle.ubik_node.specs.declared.nodes.Node.{Node}
 use Rattle.ubik_node.specs.Disk.{IsArmed, IsRevived, StandsAs}
@@ -40,7 +40,7 @@ use Rattle.cell_sites.specs.Disks.{AreRises, IsReadBy, held}
 use Rattle.cell_sites.specs.OpenedServer.{ServerIs, ServerOpens, is_cut_short}
 use Rattle.cell_sites.specs.Reopened.{SiteReopened, reopened_marks}
 use Rattle.cell_sites.specs.Sites.{AreArmed, AreSitesOf, IsArmedAs, IsModelledBy, helds, server_disk, server_node, site_disk}
-use Rattle.cell_sites.specs.Sound.{IsSound, IsSoundDisk, IsSoundNode, IsSoundServer, StandsForSome}
+use Rattle.cell_sites.specs.Sound.{IsSoundDisk, IsSoundNode, IsSoundServer, IsSteady}
 use Rattle.cell_sites.specs.Stepped.{TakenDown, member_at, up_site}
 use Rattle.cell_sites.specs.Telling.{told_of}
 use Rattle.cell_sites.specs.Told.{CellTold, IsShort}
@@ -53,9 +53,8 @@ use Rattle.cell_sites.proofs.Delivering.{set_same}
 use Rattle.cell_sites.proofs.Happening.{with_armed}
 use Rattle.cell_sites.proofs.Plainly.{and_some, make_if, make_some, of_some, some_of}
 use Rattle.cell_sites.proofs.Reading.{read_at}
-use Rattle.cell_sites.proofs.Running.{held_at, moved_set, reads_both, reads_set, rises_set, short_after, whole}
+use Rattle.cell_sites.proofs.Running.{held_at, moved_set, reads_both, reads_set, rises_set, short_after, whole, whole_choices}
 use Rattle.cell_sites.proofs.Soundly.{none_sent, sound_after}
-use Rattle.db_image.specs.Standing.{Standing}
 
 -- what a call says that did not find memory wanting
 pub ok_says : {P : Type 0} (r : Result (Unit {0}) NoMemory) → r ≡ Ok tt → OnOk r P → P
@@ -78,9 +77,9 @@ module _ {D V : Type 0} (g : Ghosts D) (running after : OpenCell D V) (k : ℕ) 
   pub many_at : length after.sites.items ≡ length running.sites.items
   many_at = ap length sites ∙ length-set running.sites.items k later
 
-  pub sound_at_place : {standing : Standing} (bound : ℕ) → IsSound g standing bound running → later.clock ≡ site.clock
-      → IsSoundServer g (member_at running k) later.clock later.server → IsSoundDisk g standing (site_disk later)
-      → after.hosts.items ≡ running.hosts.items → after.packets ≡ running.packets → after.outputs ≡ running.outputs → IsSound g standing bound after
+  pub sound_at_place : (bound : ℕ) → IsSteady g bound running → later.clock ≡ site.clock
+      → IsSoundServer g (member_at running k) later.clock later.server → IsSoundDisk g (site_disk later)
+      → after.hosts.items ≡ running.hosts.items → after.packets ≡ running.packets → after.outputs ≡ running.outputs → IsSteady g bound after
   sound_at_place bound sound clock is disk hosts packets outputs =
       sound_after g bound running after k site later [] sound there clock is disk sites hosts (packets ∙ none_sent running.packets) (All-nil _)
       (outputs ∙ sound.told)
@@ -106,9 +105,9 @@ module _ {D V : Type 0} (g : Ghosts D) (running after : OpenCell D V) (k clock c
       ap (λ (h : Bool). if h then model.Halted (model.halted_from (up_server later)) else model.Up (up_server later)) same.1
       ∙ ap (λ (s : State). if node.halted then model.Halted (model.halted_from (server_of s)) else model.Up (server_of s)) same.0
 
-  pub arm_told : (script_db : ScriptDatabase) (given : List ℕ) (c : Cell) (run : List Choice → Run_or_why) (text : List ℕ)
+  pub arm_told : (script_db : ScriptDatabase) (given : List ℕ) (c : Cell) (run : Choices → Run_or_why) (text : List ℕ)
       → IsModelledBy g script_db.database given running c
-      → ((choices : List Choice) → run choices ≡ Ok (resting (record c { armed = set c.armed k (Some (record { calls = calls; made = 0 })) })))
+      → ((choices : Choices) → run choices ≡ Ok (resting (record c { armed = set c.armed k (Some (record { calls = calls; made = 0 })) })))
       → CellTold g script_db given run None running after text text
   arm_told script_db given c run text stands does =
       let site = site_at running.sites.items c.run.world.sites k (up_site clock node) stands.sites there in
@@ -116,9 +115,10 @@ module _ {D V : Type 0} (g : Ghosts D) (running after : OpenCell D V) (k clock c
       let was = armed_here g running.sites.items c.armed k (up_site clock node) stands.armed there in
       let read = read_at g c.run.world.sites running.sites.items k site.s (up_site clock node) stands.disks.read site.there there in
       record {
-        choices = [];
+        choices = sound_choices;
+        whole = refl;
         ran = resting (record c { armed = now });
-        is = does [];
+        is = does sound_choices;
         ends = refl;
         cell = record {
           hosts = stands.hosts ∙ sym hosts;
@@ -148,8 +148,8 @@ module _ {D V : Type 0} (g : Ghosts D) (running after : OpenCell D V) (k clock c
 module _ {D V : Type 0} (g : Ghosts D) (clock calls : ℕ) (fill : Fill) (node later : Node D V) (disk : IsArmed g calls fill node.store.disk later.store.disk)
     (same : (later.state ≡ node.state) × (later.halted ≡ node.halted) × (later.last ≡ node.last)) where
   -- it stays sound
-  pub arm_disk : {standing : Standing} → IsSoundDisk g standing node.store.disk → IsSoundDisk g standing later.store.disk
-  arm_disk {standing} sound =
+  pub arm_disk : IsSoundDisk g node.store.disk → IsSoundDisk g later.store.disk
+  arm_disk sound =
       let at = some_of (g.files node.store.disk) sound.told in
       let is : g.files later.store.disk ≡ Some at.0 = disk.files ∙ at.1 in
       record {
@@ -157,8 +157,6 @@ module _ {D V : Type 0} (g : Ghosts D) (clock calls : ℕ) (fill : Fill) (node l
         settled = make_if (g.files later.store.disk) at.0 (λ fs. Only fs (g.may_leave later.store.disk)) is
             (λ c left. of_some (g.files node.store.disk) at.0 (λ fs. Only fs (g.may_leave node.store.disk)) at.1 sound.settled c (disk.crash.no_more c left));
         plain = make_if (g.files later.store.disk) at.0 IsPlain is (of_some (g.files node.store.disk) at.0 IsPlain at.1 sound.plain);
-        stands = make_if (g.files later.store.disk) at.0 (StandsForSome standing) is
-            (of_some (g.files node.store.disk) at.0 (StandsForSome standing) at.1 sound.stands);
       }
 
   pub arm_node : (m : Member) → IsSoundNode g m clock node → IsStored g later → IsSoundNode g m clock later
@@ -167,14 +165,14 @@ module _ {D V : Type 0} (g : Ghosts D) (clock calls : ℕ) (fill : Fill) (node l
       record {
         last = let l = sound.last in let is = same.2 in omega (arith, l, is);
         member = member;
-        voter = λ up. subst (λ (s : State). IsVoter m (server_of s)) (sym same.0) (sound.voter (sym same.1 ∙ up));
+        quiet = λ up. subst (λ (s : State). HasNoWrite (cell_size m) (server_of s)) (sym same.0) (sound.quiet (sym same.1 ∙ up));
         stored = stored;
       }
 
 -- ---- a server that goes down
 
 -- a settled disk is revived as it is
-pub revived_read : {D : Type 0} {standing : Standing} (g : Ghosts D) (old new : D) (d : Durable) → IsSoundDisk g standing old → IsRevived g old new
+pub revived_read : {D : Type 0} (g : Ghosts D) (old new : D) (d : Durable) → IsSoundDisk g old → IsRevived g old new
     → IsSomeAnd (g.files old) (StandsAs d) → IsSomeAnd (g.files new) (StandsAs d)
 revived_read g old new d sound revived read =
     let at = some_of (g.files old) sound.told in
@@ -183,9 +181,9 @@ revived_read g old new d sound revived read =
     let same : there.0 ≡ at.0 = of_some (g.files old) at.0 (λ fs. Only fs (g.may_leave old)) at.1 sound.settled there.0 left.0 in
     make_some (g.files new) there.0 (StandsAs d) there.1 (subst (StandsAs d) (sym same) (and_some (g.files old) at.0 (StandsAs d) at.1 read))
 
-pub revived_sound : {D : Type 0} {standing : Standing} (g : Ghosts D) (old new : D) → IsSoundDisk g standing old → IsRevived g old new
-    → IsSoundDisk g standing new
-revived_sound {D} {standing} g old new sound revived =
+pub revived_sound : {D : Type 0} (g : Ghosts D) (old new : D) → IsSoundDisk g old → IsRevived g old new
+    → IsSoundDisk g new
+revived_sound {D} g old new sound revived =
     let at = some_of (g.files old) sound.told in
     let some = revived.told (g.tells_now old sound.told) in
     let there = some_of (g.files new) some in
@@ -195,21 +193,19 @@ revived_sound {D} {standing} g old new sound revived =
       told = some;
       settled = make_if (g.files new) there.0 (λ fs. Only fs (g.may_leave new)) there.1 left.1;
       plain = make_if (g.files new) there.0 IsPlain there.1 (subst IsPlain (sym same) (of_some (g.files old) at.0 IsPlain at.1 sound.plain));
-      stands = make_if (g.files new) there.0 (StandsForSome standing) there.1
-          (subst (StandsForSome standing) (sym same) (of_some (g.files old) at.0 (StandsForSome standing) at.1 sound.stands));
     }
 
-module _ {D V : Type 0} {standing : Standing} (g : Ghosts D) (running after : OpenCell D V) (k : ℕ) (down : TakenDown g k running after)
-    (disk : IsSoundDisk g standing (server_disk down.server)) where
+module _ {D V : Type 0} (g : Ghosts D) (running after : OpenCell D V) (k : ℕ) (down : TakenDown g k running after)
+    (disk : IsSoundDisk g (server_disk down.server)) where
   abbrev pub before_site : Site D V
   before_site = record { clock = down.clock; server = down.server }
 
   abbrev pub down_site : Site D V
   down_site = record { clock = down.clock; server = Down down.disk }
 
-  pub crash_told : (script_db : ScriptDatabase) (given : List ℕ) (c : Cell) (run : List Choice → Run_or_why) (text : List ℕ)
+  pub crash_told : (script_db : ScriptDatabase) (given : List ℕ) (c : Cell) (run : Choices → Run_or_why) (text : List ℕ)
       → IsModelledBy g script_db.database given running c
-      → ((choices : List Choice) → run choices ≡ Ok (with_event script_db (record c { armed = set c.armed k None }) (Crash k)))
+      → ((choices : Choices) → run choices ≡ Ok (with_event script_db (record c { armed = set c.armed k None }) (Crash k)))
       → CellTold g script_db given run None running after text text
   crash_told script_db given c run text stands does =
       let site = site_at running.sites.items c.run.world.sites k before_site stands.sites down.there in
@@ -219,7 +215,7 @@ module _ {D V : Type 0} {standing : Standing} (g : Ghosts D) (running after : Op
       let happened_so : happens script_db.database c.run.world (Crash k) ≡ happened_at c.run.world k h = ap (happens_at c.run.world k crash_at) site.there in
       let cell_next = cell_after (with_armed c now) (Crash k) (happened_at c.run.world k h) in
       whole g script_db given running after c stands k (Crash k) h now run []
-      (does [] ∙ ap (λ (x : Happened). Ok (happened (with_armed c now) (Crash k) x)) happened_so) tt before_site down_site down.there down.sites
+      (does (whole_choices []) ∙ ap (λ (x : Happened). Ok (happened (with_armed c now) (Crash k) x)) happened_so) tt before_site down_site down.there down.sites
       (let f = down.revived.faults in omega (arith, f)) (λ j other. refl)
       text text text (ap (λ (t : Traffic). record { after = record { text = text; sent = t.sent }; ending = None }) (sym down.packets)) (sym (append-nil text))
       down.hosts (down.packets ∙ none_sent running.packets) (record { clock = site.is.clock; node = refl })
@@ -237,7 +233,7 @@ module _ {D V : Type 0} {standing : Standing} (g : Ghosts D) (running after : Op
   pub crash_rises : AreRises 0 [] (helds g running) (helds g after)
   crash_rises = rises_at g running after k before_site down_site down.there down.sites (let f = down.revived.faults in omega (arith, f))
 
-  pub crash_sound : (bound : ℕ) → IsSound g standing bound running → IsSound g standing bound after
+  pub crash_sound : (bound : ℕ) → IsSteady g bound running → IsSteady g bound after
   crash_sound bound sound =
       sound_at_place g running after k before_site down_site down.there down.sites bound sound refl tt
       (revived_sound g (server_disk down.server) down.disk disk down.revived) down.hosts down.packets down.outputs
@@ -253,9 +249,9 @@ down_sound g m clock (Up n) is = absurd (by n.halted is)
     by true is = cc
     by false is = cc
 
-module _ {D V : Type 0} {standing : Standing} (g : Ghosts D) (script_db : ScriptDatabase) (running after : OpenCell D V) (k : ℕ)
-    (result : Result (Unit {0}) NoMemory) (tb ta : List ℕ) (bound : ℕ) (sound : IsSound g standing bound running)
-    (re : SiteReopened g standing script_db k result running after tb ta) (disk : IsSoundDisk g standing re.disk) where
+module _ {D V : Type 0} (g : Ghosts D) (script_db : ScriptDatabase) (running after : OpenCell D V) (k : ℕ)
+    (result : Result (Unit {0}) NoMemory) (tb ta : List ℕ) (bound : ℕ) (sound : IsSteady g bound running)
+    (re : SiteReopened g script_db k result running after tb ta) (stood : (d : Durable) × IsSomeAnd (g.files re.disk) (StandsAs d)) where
   abbrev pub closed_site : Site D V
   closed_site = record { clock = re.clock; server = Down re.disk }
 
@@ -263,11 +259,8 @@ module _ {D V : Type 0} {standing : Standing} (g : Ghosts D) (script_db : Script
   open_site = record { clock = re.clock; server = re.server }
 
   -- what is known of it whatever its files stand for
-  some_durable : (d : Durable) × ServerOpens g standing (member_at running k) re.clock d re.end re.disk re.server
-  some_durable =
-      let at = some_of (g.files re.disk) disk.told in
-      let stands = of_some (g.files re.disk) at.0 (StandsForSome standing) at.1 disk.stands in
-      (stands.0, re.opens stands.0 (make_some (g.files re.disk) at.0 (StandsAs stands.0) at.1 stands.1))
+  some_durable : (d : Durable) × ServerOpens g (member_at running k) re.clock d re.end re.disk re.server
+  some_durable = (stood.0, re.opens stood.0 stood.1)
 
   pub reopen_rises : AreRises 0 [] (helds g running) (helds g after)
   reopen_rises = rises_at g running after k closed_site open_site re.there re.sites some_durable.1.never_falls
@@ -278,7 +271,7 @@ module _ {D V : Type 0} {standing : Standing} (g : Ghosts D) (script_db : Script
   server_sound opened.StaysDown d is = down_sound g (member_at running k) re.clock re.server is.0
   server_sound opened.NoMemory d is = down_sound g (member_at running k) re.clock re.server is
 
-  pub reopen_sound : (other : ℕ) → IsSound g standing other running → IsSound g standing other after
+  pub reopen_sound : (other : ℕ) → IsSteady g other running → IsSteady g other after
   reopen_sound other still =
       sound_at_place g running after k closed_site open_site re.there re.sites other still refl (server_sound re.end some_durable.0 some_durable.1.is)
       some_durable.1.sound re.hosts re.packets re.outputs
@@ -293,7 +286,7 @@ module _ {D V : Type 0} {standing : Standing} (g : Ghosts D) (script_db : Script
     read : IsReadBy site.s (held g re.disk)
     read = read_at g c.run.world.sites running.sites.items k site.s closed_site stands.disks.read site.there re.there
 
-    opens : ServerOpens g standing (member_at running k) re.clock site.s.durable re.end re.disk re.server
+    opens : ServerOpens g (member_at running k) re.clock site.s.durable re.end re.disk re.server
     opens = re.opens site.s.durable read
 
     -- the calls of the opening
@@ -317,7 +310,7 @@ module _ {D V : Type 0} {standing : Standing} (g : Ghosts D) (script_db : Script
     choice_of failed = record { fails = failed; made = 0; took = false }
 
     -- the line as the model has it
-    abbrev pub restarts : List Choice → Run_or_why
+    abbrev pub restarts : Choices → Run_or_why
     restarts choices = Ok (with_event script_db c (Restart k (first_choice choices).fails))
 
     module _ (failed : Bool) (cut : is_cut_short re.end ≡ failed)
@@ -392,14 +385,15 @@ module _ {D V : Type 0} {standing : Standing} (g : Ghosts D) (script_db : Script
               let P : Bool → Type 0 = λ b. OpensWhere b (site_of c.run.world j) failed 0 in
               subst P (sym (ne_eqb k j (λ e. other (sym e)))) refl
 
-      line_is : restarts (choice_of failed ∷ []) ≡ Ok (happened (with_armed c c.armed) (Restart k failed) (happened_at c.run.world k h))
+      line_is : restarts (whole_choices (choice_of failed ∷ [])) ≡ Ok (happened (with_armed c c.armed) (Restart k failed) (happened_at c.run.world k h))
       unfolding choice_of
       line_is = ap (λ (x : Happened). Ok (happened c (Restart k failed) x)) happened_so
 
       pub reopen_told : (marks : ta ≡ tb ++ trace script_db running.hosts.items (map Tells h.marks))
           → CellTold g script_db given restarts None running after tb ta
       reopen_told marks =
-          whole g script_db given running after c stands k (Restart k failed) h c.armed restarts (choice_of failed ∷ []) line_is (marks_are failed) closed_site
+          whole g script_db given running after c stands k (Restart k failed) h c.armed restarts (whole_choices (choice_of failed ∷ [])) line_is (marks_are
+          failed) closed_site
           open_site re.there re.sites
           (faults_told failed faulted opens.never_falls) (faults_others failed)
           tb tb ta (ap (told_of script_db running.hosts.items k (record { text = tb; sent = running.packets.sent })) (shown_none failed)
@@ -425,7 +419,8 @@ module _ {D V : Type 0} {standing : Standing} (g : Ghosts D) (script_db : Script
 
       pub reopen_short_after : IsShort g script_db.database given restarts c running after
       reopen_short_after =
-          short_after g script_db given running after c stands k (Restart k failed) h c.armed restarts (choice_of failed ∷ []) line_is (marks_are failed)
+          short_after g script_db given running after c stands k (Restart k failed) h c.armed restarts (whole_choices (choice_of failed ∷ [])) line_is
+          (marks_are failed)
           closed_site open_site re.there re.sites
           (faults_told failed faulted opens.never_falls) (faults_others failed) hold_next
 

@@ -4,16 +4,15 @@ use Rattle.std.specs.Prelude.{slice_get, unwrap_or}
 use Rattle.std.proofs.lemmas.List.{append-nil}
 use Rattle.std.proofs.lemmas.Option.{slice_get_within}
 use Rattle.db_image.specs.Database.{Database}
-use Rattle.db_image.specs.Standing.{Standing}
 use Rattle.disk_base.specs.declared.disks.Disk.{Ghosts}
 use Rattle.ubik_calls.specs.declared.packets.Packet.{Packet}
 use Rattle.ubik_types.specs.declared.hosts.Host.{Host}
 use Rattle.cell_model.specs.Step.{host_at}
-use Rattle.cell_runs.specs.Script.{Cell, Choice, Run_or_why, dropped_of, resting}
+use Rattle.cell_runs.specs.Script.{Cell, Run_or_why, dropped_of, resting, Choices, sound_choices}
 use Rattle.cell_runs.specs.ScriptDatabase.{ScriptDatabase}
 use Rattle.cell_sites.specs.Places.{IsUpAt}
 use Rattle.cell_sites.specs.Sites.{IsModelledBy, helds}
-use Rattle.cell_sites.specs.Sound.{IsSound}
+use Rattle.cell_sites.specs.Sound.{IsSteady}
 use Rattle.cell_sites.specs.Told.{CellTold}
 use Rattle.cell_sites.specs.Traffic.{Traffic, dropped_all, handed_over}
 use Rattle.cell_sites.specs.declared.cells.OpenCell.{OpenCell}
@@ -26,12 +25,13 @@ abbrev pub with_packets : {D V : Type 0} → OpenCell D V → Traffic → OpenCe
 with_packets running packets = record running { packets = packets }
 
 pub packets_told : {D V : Type 0} {given : List ℕ} (g : Ghosts D) (db : ScriptDatabase) (running : OpenCell D V) (c : Cell) (packets : Traffic)
-    (handed : List Bool) (run : List Choice → Run_or_why) (text : List ℕ) →
-    ((choices : List Choice) → run choices ≡ Ok (resting (record c { handed = handed }))) → packets.sent ≡ running.packets.sent → packets.handed ≡ handed →
+    (handed : List Bool) (run : Choices → Run_or_why) (text : List ℕ) →
+    ((choices : Choices) → run choices ≡ Ok (resting (record c { handed = handed }))) → packets.sent ≡ running.packets.sent → packets.handed ≡ handed →
     IsModelledBy g db.database given running c → CellTold g db given run None running (with_packets running packets) text text
 packets_told g db running c packets handed run text does sent same stands =
     record {
-      choices = [];
+      choices = sound_choices;
+      whole = refl;
       ran = resting (record c { handed = handed });
       is = does [];
       ends = refl;
@@ -68,7 +68,7 @@ host_handed running c packets k host is there stands =
     ∙ ap (λ (l : List Bool). dropped_of (host_at c.run.world.hosts k) c.run.world.packets l) (sym stands.handed)
 
 -- a server that is up has a host
-pub host_within : {D V : Type 0} {standing : Standing} (g : Ghosts D) (bound : ℕ) (running : OpenCell D V) (k : ℕ) → IsSound g standing bound running
+pub host_within : {D V : Type 0} (g : Ghosts D) (bound : ℕ) (running : OpenCell D V) (k : ℕ) → IsSteady g bound running
     → IsUpAt running k → k < length running.hosts.items
 host_within g bound running k sound up =
     let within = slice_get_within running.sites.items k _ up.there in

@@ -1,23 +1,22 @@
 -- Waiting packets that are delivered one after the other.
-use Rattle.std.proofs.Common.{◌≡◌, inl, ◌<◌, ◌≤◌, ◌+◌, ℕ, zero, suc, Bool, true, false, Option, Some, None, Ok, List, [], ◌∷◌, ◌++◌, length, refl, sym, ap}
+use Rattle.std.proofs.Common.{◌≡◌, inl, inr, ◌<◌, ◌≤◌, ◌+◌, ℕ, zero, suc, Bool, true, false, Option, Some, None, Ok, List, [], ◌∷◌, ◌++◌, length, refl, sym, ap}
 use Rattle.std.proofs.Common.{subst, ◌∙◌, arith, append_assoc}
 use Rattle.std.proofs.lemmas.List.{append-nil}
 use Rattle.disk_base.specs.declared.disks.Disk.{Ghosts}
 use Rattle.ubik_types.specs.declared.hosts.Host.{Host}
 use Rattle.cell_runs.specs.declared.endings.Ending.{Ending}
 use Rattle.cell_runs.specs.ScriptDatabase.{ScriptDatabase}
-use Rattle.cell_runs.specs.Script.{Cell, Cell_run, Choice, Run_or_why, all_delivered, delivered, first_choice, first_waiting, hosts_of, joined_run, resting}
+use Rattle.cell_runs.specs.declared.limits.TheConstants.{MAX_PACKETS}
+use Rattle.cell_runs.specs.Script.{Cell, Cell_run, Choice, all_delivered, delivered, first_choice, first_waiting, hosts_of, joined_run, resting}
 use Rattle.cell_runs.specs.Script.{unless_ended}
 use Rattle.cell_runs.specs.Trace.{TraceItem, trace, item_text}
 use Rattle.cell_sites.specs.declared.cells.OpenCell.{OpenCell}
 use Rattle.cell_sites.specs.Counts.{HoldRun}
 use Rattle.cell_sites.specs.Disks.{Held, AreRises}
 use Rattle.cell_sites.specs.Sites.{IsModelledBy, helds}
-use Rattle.cell_sites.specs.Sound.{IsSound}
+use Rattle.cell_sites.specs.Sound.{Bounds, IsSound, IsSteady}
 use Rattle.cell_sites.specs.Told.{CellTold, IsShort}
 use Rattle.cell_sites.proofs.Opening.{count_append}
-use Rattle.cell_sites.proofs.Counting.{hold_short}
-use Rattle.db_image.specs.Standing.{Standing}
 
 -- ---- joining what is told
 
@@ -42,34 +41,35 @@ joined items more r = ap (λ (l : List TraceItem). record r { items = l }) (sym 
 
 -- ---- the loop
 
--- what was delivered so far, with some choices: what it comes to in all is that, and then what it comes to from here with so much fuel
+-- What was delivered so far, so many packets with some choices: what more comes to is that, and then what it comes to from here.
 pub record SoFar {D V : Type 0} (g : Ghosts D) (script_db : ScriptDatabase) (given : List ℕ) (most fuel : ℕ) (c : Cell) (start now : OpenCell D V)
     (text_before text : List ℕ) : Type 0 where
   pub cell : Cell
   pub stands : IsModelledBy g script_db.database given now cell
   pub items : List TraceItem
   pub done : List Choice
-  pub is : (more : List Choice)
-      → all_delivered script_db most c (done ++ more) (first_waiting 1 c.handed) ≡ joined_run items
-      (all_delivered script_db fuel cell more (first_waiting 1 cell.handed))
+  pub count : ℕ
+  pub all : count + fuel ≡ most
+  pub is : (rest : ℕ) (more : List Choice)
+      → all_delivered script_db (count + rest) c (done ++ more) (first_waiting 1 c.handed) ≡ joined_run items
+      (all_delivered script_db rest cell more (first_waiting 1 cell.handed))
   pub told : text ≡ text_before ++ trace script_db start.hosts.items items
   pub causes : AreRises 0 items (helds g start) (helds g now)
   pub hosts : now.hosts.items ≡ start.hosts.items
 
-pub record Follows {D V : Type 0} (g : Ghosts D) (standing : Standing) (script_db : ScriptDatabase) (most fuel : ℕ) (start now : OpenCell D V)
+pub record Follows {D V : Type 0} (g : Ghosts D) (script_db : ScriptDatabase) (most fuel : ℕ) (start now : OpenCell D V)
     (text_before text : List ℕ) : Type 0 where
   pub runs : (given : List ℕ) (c : Cell) → IsModelledBy g script_db.database given start c → SoFar g script_db given most fuel c start now text_before text
-  pub sound : (bound : ℕ) → IsSound g standing bound start → IsSound g standing bound now
+  pub sound : (bounds : Bounds) → IsSound g script_db.database bounds start → IsSound g script_db.database bounds now
   pub rises : AreRises 0 [] (helds g start) (helds g now)
   pub same : length now.sites.items ≡ length start.sites.items
-  pub keeps : (given : List ℕ) (c : Cell) → HoldRun script_db.database given false c (helds g start) → HoldRun script_db.database given false c (helds g now)
 
 no_rise : (k : ℕ) (disks : List Held) → AreRises k [] disks disks
 no_rise k [] = tt
 no_rise k (disk ∷ disks) = (omega arith, no_rise (k + 1) disks)
 
-pub follows_none : {D V : Type 0} {standing : Standing} (g : Ghosts D) (script_db : ScriptDatabase) (most fuel : ℕ) (start : OpenCell D V) (text : List ℕ)
-    → fuel ≡ most → Follows g standing script_db most fuel start start text text
+pub follows_none : {D V : Type 0} (g : Ghosts D) (script_db : ScriptDatabase) (most fuel : ℕ) (start : OpenCell D V) (text : List ℕ)
+    → fuel ≡ most → Follows g script_db most fuel start start text text
 follows_none g script_db most fuel start text same =
     record {
       runs = λ given c stands. record {
@@ -77,31 +77,43 @@ follows_none g script_db most fuel start text same =
         stands = stands;
         items = [];
         done = [];
-        is = λ more. ap (λ (n : ℕ). joined_run [] (all_delivered script_db n c more (first_waiting 1 c.handed))) (sym same);
+        count = 0;
+        all = omega (arith, same);
+        is = λ rest more. let none : 0 + rest ≡ rest = omega arith in
+            ap (λ (n : ℕ). joined_run [] (all_delivered script_db n c more (first_waiting 1 c.handed))) none;
         told = sym (append-nil text);
         causes = no_rise 0 (helds g start);
         hosts = refl;
       };
-      sound = λ bound sound. sound;
+      sound = λ bounds sound. sound;
       rises = no_rise 0 (helds g start);
       same = refl;
-      keeps = λ given c hold. hold;
     }
+
+-- ---- one more packet
+
+-- with some choice of its step, whatever that told
+module _ {D V : Type 0} (g : Ghosts D) (script_db : ScriptDatabase) (given : List ℕ) (most fuel : ℕ) (c : Cell) (start now : OpenCell D V)
+    (tb text : List ℕ) (so : SoFar g script_db given most fuel c start now tb text) (number : ℕ)
+    (waits : first_waiting 1 so.cell.handed ≡ Some number) (choice : Choice) (ran : Cell_run) (is : delivered script_db so.cell choice number ≡ ran) where
+  -- what one more packet comes to
+  pub one_more : (rest : ℕ) (more : List Choice)
+      → all_delivered script_db (so.count + 1 + rest) c ((so.done ++ choice ∷ []) ++ more) (first_waiting 1 c.handed)
+      ≡ joined_run so.items (unless_ended ran ran.ending (all_delivered script_db rest ran.cell more (first_waiting 1 ran.cell.handed)))
+  one_more rest more =
+      let next : so.count + 1 + rest ≡ so.count + suc rest = omega arith in
+      ap (λ (n : ℕ). all_delivered script_db n c ((so.done ++ choice ∷ []) ++ more) (first_waiting 1 c.handed)) next
+      ∙ ap (λ (l : List Choice). all_delivered script_db (so.count + suc rest) c l (first_waiting 1 c.handed)) (append_assoc so.done (choice ∷ []) more)
+      ∙ so.is (suc rest) (choice ∷ more)
+      ∙ ap (λ (o : Option ℕ). joined_run so.items (all_delivered script_db (suc rest) so.cell (choice ∷ more) o)) waits
+      ∙ ap (λ (r : Cell_run). joined_run so.items (unless_ended r r.ending (all_delivered script_db rest r.cell more (first_waiting 1 r.cell.handed)))) is
 
 module _ {D V : Type 0} (g : Ghosts D) (script_db : ScriptDatabase) (given : List ℕ) (most fuel : ℕ) (c : Cell) (start now later : OpenCell D V)
     (tb text after : List ℕ) (so : SoFar g script_db given most (suc fuel) c start now tb text) (number : ℕ)
     (waits : first_waiting 1 so.cell.handed ≡ Some number) (ended : Option Ending)
     (told : CellTold g script_db given (λ choices. Ok (delivered script_db so.cell (first_choice choices) number)) ended now later text after) where
-  -- what one more packet comes to
-  one_more : (more : List Choice) → all_delivered script_db most c ((so.done ++ first_choice told.choices ∷ []) ++ more) (first_waiting 1 c.handed)
-      ≡ joined_run so.items (unless_ended told.ran told.ran.ending (all_delivered script_db fuel told.ran.cell more (first_waiting 1 told.ran.cell.handed)))
-  one_more more =
-      let choice = first_choice told.choices in
-      let ran : delivered script_db so.cell choice number ≡ told.ran = let e = told.is in cc in
-      ap (λ (l : List Choice). all_delivered script_db most c l (first_waiting 1 c.handed)) (append_assoc so.done (choice ∷ []) more)
-      ∙ so.is (choice ∷ more)
-      ∙ ap (λ (o : Option ℕ). joined_run so.items (all_delivered script_db (suc fuel) so.cell (choice ∷ more) o)) waits
-      ∙ ap (λ (r : Cell_run). joined_run so.items (unless_ended r r.ending (all_delivered script_db fuel r.cell more (first_waiting 1 r.cell.handed)))) ran
+  came : delivered script_db so.cell (first_choice told.choices) number ≡ told.ran
+  came = let e = told.is in cc
 
   all_told : after ≡ tb ++ trace script_db start.hosts.items (so.items ++ told.ran.items)
   all_told =
@@ -119,24 +131,31 @@ module _ {D V : Type 0} (g : Ghosts D) (script_db : ScriptDatabase) (given : Lis
         stands = stands;
         items = so.items ++ told.ran.items;
         done = so.done ++ first_choice told.choices ∷ [];
-        is = λ more.
-            one_more more
+        count = so.count + 1;
+        all = let all = so.all in omega (arith, all);
+        is = λ rest more.
+            one_more g script_db given most (suc fuel) c start now tb text so number waits (first_choice told.choices) told.ran came rest more
             ∙ ap (λ (e : Option Ending). joined_run so.items (unless_ended told.ran e
-            (all_delivered script_db fuel told.ran.cell more (first_waiting 1 told.ran.cell.handed)))) (told.ends ∙ none)
-            ∙ joined so.items told.ran.items (all_delivered script_db fuel told.ran.cell more (first_waiting 1 told.ran.cell.handed));
+            (all_delivered script_db rest told.ran.cell more (first_waiting 1 told.ran.cell.handed)))) (told.ends ∙ none)
+            ∙ joined so.items told.ran.items (all_delivered script_db rest told.ran.cell more (first_waiting 1 told.ran.cell.handed));
         told = all_told;
         causes = rises_both 0 so.items told.ran.items (helds g start) (helds g now) (helds g later) so.causes told.causes;
         hosts = hosts ∙ so.hosts;
       }
 
   -- the script ends in it
-  pub ends_there : (ending : Ending) → ended ≡ Some ending → HoldRun script_db.database given false told.ran.cell (helds g later)
-      → CellTold g script_db given (λ choices. Ok (all_delivered script_db most c choices (first_waiting 1 c.handed))) (Some ending) start later tb after
-  ends_there ending some hold =
+  pub ends_there : most ≡ MAX_PACKETS → (ending : Ending) → ended ≡ Some ending → HoldRun script_db.database given false told.ran.cell (helds g later)
+      → CellTold g script_db given (λ choices. Ok (all_delivered script_db choices.most c choices.each (first_waiting 1 c.handed))) (Some ending) start later
+      tb after
+  ends_there whole ending some hold =
+      let all : so.count + 1 + fuel ≡ most = let all = so.all in omega (arith, all) in
       record {
-        choices = (so.done ++ first_choice told.choices ∷ []) ++ [];
+        choices = record { each = (so.done ++ first_choice told.choices ∷ []) ++ []; most = most };
+        whole = whole;
         ran = joined_run so.items told.ran;
-        is = ap Ok (one_more [] ∙ ap (λ (e : Option Ending). joined_run so.items
+        is = ap Ok (ap (λ (n : ℕ). all_delivered script_db n c ((so.done ++ first_choice told.choices ∷ []) ++ []) (first_waiting 1 c.handed)) (sym all)
+            ∙ one_more g script_db given most (suc fuel) c start now tb text so number waits (first_choice told.choices) told.ran came fuel []
+            ∙ ap (λ (e : Option Ending). joined_run so.items
             (unless_ended told.ran e (all_delivered script_db fuel told.ran.cell [] (first_waiting 1 told.ran.cell.handed)))) (told.ends ∙ some));
         ends = told.ends ∙ some;
         cell = hold;
@@ -147,13 +166,15 @@ module _ {D V : Type 0} (g : Ghosts D) (script_db : ScriptDatabase) (given : Lis
 -- no packet waits any more, or there is no fuel left
 pub followed : {D V : Type 0} (g : Ghosts D) (script_db : ScriptDatabase) (given : List ℕ) (most fuel : ℕ) (c : Cell) (start now : OpenCell D V)
     (tb text : List ℕ) (so : SoFar g script_db given most fuel c start now tb text)
-    → all_delivered script_db fuel so.cell [] (first_waiting 1 so.cell.handed) ≡ resting so.cell
-    → CellTold g script_db given (λ choices. Ok (all_delivered script_db most c choices (first_waiting 1 c.handed))) None start now tb text
-followed g script_db given most fuel c start now tb text so rests =
+    → most ≡ MAX_PACKETS → all_delivered script_db fuel so.cell [] (first_waiting 1 so.cell.handed) ≡ resting so.cell
+    → CellTold g script_db given (λ choices. Ok (all_delivered script_db choices.most c choices.each (first_waiting 1 c.handed))) None start now tb text
+followed g script_db given most fuel c start now tb text so whole rests =
     record {
-      choices = so.done ++ [];
+      choices = record { each = so.done ++ []; most = most };
+      whole = whole;
       ran = joined_run so.items (resting so.cell);
-      is = ap Ok (so.is [] ∙ ap (joined_run so.items) rests);
+      is = ap Ok (ap (λ (n : ℕ). all_delivered script_db n c (so.done ++ []) (first_waiting 1 c.handed)) (sym so.all)
+          ∙ so.is fuel [] ∙ ap (joined_run so.items) rests);
       ends = refl;
       cell = so.stands;
       told = so.told ∙ ap (λ (l : List TraceItem). tb ++ trace script_db start.hosts.items l) (sym (append-nil so.items));
@@ -181,12 +202,12 @@ is_waiting k (true ∷ handed) number waits =
     let later = is_waiting (k + 1) handed number waits in (omega (arith, later.0), omega (arith, later.1))
 
 -- sound cells of as many servers have the same hosts
-pub same_hosts : {D V : Type 0} {standing : Standing} (g : Ghosts D) (bound other : ℕ) (now later : OpenCell D V) → IsSound g standing bound now
-    → IsSound g standing other later → length later.sites.items ≡ length now.sites.items → later.hosts.items ≡ now.hosts.items
+pub same_hosts : {D V : Type 0} (g : Ghosts D) (bound other : ℕ) (now later : OpenCell D V) → IsSteady g bound now
+    → IsSteady g other later → length later.sites.items ≡ length now.sites.items → later.hosts.items ≡ now.hosts.items
 same_hosts g bound other now later sound sounds same = sounds.hosts ∙ ap hosts_of same ∙ sym sound.hosts
 
-module _ {D V : Type 0} {standing : Standing} (g : Ghosts D) (script_db : ScriptDatabase) (most n fuel bound : ℕ) (start now later : OpenCell D V)
-    (tb text after : List ℕ) (follows : Follows g standing script_db most n start now tb text) (less : n ≡ suc fuel) (sound : IsSound g standing bound start)
+module _ {D V : Type 0} (g : Ghosts D) (script_db : ScriptDatabase) (most n fuel : ℕ) (bounds : Bounds) (start now later : OpenCell D V)
+    (tb text after : List ℕ) (follows : Follows g script_db most n start now tb text) (less : n ≡ suc fuel) (sound : IsSound g script_db.database bounds start)
     (number : ℕ) (waits : first_waiting 1 now.packets.handed ≡ Some number) where
   before : (given : List ℕ) (c : Cell) → IsModelledBy g script_db.database given start c → SoFar g script_db given most (suc fuel) c start now tb text
   before given c stands = subst (λ (m : ℕ). SoFar g script_db given most m c start now tb text) less (follows.runs given c stands)
@@ -194,58 +215,98 @@ module _ {D V : Type 0} {standing : Standing} (g : Ghosts D) (script_db : Script
   -- one more packet was handed over
   pub follows_more : ((given : List ℕ) (c : Cell) → IsModelledBy g script_db.database given now c
       → CellTold g script_db given (λ choices. Ok (delivered script_db c (first_choice choices) number)) None now later text after)
-      → ((b : ℕ) → IsSound g standing b now → IsSound g standing b later) → AreRises 0 [] (helds g now) (helds g later)
+      → ((b : Bounds) → IsSound g script_db.database b now → IsSound g script_db.database b later) → AreRises 0 [] (helds g now) (helds g later)
       → length later.sites.items ≡ length now.sites.items
-      → ((given : List ℕ) (c : Cell) → HoldRun script_db.database given false c (helds g now) → HoldRun script_db.database given false c (helds g later))
-      → Follows g standing script_db most fuel start later tb after
-  follows_more told sounds rises same keeps =
+      → Follows g script_db most fuel start later tb after
+  follows_more told sounds rises same =
       record {
         runs = λ given c stands.
             let so = before given c stands in
             let t = told given so.cell so.stands in
             goes_on g script_db given most fuel c start now later tb text after so number (ap (first_waiting 1) so.stands.handed ∙ waits) None t refl t.cell
-            (same_hosts g bound bound now later (follows.sound bound sound) (sounds bound (follows.sound bound sound)) same);
+            (same_hosts g bounds.clock bounds.clock now later (follows.sound bounds sound).steady (sounds bounds (follows.sound bounds sound)).steady same);
         sound = λ b s. sounds b (follows.sound b s);
         rises = rises_both 0 [] [] (helds g start) (helds g now) (helds g later) follows.rises rises;
         same = same ∙ follows.same;
-        keeps = λ given c hold. keeps given c (follows.keeps given c hold);
       }
 
   -- the next one passes a limit
-  pub limit_there : (given : List ℕ) (c : Cell) → IsModelledBy g script_db.database given start c → (ending : Ending)
+  pub limit_there : most ≡ MAX_PACKETS → (given : List ℕ) (c : Cell) → IsModelledBy g script_db.database given start c → (ending : Ending)
       → ((d : Cell) → IsModelledBy g script_db.database given now d
       → CellTold g script_db given (λ choices. Ok (delivered script_db d (first_choice choices) number)) (Some ending) now later text after)
-      → CellTold g script_db given (λ choices. Ok (all_delivered script_db most c choices (first_waiting 1 c.handed))) (Some ending) start later tb after
-  limit_there given c stands ending told =
+      → CellTold g script_db given (λ choices. Ok (all_delivered script_db choices.most c choices.each (first_waiting 1 c.handed))) (Some ending) start later
+      tb after
+  limit_there whole given c stands ending told =
       let so = before given c stands in
       let t = told so.cell so.stands in
-      ends_there g script_db given most fuel c start now later tb text after so number (ap (first_waiting 1) so.stands.handed ∙ waits) (Some ending) t ending
-      refl t.cell
+      ends_there g script_db given most fuel c start now later tb text after so number (ap (first_waiting 1) so.stands.handed ∙ waits) (Some ending) t whole
+      ending refl t.cell
 
 -- none waits any more
-pub all_followed : {D V : Type 0} {standing : Standing} (g : Ghosts D) (script_db : ScriptDatabase) (most fuel : ℕ) (start now : OpenCell D V)
-    (tb text : List ℕ) → Follows g standing script_db most fuel start now tb text
-    → first_waiting 1 now.packets.handed ≡ None → (given : List ℕ) (c : Cell) → IsModelledBy g script_db.database given start c
-    → CellTold g script_db given (λ choices. Ok (all_delivered script_db most c choices (first_waiting 1 c.handed))) None start now tb text
-all_followed g script_db most fuel start now tb text follows none given c stands =
+pub all_followed : {D V : Type 0} (g : Ghosts D) (script_db : ScriptDatabase) (most fuel : ℕ) (start now : OpenCell D V)
+    (tb text : List ℕ) → Follows g script_db most fuel start now tb text
+    → most ≡ MAX_PACKETS → first_waiting 1 now.packets.handed ≡ None → (given : List ℕ) (c : Cell) → IsModelledBy g script_db.database given start c
+    → CellTold g script_db given (λ choices. Ok (all_delivered script_db choices.most c choices.each (first_waiting 1 c.handed))) None start now tb text
+all_followed g script_db most fuel start now tb text follows whole none given c stands =
     let so = follows.runs given c stands in
-    followed g script_db given most fuel c start now tb text so (none_left script_db fuel so.cell (ap (first_waiting 1) so.stands.handed ∙ none))
+    followed g script_db given most fuel c start now tb text so whole (none_left script_db fuel so.cell (ap (first_waiting 1) so.stands.handed ∙ none))
 
 -- as many were handed over as a script may send
-pub fuel_followed : {D V : Type 0} {standing : Standing} (g : Ghosts D) (script_db : ScriptDatabase) (most fuel : ℕ) (start now : OpenCell D V)
-    (tb text : List ℕ) → Follows g standing script_db most fuel start now tb text
-    → fuel ≡ zero → (given : List ℕ) (c : Cell) → IsModelledBy g script_db.database given start c
-    → CellTold g script_db given (λ choices. Ok (all_delivered script_db most c choices (first_waiting 1 c.handed))) None start now tb text
-fuel_followed g script_db most fuel start now tb text follows none given c stands =
+pub fuel_followed : {D V : Type 0} (g : Ghosts D) (script_db : ScriptDatabase) (most fuel : ℕ) (start now : OpenCell D V)
+    (tb text : List ℕ) → Follows g script_db most fuel start now tb text
+    → most ≡ MAX_PACKETS → fuel ≡ zero → (given : List ℕ) (c : Cell) → IsModelledBy g script_db.database given start c
+    → CellTold g script_db given (λ choices. Ok (all_delivered script_db choices.most c choices.each (first_waiting 1 c.handed))) None start now tb text
+fuel_followed g script_db most fuel start now tb text follows whole none given c stands =
     let so = follows.runs given c stands in
-    followed g script_db given most fuel c start now tb text so (ap (λ (m : ℕ). all_delivered script_db m so.cell [] (first_waiting 1 so.cell.handed)) none
+    followed g script_db given most fuel c start now tb text so whole (ap (λ (m : ℕ). all_delivered script_db m so.cell [] (first_waiting 1 so.cell.handed))
+    none
     ∙ no_fuel script_db so.cell (first_waiting 1 so.cell.handed))
 
--- memory ran out in the next one
-pub short_there : {D V : Type 0} {standing : Standing} (g : Ghosts D) (script_db : ScriptDatabase) (most fuel : ℕ) (start now later : OpenCell D V)
-    (tb text : List ℕ) → Follows g standing script_db most fuel start now tb text
-    → ((given : List ℕ) (c : Cell) → HoldRun script_db.database given false c (helds g now) → HoldRun script_db.database given false c (helds g later))
-    → (run : List Choice → Run_or_why) (given : List ℕ) (c : Cell) → IsModelledBy g script_db.database given start c
-    → IsShort g script_db.database given run c start later
-short_there g script_db most fuel start now later tb text follows keeps run given c stands =
-    inl (hold_short script_db.database c given (helds g later) (keeps given c (follows.keeps given c stands.disks)))
+-- ---- memory runs out in the next one
+
+-- nothing comes behind a delivery
+last_of : (r next : Cell_run) (o : Option Ending) → next ≡ resting r.cell
+    → ((unless_ended r o next).cell ≡ r.cell) × ((unless_ended r o next).items ≡ r.items)
+last_of r next None is =
+    (ap (λ (n : Cell_run). n.cell) is, ap (λ (n : Cell_run). r.items ++ n.items) is ∙ append-nil r.items)
+last_of r next (Some ending) is = (refl, refl)
+
+-- The disks hold what the deliveries before it left, or what it left besides.
+pub short_there : {D V : Type 0} (g : Ghosts D) (script_db : ScriptDatabase) (most fuel : ℕ) (start now later : OpenCell D V)
+    (tb text : List ℕ) → Follows g script_db most fuel start now tb text → (number : ℕ) → first_waiting 1 now.packets.handed ≡ Some number
+    → AreRises 0 [] (helds g now) (helds g later)
+    → ((given : List ℕ) (c : Cell) → IsModelledBy g script_db.database given now c
+    → IsShort g script_db.database given (λ choices. Ok (delivered script_db c (first_choice choices) number)) c now later)
+    → (given : List ℕ) (c : Cell) → IsModelledBy g script_db.database given start c
+    → IsShort g script_db.database given (λ choices. Ok (all_delivered script_db choices.most c choices.each (first_waiting 1 c.handed))) c start later
+short_there {D} {V} g script_db most fuel start now later tb text follows number waits rises short given c stands = by (short given so.cell so.stands)
+  where
+    so : SoFar g script_db given most fuel c start now tb text
+    so = follows.runs given c stands
+
+    waits_so : first_waiting 1 so.cell.handed ≡ Some number
+    waits_so = ap (first_waiting 1) so.stands.handed ∙ waits
+
+    by : IsShort g script_db.database given (λ choices. Ok (delivered script_db so.cell (first_choice choices) number)) so.cell now later
+        → IsShort g script_db.database given (λ choices. Ok (all_delivered script_db choices.most c choices.each (first_waiting 1 c.handed))) c start later
+    by (inl hold) =
+        inr (record {
+          choices = record { each = so.done ++ []; most = so.count + 0 };
+          ran = joined_run so.items (resting so.cell);
+          is = ap Ok (so.is 0 [] ∙ ap (joined_run so.items) (no_fuel script_db so.cell (first_waiting 1 so.cell.handed)));
+          disks = hold;
+          causes = rises_both 0 so.items [] (helds g start) (helds g now) (helds g later) so.causes rises;
+        })
+    by (inr s) =
+        let choice = first_choice s.choices in
+        let came : delivered script_db so.cell choice number ≡ s.ran = let e = s.is in cc in
+        let rest = all_delivered script_db 0 s.ran.cell [] (first_waiting 1 s.ran.cell.handed) in
+        let last = last_of s.ran rest s.ran.ending (no_fuel script_db s.ran.cell (first_waiting 1 s.ran.cell.handed)) in
+        inr (record {
+          choices = record { each = (so.done ++ choice ∷ []) ++ []; most = so.count + 1 + 0 };
+          ran = joined_run so.items (unless_ended s.ran s.ran.ending rest);
+          is = ap Ok (one_more g script_db given most fuel c start now tb text so number waits_so choice s.ran came 0 []);
+          disks = subst (λ (x : Cell). HoldRun script_db.database given true x (helds g later)) (sym last.0) s.disks;
+          causes = subst (λ (l : List TraceItem). AreRises 0 (so.items ++ l) (helds g start) (helds g later)) (sym last.1)
+              (rises_both 0 so.items s.ran.items (helds g start) (helds g now) (helds g later) so.causes s.causes);
+        })

@@ -17,13 +17,16 @@ use Rattle.cell_model.specs.declared.events.Output.TheVariants as output
 use Rattle.cell_model.specs.Node as model
 use Rattle.cell_model.specs.NodeRule.{refusals, step_of}
 use Rattle.cell_model.specs.Step.{Evaluation, Shown, outputs_of}
-use Rattle.cell_model.specs.Voters.{AnswersCall, AsksNoOther, IsOkOf, IsTaken, IsVotePacket, IsVoter, VotersVote}
+use Rattle.cell_model.specs.Voters.{AnswersCall, AsksNoOther, IsOkOf}
 use Rattle.cell_model.specs.World.{Trigger, Happened, Happening, happened_at, occasion, packet_in, packet_of, packets_of}
 use Rattle.cell_runs.specs.declared.endings.Ending.{Ending}
 use Rattle.cell_runs.specs.ScriptDatabase.{ScriptDatabase}
-use Rattle.cell_runs.specs.Script.{Cell, Choice, Run_or_why, cell_after, first_choice, stepped}
+use Rattle.cell_runs.specs.Script.{Cell, Run_or_why, cell_after, first_choice, stepped, Choices}
 use Rattle.cell_runs.specs.Trace.{Tells, fault_count, mark_text, trace}
 use Rattle.cell_runs.specs.declared.traces.Mark.TheVariants as mark
+use Rattle.recovery_laws.specs.HasNoWrite.{IsRecoveryPacket}
+use Rattle.recovery_laws.specs.Memory.{IsEither}
+use Rattle.recovery_laws.specs.Spreads.{RecoverySpreads}
 use Rattle.ubik_node.specs.declared.nodes.StepEnd.{StepEnd}
 use Rattle.ubik_node.specs.declared.nodes.StepEnd.TheVariants.{Done, Halted, NoMemory}
 use Rattle.ubik_node.specs.Disk.{StandsAs}
@@ -37,8 +40,9 @@ use Rattle.cell_sites.specs.declared.steps.SiteEnd.TheVariants as ended
 use Rattle.cell_sites.specs.Counts.{HoldRun, IsRiseIn}
 use Rattle.cell_sites.specs.Disks.{IsReadBy, AreRises, held}
 use Rattle.cell_sites.specs.Sites.{AreArmed, IsModelledBy, helds, server_disk}
-use Rattle.cell_sites.specs.Sound.{IsSound}
+use Rattle.cell_sites.specs.Sound.{IsSteady}
 use Rattle.cell_sites.specs.Stepped.{Becomes, IsMade, NodeStepped, SiteStepped, member_at, up_site}
+use Rattle.cell_sites.specs.Taken.{IsTakenAt, IsTakenBy}
 use Rattle.cell_sites.specs.Telling.{IsNotShort, MayBeTold, TellingRun, WholeTold, halt_marks, told_of}
 use Rattle.cell_sites.specs.Told.{CellTold, IsShort}
 use Rattle.cell_sites.specs.Traffic.{Traffic, sent_all}
@@ -47,13 +51,12 @@ use Rattle.cell_sites.proofs.AtPlace.{IsSiteAt, site_at}
 use Rattle.cell_sites.proofs.Counting.{hold_more, hold_short, hold_still}
 use Rattle.cell_sites.proofs.Ended.{disk_made, faults_made, stays_sound}
 use Rattle.cell_sites.proofs.Happening.{with_armed}
-use Rattle.cell_sites.proofs.Made.{DoneBy, StepMade, done_by, end_marks, made_fault, made_rested, made_stop, made_whole, marks_others}
-use Rattle.cell_sites.proofs.Nodes.{IsShortStep, is_up, short_step}
+use Rattle.cell_sites.proofs.Leading.{step_is}
+use Rattle.cell_sites.proofs.Made.{DoneBy, Laws, StepMade, done_by, end_marks, made_fault, made_rested, made_stop, made_whole, marks_others}
+use Rattle.cell_sites.proofs.Nodes.{IsShortStep, short_step}
 use Rattle.cell_sites.proofs.Reading.{read_at}
 use Rattle.cell_sites.proofs.Running.{held_at, moved_set, part, reads_both, reads_set, rises_set, short_after, whole}
-use Rattle.cell_sites.proofs.Shortage.{IsEither}
 use Rattle.cell_sites.proofs.Soundly.{IsHere, here, sound_after}
-use Rattle.db_image.specs.Standing.{Standing}
 
 -- ---- outputs
 
@@ -62,21 +65,22 @@ pub packets_in : (shown : List Shown) → filter_map packet_in (outputs_of shown
 packets_in [] = refl
 packets_in (one ∷ shown) = ap (λ (l : List Packet). cons_option (packet_of one) l) (packets_in shown)
 
--- where packets are of votes, outputs may be told
-may_tell : (o : Output) (hosts : List Host) (more : List Packet) → All (IsVotePacket hosts) (cons_option (packet_in o) more) → MayBeTold o
-may_tell (output.Send p) hosts more votes = (All-head (IsVotePacket hosts) p more votes).votes
-may_tell (output.Reply id r) hosts more votes = tt
-may_tell (output.Announce version) hosts more votes = tt
+-- where packets are of votes or recovery, outputs may be told
+may_tell : RecoverySpreads → (o : Output) (hosts : List Host) (more : List Packet) → All (IsRecoveryPacket hosts) (cons_option (packet_in o) more) → MayBeTold o
+may_tell law (output.Send p) hosts more votes = (law.whole hosts p (All-head (IsRecoveryPacket hosts) p more votes)).short
+may_tell law (output.Reply id r) hosts more votes = tt
+may_tell law (output.Announce version) hosts more votes = tt
 
-later_votes : (o : Option Packet) (hosts : List Host) (more : List Packet) → All (IsVotePacket hosts) (cons_option o more) → All (IsVotePacket hosts) more
+later_votes : (o : Option Packet) (hosts : List Host) (more : List Packet) → All (IsRecoveryPacket hosts) (cons_option o more) → All (IsRecoveryPacket hosts)
+    more
 later_votes None hosts more votes = votes
-later_votes (Some p) hosts more votes = All-tail (IsVotePacket hosts) p more votes
+later_votes (Some p) hosts more votes = All-tail (IsRecoveryPacket hosts) p more votes
 
-pub all_may_tell : (out : List Output) (hosts : List Host) → All (IsVotePacket hosts) (filter_map packet_in out) → All MayBeTold out
-all_may_tell [] hosts votes = All-nil _
-all_may_tell (o ∷ out) hosts votes =
-    All-cons MayBeTold o out (may_tell o hosts (filter_map packet_in out) votes)
-    (all_may_tell out hosts (later_votes (packet_in o) hosts (filter_map packet_in out) votes))
+pub all_may_tell : RecoverySpreads → (out : List Output) (hosts : List Host) → All (IsRecoveryPacket hosts) (filter_map packet_in out) → All MayBeTold out
+all_may_tell law [] hosts votes = All-nil _
+all_may_tell law (o ∷ out) hosts votes =
+    All-cons MayBeTold o out (may_tell law o hosts (filter_map packet_in out) votes)
+    (all_may_tell law out hosts (later_votes (packet_in o) hosts (filter_map packet_in out) votes))
 
 -- a reply for want of memory is not told
 short_told : (out : List Output) (id : ℕ) → out ≡ output.Reply id reply.NoMemory ∷ [] → All IsNotShort out → ⊥
@@ -128,11 +132,14 @@ found_made end is short = let never : ended.Made ≡ ended.NoMemory = sym is ∙
 pub found_halts : (end : SiteEnd) → end ≡ ended.Halts → end ≢ ended.NoMemory
 found_halts end is short = let never : ended.Halts ≡ ended.NoMemory = sym is ∙ short in cc
 
-module _ {D V : Type 0} {standing : Standing} (g : Ghosts D) (script_db : ScriptDatabase) (before mid after : OpenCell D V) (law : VotersVote) (k : ℕ)
-    (e : NodeEvent) (end : SiteEnd) (call : List ℕ) (bound : ℕ) (sound : IsSound g standing bound before) (taken : IsTaken (member_at before k) e)
-    (asks : AsksNoOther e call) (ss : SiteStepped g standing script_db.database k e end before mid) (hosts : after.hosts.items ≡ mid.hosts.items)
+module _ {D V : Type 0} (g : Ghosts D) (script_db : ScriptDatabase) (before mid after : OpenCell D V) (law : Laws) (k : ℕ)
+    (e : NodeEvent) (end : SiteEnd) (call : List ℕ) (bound : ℕ) (sound : IsSteady g bound before) (taken_at : IsTakenAt script_db.database before k e)
+    (asks : AsksNoOther e call) (ss : SiteStepped g script_db.database k e end before mid) (hosts : after.hosts.items ≡ mid.hosts.items)
     (sites : after.sites.items ≡ mid.sites.items) where
-  at : IsHere g standing bound before k ss.clock ss.node
+  taken : IsTakenBy script_db.database ss.node e
+  taken = taken_at ss.clock ss.node ss.there
+
+  at : IsHere g bound before k ss.clock ss.node
   at = here g bound before k ss.clock ss.node sound ss.there
 
   -- the site after the step
@@ -143,7 +150,7 @@ module _ {D V : Type 0} {standing : Standing} (g : Ghosts D) (script_db : Script
   all_sites = sites ∙ ss.sites
 
   faults : g.faults ss.node.store.disk + fault_count k (map Tells (end_marks k end)) ≤ g.faults (server_disk ss.server)
-  faults = faults_made g script_db.database (member_at before k) ss.clock e standing k end ss.node ss.later ss.out ss.server mid.outputs ss.step ss.becomes
+  faults = faults_made g script_db.database (member_at before k) ss.clock e k end ss.node ss.later ss.out ss.server mid.outputs ss.step ss.becomes
 
   pub rises : AreRises 0 [] (helds g before) (helds g after)
   rises =
@@ -159,25 +166,24 @@ module _ {D V : Type 0} {standing : Standing} (g : Ghosts D) (script_db : Script
   came_short steps =
       short_step g script_db.database (member_at before k) e ss.clock (node_of ss.node) (node_of ss.later) ss.out ss.node.store.disk ss.later.store.disk steps
 
-  -- the packets that are sent are of votes
-  pub votes : All (IsVotePacket before.hosts.items) (filter_map packet_in mid.outputs)
+  -- the packets that are sent are of votes or recovery
+  pub votes : All (IsRecoveryPacket before.hosts.items) (filter_map packet_in mid.outputs)
   votes = by end ss.step ss.becomes
     where
-      of_refusals : (x : NodeEvent) → All (IsVotePacket before.hosts.items) (filter_map packet_in (outputs_of (refusals x)))
+      of_refusals : (x : NodeEvent) → All (IsRecoveryPacket before.hosts.items) (filter_map packet_in (outputs_of (refusals x)))
       of_refusals (event.Packet p) = All-nil _
       of_refusals event.BeaconTurn = All-nil _
       of_refusals event.RecoverTurn = All-nil _
       of_refusals (event.Ask id asked) = All-nil _
 
       made : (out : List Output) (x y : model.Node) (b a : D) → node_of ss.node ≡ x
-          → Steps g script_db.database (member_at before k) Done e ss.clock x y out b a → All (IsVotePacket before.hosts.items) (filter_map packet_in out)
+          → Steps g script_db.database (member_at before k) Done e ss.clock x y out b a → All (IsRecoveryPacket before.hosts.items) (filter_map packet_in out)
       made out model.Down y b a is steps = absurd steps
       made out (model.Halted h) y b a is steps = absurd steps
       made out (model.Up s) y b a is (short, makes) =
           let t = step_of script_db.database (member_at before k) s ss.clock e short in
-          let voter = let was = is_up ss.node s is in subst (IsVoter (member_at before k)) was.1 (at.sound.voter was.0) in
-          let step = law.steps script_db.database (member_at before k) s ss.clock e short at.me voter taken in
-          subst (λ (l : List Packet). All (IsVotePacket before.hosts.items) l)
+          let step = step_is g script_db.database (member_at before k) ss.clock ss.node at.sound law.spreads at.me at.moment s e short is taken in
+          subst (λ (l : List Packet). All (IsRecoveryPacket before.hosts.items) l)
           (sym (ap (λ (o : List Output). filter_map packet_in o) makes.outputs ∙ packets_in t.shown)) step.packets
 
       refused : (out : List Output) (x y : model.Node) (b a : D) → Steps g script_db.database (member_at before k) Halted e ss.clock x y out b a
@@ -186,18 +192,18 @@ module _ {D V : Type 0} {standing : Standing} (g : Ghosts D) (script_db : Script
       refused out (model.Halted h) y b a steps = steps.1
       refused out (model.Up s) y b a steps = steps.1
 
-      of_refused : (out : List Output) → out ≡ outputs_of (refusals e) → All (IsVotePacket before.hosts.items) (filter_map packet_in out)
-      of_refused out is = subst (λ (o : List Output). All (IsVotePacket before.hosts.items) (filter_map packet_in o)) (sym is) (of_refusals e)
+      of_refused : (out : List Output) → out ≡ outputs_of (refusals e) → All (IsRecoveryPacket before.hosts.items) (filter_map packet_in out)
+      of_refused out is = subst (λ (o : List Output). All (IsRecoveryPacket before.hosts.items) (filter_map packet_in o)) (sym is) (of_refusals e)
 
-      of_left : (left : List Output) → mid.outputs ≡ left → All (IsVotePacket before.hosts.items) (filter_map packet_in left)
-          → All (IsVotePacket before.hosts.items) (filter_map packet_in mid.outputs)
-      of_left left is all = subst (λ (o : List Output). All (IsVotePacket before.hosts.items) (filter_map packet_in o)) (sym is) all
+      of_left : (left : List Output) → mid.outputs ≡ left → All (IsRecoveryPacket before.hosts.items) (filter_map packet_in left)
+          → All (IsRecoveryPacket before.hosts.items) (filter_map packet_in mid.outputs)
+      of_left left is all = subst (λ (o : List Output). All (IsRecoveryPacket before.hosts.items) (filter_map packet_in o)) (sym is) all
 
-      by : (x : SiteEnd) → NodeStepped g standing script_db.database (member_at before k) ss.clock e x ss.node ss.later ss.out
-          → Becomes g x ss.later ss.out ss.server mid.outputs → All (IsVotePacket before.hosts.items) (filter_map packet_in mid.outputs)
+      by : (x : SiteEnd) → NodeStepped g script_db.database (member_at before k) ss.clock e x ss.node ss.later ss.out
+          → Becomes g x ss.later ss.out ss.server mid.outputs → All (IsRecoveryPacket before.hosts.items) (filter_map packet_in mid.outputs)
       by ended.Made step becomes = of_left ss.out becomes.1 (ends step.ends)
         where
-          ends : (step.end ≡ Done) ⊎ ((step.end ≡ Halted) × (ss.node.halted ≡ true)) → All (IsVotePacket before.hosts.items) (filter_map packet_in ss.out)
+          ends : (step.end ≡ Done) ⊎ ((step.end ≡ Halted) × (ss.node.halted ≡ true)) → All (IsRecoveryPacket before.hosts.items) (filter_map packet_in ss.out)
           ends (inl done) =
               made ss.out (node_of ss.node) (node_of ss.later) ss.node.store.disk ss.later.store.disk refl
               (subst (λ (x : StepEnd). Steps g script_db.database (member_at before k) x e ss.clock (node_of ss.node) (node_of ss.later) ss.out
@@ -211,15 +217,15 @@ module _ {D V : Type 0} {standing : Standing} (g : Ghosts D) (script_db : Script
       by ended.Stops step becomes = of_left [] becomes.1 (All-nil _)
       by ended.NoMemory step becomes = of_left ss.out becomes.1 (of_left_none (came_short step.steps).quiet)
         where
-          of_left_none : ss.out ≡ [] → All (IsVotePacket before.hosts.items) (filter_map packet_in ss.out)
-          of_left_none none = subst (λ (o : List Output). All (IsVotePacket before.hosts.items) (filter_map packet_in o)) (sym none) (All-nil _)
+          of_left_none : ss.out ≡ [] → All (IsRecoveryPacket before.hosts.items) (filter_map packet_in ss.out)
+          of_left_none none = subst (λ (o : List Output). All (IsRecoveryPacket before.hosts.items) (filter_map packet_in o)) (sym none) (All-nil _)
 
   -- where its disk stopped it puts nothing out
   pub stops_quiet : end ≡ ended.Stops → mid.outputs ≡ []
   stops_quiet is = (subst (λ (x : SiteEnd). Becomes g x ss.later ss.out ss.server mid.outputs) is ss.becomes).1
 
   pub sound_still : (packets : after.packets ≡ sent_all mid.packets (filter_map packet_in mid.outputs)) → after.outputs ≡ [] → (other : ℕ)
-      → IsSound g standing other before → IsSound g standing other after
+      → IsSteady g other before → IsSteady g other after
   sound_still packets empty other still =
       let kept = stays_sound g script_db.database (member_at before k) ss.clock e end ss.node ss.later ss.out ss.server mid.outputs at.disk ss.step
       ss.becomes in
@@ -230,7 +236,7 @@ module _ {D V : Type 0} {standing : Standing} (g : Ghosts D) (script_db : Script
   module _ (given : List ℕ) (c : Cell) (stands : IsModelledBy g script_db.database given before c) (trigger : Trigger)
       (o : occasion c.run.world trigger ≡ Some (k, e)) where
     -- the step as a line
-    abbrev pub steps_so : List Choice → Run_or_why
+    abbrev pub steps_so : Choices → Run_or_why
     steps_so choices = Ok (stepped script_db c (first_choice choices) trigger)
 
     abbrev pub made_here : Type 0
@@ -272,31 +278,32 @@ module _ {D V : Type 0} {standing : Standing} (g : Ghosts D) (script_db : Script
             (subst (λ (y : List Output). StepMade g script_db c before k trigger call (end_marks k x) (up_site ss.clock ss.node)
             (record { clock = ss.clock; server = server }) y) (sym outputs) m)))
 
-        steps_as : (step : IsMade g standing script_db.database (member_at before k) ss.clock e ss.node ss.later ss.out) (x : StepEnd) → step.end ≡ x
+        steps_as : (step : IsMade g script_db.database (member_at before k) ss.clock e ss.node ss.later ss.out) (x : StepEnd) → step.end ≡ x
             → Steps g script_db.database (member_at before k) x e ss.clock (node_of ss.node) (node_of ss.later) ss.out ss.node.store.disk ss.later.store.disk
         steps_as step x is =
             subst (λ (y : StepEnd). Steps g script_db.database (member_at before k) y e ss.clock (node_of ss.node) (node_of ss.later) ss.out ss.node.store.disk
             ss.later.store.disk) is step.steps
 
-        by : (x : SiteEnd) → NodeStepped g standing script_db.database (member_at before k) ss.clock e x ss.node ss.later ss.out
+        by : (x : SiteEnd) → NodeStepped g script_db.database (member_at before k) ss.clock e x ss.node ss.later ss.out
             → Becomes g x ss.later ss.out ss.server mid.outputs → end ≡ x → Comes
         by ended.Made step becomes is = ends step.ends
           where
             ends : (step.end ≡ Done) ⊎ ((step.end ≡ Halted) × (ss.node.halted ≡ true)) → Comes
             ends (inl done) = either d.either
               where
-                d : DoneBy g script_db given before c stands law k e trigger o site.s site.there call ss.clock ss.node ss.there site.is.clock site.is.node at.me
+                d : DoneBy g script_db given before c stands law k e trigger o site.s site.there call ss.clock ss.node ss.there site.is.clock site.is.node
+                    at.me at.moment
                     taken asks at.sound at.disk read ss.later ss.out ss.node.store.disk ss.later.store.disk
                 d =
                     done_by g script_db given before c stands law k e trigger o site.s site.there call ss.clock ss.node ss.there site.is.clock site.is.node
-                    at.me taken asks at.sound at.disk read ss.later ss.out ss.node.store.disk ss.later.store.disk (steps_as step Done done)
+                    at.me at.moment taken asks at.sound at.disk read ss.later ss.out ss.node.store.disk ss.later.store.disk (steps_as step Done done)
 
                 either : IsEither d.s (step_of script_db.database (member_at before k) d.s ss.clock e d.short)
                     (step_of script_db.database (member_at before k) d.s ss.clock e []) → Comes
                 either (inl same) =
                     as_made ended.Made (Up ss.later) ss.out is becomes.0 becomes.1
                     (made_whole g script_db given before c stands law k e trigger o site.s site.there call ss.clock ss.node ss.there site.is.clock site.is.node
-                    at.me taken asks at.sound at.disk read ss.later ss.out d same
+                    at.me at.moment taken asks at.sound at.disk read ss.later ss.out d same
                     (subst (λ (y : StepEnd). Calls g ss.node ss.later y) done step.calls) step.sound)
                 either (inr came) =
                     let disk = disk_made g script_db.database (member_at before k) ss.clock e ss.node ss.later d.s
@@ -309,15 +316,17 @@ module _ {D V : Type 0} {standing : Standing} (g : Ghosts D) (script_db : Script
             ends (inr (halted, was)) =
                 as_made ended.Made (Up ss.later) ss.out is becomes.0 becomes.1
                 (made_rested g script_db given before c stands law k e trigger o site.s site.there call ss.clock ss.node ss.there site.is.clock site.is.node
-                at.me taken asks at.sound at.disk read ss.later ss.out was (steps_as step Halted halted))
+                at.me at.moment taken asks at.sound at.disk read ss.later ss.out was (steps_as step Halted halted))
         by ended.Halts step becomes is =
             as_made ended.Halts (Up ss.later) ss.out is becomes.0 becomes.1
             (made_fault g script_db given before c stands law k e trigger o site.s site.there call ss.clock ss.node ss.there site.is.clock site.is.node at.me
+            at.moment
             taken asks at.sound at.disk read ss.out step.failed ss.later.store.disk step.was (node_of ss.later) step.steps step.revived step.sound.disk.told
             ss.later refl refl)
         by ended.Stops step becomes is =
             as_made ended.Stops (Down becomes.0.0) [] is becomes.0.1 becomes.1
             (made_stop g script_db given before c stands law k e trigger o site.s site.there call ss.clock ss.node ss.there site.is.clock site.is.node at.me
+            at.moment
             taken asks at.sound at.disk read ss.out ss.later.store.disk becomes.0.0 step.was (node_of ss.later) step.steps becomes.0.2
             (becomes.0.2.told (step.calls.1.tells ∙ g.tells_now ss.node.store.disk at.disk.told)) step.calls step.stopped)
         by ended.NoMemory step becomes is =

@@ -1,34 +1,44 @@
--- What a sound server needs for a step: the event is built for it, its image stands for a state of the database, each durable call leads to one
--- that does, and it takes part in votes after it.
-use Rattle.std.proofs.Common.{◌≡◌, ◌⊎◌, inl, inr, ◌<◌, ℕ, List, IsSome, refl, sym, ap, subst, ◌∙◌}
-use Rattle.std.proofs.lemmas.Bool.{false≢true}
+-- What a sound server needs for a step: the event is built for it, the image that a call is asked of stands for a state of the database, and it
+-- has no write in flight after it.
+use Rattle.std.proofs.Common.{◌≡◌, ◌<◌, ℕ, Bool, true, List, Some, IsSome, refl, subst}
 use Rattle.disk_base.specs.declared.disks.Disk.{Ghosts}
-use Rattle.ubik_types.specs.Phase.{NoPhase}
+use Rattle.ubik_types.specs.Moment.{IsMoment}
 use Rattle.ubik_calls.specs.declared.packets.Body.{Body}
 use Rattle.ubik_calls.specs.declared.packets.Body.TheVariants as body
 use Rattle.db_image.specs.Database.{Database}
-use Rattle.db_image.specs.Standing.{IsMeantOver, Standing}
+use Rattle.db_image.specs.Standing.{Standing}
 use Rattle.cell_model.specs.declared.events.NodeEvent.{NodeEvent}
 use Rattle.cell_model.specs.declared.events.NodeEvent.TheVariants as event
-use Rattle.cell_model.specs.Durable.{Durable}
 use Rattle.cell_model.specs.Node as model
-use Rattle.cell_model.specs.Step.{Member, cell_size, is_ready}
-use Rattle.cell_model.specs.Voters.{IsAlonePhase, IsOfVotes, IsTaken, IsVoter, VotersVote}
+use Rattle.cell_model.specs.Step.{Member, cell_size}
+use Rattle.recovery_laws.specs.HasNoWrite.{HasNoWrite, IsRecoveryPacket, IsTaken}
+use Rattle.recovery_laws.specs.Spreads.{IsRecoveryStep, NamesVersion, RecoverySpreads}
+use Rattle.recovery_laws.specs.Stands.{IsMeantImage}
 use Rattle.ubik_node.specs.declared.nodes.Node.{Node}
 use Rattle.ubik_node.specs.Built.{IsBuilt, IsBuiltBody, IsServingNode}
-use Rattle.ubik_node.specs.Node.{Needs, NeedsFiles, durable_in, node_of}
-use Rattle.cell_sites.specs.Sound.{IsMeantImage, IsSoundDisk, IsSoundNode, StandsForSome}
-use Rattle.cell_sites.proofs.Meant.{keeps_meant, step_meant, taken_built}
-use Rattle.cell_sites.proofs.Nodes.{LeadsOn, VotesOn, is_up}
-use Rattle.cell_sites.proofs.Plainly.{of_some}
-use Rattle.cell_sites.proofs.Serving.{files_at, one_durable}
+use Rattle.ubik_node.specs.Node.{Needs, NeedsFiles, node_of, own_member, up_server}
+use Rattle.cell_sites.specs.Sound.{IsSoundDisk, IsSoundNode}
+use Rattle.cell_sites.specs.Taken.{IsTakenBy}
+use Rattle.cell_sites.proofs.Nodes.{QuietOn, is_up}
+use Rattle.cell_model.specs.NodeRule.{step_of}
 
 -- ---- packets
 
-votes_built : (b : Body) → IsOfVotes b → IsBuiltBody b
-votes_built (body.Beacon start claim ready version) votes = tt
-votes_built (body.Vote start granted) votes = tt
-votes_built _ votes = absurd votes
+named_built : (b : Body) → NamesVersion b → IsBuiltBody b
+named_built (body.Beacon start claim ready version) names = tt
+named_built (body.Vote start granted) names = tt
+named_built (body.GetVersion poll) names = tt
+named_built (body.VersionIs poll version) names = names
+named_built (body.GetPiece poll version offset) names = tt
+named_built (body.Piece poll version total offset bytes) names = tt
+named_built (body.SendPiece poll version total offset bytes) names = names
+named_built (body.PieceKept poll version next) names = tt
+named_built (body.SetVersion poll old new) names = names
+named_built (body.Begin old new pieces len) names = absurd names
+named_built (body.PutPiece new number bytes) names = absurd names
+named_built (body.Commit old new) names = absurd names
+named_built (body.Abort new) names = absurd names
+named_built (body.VersionKept version) names = tt
 
 -- a disk that tells its files serves each of them
 needs_told : (b : Body) (tells : Type 0) → tells → NeedsFiles b tells
@@ -41,50 +51,50 @@ needs_told _ tells told = told
 
 -- ---- a step
 
-module _ {D V : Type 0} {standing : Standing} (g : Ghosts D) (m : Member) (clock : ℕ) (node : Node D V) (sound : IsSoundNode g m clock node)
-    (disk : IsSoundDisk g standing node.store.disk) where
-  -- the image of the server is that of its files
-  up_meant : (s : model.Server) → node_of node ≡ model.Up s → IsMeantImage standing s.image
-  up_meant s up =
-      let at = files_at g m clock node s sound disk up in
-      let some = of_some (g.files node.store.disk) at.files (StandsForSome standing) at.is disk.stands in
-      subst (λ (d : Durable). IsMeantImage standing d.image) (one_durable at.files some.0 (durable_in s) some.1 at.stands) some.2
+module _ {D V : Type 0} (g : Ghosts D) (db : Database) (m : Member) (clock : ℕ) (node : Node D V) (sound : IsSoundNode g m clock node) where
+  -- the server that is up has no write in flight
+  pub up_quiet : (s : model.Server) → node_of node ≡ model.Up s → HasNoWrite (cell_size m) s
+  up_quiet s up = let was = is_up node s up in subst (HasNoWrite (cell_size m)) was.1 (sound.quiet was.0)
 
-  -- it takes part in votes
-  up_votes : (s : model.Server) → node_of node ≡ model.Up s → IsVoter m s
-  up_votes s up = let was = is_up node s up in subst (IsVoter m) was.1 (sound.voter was.0)
+  -- and takes what the node takes
+  pub up_taken : (s : model.Server) (e : NodeEvent) → node_of node ≡ model.Up s → IsTakenBy db node e → IsTaken db m s e
+  up_taken s (event.Packet p) up taken = subst (λ (x : Member). IsRecoveryPacket x.hosts p) sound.member taken
+  up_taken s event.BeaconTurn up taken = tt
+  up_taken s event.RecoverTurn up taken = tt
+  up_taken s (event.Ask id call) up taken =
+      let was = is_up node s up in
+      subst (λ (u : model.Server). IsTaken db m u (event.Ask id call)) was.1
+      (subst (λ (x : Member). IsTaken db x (up_server node) (event.Ask id call)) sound.member (taken was.0))
 
-  -- it is ready to serve in a cell of one alone
-  pub built_for : (db : Database) (e : NodeEvent) → IsTaken m e → IsBuilt db m (node_of node) e
-  built_for db (event.Packet p) taken = votes_built p.body taken.votes
-  built_for db event.BeaconTurn taken = tt
-  built_for db event.RecoverTurn taken = tt
-  built_for db (event.Ask id call) taken = λ writes serving. by (node_of node) refl serving
+  pub step_is : RecoverySpreads → m.me < cell_size m → IsMoment clock → (s : model.Server) (e : NodeEvent) (short : List Bool) → node_of node ≡ model.Up s
+      → IsTakenBy db node e → IsRecoveryStep m s (step_of db m s clock e short)
+  step_is law me moment s e short up taken = law.steps db m s clock e short me moment (up_quiet s up) (up_taken s e up taken)
+
+  -- a halted server takes any call
+  pub built_for : RecoverySpreads → (e : NodeEvent) → IsTakenBy db node e → IsBuilt db m (node_of node) e
+  built_for law (event.Packet p) taken = named_built p.body (law.whole (own_member node).hosts p taken).names
+  built_for law event.BeaconTurn taken = tt
+  built_for law event.RecoverTurn taken = tt
+  built_for law (event.Ask id call) taken = λ writes serving. by (node_of node) refl writes serving
     where
-      by : (x : model.Node) → node_of node ≡ x → IsServingNode x → cell_size m ≡ 1
-      by model.Down is serving = absurd serving
-      by (model.Halted h) is serving = absurd serving
-      by (model.Up s) is ready = alone (up_votes s is).phase
-        where
-          alone : (s.phase ≡ NoPhase) ⊎ ((cell_size m ≡ 1) × IsAlonePhase s.version s.phase) → cell_size m ≡ 1
-          alone (inl none) = absurd (false≢true (sym (ap is_ready none) ∙ ready))
-          alone (inr (one, phase)) = one
+      by : (x : model.Node) → node_of node ≡ x → db.writes call ≡ Some true → IsServingNode x → cell_size m ≡ 1
+      by model.Down is writes serving = absurd serving
+      by (model.Halted h) is writes serving = absurd serving
+      by (model.Up s) is writes ready = up_taken s (event.Ask id call) is taken writes ready
 
-  pub votes_on : VotersVote → m.me < cell_size m → (e : NodeEvent) → IsTaken m e → VotesOn standing.database m e clock (node_of node)
-  votes_on law me e taken = λ s up short. (law.steps standing.database m s clock e short me (up_votes s up) taken).server
+  pub quiet_on : RecoverySpreads → m.me < cell_size m → IsMoment clock → (e : NodeEvent) → IsTakenBy db node e → QuietOn db m e clock (node_of node)
+  quiet_on law me moment e taken = λ s up short. (step_is law me moment s e short up taken).server
 
-  pub needs_met : (e : NodeEvent) → Needs standing m (node_of node) e (g.files node.store.disk)
-  needs_met e = by (node_of node) e refl
-    where
-      by : (x : model.Node) (e : NodeEvent) → node_of node ≡ x → Needs standing m x e (g.files node.store.disk)
-      by model.Down e is = tt
-      by (model.Halted h) e is = tt
-      by (model.Up s) (event.Packet p) is = needs_told p.body (IsSome (g.files node.store.disk)) disk.told
-      by (model.Up s) event.BeaconTurn is = tt
-      by (model.Up s) event.RecoverTurn is = λ larger. disk.told
-      by (model.Up s) (event.Ask id call) is = let meant = up_meant s is in (disk.told, meant.0, meant.1)
-
-  pub leads_on : ((image : List ℕ) (s : standing.State) (now : ℕ) (call : List ℕ) → standing.StandsFor image s
-      → IsMeantOver standing image s (standing.database.call image now call) (standing.meaning.call s now call))
-      → (e : NodeEvent) → IsTaken m e → LeadsOn standing m e clock (node_of node)
-  leads_on is_meant e taken = λ s up short. step_meant standing (keeps_meant standing is_meant) m s clock e short (taken_built m e taken) (up_meant s up)
+-- what a step needs, where the image of the server stands for a state of the database
+pub needs_met : {D V : Type 0} (g : Ghosts D) (standing : Standing) (m : Member) (node : Node D V) (disk : IsSoundDisk g node.store.disk)
+    → ((s : model.Server) → node_of node ≡ model.Up s → IsMeantImage standing s.image) → (e : NodeEvent)
+    → Needs standing m (node_of node) e (g.files node.store.disk)
+needs_met g standing m node disk meant e = by (node_of node) e refl
+  where
+    by : (x : model.Node) (e : NodeEvent) → node_of node ≡ x → Needs standing m x e (g.files node.store.disk)
+    by model.Down e is = tt
+    by (model.Halted h) e is = tt
+    by (model.Up s) (event.Packet p) is = needs_told p.body (IsSome (g.files node.store.disk)) disk.told
+    by (model.Up s) event.BeaconTurn is = tt
+    by (model.Up s) event.RecoverTurn is = λ larger. disk.told
+    by (model.Up s) (event.Ask id call) is = let its = meant s is in (disk.told, its.0, its.1)

@@ -1,28 +1,28 @@
 -- A line that comes to a step, or is refused.
 use Rattle.std.proofs.Common.{◌≡◌, inl, inr, ℕ, Option, List, length, ap, ◌∙◌}
 use Rattle.db_image.specs.Database.{Database}
-use Rattle.db_image.specs.Standing.{Standing}
 use Rattle.disk_base.specs.declared.disks.Disk.{Ghosts}
 use Rattle.cell_runs.specs.declared.endings.Ending.{Ending}
 use Rattle.cell_runs.specs.ScriptDatabase.{ScriptDatabase}
-use Rattle.cell_runs.specs.Script.{Cell, Choice, Run_or_why, cell_size_of}
+use Rattle.cell_runs.specs.Script.{Cell, Choices, Run_or_why, cell_size_of}
 use Rattle.cell_sites.specs.declared.cells.OpenCell.{OpenCell}
 use Rattle.cell_sites.specs.Sites.{IsModelledBy}
-use Rattle.cell_sites.specs.Sound.{IsSound}
+use Rattle.cell_sites.specs.Sound.{IsSteady}
 use Rattle.cell_sites.specs.Told.{CellTold, IsShort}
 use Rattle.cell_sites.proofs.Soundly.{host_count}
 
 -- how many servers the cell has that it stands for
-pub size_of : {D V : Type 0} {standing : Standing} {database : Database} {given : List ℕ} (g : Ghosts D) (bound : ℕ) (running : OpenCell D V) (c : Cell)
-    → IsSound g standing bound running → IsModelledBy g database given running c → cell_size_of c ≡ length running.sites.items
+pub size_of : {D V : Type 0} {database : Database} {given : List ℕ} (g : Ghosts D) (bound : ℕ) (running : OpenCell D V) (c : Cell)
+    → IsSteady g bound running → IsModelledBy g database given running c → cell_size_of c ≡ length running.sites.items
 size_of g bound running c sound stands = ap length stands.hosts ∙ host_count g bound running sound
 
-module _ {D V : Type 0} (g : Ghosts D) (line run : List Choice → Run_or_why) (is : (choices : List Choice) → line choices ≡ run choices) where
+module _ {D V : Type 0} (g : Ghosts D) (line run : Choices → Run_or_why) (is : (choices : Choices) → line choices ≡ run choices) where
   pub told_as : {given : List ℕ} (script_db : ScriptDatabase) (ended : Option Ending) (before after : OpenCell D V) (tb ta : List ℕ)
       → CellTold g script_db given run ended before after tb ta → CellTold g script_db given line ended before after tb ta
   told_as script_db ended before after tb ta told =
       record {
         choices = told.choices;
+        whole = told.whole;
         ran = told.ran;
         is = is told.choices ∙ told.is;
         ends = told.ends;

@@ -7,20 +7,24 @@ use Rattle.std.proofs.lemmas.List.Elements.{All-nil}
 use Rattle.disk_base.specs.declared.disks.Disk.{Ghosts}
 use Rattle.disk_base.specs.Stops.{IsStopped, after_changes}
 use Rattle.ubik_types.specs.declared.hosts.Host.{Host}
+use Rattle.ubik_types.specs.Moment.{IsMoment}
 use Rattle.cell_model.specs.declared.events.NodeEvent.{NodeEvent}
 use Rattle.cell_model.specs.declared.events.NodeEvent.TheVariants as event
 use Rattle.cell_model.specs.declared.events.Output.{Output}
 use Rattle.cell_model.specs.Durable.{Durable, Made, durable_after_all}
 use Rattle.cell_model.specs.Node as model
 use Rattle.cell_model.specs.NodeRule.{step_of, refusals}
-use Rattle.cell_model.specs.Step.{Member, Shown, Stepped, outputs_of}
-use Rattle.cell_model.specs.Voters.{AnswersCall, AsksNoOther, IsTaken, IsVotePacket, IsVoter, VotersVote}
+use Rattle.cell_model.specs.Step.{Member, Shown, Stepped, cell_size, outputs_of}
+use Rattle.cell_model.specs.Voters.{AnswersCall, AsksNoOther}
 use Rattle.cell_model.specs.World.{Site as ModelSite, Trigger, Event, Step, Stop, Fault, Happened, Happening, Halts, Stops, SiteHappened, entries_from}
 use Rattle.cell_model.specs.World.{happened_at, happens, halted_step, fault_up, step_up, stop_up, occasion, member, packets_of}
 use Rattle.cell_model.proofs.WholeWorld.{step_leads}
 use Rattle.cell_runs.specs.ScriptDatabase.{ScriptDatabase}
-use Rattle.cell_runs.specs.Script.{Armed, Cell, Choice, armed_at, calls_on_all, counted_on, first_choice, happened, stepped}
+use Rattle.cell_runs.specs.Script.{Armed, Cell, Choice, armed_at, calls_on_all, counted_on, happened, stepped, choice_of}
 use Rattle.cell_runs.specs.Trace.{Tells, fault_count}
+use Rattle.recovery_laws.specs.HasNoWrite.{HasNoWrite, IsRecoveryPacket}
+use Rattle.recovery_laws.specs.Memory.{IsEither, MemoryIsTold}
+use Rattle.recovery_laws.specs.Spreads.{IsRecoveryStep, RecoverySpreads}
 use Rattle.ubik_store.specs.Calls.{CallsAtMost}
 use Rattle.ubik_node.specs.declared.nodes.Node.{Node}
 use Rattle.ubik_node.specs.declared.nodes.StepEnd.TheVariants.{Done, Halted}
@@ -36,16 +40,15 @@ use Rattle.cell_sites.specs.Disks.{IsReadBy, held}
 use Rattle.cell_sites.specs.Sites.{AreArmed, IsArmedAs, IsSiteOf, IsModelledBy, StopsAs, site_disk}
 use Rattle.cell_sites.specs.Sound.{IsSoundDisk, IsSoundNode}
 use Rattle.cell_sites.specs.Stepped.{StaysSound, member_at, up_site}
-use Rattle.cell_sites.proofs.Arming.{AreFew, armed_here, armed_set, armed_still, counts_on, none_stops, whole_before}
+use Rattle.cell_sites.specs.Taken.{IsTakenBy}
+use Rattle.cell_sites.proofs.Arming.{armed_here, armed_set, armed_still, counts_on, none_stops, whole_before}
 use Rattle.cell_sites.proofs.Counting.{calls_other, calls_own, none_cut, sum_on}
-use Rattle.cell_sites.proofs.FewCalls.{step_few}
 use Rattle.cell_sites.proofs.Happening.{up_happens, halted_happens, fault_happens, stop_happens, fails_after, stepped_fails, stepped_halted, stepped_served}
 use Rattle.cell_sites.proofs.Happening.{stepped_stops, stops_so, with_armed}
-use Rattle.cell_sites.proofs.Nodes.{is_up}
+use Rattle.cell_sites.proofs.Later.{AllLater, all_later}
+use Rattle.cell_sites.proofs.Leading.{step_is, up_quiet, up_taken}
 use Rattle.cell_sites.proofs.Plainly.{and_some, make_some}
 use Rattle.cell_sites.proofs.Serving.{Failed, FilesAt, failed_in, fails_first, files_at, one_durable, rise_most, runs_still, served_rise}
-use Rattle.cell_sites.proofs.Shortage.{IsEither, step_either}
-use Rattle.db_image.specs.Standing.{Standing}
 
 -- what is seen behind the outputs of a step
 abbrev pub end_marks : ℕ → SiteEnd → List Happening
@@ -68,6 +71,14 @@ marks_one k = (
   ap (λ (b : Bool). (if b then 1 else 0) + 0) (eq-eqb k k refl),
 )
 
+-- the laws of servers that have no write in flight
+pub record Laws : Type 0 where
+  pub spreads : RecoverySpreads
+  pub memory : MemoryIsTold
+
+pub laws_of : RecoverySpreads → MemoryIsTold → Laws
+laws_of spreads memory = record { spreads = spreads; memory = memory }
+
 -- the event of the world that a step is, with the choices that bring it, and what it makes of the disk
 pub record StepMade {D V : Type 0} (g : Ghosts D) (script_db : ScriptDatabase) (c : Cell) (running : OpenCell D V) (k : ℕ) (trigger : Trigger) (call : List ℕ)
     (marks : List Happening) (before after : Site D V) (out : List Output) : Type 0 where
@@ -75,11 +86,11 @@ pub record StepMade {D V : Type 0} (g : Ghosts D) (script_db : ScriptDatabase) (
   pub h : SiteHappened
   pub choices : List Choice
   pub armed : List (Option Armed)
-  pub is : stepped script_db c (first_choice choices) trigger ≡ happened (with_armed c armed) ev (happened_at c.run.world k h)
+  pub is : stepped script_db c (choice_of choices) trigger ≡ happened (with_armed c armed) ev (happened_at c.run.world k h)
   pub happens_so : happens script_db.database c.run.world ev ≡ happened_at c.run.world k h
   pub outputs : outputs_of h.shown ≡ out
   pub answers : All (λ one. AnswersCall call one) h.shown
-  pub votes : All (IsVotePacket running.hosts.items) (packets_of h.shown)
+  pub votes : All (IsRecoveryPacket running.hosts.items) (packets_of h.shown)
   pub stood : IsSiteOf after h.site
   pub marked : h.marks ≡ marks
   pub arms : AreArmed g (set running.sites.items k after) armed
@@ -98,18 +109,18 @@ refusals_answer (event.Ask id other) call = λ k d lt. one k d lt
     one zero d lt = tt
     one (suc k) d lt = absurd (omega arith)
 
-refusals_rest : (e : NodeEvent) (hosts : List Host) → All (IsVotePacket hosts) (packets_of (refusals e))
+refusals_rest : (e : NodeEvent) (hosts : List Host) → All (IsRecoveryPacket hosts) (packets_of (refusals e))
 refusals_rest (event.Packet p) hosts = All-nil _
 refusals_rest event.BeaconTurn hosts = All-nil _
 refusals_rest event.RecoverTurn hosts = All-nil _
 refusals_rest (event.Ask id call) hosts = All-nil _
 
-module _ {D V : Type 0} {standing : Standing} (g : Ghosts D) (script_db : ScriptDatabase) (given : List ℕ) (before : OpenCell D V) (c : Cell)
-    (stands : IsModelledBy g script_db.database given before c) (law : VotersVote) (k : ℕ) (e : NodeEvent) (trigger : Trigger)
+module _ {D V : Type 0} (g : Ghosts D) (script_db : ScriptDatabase) (given : List ℕ) (before : OpenCell D V) (c : Cell)
+    (stands : IsModelledBy g script_db.database given before c) (law : Laws) (k : ℕ) (e : NodeEvent) (trigger : Trigger)
     (o : occasion c.run.world trigger ≡ Some (k, e)) (site : ModelSite) (there : slice_get c.run.world.sites k ≡ Some site) (call : List ℕ) (clock : ℕ)
     (node : Node D V) (placed : slice_get before.sites.items k ≡ Some (up_site clock node)) (clocks : site.clock ≡ clock) (stood : site.node ≡ node_of node)
-    (me : k < length before.hosts.items) (taken : IsTaken (member_at before k) e) (asks : AsksNoOther e call)
-    (was : IsSoundNode g (member_at before k) clock node) (disk : IsSoundDisk g standing node.store.disk) (read : IsReadBy site (held g node.store.disk)) where
+    (me : k < length before.hosts.items) (moment : IsMoment clock) (taken : IsTakenBy script_db.database node e) (asks : AsksNoOther e call)
+    (was : IsSoundNode g (member_at before k) clock node) (disk : IsSoundDisk g node.store.disk) (read : IsReadBy site (held g node.store.disk)) where
   -- the server in its cell, as the model has it
   same_member : member c.run.world k ≡ member_at before k
   same_member = ap (λ (hosts : List Host). record { hosts = hosts; me = k }) stands.hosts
@@ -126,12 +137,16 @@ module _ {D V : Type 0} {standing : Standing} (g : Ghosts D) (script_db : Script
       ap (λ (m : Member). step_of script_db.database m s site.clock e []) same_member
       ∙ ap (λ (now : ℕ). step_of script_db.database (member_at before k) s now e []) clocks
 
-  voter : (s : model.Server) → (node.halted ≡ false) × (up_server node ≡ s) → IsVoter (member_at before k) s
-  voter s is = subst (IsVoter (member_at before k)) is.1 (was.voter is.0)
+  quiet : (s : model.Server) → node_of node ≡ model.Up s → HasNoWrite (cell_size (member_at before k)) s
+  quiet s up = up_quiet g script_db.database (member_at before k) clock node was s up
 
-  -- at most one durable call
-  few : (s : model.Server) → AreFew (model_of s).calls
-  few s = subst (λ (t : Stepped). AreFew t.calls) (sym (model_step s)) (step_few script_db.database (member_at before k) s clock e [] taken)
+  step_so : (s : model.Server) → node_of node ≡ model.Up s → (short : List Bool) → IsRecoveryStep (member_at before k) s (made_of s short)
+  step_so s up short = step_is g script_db.database (member_at before k) clock node was law.spreads me moment s e short up taken
+
+  -- each durable call leaves a version that is not the first one
+  labels : (s : model.Server) → node_of node ≡ model.Up s → AllLater (model_of s).calls
+  labels s up =
+      subst (λ (t : Stepped). AllLater t.calls) (sym (model_step s)) (all_later (durable_in s) (made_of s []).calls (step_so s up []).fits)
 
   -- the files before the step, and their durable state
   files : (s : model.Server) → node_of node ≡ model.Up s → FilesAt g node s
@@ -173,21 +188,20 @@ module _ {D V : Type 0} {standing : Standing} (g : Ghosts D) (script_db : Script
       by model.Down is steps = absurd steps
       by (model.Halted h) is steps = absurd steps
       by (model.Up s) is (short, makes) =
-          let takes = voter s (is_up node s is) in
+          let none = quiet s is in
           record {
             s = s;
             short = short;
             up = is;
             makes = makes;
-            either = step_either script_db.database (member_at before k) s clock e short taken takes.flight
-                takes.waiting;
+            either = law.memory script_db.database (member_at before k) s clock e short none.flight none.waiting;
           }
 
   -- ---- a step for which memory was found
 
   module _ (later : Node D V) (out : List Output) (done : DoneBy later out node.store.disk later.store.disk)
       (same : made_of done.s done.short ≡ made_of done.s []) (calls : Calls g node later Done)
-      (sound_later : StaysSound g standing (member_at before k) clock later) where
+      (sound_later : StaysSound g (member_at before k) clock later) where
     abbrev t : Stepped
     t = model_of done.s
 
@@ -199,7 +213,7 @@ module _ {D V : Type 0} {standing : Standing} (g : Ghosts D) (script_db : Script
 
     rose : g.steps later.store.disk ≡ g.steps node.store.disk + calls_on_all done.s.version t.calls
     rose =
-        served_rise g node done.s later.store.disk t.calls (files done.s done.up) (few done.s)
+        served_rise g node done.s later.store.disk t.calls (files done.s done.up) (labels done.s done.up)
         (subst (λ (x : Stepped). Serves g (durable_in done.s) node.store.disk later.store.disk x.calls) t_is done.makes.disk)
 
     stop_is : g.stop later.store.disk ≡ after_changes (calls_on_all done.s.version t.calls) (g.stop node.store.disk)
@@ -220,7 +234,7 @@ module _ {D V : Type 0} {standing : Standing} (g : Ghosts D) (script_db : Script
         let s = done.s in
         let armed = armed_at c.armed k in
         let n = calls_on_all s.version t.calls in
-        let steps = law.steps script_db.database (member_at before k) s clock e [] me (voter s (is_up node s done.up)) taken in
+        let steps = step_so s done.up [] in
         let at_later = files_at g (member_at before k) clock later t.server sound_later.node sound_later.disk later_up in
         let happened_so = up_happens script_db.database c.run.world trigger k e site o there s (stood ∙ done.up) in
         record {
@@ -229,14 +243,15 @@ module _ {D V : Type 0} {standing : Standing} (g : Ghosts D) (script_db : Script
           choices = [];
           armed = set c.armed k (counted_on n armed);
           is =
-              stepped_served script_db c trigger k e site o there s (stood ∙ done.up) (none_stops s.version t.calls armed (g.stop node.store.disk) (few s)
+              stepped_served script_db c trigger k e site o there s (stood ∙ done.up) (none_stops s.version t.calls armed (g.stop node.store.disk)
               (stops s done.up) runs)
               ∙ ap (happened (with_armed c (set c.armed k (counted_on n armed))) (Step trigger [])) happened_so;
           happens_so = happened_so;
           outputs = sym (done.makes.outputs ∙ ap (λ (x : Stepped). outputs_of x.shown) t_is);
           answers = subst (λ (x : Stepped). All (λ one. AnswersCall call one) x.shown) (sym (model_step s))
-              (law.answers script_db.database (member_at before k) s clock e [] call me (voter s (is_up node s done.up)) taken asks);
-          votes = subst (λ (x : Stepped). All (IsVotePacket before.hosts.items) (packets_of x.shown)) (sym (model_step s)) steps.packets;
+              (law.spreads.answers script_db.database (member_at before k) s clock e [] call me moment (quiet s done.up)
+              (up_taken g script_db.database (member_at before k) clock node was s e done.up taken) asks);
+          votes = subst (λ (x : Stepped). All (IsRecoveryPacket before.hosts.items) (packets_of x.shown)) (sym (model_step s)) steps.packets;
           stood = record { clock = clocks; node = sym later_up };
           marked = refl;
           arms = armed_set g before.sites.items c.armed k (up_site clock later) (counted_on n armed) stands.armed
@@ -302,8 +317,8 @@ module _ {D V : Type 0} {standing : Standing} (g : Ghosts D) (script_db : Script
     -- where memory was not found no durable call was made, and so none of those that the model has
     pub fails : FailsIn g (durable_in s) node.store.disk failed u.calls
     fails =
-        let takes = voter s (up, refl) in
-        by (step_either script_db.database (member_at before k) s clock e is_so.2 taken takes.flight takes.waiting)
+        let none = quiet s is_up_here in
+        by (law.memory script_db.database (member_at before k) s clock e is_so.2 none.flight none.waiting)
       where
         by : IsEither s (made_of s is_so.2) (made_of s []) → FailsIn g (durable_in s) node.store.disk failed u.calls
         by (inl same) = subst (λ (x : Stepped). FailsIn g (durable_in s) node.store.disk failed x.calls) (same ∙ sym (model_step s)) is_so.3
@@ -312,7 +327,7 @@ module _ {D V : Type 0} {standing : Standing} (g : Ghosts D) (script_db : Script
             (subst (λ (l : List Made). FailsIn g (durable_in s) node.store.disk failed l) came.calls is_so.3)
 
     so : Failed g s node.store.disk later u.calls fails.whole
-    so = failed_in g node s failed later u.calls (files s is_up_here) (few s) fails revived told
+    so = failed_in g node s failed later u.calls (files s is_up_here) (labels s is_up_here) fails revived told
 
     -- how many durable calls took place
     abbrev made : ℕ
@@ -361,9 +376,9 @@ module _ {D V : Type 0} {standing : Standing} (g : Ghosts D) (script_db : Script
         (arith, is, still, rose) in
         let stop_is : g.stop failed ≡ after_changes so.rise (g.stop node.store.disk) = advanced.stop
         ∙ ap (λ (m : ℕ). after_changes m (g.stop node.store.disk)) rise_is in
-        let whole = whole_before s.version u.calls (armed_at c.armed k) (g.stop node.store.disk) fails.whole so.rise (few s) (stops s is_up_here)
-        (runs_still g node s failed later u.calls (files s is_up_here) (few s) fails) (subst IsStopped stop_is stopped)
-        (rise_most g node s failed later u.calls (files s is_up_here) (few s) fails so.rise (sym revived.steps ∙ so.steps)) in
+        let whole = whole_before s.version u.calls (armed_at c.armed k) (g.stop node.store.disk) fails.whole so.rise (stops s is_up_here)
+        (runs_still g node s failed later u.calls (files s is_up_here) (labels s is_up_here) fails) (subst IsStopped stop_is stopped)
+        (rise_most g node s failed later u.calls (files s is_up_here) (labels s is_up_here) fails so.rise (sym revived.steps ∙ so.steps)) in
         record {
           ev = Stop trigger [] made;
           h = stop_up k site s.version u made;

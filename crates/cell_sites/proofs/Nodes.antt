@@ -7,27 +7,25 @@ use Rattle.disk_base.specs.Files.{Files}
 use Rattle.disk_base.specs.Runs.{OnlyReads}
 use Rattle.disk_base.specs.Stops.{IsStopped}
 use Rattle.db_image.specs.Database.{Database}
-use Rattle.db_image.specs.Standing.{Standing}
 use Rattle.cell_model.specs.declared.events.NodeEvent.{NodeEvent}
 use Rattle.cell_model.specs.declared.events.Output.{Output}
 use Rattle.cell_model.specs.Durable.{Durable, Made}
 use Rattle.cell_model.specs.Node as model
 use Rattle.cell_model.specs.NodeRule.{step_of}
-use Rattle.cell_model.specs.Step.{Member}
-use Rattle.cell_model.specs.Voters.{IsVoter}
+use Rattle.cell_model.specs.Step.{Member, cell_size}
+use Rattle.recovery_laws.specs.HasNoWrite.{HasNoWrite}
 use Rattle.ubik_store.specs.Gaps.{IsPlain}
 use Rattle.ubik_node.specs.declared.nodes.Node.{Node}
 use Rattle.ubik_node.specs.declared.nodes.StepEnd.{StepEnd}
 use Rattle.ubik_node.specs.declared.nodes.StepEnd.TheVariants.{Done, Halted, NoMemory}
 use Rattle.ubik_node.specs.Disk.{IsRevived, LeavesWithin}
-use Rattle.ubik_node.specs.Node.{Calls, IsStored, Steps, durable_in, last_after, node_of, own_member, up_server}
+use Rattle.ubik_node.specs.Node.{Calls, IsStored, Steps, last_after, node_of, own_member, up_server}
 use Rattle.ubik_node.specs.declared.state.State.{State}
 use Rattle.ubik_node.specs.State.{member_of, server_of}
 use Rattle.cell_sites.specs.declared.steps.SiteEnd.TheVariants as ended
-use Rattle.cell_sites.specs.Sound.{IsSoundDisk, IsSoundNode, StandsForSome}
+use Rattle.cell_sites.specs.Sound.{IsSoundDisk, IsSoundNode}
 use Rattle.cell_sites.specs.Stepped.{NodeStepped}
-use Rattle.cell_sites.proofs.Meant.{AllMeant}
-use Rattle.cell_sites.proofs.Plainly.{left_plain, left_stands, make_if, of_some, some_of}
+use Rattle.cell_sites.proofs.Plainly.{left_plain, make_if, of_some, some_of}
 
 -- ---- whether it is halted
 
@@ -52,22 +50,21 @@ is_halted n h is = by_halted n.halted (up_server n) h is
 -- ---- disks
 
 -- a disk that was revived is sound where what a crash leaves of it is plain
-pub sound_revived : {D : Type 0} {standing : Standing} (g : Ghosts D) (failed later : D) → IsRevived g failed later → g.tells failed ≡ true
-    → ((fs : Files) → g.may_leave failed fs → IsPlain fs × StandsForSome standing fs) → IsSoundDisk g standing later
-sound_revived {D} {standing} g failed later revived tells plain =
+pub sound_revived : {D : Type 0} (g : Ghosts D) (failed later : D) → IsRevived g failed later → g.tells failed ≡ true
+    → ((fs : Files) → g.may_leave failed fs → IsPlain fs) → IsSoundDisk g later
+sound_revived {D} g failed later revived tells plain =
     let there = some_of (g.files later) (revived.told tells) in
     let left = of_some (g.files later) there.0 (λ fs. g.may_leave failed fs × Only fs (g.may_leave later)) there.1 revived.left in
     record {
       told = revived.told tells;
       settled = make_if (g.files later) there.0 (λ fs. Only fs (g.may_leave later)) there.1 left.1;
-      plain = make_if (g.files later) there.0 IsPlain there.1 (plain there.0 left.0).0;
-      stands = make_if (g.files later) there.0 (StandsForSome standing) there.1 (plain there.0 left.0).1;
+      plain = make_if (g.files later) there.0 IsPlain there.1 (plain there.0 left.0);
     }
 
 -- one that was only read stays so
-pub sound_read : {D : Type 0} {standing : Standing} (g : Ghosts D) (old new : D) → IsSoundDisk g standing old → OnlyReads g old new ⊥
-    → IsSoundDisk g standing new
-sound_read {D} {standing} g old new sound reads =
+pub sound_read : {D : Type 0} (g : Ghosts D) (old new : D) → IsSoundDisk g old → OnlyReads g old new ⊥
+    → IsSoundDisk g new
+sound_read {D} g old new sound reads =
     let there = some_of (g.files old) sound.told in
     let same : g.files new ≡ g.files old = reads.files (λ never. never) in
     let only = of_some (g.files old) there.0 (λ fs. Only fs (g.may_leave old)) there.1 sound.settled in
@@ -75,8 +72,6 @@ sound_read {D} {standing} g old new sound reads =
       told = subst IsSome (sym same) sound.told;
       settled = make_if (g.files new) there.0 (λ fs. Only fs (g.may_leave new)) (same ∙ there.1) (λ c left. only c (reads.crash.no_more c left));
       plain = make_if (g.files new) there.0 IsPlain (same ∙ there.1) (of_some (g.files old) there.0 IsPlain there.1 sound.plain);
-      stands = make_if (g.files new) there.0 (StandsForSome standing)
-          (same ∙ there.1) (of_some (g.files old) there.0 (StandsForSome standing) there.1 sound.stands);
     }
 
 -- ---- a step
@@ -89,29 +84,22 @@ made_up g db m e now (model.Halted h) after out old new steps = absurd steps
 made_up g db m e now (model.Up s) after out old new (short, makes) = ((s, refl), (_, makes.server))
 
 -- what a crash leaves of it
-abbrev pub Leaves : {D : Type 0} → Ghosts D → Standing → (old new : D) → Type 0
-Leaves g standing old new = (d : Durable) × (calls : List Made) × LeavesWithin g d old new calls × AllMeant standing d calls
+abbrev pub Leaves : {D : Type 0} → Ghosts D → (old new : D) → Type 0
+Leaves g old new = (d : Durable) × (calls : List Made) × LeavesWithin g d old new calls
 
--- the calls of the step lead to images that stand, from this server on
-abbrev pub LeadsOn : Standing → Member → NodeEvent → ℕ → model.Node → Type 0
-LeadsOn standing m e now x =
-    (s : model.Server) → x ≡ model.Up s → (short : List Bool) → AllMeant standing (durable_in s) (step_of standing.database m s now e short).calls
+pub made_leaves : {D : Type 0} (g : Ghosts D) (db : Database) (m : Member) (e : NodeEvent) (now : ℕ) (x after : model.Node) (out : List Output)
+    (old new : D) → Steps g db m Done e now x after out old new → Leaves g old new
+made_leaves g db m e now model.Down after out old new steps = absurd steps
+made_leaves g db m e now (model.Halted h) after out old new steps = absurd steps
+made_leaves g db m e now (model.Up s) after out old new (short, makes) = (_, _, makes.disk.leaves)
 
-pub made_leaves : {D : Type 0} (g : Ghosts D) (standing : Standing) (m : Member) (e : NodeEvent) (now : ℕ) (x after : model.Node) (out : List Output)
-    (old new : D) → LeadsOn standing m e now x
-    → Steps g standing.database m Done e now x after out old new → Leaves g standing old new
-made_leaves g standing m e now model.Down after out old new leads steps = absurd steps
-made_leaves g standing m e now (model.Halted h) after out old new leads steps = absurd steps
-made_leaves g standing m e now (model.Up s) after out old new leads (short, makes) = (_, _, makes.disk.leaves, leads s refl short)
-
-pub halted_leaves : {D V : Type 0} (g : Ghosts D) (standing : Standing) (m : Member) (e : NodeEvent) (now : ℕ) (node : Node D V) (after : model.Node)
-    (out : List Output) (old new : D) → LeadsOn standing m e now (node_of node)
-    → node.halted ≡ false → Steps g standing.database m Halted e now (node_of node) after out old new → Leaves g standing old new
-halted_leaves g standing m e now node after out old new leads up steps =
+pub halted_leaves : {D V : Type 0} (g : Ghosts D) (db : Database) (m : Member) (e : NodeEvent) (now : ℕ) (node : Node D V) (after : model.Node)
+    (out : List Output) (old new : D) → node.halted ≡ false → Steps g db m Halted e now (node_of node) after out old new → Leaves g old new
+halted_leaves g db m e now node after out old new up steps =
     let s = up_server node in
     let is : node_of node ≡ model.Up s = ap (λ (b : Bool). if b then model.Halted (model.halted_from s) else model.Up s) up in
-    let so = subst (λ (x : model.Node). Steps g standing.database m Halted e now x after out old new) is steps in
-    (_, _, so.3.leaves, leads s is so.2)
+    let so = subst (λ (x : model.Node). Steps g db m Halted e now x after out old new) is steps in
+    (_, _, so.3.leaves)
 
 -- a step that ended so leaves the server halted
 pub halts : {D V : Type 0} (g : Ghosts D) (db : Database) (m : Member) (e : NodeEvent) (now : ℕ) (x : model.Node) (later : Node D V) (out : List Output)
@@ -132,28 +120,28 @@ short_step g db m e now model.Down after out old new steps = absurd steps
 short_step g db m e now (model.Halted h) after out old new steps = absurd steps
 short_step g db m e now (model.Up s) after out old new (same, quiet, reads) = record { same = same; quiet = quiet; reads = reads }
 
--- ---- it takes part in votes
+-- ---- it has no write in flight
 
--- the server after the step does, from this server on
-abbrev pub VotesOn : Database → Member → NodeEvent → ℕ → model.Node → Type 0
-VotesOn db m e now x = (s : model.Server) → x ≡ model.Up s → (short : List Bool) → IsVoter m (step_of db m s now e short).server
+-- the server after the step has none, from this server on
+abbrev pub QuietOn : Database → Member → NodeEvent → ℕ → model.Node → Type 0
+QuietOn db m e now x = (s : model.Server) → x ≡ model.Up s → (short : List Bool) → HasNoWrite (cell_size m) (step_of db m s now e short).server
 
-made_votes : {D V : Type 0} (g : Ghosts D) (db : Database) (m : Member) (e : NodeEvent) (now : ℕ) (x : model.Node) (later : Node D V) (out : List Output)
+made_quiet : {D V : Type 0} (g : Ghosts D) (db : Database) (m : Member) (e : NodeEvent) (now : ℕ) (x : model.Node) (later : Node D V) (out : List Output)
     (old new : D)
-    → VotesOn db m e now x → Steps g db m Done e now x (node_of later) out old new → IsVoter m (up_server later)
-made_votes g db m e now model.Down later out old new votes steps = absurd steps
-made_votes g db m e now (model.Halted h) later out old new votes steps = absurd steps
-made_votes g db m e now (model.Up s) later out old new votes (short, makes) =
-    subst (IsVoter m) (sym (is_up later (step_of db m s now e short).server makes.server).1) (votes s refl short)
+    → QuietOn db m e now x → Steps g db m Done e now x (node_of later) out old new → HasNoWrite (cell_size m) (up_server later)
+made_quiet g db m e now model.Down later out old new quiet steps = absurd steps
+made_quiet g db m e now (model.Halted h) later out old new quiet steps = absurd steps
+made_quiet g db m e now (model.Up s) later out old new quiet (short, makes) =
+    subst (HasNoWrite (cell_size m)) (sym (is_up later (step_of db m s now e short).server makes.server).1) (quiet s refl short)
 
 -- a server that stays as it is
-same_votes : {D V : Type 0} (m : Member) (node later : Node D V) → node_of later ≡ node_of node → (node.halted ≡ false → IsVoter m (up_server node))
-    → later.halted ≡ false → IsVoter m (up_server later)
-same_votes m node later same voter up =
+same_quiet : {D V : Type 0} (m : Member) (node later : Node D V) → node_of later ≡ node_of node
+    → (node.halted ≡ false → HasNoWrite (cell_size m) (up_server node)) → later.halted ≡ false → HasNoWrite (cell_size m) (up_server later)
+same_quiet m node later same quiet up =
     let s = up_server later in
     let is : node_of later ≡ model.Up s = ap (λ (b : Bool). if b then model.Halted (model.halted_from s) else model.Up s) up in
     let was = is_up node s (sym same ∙ is) in
-    subst (IsVoter m) was.1 (voter was.0)
+    subst (HasNoWrite (cell_size m)) was.1 (quiet was.0)
 
 -- a halted server leaves its disk alone
 pub halted_rests : {D V : Type 0} (g : Ghosts D) (db : Database) (m : Member) (e : NodeEvent) (now : ℕ) (node : Node D V) (after : model.Node)
@@ -164,52 +152,45 @@ halted_rests g db m e now node after out old new halted steps =
     (subst (λ (x : model.Node). Steps g db m Halted e now x after out old new) is steps).2
 
 -- what is left of a plain file is plain
-pub plain_left : {D : Type 0} {standing : Standing} (g : Ghosts D) (old new : D) → IsSoundDisk g standing old → Leaves g standing old new → (fs : Files)
-    → g.may_leave new fs → IsPlain fs × StandsForSome standing fs
-plain_left {D} {standing} g old new sound (d, calls, leaves, meant) fs left =
-    let there = some_of (g.files old) sound.told in (
-      left_plain g d old new calls there.0 fs there.1 (of_some (g.files old) there.0 IsPlain there.1 sound.plain) leaves left,
-      left_stands g standing d old new calls there.0 fs there.1 leaves meant left,
-    )
+pub plain_left : {D : Type 0} (g : Ghosts D) (old new : D) → IsSoundDisk g old → Leaves g old new → (fs : Files) → g.may_leave new fs → IsPlain fs
+plain_left {D} g old new sound (d, calls, leaves) fs left =
+    let there = some_of (g.files old) sound.told in
+    left_plain g d old new calls there.0 fs there.1 (of_some (g.files old) there.0 IsPlain there.1 sound.plain) leaves left
 
-module _ {D V : Type 0} {standing : Standing} (g : Ghosts D) (m : Member) (clock : ℕ) (e : NodeEvent) (node : Node D V) (out : List Output)
-    (sound : IsSoundNode g m clock node) (disk : IsSoundDisk g standing node.store.disk)
-    (leads : LeadsOn standing m e clock (node_of node)) (votes : VotesOn standing.database m e clock (node_of node)) where
-  abbrev db : Database
-  db = standing.database
-
+module _ {D V : Type 0} (g : Ghosts D) (db : Database) (m : Member) (clock : ℕ) (e : NodeEvent) (node : Node D V) (out : List Output)
+    (sound : IsSoundNode g m clock node) (disk : IsSoundDisk g node.store.disk) (quiet : QuietOn db m e clock (node_of node)) where
   lasts : (end : StepEnd) (last : ℕ) → last ≤ clock → last_after end last clock ≤ clock
   lasts Done last within = omega arith
   lasts Halted last within = omega arith
   lasts NoMemory last within = within
 
-  sound_later : (later : Node D V) (end : StepEnd) → own_member later ≡ own_member node → (later.halted ≡ false → IsVoter m (up_server later))
+  sound_later : (later : Node D V) (end : StepEnd) → own_member later ≡ own_member node → (later.halted ≡ false → HasNoWrite (cell_size m) (up_server later))
       → IsStored g later → later.last ≡ last_after end node.last clock
       → IsSoundNode g m clock later
-  sound_later later end member voter stored last =
+  sound_later later end member none stored last =
       record {
         last = let within = lasts end node.last sound.last in omega (arith, within, last);
         member = member ∙ sound.member;
-        voter = voter;
+        quiet = none;
         stored = stored;
       }
 
   -- of a halted server nothing is said
-  not_up : (later : Node D V) → later.halted ≡ true → later.halted ≡ false → IsVoter m (up_server later)
+  not_up : (later : Node D V) → later.halted ≡ true → later.halted ≡ false → HasNoWrite (cell_size m) (up_server later)
   not_up later halted up = absurd (false≢true (sym up ∙ halted))
 
   -- it was made
   pub done_now : (later : Node D V) → Steps g db m Done e clock (node_of node) (node_of later) out node.store.disk later.store.disk
       → own_member later ≡ own_member node → IsStored g later → (IsSome (g.files node.store.disk) → IsSome (g.files later.store.disk)) → Calls g node later Done
       → later.last ≡ last_after Done node.last clock
-      → NodeStepped g standing db m clock e ended.Made node later out
+      → NodeStepped g db m clock e ended.Made node later out
   done_now later steps member stored others calls last =
       let made = made_up g db m e clock (node_of node) (node_of later) out node.store.disk later.store.disk steps in
       let up = (is_up later made.1.0 made.1.1).0 in
       let there = some_of (g.files later.store.disk) (others disk.told) in
       let left =
-      plain_left g node.store.disk later.store.disk disk (made_leaves g standing m e clock (node_of node) (node_of later) out node.store.disk later.store.disk
-      leads steps) there.0
+      plain_left g node.store.disk later.store.disk disk (made_leaves g db m e clock (node_of node) (node_of later) out node.store.disk later.store.disk steps)
+      there.0
       (g.may_be_read later.store.disk there.0 there.1) in
       record {
         end = Done;
@@ -217,13 +198,12 @@ module _ {D V : Type 0} {standing : Standing} (g : Ghosts D) (m : Member) (clock
         steps = steps;
         calls = calls;
         sound = record {
-          node = sound_later later Done member (λ _. made_votes g db m e clock (node_of node) later out node.store.disk later.store.disk votes steps) stored
+          node = sound_later later Done member (λ _. made_quiet g db m e clock (node_of node) later out node.store.disk later.store.disk quiet steps) stored
               last;
           disk = record {
             told = others disk.told;
             settled = (stored.sound.ready (stored.failed ∙ up)).settled;
-            plain = make_if (g.files later.store.disk) there.0 IsPlain there.1 left.0;
-            stands = make_if (g.files later.store.disk) there.0 (StandsForSome standing) there.1 left.1;
+            plain = make_if (g.files later.store.disk) there.0 IsPlain there.1 left;
           };
         };
       }
@@ -231,7 +211,7 @@ module _ {D V : Type 0} {standing : Standing} (g : Ghosts D) (m : Member) (clock
   -- it was halted before
   pub rested_now : (later : Node D V) → node.halted ≡ true → Steps g db m Halted e clock (node_of node) (node_of later) out node.store.disk later.store.disk
       → own_member later ≡ own_member node → IsStored g later → Calls g node later Halted → later.last ≡ last_after Halted node.last clock
-      → NodeStepped g standing db m clock e ended.Made node later out
+      → NodeStepped g db m clock e ended.Made node later out
   rested_now later halted steps member stored calls last =
       record {
         end = Halted;
@@ -241,20 +221,20 @@ module _ {D V : Type 0} {standing : Standing} (g : Ghosts D) (m : Member) (clock
         sound = record {
           node = sound_later later Halted member (not_up later (halts g db m e clock (node_of node) later out node.store.disk later.store.disk steps)) stored
               last;
-          disk = subst (IsSoundDisk g standing) (sym (halted_rests g db m e clock node (node_of later) out node.store.disk later.store.disk halted steps)) disk;
+          disk = subst (IsSoundDisk g) (sym (halted_rests g db m e clock node (node_of later) out node.store.disk later.store.disk halted steps)) disk;
         };
       }
 
   -- memory ran out
   pub short_now : (later : Node D V) → Steps g db m NoMemory e clock (node_of node) (node_of later) out node.store.disk later.store.disk
       → own_member later ≡ own_member node → IsStored g later → later.last ≡ last_after NoMemory node.last clock
-      → NodeStepped g standing db m clock e ended.NoMemory node later out
+      → NodeStepped g db m clock e ended.NoMemory node later out
   short_now later steps member stored last =
       let short = short_step g db m e clock (node_of node) (node_of later) out node.store.disk later.store.disk steps in
       record {
         steps = steps;
         sound = record {
-          node = sound_later later NoMemory member (same_votes m node later short.same sound.voter) stored last;
+          node = sound_later later NoMemory member (same_quiet m node later short.same sound.quiet) stored last;
           disk = sound_read g node.store.disk later.store.disk disk short.reads;
         };
       }
@@ -262,7 +242,7 @@ module _ {D V : Type 0} {standing : Standing} (g : Ghosts D) (m : Member) (clock
   -- its disk stopped
   pub stopped_now : (later : Node D V) → node.halted ≡ false → Steps g db m Halted e clock (node_of node) (node_of later) out node.store.disk later.store.disk
       → Calls g node later Halted → IsStopped (g.stop later.store.disk)
-      → NodeStepped g standing db m clock e ended.Stops node later out
+      → NodeStepped g db m clock e ended.Stops node later out
   stopped_now later up steps calls stopped =
       record {
         was = up;
@@ -271,7 +251,7 @@ module _ {D V : Type 0} {standing : Standing} (g : Ghosts D) (m : Member) (clock
         stopped = stopped;
         fault = calls.1.cause.rose (refl, up);
         left = plain_left g node.store.disk later.store.disk disk
-            (halted_leaves g standing m e clock node (node_of later) out node.store.disk later.store.disk leads up steps);
+            (halted_leaves g db m e clock node (node_of later) out node.store.disk later.store.disk up steps);
       }
 
   -- its disk failed, and the files were opened anew
@@ -279,7 +259,7 @@ module _ {D V : Type 0} {standing : Standing} (g : Ghosts D) (m : Member) (clock
       → Calls g node mid Halted → (IsStopped (g.stop mid.store.disk) → ⊥)
       → IsRevived g mid.store.disk later.store.disk → (later.state ≡ mid.state) × (later.halted ≡ mid.halted) × (later.last ≡ mid.last)
       → own_member mid ≡ own_member node → IsStored g later → mid.last ≡ last_after Halted node.last clock
-      → NodeStepped g standing db m clock e ended.Halts node later out
+      → NodeStepped g db m clock e ended.Halts node later out
   halted_now mid later up steps calls runs revived same member stored last =
       let node_same : node_of later ≡ node_of mid =
       ap (λ (h : Bool). if h then model.Halted (model.halted_from (up_server later)) else model.Up (up_server later)) same.1
@@ -295,7 +275,7 @@ module _ {D V : Type 0} {standing : Standing} (g : Ghosts D) (m : Member) (clock
           node = sound_later later Halted (ap (λ (st : State). member_of st) same.0 ∙ member)
               (not_up later (same.1 ∙ halts g db m e clock (node_of node) mid out node.store.disk mid.store.disk steps)) stored (same.2 ∙ last);
           disk = sound_revived g mid.store.disk later.store.disk revived (calls.1.tells ∙ g.tells_now node.store.disk disk.told)
-              (plain_left g node.store.disk mid.store.disk disk (halted_leaves g standing m e clock node (node_of mid) out node.store.disk mid.store.disk leads
-              up steps));
+              (plain_left g node.store.disk mid.store.disk disk (halted_leaves g db m e clock node (node_of mid) out node.store.disk mid.store.disk up
+              steps));
         };
       }

@@ -6,7 +6,6 @@ use Rattle.std.proofs.lemmas.List.{append_assoc, length-map, map-append}
 use Rattle.std.proofs.lemmas.Grind.{flat_map-append}
 use Rattle.std.specs.declared.alloc.Global.{Global}
 use Rattle.db_image.specs.Database.{Database}
-use Rattle.db_image.specs.Standing.{Standing}
 use Rattle.disk_base.specs.declared.disks.Disk.{Ghosts}
 use Rattle.disk_base.specs.Crash.{IsSettled}
 use Rattle.disk_base.specs.Files.{Files, no_files}
@@ -21,7 +20,8 @@ use Rattle.ubik_store.specs.Opening.{OpensIn}
 use Rattle.ubik_store.proofs.Gaps.{discarded_is_plain}
 use Rattle.cell_model.specs.Durable.{no_database}
 use Rattle.cell_model.specs.Node as model
-use Rattle.cell_model.specs.Voters.{IsVotePacket}
+use Rattle.recovery_laws.specs.HasNoWrite.{IsRecoveryPacket}
+use Rattle.script_laws.specs.CellRuns.{CellsGoOn}
 use Rattle.cell_model.specs.World.{Site as ModelSite, are_near, clocks_of, first_seen, first_site}
 use Rattle.cell_script.specs.declared.lines.Kind.{Kind}
 use Rattle.cell_runs.specs.Script.{Cell, fails_at, hosts_of, opened_cell}
@@ -34,7 +34,7 @@ use Rattle.cell_sites.specs.Disks.{AreReadBy, AreRises, Held, IsReadBy, all_held
 use Rattle.cell_sites.specs.Opened.{AreFirstCounts, ArePartOpened, AreUnarmed, HasRoom, IsAdded, IsOpened, counts_of, opening_items}
 use Rattle.cell_sites.specs.OpenedServer.{IsEmptied, OpensDisk, ServerOpens, is_cut_short, opened_marks}
 use Rattle.cell_sites.specs.Sites.{AreArmed, AreSitesOf, IsArmedAs, IsModelledBy, helds, server_disk, server_node, site_disk}
-use Rattle.cell_sites.specs.Sound.{AreSound, IsMeantImage, IsSoundDisk, IsSoundServer, IsSoundSite, StandsForSome}
+use Rattle.cell_sites.specs.Sound.{AreSound, IsSoundDisk, IsSoundServer, IsSoundSite}
 use Rattle.cell_sites.specs.Traffic.{Traffic}
 use Rattle.cell_sites.specs.declared.cells.OpenCell.{OpenCell}
 use Rattle.cell_sites.specs.declared.openings.OpenEnd.{OpenEnd}
@@ -65,13 +65,12 @@ fresh_plain : IsPlain no_files
 fresh_plain = discarded_is_plain no_files (short_log_is_discarded [] (omega arith)) (λ _. refl)
 
 -- a server can be opened over it
-pub fresh_sound : {D : Type 0} {standing : Standing} (g : Ghosts D) (disk : D) → g.files disk ≡ Some no_files → IsSettled (g.files disk) (g.may_leave disk)
-    → IsMeantImage standing [] → IsSoundDisk g standing disk
-fresh_sound {D} {standing} g disk empty settled meant = record {
+pub fresh_sound : {D : Type 0} (g : Ghosts D) (disk : D) → g.files disk ≡ Some no_files → IsSettled (g.files disk) (g.may_leave disk)
+    → IsSoundDisk g disk
+fresh_sound {D} g disk empty settled = record {
   told = some_told (g.files disk) no_files empty;
   settled = settled;
   plain = if_told (g.files disk) no_files IsPlain empty fresh_plain;
-  stands = if_told (g.files disk) no_files (StandsForSome standing) empty (no_database, fresh_stands, meant);
 }
 
 -- it stands for no database
@@ -81,12 +80,12 @@ fresh_told g disk empty = told_at (g.files disk) no_files (StandsAs no_database)
 -- ---- one server
 
 -- it was opened on no database, or stays down and tells so
-pub record OneOpened {D V : Type 0} (g : Ghosts D) (standing : Standing) (db : ScriptDatabase) (hosts : List Host) (me clock : ℕ) (disk : D) (s : Server D V)
+pub record OneOpened {D V : Type 0} (g : Ghosts D) (db : ScriptDatabase) (hosts : List Host) (me clock : ℕ) (disk : D) (s : Server D V)
     (text_before text_after : List ℕ) : Type 0 where
   pub fails : Bool
   pub node : server_node s ≡ (first_site (length hosts) clock fails).node
   pub sound : IsSoundServer g (record { hosts = hosts; me = me }) clock s
-  pub disk_sound : IsSoundDisk g standing (server_disk s)
+  pub disk_sound : IsSoundDisk g (server_disk s)
   pub stands : IsSomeAnd (g.files (server_disk s)) (StandsAs no_database)
   pub opening : ℕ
   pub opens : OpensFirst fails opening
@@ -114,9 +113,9 @@ down_is g hosts me clock (server.Up n) is = absurd (never_down n.halted (model.h
 
 module _ {D V : Type 0} (g : Ghosts D) (db : ScriptDatabase) (hosts : List Host) (me clock : ℕ) (disk : D) (s : Server D V) (text_before text_after : List ℕ)
     (empty : g.files disk ≡ Some no_files) (unarmed : g.stop disk ≡ Unarmed) where
-  pub one_opened : {standing : Standing} (end : OpenEnd) → ServerOpens g standing (record { hosts = hosts; me = me }) clock no_database end disk s
+  pub one_opened : (end : OpenEnd) → ServerOpens g (record { hosts = hosts; me = me }) clock no_database end disk s
       → end ≢ opened.NoMemory
-      → text_after ≡ text_before ++ marks_text (opened_marks me end) → OneOpened g standing db hosts me clock disk s text_before text_after
+      → text_after ≡ text_before ++ marks_text (opened_marks me end) → OneOpened g db hosts me clock disk s text_before text_after
   one_opened (opened.Up version) one other text = record {
     fails = false;
     node = one.is.0;
@@ -150,9 +149,9 @@ rises_short : (failed : Bool) (rise : ℕ) → OpensFirst failed rise → OpensF
 rises_short true rise opens = opens
 rises_short false rise opens = let is = opens.2 in (opens.0, opens.1, omega (arith, is))
 
-pub one_emptied : {D V : Type 0} {standing : Standing} (g : Ghosts D) (hosts : List Host) (me clock : ℕ) (disk : D) (s : Server D V) (end : OpenEnd)
+pub one_emptied : {D V : Type 0} (g : Ghosts D) (hosts : List Host) (me clock : ℕ) (disk : D) (s : Server D V) (end : OpenEnd)
     → g.files disk ≡ Some no_files
-    → ServerOpens g standing (record { hosts = hosts; me = me }) clock no_database end disk s → IsEmptied g disk (server_disk s)
+    → ServerOpens g (record { hosts = hosts; me = me }) clock no_database end disk s → IsEmptied g disk (server_disk s)
 one_emptied g hosts me clock disk s end empty one = record {
   never_falls = one.never_falls;
   empty = one.stands;
@@ -183,11 +182,11 @@ unarmed_push : {D V : Type 0} (g : Ghosts D) (sites : List (Site D V)) (site : S
 unarmed_push g [] site are is = (is, tt)
 unarmed_push g (x ∷ sites) site are is = (are.0, unarmed_push g sites site are.1 is)
 
-pub next_opened : {D V : Type 0} {standing : Standing} (g : Ghosts D) (db : ScriptDatabase) (clock : ℕ) (given : List D) (running : OpenCell D V)
+pub next_opened : {D V : Type 0} (g : Ghosts D) (db : ScriptDatabase) (clock : ℕ) (given : List D) (running : OpenCell D V)
     (before told after : List ℕ) (disk : D) (s : Server D V) (sites : Vec (Site D V) Global) → IsMoment clock → sites.items ≡ running.sites.items ++ record
-    { clock = clock; server = s } ∷ [] → OneOpened g standing db running.hosts.items (length running.sites.items) clock disk s told after → ArePartOpened g
-    standing db clock given running before told → ArePartOpened g standing db clock (given ++ disk ∷ []) (record running { sites = sites }) before after
-next_opened {D} {V} {standing} g db clock given running before told after disk s sites moment pushed one p =
+    { clock = clock; server = s } ∷ [] → OneOpened g db running.hosts.items (length running.sites.items) clock disk s told after → ArePartOpened g
+    db clock given running before told → ArePartOpened g db clock (given ++ disk ∷ []) (record running { sites = sites }) before after
+next_opened {D} {V} g db clock given running before told after disk s sites moment pushed one p =
     let items = running.sites.items in
     let site : Site D V = record { clock = clock; server = s } in
     let first = first_site (length running.hosts.items) clock in
@@ -204,9 +203,9 @@ next_opened {D} {V} {standing} g db clock given running before told after disk s
       sites = subst (λ (l : List (Site D V)). AreSitesOf l (map first (failed ++ one.fails ∷ []))) (sym pushed)
           (subst (λ (l : List ModelSite). AreSitesOf (items ++ site ∷ []) l) (sym (map-append first failed (one.fails ∷ [])))
           (sites_push items (map first failed) site (first one.fails) p.sites (record { clock = refl; node = sym one.node })));
-      sound = subst (λ (l : List (Site D V)). AreSound g standing hosts 0 clock l) (sym pushed)
+      sound = subst (λ (l : List (Site D V)). AreSound g hosts 0 clock l) (sym pushed)
           (sound_push g hosts 0 clock items site p.sound
-          (subst (λ (n : ℕ). IsSoundSite g standing (record { hosts = hosts; me = n }) clock site) (omega arith)
+          (subst (λ (n : ℕ). IsSoundSite g (record { hosts = hosts; me = n }) clock site) (omega arith)
           (record { moment = moment; within = omega arith; server = one.sound; disk = one.disk_sound })));
       packets = p.packets;
       outputs = p.outputs;
@@ -231,6 +230,7 @@ next_opened {D} {V} {standing} g db clock given running before told after disk s
           (counts_push failed (counts_of g given) (helds g running) one.fails (g.steps disk) (held g (server_disk s)) p.counts
           (one.opening, one.opens, one.steps)));
       unarmed = subst (λ (l : List (Site D V)). AreUnarmed g l) (sym pushed) (unarmed_push g items site p.unarmed one.unarmed);
+      blocks = p.blocks;
     }
 
 pub next_added : {D V : Type 0} (g : Ghosts D) (clock : ℕ) (running : OpenCell D V) (disk : D) (s : Server D V) (sites : Vec (Site D V) Global)
@@ -245,19 +245,19 @@ next_added {D} {V} g clock running disk s sites pushed kept =
     }
 
 -- the same where hosts and place are those that were handed over, and the call did not fail
-pub next_opened_at : {standing : Standing} {D V T E : Type 0} (r : Result T E) (g : Ghosts D) (db : ScriptDatabase) (clock : ℕ) (running : OpenCell D V)
+pub next_opened_at : {D V T E : Type 0} (r : Result T E) (g : Ghosts D) (db : ScriptDatabase) (clock : ℕ) (running : OpenCell D V)
     (told after : List ℕ) (disk : D) (s : Server D V) (end : OpenEnd) (sites : Vec (Site D V) Global) (hosts : List Host) (me : ℕ) → hosts ≡ running.hosts.items
     → me ≡ length running.sites.items → IsMoment clock → sites.items ≡ running.sites.items ++ record { clock = clock; server = s } ∷ []
-    → g.files disk ≡ Some no_files → g.stop disk ≡ Unarmed → ServerOpens g standing (record { hosts = hosts; me = me }) clock no_database end disk s
+    → g.files disk ≡ Some no_files → g.stop disk ≡ Unarmed → ServerOpens g (record { hosts = hosts; me = me }) clock no_database end disk s
     → OnOk r ((end ≢ opened.NoMemory) × (after ≡ told ++ marks_text (opened_marks me end)))
-    → OnOk r ((given : List D) (before : List ℕ) → ArePartOpened g standing db clock given running before told
-    → ArePartOpened g standing db clock (given ++ disk ∷ []) (record running { sites = sites }) before after)
+    → OnOk r ((given : List D) (before : List ℕ) → ArePartOpened g db clock given running before told
+    → ArePartOpened g db clock (given ++ disk ∷ []) (record running { sites = sites }) before after)
 next_opened_at (Err e) g db clock running told after disk s end sites hosts me same place moment pushed empty unarmed one tells = tt
-next_opened_at {standing} {D} {V} (Ok x) g db clock running told after disk s end sites hosts me same place moment pushed empty unarmed one tells =
+next_opened_at {D} {V} (Ok x) g db clock running told after disk s end sites hosts me same place moment pushed empty unarmed one tells =
     λ given before p.
     next_opened g db clock given running before told after disk s sites moment pushed
-    (subst (λ (n : ℕ). OneOpened g standing db running.hosts.items n clock disk s told after) place
-    (subst (λ (l : List Host). OneOpened g standing db l me clock disk s told after) same
+    (subst (λ (n : ℕ). OneOpened g db running.hosts.items n clock disk s told after) place
+    (subst (λ (l : List Host). OneOpened g db l me clock disk s told after) same
     (one_opened g db hosts me clock disk s told after empty unarmed end one tells.0 tells.1))) p
 
 -- ---- all of them
@@ -268,8 +268,8 @@ first_clock n clock [] k less = absurd (omega arith)
 first_clock n clock (fails ∷ failed) zero less = refl
 first_clock n clock (fails ∷ failed) (suc k) less = first_clock n clock failed k (omega arith)
 
-none_sent : (hosts : List Host) (sent : List Packet) → sent ≡ [] → All (IsVotePacket hosts) sent
-none_sent hosts sent none = subst (λ (l : List Packet). All (IsVotePacket hosts) l) (sym none) (λ k d less. absurd (omega (arith, less)))
+none_sent : (hosts : List Host) (sent : List Packet) → sent ≡ [] → All (IsRecoveryPacket hosts) sent
+none_sent hosts sent none = subst (λ (l : List Packet). All (IsRecoveryPacket hosts) l) (sym none) (λ k d less. absurd (omega (arith, less)))
 
 -- none is to stop
 armed_none : (node : model.Node) (stop : DiskStop) → stop ≡ Unarmed → IsArmedAs node None stop
@@ -302,10 +302,10 @@ first_counts db c k (f ∷ failed) (b ∷ given) (x ∷ disks) none are = (
   first_counts db c (k + 1) failed given disks none are.1,
 )
 
-pub all_opened : {D V : Type 0} {standing : Standing} (g : Ghosts D) (db : ScriptDatabase) (clock : ℕ) (k : Kind) (given : List D) (running : OpenCell D V)
-    (before after : List ℕ) → HasRoom running → length given ≡ length running.hosts.items → ArePartOpened g standing db clock given running before after →
-    IsOpened g standing db clock k given running before after
-all_opened {D} {V} g db clock k given running before after room same p =
+pub all_opened : {D V : Type 0} (g : Ghosts D) (db : ScriptDatabase) (clock : ℕ) (k : Kind) (given : List D) (running : OpenCell D V)
+    (before after : List ℕ) → CellsGoOn → IsMoment clock → HasRoom running → length given ≡ length running.hosts.items
+    → ArePartOpened g db clock given running before after → IsOpened g db clock k given running before after
+all_opened {D} {V} g db clock k given running before after law moment room same p =
     let items = running.sites.items in
     let hosts = running.hosts.items in
     let failed = p.failed in
@@ -318,9 +318,7 @@ all_opened {D} {V} g db clock k given running before after room same p =
     let some = room.some in
     let few = room.few in
     let near : are_near (clocks_of ss) ≡ true = near_make (clocks_of ss) (near_same (clocks_of ss) clock (first_clock (length hosts) clock failed)) in
-    record {
-      choices = choices;
-      stands = subst (λ (f : List Bool). IsModelledBy g db.database (counts_of g given) running (opened_cell n clock k f)) (sym is) (record {
+    let opened_so : IsModelledBy g db.database (counts_of g given) running (opened_cell n clock k failed) = record {
         hosts = ap hosts_of same ∙ sym room.hosts;
         sites = subst (λ (m : ℕ). AreSitesOf items (map (first_site m clock) failed)) (sym size) p.sites;
         sent = ap (λ (t : Traffic). t.sent) (sym p.packets);
@@ -331,15 +329,27 @@ all_opened {D} {V} g db clock k given running before after room same p =
           read = subst (λ (m : ℕ). AreReadBy (map (first_site m clock) failed) (helds g running)) (sym size) p.read;
           counts = first_counts db.database (opened_cell n clock k failed) 0 failed (counts_of g given) (helds g running) refl p.counts;
         };
-      });
-      sound = record {
-        some = omega (arith, some, count);
-        few = omega (arith, few, count);
-        hosts = room.hosts ∙ ap hosts_of (sym count);
-        sites = p.sound;
-        near = ap are_near (sym (sites_clocks items ss p.sites)) ∙ near;
-        packets = none_sent hosts running.packets.sent (ap (λ (t : Traffic). t.sent) p.packets);
-        told = p.outputs;
+      } in
+    record {
+      choices = choices;
+      stands = subst (λ (f : List Bool). IsModelledBy g db.database (counts_of g given) running (opened_cell n clock k f)) (sym is) opened_so;
+      sound = λ asks. record {
+        steady = record {
+          some = omega (arith, some, count);
+          few = omega (arith, few, count);
+          hosts = room.hosts ∙ ap hosts_of (sym count);
+          sites = p.sound;
+          near = ap are_near (sym (sites_clocks items ss p.sites)) ∙ near;
+          packets = none_sent hosts running.packets.sent (ap (λ (t : Traffic). t.sent) p.packets);
+          told = p.outputs;
+        };
+        run = record {
+          given = counts_of g given;
+          cell = opened_cell n clock k failed;
+          stands = opened_so;
+          run = law.opened db.database asks n clock k failed (omega (arith, some, same)) (omega (arith, few, same)) moment p.each;
+        };
+        blocks = p.blocks;
       };
       told = subst (λ (f : List Bool). after ≡ before ++ trace db hosts (opening_items f)) (sym is) p.told;
       causes = subst (λ (f : List Bool). AreRises 0 (opening_items f) (all_held g given) (helds g running)) (sym is) p.causes;

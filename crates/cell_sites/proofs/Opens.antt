@@ -27,8 +27,10 @@ use Rattle.ubik_store.proofs.Redoing.{narrowed}
 use Rattle.ubik_store.proofs.Telling.{of_told, told}
 use Rattle.cell_model.specs.Durable.{Durable, durable}
 use Rattle.cell_model.specs.Node as model
-use Rattle.cell_model.specs.Step.{Member, cell_size}
-use Rattle.cell_model.specs.Voters.{IsVoter}
+use Rattle.cell_model.specs.Step.{Member}
+use Rattle.recovery_laws.specs.HasNoWrite.{HasNoWrite}
+use Rattle.ubik_types.specs.Version.{IsVersion}
+use Rattle.cell_sites.proofs.Versions.{version_is}
 use Rattle.ubik_node.specs.declared.nodes.Node.{Node}
 use Rattle.ubik_node.specs.Disk.{StandsAs}
 use Rattle.ubik_node.specs.Node.{node_of, own_member, up_server, IsStored}
@@ -36,9 +38,8 @@ use Rattle.cell_sites.specs.OpenedServer.{OpensDisk, ServerIs, ServerOpens, is_c
 use Rattle.cell_sites.specs.declared.openings.OpenEnd.{OpenEnd}
 use Rattle.cell_sites.specs.declared.openings.OpenEnd.TheVariants as opened
 use Rattle.cell_sites.specs.declared.sites.Server.TheVariants as server
-use Rattle.cell_sites.specs.Sound.{IsMeantImage, IsSoundDisk, StandsForSome}
+use Rattle.cell_sites.specs.Sound.{IsSoundDisk}
 use Rattle.cell_sites.proofs.Standing.{stands_once}
-use Rattle.db_image.specs.Standing.{Standing}
 
 -- files at rest stand for their version and their image
 rested : (fs : Files) (v : Version) (image : List ℕ) → IsAtRest v (image_of fs.database) fs → image_of fs.database ≡ image → StandsAs (durable v image) fs
@@ -84,11 +85,6 @@ told_at files fs P is holds = let Q : Option Files → Type 0 = λ o. IsSomeAnd 
 pub if_told : (files : Option Files) (fs : Files) (P : Files → Type 0) → files ≡ Some fs → P fs → IfSome files P
 if_told files fs P is holds = let Q : Option Files → Type 0 = λ o. IfSome o P in subst Q (sym is) holds
 
-pub some_stands : (standing : Standing) (files : Option Files) (d : Durable) → IsSomeAnd files (StandsAs d) → IsMeantImage standing d.image
-    → IfSome files (StandsForSome standing)
-some_stands standing None d stands meant = tt
-some_stands standing (Some fs) d stands meant = (d, stands, meant)
-
 pub unarmed_stays : (n : ℕ) → after_changes n Unarmed ≡ Unarmed
 unarmed_stays zero = refl
 unarmed_stays (suc n) = ap after_change (unarmed_stays n)
@@ -102,7 +98,7 @@ one_durable fs d e x y =
     let same = stands_once fs e.version d.version e.image d.image y x in
     ap (λ (v : Version). durable v e.image) same.0 ∙ ap (λ (i : List ℕ). durable d.version i) same.1
 
-module _ {D : Type 0} {standing : Standing} (g : Ghosts D) (disk new : D) (F : Type 0) (d : Durable) (sound : IsSoundDisk g standing disk)
+module _ {D : Type 0} (g : Ghosts D) (disk new : D) (F : Type 0) (d : Durable) (sound : IsSoundDisk g disk)
     (stands : IsSomeAnd (g.files disk) (StandsAs d)) (opening : IsOpening g disk new F) where
   -- the files before it
   abbrev pub before : Told (g.files disk)
@@ -113,12 +109,6 @@ module _ {D : Type 0} {standing : Standing} (g : Ghosts D) (disk new : D) (F : T
 
   was_plain : IsPlain before.fs
   was_plain = of_told (g.files disk) before.fs IsPlain before.is sound.plain
-
-  -- the image of what they stand for stands for a state
-  pub meant : IsMeantImage standing d.image
-  meant =
-      let some = of_told (g.files disk) before.fs (StandsForSome standing) before.is sound.stands in
-      subst (λ (x : Durable). IsMeantImage standing x.image) (sym (one_durable before.fs some.0 d some.1 stood)) some.2
 
   -- a crash leaves the same
   pub leaves_same : Narrows (StandsAs d) (g.may_leave new)
@@ -167,6 +157,14 @@ module _ {D V : Type 0} (g : Ghosts D) (n : Node D V) (stored : IsStored g n) (w
       rested_all (g.files n.store.disk) n.store.version n.state.version n.state.image (stored.version went) some
       (stored.sound.ready (stored.failed ∙ went)).rests (stored.image went)
 
+  -- which is one
+  pub node_version : IsSome (g.files n.store.disk) → IsVersion n.state.version
+  node_version some =
+      let t = told_files (g.files n.store.disk) some in
+      let rests = of_told (g.files n.store.disk) t.fs (λ fs. IsAtRest n.store.version (image_of fs.database) fs) t.is
+      (stored.sound.ready (stored.failed ∙ went)).rests in
+      subst IsVersion (stored.version went) (version_is t.fs.database n.store.version rests.label)
+
   pub node_settled : IsSettled (g.files n.store.disk) (g.may_leave n.store.disk)
   node_settled = (stored.sound.ready (stored.failed ∙ went)).settled
 
@@ -174,9 +172,9 @@ module _ {D V : Type 0} (g : Ghosts D) (n : Node D V) (stored : IsStored g n) (w
 pub plain_read : {D : Type 0} (g : Ghosts D) (disk : D) → Narrows IsPlain (g.may_leave disk) → IfSome (g.files disk) IsPlain
 plain_read g disk leaves = told (g.files disk) IsPlain (λ fs is. leaves fs (g.may_be_read disk fs is))
 
-module _ {D V : Type 0} {standing : Standing} (g : Ghosts D) (hosts cell : List Host) (me clock : ℕ) (disk : D) (n : Node D V) (d e : Durable)
-    (sound : IsSoundDisk g standing disk) (stands : IsSomeAnd (g.files disk) (StandsAs d)) (opening : IsOpening g disk n.store.disk ⊥)
-    (votes : (m : Member) (d : Durable) (now : ℕ) → IsVoter m (model.opened_server (cell_size m) d now))
+module _ {D V : Type 0} (g : Ghosts D) (hosts cell : List Host) (me clock : ℕ) (disk : D) (n : Node D V) (d e : Durable)
+    (sound : IsSoundDisk g disk) (stands : IsSomeAnd (g.files disk) (StandsAs d)) (opening : IsOpening g disk n.store.disk ⊥)
+    (quiet : (servers : ℕ) (d : Durable) (now : ℕ) → IsVersion d.version → HasNoWrite servers (model.opened_server servers d now))
     (same : cell ≡ hosts) (up : node_of n ≡ model.Up (model.opened_server (length cell) e clock)) (read : IfSome (g.files disk) (StandsAs e))
     (mine : own_member n ≡ record { hosts = cell; me = me }) (stored : IsStored g n) (kept : IsSome (g.files disk) → IsSome (g.files n.store.disk))
     (steps : IfSome (g.files disk) (λ fs. (calls : ℕ) → OpensIn fs calls → g.steps n.store.disk ≡ g.steps disk + calls)) (last : n.last ≡ clock) where
@@ -203,14 +201,13 @@ module _ {D V : Type 0} {standing : Standing} (g : Ghosts D) (hosts cell : List 
       subst (λ (x : Durable). IsSomeAnd (g.files n.store.disk) (StandsAs x))
       (ap (λ (u : model.Server). durable u.version u.image) s) (node_stands g n stored server_up.0 some)
 
-  pub opened_up : (version : Version) → version ≡ (up_server n).version → ServerOpens g standing m clock d (opened.Up version) disk (server.Up n)
+  pub opened_up : (version : Version) → version ≡ (up_server n).version → ServerOpens g m clock d (opened.Up version) disk (server.Up n)
   opened_up version is = record {
     stands = holds;
     sound = record {
       told = some;
       settled = node_settled g n stored server_up.0;
       plain = plain_read g n.store.disk (leaves_plain g disk n.store.disk ⊥ d sound stands opening);
-      stands = some_stands standing (g.files n.store.disk) d holds (meant g disk n.store.disk ⊥ d sound stands opening);
     };
     calls =
         let o = opens g disk n.store.disk ⊥ d sound stands opening in
@@ -232,7 +229,8 @@ module _ {D V : Type 0} {standing : Standing} (g : Ghosts D) (hosts cell : List 
       record {
         last = omega (arith, last);
         member = mine ∙ ap (λ (l : List Host). record { hosts = l; me = me }) same;
-        voter = λ _. subst (λ (u : model.Server). IsVoter m u) (sym server_up.1) (votes m d clock);
+        quiet = λ _. subst (HasNoWrite (length hosts)) (sym server_up.1)
+            (quiet (length hosts) d clock (subst IsVersion (ap (λ (u : model.Server). u.version) server_up.1) (node_version g n stored server_up.0 some)));
         stored = stored;
       },
     );
@@ -248,8 +246,8 @@ refused_so fs d (TooLarge bytes) stands refuses other = absurd refuses
 refused_so fs d (NotNewer own given) stands refuses other = absurd refuses
 refused_so fs d NoMemory stands refuses other = absurd (other refl)
 
-module _ {D : Type 0} {standing : Standing} (g : Ghosts D) (m : Member) (clock : ℕ) (disk refused revived : D) (d : Durable) (why : StoreFault)
-    (sound : IsSoundDisk g standing disk) (stands : IsSomeAnd (g.files disk) (StandsAs d)) (opening : IsOpening g disk refused (why ≡ DiskFault))
+module _ {D : Type 0} (g : Ghosts D) (m : Member) (clock : ℕ) (disk refused revived : D) (d : Durable) (why : StoreFault)
+    (sound : IsSoundDisk g disk) (stands : IsSomeAnd (g.files disk) (StandsAs d)) (opening : IsOpening g disk refused (why ≡ DiskFault))
     (refuses : IfSome (g.files disk) (λ fs. RefusesFiles fs why)) (unarmed : g.stop revived ≡ Unarmed)
     (left : IfSome (g.files revived) (λ fs. g.may_leave refused fs × Only fs (g.may_leave revived)))
     (told_then : g.tells refused ≡ true → IsSome (g.files revived)) (steps : g.steps revived ≡ g.steps refused) (faults : g.faults revived ≡ g.faults refused)
@@ -264,7 +262,7 @@ module _ {D : Type 0} {standing : Standing} (g : Ghosts D) (m : Member) (clock :
     now_left = of_told (g.files revived) now_told.fs (λ fs. g.may_leave refused fs × Only fs (g.may_leave revived)) now_told.is left
 
     pub opened_down : {V : Type 0} → (end : OpenEnd) → (is_cut : is_cut_short end ≡ true)
-        → ServerIs {V = V} g m clock d end disk (server.Down revived) → ServerOpens {V = V} g standing m clock d end disk (server.Down revived)
+        → ServerIs {V = V} g m clock d end disk (server.Down revived) → ServerOpens {V = V} g m clock d end disk (server.Down revived)
     opened_down end is_cut is = record {
       stands = told_at (g.files revived) now_told.fs (StandsAs d) now_told.is
           (leaves_same g disk refused (why ≡ DiskFault) d sound stands opening now_told.fs now_left.0);
@@ -273,12 +271,6 @@ module _ {D : Type 0} {standing : Standing} (g : Ghosts D) (m : Member) (clock :
         settled = if_told (g.files revived) now_told.fs (λ fs. Only fs (g.may_leave revived)) now_told.is now_left.1;
         plain = if_told (g.files revived) now_told.fs IsPlain now_told.is
             (leaves_plain g disk refused (why ≡ DiskFault) d sound stands opening now_told.fs now_left.0);
-        stands = if_told (g.files revived) now_told.fs (StandsForSome standing) now_told.is (
-          d,
-          leaves_same g disk refused (why ≡ DiskFault) d sound stands opening now_told.fs now_left.0,
-          meant g disk refused (why ≡ DiskFault) d sound stands
-              opening,
-        );
       };
       calls = subst (λ (b : Bool). OpensDisk g b disk revived) (sym is_cut) (opens_short g disk refused (why ≡ DiskFault) d sound stands opening revived steps);
       unarmed = λ was. unarmed;
@@ -287,20 +279,20 @@ module _ {D : Type 0} {standing : Standing} (g : Ghosts D) (m : Member) (clock :
     }
 
     -- the disk failed
-    pub down_by_fault : {V : Type 0} → why ≢ NoMemory → ServerOpens {V = V} g standing m clock d opened.StaysDown disk (server.Down revived)
+    pub down_by_fault : {V : Type 0} → why ≢ NoMemory → ServerOpens {V = V} g m clock d opened.StaysDown disk (server.Down revived)
     down_by_fault other =
         let fault = refused_so there_then.fs d why (stood g disk refused (why ≡ DiskFault) d sound stands opening)
         (of_told (g.files disk) there_then.fs (λ fs. RefusesFiles fs why) there_then.is refuses) other in
         let rose = opening.calls.cause.rose fault in
         opened_down opened.StaysDown refl (refl, omega (arith, rose, faults))
 
-    pub down_by_memory : {V : Type 0} → ServerOpens {V = V} g standing m clock d opened.NoMemory disk (server.Down revived)
+    pub down_by_memory : {V : Type 0} → ServerOpens {V = V} g m clock d opened.NoMemory disk (server.Down revived)
     down_by_memory = opened_down opened.NoMemory refl refl
 
 -- no opening was begun
-pub not_opened : {D V : Type 0} {standing : Standing} (g : Ghosts D) (m : Member) (clock : ℕ) (disk : D) (d : Durable) → IsSoundDisk g standing disk
+pub not_opened : {D V : Type 0} (g : Ghosts D) (m : Member) (clock : ℕ) (disk : D) (d : Durable) → IsSoundDisk g disk
     → IsSomeAnd (g.files disk) (StandsAs d)
-    → ServerOpens {V = V} g standing m clock d opened.NoMemory disk (server.Down disk)
+    → ServerOpens {V = V} g m clock d opened.NoMemory disk (server.Down disk)
 not_opened g mine clock disk d sound stands =
     let there = told_files (g.files disk) sound.told in
     let o = opens_in (at_told (g.files disk) there.fs (StandsAs d) there.is stands) in

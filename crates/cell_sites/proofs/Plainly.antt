@@ -1,15 +1,12 @@
 -- Files that a disk tells, and that stay plain.
-use Rattle.std.proofs.Common.{◌≡◌, Option, Some, None, IfSome, IsSome, IsSomeAnd, List, take, refl, sym, subst}
+use Rattle.std.proofs.Common.{◌≡◌, Option, Some, None, IfSome, IsSome, IsSomeAnd, List, refl, sym, subst}
 use Rattle.std.proofs.lemmas.Bool.{false≢true}
 use Rattle.disk_base.specs.declared.disks.Disk.{Ghosts}
 use Rattle.disk_base.specs.Crash.{LeavesOnly}
 use Rattle.disk_base.specs.Files.{Files}
 use Rattle.ubik_store.specs.Gaps.{IsPlain}
-use Rattle.cell_model.specs.Durable.{Durable, Made, durable_after_all}
-use Rattle.ubik_node.specs.Disk.{LeavesWithin, StandsWithin}
-use Rattle.db_image.specs.Standing.{Standing}
-use Rattle.cell_sites.specs.Sound.{StandsForSome}
-use Rattle.cell_sites.proofs.Meant.{AllMeant, taken_meant}
+use Rattle.cell_model.specs.Durable.{Durable, Made}
+use Rattle.ubik_node.specs.Disk.{LeavesWithin}
 
 -- ---- what is there
 
@@ -39,12 +36,3 @@ pub left_plain : {D : Type 0} (g : Ghosts D) (d : Durable) (old new : D) (calls 
 left_plain g d old new calls fs later is plain leaves left =
     let run = of_some (g.files old) fs (λ fs. IsPlain fs → LeavesOnly g.steps g.left_since old new IsPlain) is leaves.plain plain in
     run.each later (g.counts_now new (g.steps old) later run.later left)
-
--- and what is left stands for some durable state, whose image stands where those that the calls lead to do
-pub left_stands : {D : Type 0} (g : Ghosts D) (standing : Standing) (d : Durable) (old new : D) (calls : List Made) (fs later : Files) → g.files old ≡ Some fs
-    → LeavesWithin g d old new calls → AllMeant standing d calls → g.may_leave new later
-    → StandsForSome standing later
-left_stands g standing d old new calls fs later is leaves meant left =
-    let run = of_some (g.files old) fs (λ _. LeavesOnly g.steps g.left_since old new (StandsWithin d calls)) is leaves.moments in
-    let stands = run.each later (g.counts_now new (g.steps old) later run.later left) in
-    (durable_after_all d (take stands.0 calls), stands.2, taken_meant standing d calls stands.0 meant)

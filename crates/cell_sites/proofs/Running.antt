@@ -1,14 +1,15 @@
 -- What a step of one server of a running cell tells, and what it leaves.
 use Rattle.std.proofs.Common.{◌≡◌, ◌≢◌, inr, ◌<◌, ◌≤◌, ◌+◌, ℕ, zero, suc, Bool, false, Option, Some, None, Ok, List, [], ◌∷◌, ◌++◌, length, replicate, map, set}
-use Rattle.std.proofs.Common.{sym, ap, subst, ◌∙◌, arith}
+use Rattle.std.proofs.Common.{refl, sym, ap, subst, ◌∙◌, arith}
 use Rattle.std.specs.Prelude.{slice_get}
 use Rattle.std.proofs.lemmas.List.{length-append}
 use Rattle.disk_base.specs.declared.disks.Disk.{Ghosts}
 use Rattle.ubik_calls.specs.declared.packets.Packet.{Packet}
 use Rattle.cell_model.specs.World.{Site as ModelSite, Event, SiteHappened, happened_at, packets_of, seen_from}
 use Rattle.cell_runs.specs.declared.endings.Ending.{Ending}
+use Rattle.cell_runs.specs.declared.limits.TheConstants.{MAX_PACKETS}
 use Rattle.cell_runs.specs.ScriptDatabase.{ScriptDatabase}
-use Rattle.cell_runs.specs.Script.{Armed, Cell, cell_after, Choice, Run_or_why, Within, within, bytes_of, happened}
+use Rattle.cell_runs.specs.Script.{Armed, Cell, cell_after, Choice, Run_or_why, Within, within, bytes_of, happened, Choices}
 use Rattle.cell_runs.specs.Trace.{TraceItem, Tells, trace, fault_count}
 use Rattle.cell_sites.specs.declared.cells.OpenCell.{OpenCell}
 use Rattle.cell_sites.specs.declared.sites.Site.{Site}
@@ -93,10 +94,15 @@ module _ {D V : Type 0} (g : Ghosts D) where
 
 -- ---- a step
 
+-- a line is run to its end with these choices of its steps
+abbrev pub whole_choices : List Choice → Choices
+whole_choices choices = record { each = choices; most = MAX_PACKETS }
+
 -- a line of a cell whose disks are armed so
 module _ {D V : Type 0} (g : Ghosts D) (script_db : ScriptDatabase) (given : List ℕ) (before after : OpenCell D V) (c : Cell)
     (stands : IsModelledBy g script_db.database given before c) (k : ℕ) (ev : Event) (h : SiteHappened) (armed : List (Option Armed))
-    (run : List Choice → Run_or_why) (choices : List Choice) (is : run choices ≡ Ok (happened (with_armed c armed) ev (happened_at c.run.world k h)))
+    (run : Choices → Run_or_why) (choices : List Choice) (is : run (whole_choices choices) ≡ Ok (happened (with_armed c armed) ev (happened_at c.run.world k
+    h)))
     (marks : AreMarks h.marks) (site later : Site D V) (there : slice_get before.sites.items k ≡ Some site)
     (sites : after.sites.items ≡ set before.sites.items k later) (rises : g.faults (site_disk site) + fault_count k (map Tells h.marks) ≤ g.faults
     (site_disk later)) (others : (j : ℕ) → j ≢ k → fault_count j (map Tells h.marks) ≡ 0) where
@@ -142,7 +148,8 @@ module _ {D V : Type 0} (g : Ghosts D) (script_db : ScriptDatabase) (given : Lis
       let ended : (told_of script_db before.hosts.items k (record { text = tb; sent = before.packets.sent }) h.shown).ending ≡ None = ap
       (λ (r : TellingRun). r.ending) told in
       record {
-        choices = choices;
+        choices = whole_choices choices;
+        whole = refl;
         ran = happened (with_armed c armed) ev (happened_at c.run.world k h);
         is = is;
         ends = ap (λ (w : Within). w.ending) as_seen ∙ agree.ending ∙ ended;
@@ -175,7 +182,8 @@ module _ {D V : Type 0} (g : Ghosts D) (script_db : ScriptDatabase) (given : Lis
       let ended : (told_of script_db before.hosts.items k (record { text = tb; sent = before.packets.sent }) h.shown).ending ≡ Some ending = ap
       (λ (r : TellingRun). r.ending) told in
       record {
-        choices = choices;
+        choices = whole_choices choices;
+        whole = refl;
         ran = happened (with_armed c armed) ev (happened_at c.run.world k h);
         is = is;
         ends = ap (λ (w : Within). w.ending) as_seen ∙ agree.ending ∙ ended;
@@ -189,7 +197,7 @@ module _ {D V : Type 0} (g : Ghosts D) (script_db : ScriptDatabase) (given : Lis
   pub short_after : HoldRun script_db.database given false cell_then (helds g after) → IsShort g script_db.database given run c before after
   short_after hold =
       inr (record {
-        choices = choices;
+        choices = whole_choices choices;
         ran = happened (with_armed c armed) ev (happened_at c.run.world k h);
         is = is;
         disks = hold_short script_db.database

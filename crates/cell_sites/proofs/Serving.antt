@@ -20,7 +20,7 @@ use Rattle.ubik_store.specs.Files.{StandsFor}
 use Rattle.ubik_store.specs.Gaps.{IsPlain}
 use Rattle.ubik_store.specs.Rest.{IsAtRest}
 use Rattle.ubik_store.specs.Store.{image_in}
-use Rattle.cell_model.specs.Durable.{Durable, Made, disk_calls, durable, durable_after_all, version_after}
+use Rattle.cell_model.specs.Durable.{Durable, Made, durable, durable_after_all, version_after}
 use Rattle.cell_model.specs.Node as model
 use Rattle.cell_model.specs.Step.{Member}
 use Rattle.cell_model.specs.World.{calls_on}
@@ -30,12 +30,12 @@ use Rattle.ubik_node.specs.Disk.{FailsIn, IsRevived, Serves, StandsAs, StandsBet
 use Rattle.ubik_node.specs.Node.{durable_in, node_of}
 use Rattle.cell_sites.specs.Counts.{IsCutShort}
 use Rattle.cell_sites.specs.Sound.{IsSoundDisk, IsSoundNode}
-use Rattle.cell_sites.proofs.Arming.{AreFew}
+use Rattle.cell_sites.proofs.Arming.{take_nil}
 use Rattle.cell_sites.proofs.Counting.{each_on, sum_cons}
+use Rattle.cell_sites.proofs.Later.{AllLater, made_on, take_later}
 use Rattle.cell_sites.proofs.Nodes.{is_up}
 use Rattle.cell_sites.proofs.Plainly.{if_more, make_some, of_some, some_of}
 use Rattle.cell_sites.proofs.Standing.{stands_once}
-use Rattle.db_image.specs.Standing.{Standing}
 
 -- files stand for one durable state at most
 pub one_durable : (fs : Files) (d e : Durable) → StandsAs d fs → StandsAs e fs → d ≡ e
@@ -85,21 +85,6 @@ label_says fs v rests plain = by (version_eq v zero_version) refl
 
 -- ---- how many changing calls
 
-pub made_on : (labelled : Bool) (v : Version) (calls : List Made) → AreFew calls → labelled ≡ not (version_eq v zero_version)
-    → calls_made labelled calls ≡ calls_on_all v calls
-made_on labelled v calls (inl none) same = ap (calls_made labelled) none ∙ sym (ap (calls_on_all v) none)
-made_on labelled v calls (inr (made, one)) same =
-    ap (calls_made labelled) one ∙ ap (λ (b : Bool). disk_calls b made.call + 0) same ∙ sym (ap (calls_on_all v) one)
-
-take_few : (n : ℕ) (calls : List Made) → AreFew calls → AreFew (take n calls)
-take_few zero calls few = inl refl
-take_few (suc n) calls (inl none) = inl (ap (take (suc n)) none)
-take_few (suc n) calls (inr (made, one)) = inr (made, ap (take (suc n)) one ∙ ap (λ (l : List Made). made ∷ l) (none_of n))
-  where
-    none_of : (n : ℕ) → ◌≡◌ {A = List Made} (take n []) []
-    none_of zero = refl
-    none_of (suc n) = refl
-
 take_each : (n : ℕ) (v : Version) (calls : List Made) → sum (take n (each_on v calls)) ≡ calls_on_all v (take n calls)
 take_each zero v calls = refl
 take_each (suc n) v [] = refl
@@ -118,8 +103,8 @@ pub record FilesAt {D V : Type 0} (g : Ghosts D) (node : Node D V) (s : model.Se
   pub label : has_label files.database ≡ not (version_eq s.version zero_version)
   pub runs : IsStopped (g.stop node.store.disk) → ⊥
 
-pub files_at : {D V : Type 0} {standing : Standing} (g : Ghosts D) (m : Member) (clock : ℕ) (node : Node D V) (s : model.Server) → IsSoundNode g m clock node
-    → IsSoundDisk g standing node.store.disk → node_of node ≡ model.Up s → FilesAt g node s
+pub files_at : {D V : Type 0} (g : Ghosts D) (m : Member) (clock : ℕ) (node : Node D V) (s : model.Server) → IsSoundNode g m clock node
+    → IsSoundDisk g node.store.disk → node_of node ≡ model.Up s → FilesAt g node s
 files_at {D} {V} g m clock node s sound disk up =
     let is_it = is_up node s up in
     let there = some_of (g.files node.store.disk) disk.told in
@@ -146,17 +131,13 @@ files_at {D} {V} g m clock node s sound disk up =
 -- ---- a step that was made
 
 -- its durable calls made just these changing calls
-pub served_rise : {D V : Type 0} (g : Ghosts D) (node : Node D V) (s : model.Server) (new : D) (calls : List Made) → FilesAt g node s → AreFew calls
+pub served_rise : {D V : Type 0} (g : Ghosts D) (node : Node D V) (s : model.Server) (new : D) (calls : List Made) → FilesAt g node s → AllLater calls
     → Serves g (durable_in s) node.store.disk new calls → g.steps new ≡ g.steps node.store.disk + calls_on_all s.version calls
-served_rise {D} g node s new calls at few serves =
+served_rise {D} g node s new calls at labels serves =
     of_some (g.files node.store.disk) at.files (λ fs. g.steps new ≡ g.steps node.store.disk + calls_made (has_label fs.database) calls) at.is serves.steps
-    ∙ ap (λ (n : ℕ). g.steps node.store.disk + n) (made_on (has_label at.files.database) s.version calls few at.label)
+    ∙ ap (λ (n : ℕ). g.steps node.store.disk + n) (made_on (has_label at.files.database) s.version calls labels at.label)
 
 -- ---- a step in which the disk failed
-
-none_taken : (n : ℕ) → ◌≡◌ {A = List Made} (take n []) []
-none_taken zero = refl
-none_taken (suc n) = refl
 
 -- A disk that failed in a step without a durable call failed as well before the end of the first of any, none of which took place.
 pub fails_first : {D : Type 0} (g : Ghosts D) (d : Durable) (old new : D) (calls : List Made) → FailsIn g d old new [] → FailsIn g d old new calls
@@ -176,10 +157,10 @@ fails_first {D} g d old new calls fails =
     }
   where
     none_made : (fs : Files) (n : ℕ) → calls_made (has_label fs.database) (take n []) ≡ 0
-    none_made fs n = ap (calls_made (has_label fs.database)) (none_taken n)
+    none_made fs n = ap (calls_made (has_label fs.database)) (take_nil {X = Made} n)
 
     still : (n : ℕ) (c : Files) → StandsAs (durable_after_all d (take n [])) c → StandsAs d c
-    still n c stands = subst (λ (l : List Made). StandsAs (durable_after_all d l) c) (none_taken n) stands
+    still n c stands = subst (λ (l : List Made). StandsAs (durable_after_all d l) c) (take_nil {X = Made} n) stands
 
     within : (c : Files) → StandsWithin d [] c → StandsWithin d calls c
     within c (made, few, stands) = (0, omega arith, still made c stands)
@@ -196,13 +177,14 @@ pub record Failed {D : Type 0} (g : Ghosts D) (s : model.Server) (old later : D)
   pub steps : g.steps later ≡ g.steps old + rise
   pub cut : IsCutShort (each_on s.version calls) (if took then whole + 1 else whole) rise
 
-module _ {D V : Type 0} (g : Ghosts D) (node : Node D V) (s : model.Server) (failed later : D) (calls : List Made) (at : FilesAt g node s) (few : AreFew calls)
+module _ {D V : Type 0} (g : Ghosts D) (node : Node D V) (s : model.Server) (failed later : D) (calls : List Made) (at : FilesAt g node s) (labels : AllLater
+    calls)
     (fails : FailsIn g (durable_in s) node.store.disk failed calls) where
   abbrev old : D
   old = node.store.disk
 
   made_of : (n : ℕ) → calls_made (has_label at.files.database) (take n calls) ≡ calls_on_all s.version (take n calls)
-  made_of n = made_on (has_label at.files.database) s.version (take n calls) (take_few n calls few) at.label
+  made_of n = made_on (has_label at.files.database) s.version (take n calls) (take_later n calls labels) at.label
 
   low : g.steps old + calls_on_all s.version (take fails.whole calls) ≤ g.steps failed
   low =

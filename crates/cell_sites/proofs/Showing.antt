@@ -4,7 +4,6 @@ use Rattle.std.proofs.Common.{subst, ◌∙◌, arith}
 use Rattle.std.specs.Prelude.{slice_get, IsErrAnd}
 use Rattle.std.proofs.lemmas.List.{append-nil}
 use Rattle.db_image.specs.Database.{Database}
-use Rattle.db_image.specs.Standing.{Standing}
 use Rattle.disk_base.specs.declared.disks.Disk.{Ghosts}
 use Rattle.ubik_types.specs.declared.hosts.Host.{Host}
 use Rattle.ubik_types.specs.Lease.{lease_end}
@@ -13,7 +12,7 @@ use Rattle.cell_model.specs.Node as model
 use Rattle.cell_model.specs.Step.{Member, cell_size as member_size}
 use Rattle.cell_model.specs.World.{site_of}
 use Rattle.cell_runs.specs.declared.traces.Showing.{Showing}
-use Rattle.cell_runs.specs.Script.{Cell, Run_or_why, cell_size_of, shown_site, showing_of}
+use Rattle.cell_runs.specs.Script.{Cell, Run_or_why, cell_size_of, shown_site, showing_of, sound_choices}
 use Rattle.cell_runs.specs.ScriptDatabase.{ScriptDatabase}
 use Rattle.cell_runs.specs.Trace.{TraceItem, Shows, item_text, trace}
 use Rattle.cell_script.specs.declared.lines.Why.{Why}
@@ -21,7 +20,7 @@ use Rattle.cell_sites.specs.declared.faults.LineFault.{LineFault}
 use Rattle.cell_sites.specs.declared.faults.LineFault.TheVariants as fault
 use Rattle.cell_sites.specs.Disks.{Held, AreRises}
 use Rattle.cell_sites.specs.Sites.{IsModelledBy, helds, server_node}
-use Rattle.cell_sites.specs.Sound.{IsSound, IsSoundServer}
+use Rattle.cell_sites.specs.Sound.{IsSteady, IsSoundServer}
 use Rattle.cell_sites.specs.Told.{CellTold}
 use Rattle.cell_sites.specs.declared.cells.OpenCell.{OpenCell}
 use Rattle.cell_sites.specs.declared.sites.Server.{Server}
@@ -53,7 +52,8 @@ pub show_told : {D V : Type 0} {given : List ℕ} (g : Ghosts D) (db : ScriptDat
 show_told g db running c k site showing run hosts before after stands there same is does told =
     let items = shown_is running c k site showing stands there is in
     record {
-      choices = [];
+      choices = sound_choices;
+      whole = refl;
       ran = record { cell = c; items = shown_site (cell_size_of c) k (site_of c.run.world k); ending = None };
       is = does;
       ends = refl;
@@ -79,8 +79,8 @@ showing_up false n u = refl
 mine : {D V : Type 0} (g : Ghosts D) (m : Member) (clock : ℕ) (s : Server D V) (n : Node D V) → s ≡ server.Up n → IsSoundServer g m clock s → own_member n ≡ m
 mine {D} {V} g m clock s n is sound = (subst (λ (t : Server D V). IsSoundServer g m clock t) is sound).member
 
-pub shown_up : {D V : Type 0} {standing : Standing} {database : Database} {given : List ℕ} (g : Ghosts D) (bound : ℕ) (running : OpenCell D V) (c : Cell)
-    (k : ℕ) (site : Site D V) (n : Node D V) (showing : Option Showing) → IsSound g standing bound running → IsModelledBy g database given running c →
+pub shown_up : {D V : Type 0} {database : Database} {given : List ℕ} (g : Ghosts D) (bound : ℕ) (running : OpenCell D V) (c : Cell)
+    (k : ℕ) (site : Site D V) (n : Node D V) (showing : Option Showing) → IsSteady g bound running → IsModelledBy g database given running c →
     slice_get running.sites.items k ≡ Some site → site.server ≡ server.Up n → showing ≡ Some
     (record {
       version = (up_server n).version;

@@ -15,7 +15,6 @@ use Rattle.cell_sites.specs.declared.sites.Site.{Site}
 use Rattle.cell_sites.specs.declared.steps.SiteEnd.{SiteEnd}
 use Rattle.cell_sites.specs.declared.steps.SiteEnd.TheVariants as ended
 use Rattle.ubik_node.specs.Disk.{IsRevived}
-use Rattle.db_image.specs.Standing.{Standing}
 
 -- what was set is there
 get_set : {X : Type 0} (xs : List X) (k : ℕ) (y z : X) → slice_get xs k ≡ Some z → slice_get (set xs k y) k ≡ Some y
@@ -26,15 +25,15 @@ get_set (x ∷ xs) (suc k) y z there = get_set xs k y z there
 pub some_same : {X : Type 0} (a b : X) → Some a ≡ Some b → a ≡ b
 some_same a b is = cc
 
-module _ {D V : Type 0} {standing : Standing} (g : Ghosts D) (db : Database) (k : ℕ) (e : NodeEvent) (end : SiteEnd) (before mid : OpenCell D V)
-    (up : UpStepped g standing db k e end before mid) where
+module _ {D V : Type 0} (g : Ghosts D) (db : Database) (k : ℕ) (e : NodeEvent) (end : SiteEnd) (before mid : OpenCell D V)
+    (up : UpStepped g db k e end before mid) where
   becomes_up : (x : SiteEnd) → x ≢ ended.Stops → Becomes g x up.later mid.outputs (Up up.later) mid.outputs
   becomes_up ended.Made other = (refl, refl)
   becomes_up ended.Halts other = (refl, refl)
   becomes_up ended.Stops other = absurd (other refl)
   becomes_up ended.NoMemory other = (refl, refl)
 
-  pub stays_up : end ≢ ended.Stops → SiteStepped g standing db k e end before mid
+  pub stays_up : end ≢ ended.Stops → SiteStepped g db k e end before mid
   stays_up other =
       record {
         clock = up.clock;
@@ -58,7 +57,7 @@ module _ {D V : Type 0} {standing : Standing} (g : Ghosts D) (db : Database) (k 
       omega (arith, there, many)
 
   pub goes_down : end ≡ ended.Stops → (quiet after : OpenCell D V) → quiet.sites.items ≡ mid.sites.items → quiet.hosts.items ≡ mid.hosts.items
-      → quiet.packets ≡ mid.packets → quiet.outputs ≡ [] → TakenDown g k quiet after → SiteStepped g standing db k e end before after
+      → quiet.packets ≡ mid.packets → quiet.outputs ≡ [] → TakenDown g k quiet after → SiteStepped g db k e end before after
   goes_down is quiet after sites hosts packets none down =
       let was : Some (up_site up.clock up.later) ≡ Some (record { clock = down.clock; server = down.server }) =
       sym (get_set before.sites.items k (up_site up.clock up.later) (up_site up.clock up.node) up.there)

@@ -8,7 +8,7 @@ use Rattle.disk_base.specs.declared.disks.Disk.{Ghosts}
 use Rattle.ubik_types.specs.declared.hosts.Host.{Host}
 use Rattle.ubik_types.specs.Moment.{IsMoment}
 use Rattle.ubik_calls.specs.declared.packets.Packet.{Packet}
-use Rattle.cell_model.specs.Voters.{IsVotePacket}
+use Rattle.recovery_laws.specs.HasNoWrite.{IsRecoveryPacket}
 use Rattle.cell_model.specs.World.{are_near}
 use Rattle.cell_runs.specs.Script.{hosts_of}
 use Rattle.ubik_node.specs.declared.nodes.Node.{Node}
@@ -18,28 +18,27 @@ use Rattle.cell_sites.specs.declared.sites.Server.TheVariants.{Down, Up}
 use Rattle.cell_sites.specs.declared.sites.Site.{Site}
 use Rattle.cell_sites.specs.Places.{IsUpAt}
 use Rattle.cell_sites.specs.Sites.{site_disk}
-use Rattle.cell_sites.specs.Sound.{AreSound, IsSound, IsSoundDisk, IsSoundNode, IsSoundServer, IsSoundSite, clocks_in}
+use Rattle.cell_sites.specs.Sound.{AreSound, IsSteady, IsSoundDisk, IsSoundNode, IsSoundServer, IsSoundSite, clocks_in}
 use Rattle.cell_sites.specs.Stepped.{member_at, up_site}
 use Rattle.cell_sites.specs.Traffic.{Traffic, sent_all}
 use Rattle.cell_sites.proofs.AtPlace.{sound_at, sound_set}
 use Rattle.cell_sites.proofs.Hosts.{length-hosts_of}
-use Rattle.db_image.specs.Standing.{Standing}
 
 -- as many hosts as sites
-pub host_count : {D V : Type 0} {standing : Standing} (g : Ghosts D) (bound : ℕ) (running : OpenCell D V) → IsSound g standing bound running
+pub host_count : {D V : Type 0} (g : Ghosts D) (bound : ℕ) (running : OpenCell D V) → IsSteady g bound running
     → length running.hosts.items ≡ length running.sites.items
 host_count g bound running sound = ap length sound.hosts ∙ length-hosts_of (length running.sites.items)
 
 -- what is known of the server at a place that is up
-pub record IsHere {D V : Type 0} (g : Ghosts D) (standing : Standing) (bound : ℕ) (running : OpenCell D V) (k clock : ℕ) (node : Node D V) : Type 0 where
+pub record IsHere {D V : Type 0} (g : Ghosts D) (bound : ℕ) (running : OpenCell D V) (k clock : ℕ) (node : Node D V) : Type 0 where
   pub moment : IsMoment clock
   pub within : clock ≤ bound
   pub sound : IsSoundNode g (member_at running k) clock node
-  pub disk : IsSoundDisk g standing node.store.disk
+  pub disk : IsSoundDisk g node.store.disk
   pub me : k < length running.hosts.items
 
-pub here : {D V : Type 0} {standing : Standing} (g : Ghosts D) (bound : ℕ) (running : OpenCell D V) (k clock : ℕ) (node : Node D V)
-    → IsSound g standing bound running → slice_get running.sites.items k ≡ Some (up_site clock node) → IsHere g standing bound running k clock node
+pub here : {D V : Type 0} (g : Ghosts D) (bound : ℕ) (running : OpenCell D V) (k clock : ℕ) (node : Node D V)
+    → IsSteady g bound running → slice_get running.sites.items k ≡ Some (up_site clock node) → IsHere g bound running k clock node
 here g bound running k clock node sound there =
     let site = sound_at g running.hosts.items 0 bound running.sites.items k (up_site clock node) sound.sites there in
     let lt = slice_get_within running.sites.items k (up_site clock node) there in
@@ -62,33 +61,33 @@ clocks_set {D} {V} (x ∷ sites) zero site later there same =
 clocks_set (x ∷ sites) (suc k) site later there same = ap (λ (l : List ℕ). x.clock ∷ l) (clocks_set sites k site later there same)
 
 -- the cell stays sound, where another sound server takes the place of one
-pub sound_after : {D V : Type 0} {standing : Standing} (g : Ghosts D) (bound : ℕ) (before after : OpenCell D V) (k : ℕ) (site later : Site D V)
+pub sound_after : {D V : Type 0} (g : Ghosts D) (bound : ℕ) (before after : OpenCell D V) (k : ℕ) (site later : Site D V)
     (packets : List Packet)
-    → IsSound g standing bound before → slice_get before.sites.items k ≡ Some site → later.clock ≡ site.clock
-    → IsSoundServer g (member_at before k) later.clock later.server → IsSoundDisk g standing (site_disk later)
+    → IsSteady g bound before → slice_get before.sites.items k ≡ Some site → later.clock ≡ site.clock
+    → IsSoundServer g (member_at before k) later.clock later.server → IsSoundDisk g (site_disk later)
     → after.sites.items ≡ set before.sites.items k later → after.hosts.items ≡ before.hosts.items → after.packets ≡ sent_all before.packets packets
-    → All (IsVotePacket before.hosts.items) packets → after.outputs ≡ [] → IsSound g standing bound after
-sound_after {D} {V} {standing} g bound before after k site later packets sound there clock is disk sites hosts sent votes empty =
+    → All (IsRecoveryPacket before.hosts.items) packets → after.outputs ≡ [] → IsSteady g bound after
+sound_after {D} {V} g bound before after k site later packets sound there clock is disk sites hosts sent votes empty =
     let at = sound_at g before.hosts.items 0 bound before.sites.items k site sound.sites there in
     let many : length after.sites.items ≡ length before.sites.items = ap length sites ∙ length-set before.sites.items k later in
     let me : 0 + k ≡ k = omega arith in
     let within : later.clock ≤ bound = let w = at.within in omega (arith, w, clock) in
-    let one : IsSoundSite g standing (record { hosts = before.hosts.items; me = 0 + k }) bound later =
-    subst (λ (n : ℕ). IsSoundSite g standing (record { hosts = before.hosts.items; me = n }) bound later) (sym me)
+    let one : IsSoundSite g (record { hosts = before.hosts.items; me = 0 + k }) bound later =
+    subst (λ (n : ℕ). IsSoundSite g (record { hosts = before.hosts.items; me = n }) bound later) (sym me)
     (record { moment = subst IsMoment (sym clock) at.moment; within = within; server = is; disk = disk }) in
     record {
       some = let some = sound.some in omega (arith, some, many);
       few = let few = sound.few in omega (arith, few, many);
       hosts = hosts ∙ sound.hosts ∙ ap hosts_of (sym many);
       sites =
-          subst (λ (h : List Host). AreSound g standing h 0 bound after.sites.items) (sym hosts)
-          (subst (λ (l : List (Site D V)). AreSound g standing before.hosts.items 0 bound l) (sym sites)
+          subst (λ (h : List Host). AreSound g h 0 bound after.sites.items) (sym hosts)
+          (subst (λ (l : List (Site D V)). AreSound g before.hosts.items 0 bound l) (sym sites)
           (sound_set g before.hosts.items 0 bound before.sites.items k later sound.sites one));
       near = ap (λ (l : List (Site D V)). are_near (clocks_in l)) sites ∙ ap are_near (clocks_set before.sites.items k site later there clock) ∙ sound.near;
       packets =
-          subst (λ (h : List Host). All (IsVotePacket h) after.packets.sent) (sym hosts)
-          (subst (λ (t : Traffic). All (IsVotePacket before.hosts.items) t.sent) (sym sent)
-          (All-append (IsVotePacket before.hosts.items) before.packets.sent packets sound.packets votes));
+          subst (λ (h : List Host). All (IsRecoveryPacket h) after.packets.sent) (sym hosts)
+          (subst (λ (t : Traffic). All (IsRecoveryPacket before.hosts.items) t.sent) (sym sent)
+          (All-append (IsRecoveryPacket before.hosts.items) before.packets.sent packets sound.packets votes));
       told = empty;
     }
 
@@ -99,8 +98,8 @@ none_sent t =
     ∙ ap (λ (l : List Bool). record { sent = t.sent ++ []; handed = l }) (sym (append-nil t.handed))
 
 -- the disk of a site is sound
-pub disk_here : {D V : Type 0} {standing : Standing} (g : Ghosts D) (bound : ℕ) (running : OpenCell D V) (k : ℕ) (site : Site D V)
-    → IsSound g standing bound running → slice_get running.sites.items k ≡ Some site → IsSoundDisk g standing (site_disk site)
+pub disk_here : {D V : Type 0} (g : Ghosts D) (bound : ℕ) (running : OpenCell D V) (k : ℕ) (site : Site D V)
+    → IsSteady g bound running → slice_get running.sites.items k ≡ Some site → IsSoundDisk g (site_disk site)
 disk_here g bound running k site sound there = (sound_at g running.hosts.items 0 bound running.sites.items k site sound.sites there).disk
 
 -- the site at a place, as an index reads it

@@ -7,7 +7,6 @@ use Rattle.std.proofs.lemmas.List.{append-nil, length-set, length-map, map-set}
 use Rattle.std.proofs.Math.Seq.{map-set_same}
 use Rattle.std.proofs.lemmas.Option.{get_or_from_slice_get, slice_get_within}
 use Rattle.db_image.specs.Database.{Database}
-use Rattle.db_image.specs.Standing.{Standing}
 use Rattle.disk_base.specs.declared.disks.Disk.{Ghosts}
 use Rattle.ubik_types.specs.declared.hosts.Host.{Host}
 use Rattle.ubik_types.specs.declared.limits.TheConstants.{MAX_MOMENT}
@@ -15,13 +14,13 @@ use Rattle.cell_model.specs.Step.{Member}
 use Rattle.cell_model.specs.World.{Site as ModelSite, Tick, Tick_all, are_near, are_moments, clocks_of, may_tick, tick_at, ticked}
 use Rattle.cell_script.specs.declared.lines.Why.{Why}
 use Rattle.cell_script.specs.declared.lines.Why.TheVariants as why
-use Rattle.cell_runs.specs.Script.{Armed, Cell, Run_or_why, hosts_of, unless_skewed, with_event}
+use Rattle.cell_runs.specs.Script.{Armed, Cell, Run_or_why, hosts_of, unless_skewed, with_event, sound_choices}
 use Rattle.cell_runs.specs.ScriptDatabase.{ScriptDatabase}
 use Rattle.cell_sites.specs.Disks.{AreReadBy, Held, held}
 use Rattle.cell_sites.specs.Places.{IsNearAt, ticked_on}
 use Rattle.cell_sites.specs.Counts.{HoldRun}
 use Rattle.cell_sites.specs.Sites.{AreArmed, AreSitesOf, IsModelledBy, helds, site_disk}
-use Rattle.cell_sites.specs.Sound.{AreSound, IsSound, IsSoundServer, IsSoundSite, clocks_in}
+use Rattle.cell_sites.specs.Sound.{AreSound, IsSteady, IsSoundServer, IsSoundSite, clocks_in}
 use Rattle.cell_sites.specs.Told.{CellTold}
 use Rattle.cell_sites.specs.declared.cells.OpenCell.{OpenCell}
 use Rattle.cell_sites.specs.declared.sites.Server.{Server}
@@ -31,6 +30,7 @@ use Rattle.cell_sites.proofs.AtPlace.{rises_same, sites_all_ticked, sites_clocks
 use Rattle.cell_sites.proofs.Arming.{armed_here, armed_still}
 use Rattle.cell_sites.proofs.Counting.{hold_more, moved_same}
 use Rattle.cell_sites.proofs.Near.{moments_make, near_all, near_make, near_read, near_set, near_unset}
+use Rattle.cell_sites.proofs.Delivering.{set_same}
 use Rattle.cell_sites.proofs.Waiting.{items_with}
 
 -- ---- one site
@@ -40,10 +40,10 @@ pub server_later : {D V : Type 0} (g : Ghosts D) (m : Member) (clock later : ℕ
 server_later g m clock later (server.Down disk) le sound = sound
 server_later g m clock later (server.Up n) le sound =
     let last = sound.last in
-    record { last = omega (arith, last, le); member = sound.member; voter = sound.voter; stored = sound.stored }
+    record { last = omega (arith, last, le); member = sound.member; quiet = sound.quiet; stored = sound.stored }
 
-pub site_later : {D V : Type 0} {standing : Standing} (g : Ghosts D) (m : Member) (bound seconds : ℕ) (site : Site D V) → site.clock + seconds ≤ MAX_MOMENT
-    → IsSoundSite g standing m bound site → IsSoundSite g standing m (bound + seconds) (ticked_on seconds site)
+pub site_later : {D V : Type 0} (g : Ghosts D) (m : Member) (bound seconds : ℕ) (site : Site D V) → site.clock + seconds ≤ MAX_MOMENT
+    → IsSoundSite g m bound site → IsSoundSite g m (bound + seconds) (ticked_on seconds site)
 site_later g m bound seconds site fits sound =
     let some = sound.moment.some in
     let within = sound.within in
@@ -55,36 +55,36 @@ site_later g m bound seconds site fits sound =
       disk = sound.disk;
     }
 
-pub sound_weaker : {D V : Type 0} (g : Ghosts D) (standing : Standing) (hosts : List Host) (place bound more : ℕ) (sites : List (Site D V)) → bound ≤ more
-    → AreSound g standing hosts place bound sites → AreSound g standing hosts place more sites
-sound_weaker g standing hosts place bound more [] le sound = tt
-sound_weaker g standing hosts place bound more (site ∷ sites) le sound =
+pub sound_weaker : {D V : Type 0} (g : Ghosts D) (hosts : List Host) (place bound more : ℕ) (sites : List (Site D V)) → bound ≤ more
+    → AreSound g hosts place bound sites → AreSound g hosts place more sites
+sound_weaker g hosts place bound more [] le sound = tt
+sound_weaker g hosts place bound more (site ∷ sites) le sound =
     let within = sound.0.within in (
       record { moment = sound.0.moment; within = omega (arith, within, le); server = sound.0.server; disk = sound.0.disk },
-      sound_weaker g standing hosts (place + 1) bound more sites le sound.1,
+      sound_weaker g hosts (place + 1) bound more sites le sound.1,
     )
 
-sound_ticked : {D V : Type 0} (g : Ghosts D) (standing : Standing) (hosts : List Host) (place bound bound' seconds : ℕ) (sites : List (Site D V))
-    → bound + seconds ≤ MAX_MOMENT → AreSound g standing hosts place bound sites → AreSound g standing hosts place bound' sites
-    → AreSound g standing hosts place (bound' + seconds) (map (ticked_on seconds) sites)
-sound_ticked g standing hosts place bound bound' seconds [] fits sound sound' = tt
-sound_ticked g standing hosts place bound bound' seconds (site ∷ sites) fits sound sound' =
+sound_ticked : {D V : Type 0} (g : Ghosts D) (hosts : List Host) (place bound bound' seconds : ℕ) (sites : List (Site D V))
+    → bound + seconds ≤ MAX_MOMENT → AreSound g hosts place bound sites → AreSound g hosts place bound' sites
+    → AreSound g hosts place (bound' + seconds) (map (ticked_on seconds) sites)
+sound_ticked g hosts place bound bound' seconds [] fits sound sound' = tt
+sound_ticked g hosts place bound bound' seconds (site ∷ sites) fits sound sound' =
     let within = sound.0.within in (
       site_later g (record { hosts = hosts; me = place }) bound' seconds site (omega (arith, fits, within)) sound'.0,
-      sound_ticked g standing hosts (place + 1) bound bound' seconds sites fits sound.1 sound'.1,
+      sound_ticked g hosts (place + 1) bound bound' seconds sites fits sound.1 sound'.1,
     )
 
 -- ---- clocks
 
-moments_in : {D V : Type 0} (g : Ghosts D) (standing : Standing) (hosts : List Host) (place bound : ℕ) (sites : List (Site D V))
-    → AreSound g standing hosts place bound sites → (k : ℕ) → k < length (clocks_in sites)
+moments_in : {D V : Type 0} (g : Ghosts D) (hosts : List Host) (place bound : ℕ) (sites : List (Site D V))
+    → AreSound g hosts place bound sites → (k : ℕ) → k < length (clocks_in sites)
     → (0 < get_or (clocks_in sites) k 0) × (get_or (clocks_in sites) k 0 ≤ MAX_MOMENT)
-moments_in g standing hosts place bound [] sound k less = absurd (omega arith)
-moments_in g standing hosts place bound (site ∷ sites) sound zero less =
+moments_in g hosts place bound [] sound k less = absurd (omega arith)
+moments_in g hosts place bound (site ∷ sites) sound zero less =
     let fits = sound.0.moment.fits in
     let end : 2 ^ 31 ≡ 2147483648 = refl in
     (sound.0.moment.some, omega (arith, fits, end))
-moments_in g standing hosts place bound (site ∷ sites) sound (suc k) less = moments_in g standing hosts (place + 1) bound sites sound.1 k (omega arith)
+moments_in g hosts place bound (site ∷ sites) sound (suc k) less = moments_in g hosts (place + 1) bound sites sound.1 k (omega arith)
 
 clock_there : {D V : Type 0} (sites : List (Site D V)) (k : ℕ) (site : Site D V) → slice_get sites k ≡ Some site → get_or (clocks_in sites) k 0 ≡ site.clock
 clock_there [] k site there = cc
@@ -110,23 +110,23 @@ left_of true b is = refl
 left_of false b is = is
 
 -- clocks of a sound cell may be those after a tick
-pub may : {D V : Type 0} {standing : Standing} (g : Ghosts D) (bound : ℕ) (after : OpenCell D V) (ss : List ModelSite) → IsSound g standing bound after
+pub may : {D V : Type 0} (g : Ghosts D) (bound : ℕ) (after : OpenCell D V) (ss : List ModelSite) → IsSteady g bound after
     → AreSitesOf after.sites.items ss → may_tick ss ≡ true
-may {D} {V} {standing} g bound after ss sound are =
+may {D} {V} g bound after ss sound are =
     let clocks = sites_clocks after.sites.items ss are in
     subst (λ (l : List ℕ). (are_near l && are_moments l) ≡ true) (sym clocks)
     (both (are_near (clocks_in after.sites.items)) (are_moments (clocks_in after.sites.items)) sound.near
-    (moments_make (clocks_in after.sites.items) (moments_in g standing after.hosts.items 0 bound after.sites.items sound.sites)))
+    (moments_make (clocks_in after.sites.items) (moments_in g after.hosts.items 0 bound after.sites.items sound.sites)))
 
 -- ---- one clock
 
 abbrev pub ticked_at : {D V : Type 0} → OpenCell D V → ℕ → ℕ → Site D V → OpenCell D V
 ticked_at running k seconds site = record running { sites = with_item running.sites k (ticked_on seconds site) }
 
-pub tick_sound : {D V : Type 0} {standing : Standing} (g : Ghosts D) (bound most : ℕ) (running : OpenCell D V) (k seconds : ℕ) (site : Site D V)
-    → IsSound g standing bound running → site.clock + seconds ≤ MAX_MOMENT → slice_get running.sites.items k ≡ Some site
-    → IsNearAt running.sites.items k (site.clock + seconds) → IsSound g standing (bound + seconds) (ticked_at running k seconds site)
-tick_sound {D} {V} {standing} g bound most running k seconds site sound fits there near =
+pub tick_sound : {D V : Type 0} (g : Ghosts D) (bound most : ℕ) (running : OpenCell D V) (k seconds : ℕ) (site : Site D V)
+    → IsSteady g bound running → site.clock + seconds ≤ MAX_MOMENT → slice_get running.sites.items k ≡ Some site
+    → IsNearAt running.sites.items k (site.clock + seconds) → IsSteady g (bound + seconds) (ticked_at running k seconds site)
+tick_sound {D} {V} g bound most running k seconds site sound fits there near =
     let items = running.sites.items in
     let x = ticked_on seconds site in
     let same : length (set items k x) ≡ length items = length-set items k x in
@@ -141,7 +141,7 @@ tick_sound {D} {V} {standing} g bound most running k seconds site sound fits the
       few = omega (arith, few, same);
       hosts = sound.hosts ∙ ap hosts_of (sym same);
       sites = sound_set g running.hosts.items 0 (bound + seconds) items k x
-          (sound_weaker g standing running.hosts.items 0 bound (bound + seconds) items (omega arith) sound.sites)
+          (sound_weaker g running.hosts.items 0 bound (bound + seconds) items (omega arith) sound.sites)
           (site_later g (record { hosts = running.hosts.items; me = 0 + k }) bound seconds site fits
           (sound_at g running.hosts.items 0 bound items k site sound.sites there));
       near = ap are_near clocks ∙ near_make (set (clocks_in items) k x.clock)
@@ -154,6 +154,13 @@ tick_sound {D} {V} {standing} g bound most running k seconds site sound fits the
       packets = sound.packets;
       told = sound.told;
     }
+
+-- by no second
+pub tick_rests : {D V : Type 0} (running : OpenCell D V) (k seconds : ℕ) (site : Site D V) → slice_get running.sites.items k ≡ Some site → seconds ≡ 0
+    → (ticked_at running k seconds site).sites.items ≡ running.sites.items
+tick_rests {D} {V} running k seconds site there none =
+    let clock : site.clock + seconds ≡ site.clock = omega (arith, none) in
+    ap (λ (n : ℕ). set running.sites.items k (record site { clock = n })) clock ∙ set_same running.sites.items k site there
 
 none_more : {X : Type 0} (xs : List X) (handed : List Bool) → handed ++ replicate (length xs - length xs) false ≡ handed
 none_more xs handed =
@@ -214,8 +221,8 @@ tick_stands {D} {V} {given} gs db running c k seconds site stands there =
           (moved_same _ 0 (helds gs running) (λ j x. (0, refl, omega arith))));
     }
 
-pub tick_told : {D V : Type 0} {standing : Standing} {given : List ℕ} (g : Ghosts D) (db : ScriptDatabase) (bound : ℕ) (running : OpenCell D V) (c : Cell)
-    (k seconds : ℕ) (site : Site D V) (run : Run_or_why) (text : List ℕ) → IsSound g standing bound running → bound + seconds ≤ MAX_MOMENT → IsModelledBy g
+pub tick_told : {D V : Type 0} {given : List ℕ} (g : Ghosts D) (db : ScriptDatabase) (bound : ℕ) (running : OpenCell D V) (c : Cell)
+    (k seconds : ℕ) (site : Site D V) (run : Run_or_why) (text : List ℕ) → IsSteady g bound running → bound + seconds ≤ MAX_MOMENT → IsModelledBy g
     db.database given running c → slice_get running.sites.items k ≡ Some site → IsNearAt running.sites.items k (site.clock + seconds) → run ≡ unless_skewed db c
     (tick_at c.run.world.sites k seconds) (Tick k seconds) → CellTold g db given (λ choices. run) None running (ticked_at running k seconds site) text text
 tick_told g db bound running c k seconds site run text sound fits stands there near is =
@@ -223,7 +230,8 @@ tick_told g db bound running c k seconds site run text sound fits stands there n
     let within = at.within in
     let after = tick_sound g bound bound running k seconds site sound (omega (arith, within, fits)) there near in
     record {
-      choices = [];
+      choices = sound_choices;
+      whole = refl;
       ran = with_event db c (Tick k seconds);
       is = is ∙ ap (λ (b : Bool). if b then Ok (with_event db c (Tick k seconds)) else Err why.Skew)
           (may g (bound + seconds) (ticked_at running k seconds site) (tick_at c.run.world.sites k seconds) after
@@ -290,10 +298,22 @@ helds_all {D} {V} g running sites seconds are =
     ap (map (λ (s : Site D V). held g (site_disk s))) (all_items running sites seconds are)
     ∙ helds_of_ticked g running.sites.items seconds
 
-pub all_sound : {D V : Type 0} {standing : Standing} (g : Ghosts D) (bound bound' : ℕ) (running : OpenCell D V) (sites : List (Site D V)) (seconds : ℕ)
-    → sites ≡ map (ticked_on seconds) running.sites.items → IsSound g standing bound running → bound + seconds ≤ MAX_MOMENT → IsSound g standing bound' running
-    → IsSound g standing (bound' + seconds) (all_ticked running sites)
-all_sound {D} {V} {standing} g bound bound' running sites seconds are sound fits sound' =
+none_ticked : {D V : Type 0} (sites : List (Site D V)) (seconds : ℕ) → seconds ≡ 0 → map (ticked_on seconds) sites ≡ sites
+none_ticked [] seconds none = refl
+none_ticked {D} {V} (site ∷ sites) seconds none =
+    let clock : site.clock + seconds ≡ site.clock = omega (arith, none) in
+    ap (λ (n : ℕ). record site { clock = n } ∷ map (ticked_on seconds) sites) clock
+    ∙ ap (λ (l : List (Site D V)). site ∷ l) (none_ticked sites seconds none)
+
+-- by no second
+pub all_rests : {D V : Type 0} (running : OpenCell D V) (sites : List (Site D V)) (seconds : ℕ) → sites ≡ map (ticked_on seconds) running.sites.items
+    → seconds ≡ 0 → (all_ticked running sites).sites.items ≡ running.sites.items
+all_rests running sites seconds are none = all_items running sites seconds are ∙ none_ticked running.sites.items seconds none
+
+pub all_sound : {D V : Type 0} (g : Ghosts D) (bound bound' : ℕ) (running : OpenCell D V) (sites : List (Site D V)) (seconds : ℕ)
+    → sites ≡ map (ticked_on seconds) running.sites.items → IsSteady g bound running → bound + seconds ≤ MAX_MOMENT → IsSteady g bound' running
+    → IsSteady g (bound' + seconds) (all_ticked running sites)
+all_sound {D} {V} g bound bound' running sites seconds are sound fits sound' =
     let items = running.sites.items in
     let after = map (ticked_on seconds) items in
     let is = all_items running sites seconds are in
@@ -304,25 +324,26 @@ all_sound {D} {V} {standing} g bound bound' running sites seconds are sound fits
       some = omega (arith, some, same);
       few = omega (arith, few, same);
       hosts = sound.hosts ∙ ap hosts_of (sym same);
-      sites = subst (λ (l : List (Site D V)). AreSound g standing running.hosts.items 0 (bound' + seconds) l) (sym is)
-          (sound_ticked g standing running.hosts.items 0 bound bound' seconds items fits sound.sites sound'.sites);
+      sites = subst (λ (l : List (Site D V)). AreSound g running.hosts.items 0 (bound' + seconds) l) (sym is)
+          (sound_ticked g running.hosts.items 0 bound bound' seconds items fits sound.sites sound'.sites);
       near = ap (λ (l : List (Site D V)). are_near (clocks_in l)) is ∙ ap are_near (clocks_ticked items seconds)
           ∙ near_make (map (λ (n : ℕ). n + seconds) (clocks_in items)) (near_all (clocks_in items) seconds (near_read (clocks_in items) sound.near));
       packets = sound.packets;
       told = sound.told;
     }
 
-pub all_told : {D V : Type 0} {standing : Standing} {given : List ℕ} (g : Ghosts D) (db : ScriptDatabase) (bound : ℕ) (running : OpenCell D V)
-    (sites : List (Site D V)) (c : Cell) (seconds : ℕ) (text : List ℕ) → sites ≡ map (ticked_on seconds) running.sites.items → IsSound g standing bound running
+pub all_told : {D V : Type 0} {given : List ℕ} (g : Ghosts D) (db : ScriptDatabase) (bound : ℕ) (running : OpenCell D V)
+    (sites : List (Site D V)) (c : Cell) (seconds : ℕ) (text : List ℕ) → sites ≡ map (ticked_on seconds) running.sites.items → IsSteady g bound running
     → bound + seconds ≤ MAX_MOMENT → IsModelledBy g db.database given running c
     → CellTold g db given (λ choices. unless_skewed db c (map (ticked seconds) c.run.world.sites) (Tick_all seconds)) None running (all_ticked running sites)
     text text
-all_told {D} {V} {standing} {given} g db bound running sites c seconds text are sound fits stands =
+all_told {D} {V} {given} g db bound running sites c seconds text are sound fits stands =
     let is = all_items running sites seconds are in
     let ss = subst (λ (l : List (Site D V)). AreSitesOf l (map (ticked seconds) c.run.world.sites)) (sym is)
     (sites_all_ticked running.sites.items c.run.world.sites seconds stands.sites) in
     record {
-      choices = [];
+      choices = sound_choices;
+      whole = refl;
       ran = with_event db c (Tick_all seconds);
       is = ap (λ (b : Bool). if b then Ok (with_event db c (Tick_all seconds)) else Err why.Skew)
           (may g (bound + seconds) (all_ticked running sites) (map (ticked seconds) c.run.world.sites)
@@ -345,8 +366,8 @@ all_told {D} {V} {standing} {given} g db bound running sites c seconds text are 
       causes = rises_same (helds g running) (helds g (all_ticked running sites)) (helds_all g running sites seconds are);
     }
 
-pub fits_at : {D V : Type 0} {standing : Standing} (g : Ghosts D) (bound seconds : ℕ) (running : OpenCell D V) (k : ℕ) (site : Site D V)
-    → IsSound g standing bound running → bound + seconds ≤ MAX_MOMENT → slice_get running.sites.items k ≡ Some site → site.clock + seconds ≤ MAX_MOMENT
+pub fits_at : {D V : Type 0} (g : Ghosts D) (bound seconds : ℕ) (running : OpenCell D V) (k : ℕ) (site : Site D V)
+    → IsSteady g bound running → bound + seconds ≤ MAX_MOMENT → slice_get running.sites.items k ≡ Some site → site.clock + seconds ≤ MAX_MOMENT
 fits_at g bound seconds running k site sound fits there =
     let at = sound_at g running.hosts.items 0 bound running.sites.items k site sound.sites there in
     let within = at.within in

@@ -1,3 +1,4 @@
+pub mod Copies
 pub mod Counts
 pub mod Disks
 pub mod Opened
@@ -10,6 +11,7 @@ pub mod Sound
 pub mod Stepped
 pub mod Swept
 pub mod SweptTo
+pub mod Taken
 pub mod Telling
 pub mod Told
 pub mod Traffic

@@ -1,9 +1,8 @@
 -- The opening of a cell, server by server.
-use Rattle.std.specs.Prelude.{◌≡◌, ◌≤◌, ◌+◌, ◌++◌, ℕ, Bool, List, [], ◌∷◌, length, map, vec_capacity}
+use Rattle.std.specs.Prelude.{◌≡◌, ◌≢◌, ◌≤◌, ◌+◌, ◌++◌, ℕ, Bool, List, [], ◌∷◌, length, map, vec_capacity}
 use Rattle.disk_base.specs.declared.disks.Disk.{Ghosts}
 use Rattle.disk_base.specs.Stops.DiskStop.{Unarmed}
 use Rattle.ubik_types.specs.declared.limits.TheConstants.{MAXSERVERS}
-use Rattle.db_image.specs.Standing.{Standing}
 use Rattle.cell_model.specs.World.{first_site, first_seen}
 use Rattle.cell_script.specs.declared.lines.Kind.{Kind}
 use Rattle.cell_runs.specs.Script.{Choice, fails_at, hosts_of, opened_cell}
@@ -47,12 +46,12 @@ AreUnarmed g (site ∷ sites) = (g.stop (site_disk site) ≡ Unarmed) × AreUnar
 
 -- The first servers of a cell were opened over these disks, at a clock; where a disk failed in that, its server is down. What is told of
 -- that was added to a text, and each fault is one of its disk.
-pub record ArePartOpened {D V : Type 0} (g : Ghosts D) (standing : Standing) (db : ScriptDatabase) (clock : ℕ) (given : List D) (running : OpenCell D V)
+pub record ArePartOpened {D V : Type 0} (g : Ghosts D) (db : ScriptDatabase) (clock : ℕ) (given : List D) (running : OpenCell D V)
     (text_before text_after : List ℕ) : Type 0 where
   pub failed : List Bool
   pub each : length failed ≡ length given
   pub sites : AreSitesOf running.sites.items (map (first_site (length running.hosts.items) clock) failed)
-  pub sound : AreSound g standing running.hosts.items 0 clock running.sites.items
+  pub sound : AreSound g running.hosts.items 0 clock running.sites.items
   pub packets : running.packets ≡ no_traffic
   pub outputs : running.outputs ≡ []
   pub told : text_after ≡ text_before ++ trace db running.hosts.items (opening_items failed)
@@ -60,6 +59,7 @@ pub record ArePartOpened {D V : Type 0} (g : Ghosts D) (standing : Standing) (db
   pub read : AreReadBy (map (first_site (length running.hosts.items) clock) failed) (helds g running)
   pub counts : AreFirstCounts failed (counts_of g given) (helds g running)
   pub unarmed : AreUnarmed g running.sites.items
+  pub blocks : db.database.block ≢ 0
 
 -- one more disk has its place in the cell, and stands for no database still
 pub record IsAdded {D V : Type 0} (g : Ghosts D) (disk : D) (before after : OpenCell D V) : Type 0 where
@@ -68,10 +68,10 @@ pub record IsAdded {D V : Type 0} (g : Ghosts D) (disk : D) (before after : Open
   pub emptied : IsEmptied g disk kept
 
 -- A cell was opened, whose servers have these disks: it is that of some choices of where a disk fails.
-pub record IsOpened {D V : Type 0} (g : Ghosts D) (standing : Standing) (db : ScriptDatabase) (clock : ℕ) (k : Kind) (given : List D) (running : OpenCell D V)
+pub record IsOpened {D V : Type 0} (g : Ghosts D) (db : ScriptDatabase) (clock : ℕ) (k : Kind) (given : List D) (running : OpenCell D V)
     (text_before text_after : List ℕ) : Type 0 where
   pub choices : List Choice
   pub stands : IsModelledBy g db.database (counts_of g given) running (opened_cell (length given) clock k (fails_at (length given) choices))
-  pub sound : IsSound g standing clock running
+  pub sound : (asks : ℕ) → IsSound g db.database (record { clock = clock; asks = asks }) running
   pub told : text_after ≡ text_before ++ trace db running.hosts.items (opening_items (fails_at (length given) choices))
   pub causes : AreRises 0 (opening_items (fails_at (length given) choices)) (all_held g given) (helds g running)

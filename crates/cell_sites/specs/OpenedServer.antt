@@ -4,7 +4,6 @@ use Rattle.disk_base.specs.declared.disks.Disk.{Ghosts}
 use Rattle.disk_base.specs.Files.{Files}
 use Rattle.disk_base.specs.Stops.DiskStop.{Unarmed}
 use Rattle.ubik_store.specs.Opening.{OpensIn}
-use Rattle.db_image.specs.Standing.{Standing}
 use Rattle.cell_model.specs.Durable.{Durable, no_database}
 use Rattle.cell_model.specs.Node.{Down, Up, opened_server}
 use Rattle.cell_model.specs.Step.{Member}
@@ -48,10 +47,10 @@ ServerIs g m clock d opened.StaysDown disk server = (server_node server ≡ Down
 ServerIs g m clock d opened.NoMemory disk server = server_node server ≡ Down
 
 -- A server was opened over a disk whose files stand for a durable state, done or not: they stand for it still.
-pub record ServerOpens {D V : Type 0} (g : Ghosts D) (standing : Standing) (m : Member) (clock : ℕ) (d : Durable) (end : OpenEnd) (disk : D)
+pub record ServerOpens {D V : Type 0} (g : Ghosts D) (m : Member) (clock : ℕ) (d : Durable) (end : OpenEnd) (disk : D)
     (server : Server D V) : Type 0 where
   pub stands : IsSomeAnd (g.files (server_disk server)) (StandsAs d)
-  pub sound : IsSoundDisk g standing (server_disk server)
+  pub sound : IsSoundDisk g (server_disk server)
   pub calls : OpensDisk g (is_cut_short end) disk (server_disk server)
   pub unarmed : g.stop disk ≡ Unarmed → g.stop (server_disk server) ≡ Unarmed
   pub never_falls : g.faults disk ≤ g.faults (server_disk server)

@@ -2,7 +2,6 @@
 use Rattle.std.specs.Prelude.{◌≡◌, ◌≢◌, ◌++◌, ℕ, IsSomeAnd, Result, Ok, Some, List, [], ◌∷◌, map, set, slice_get}
 use Rattle.disk_base.specs.declared.disks.Disk.{Ghosts}
 use Rattle.ubik_types.specs.declared.memory.NoMemory.{NoMemory}
-use Rattle.db_image.specs.Standing.{Standing}
 use Rattle.cell_model.specs.Durable.{Durable}
 use Rattle.cell_model.specs.World.{Happening, Restarts, Stays_down}
 use Rattle.cell_runs.specs.ScriptDatabase.{ScriptDatabase}
@@ -23,14 +22,14 @@ reopened_marks k opened.StaysDown = Stays_down k ∷ []
 reopened_marks k opened.NoMemory = []
 
 -- The server at a place, which was down, was opened over its disk; nothing else of the cell changed.
-pub record SiteReopened {D V : Type 0} (g : Ghosts D) (standing : Standing) (db : ScriptDatabase) (k : ℕ) (result : Result (Unit {0}) NoMemory)
+pub record SiteReopened {D V : Type 0} (g : Ghosts D) (db : ScriptDatabase) (k : ℕ) (result : Result (Unit {0}) NoMemory)
     (before after : OpenCell D V) (text_before text_after : List ℕ) : Type 0 where
   pub clock : ℕ
   pub disk : D
   pub there : slice_get before.sites.items k ≡ Some (record { clock = clock; server = server.Down disk })
   pub end : OpenEnd
   pub server : Server D V
-  pub opens : (d : Durable) → IsSomeAnd (g.files disk) (StandsAs d) → ServerOpens g standing (member_at before k) clock d end disk server
+  pub opens : (d : Durable) → IsSomeAnd (g.files disk) (StandsAs d) → ServerOpens g (member_at before k) clock d end disk server
   pub sites : after.sites.items ≡ set before.sites.items k (record { clock = clock; server = server })
   pub hosts : after.hosts.items ≡ before.hosts.items
   pub packets : after.packets ≡ before.packets

@@ -1,75 +1,81 @@
 -- What is kept true of a running cell.
-use Rattle.std.specs.Prelude.{◌≡◌, ◌+◌, ◌≤◌, ℕ, true, false, IfSome, IsSome, All, List, [], ◌∷◌, length, map}
+use Rattle.std.specs.Prelude.{◌≡◌, ◌≢◌, ◌+◌, ◌≤◌, ℕ, true, false, IfSome, IsSome, All, List, [], ◌∷◌, length, map}
 use Rattle.disk_base.specs.declared.disks.Disk.{Ghosts}
 use Rattle.disk_base.specs.Crash.{IsSettled}
-use Rattle.disk_base.specs.Files.{Files}
 use Rattle.ubik_types.specs.declared.hosts.Host.{Host}
 use Rattle.ubik_types.specs.declared.limits.TheConstants.{MAXSERVERS}
 use Rattle.ubik_types.specs.Moment.{IsMoment}
-use Rattle.db_image.specs.Standing.{Standing}
-use Rattle.cell_model.specs.Durable.{Durable}
-use Rattle.cell_model.specs.Step.{Member}
-use Rattle.cell_model.specs.Voters.{IsVotePacket, IsVoter}
+use Rattle.db_image.specs.Database.{Database}
+use Rattle.cell_model.specs.Step.{Member, cell_size}
 use Rattle.cell_model.specs.World.{are_near}
-use Rattle.cell_runs.specs.Script.{hosts_of}
+use Rattle.cell_runs.specs.Script.{Cell, hosts_of}
+use Rattle.recovery_laws.specs.HasNoWrite.{HasNoWrite, IsRecoveryPacket}
+use Rattle.script_laws.specs.CellRuns.{IsWorldRun}
 use Rattle.ubik_store.specs.Gaps.{IsPlain}
-use Rattle.cell_sites.specs.Sites.{site_disk}
+use Rattle.cell_sites.specs.Sites.{IsModelledBy, site_disk}
 use Rattle.cell_sites.specs.declared.cells.OpenCell.{OpenCell}
 use Rattle.cell_sites.specs.declared.sites.Server.{Server}
 use Rattle.cell_sites.specs.declared.sites.Server.TheVariants as server
 use Rattle.cell_sites.specs.declared.sites.Site.{Site}
 use Rattle.ubik_node.specs.declared.nodes.Node.{Node}
-use Rattle.ubik_node.specs.Disk.{StandsAs}
 use Rattle.ubik_node.specs.Node.{own_member, up_server, IsStored}
 
--- A server that is up: it takes part in votes, and its store has its version and its image; or it is halted.
+-- A server that is up: it has no write in flight, and its store has its version and its image; or it is halted.
 pub record IsSoundNode {D V : Type 0} (g : Ghosts D) (m : Member) (clock : ℕ) (n : Node D V) : Type 0 where
   pub last : n.last ≤ clock
   pub member : own_member n ≡ m
-  pub voter : n.halted ≡ false → IsVoter m (up_server n)
+  pub quiet : n.halted ≡ false → HasNoWrite (cell_size m) (up_server n)
   pub stored : IsStored g n
 
 abbrev pub IsSoundServer : {D V : Type 0} → Ghosts D → Member → (clock : ℕ) → Server D V → Type 0
 IsSoundServer g m clock (server.Down disk) = Unit {0}
 IsSoundServer g m clock (server.Up node) = IsSoundNode g m clock node
 
--- an image stands for a state of the database
-abbrev pub IsMeantImage : Standing → List ℕ → Type 0
-IsMeantImage standing image = (s : standing.State) × standing.StandsFor image s
-
--- files stand for some durable state, whose image stands for a state of the database
-abbrev pub StandsForSome : Standing → Files → Type 0
-StandsForSome standing fs = (d : Durable) × StandsAs d fs × IsMeantImage standing d.image
-
--- Between two steps a disk tells its files, nothing is pending on it, a server can be opened over it however often that crashes, and the
--- database can make calls over its image.
-pub record IsSoundDisk {D : Type 0} (g : Ghosts D) (standing : Standing) (disk : D) : Type 0 where
+-- Between two steps a disk tells its files, nothing is pending on it, and a server can be opened over it however often that crashes.
+pub record IsSoundDisk {D : Type 0} (g : Ghosts D) (disk : D) : Type 0 where
   pub told : IsSome (g.files disk)
   pub settled : IsSettled (g.files disk) (g.may_leave disk)
   pub plain : IfSome (g.files disk) IsPlain
-  pub stands : IfSome (g.files disk) (StandsForSome standing)
 
-pub record IsSoundSite {D V : Type 0} (g : Ghosts D) (standing : Standing) (m : Member) (bound : ℕ) (site : Site D V) : Type 0 where
+pub record IsSoundSite {D V : Type 0} (g : Ghosts D) (m : Member) (bound : ℕ) (site : Site D V) : Type 0 where
   pub moment : IsMoment site.clock
   pub within : site.clock ≤ bound
   pub server : IsSoundServer g m site.clock site.server
-  pub disk : IsSoundDisk g standing (site_disk site)
+  pub disk : IsSoundDisk g (site_disk site)
 
 -- so each of these sites, the first of which has this place among the hosts
-abbrev pub AreSound : {D V : Type 0} → Ghosts D → Standing → List Host → (place bound : ℕ) → List (Site D V) → Type 0
-AreSound g standing hosts place bound [] = Unit {0}
-AreSound g standing hosts place bound (site ∷ sites) =
-    IsSoundSite g standing (record { hosts = hosts; me = place }) bound site × AreSound g standing hosts (place + 1) bound sites
+abbrev pub AreSound : {D V : Type 0} → Ghosts D → List Host → (place bound : ℕ) → List (Site D V) → Type 0
+AreSound g hosts place bound [] = Unit {0}
+AreSound g hosts place bound (site ∷ sites) =
+    IsSoundSite g (record { hosts = hosts; me = place }) bound site × AreSound g hosts (place + 1) bound sites
 
 abbrev pub clocks_in : {D V : Type 0} → List (Site D V) → List ℕ
 clocks_in sites = map (λ site. site.clock) sites
 
--- A running cell of 1 to 20 servers, whose clocks are near and at most this bound, and whose packets are all of votes.
-pub record IsSound {D V : Type 0} (g : Ghosts D) (standing : Standing) (bound : ℕ) (running : OpenCell D V) : Type 0 where
+-- A cell of 1 to 20 servers, whose clocks are near and at most this bound, and whose packets are all of votes or recovery.
+pub record IsSteady {D V : Type 0} (g : Ghosts D) (bound : ℕ) (running : OpenCell D V) : Type 0 where
   pub some : 1 ≤ length running.sites.items
   pub few : length running.sites.items ≤ MAXSERVERS
   pub hosts : running.hosts.items ≡ hosts_of (length running.sites.items)
-  pub sites : AreSound g standing running.hosts.items 0 bound running.sites.items
+  pub sites : AreSound g running.hosts.items 0 bound running.sites.items
   pub near : are_near (clocks_in running.sites.items) ≡ true
-  pub packets : All (IsVotePacket running.hosts.items) running.packets.sent
+  pub packets : All (IsRecoveryPacket running.hosts.items) running.packets.sent
   pub told : running.outputs ≡ []
+
+-- Behind the cell stands some run of the world, in which the ids of calls are at most this. So all that is proved of runs is known of it.
+pub record HasRun {D V : Type 0} (g : Ghosts D) (db : Database) (asks : ℕ) (running : OpenCell D V) : Type 0 where
+  pub given : List ℕ
+  pub cell : Cell
+  pub stands : IsModelledBy g db given running cell
+  pub run : IsWorldRun db asks cell
+
+-- what clocks, and the ids of calls, are at most
+pub record Bounds : Type 0 where
+  pub clock : ℕ
+  pub asks : ℕ
+
+-- a running cell, between two lines, of a database whose blocks have a length
+pub record IsSound {D V : Type 0} (g : Ghosts D) (db : Database) (bounds : Bounds) (running : OpenCell D V) : Type 0 where
+  pub steady : IsSteady g bounds.clock running
+  pub run : HasRun g db bounds.asks running
+  pub blocks : db.block ≢ 0

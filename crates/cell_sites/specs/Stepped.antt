@@ -4,7 +4,6 @@ use Rattle.disk_base.specs.declared.disks.Disk.{Ghosts}
 use Rattle.disk_base.specs.Files.{Files}
 use Rattle.disk_base.specs.Stops.{IsStopped}
 use Rattle.db_image.specs.Database.{Database}
-use Rattle.db_image.specs.Standing.{Standing}
 use Rattle.cell_model.specs.declared.events.NodeEvent.{NodeEvent}
 use Rattle.cell_model.specs.declared.events.Output.{Output}
 use Rattle.cell_model.specs.Step.{Member}
@@ -21,7 +20,7 @@ use Rattle.cell_sites.specs.declared.sites.Site.{Site}
 use Rattle.cell_sites.specs.declared.steps.SiteEnd.{SiteEnd}
 use Rattle.cell_sites.specs.declared.steps.SiteEnd.TheVariants as ended
 use Rattle.cell_sites.specs.Sites.{server_disk}
-use Rattle.cell_sites.specs.Sound.{IsSoundDisk, IsSoundNode, StandsForSome}
+use Rattle.cell_sites.specs.Sound.{IsSoundDisk, IsSoundNode}
 
 -- the server at a place of the cell
 abbrev pub member_at : {D V : Type 0} → OpenCell D V → ℕ → Member
@@ -32,21 +31,21 @@ abbrev pub up_site : {D V : Type 0} → ℕ → Node D V → Site D V
 up_site clock node = record { clock = clock; server = Up node }
 
 -- a server stays sound over a sound disk
-pub record StaysSound {D V : Type 0} (g : Ghosts D) (standing : Standing) (m : Member) (clock : ℕ) (later : Node D V) : Type 0 where
+pub record StaysSound {D V : Type 0} (g : Ghosts D) (m : Member) (clock : ℕ) (later : Node D V) : Type 0 where
   pub node : IsSoundNode g m clock later
-  pub disk : IsSoundDisk g standing later.store.disk
+  pub disk : IsSoundDisk g later.store.disk
 
 -- the step was made, or the server was halted before
-pub record IsMade {D V : Type 0} (g : Ghosts D) (standing : Standing) (db : Database) (m : Member) (clock : ℕ) (event : NodeEvent) (node later : Node D V)
+pub record IsMade {D V : Type 0} (g : Ghosts D) (db : Database) (m : Member) (clock : ℕ) (event : NodeEvent) (node later : Node D V)
     (out : List Output) : Type 0 where
   pub end : StepEnd
   pub ends : (end ≡ Done) ⊎ ((end ≡ Halted) × (node.halted ≡ true))
   pub steps : Steps g db m end event clock (node_of node) (node_of later) out node.store.disk later.store.disk
   pub calls : Calls g node later end
-  pub sound : StaysSound g standing m clock later
+  pub sound : StaysSound g m clock later
 
 -- the disk failed in it without a stop, and its files were opened anew
-pub record IsHalted {D V : Type 0} (g : Ghosts D) (standing : Standing) (db : Database) (m : Member) (clock : ℕ) (event : NodeEvent) (node later : Node D V)
+pub record IsHalted {D V : Type 0} (g : Ghosts D) (db : Database) (m : Member) (clock : ℕ) (event : NodeEvent) (node later : Node D V)
     (out : List Output) : Type 0 where
   pub failed : D
   pub was : node.halted ≡ false
@@ -54,40 +53,40 @@ pub record IsHalted {D V : Type 0} (g : Ghosts D) (standing : Standing) (db : Da
   pub running : ¬ IsStopped (g.stop failed)
   pub fault : g.faults node.store.disk < g.faults failed
   pub revived : IsRevived g failed later.store.disk
-  pub sound : StaysSound g standing m clock later
+  pub sound : StaysSound g m clock later
 
 -- the disk stopped in it, and is as it stopped: a server can be opened over what a crash leaves of it
-pub record IsStoppedIn {D V : Type 0} (g : Ghosts D) (standing : Standing) (db : Database) (m : Member) (clock : ℕ) (event : NodeEvent)
+pub record IsStoppedIn {D V : Type 0} (g : Ghosts D) (db : Database) (m : Member) (clock : ℕ) (event : NodeEvent)
     (node later : Node D V) (out : List Output) : Type 0 where
   pub was : node.halted ≡ false
   pub steps : Steps g db m Halted event clock (node_of node) (node_of later) out node.store.disk later.store.disk
   pub calls : Calls g node later Halted
   pub stopped : IsStopped (g.stop later.store.disk)
-  pub left : (fs : Files) → g.may_leave later.store.disk fs → IsPlain fs × StandsForSome standing fs
+  pub left : (fs : Files) → g.may_leave later.store.disk fs → IsPlain fs
   pub fault : g.faults node.store.disk < g.faults later.store.disk
 
 -- memory ran out in it, and nothing changed
-pub record IsShortIn {D V : Type 0} (g : Ghosts D) (standing : Standing) (db : Database) (m : Member) (clock : ℕ) (event : NodeEvent) (node later : Node D V)
+pub record IsShortIn {D V : Type 0} (g : Ghosts D) (db : Database) (m : Member) (clock : ℕ) (event : NodeEvent) (node later : Node D V)
     (out : List Output) : Type 0 where
   pub steps : Steps g db m NoMemory event clock (node_of node) (node_of later) out node.store.disk later.store.disk
-  pub sound : StaysSound g standing m clock later
+  pub sound : StaysSound g m clock later
 
 -- A server made a step of the rules at its clock, with these outputs, by how it ended for the cell.
-abbrev pub NodeStepped : {D V : Type 0} → Ghosts D → Standing → Database → Member → (clock : ℕ) → NodeEvent → SiteEnd → (node later : Node D V) → List Output
+abbrev pub NodeStepped : {D V : Type 0} → Ghosts D → Database → Member → (clock : ℕ) → NodeEvent → SiteEnd → (node later : Node D V) → List Output
     → Type 0
-NodeStepped g standing db m clock event ended.Made node later out = IsMade g standing db m clock event node later out
-NodeStepped g standing db m clock event ended.Halts node later out = IsHalted g standing db m clock event node later out
-NodeStepped g standing db m clock event ended.Stops node later out = IsStoppedIn g standing db m clock event node later out
-NodeStepped g standing db m clock event ended.NoMemory node later out = IsShortIn g standing db m clock event node later out
+NodeStepped g db m clock event ended.Made node later out = IsMade g db m clock event node later out
+NodeStepped g db m clock event ended.Halts node later out = IsHalted g db m clock event node later out
+NodeStepped g db m clock event ended.Stops node later out = IsStoppedIn g db m clock event node later out
+NodeStepped g db m clock event ended.NoMemory node later out = IsShortIn g db m clock event node later out
 
 -- The server at a place made such a step, and is there still, whatever its disk did; nothing else of the cell changed.
-pub record UpStepped {D V : Type 0} (g : Ghosts D) (standing : Standing) (db : Database) (k : ℕ) (event : NodeEvent) (end : SiteEnd)
+pub record UpStepped {D V : Type 0} (g : Ghosts D) (db : Database) (k : ℕ) (event : NodeEvent) (end : SiteEnd)
     (before after : OpenCell D V) : Type 0 where
   pub clock : ℕ
   pub node : Node D V
   pub there : slice_get before.sites.items k ≡ Some (up_site clock node)
   pub later : Node D V
-  pub step : NodeStepped g standing db (member_at before k) clock event end node later after.outputs
+  pub step : NodeStepped g db (member_at before k) clock event end node later after.outputs
   pub sites : after.sites.items ≡ set before.sites.items k (up_site clock later)
   pub hosts : after.hosts.items ≡ before.hosts.items
   pub packets : after.packets ≡ before.packets
@@ -99,14 +98,14 @@ Becomes g ended.Stops later out server left = ((disk : _) × (server ≡ Down di
 Becomes g _ later out server left = (server ≡ Up later) × (left ≡ out)
 
 -- The server at a place made such a step; nothing else of the cell changed.
-pub record SiteStepped {D V : Type 0} (g : Ghosts D) (standing : Standing) (db : Database) (k : ℕ) (event : NodeEvent) (end : SiteEnd)
+pub record SiteStepped {D V : Type 0} (g : Ghosts D) (db : Database) (k : ℕ) (event : NodeEvent) (end : SiteEnd)
     (before after : OpenCell D V) : Type 0 where
   pub clock : ℕ
   pub node : Node D V
   pub there : slice_get before.sites.items k ≡ Some (up_site clock node)
   pub later : Node D V
   pub out : List Output
-  pub step : NodeStepped g standing db (member_at before k) clock event end node later out
+  pub step : NodeStepped g db (member_at before k) clock event end node later out
   pub server : Server D V
   pub becomes : Becomes g end later out server after.outputs
   pub sites : after.sites.items ≡ set before.sites.items k (record { clock = clock; server = server })

@@ -3,12 +3,11 @@ use Rattle.std.specs.Prelude.{◌≡◌, ℕ, ◌+◌, ◌++◌, Bool, if◌then
 use Rattle.ubik_types.specs.declared.hosts.Host.{Host}
 use Rattle.ubik_calls.specs.declared.packets.Packet.{Packet}
 use Rattle.ubik_calls.specs.declared.replies.Reply.TheVariants as reply
-use Rattle.ubik_calls.specs.Length.{packet_length}
+use Rattle.ubik_calls.specs.Length.{HasShortBytes, packet_length}
 use Rattle.cell_model.specs.declared.events.Output.{Output}
 use Rattle.cell_model.specs.declared.events.Output.TheVariants as output
 use Rattle.cell_model.specs.Step.{Shown}
 use Rattle.cell_model.specs.World.{Happening, Halts, packet_of, seen_of_output}
-use Rattle.cell_model.specs.Voters.{IsOfVotes}
 use Rattle.cell_runs.specs.declared.endings.Ending.{Ending}
 use Rattle.cell_runs.specs.ScriptDatabase.{ScriptDatabase}
 use Rattle.cell_runs.specs.Script.{bytes_of, passed_by}
@@ -54,9 +53,9 @@ told_of script_db hosts k t [] = record { after = t; ending = None }
 told_of script_db hosts k t (one ∷ shown) =
     unless_passed t (passed_in t (packet_of one)) (told_of script_db hosts k (with_shown script_db hosts k t one) shown)
 
--- an output that may be told: a packet is one of votes
+-- an output that may be told: a packet has pieces that are no longer than the longest
 abbrev pub MayBeTold : Output → Type 0
-MayBeTold (output.Send packet) = IsOfVotes packet.body
+MayBeTold (output.Send packet) = HasShortBytes packet.body
 MayBeTold _ = Unit {0}
 
 abbrev pub IsNotShort : Output → Type 0

@@ -1,6 +1,6 @@
 //! A running cell: opened server by server, and closed.
 ghost use Rattle.std.specs.Prelude.{◌≡◌, ◌≢◌, ◌++◌, ◌≤◌, ◌<◌, ◌+◌, ◌∷◌, ℕ, List};
-ghost use Rattle.std.specs.Prelude.{[], length, map, IfOk, OnOk, Option, Some, vec_capacity, vec_len};
+ghost use Rattle.std.specs.Prelude.{[], length, IfOk, OnOk, Some, vec_capacity};
 ghost use Rattle.std.specs.String.{string_bytes};
 ghost use Rattle.disk_base.specs.Stops.DiskStop.{Unarmed};
 ghost use Rattle.disk_base.specs.Crash.{IsSettled};
@@ -21,8 +21,9 @@ use crate::openings::{OpenEnd, open_server};
 use crate::packets::Packets;
 use crate::sites::Site;
 use cell_runs::{Mark, tell_mark};
-use db_image::DraftWords;
+use db_image::{DraftWords, VecImage};
 use disk_base::StopDisk;
+use script_laws::law_cells_go_on;
 use std::alloc::Global;
 use ubik_node::{Outputs, SteadyDisk};
 use ubik_types::{Host, NoMemory};
@@ -50,8 +51,9 @@ impl<D: SteadyDisk + StopDisk, V: DraftWords> OpenCell<D, V> {
         ensures hosts { IfOk result (λ running. running.hosts.items ≡ hosts_of servers) }
         ensures none { IfOk result (λ running. running.sites.items ≡ []) }
         ensures opened { IfOk result (λ running. (clock : ℕ) (text : List ℕ) →
-            ArePartOpened D.Disk V.standing (script_database V.standing.database V.words) clock [] running text text) }
+            ArePartOpened D.Disk (script_database V.standing.database V.words) clock [] running text text) }
     {
+        has_blocks::<V>(alloc)?;
         let hosts = first_hosts(alloc, servers)?;
         let packets = Packets::new(alloc, &hosts)?;
         let outputs = Outputs::make(alloc)?;
@@ -65,13 +67,6 @@ impl<D: SteadyDisk + StopDisk, V: DraftWords> OpenCell<D, V> {
         })
     }
 
-    /// How many servers the cell has, where all of them were opened.
-    pub fn servers(&self) -> usize
-        ensures { result ≡ length self.now.sites.items }
-    {
-        self.sites.len()
-    }
-
     /// Opens the next server over its disk, at a clock. Where the disk fails the server stays down, which is told, and its disk is
     /// revived. The disk has its place in the cell also where memory ran out.
     pub fn open_next(&mut self, disk: D, clock: u32, text: &mut String) -> Result<(), NoMemory>
@@ -82,8 +77,8 @@ impl<D: SteadyDisk + StopDisk, V: DraftWords> OpenCell<D, V> {
         requires settled { IsSettled (D.files disk) (D.may_leave disk) }
         requires unarmed { D.stop disk ≡ Unarmed }
         ensures opened { OnOk result ((given : List D) (text_before : List ℕ) →
-            ArePartOpened D.Disk V.standing (script_database V.standing.database V.words) clock given self.old text_before (string_bytes text.old) →
-            ArePartOpened D.Disk V.standing (script_database V.standing.database V.words) clock (given ++ disk ∷ []) self.new
+            ArePartOpened D.Disk (script_database V.standing.database V.words) clock given self.old text_before (string_bytes text.old) →
+            ArePartOpened D.Disk (script_database V.standing.database V.words) clock (given ++ disk ∷ []) self.new
             text_before (string_bytes text.new)) }
         ensures added { IsAdded D.Disk disk self.old self.new }
         ensures room { HasRoom self.new }
@@ -118,6 +113,14 @@ impl<D: SteadyDisk + StopDisk, V: DraftWords> OpenCell<D, V> {
     }
 }
 
+/// The blocks of a database have a length, as each draft of it shows.
+fn has_blocks<V: DraftWords>(alloc: Global) -> Result<(), NoMemory>
+    ensures { OnOk result (V.standing.database.block ≢ 0) }
+{
+    let _draft = V::draft(alloc, VecImage::new(alloc, &[])?);
+    Ok(())
+}
+
 /// The hosts of the first servers.
 fn first_hosts(alloc: Global, servers: usize) -> Result<Vec<Host>, NoMemory>
     requires { servers ≤ MAXSERVERS }
@@ -147,6 +150,8 @@ fn tell_opened(server: u32, end: OpenEnd, text: &mut String) -> Result<(), NoMem
 pub fn law_cell_opened<D: SteadyDisk + StopDisk, V: DraftWords>()
     ensures { (db : ScriptDatabase) (clock : ℕ) (k : Kind) (given : List D) (running : AnOpenCell D V) (text_before text_after : List ℕ) →
         IsMoment clock → HasRoom running → length given ≡ length running.hosts.items →
-        ArePartOpened D.Disk V.standing db clock given running text_before text_after →
-        IsOpened D.Disk V.standing db clock k given running text_before text_after }
-{}
+        ArePartOpened D.Disk db clock given running text_before text_after →
+        IsOpened D.Disk db clock k given running text_before text_after }
+{
+    law_cells_go_on();
+}

@@ -1,34 +1,34 @@
 //! Packets that are handed to their receivers.
-ghost use Rattle.std.specs.Prelude.{◌≡◌, ◌≢◌, ◌<◌, ◌≤◌, ◌+◌, ◌-◌, ℕ, List, Some, None, IfOk, Ok, Err, false, length, slice_get, []};
+ghost use Rattle.std.specs.Prelude.{◌≡◌, ◌≢◌, ◌<◌, ◌≤◌, ◌+◌, ◌-◌, ℕ, List, Some, None, IfOk, Ok, Err, length, []};
 ghost use Rattle.std.specs.String.{string_bytes};
 ghost use Rattle.cell_model.specs.NodeRule.{place_of};
-ghost use Rattle.cell_model.specs.Voters.{IsOfVotes};
 ghost use Rattle.cell_runs.specs.declared.endings.Ending.TheVariants as ending;
 ghost use Rattle.cell_runs.specs.declared.endings.Which.{Which as AWhich};
 ghost use Rattle.cell_runs.specs.ScriptDatabase.{script_database};
-ghost use Rattle.cell_runs.specs.Script.{Cell, Cell_run, Choice, first_choice, delivered, at_packet, run_in};
+ghost use Rattle.cell_runs.specs.Script.{Cell, first_choice, delivered, run_in};
 ghost use Rattle.cell_script.specs.declared.lines.Line.TheVariants as line;
 ghost use Rattle.cell_script.specs.declared.lines.Why.{Why as AWhy};
-ghost use Rattle.cell_sites.specs.Counts.{HoldRun};
+ghost use Rattle.cell_sites.specs.Copies.{HasNoBytes, IsVoteOrWrite};
 ghost use Rattle.cell_sites.specs.Disks.{AreRises};
 ghost use Rattle.cell_sites.specs.Sites.{IsModelledBy, helds};
-ghost use Rattle.cell_sites.specs.Sound.{IsSound};
+ghost use Rattle.cell_sites.specs.Sound.{Bounds, IsSound};
 ghost use Rattle.cell_sites.specs.Told.{CellTold, IsRefused, IsShort};
 
 use crate::cells::OpenCell;
 use crate::faults::LineFault;
 use cell_runs::{MAX_PACKETS, Mark, tell_mark};
-use cell_script::Why;
 use db_image::DraftWords;
 use disk_base::StopDisk;
+use script_laws::law_cells_go_on;
+use std::alloc::Global;
 use ubik_calls::{Body, Packet};
 use ubik_node::{NodeEvent, SteadyDisk};
-use ubik_types::Host;
+use ubik_types::{Host, NoMemory, bytes_of};
 
 impl<D: SteadyDisk + StopDisk, V: DraftWords> OpenCell<D, V> {
     /// Hands the packet of a number to its receiver, whether it waits or not. A server that is down loses it.
     pub fn deliver(&mut self, number: u64, text: &mut String) -> Result<(), LineFault>
-        requires { (bound : ℕ) × IsSound D.Disk V.standing bound self.old }
+        requires { (bounds : Bounds) × IsSound D.Disk V.standing.database bounds self.old }
         ensures told { result ≡ Ok tt → (given : List ℕ) (c : Cell) → IsModelledBy D.Disk V.standing.database given self.old c →
             CellTold D.Disk (script_database V.standing.database V.words) given
             (λ choices. run_in (script_database V.standing.database V.words) c choices (line.Deliver number))
@@ -45,7 +45,8 @@ impl<D: SteadyDisk + StopDisk, V: DraftWords> OpenCell<D, V> {
         ensures short { result ≡ Err LineFault.NoMemory → (given : List ℕ) (c : Cell) → IsModelledBy D.Disk V.standing.database given self.old c →
             IsShort D.Disk V.standing.database given
             (λ choices. run_in (script_database V.standing.database V.words) c choices (line.Deliver number)) c self.old self.new }
-        ensures sound { result ≡ Ok tt → (bound : ℕ) → IsSound D.Disk V.standing bound self.old → IsSound D.Disk V.standing bound self.new }
+        ensures sound { result ≡ Ok tt → (bounds : Bounds) → IsSound D.Disk V.standing.database bounds self.old →
+            IsSound D.Disk V.standing.database bounds self.new }
         ensures never_falls { AreRises 0 [] (helds D.Disk self.old) (helds D.Disk self.new) }
         ensures same { length self.new.sites.items ≡ length self.old.sites.items }
     {
@@ -56,7 +57,7 @@ impl<D: SteadyDisk + StopDisk, V: DraftWords> OpenCell<D, V> {
     /// Hands all packets that wait to their receivers, the lowest number first, those among them that are sent meanwhile. There are no
     /// more of them than a script may send.
     pub fn deliver_all(&mut self, text: &mut String) -> Result<(), LineFault>
-        requires { (bound : ℕ) × IsSound D.Disk V.standing bound self.old }
+        requires { (bounds : Bounds) × IsSound D.Disk V.standing.database bounds self.old }
         ensures told { result ≡ Ok tt → (given : List ℕ) (c : Cell) → IsModelledBy D.Disk V.standing.database given self.old c →
             CellTold D.Disk (script_database V.standing.database V.words) given
             (λ choices. run_in (script_database V.standing.database V.words) c choices line.DeliverAll)
@@ -70,7 +71,8 @@ impl<D: SteadyDisk + StopDisk, V: DraftWords> OpenCell<D, V> {
         ensures short { result ≡ Err LineFault.NoMemory → (given : List ℕ) (c : Cell) → IsModelledBy D.Disk V.standing.database given self.old c →
             IsShort D.Disk V.standing.database given
             (λ choices. run_in (script_database V.standing.database V.words) c choices line.DeliverAll) c self.old self.new }
-        ensures sound { result ≡ Ok tt → (bound : ℕ) → IsSound D.Disk V.standing bound self.old → IsSound D.Disk V.standing bound self.new }
+        ensures sound { result ≡ Ok tt → (bounds : Bounds) → IsSound D.Disk V.standing.database bounds self.old →
+            IsSound D.Disk V.standing.database bounds self.new }
         ensures never_falls { AreRises 0 [] (helds D.Disk self.old) (helds D.Disk self.new) }
         ensures same { length self.new.sites.items ≡ length self.old.sites.items }
     {
@@ -85,7 +87,7 @@ impl<D: SteadyDisk + StopDisk, V: DraftWords> OpenCell<D, V> {
 
     /// Hands over a packet that was sent.
     fn deliver_sent(&mut self, number: u32, text: &mut String) -> Result<(), LineFault>
-        requires sound { (bound : ℕ) × IsSound D.Disk V.standing bound self.old }
+        requires sound { (bounds : Bounds) × IsSound D.Disk V.standing.database bounds self.old }
         requires some { 0 < number }
         requires sent { number ≤ length self.old.packets.sent }
         ensures told { result ≡ Ok tt → (given : List ℕ) (c : Cell) → IsModelledBy D.Disk V.standing.database given self.old c →
@@ -101,15 +103,14 @@ impl<D: SteadyDisk + StopDisk, V: DraftWords> OpenCell<D, V> {
         ensures short { result ≡ Err LineFault.NoMemory → (given : List ℕ) (c : Cell) → IsModelledBy D.Disk V.standing.database given self.old c →
             IsShort D.Disk V.standing.database given
             (λ choices. Ok (delivered (script_database V.standing.database V.words) c (first_choice choices) number)) c self.old self.new }
-        ensures sound { result ≡ Ok tt → (bound : ℕ) → IsSound D.Disk V.standing bound self.old → IsSound D.Disk V.standing bound self.new }
+        ensures sound { result ≡ Ok tt → (bounds : Bounds) → IsSound D.Disk V.standing.database bounds self.old →
+            IsSound D.Disk V.standing.database bounds self.new }
         ensures never_falls { AreRises 0 [] (helds D.Disk self.old) (helds D.Disk self.new) }
         ensures same { length self.new.sites.items ≡ length self.old.sites.items }
-        // A packet of votes leaves what the disks hold.
-        ensures keeps { (given : List ℕ) (c : Cell) → HoldRun V.standing.database given false c (helds D.Disk self.old) →
-            HoldRun V.standing.database given false c (helds D.Disk self.new) }
     {
+        law_cells_go_on();
         self.packets.hand_over(number);
-        let packet = copy_of_votes(self.packets.packet(number));
+        let packet = copy_of(self.alloc, self.packets.packet(number))?;
         let Some(k) = place_of(&self.hosts, packet.to) else {
             unreachable!();
         };
@@ -129,12 +130,89 @@ fn place_of(hosts: &[Host], host: Host) -> Option<usize>
     hosts.iter().position(|other| other.0 == host.0)
 }
 
-/// A copy of a packet of votes, for which no memory is taken.
-fn copy_of_votes(packet: &Packet) -> Packet
-    requires { IsOfVotes packet.now.body }
-    ensures { result ≡ packet.now }
+/// A copy of a packet, and of the bytes that it carries.
+fn copy_of(alloc: Global, packet: &Packet) -> Result<Packet, NoMemory>
+    ensures { IfOk result (λ copy. copy ≡ packet.now) }
 {
-    let body = match packet.body {
+    let body = match &packet.body {
+        Body::Piece {
+            poll,
+            version,
+            total,
+            offset,
+            bytes,
+        } => Body::Piece {
+            poll: *poll,
+            version: *version,
+            total: *total,
+            offset: *offset,
+            bytes: bytes_of(alloc, bytes.as_slice())?,
+        },
+        Body::SendPiece {
+            poll,
+            version,
+            total,
+            offset,
+            bytes,
+        } => Body::SendPiece {
+            poll: *poll,
+            version: *version,
+            total: *total,
+            offset: *offset,
+            bytes: bytes_of(alloc, bytes.as_slice())?,
+        },
+        Body::PutPiece { new, number, bytes } => Body::PutPiece {
+            new: *new,
+            number: *number,
+            bytes: bytes_of(alloc, bytes.as_slice())?,
+        },
+        body => copy_without_bytes(body),
+    };
+    Ok(Packet {
+        from: packet.from,
+        to: packet.to,
+        body,
+    })
+}
+
+/// A copy of a body that carries no bytes.
+fn copy_without_bytes(body: &Body) -> Body
+    requires { HasNoBytes body.now }
+    ensures { result ≡ body.now }
+{
+    match *body {
+        Body::GetVersion { poll } => Body::GetVersion { poll },
+        Body::VersionIs { poll, version } => Body::VersionIs { poll, version },
+        Body::GetPiece {
+            poll,
+            version,
+            offset,
+        } => Body::GetPiece {
+            poll,
+            version,
+            offset,
+        },
+        Body::PieceKept {
+            poll,
+            version,
+            next,
+        } => Body::PieceKept {
+            poll,
+            version,
+            next,
+        },
+        Body::SetVersion { poll, old, new } => Body::SetVersion { poll, old, new },
+        Body::VersionKept { version } => Body::VersionKept { version },
+        _ => copy_of_vote_or_write(body),
+    }
+}
+
+/// A copy of a body of votes, or of one of writes that carries no bytes.
+fn copy_of_vote_or_write(body: &Body) -> Body
+    requires { IsVoteOrWrite body.now }
+    ensures { result ≡ body.now }
+{
+    match *body {
         Body::Beacon {
             start,
             claim,
@@ -147,11 +225,19 @@ fn copy_of_votes(packet: &Packet) -> Packet
             version,
         },
         Body::Vote { start, yes } => Body::Vote { start, yes },
+        Body::Begin {
+            old,
+            new,
+            pieces,
+            len,
+        } => Body::Begin {
+            old,
+            new,
+            pieces,
+            len,
+        },
+        Body::Commit { old, new } => Body::Commit { old, new },
+        Body::Abort { new } => Body::Abort { new },
         _ => unreachable!(),
-    };
-    Packet {
-        from: packet.from,
-        to: packet.to,
-        body,
     }
 }

@@ -6,13 +6,14 @@ ghost use Rattle.cell_script.specs.declared.lines.Line.TheVariants as line;
 ghost use Rattle.cell_script.specs.declared.lines.Why.{Why as AWhy};
 ghost use Rattle.cell_sites.specs.Disks.{AreRises};
 ghost use Rattle.cell_sites.specs.Sites.{IsModelledBy, helds};
-ghost use Rattle.cell_sites.specs.Sound.{IsSound};
+ghost use Rattle.cell_sites.specs.Sound.{Bounds, IsSound};
 ghost use Rattle.cell_sites.specs.Told.{CellTold, IsRefused};
 
 use crate::cells::OpenCell;
 use cell_script::Why;
 use db_image::DraftWords;
 use disk_base::StopDisk;
+use script_laws::law_cells_go_on;
 use ubik_node::SteadyDisk;
 
 impl<D: SteadyDisk + StopDisk, V: DraftWords> OpenCell<D, V> {
@@ -30,7 +31,7 @@ impl<D: SteadyDisk + StopDisk, V: DraftWords> OpenCell<D, V> {
 
     /// The packet of a number waits no longer.
     pub fn drop_packet(&mut self, number: u64) -> Result<(), Why>
-        requires { (bound : ℕ) × IsSound D.Disk V.standing bound self.old }
+        requires { (bounds : Bounds) × IsSound D.Disk V.standing.database bounds self.old }
         ensures told { result ≡ Ok tt → (given : List ℕ) (c : Cell) (text : List ℕ) → IsModelledBy D.Disk V.standing.database given self.old c →
             CellTold D.Disk (script_database V.standing.database V.words) given
             (λ choices. run_in (script_database V.standing.database V.words) c choices (line.Drop number))
@@ -38,10 +39,11 @@ impl<D: SteadyDisk + StopDisk, V: DraftWords> OpenCell<D, V> {
         ensures refused { (why : AWhy) → result ≡ Err why → (self.new ≡ self.old)
             × ((given : List ℕ) (c : Cell) → IsModelledBy D.Disk V.standing.database given self.old c → IsRefused why
             (λ choices. run_in (script_database V.standing.database V.words) c choices (line.Drop number))) }
-        ensures sound { (bound : ℕ) → IsSound D.Disk V.standing bound self.old → IsSound D.Disk V.standing bound self.new }
+        ensures sound { (bounds : Bounds) → IsSound D.Disk V.standing.database bounds self.old → IsSound D.Disk V.standing.database bounds self.new }
         ensures never_falls { AreRises 0 [] (helds D.Disk self.old) (helds D.Disk self.new) }
         ensures same { length self.new.sites.items ≡ length self.old.sites.items }
     {
+        law_cells_go_on();
         let number = self.sent_number(number)?;
         self.packets.hand_over(number);
         Ok(())
@@ -49,7 +51,7 @@ impl<D: SteadyDisk + StopDisk, V: DraftWords> OpenCell<D, V> {
 
     /// The packets to and from a server that is up wait no longer.
     pub fn drop_all(&mut self, server: u64) -> Result<(), Why>
-        requires { (bound : ℕ) × IsSound D.Disk V.standing bound self.old }
+        requires { (bounds : Bounds) × IsSound D.Disk V.standing.database bounds self.old }
         ensures told { result ≡ Ok tt → (given : List ℕ) (c : Cell) (text : List ℕ) → IsModelledBy D.Disk V.standing.database given self.old c →
             CellTold D.Disk (script_database V.standing.database V.words) given
             (λ choices. run_in (script_database V.standing.database V.words) c choices (line.DropAll server))
@@ -57,10 +59,11 @@ impl<D: SteadyDisk + StopDisk, V: DraftWords> OpenCell<D, V> {
         ensures refused { (why : AWhy) → result ≡ Err why → (self.new ≡ self.old)
             × ((given : List ℕ) (c : Cell) → IsModelledBy D.Disk V.standing.database given self.old c → IsRefused why
             (λ choices. run_in (script_database V.standing.database V.words) c choices (line.DropAll server))) }
-        ensures sound { (bound : ℕ) → IsSound D.Disk V.standing bound self.old → IsSound D.Disk V.standing bound self.new }
+        ensures sound { (bounds : Bounds) → IsSound D.Disk V.standing.database bounds self.old → IsSound D.Disk V.standing.database bounds self.new }
         ensures never_falls { AreRises 0 [] (helds D.Disk self.old) (helds D.Disk self.new) }
         ensures same { length self.new.sites.items ≡ length self.old.sites.items }
     {
+        law_cells_go_on();
         let k = self.place_up(server)?;
         let host = self.hosts[k];
         self.packets.drop_all(host);

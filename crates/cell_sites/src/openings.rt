@@ -1,6 +1,5 @@
 //! The opening of a server over its disk.
-ghost use Rattle.std.specs.Prelude.{◌≡◌, ◌≢◌, ◌<◌, ◌≤◌, IfSome, IsSome, IsSomeAnd, length, true};
-ghost use Rattle.disk_base.specs.Crash.{IsSettled};
+ghost use Rattle.std.specs.Prelude.{◌≡◌, ◌<◌, ◌≤◌, IsSomeAnd, length};
 ghost use Rattle.ubik_types.specs.declared.limits.TheConstants.{MAXSERVERS};
 ghost use Rattle.ubik_types.specs.Moment.{IsMoment};
 ghost use Rattle.cell_model.specs.Durable.{Durable};
@@ -10,9 +9,9 @@ ghost use Rattle.cell_sites.specs.Sound.{IsSoundDisk};
 ghost use Rattle.ubik_node.specs.Disk.{StandsAs};
 
 use crate::sites::Server;
-use cell_model::law_voters_vote;
 use db_image::DraftWords;
 use disk_base::{Refused, StopDisk};
+use recovery_laws::law_recovery_spreads;
 use std::alloc::Global;
 use ubik_node::{Node, SteadyDisk, StoreFault};
 use ubik_types::{Cell, Host, Version};
@@ -40,11 +39,11 @@ pub(crate) fn open_server<D: SteadyDisk + StopDisk, V: DraftWords>(
     requires few { length hosts.now ≤ MAXSERVERS }
     requires me { me < length hosts.now }
     requires moment { IsMoment clock }
-    requires sound { IsSoundDisk D.Disk V.standing disk }
+    requires sound { IsSoundDisk D.Disk disk }
     ensures { (d : Durable) → IsSomeAnd (D.files disk) (StandsAs d)
-        → ServerOpens D.Disk V.standing (record { hosts = hosts.now; me = me }) clock d result.1 disk result.0 }
+        → ServerOpens D.Disk (record { hosts = hosts.now; me = me }) clock d result.1 disk result.0 }
 {
-    law_voters_vote();
+    law_recovery_spreads();
     let Ok(cell) = Cell::new(alloc, hosts) else {
         return (Server::Down(disk), OpenEnd::NoMemory);
     };

@@ -12,7 +12,7 @@ ghost use Rattle.cell_sites.specs.Disks.{AreRises};
 ghost use Rattle.cell_sites.specs.Places.{IsDownAt};
 ghost use Rattle.cell_sites.specs.Reopened.{SiteReopened, reopened_marks};
 ghost use Rattle.cell_sites.specs.Sites.{IsModelledBy, helds};
-ghost use Rattle.cell_sites.specs.Sound.{IsSound};
+ghost use Rattle.cell_sites.specs.Sound.{Bounds, IsSound};
 ghost use Rattle.cell_sites.specs.Stepped.{TakenDown};
 ghost use Rattle.cell_sites.specs.Told.{CellTold, IsRefused, IsShort};
 
@@ -24,13 +24,14 @@ use cell_runs::{Mark, tell_mark};
 use cell_script::Why;
 use db_image::DraftWords;
 use disk_base::{Fill, StopDisk};
+use script_laws::law_cells_go_on;
 use ubik_node::SteadyDisk;
 use ubik_types::NoMemory;
 
 impl<D: SteadyDisk + StopDisk, V: DraftWords> OpenCell<D, V> {
     /// Has the disk of a server that is up stop after so many further changing calls, and then leave its files so.
     pub fn stop(&mut self, server: u64, calls: u32, fill: Fill) -> Result<(), Why>
-        requires { (bound : ℕ) × IsSound D.Disk V.standing bound self.old }
+        requires { (bounds : Bounds) × IsSound D.Disk V.standing.database bounds self.old }
         ensures told { result ≡ Ok tt → (given : List ℕ) (c : Cell) (text : List ℕ) → IsModelledBy D.Disk V.standing.database given self.old c →
             CellTold D.Disk (script_database V.standing.database V.words) given
             (λ choices. run_in (script_database V.standing.database V.words) c choices (line.Stop server calls fill))
@@ -38,10 +39,11 @@ impl<D: SteadyDisk + StopDisk, V: DraftWords> OpenCell<D, V> {
         ensures refused { (why : AWhy) → result ≡ Err why → (self.new ≡ self.old)
             × ((given : List ℕ) (c : Cell) → IsModelledBy D.Disk V.standing.database given self.old c → IsRefused why
             (λ choices. run_in (script_database V.standing.database V.words) c choices (line.Stop server calls fill))) }
-        ensures sound { (bound : ℕ) → IsSound D.Disk V.standing bound self.old → IsSound D.Disk V.standing bound self.new }
+        ensures sound { (bounds : Bounds) → IsSound D.Disk V.standing.database bounds self.old → IsSound D.Disk V.standing.database bounds self.new }
         ensures never_falls { AreRises 0 [] (helds D.Disk self.old) (helds D.Disk self.new) }
         ensures same { length self.new.sites.items ≡ length self.old.sites.items }
     {
+        law_cells_go_on();
         let k = self.place_up(server)?;
         let Server::Up(node) = &mut self.sites[k].server else {
             unreachable!();
@@ -52,7 +54,7 @@ impl<D: SteadyDisk + StopDisk, V: DraftWords> OpenCell<D, V> {
 
     /// Takes a server that is up down; its disk is revived.
     pub fn crash(&mut self, server: u64) -> Result<(), Why>
-        requires { (bound : ℕ) × IsSound D.Disk V.standing bound self.old }
+        requires { (bounds : Bounds) × IsSound D.Disk V.standing.database bounds self.old }
         ensures told { result ≡ Ok tt → (given : List ℕ) (c : Cell) (text : List ℕ) → IsModelledBy D.Disk V.standing.database given self.old c →
             CellTold D.Disk (script_database V.standing.database V.words) given
             (λ choices. run_in (script_database V.standing.database V.words) c choices (line.Crash server))
@@ -60,10 +62,11 @@ impl<D: SteadyDisk + StopDisk, V: DraftWords> OpenCell<D, V> {
         ensures refused { (why : AWhy) → result ≡ Err why → (self.new ≡ self.old)
             × ((given : List ℕ) (c : Cell) → IsModelledBy D.Disk V.standing.database given self.old c → IsRefused why
             (λ choices. run_in (script_database V.standing.database V.words) c choices (line.Crash server))) }
-        ensures sound { (bound : ℕ) → IsSound D.Disk V.standing bound self.old → IsSound D.Disk V.standing bound self.new }
+        ensures sound { (bounds : Bounds) → IsSound D.Disk V.standing.database bounds self.old → IsSound D.Disk V.standing.database bounds self.new }
         ensures never_falls { AreRises 0 [] (helds D.Disk self.old) (helds D.Disk self.new) }
         ensures same { length self.new.sites.items ≡ length self.old.sites.items }
     {
+        law_cells_go_on();
         let k = self.place_up(server)?;
         self.take_down(k);
         Ok(())
@@ -72,7 +75,7 @@ impl<D: SteadyDisk + StopDisk, V: DraftWords> OpenCell<D, V> {
     /// Opens a server that is down at its clock, and tells its version. Where the disk fails in that, the server stays down, which is told, and
     /// its disk is revived.
     pub fn restart(&mut self, server: u64, text: &mut String) -> Result<(), LineFault>
-        requires { (bound : ℕ) × IsSound D.Disk V.standing bound self.old }
+        requires { (bounds : Bounds) × IsSound D.Disk V.standing.database bounds self.old }
         ensures told { result ≡ Ok tt → (given : List ℕ) (c : Cell) → IsModelledBy D.Disk V.standing.database given self.old c →
             CellTold D.Disk (script_database V.standing.database V.words) given
             (λ choices. run_in (script_database V.standing.database V.words) c choices (line.Restart server))
@@ -85,19 +88,21 @@ impl<D: SteadyDisk + StopDisk, V: DraftWords> OpenCell<D, V> {
         ensures short { result ≡ Err LineFault.NoMemory → (given : List ℕ) (c : Cell) → IsModelledBy D.Disk V.standing.database given self.old c →
             IsShort D.Disk V.standing.database given
             (λ choices. run_in (script_database V.standing.database V.words) c choices (line.Restart server)) c self.old self.new }
-        ensures sound { result ≡ Ok tt → (bound : ℕ) → IsSound D.Disk V.standing bound self.old → IsSound D.Disk V.standing bound self.new }
+        ensures sound { result ≡ Ok tt → (bounds : Bounds) → IsSound D.Disk V.standing.database bounds self.old →
+            IsSound D.Disk V.standing.database bounds self.new }
         ensures never_falls { AreRises 0 [] (helds D.Disk self.old) (helds D.Disk self.new) }
         ensures same { length self.new.sites.items ≡ length self.old.sites.items }
     {
+        law_cells_go_on();
         let k = self.place_down(server)?;
         Ok(self.reopen(k, text)?)
     }
 
     /// Opens the server at a place, which is down.
     fn reopen(&mut self, k: usize, text: &mut String) -> Result<(), NoMemory>
-        requires sound { (bound : ℕ) × IsSound D.Disk V.standing bound self.old }
+        requires sound { (bounds : Bounds) × IsSound D.Disk V.standing.database bounds self.old }
         requires down { IsDownAt self.old k }
-        ensures { SiteReopened D.Disk V.standing (script_database V.standing.database V.words) k result self.old self.new
+        ensures { SiteReopened D.Disk (script_database V.standing.database V.words) k result self.old self.new
             (string_bytes text.old) (string_bytes text.new) }
     {
         let Site { clock, server } = self.sites.remove(k);

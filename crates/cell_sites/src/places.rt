@@ -1,5 +1,5 @@
 //! The place of a server in a cell.
-ghost use Rattle.std.specs.Prelude.{◌≡◌, ◌-◌, ◌<◌, ℕ, IfOk, MatchBool, MatchResult, Ok, Err, length};
+ghost use Rattle.std.specs.Prelude.{◌≡◌, ◌+◌, ◌-◌, ◌<◌, ℕ, IfOk, MatchBool, MatchResult, Ok, Err, length};
 ghost use Rattle.cell_runs.specs.Script.{Cell, Cell_run, Run_or_why, at_down, at_server, at_up, cell_size_of};
 ghost use Rattle.cell_sites.specs.Places.{IsDownAt, IsUpAt};
 ghost use Rattle.cell_sites.specs.Sites.{AreSitesOf};
@@ -15,6 +15,7 @@ impl<D: SteadyDisk + StopDisk, V: DraftWords> OpenCell<D, V> {
     /// The place of the server of a number, which is counted from 1.
     pub(crate) fn place(&self, server: u64) -> Result<usize, Why>
         ensures place { IfOk result (λ k. (k ≡ server - 1) × (k < length self.now.sites.items)) }
+        ensures some { IfOk result (λ k. k + 1 ≡ server) }
         ensures there { (c : Cell) (does : ℕ → Run_or_why) → cell_size_of c ≡ length self.now.sites.items →
             MatchResult result (λ k. at_server c server does ≡ does k) (λ why. at_server c server does ≡ Err why) }
     {
@@ -27,6 +28,7 @@ impl<D: SteadyDisk + StopDisk, V: DraftWords> OpenCell<D, V> {
     /// The same of a server that is up.
     pub(crate) fn place_up(&self, server: u64) -> Result<usize, Why>
         ensures place { IfOk result (λ k. (k ≡ server - 1) × IsUpAt self.now k) }
+        ensures some { IfOk result (λ k. k + 1 ≡ server) }
         ensures up { (c : Cell) (does : ℕ → Cell_run) → cell_size_of c ≡ length self.now.sites.items → AreSitesOf self.now.sites.items c.run.world.sites →
             MatchResult result (λ k. at_up c server does ≡ Ok (does k)) (λ why. at_up c server does ≡ Err why) }
     {

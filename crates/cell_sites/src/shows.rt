@@ -7,7 +7,7 @@ ghost use Rattle.cell_runs.specs.declared.endings.Which.{Which};
 ghost use Rattle.cell_script.specs.declared.lines.Line.TheVariants as line;
 ghost use Rattle.cell_script.specs.declared.lines.Why.{Why};
 ghost use Rattle.cell_sites.specs.Sites.{IsModelledBy};
-ghost use Rattle.cell_sites.specs.Sound.{IsSound};
+ghost use Rattle.cell_sites.specs.Sound.{Bounds, IsSound};
 ghost use Rattle.cell_sites.specs.Told.{CellTold, IsRefused, IsShort};
 
 use crate::cells::OpenCell;
@@ -21,7 +21,7 @@ use ubik_node::SteadyDisk;
 impl<D: SteadyDisk + StopDisk, V: DraftWords> OpenCell<D, V> {
     /// Tells the state of a server: of a halted one what it kept.
     pub fn show(&self, server: u64, text: &mut String) -> Result<(), LineFault>
-        requires { (bound : ℕ) × IsSound D.Disk V.standing bound self.now }
+        requires { (bounds : Bounds) × IsSound D.Disk V.standing.database bounds self.now }
         ensures told { result ≡ Ok tt → (given : List ℕ) (c : Cell) → IsModelledBy D.Disk V.standing.database given self.now c →
             CellTold D.Disk (script_database V.standing.database V.words) given
             (λ choices. run_in (script_database V.standing.database V.words) c choices (line.Show server)) None self.now self.now

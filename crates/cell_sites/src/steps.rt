@@ -1,43 +1,44 @@
 //! Steps of one server: its turns, and the calls that it is asked.
-ghost use Rattle.std.specs.Prelude.{◌≡◌, ◌≢◌, ◌<◌, ◌≤◌, ◌+◌, ◌-◌, ◌++◌, ℕ, List, Some, None, All, OnOk, IfOk, Ok, Err, false, length, filter_map, []};
+ghost use Rattle.std.specs.Prelude.{not, ◌≡◌, ◌≢◌, ◌<◌, ◌+◌, ◌-◌, ◌&&◌, ℕ, List, Some, None, All, Ok, Err, false, length, filter_map, []};
 ghost use Rattle.std.specs.String.{string_bytes};
-ghost use Rattle.cell_model.specs.Step.{Shown, cell_size, outputs_of};
+ghost use Rattle.cell_model.specs.Step.{Shown, cell_size, is_ready, outputs_of};
 ghost use Rattle.cell_model.specs.World.{Trigger, occasion, packet_in};
-ghost use Rattle.ubik_calls.specs.declared.packets.Packet.{Packet as APacket};
 ghost use Rattle.cell_sites.specs.Telling.{IsNotShort, MayBeTold, WholeTold, told_of};
 ghost use Rattle.cell_sites.specs.Traffic.{sent_all};
-ghost use Rattle.cell_model.specs.Voters.{AnswersCall, AsksNoOther, IsTaken};
+ghost use Rattle.cell_model.specs.Voters.{AnswersCall, AsksNoOther};
 ghost use Rattle.cell_runs.specs.declared.endings.Ending.TheVariants as ending;
 ghost use Rattle.cell_runs.specs.declared.endings.Which.{Which as AWhich};
 ghost use Rattle.cell_runs.specs.ScriptDatabase.{script_database};
-ghost use Rattle.cell_runs.specs.Script.{Cell, Choice, first_choice, stepped, run_in, asked_at};
+ghost use Rattle.cell_runs.specs.Script.{Cell, first_choice, stepped, run_in, asked_at, cell_size_of, does_write, is_later_write};
 ghost use Rattle.cell_script.specs.declared.lines.Line.TheVariants as line;
 ghost use Rattle.cell_script.specs.declared.lines.Why.{Why as AWhy};
-ghost use Rattle.cell_sites.specs.Counts.{HoldRun};
 ghost use Rattle.cell_sites.specs.Disks.{AreRises};
 ghost use Rattle.cell_sites.specs.Places.{IsUpAt};
-ghost use Rattle.cell_sites.specs.Sites.{IsModelledBy, helds};
-ghost use Rattle.cell_sites.specs.Sound.{IsSound, IsSoundDisk, IsSoundNode};
-ghost use Rattle.cell_sites.specs.Stepped.{NodeStepped, SiteStepped, UpStepped, member_at};
+ghost use Rattle.cell_sites.specs.Sites.{AreSitesOf, IsModelledBy, helds};
+ghost use Rattle.cell_sites.specs.Sound.{Bounds, IsSound, IsSoundDisk, IsSoundNode, IsSteady};
+ghost use Rattle.cell_sites.specs.Stepped.{NodeStepped, SiteStepped, UpStepped};
+ghost use Rattle.cell_sites.specs.Taken.{IsTakenAt, IsTakenBy};
 ghost use Rattle.cell_sites.specs.Told.{CellTold, IsRefused, IsShort};
-ghost use Rattle.ubik_node.specs.Node.{own_member};
+ghost use Rattle.ubik_node.specs.Node.{Needs, node_of, own_member, up_server};
 ghost use Rattle.ubik_types.specs.Moment.{IsMoment};
 
 use crate::cells::OpenCell;
 use crate::faults::LineFault;
 use crate::sites::Server;
 use crate::telling::tell_outputs;
-use cell_model::law_voters_vote;
 use cell_runs::{Mark, tell_mark};
+use cell_script::Why;
 use db_image::DraftWords;
 use disk_base::StopDisk;
+use recovery_laws::{law_images_stand, law_memory_is_told, law_recovery_spreads};
+use script_laws::law_cells_go_on;
 use ubik_node::{Node, NodeEvent, Outputs, SteadyDisk, StepEnd};
-use ubik_types::{Bytes, bytes_of};
+use ubik_types::{Bytes, Phase, bytes_of};
 
 impl<D: SteadyDisk + StopDisk, V: DraftWords> OpenCell<D, V> {
     /// A beacon turn of a server, which is counted from 1.
     pub fn beacon(&mut self, server: u64, text: &mut String) -> Result<(), LineFault>
-        requires { (bound : ℕ) × IsSound D.Disk V.standing bound self.old }
+        requires { (bounds : Bounds) × IsSound D.Disk V.standing.database bounds self.old }
         ensures told { result ≡ Ok tt → (given : List ℕ) (c : Cell) → IsModelledBy D.Disk V.standing.database given self.old c →
             CellTold D.Disk (script_database V.standing.database V.words) given
             (λ choices. run_in (script_database V.standing.database V.words) c choices (line.Beacon server))
@@ -54,18 +55,19 @@ impl<D: SteadyDisk + StopDisk, V: DraftWords> OpenCell<D, V> {
         ensures short { result ≡ Err LineFault.NoMemory → (given : List ℕ) (c : Cell) → IsModelledBy D.Disk V.standing.database given self.old c →
             IsShort D.Disk V.standing.database given
             (λ choices. run_in (script_database V.standing.database V.words) c choices (line.Beacon server)) c self.old self.new }
-        ensures sound { result ≡ Ok tt → (bound : ℕ) → IsSound D.Disk V.standing bound self.old → IsSound D.Disk V.standing bound self.new }
+        ensures sound { result ≡ Ok tt → (bounds : Bounds) → IsSound D.Disk V.standing.database bounds self.old →
+            IsSound D.Disk V.standing.database bounds self.new }
         ensures never_falls { AreRises 0 [] (helds D.Disk self.old) (helds D.Disk self.new) }
         ensures same { length self.new.sites.items ≡ length self.old.sites.items }
     {
+        law_cells_go_on();
         let k = self.place_up(server)?;
         self.step(k, NodeEvent::BeaconTurn, &[], text)
     }
 
-    /// A recovery turn of the server of a cell of one.
+    /// A recovery turn of a server.
     pub fn recover(&mut self, server: u64, text: &mut String) -> Result<(), LineFault>
-        requires sound { (bound : ℕ) × IsSound D.Disk V.standing bound self.old }
-        requires alone { length self.old.sites.items ≡ 1 }
+        requires { (bounds : Bounds) × IsSound D.Disk V.standing.database bounds self.old }
         ensures told { result ≡ Ok tt → (given : List ℕ) (c : Cell) → IsModelledBy D.Disk V.standing.database given self.old c →
             CellTold D.Disk (script_database V.standing.database V.words) given
             (λ choices. run_in (script_database V.standing.database V.words) c choices (line.Recover server))
@@ -82,10 +84,12 @@ impl<D: SteadyDisk + StopDisk, V: DraftWords> OpenCell<D, V> {
         ensures short { result ≡ Err LineFault.NoMemory → (given : List ℕ) (c : Cell) → IsModelledBy D.Disk V.standing.database given self.old c →
             IsShort D.Disk V.standing.database given
             (λ choices. run_in (script_database V.standing.database V.words) c choices (line.Recover server)) c self.old self.new }
-        ensures sound { result ≡ Ok tt → (bound : ℕ) → IsSound D.Disk V.standing bound self.old → IsSound D.Disk V.standing bound self.new }
+        ensures sound { result ≡ Ok tt → (bounds : Bounds) → IsSound D.Disk V.standing.database bounds self.old →
+            IsSound D.Disk V.standing.database bounds self.new }
         ensures never_falls { AreRises 0 [] (helds D.Disk self.old) (helds D.Disk self.new) }
         ensures same { length self.new.sites.items ≡ length self.old.sites.items }
     {
+        law_cells_go_on();
         let k = self.place_up(server)?;
         self.step(k, NodeEvent::RecoverTurn, &[], text)
     }
@@ -98,7 +102,7 @@ impl<D: SteadyDisk + StopDisk, V: DraftWords> OpenCell<D, V> {
         call: Bytes,
         text: &mut String,
     ) -> Result<(), LineFault>
-        requires { (bound : ℕ) × IsSound D.Disk V.standing bound self.old }
+        requires { (bounds : Bounds) × IsSound D.Disk V.standing.database bounds self.old }
         ensures told { result ≡ Ok tt → (given : List ℕ) (c : Cell) → IsModelledBy D.Disk V.standing.database given self.old c →
             CellTold D.Disk (script_database V.standing.database V.words) given
             (λ choices. asked_at (script_database V.standing.database V.words) c (first_choice choices) id call (Some server))
@@ -115,13 +119,34 @@ impl<D: SteadyDisk + StopDisk, V: DraftWords> OpenCell<D, V> {
         ensures short { result ≡ Err LineFault.NoMemory → (given : List ℕ) (c : Cell) → IsModelledBy D.Disk V.standing.database given self.old c →
             IsShort D.Disk V.standing.database given
             (λ choices. asked_at (script_database V.standing.database V.words) c (first_choice choices) id call (Some server)) c self.old self.new }
-        ensures sound { result ≡ Ok tt → (bound : ℕ) → IsSound D.Disk V.standing bound self.old → IsSound D.Disk V.standing bound self.new }
+        ensures sound { result ≡ Ok tt → (bounds : Bounds) → bounds.asks < id → IsSound D.Disk V.standing.database bounds self.old →
+            IsSound D.Disk V.standing.database (record bounds { asks = id }) self.new }
         ensures never_falls { AreRises 0 [] (helds D.Disk self.old) (helds D.Disk self.new) }
         ensures same { length self.new.sites.items ≡ length self.old.sites.items }
     {
+        law_cells_go_on();
         let k = self.place_up(server)?;
-        let asked = bytes_of(self.alloc, call.as_slice())?;
-        self.step(k, NodeEvent::Ask { id, call: asked }, call.as_slice(), text)
+        let bytes = call.as_slice();
+        if self.is_later_write(k, bytes) {
+            return Err(LineFault::Refused(Why::Unbuilt));
+        }
+        let asked = bytes_of(self.alloc, bytes)?;
+        self.step(k, NodeEvent::Ask { id, call: asked }, bytes, text)
+    }
+
+    /// Whether a call at the server of a place is not built yet: it writes, and the server serves calls in a cell of several servers.
+    fn is_later_write(&self, k: usize, call: &[u8]) -> bool
+        requires up { IsUpAt self.now k }
+        ensures { (c : Cell) → cell_size_of c ≡ length self.now.sites.items → AreSitesOf self.now.sites.items c.run.world.sites →
+            result ≡ is_later_write V.standing.database c (k + 1) call.now }
+    {
+        let Server::Up(node) = &self.sites[k].server else {
+            unreachable!();
+        };
+        let several = self.sites.len() > 1;
+        let serves = serves_calls(node);
+        let writes = does_write(V::writes(call));
+        several && serves && writes
     }
 
     /// A step of a server that is up, at its clock; `call` is what the event asks, if it asks something.
@@ -132,9 +157,9 @@ impl<D: SteadyDisk + StopDisk, V: DraftWords> OpenCell<D, V> {
         call: &[u8],
         text: &mut String,
     ) -> Result<(), LineFault>
-        requires sound { (bound : ℕ) × IsSound D.Disk V.standing bound self.old }
+        requires sound { (bounds : Bounds) × IsSound D.Disk V.standing.database bounds self.old }
         requires up { IsUpAt self.old k }
-        requires taken { IsTaken (member_at self.old k) event }
+        requires taken { IsTakenAt V.standing.database self.old k event }
         requires asks { AsksNoOther event call.now }
         ensures told { result ≡ Ok tt →
             (given : List ℕ) (c : Cell) (trigger : Trigger) → IsModelledBy D.Disk V.standing.database given self.old c →
@@ -154,15 +179,12 @@ impl<D: SteadyDisk + StopDisk, V: DraftWords> OpenCell<D, V> {
             occasion c.run.world trigger ≡ Some (k, event) →
             IsShort D.Disk V.standing.database given
             (λ choices. Ok (stepped (script_database V.standing.database V.words) c (first_choice choices) trigger)) c self.old self.new }
-        ensures sound { result ≡ Ok tt → (bound : ℕ) → IsSound D.Disk V.standing bound self.old → IsSound D.Disk V.standing bound self.new }
+        ensures steady { result ≡ Ok tt → (bound : ℕ) → IsSteady D.Disk bound self.old → IsSteady D.Disk bound self.new }
         ensures never_falls { AreRises 0 [] (helds D.Disk self.old) (helds D.Disk self.new) }
-        // A packet of votes leaves what the disks hold.
-        ensures keeps { (packet : APacket) → event ≡ NodeEvent.Packet packet →
-            (given : List ℕ) (c : Cell) → HoldRun V.standing.database given false c (helds D.Disk self.old) →
-            HoldRun V.standing.database given false c (helds D.Disk self.new) }
         ensures same { length self.new.sites.items ≡ length self.old.sites.items }
     {
-        law_voters_vote();
+        law_recovery_spreads();
+        law_memory_is_told();
         match self.step_site(k, event) {
             SiteEnd::NoMemory => Err(LineFault::NoMemory),
             SiteEnd::Made => self.tell_step(k, false, call, text),
@@ -183,7 +205,7 @@ impl<D: SteadyDisk + StopDisk, V: DraftWords> OpenCell<D, V> {
         text: &mut String,
     ) -> Result<(), LineFault>
         requires place { k < 20 }
-        requires votes { All MayBeTold self.old.outputs }
+        requires short { All MayBeTold self.old.outputs }
         ensures told { result ≡ Ok tt → (shown : List Shown) → outputs_of shown ≡ self.old.outputs → All (λ one. AnswersCall call.now one) shown →
             WholeTold (script_database V.standing.database V.words) self.old.hosts.items k halts
             (record { text = string_bytes text.old; sent = self.old.packets.sent }) shown (string_bytes text.new) self.new.packets.sent }
@@ -217,10 +239,10 @@ impl<D: SteadyDisk + StopDisk, V: DraftWords> OpenCell<D, V> {
     /// A step of a server that is up, at its clock, which leaves what it put out. Where its disk fails, the files are opened anew; where that
     /// stopped, the server is down, and what it put out is dropped.
     fn step_site(&mut self, k: usize, event: NodeEvent) -> SiteEnd
-        requires sound { (bound : ℕ) × IsSound D.Disk V.standing bound self.old }
+        requires sound { (bounds : Bounds) × IsSound D.Disk V.standing.database bounds self.old }
         requires up { IsUpAt self.old k }
-        requires taken { IsTaken (member_at self.old k) event }
-        ensures { SiteStepped D.Disk V.standing V.standing.database k event result self.old self.new }
+        requires taken { IsTakenAt V.standing.database self.old k event }
+        ensures { SiteStepped D.Disk V.standing.database k event result self.old self.new }
     {
         let end = self.step_up(k, event);
         if let SiteEnd::Stops = end {
@@ -232,17 +254,35 @@ impl<D: SteadyDisk + StopDisk, V: DraftWords> OpenCell<D, V> {
 
     /// The step alone: a server whose disk stopped is up still.
     fn step_up(&mut self, k: usize, event: NodeEvent) -> SiteEnd
-        requires sound { (bound : ℕ) × IsSound D.Disk V.standing bound self.old }
+        requires sound { (bounds : Bounds) × IsSound D.Disk V.standing.database bounds self.old }
         requires up { IsUpAt self.old k }
-        requires taken { IsTaken (member_at self.old k) event }
-        ensures { UpStepped D.Disk V.standing V.standing.database k event result self.old self.new }
+        requires taken { IsTakenAt V.standing.database self.old k event }
+        ensures { UpStepped D.Disk V.standing.database k event result self.old self.new }
     {
+        law_images_stand::<V>();
         let site = &mut self.sites[k];
         let clock = site.clock;
         let Server::Up(node) = &mut site.server else {
             unreachable!();
         };
         step_node(node, clock, event, &mut self.outputs)
+    }
+}
+
+/// Whether a server serves calls, as its last step left it.
+fn serves_calls<D: SteadyDisk + StopDisk, V: DraftWords>(node: &Node<D, V>) -> bool
+    ensures { result ≡ (not node.now.halted && is_ready (up_server node.now).phase) }
+{
+    !node.halted() && node.phase() == Phase::Ready
+}
+
+/// Whether a call writes, where it is one.
+fn does_write(writes: Option<bool>) -> bool
+    ensures { result ≡ does_write writes }
+{
+    match writes {
+        None => false,
+        Some(writes) => writes,
     }
 }
 
@@ -276,12 +316,13 @@ fn step_node<D: SteadyDisk + StopDisk, V: DraftWords>(
     requires moment { IsMoment clock }
     requires place { (own_member node.old).me < cell_size (own_member node.old) }
     requires sound { IsSoundNode D.Disk (own_member node.old) clock node.old }
-    requires taken { IsTaken (own_member node.old) event }
-    requires disk { IsSoundDisk D.Disk V.standing node.old.store.disk }
+    requires taken { IsTakenBy V.standing.database node.old event }
+    requires needs { Needs V.standing (own_member node.old) (node_of node.old) event (D.files node.old.store.disk) }
+    requires disk { IsSoundDisk D.Disk node.old.store.disk }
     requires empty { out.old ≡ [] }
-    ensures { NodeStepped D.Disk V.standing V.standing.database (own_member node.old) clock event result node.old node.new out.new }
+    ensures { NodeStepped D.Disk V.standing.database (own_member node.old) clock event result node.old node.new out.new }
 {
-    law_voters_vote();
+    law_recovery_spreads();
     let was_halted = node.halted();
     match node.step(clock, event, out) {
         StepEnd::Done => SiteEnd::Made,

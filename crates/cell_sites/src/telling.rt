@@ -31,7 +31,7 @@ pub fn tell_outputs<V: DraftWords>(
     packets: &mut Packets,
 ) -> Result<(), LineFault>
     requires server { server < 20 }
-    requires votes { All MayBeTold out.old }
+    requires short { All MayBeTold out.old }
     ensures told { OnOk result ((shown : List Shown) → outputs_of shown ≡ out.old → All (λ one. AnswersCall call.now one) shown →
         told_of (script_database V.standing.database V.words) hosts.now server (record { text = string_bytes text.old; sent = packets.old.sent }) shown
         ≡ record { after = record { text = string_bytes text.new; sent = packets.new.sent }; ending = None }) }
@@ -60,7 +60,7 @@ fn tell_one<V: DraftWords>(
     packets: &mut Packets,
 ) -> Result<(), LineFault>
     requires server { server < 20 }
-    requires votes { MayBeTold output }
+    requires short { MayBeTold output }
     ensures told { OnOk result ((one : Shown) → one.output ≡ output → AnswersCall call.now one →
         (passed_in (record { text = string_bytes text.old; sent = packets.old.sent }) (packet_in output) ≡ None)
         × (record { text = string_bytes text.new; sent = packets.new.sent }
@@ -102,7 +102,7 @@ fn may_be_told(output: &Output, packets: &Packets) -> Result<(), LineFault>
 
 /// Sends the packet that an output may be.
 fn send(output: Output, packets: &mut Packets) -> Result<(), NoMemory>
-    requires votes { MayBeTold output }
+    requires short { MayBeTold output }
     requires passes { passed_after packets.old.sent (packet_in output) ≡ None }
     ensures sends { OnOk result (packets.new ≡ sent_maybe packets.old (packet_in output)) }
 {

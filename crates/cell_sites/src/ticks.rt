@@ -8,7 +8,7 @@ ghost use Rattle.cell_script.specs.declared.lines.Why.{Why as AWhy};
 ghost use Rattle.cell_sites.specs.Disks.{AreRises};
 ghost use Rattle.cell_sites.specs.Places.{IsNearAt, ticked_on};
 ghost use Rattle.cell_sites.specs.Sites.{IsModelledBy, helds};
-ghost use Rattle.cell_sites.specs.Sound.{IsSound};
+ghost use Rattle.cell_sites.specs.Sound.{Bounds, IsSound};
 ghost use Rattle.cell_sites.specs.Told.{CellTold, IsRefused};
 ghost use Rattle.cell_sites.specs.declared.sites.Site.{Site as ASite};
 
@@ -17,13 +17,14 @@ use crate::sites::Site;
 use cell_script::Why;
 use db_image::DraftWords;
 use disk_base::StopDisk;
+use script_laws::law_cells_go_on;
 use ubik_node::SteadyDisk;
 use ubik_types::SKEW;
 
 impl<D: SteadyDisk + StopDisk, V: DraftWords> OpenCell<D, V> {
     /// The clock of a server goes forward. That is refused where it would be more than 7 seconds past another one.
     pub fn tick(&mut self, server: u64, seconds: u32) -> Result<(), Why>
-        requires { (bound : ℕ) × IsSound D.Disk V.standing bound self.old × (bound + seconds ≤ MAX_MOMENT) }
+        requires { (bounds : Bounds) × IsSound D.Disk V.standing.database bounds self.old × (bounds.clock + seconds ≤ MAX_MOMENT) }
         ensures told { result ≡ Ok tt → (given : List ℕ) (c : Cell) (text : List ℕ) → IsModelledBy D.Disk V.standing.database given self.old c →
             CellTold D.Disk (script_database V.standing.database V.words) given
             (λ choices. run_in (script_database V.standing.database V.words) c choices (line.Tick server seconds))
@@ -31,11 +32,12 @@ impl<D: SteadyDisk + StopDisk, V: DraftWords> OpenCell<D, V> {
         ensures refused { (why : AWhy) → result ≡ Err why → (self.new ≡ self.old)
             × ((given : List ℕ) (c : Cell) → IsModelledBy D.Disk V.standing.database given self.old c → IsRefused why
             (λ choices. run_in (script_database V.standing.database V.words) c choices (line.Tick server seconds))) }
-        ensures sound { result ≡ Ok tt → (bound : ℕ) → IsSound D.Disk V.standing bound self.old
-            → IsSound D.Disk V.standing (bound + seconds) self.new }
+        ensures sound { result ≡ Ok tt → (bounds : Bounds) → IsSound D.Disk V.standing.database bounds self.old
+            → IsSound D.Disk V.standing.database (record bounds { clock = bounds.clock + seconds }) self.new }
         ensures never_falls { AreRises 0 [] (helds D.Disk self.old) (helds D.Disk self.new) }
         ensures same { length self.new.sites.items ≡ length self.old.sites.items }
     {
+        law_cells_go_on();
         let k = self.place(server)?;
         let now = self.sites[k].clock + seconds;
         if !is_near(&self.sites, k, now) {
@@ -47,15 +49,17 @@ impl<D: SteadyDisk + StopDisk, V: DraftWords> OpenCell<D, V> {
 
     /// All clocks go forward.
     pub fn tick_all(&mut self, seconds: u32)
-        requires { (bound : ℕ) × IsSound D.Disk V.standing bound self.old × (bound + seconds ≤ MAX_MOMENT) }
+        requires { (bounds : Bounds) × IsSound D.Disk V.standing.database bounds self.old × (bounds.clock + seconds ≤ MAX_MOMENT) }
         ensures told { (given : List ℕ) (c : Cell) (text : List ℕ) → IsModelledBy D.Disk V.standing.database given self.old c →
             CellTold D.Disk (script_database V.standing.database V.words) given
             (λ choices. run_in (script_database V.standing.database V.words) c choices (line.TickAll seconds))
             None self.old self.new text text }
-        ensures sound { (bound : ℕ) → IsSound D.Disk V.standing bound self.old → IsSound D.Disk V.standing (bound + seconds) self.new }
+        ensures sound { (bounds : Bounds) → IsSound D.Disk V.standing.database bounds self.old
+            → IsSound D.Disk V.standing.database (record bounds { clock = bounds.clock + seconds }) self.new }
         ensures never_falls { AreRises 0 [] (helds D.Disk self.old) (helds D.Disk self.new) }
         ensures same { length self.new.sites.items ≡ length self.old.sites.items }
     {
+        law_cells_go_on();
         tick_sites(&mut self.sites, seconds);
     }
 }

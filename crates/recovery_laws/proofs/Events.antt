@@ -39,10 +39,12 @@ use Rattle.cell_model.specs.Step.{leased, is_ready, is_fetch, told_version, with
 use Rattle.cell_model.specs.Voters.{IsOkOf, AsksNoOther}
 use Rattle.cell_model.specs.Voting.{own_beacon, beacon_turn, beacon_taken, beacon_received, vote_received}
 use Rattle.cell_model.specs.Writes.{announced_image, next_version, written_in, written_small, written_within, turned, last_counter}
+use Rattle.cell_laws.proofs.Parts.{and_both}
 use Rattle.cell_model.proofs.StepKinds.{one_of, none_refused}
 use Rattle.cell_places.proofs.Hosts.{HasPlace}
 use Rattle.recovery_laws.specs.HasNoWrite.{IsPhaseOf, IsReceived, HasNoWrite, IsRecoveryBody, IsRecoveryPacket, IsTaken}
-use Rattle.recovery_laws.proofs.Facts.{next_is, told_is, phase_is, database_is, received_is, text_is, piece_short}
+use Rattle.recovery_laws.proofs.Facts.{IsLaterText, above_first, next_is, next_later, not_first, text_later, told_is, phase_is, database_is, received_is}
+use Rattle.recovery_laws.proofs.Facts.{text_is, piece_short}
 use Rattle.recovery_laws.proofs.Facts.{version_body, kept_body}
 use Rattle.recovery_laws.proofs.Goes.{Goes, AllFine, one_fine, each_fine, turns, shows, rests, makes, follows, before, within}
 use Rattle.recovery_laws.proofs.Recovering.{polling_is, recovered_goes, version_is_goes, version_kept_goes, piece_kept_goes, installed_goes}
@@ -70,19 +72,20 @@ module _ (m : Member) (now : ℕ) (e : NodeEvent) (inside : m.me < cell_size m) 
       cond_both (is_sending s.phase) _ _ (Goes 1 m e s) (λ _. rests m e 1 s good)
       (λ _. cond_both (version_eq s.version new) _ _ (Goes 1 m e s) (λ _. kept_goes 1 s host there good)
       (λ _. cond_both (version_eq s.version old && version_lt old new) _ _ (Goes 1 m e s)
-      (λ _. follows m e 1 0 s (relabelled_by s new) (answers_version_kept m host)
-      (makes m e s (with_database s new s.image) (record { call = durables.Relabel new; reason = Received }) [] refl is
+      (λ rises. follows m e 1 0 s (relabelled_by s new) (answers_version_kept m host)
+      (makes m e s (with_database s new s.image) (record { call = durables.Relabel new; reason = Received }) [] refl
+      (record { version = is; later = above_first old new (and_both (version_eq s.version old) (version_lt old new) rises).1 })
       (database_is (cell_size m) s new s.image is good) tt)
       (λ after. kept_goes 0 (with_database s new s.image) host there after))
       (λ _. tells_goes 1 s host poll there good)))
 
-  text_goes : (s : Server) (host : Host) (poll : ℕ) (text : Option ReceivedText) → IsReceived text → HasPlace m.hosts host → Good s →
-      Goes 1 m e s (text_went_on m s host poll text)
-  text_goes s host poll None is there good = rests m e 1 s good
-  text_goes s host poll (Some text) is there good =
+  text_goes : (s : Server) (host : Host) (poll : ℕ) (text : Option ReceivedText) → IsReceived text → IsLaterText text → HasPlace m.hosts host →
+      Good s → Goes 1 m e s (text_went_on m s host poll text)
+  text_goes s host poll None is later there good = rests m e 1 s good
+  text_goes s host poll (Some text) is later there good =
       cond_both (is_whole text) _ _ (Goes 1 m e s)
       (λ _. follows m e 1 0 s (installed s text.version text.bytes) (answers_version_kept m host)
-      (installed_goes m now e inside moment s text.version text is.version is good)
+      (installed_goes m now e inside moment s text.version text (record { version = is.version; later = later }) is good)
       (λ after. kept_goes 0 (with_database s text.version text.bytes) host there after))
       (λ _. turns m e 1 s (record s { received = Some text }) _ refl (received_is (cell_size m) s text is good)
       (one_fine m e inside host (body.PieceKept poll text.version (length text.bytes)) there
@@ -93,9 +96,10 @@ module _ (m : Member) (now : ℕ) (e : NodeEvent) (inside : m.me < cell_size m) 
   piece_taken_goes s host k poll version total at bytes is there good =
       cond_both (is_sending s.phase || is_fetch s.phase) _ _ (Goes 1 m e s) (λ _. rests m e 1 s good)
       (λ _. cond_both (version_eq s.version version) _ _ (Goes 1 m e s) (λ _. kept_goes 1 s host there good)
-      (λ _. cond_both (version_lt version s.version) _ _ (Goes 1 m e s) (λ _. tells_goes 1 s host poll there good)
-      (λ _. text_goes s host poll (text_with true k version total at bytes s.received)
-      (text_is true k version total at bytes s.received is good.received) there good)))
+      (λ other. cond_both (version_lt version s.version) _ _ (Goes 1 m e s) (λ _. tells_goes 1 s host poll there good)
+      (λ not_lower. text_goes s host poll (text_with true k version total at bytes s.received)
+      (text_is true k version total at bytes s.received is good.received)
+      (text_later true k version total at bytes s.received (not_first s.version version other not_lower)) there good)))
 
   piece_asked_goes : (s : Server) (host : Host) (poll : ℕ) (version : Version) (at : ℕ) → IsVersion version → HasPlace m.hosts host →
       Good s → Goes 1 m e s (get_piece_received m s host poll version at)
@@ -273,7 +277,7 @@ module _ (host : Host) (s : Server) (now : ℕ) (moment : IsMoment now) (good : 
           waiting = good.waiting;
         };
         shown = (tt, ((λ other is. is), tt));
-        fits = ((next, small), tt);
+        fits = ((record { version = next; later = next_later s.version }, small), tt);
         leads = refl;
         few = omega arith;
       }

@@ -23,6 +23,7 @@ use Rattle.cell_model.specs.Step.{Member, cell_size, is_fetch, told_version, wit
 use Rattle.cell_model.specs.Writes.{next_version}
 use Rattle.cell_laws.proofs.Parts.{eq_true, and_both}
 use Rattle.cell_places.proofs.Hosts.{length-only}
+use Rattle.recovery_laws.specs.Spreads.{IsLaterVersion}
 use Rattle.recovery_laws.specs.HasNoWrite.{IsAnswer, IsPollOf, IsPhaseOf, IsTextOf, IsReceived, HasNoWrite, IsRecoveryBody}
 
 le_true : (a b : ℕ) → nat_le a b ≡ true → a ≤ b
@@ -39,6 +40,20 @@ first_is now moment = record { epoch = moment.fits; counter = omega arith }
 pub next_is : (v : Version) → (v.counter == 2147483647) ≡ false → IsVersion v → IsVersion (next_version v)
 next_is v other is =
     let below : v.counter < 2 ^ 31 = is.counter in record { epoch = is.epoch; counter = grind (arith, nat_tests) }
+
+-- a version above another one is not the first
+pub above_first : (v other : Version) → version_lt v other ≡ true → version_eq other zero_version ≡ false
+above_first v other above = grind (arith, nat_tests)
+
+-- nor is one that is not below another one, and not that
+pub not_first : (v other : Version) → version_eq v other ≡ false → version_lt other v ≡ false → version_eq other zero_version ≡ false
+not_first v other differs not_lower = grind (arith, nat_tests)
+
+pub first_later : (now : ℕ) → IsMoment now → IsLaterVersion (first_of_epoch now)
+first_later now moment = record { version = first_is now moment; later = grind (arith, nat_tests) }
+
+pub next_later : (v : Version) → version_eq (next_version v) zero_version ≡ false
+next_later v = grind (arith, nat_tests)
 
 -- ---- answers
 
@@ -179,6 +194,34 @@ text_is may_begin k version total at bytes before is old =
         (λ _. tt)
 
 -- a whole text is no longer than the longest image
+-- the version of a text that is received is not the first
+abbrev pub IsLaterText : Option ReceivedText → Type 0
+IsLaterText None = Unit {0}
+IsLaterText (Some text) = version_eq text.version zero_version ≡ false
+
+pub text_later : (may_begin : Bool) (k : ℕ) (version : Version) (total at : ℕ) (bytes : List ℕ) (before : Option ReceivedText) →
+    version_eq version zero_version ≡ false → IsLaterText (text_with may_begin k version total at bytes before)
+text_later may_begin k version total at bytes before later =
+    cond_both (piece_fits total at bytes)
+    (cond (at == 0) (cond may_begin (Some (text_begun k version total bytes)) None) (text_continued k version total at bytes before)) None IsLaterText
+    (λ _. cond_both (at == 0) (cond may_begin (Some (text_begun k version total bytes)) None)
+    (text_continued k version total at bytes before) IsLaterText
+    (λ _. cond_both may_begin (Some (text_begun k version total bytes)) None IsLaterText (λ _. later) (λ _. tt)) (λ _. continued before))
+    (λ _. tt)
+  where
+    continued : (text : Option ReceivedText) → IsLaterText (text_continued k version total at bytes text)
+    continued None = tt
+    continued (Some text) =
+        cond_both (continues k version total at text) (Some (record text { bytes = text.bytes ++ bytes })) None IsLaterText
+        (λ goes.
+        let first = and_both (text.server == k && version_eq text.version version && text.total == total) (length text.bytes == at) goes in
+        let second = and_both (text.server == k && version_eq text.version version) (text.total == total) first.0 in
+        same_later text.version version (and_both (text.server == k) (version_eq text.version version) second.0).1 later)
+        (λ _. tt)
+
+    same_later : (v other : Version) → version_eq v other ≡ true → version_eq other zero_version ≡ false → version_eq v zero_version ≡ false
+    same_later v other same later = grind (arith, nat_tests)
+
 pub whole_fits : (text : ReceivedText) → IsTextOf text → length text.bytes ≤ MAX_IMAGE
 whole_fits text is = let total : text.total ≤ MAX_IMAGE = is.total in let front : length text.bytes ≤ text.total = is.front in omega arith
 

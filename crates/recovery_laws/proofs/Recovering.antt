@@ -25,7 +25,8 @@ use Rattle.cell_model.specs.Step.{Member, cell_size, Stepped, showing, leased, h
 use Rattle.cell_model.specs.Writes.{flight_settled, settled_in, settled, next_turns}
 use Rattle.cell_places.proofs.Hosts.{HasPlace, host_placed, fetched_inside}
 use Rattle.recovery_laws.specs.HasNoWrite.{IsPollOf, IsPhaseOf, IsReceived, IsTextOf, HasNoWrite, IsRecoveryBody}
-use Rattle.recovery_laws.proofs.Facts.{first_is, new_poll_is, answered_is, best_answer_is, held_is}
+use Rattle.recovery_laws.specs.Spreads.{IsLaterVersion}
+use Rattle.recovery_laws.proofs.Facts.{above_first, first_is, first_later, new_poll_is, answered_is, best_answer_is, held_is}
 use Rattle.recovery_laws.proofs.Facts.{phase_is, database_is, received_is, text_is, whole_fits, asked_body, sent_body, spread_body, bodies_if}
 use Rattle.recovery_laws.proofs.Goes.{Goes, one_fine, each_fine, turns, shows, rests, makes, follows, before, within}
 
@@ -73,7 +74,7 @@ module _ (m : Member) (now : ℕ) (e : NodeEvent) (inside : m.me < cell_size m) 
 
       made : Goes 1 m e s begun
       made =
-          makes m e s begun.server (own_relabelling (first_of_epoch now)) begun.shown refl (first_is now moment)
+          makes m e s begun.server (own_relabelling (first_of_epoch now)) begun.shown refl (first_later now moment)
           (phase_is (cell_size m) (with_database s (first_of_epoch now) s.image) begun.server.phase (is, good.version)
           (database_is (cell_size m) s (first_of_epoch now) s.image (first_is now moment) good))
           (each_fine m e inside (λ k. spread_answer begun.server poll s.version (entry_at poll.answers k))
@@ -231,11 +232,11 @@ module _ (m : Member) (now : ℕ) (e : NodeEvent) (inside : m.me < cell_size m) 
   piece_kept_goes s host version next (Send poll spread) there good = next_sent_goes s host poll version next s.flight there good
   piece_kept_goes s host version next (Ready poll spread announced) there good = next_sent_goes s host poll version next s.flight there good
 
-  pub installed_goes : (s : Server) (version : Version) (text : ReceivedText) → IsVersion version → IsTextOf text → Good s →
+  pub installed_goes : (s : Server) (version : Version) (text : ReceivedText) → IsLaterVersion version → IsTextOf text → Good s →
       Goes 1 m e s (installed s version text.bytes)
   installed_goes s version text is whole good =
       makes m e s (with_database s version text.bytes) (record { call = durables.Install version text.bytes; reason = Received }) [] refl
-      (is, whole_fits text whole) (database_is (cell_size m) s version text.bytes is good) tt
+      (is, whole_fits text whole) (database_is (cell_size m) s version text.bytes is.version good) tt
 
   fetch_goes : (s : Server) (poll : Polled) (best : Version) (from : ℕ) (text : Option ReceivedText) → IsReceived text →
       IsPollOf (cell_size m) poll → IsVersion best → from < cell_size m → Good s →
@@ -244,7 +245,8 @@ module _ (m : Member) (now : ℕ) (e : NodeEvent) (inside : m.me < cell_size m) 
   fetch_goes s poll best from (Some text) is known version there good =
       cond_both (is_whole text) _ _ (Goes 2 m e s)
       (λ _. follows m e 1 1 s (fetch_installed s best text.bytes) (λ after. relabelled m after poll now)
-      (cond_both (version_lt s.version best) _ _ (Goes 1 m e s) (λ _. installed_goes s best text version is good) (λ _. rests m e 1 s good))
+      (cond_both (version_lt s.version best) _ _ (Goes 1 m e s) (λ better. installed_goes s best text (record { version = version; later = above_first
+      s.version best better }) is good) (λ _. rests m e 1 s good))
       (λ after. relabelled_goes (fetch_installed s best text.bytes).server poll known after))
       (λ _. turns m e 2 s (record s { received = Some text }) _ refl (received_is (cell_size m) s text is good)
       (one_fine m e inside (host_at m.hosts from) (body.GetPiece poll.number best (length text.bytes)) (host_placed m.hosts from there)

@@ -102,9 +102,9 @@ whole_packet long p is = record {
 -- ---- durable calls
 
 after_fits : (d : Durable) (call : DurableCall) → FitsOver d.image call → IsVersion (durable_after d call).version
-after_fits d (Commit version changes image) fits = fits.0
-after_fits d (Relabel version) fits = fits
-after_fits d (Install version image) fits = fits.0
+after_fits d (Commit version changes image) fits = fits.0.version
+after_fits d (Relabel version) fits = fits.version
+after_fits d (Install version image) fits = fits.0.version
 
 versions_within : (d : Durable) (calls : List Made) (made : ℕ) → IsVersion d.version → AllFit d calls →
     IsVersion (durable_after_all d (take made calls)).version

@@ -1,10 +1,11 @@
 -- A server without a write in flight stays one, and what it sends and makes durable is bounded (own).
-use Rattle.std.specs.Prelude.{ℕ, ◌≡◌, ◌<◌, ◌≤◌, Bool, None, All, List, [], ◌∷◌, length, take}
+use Rattle.std.specs.Prelude.{ℕ, ◌≡◌, ◌<◌, ◌≤◌, Bool, false, None, All, List, [], ◌∷◌, length, take}
 use Rattle.ubik_types.specs.declared.hosts.Host.{Host}
 use Rattle.ubik_types.specs.declared.limits.TheConstants.{MAX_IMAGE}
 use Rattle.ubik_types.specs.Logged.{too_large}
 use Rattle.ubik_types.specs.Moment.{IsMoment}
-use Rattle.ubik_types.specs.Version.{IsVersion}
+use Rattle.ubik_types.specs.declared.versions.Version.{Version}
+use Rattle.ubik_types.specs.Version.{IsVersion, version_eq, zero_version}
 use Rattle.ubik_calls.specs.declared.frames.Frame.TheVariants as frame
 use Rattle.ubik_calls.specs.declared.packets.Packet.{Packet}
 use Rattle.ubik_calls.specs.declared.packets.Body.{Body}
@@ -23,12 +24,17 @@ use Rattle.recovery_laws.specs.HasNoWrite.{HasNoWrite, IsRecoveryPacket, IsTaken
 
 -- ---- durable calls
 
--- A durable call leads to a version. The changes of a commit are not too large over the image before, and an installed image is no
--- longer than the longest.
+-- a version, and not that of a database that nothing was written to
+pub record IsLaterVersion (v : Version) : Type 0 where
+  pub version : IsVersion v
+  pub later : version_eq v zero_version ≡ false
+
+-- A durable call leads to a version, and not to the first one. The changes of a commit are not too large over the image before, and an
+-- installed image is no longer than the longest.
 abbrev pub FitsOver : (before : List ℕ) → DurableCall → Type 0
-FitsOver before (Commit version changes image) = IsVersion version × (too_large 0 (length before) changes ≡ None)
-FitsOver before (Relabel version) = IsVersion version
-FitsOver before (Install version image) = IsVersion version × (length image ≤ MAX_IMAGE)
+FitsOver before (Commit version changes image) = IsLaterVersion version × (too_large 0 (length before) changes ≡ None)
+FitsOver before (Relabel version) = IsLaterVersion version
+FitsOver before (Install version image) = IsLaterVersion version × (length image ≤ MAX_IMAGE)
 
 -- so of durable calls that are made one after the other
 abbrev pub AllFit : Durable → List Made → Type 0

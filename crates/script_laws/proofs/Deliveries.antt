@@ -12,11 +12,12 @@ use Rattle.cell_model.specs.Book.{Run}
 use Rattle.cell_model.specs.NodeRule.{place_of}
 use Rattle.cell_places.specs.Places.{IsBetween, PacketsHavePlaces}
 use Rattle.cell_model.specs.World as world
-use Rattle.cell_model.specs.World.{Site, World, Trigger, Delivery}
+use Rattle.cell_model.specs.World.{Site, World, Delivery}
 use Rattle.cell_runs.specs.declared.endings.Ending.{Ending}
-use Rattle.cell_runs.specs.Script.{Choice, Opening, Cell, Cell_run, delivered, first_waiting, first_choice, all_delivered, unless_ended}
+use Rattle.cell_runs.specs.Script.{Choice, Opening, Cell, Cell_run, delivered, first_waiting, choice_of, all_delivered, unless_ended}
 use Rattle.cell_runs.specs.ScriptDatabase.{ScriptDatabase}
-use Rattle.script_laws.proofs.Worlds.{Fits, element_there, site_there}
+use Rattle.script_laws.specs.CellRuns.{Fits}
+use Rattle.script_laws.proofs.Worlds.{element_there, site_there}
 use Rattle.script_laws.proofs.Steps.{IsOccasion}
 use Rattle.script_laws.proofs.Parts.{IsPart, resting_part, joined_part, stepped_part}
 
@@ -27,16 +28,16 @@ is_place None some = absurd (cc)
 is_place (Some k) some = (k, refl)
 
 -- where a packet comes to
-record IsArrival (db : Database) (asks : ℕ) (w : World) (number : ℕ) : Type 0 where
+record IsArrival (calls : Type 0) (db : Database) (asks : ℕ) (w : World) (number : ℕ) : Type 0 where
   pub place : ℕ
   pub event : NodeEvent
   pub site : Site
-  pub is : IsOccasion db asks asks w (Delivery number) place event site
+  pub is : IsOccasion calls db asks asks w (Delivery number) place event site
 
-arrival : (db : Database) (asks : ℕ) (w : World) (number : ℕ) → Fits asks w → 0 < number → number ≤ length w.packets
-    → IsArrival db asks w number
-arrival db asks w zero fits some within = absurd (omega arith)
-arrival db asks w (suc n) fits some within =
+arrival : (calls : Type 0) (db : Database) (asks : ℕ) (w : World) (number : ℕ) → Fits asks w → 0 < number → number ≤ length w.packets
+    → IsArrival calls db asks w number
+arrival calls db asks w zero fits some within = absurd (omega arith)
+arrival calls db asks w (suc n) fits some within =
     let there = element_there (IsBetween w.hosts) w.packets n (omega arith) fits.packets in
     let p : Packet = there.0 in
     let at : slice_get w.packets n ≡ Some p = there.1 in
@@ -55,17 +56,17 @@ arrival db asks w (suc n) fits some within =
         inside = inside;
         site_fits = site.2;
         asked = tt;
-        call = tt;
+        call = λ _. tt;
       };
     }
 
-module _ (law : PacketsHavePlaces) (script_db : ScriptDatabase) (asks : ℕ) where
+module _ (calls : Type 0) (law : PacketsHavePlaces) (script_db : ScriptDatabase) (asks : ℕ) where
   pub delivered_part : (c : Cell) (choice : Choice) (number : ℕ) → Fits asks c.run.world → length c.handed ≡ length c.run.world.packets
       → 0 < number → number ≤ length c.run.world.packets
-      → IsPart script_db asks c.opening c.events c.run (delivered script_db c choice number)
+      → IsPart calls script_db asks c.opening c.events c.run (delivered script_db c choice number)
   delivered_part c choice number fits each some within =
-      let to = arrival script_db.database asks c.run.world number fits some within in
-      stepped_part law script_db asks asks (record c { handed = set c.handed (number - 1) true }) choice
+      let to = arrival calls script_db.database asks c.run.world number fits some within in
+      stepped_part calls law script_db asks asks (record c { handed = set c.handed (number - 1) true }) choice
       (Delivery number) to.place to.event to.site fits
       (length-set c.handed (number - 1) true ∙ each) to.is (λ _. refl)
 
@@ -78,25 +79,25 @@ waiting_place number [] n is = absurd (cc)
 waiting_place number (true ∷ more) n is = let rest = waiting_place (number + 1) more n is in (omega (arith, rest.0), omega (arith, rest.1))
 waiting_place number (false ∷ more) n is = let same : number ≡ n = cc in (omega (arith, same), omega (arith, same))
 
-unless_part : (script_db : ScriptDatabase) (asks : ℕ) (opening : Opening) (before : List world.Event) (run : Run) (r next : Cell_run)
-    (o : Option Ending) → r.ending ≡ o → IsPart script_db asks opening before run r
-    → IsPart script_db asks r.cell.opening r.cell.events r.cell.run next → IsPart script_db asks opening before run (unless_ended r o next)
-unless_part script_db asks opening before run r next None goes first second =
-    joined_part script_db asks asks opening before run r next first goes second
-unless_part script_db asks opening before run r next (Some ending) goes first second = first
+unless_part : (calls : Type 0) (script_db : ScriptDatabase) (asks : ℕ) (opening : Opening) (before : List world.Event) (run : Run) (r next : Cell_run)
+    (o : Option Ending) → r.ending ≡ o → IsPart calls script_db asks opening before run r
+    → IsPart calls script_db asks r.cell.opening r.cell.events r.cell.run next → IsPart calls script_db asks opening before run (unless_ended r o next)
+unless_part calls script_db asks opening before run r next None goes first second =
+    joined_part calls script_db asks asks opening before run r next first goes second
+unless_part calls script_db asks opening before run r next (Some ending) goes first second = first
 
-pub all_part : (law : PacketsHavePlaces) (script_db : ScriptDatabase) (asks most : ℕ) (c : Cell) (choices : List Choice) (o : Option ℕ)
+pub all_part : (calls : Type 0) (law : PacketsHavePlaces) (script_db : ScriptDatabase) (asks most : ℕ) (c : Cell) (choices : List Choice) (o : Option ℕ)
     → first_waiting 1 c.handed ≡ o → Fits asks c.run.world
     → length c.handed ≡ length c.run.world.packets
-    → IsPart script_db asks c.opening c.events c.run (all_delivered script_db most c choices o)
-all_part law script_db asks zero c choices None at fits each = resting_part script_db asks c c.handed c.armed [] fits each refl
-all_part law script_db asks zero c choices (Some number) at fits each = resting_part script_db asks c c.handed c.armed [] fits each refl
-all_part law script_db asks (suc most) c choices None at fits each = resting_part script_db asks c c.handed c.armed [] fits each refl
-all_part law script_db asks (suc most) c choices (Some number) at fits each =
+    → IsPart calls script_db asks c.opening c.events c.run (all_delivered script_db most c choices o)
+all_part calls law script_db asks zero c choices None at fits each = resting_part calls script_db asks c c.handed c.armed [] fits each refl
+all_part calls law script_db asks zero c choices (Some number) at fits each = resting_part calls script_db asks c c.handed c.armed [] fits each refl
+all_part calls law script_db asks (suc most) c choices None at fits each = resting_part calls script_db asks c c.handed c.armed [] fits each refl
+all_part calls law script_db asks (suc most) c choices (Some number) at fits each =
     let place = waiting_place 1 c.handed number at in
-    let r : Cell_run = delivered script_db c (first_choice choices) number in
+    let r : Cell_run = delivered script_db c (choice_of choices) number in
     let first =
-    delivered_part law script_db asks c (first_choice choices) number fits each (omega (arith, place.0)) (omega (arith, place.1, each)) in
-    unless_part script_db asks c.opening c.events c.run r
+    delivered_part calls law script_db asks c (choice_of choices) number fits each (omega (arith, place.0)) (omega (arith, place.1, each)) in
+    unless_part calls script_db asks c.opening c.events c.run r
     (all_delivered script_db most r.cell (drop 1 choices) (first_waiting 1 r.cell.handed)) r.ending refl first
-    (all_part law script_db asks most r.cell (drop 1 choices) (first_waiting 1 r.cell.handed) refl first.fits first.handed)
+    (all_part calls law script_db asks most r.cell (drop 1 choices) (first_waiting 1 r.cell.handed) refl first.fits first.handed)

@@ -2,10 +2,10 @@ pub mod Worlds
 pub mod Steps
 pub mod Parts
 pub mod Deliveries
-pub mod BuiltLines
 pub mod LineFacts
 pub mod LineRuns
 pub mod Telling
+pub mod GoingOn
 pub mod Sites
 pub mod SoundLines
 pub mod SoundTelling

@@ -16,17 +16,16 @@ use Rattle.cell_model.specs.World.{may_tick, tick_at, ticked}
 use Rattle.cell_script.specs.declared.lines.Line.{Line}
 use Rattle.cell_script.specs.declared.lines.Line.TheVariants as line
 use Rattle.cell_script.specs.declared.lines.Why.TheVariants as why
-use Rattle.cell_runs.specs.declared.limits.TheConstants.{MAX_PACKETS}
-use Rattle.cell_runs.specs.Script.{Choice, Cell, Cell_run, Run_or_why, cell_size_of, at_server, at_up, at_down, at_packet, is_down_at, unless_skewed}
+use Rattle.cell_runs.specs.Script.{Choice, Choices, Cell, Cell_run, Run_or_why, cell_size_of, at_server, at_up, at_down, at_packet, is_down_at, unless_skewed}
 use Rattle.cell_runs.specs.Script.{with_event, node_in, first_choice, first_waiting, dropped_of, delivered, resting, shown_site, stepped, run_in}
-use Rattle.cell_runs.specs.Script.{asked, asked_in}
+use Rattle.cell_runs.specs.Script.{asked, asked_at, asked_in, is_later_write}
 use Rattle.cell_runs.specs.ScriptDatabase.{ScriptDatabase}
+use Rattle.script_laws.specs.CellRuns.{Fits, SiteFits, TicksOn}
 use Rattle.script_laws.specs.Runs.{happenings_of}
 use Rattle.script_laws.proofs.Deliveries.{delivered_part, all_part}
-use Rattle.script_laws.proofs.LineFacts.{IsUsual}
 use Rattle.script_laws.proofs.Parts.{IsPart, resting_part, event_part, stepped_part}
 use Rattle.script_laws.proofs.Steps.{IsOccasion, crash_legal, restart_legal, tick_legal, tick_all_legal}
-use Rattle.script_laws.proofs.Worlds.{Fits, SiteFits, site_there}
+use Rattle.script_laws.proofs.Worlds.{site_there}
 
 pub between : (number n : ℕ) → (nat_lt 0 number && nat_le number n) ≡ true → (0 < number) × (number ≤ n)
 between number n is = (grind (arith, nat_tests), grind (arith, nat_tests))
@@ -40,13 +39,13 @@ none_seen : (n k : ℕ) (o : Option Site) → happenings_of (shown_site n k o) �
 none_seen n k None = refl
 none_seen n k (Some site) = refl
 
-module _ (law : PacketsHavePlaces) (script_db : ScriptDatabase) (asks : ℕ) (c : Cell) (fits : Fits asks c.run.world)
+module _ (calls : Type 0) (law : PacketsHavePlaces) (script_db : ScriptDatabase) (asks : ℕ) (c : Cell) (fits : Fits asks c.run.world)
     (each : length c.handed ≡ length c.run.world.packets) where
   abbrev IsPartOf : ℕ → Cell_run → Type 0
-  IsPartOf later r = IsPart script_db later c.opening c.events c.run r
+  IsPartOf later r = IsPart calls script_db later c.opening c.events c.run r
 
   abbrev MayPart : ℕ → Run_or_why → Type 0
-  MayPart later r = IfOk r (IsPart script_db later c.opening c.events c.run)
+  MayPart later r = IfOk r (IsPart calls script_db later c.opening c.events c.run)
 
   -- ---- the server that a line names
 
@@ -97,10 +96,10 @@ module _ (law : PacketsHavePlaces) (script_db : ScriptDatabase) (asks : ℕ) (c 
 
   -- a step of a server that is up
   turn_part : (later : ℕ) (choice : Choice) (trigger : Trigger) (k : ℕ) (e : NodeEvent) (site : Site) → IsAt k false site
-      → IsOccasion script_db.database asks later c.run.world trigger k e site
+      → IsOccasion calls script_db.database asks later c.run.world trigger k e site
       → IsPartOf later (stepped script_db c choice trigger)
   turn_part later choice trigger k e site at is =
-      stepped_part law script_db asks later c choice trigger k e site fits each is (λ down. absurd (true≢false (sym down ∙ at.state)))
+      stepped_part calls law script_db asks later c choice trigger k e site fits each is (λ down. absurd (true≢false (sym down ∙ at.state)))
 
   -- ---- the lines
 
@@ -117,18 +116,18 @@ module _ (law : PacketsHavePlaces) (script_db : ScriptDatabase) (asks : ℕ) (c 
   abbrev shown_at : ℕ → Cell_run
   shown_at k = record { cell = c; items = shown_site (cell_size_of c) k (site_of c.run.world k); ending = None }
 
-  pub line_part : (choices : List Choice) (l : Line) → IsUsual (cell_size_of c) l → MayPart asks (run_in script_db c choices l)
-  line_part choices (line.Tick server seconds) usual =
+  pub line_part : (choices : Choices) (l : Line) → TicksOn l → MayPart asks (run_in script_db c choices l)
+  line_part choices (line.Tick server seconds) on =
       server_part asks server (λ k. unless_skewed script_db c (tick_at c.run.world.sites k seconds) (Tick k seconds)) (λ k inside.
       let there = site_there asks c.run.world k fits inside in
       skewed_part (tick_at c.run.world.sites k seconds) (Tick k seconds) (λ may.
-      event_part script_db asks c (Tick k seconds) each
-      (tick_legal law script_db.database asks c.run.world fits k there.0 there.1 there.2 seconds (omega (arith, usual.bounds.0)) may)))
-  line_part choices (line.TickAll seconds) usual =
+      event_part calls script_db asks c (Tick k seconds) each
+      (tick_legal calls law script_db.database asks c.run.world fits k there.0 there.1 there.2 seconds (omega (arith, on)) may)))
+  line_part choices (line.TickAll seconds) on =
       skewed_part (map (ticked seconds) c.run.world.sites) (Tick_all seconds) (λ may.
-      event_part script_db asks c (Tick_all seconds) each
-      (tick_all_legal script_db.database asks c.run.world seconds fits (omega (arith, usual.bounds.0)) may))
-  line_part choices (line.Beacon server) usual =
+      event_part calls script_db asks c (Tick_all seconds) each
+      (tick_all_legal calls script_db.database asks c.run.world seconds fits (omega (arith, on)) may))
+  line_part choices (line.Beacon server) on =
       up_part asks server (λ k. stepped script_db c (first_choice choices) (Beacon_turn k)) (λ k site at.
       turn_part asks (first_choice choices) (Beacon_turn k) k event.BeaconTurn site at
       (record {
@@ -138,9 +137,9 @@ module _ (law : PacketsHavePlaces) (script_db : ScriptDatabase) (asks : ℕ) (c 
         inside = at.inside;
         site_fits = at.fit;
         asked = tt;
-        call = tt;
+        call = λ _. tt;
       }))
-  line_part choices (line.Recover server) usual =
+  line_part choices (line.Recover server) on =
       up_part asks server (λ k. stepped script_db c (first_choice choices) (Recover_turn k)) (λ k site at.
       turn_part asks (first_choice choices) (Recover_turn k) k event.RecoverTurn site at
       (record {
@@ -150,62 +149,70 @@ module _ (law : PacketsHavePlaces) (script_db : ScriptDatabase) (asks : ℕ) (c 
         inside = at.inside;
         site_fits = at.fit;
         asked = tt;
-        call = tt;
+        call = λ _. tt;
       }))
-  line_part choices (line.Deliver packet) usual =
+  line_part choices (line.Deliver packet) on =
       packet_part packet (delivered script_db c (first_choice choices) packet) (λ some within.
-      delivered_part law script_db asks c (first_choice choices) packet fits each some within)
-  line_part choices (line.Drop packet) usual =
+      delivered_part calls law script_db asks c (first_choice choices) packet fits each some within)
+  line_part choices (line.Drop packet) on =
       packet_part packet (resting (record c { handed = set c.handed (packet - 1) true })) (λ some within.
-      resting_part script_db asks c (set c.handed (packet - 1) true) c.armed [] fits (length-set c.handed (packet - 1) true ∙ each) refl)
-  line_part choices (line.DropAll server) usual =
+      resting_part calls script_db asks c (set c.handed (packet - 1) true) c.armed [] fits (length-set c.handed (packet - 1) true ∙ each) refl)
+  line_part choices (line.DropAll server) on =
       up_part asks server (λ k. resting (record c { handed = dropped_of (host_at c.run.world.hosts k) c.run.world.packets c.handed }))
       (λ k site at.
-      resting_part script_db asks c (dropped_of (host_at c.run.world.hosts k) c.run.world.packets c.handed) c.armed [] fits
+      resting_part calls script_db asks c (dropped_of (host_at c.run.world.hosts k) c.run.world.packets c.handed) c.armed [] fits
       (length-dropped (host_at c.run.world.hosts k) c.run.world.packets c.handed ∙ each) refl)
-  line_part choices line.DeliverAll usual = all_part law script_db asks MAX_PACKETS c choices (first_waiting 1 c.handed) refl fits each
-  line_part choices (line.Stop server calls f) usual =
-      up_part asks server (λ k. resting (record c { armed = set c.armed k (Some (record { calls = calls; made = 0 })) })) (λ k site at.
-      resting_part script_db asks c c.handed (set c.armed k (Some (record { calls = calls; made = 0 }))) [] fits each refl)
-  line_part choices (line.Crash server) usual =
+  line_part choices line.DeliverAll on = all_part calls law script_db asks choices.most c choices.each (first_waiting 1 c.handed) refl fits each
+  line_part choices (line.Stop server most f) on =
+      up_part asks server (λ k. resting (record c { armed = set c.armed k (Some (record { calls = most; made = 0 })) })) (λ k site at.
+      resting_part calls script_db asks c c.handed (set c.armed k (Some (record { calls = most; made = 0 }))) [] fits each refl)
+  line_part choices (line.Crash server) on =
       up_part asks server (λ k. with_event script_db (record c { armed = set c.armed k None }) (Crash k)) (λ k site at.
-      event_part script_db asks (record c { armed = set c.armed k None }) (Crash k) each
-      (crash_legal law script_db.database asks c.run.world fits k site at.there at.fit))
-  line_part choices (line.Restart server) usual =
+      event_part calls script_db asks (record c { armed = set c.armed k None }) (Crash k) each
+      (crash_legal calls law script_db.database asks c.run.world fits k site at.there at.fit))
+  line_part choices (line.Restart server) on =
       down_part server (λ k. with_event script_db c (Restart k (first_choice choices).fails)) (λ k site at.
-      event_part script_db asks c (Restart k (first_choice choices).fails) each
-      (restart_legal law script_db.database asks c.run.world fits k site at.there at.fit (first_choice choices).fails at.state))
-  line_part choices (line.Show server) usual =
+      event_part calls script_db asks c (Restart k (first_choice choices).fails) each
+      (restart_legal calls law script_db.database asks c.run.world fits k site at.there at.fit (first_choice choices).fails at.state))
+  line_part choices (line.Show server) on =
       server_part asks server (λ k. Ok (shown_at k)) (λ k inside.
-      resting_part script_db asks c c.handed c.armed (shown_site (cell_size_of c) k (site_of c.run.world k)) fits each
+      resting_part calls script_db asks c c.handed c.armed (shown_site (cell_size_of c) k (site_of c.run.world k)) fits each
       (none_seen (cell_size_of c) k (site_of c.run.world k)))
-  line_part choices (line.Cell servers clock k) usual = tt
-  line_part choices line.Nothing usual = resting_part script_db asks c c.handed c.armed [] fits each refl
-  line_part choices (line.Ask server words) usual = tt
+  line_part choices (line.Cell servers clock k) on = tt
+  line_part choices line.Nothing on = resting_part calls script_db asks c c.handed c.armed [] fits each refl
+  line_part choices (line.Ask server words) on = tt
 
   -- ---- an ask
 
+  module _ (later id : ℕ) (new : asks < id) (most : id ≤ later) (choice : Choice) (call : List ℕ)
+      (names : calls → IsSome (script_db.database.writes call)) where
+    pub at_part : (server : Option ℕ) → MayPart later (asked_at script_db c choice id call server)
+    at_part None = tt
+    at_part (Some number) =
+        cond_both (is_later_write script_db.database c number call) (Err why.Unbuilt)
+        (at_up c number (λ k. stepped script_db c choice (Asking k id call))) (MayPart later) (λ _. tt)
+        (λ _. up_part later number (λ k. stepped script_db c choice (Asking k id call))
+        (λ k site at. turn_part later choice (Asking k id call) k (event.Ask id call) site at
+        (record {
+          more = omega (arith, new, most);
+          brought = refl;
+          there = at.there;
+          inside = at.inside;
+          site_fits = at.fit;
+          asked = (new, most);
+          call = names;
+        })))
+
   module _
-      (names : (words : List (List ℕ)) (call : List ℕ) → script_db.words.call_of words ≡ Some call
+      (names : calls → (words : List (List ℕ)) (call : List ℕ) → script_db.words.call_of words ≡ Some call
       → IsSome (script_db.database.writes call))
       (choice : Choice) (words : List (List ℕ)) where
     call_part : (server : Option ℕ) (call : Option (List ℕ)) → script_db.words.call_of words ≡ call
         → MayPart (asks + 1) (asked_in script_db c choice (asks + 1) words server call)
     call_part server None is =
         cond_both (script_db.words.is_unbuilt words) (Err why.Unbuilt) (Err why.Syntax) (MayPart (asks + 1)) (λ _. tt) (λ _. tt)
-    call_part None (Some call) is = tt
-    call_part (Some number) (Some call) is =
-        up_part (asks + 1) number (λ k. stepped script_db c choice (Asking k (asks + 1) call))
-        (λ k site at. turn_part (asks + 1) choice (Asking k (asks + 1) call) k (event.Ask (asks + 1) call) site at
-        (record {
-          more = omega arith;
-          brought = refl;
-          there = at.there;
-          inside = at.inside;
-          site_fits = at.fit;
-          asked = (omega arith, omega arith);
-          call = names words call is;
-        }))
+    call_part server (Some call) is =
+        at_part (asks + 1) (asks + 1) (omega arith) (omega arith) choice call (λ named. names named words call is) server
 
     pub ask_part : (server : Option ℕ) → MayPart (asks + 1) (asked script_db c choice (asks + 1) words server)
     ask_part server = call_part server (script_db.words.call_of words) refl

@@ -22,7 +22,7 @@ use Rattle.cell_runs.specs.Script.{place_in, stepped_so, stepped}
 use Rattle.cell_runs.specs.ScriptDatabase.{ScriptDatabase}
 use Rattle.cell_runs.specs.Trace.{TraceItem, Tells, Shows}
 use Rattle.script_laws.specs.Runs.{happenings_of, is_of_packets, IsScripted}
-use Rattle.script_laws.proofs.Worlds.{Fits}
+use Rattle.script_laws.specs.CellRuns.{Fits}
 use Rattle.script_laws.proofs.Steps.{IsLegal, IsOccasion, step_legal, stop_legal, fault_legal}
 
 -- ---- lists
@@ -92,14 +92,15 @@ within_is bytes (Stays_down server ∷ seen) = one_within (Stays_down server) se
 
 -- ---- parts
 
--- these events come to the run of a cell; all that is seen of them is told, unless packets pass a limit
-pub record IsPart (script_db : ScriptDatabase) (later : ℕ) (opening : Opening) (before : List Event) (run : Run)
+-- These events come to the run of a cell; all that is seen of them is told, unless packets pass a limit. A script may bring them, where what
+-- is asked is a call.
+pub record IsPart (calls : Type 0) (script_db : ScriptDatabase) (later : ℕ) (opening : Opening) (before : List Event) (run : Run)
     (r : Cell_run) : Type 0 where
   pub opening_is : r.cell.opening ≡ opening
   pub events : List Event
   pub brought : r.cell.events ≡ before ++ events
   pub run_is : r.cell.run ≡ run_through script_db.database run events
-  pub scripted : All (IsScripted script_db.database) events
+  pub scripted : calls → All (IsScripted script_db.database) events
   pub legal : IsRun script_db.database run.world events
   pub hosts : r.cell.run.world.hosts ≡ run.world.hosts
   pub back : List Happening
@@ -109,17 +110,17 @@ pub record IsPart (script_db : ScriptDatabase) (later : ℕ) (opening : Opening)
   pub handed : length r.cell.handed ≡ length r.cell.run.world.packets
 
 -- nothing comes to the run
-pub resting_part : (script_db : ScriptDatabase) (later : ℕ) (c : Cell) (handed : List Bool) (armed : List (Option Armed))
+pub resting_part : (calls : Type 0) (script_db : ScriptDatabase) (later : ℕ) (c : Cell) (handed : List Bool) (armed : List (Option Armed))
     (items : List TraceItem) → Fits later c.run.world
     → length handed ≡ length c.run.world.packets → happenings_of items ≡ []
-    → IsPart script_db later c.opening c.events c.run
+    → IsPart calls script_db later c.opening c.events c.run
     (record { cell = record c { handed = handed; armed = armed }; items = items; ending = None })
-resting_part script_db later c handed armed items fits each none = record {
+resting_part calls script_db later c handed armed items fits each none = record {
   opening_is = refl;
   events = [];
   brought = sym (append-nil c.events);
   run_is = refl;
-  scripted = All-nil (IsScripted script_db.database);
+  scripted = λ _. All-nil (IsScripted script_db.database);
   legal = tt;
   hosts = refl;
   back = [];
@@ -130,10 +131,10 @@ resting_part script_db later c handed armed items fits each none = record {
 }
 
 -- one event
-pub event_part : (script_db : ScriptDatabase) (later : ℕ) (c : Cell) (e : Event) → length c.handed ≡ length c.run.world.packets
-    → IsLegal script_db.database later c.run.world e
-    → IsPart script_db later c.opening c.events c.run (with_event script_db c e)
-event_part script_db later c e each is =
+pub event_part : (calls : Type 0) (script_db : ScriptDatabase) (later : ℕ) (c : Cell) (e : Event) → length c.handed ≡ length c.run.world.packets
+    → IsLegal calls script_db.database later c.run.world e
+    → IsPart calls script_db later c.opening c.events c.run (with_event script_db c e)
+event_part calls script_db later c e each is =
     let h = happens script_db.database c.run.world e in
     let more = length h.world.packets - length c.run.world.packets in
     let told = within_is (bytes_of c.run.world.packets) h.seen in
@@ -142,7 +143,7 @@ event_part script_db later c e each is =
       events = e ∷ [];
       brought = refl;
       run_is = refl;
-      scripted = All-cons (IsScripted script_db.database) e [] is.scripted (All-nil (IsScripted script_db.database));
+      scripted = λ named. All-cons (IsScripted script_db.database) e [] (is.scripted named) (All-nil (IsScripted script_db.database));
       legal = (is.event, tt);
       hosts = is.hosts;
       back = told.back;
@@ -153,11 +154,11 @@ event_part script_db later c e each is =
     }
 
 -- one part, and then another
-pub joined_part : (script_db : ScriptDatabase) (asks later : ℕ) (opening : Opening) (before : List Event) (run : Run) (r next : Cell_run)
-    → IsPart script_db asks opening before run r → r.ending ≡ None
-    → IsPart script_db later r.cell.opening r.cell.events r.cell.run next
-    → IsPart script_db later opening before run (joined_run r.items next)
-joined_part script_db asks later opening before run r next first goes second =
+pub joined_part : (calls : Type 0) (script_db : ScriptDatabase) (asks later : ℕ) (opening : Opening) (before : List Event) (run : Run) (r next : Cell_run)
+    → IsPart calls script_db asks opening before run r → r.ending ≡ None
+    → IsPart calls script_db later r.cell.opening r.cell.events r.cell.run next
+    → IsPart calls script_db later opening before run (joined_run r.items next)
+joined_part calls script_db asks later opening before run r next first goes second =
     let db : Database = script_db.database in
     let world : r.cell.run.world ≡ world_after db run.world first.events =
     ap (λ (x : Run). x.world) first.run_is ∙ world_of_run db run first.events in
@@ -171,7 +172,7 @@ joined_part script_db asks later opening before run r next first goes second =
       run_is =
           second.run_is ∙ ap (λ (x : Run). run_through db x second.events) first.run_is ∙ sym
           (run-append db run first.events second.events);
-      scripted = All-append (IsScripted db) first.events second.events first.scripted second.scripted;
+      scripted = λ named. All-append (IsScripted db) first.events second.events (first.scripted named) (second.scripted named);
       legal =
           legal-append db run.world first.events second.events first.legal
           (subst (λ (w : World). IsRun db w second.events) world second.legal);
@@ -191,26 +192,26 @@ joined_part script_db asks later opening before run r next first goes second =
 
 -- ---- a step
 
-module _ (law : PacketsHavePlaces) (script_db : ScriptDatabase) (asks later : ℕ) (c : Cell) (choice : Choice) (trigger : Trigger) (k : ℕ)
+module _ (calls : Type 0) (law : PacketsHavePlaces) (script_db : ScriptDatabase) (asks later : ℕ) (c : Cell) (choice : Choice) (trigger : Trigger) (k : ℕ)
     (e : NodeEvent) (site : Site)
     (fits : Fits asks c.run.world) (each : length c.handed ≡ length c.run.world.packets)
-    (is : IsOccasion script_db.database asks later c.run.world trigger k e site) where
+    (is : IsOccasion calls script_db.database asks later c.run.world trigger k e site) where
   abbrev Steps : Cell_run → Type 0
-  Steps r = IsPart script_db later c.opening c.events c.run r
+  Steps r = IsPart calls script_db later c.opening c.events c.run r
 
-  served : (calls : ℕ) → (is_down site.node ≡ true → may_be_down trigger ≡ true) → Steps (stepped_so script_db c trigger k (Serves calls))
-  served calls delivered =
-      event_part script_db later (record c { armed = set c.armed k (counted_on calls (armed_at c.armed k)) }) (Step trigger []) each
-      (step_legal law script_db.database asks later c.run.world fits trigger k e site is delivered)
+  served : (made : ℕ) → (is_down site.node ≡ true → may_be_down trigger ≡ true) → Steps (stepped_so script_db c trigger k (Serves made))
+  served made delivered =
+      event_part calls script_db later (record c { armed = set c.armed k (counted_on made (armed_at c.armed k)) }) (Step trigger []) each
+      (step_legal calls law script_db.database asks later c.run.world fits trigger k e site is delivered)
 
   up_part : (s : Server) → site.node ≡ Up s → (outcome : DiskOutcome) → Steps (stepped_so script_db c trigger k outcome)
-  up_part s up (Serves calls) = served calls (λ down. absurd (true≢false (sym down ∙ ap is_down up)))
+  up_part s up (Serves made) = served made (λ down. absurd (true≢false (sym down ∙ ap is_down up)))
   up_part s up (Fails_after made) =
-      event_part script_db later c (Fault trigger [] made) each
-      (fault_legal law script_db.database asks later c.run.world fits trigger k e site is s up made)
+      event_part calls script_db later c (Fault trigger [] made) each
+      (fault_legal calls law script_db.database asks later c.run.world fits trigger k e site is s up made)
   up_part s up (Stops_after made) =
-      event_part script_db later (record c { armed = set c.armed k None }) (Stop trigger [] made) each
-      (stop_legal law script_db.database asks later c.run.world fits trigger k e site is s up made)
+      event_part calls script_db later (record c { armed = set c.armed k None }) (Stop trigger [] made) each
+      (stop_legal calls law script_db.database asks later c.run.world fits trigger k e site is s up made)
 
   node_part : (node : Node) → site.node ≡ node → (is_down site.node ≡ true → may_be_down trigger ≡ true)
       → Steps (stepped_so script_db c trigger k (outcome_at script_db.database c.run.world choice c.armed (k, e) node))

@@ -15,11 +15,12 @@ use Rattle.cell_script.specs.declared.lines.Why.{Why}
 use Rattle.cell_script.specs.declared.lines.Why.TheVariants as why
 use Rattle.cell_script.specs.Meaning.{line_of}
 use Rattle.cell_runs.specs.declared.endings.Ending.{Ending}
-use Rattle.cell_runs.specs.declared.limits.TheConstants.{MAX_LINES, MAX_PACKETS}
-use Rattle.cell_runs.specs.Script.{Choice, LineRead, Cell, Stage, Line_run, Cell_run, Run_or_why, ScriptEnd, Told, DiskOutcome, Serves, Fails_after}
-use Rattle.cell_runs.specs.Script.{Stops_after, first_choice, with_event, armed_at, counted_on, outcome_of, place_in, stepped_so, stepped, delivered}
-use Rattle.cell_runs.specs.Script.{first_waiting, dropped_of, all_delivered, unless_ended, resting, cell_size_of, servers_of, at_server, at_up}
-use Rattle.cell_runs.specs.Script.{at_down, at_packet, is_down_at, unless_skewed, shown_site, run_in, asked_in, asked, in_stage, next_line, hosts_of}
+use Rattle.cell_runs.specs.declared.limits.TheConstants.{MAX_LINES}
+use Rattle.cell_runs.specs.Script.{Choice, Choices, LineRead, Cell, Stage, Line_run, Cell_run, Run_or_why, ScriptEnd, Told, DiskOutcome, Serves, Fails_after}
+use Rattle.cell_runs.specs.Script.{Stops_after, choice_of, first_choice, with_event, armed_at, counted_on, outcome_of, place_in, stepped_so, stepped, delivered}
+use Rattle.cell_runs.specs.Script.{first_waiting, dropped_of, all_delivered, unless_ended, resting, cell_size_of, at_server, at_up}
+use Rattle.cell_runs.specs.Script.{at_down, at_packet, is_down_at, unless_skewed, shown_site, run_in, asked_in, asked, is_later_write, in_stage, next_line}
+use Rattle.cell_runs.specs.Script.{hosts_of}
 use Rattle.cell_runs.specs.Script.{fails_at, run_first, kind_of_cell, run_standing, line_run, meaning_run, or_refused, line_result, told_with}
 use Rattle.cell_runs.specs.Script.{told_after}
 use Rattle.cell_runs.specs.ScriptDatabase.{ScriptDatabase, Databases}
@@ -97,8 +98,8 @@ module _ (script_db : ScriptDatabase) where
   all_has zero c choices (Some number) has = has
   all_has (suc most) c choices None has = has
   all_has (suc most) c choices (Some number) has =
-      let r : Cell_run = delivered script_db c (first_choice choices) number in
-      let first : HasSites r.cell = delivered_has c (first_choice choices) number has in
+      let r : Cell_run = delivered script_db c (choice_of choices) number in
+      let first : HasSites r.cell = delivered_has c (choice_of choices) number has in
       unless_has r (all_delivered script_db most r.cell (drop 1 choices) (first_waiting 1 r.cell.handed)) r.ending first
       (all_has most r.cell (drop 1 choices) (first_waiting 1 r.cell.handed) first)
 
@@ -132,7 +133,7 @@ module _ (script_db : ScriptDatabase) where
     skewed_has : (sites : List Site) (e : Event) → MayHave (unless_skewed script_db c sites e)
     skewed_has sites e = if_has (may_tick sites) (Ok (with_event script_db c e)) (Err why.Skew) (event_has c e has) tt
 
-    line_has : (choices : List Choice) (l : Line) → MayHave (run_in script_db c choices l)
+    line_has : (choices : Choices) (l : Line) → MayHave (run_in script_db c choices l)
     line_has choices (line.Tick server seconds) =
         server_has server (λ k. unless_skewed script_db c (tick_at c.run.world.sites k seconds) (Tick k seconds))
         (λ k. skewed_has (tick_at c.run.world.sites k seconds) (Tick k seconds))
@@ -149,7 +150,7 @@ module _ (script_db : ScriptDatabase) where
     line_has choices (line.DropAll server) =
         up_has server (λ k. resting (record c { handed = dropped_of (host_at c.run.world.hosts k) c.run.world.packets c.handed }))
         (λ k. has)
-    line_has choices line.DeliverAll = all_has MAX_PACKETS c choices (first_waiting 1 c.handed) has
+    line_has choices line.DeliverAll = all_has choices.most c choices.each (first_waiting 1 c.handed) has
     line_has choices (line.Stop server calls f) =
         up_has server (λ k. resting (record c { armed = set c.armed k (Some (record { calls = calls; made = 0 })) })) (λ k. has)
     line_has choices (line.Crash server) =
@@ -170,7 +171,8 @@ module _ (script_db : ScriptDatabase) where
     call_has choice id words server None = if_has (script_db.words.is_unbuilt words) (Err why.Unbuilt) (Err why.Syntax) tt tt
     call_has choice id words None (Some call) = tt
     call_has choice id words (Some number) (Some call) =
-        up_has number (λ k. stepped script_db c choice (Asking k id call)) (λ k. stepped_has c choice (Asking k id call) has)
+        if_has (is_later_write script_db.database c number call) (Err why.Unbuilt) _ tt
+        (up_has number (λ k. stepped script_db c choice (Asking k id call)) (λ k. stepped_has c choice (Asking k id call) has))
 
 -- ---- each line, and all
 
@@ -185,11 +187,11 @@ in_stage_has : (st : Stage) (r : Run_or_why) → IfOk r (λ r. HasSites r.cell) 
 in_stage_has st (Err w) has = tt
 in_stage_has st (Ok r) has = has
 
-first_has : (st : Stage) (choices : List Choice) (l : Line) → st.cell ≡ None → RunHas (run_first st choices l)
+first_has : (st : Stage) (choices : Choices) (l : Line) → st.cell ≡ None → RunHas (run_first st choices l)
 first_has st choices line.Nothing none = subst MayHaveSites (sym none) tt
 first_has st choices (line.Cell servers clock k) none =
-    let failed = fails_at servers choices in
-    length-map failed (first_site (length (hosts_of servers)) clock) ∙ length-fails servers choices ∙ sym (length-hosts 0 servers)
+    let failed = fails_at servers choices.each in
+    length-map failed (first_site (length (hosts_of servers)) clock) ∙ length-fails servers choices.each ∙ sym (length-hosts 0 servers)
 first_has st choices (line.Ask None words) none = tt
 first_has st choices (line.Ask (Some server) words) none = tt
 first_has st choices (line.Tick server seconds) none = tt
@@ -206,12 +208,12 @@ first_has st choices (line.Restart server) none = tt
 first_has st choices (line.Show server) none = tt
 
 module _ (dbs : Databases) where
-  other_has : (st : Stage) (choices : List Choice) (c : Cell) (l : Line) → HasSites c
+  other_has : (st : Stage) (choices : Choices) (c : Cell) (l : Line) → HasSites c
       → RunHas (in_stage st (run_in (dbs (kind_of_cell c)) c choices l))
   other_has st choices c l has =
       in_stage_has st (run_in (dbs (kind_of_cell c)) c choices l) (line_has (dbs (kind_of_cell c)) c has choices l)
 
-  standing_has : (st : Stage) (choices : List Choice) (c : Cell) (l : Line) → HasSites c → RunHas (run_standing dbs st choices c l)
+  standing_has : (st : Stage) (choices : Choices) (c : Cell) (l : Line) → HasSites c → RunHas (run_standing dbs st choices c l)
   standing_has st choices c (line.Ask server words) has =
       let script_db : ScriptDatabase = dbs (kind_of_cell c) in
       in_stage_has (record st { asks = st.asks + 1 }) (asked script_db c (first_choice choices) (st.asks + 1) words server)
@@ -231,7 +233,7 @@ module _ (dbs : Databases) where
   standing_has st choices c (line.Restart server) has = other_has st choices c (line.Restart server) has
   standing_has st choices c (line.Show server) has = other_has st choices c (line.Show server) has
 
-  any_has : (st : Stage) (choices : List Choice) (l : Line) (cell : Option Cell) → st.cell ≡ cell → MayHaveSites cell
+  any_has : (st : Stage) (choices : Choices) (l : Line) (cell : Option Cell) → st.cell ≡ cell → MayHaveSites cell
       → RunHas (line_run dbs st choices l cell)
   any_has st choices l None is has = first_has st choices l is
   any_has st choices l (Some c) is has = standing_has st choices c l has
@@ -240,7 +242,7 @@ module _ (dbs : Databases) where
   refused_has (Ok run) is = is
   refused_has (Err w) is = tt
 
-  meant_has : (st : Stage) (choices : List Choice) (meaning : Result Line Why) → MayHaveSites st.cell
+  meant_has : (st : Stage) (choices : Choices) (meaning : Result Line Why) → MayHaveSites st.cell
       → RunHas (meaning_run dbs st choices meaning)
   meant_has st choices (Err w) has = tt
   meant_has st choices (Ok l) has = any_has st choices l st.cell refl has
@@ -251,7 +253,7 @@ module _ (dbs : Databases) where
 
   result_has : (st : Stage) (r : LineRead) → MayHaveSites st.cell → RunHas (line_result dbs st r)
   result_has st r has =
-      let meaning : Result Line Why = line_of (servers_of st.cell) r.line in
+      let meaning : Result Line Why = line_of r.line in
       if_run_has (nat_le MAX_LINES st.lines) _ _ tt
       (refused_has (meaning_run dbs (next_line st) r.choices meaning) (meant_has (next_line st) r.choices meaning has))
 

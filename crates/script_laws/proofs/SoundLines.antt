@@ -17,15 +17,16 @@ use Rattle.cell_script.specs.declared.lines.Line.{Line}
 use Rattle.cell_script.specs.declared.lines.Line.TheVariants as line
 use Rattle.cell_script.specs.declared.lines.Why.{Why}
 use Rattle.cell_script.specs.declared.lines.Why.TheVariants as why
-use Rattle.cell_runs.specs.declared.limits.TheConstants.{MAX_LINES, MAX_PACKETS}
+use Rattle.cell_runs.specs.declared.limits.TheConstants.{MAX_LINES}
 use Rattle.cell_runs.specs.declared.endings.Ending.{Ending}
 use Rattle.cell_runs.specs.declared.endings.Ending.TheVariants.{Limit}
 use Rattle.cell_runs.specs.declared.endings.Which.TheVariants.{Lines}
-use Rattle.cell_runs.specs.Script.{Choice, sound, first_choice, Cell, Cell_run, Stage, Line_run, Run_or_why, DiskOutcome, Fails_after, Stops_after}
+use Rattle.cell_runs.specs.Script.{Choice, Choices, sound, choice_of, first_choice, Cell, Cell_run, Stage, Line_run, Run_or_why, DiskOutcome, Fails_after}
+use Rattle.cell_runs.specs.Script.{Stops_after}
 use Rattle.cell_runs.specs.Script.{outcome_of_stop, outcome_at, outcome_of, node_in, place_in, bytes_of, within, stepped_so, stepped, delivered}
 use Rattle.cell_runs.specs.Script.{first_waiting, joined_run, unless_ended, all_delivered, at_up, at_down, is_down_at, with_event, cell_size_of}
-use Rattle.cell_runs.specs.Script.{run_in, asked, asked_in, in_stage, fails_at, opened_cell, kind_of_cell, run_first, run_standing, line_run}
-use Rattle.cell_runs.specs.Script.{meaning_run, or_refused, servers_of, next_line, line_result}
+use Rattle.cell_runs.specs.Script.{run_in, asked, asked_in, is_later_write, in_stage, fails_at, opened_cell, kind_of_cell, run_first, run_standing, line_run}
+use Rattle.cell_runs.specs.Script.{meaning_run, or_refused, next_line, line_result}
 use Rattle.cell_runs.specs.ScriptDatabase.{ScriptDatabase, Databases}
 use Rattle.cell_runs.specs.Trace.{TraceItem, Tells, Shows, fault_count}
 use Rattle.script_laws.specs.Sound.{HasNoFault}
@@ -149,14 +150,18 @@ module _ (script_db : ScriptDatabase) where
   all_same zero c choices (Some number) free = refl
   all_same (suc most) c choices None free = refl
   all_same (suc most) c choices (Some number) free =
-      let r : Cell_run = delivered script_db c (first_choice choices) number in
+      let r : Cell_run = delivered script_db c (choice_of choices) number in
       let next = all_delivered script_db most r.cell (drop 1 choices) (first_waiting 1 r.cell.handed) in
       ap (λ (x : Cell_run). unless_ended x x.ending (all_delivered script_db most x.cell [] (first_waiting 1 x.cell.handed)))
-      (deliver_same c (first_choice choices) number (first_free r next r.ending free))
+      (deliver_same c (choice_of choices) number (first_free r next r.ending free))
       ∙ next_same r (all_delivered script_db most r.cell [] (first_waiting 1 r.cell.handed)) next r.ending
       (all_same most r.cell (drop 1 choices) (first_waiting 1 r.cell.handed)) free
 
 -- ---- lines
+
+-- the same line where every disk is sound
+abbrev pub quieted : Choices → Choices
+quieted choices = record { each = []; most = choices.most }
 
 abbrev FreeRun : Run_or_why → Type 0
 FreeRun r = IfOk r (λ (run : Cell_run). HasNoFault run.items)
@@ -205,8 +210,8 @@ module _ (script_db : ScriptDatabase) (c : Cell) (has : HasSites c) where
       absurd (omega (arith, free k, restart_told script_db.database w k (bytes_of w.packets) at.0 at.1))
   opening_same k false inside free = refl
 
-  run_same : (choices : List Choice) (l : Line) → FreeRun (run_in script_db c choices l)
-      → run_in script_db c [] l ≡ run_in script_db c choices l
+  run_same : (choices : Choices) (l : Line) → FreeRun (run_in script_db c choices l)
+      → run_in script_db c (quieted choices) l ≡ run_in script_db c choices l
   run_same choices (line.Tick server seconds) free = refl
   run_same choices (line.TickAll seconds) free = refl
   run_same choices (line.Beacon server) free = turn_same server (first_choice choices) Beacon_turn free
@@ -217,7 +222,7 @@ module _ (script_db : ScriptDatabase) (c : Cell) (has : HasSites c) where
   run_same choices (line.Drop packet) free = refl
   run_same choices (line.DropAll server) free = refl
   run_same choices line.DeliverAll free =
-      ap Ok (all_same script_db MAX_PACKETS c choices (first_waiting 1 c.handed) free)
+      ap Ok (all_same script_db choices.most c choices.each (first_waiting 1 c.handed) free)
   run_same choices (line.Stop server calls f) free = refl
   run_same choices (line.Crash server) free = refl
   run_same choices (line.Restart server) free =
@@ -234,7 +239,9 @@ module _ (script_db : ScriptDatabase) (c : Cell) (has : HasSites c) where
       → asked_in script_db c sound id words server call ≡ asked_in script_db c choice id words server call
   ask_same choice id words server None free = refl
   ask_same choice id words None (Some call) free = refl
-  ask_same choice id words (Some number) (Some call) free = turn_same number choice (λ k. Asking k id call) free
+  ask_same choice id words (Some number) (Some call) free =
+      unless_same (is_later_write script_db.database c number call) _ _ (Err why.Unbuilt)
+      (turn_same number choice (λ k. Asking k id call)) free
 
 -- ---- openings
 
@@ -242,7 +249,7 @@ fails_same : (n server : ℕ) (choices : List Choice) → HasNoFault (map Tells 
     → fails_at n [] ≡ fails_at n choices
 fails_same zero server choices free = refl
 fails_same (suc n) server choices free =
-    by (first_choice choices).fails (fails_at n (drop 1 choices)) (fails_same n (server + 1) (drop 1 choices)) free
+    by (choice_of choices).fails (fails_at n (drop 1 choices)) (fails_same n (server + 1) (drop 1 choices)) free
   where
     by : (failed : Bool) (more : List Bool) → (HasNoFault (map Tells (first_seen (server + 1) more)) → fails_at n [] ≡ more)
         → HasNoFault (map Tells (first_seen server (failed ∷ more))) → false ∷ fails_at n [] ≡ failed ∷ more
@@ -259,15 +266,15 @@ fails_same (suc n) server choices free =
 abbrev pub FreeLine : {E : Type 0} → Result Line_run E → Type 0
 FreeLine r = IfOk r (λ (run : Line_run). HasNoFault run.items)
 
-first_same : (st : Stage) (choices : List Choice) (l : Line) → FreeLine (run_first st choices l)
-    → run_first st [] l ≡ run_first st choices l
+first_same : (st : Stage) (choices : Choices) (l : Line) → FreeLine (run_first st choices l)
+    → run_first st (quieted choices) l ≡ run_first st choices l
 first_same st choices line.Nothing free = refl
 first_same st choices (line.Cell servers clock k) free =
     ap (λ (failed : List Bool). Ok (record {
       stage = record st { cell = Some (opened_cell servers clock k failed) };
       items = map Tells (first_seen 0 failed);
       ending = None;
-    })) (fails_same servers 0 choices free)
+    })) (fails_same servers 0 choices.each free)
 first_same st choices (line.Ask None words) free = refl
 first_same st choices (line.Ask (Some server) words) free = refl
 first_same st choices (line.Tick server seconds) free = refl
@@ -288,15 +295,15 @@ in_same st x (Err w) same free = ap (in_stage st) (same tt)
 in_same st x (Ok r) same free = ap (in_stage st) (same free)
 
 module _ (dbs : Databases) where
-  other_same : (st : Stage) (choices : List Choice) (c : Cell) (l : Line) → HasSites c
+  other_same : (st : Stage) (choices : Choices) (c : Cell) (l : Line) → HasSites c
       → FreeLine (in_stage st (run_in (dbs (kind_of_cell c)) c choices l))
-      → in_stage st (run_in (dbs (kind_of_cell c)) c [] l) ≡ in_stage st (run_in (dbs (kind_of_cell c)) c choices l)
+      → in_stage st (run_in (dbs (kind_of_cell c)) c (quieted choices) l) ≡ in_stage st (run_in (dbs (kind_of_cell c)) c choices l)
   other_same st choices c l has free =
-      in_same st (run_in (dbs (kind_of_cell c)) c [] l) (run_in (dbs (kind_of_cell c)) c choices l)
+      in_same st (run_in (dbs (kind_of_cell c)) c (quieted choices) l) (run_in (dbs (kind_of_cell c)) c choices l)
       (run_same (dbs (kind_of_cell c)) c has choices l) free
 
-  standing_same : (st : Stage) (choices : List Choice) (c : Cell) (l : Line) → HasSites c
-      → FreeLine (run_standing dbs st choices c l) → run_standing dbs st [] c l ≡ run_standing dbs st choices c l
+  standing_same : (st : Stage) (choices : Choices) (c : Cell) (l : Line) → HasSites c
+      → FreeLine (run_standing dbs st choices c l) → run_standing dbs st (quieted choices) c l ≡ run_standing dbs st choices c l
   standing_same st choices c (line.Ask server words) has free =
       let script_db = dbs (kind_of_cell c) in
       in_same (record st { asks = st.asks + 1 }) (asked script_db c sound (st.asks + 1) words server)
@@ -317,13 +324,13 @@ module _ (dbs : Databases) where
   standing_same st choices c (line.Restart server) has free = other_same st choices c (line.Restart server) has free
   standing_same st choices c (line.Show server) has free = refl
 
-  any_same : (st : Stage) (choices : List Choice) (l : Line) (cell : Option Cell) → MayHaveSites cell
-      → FreeLine (line_run dbs st choices l cell) → line_run dbs st [] l cell ≡ line_run dbs st choices l cell
+  any_same : (st : Stage) (choices : Choices) (l : Line) (cell : Option Cell) → MayHaveSites cell
+      → FreeLine (line_run dbs st choices l cell) → line_run dbs st (quieted choices) l cell ≡ line_run dbs st choices l cell
   any_same st choices l None has free = first_same st choices l free
   any_same st choices l (Some c) has free = standing_same st choices c l has free
 
-  meant_same : (st : Stage) (choices : List Choice) (meaning : Result Line Why) → MayHaveSites st.cell
-      → FreeLine (meaning_run dbs st choices meaning) → meaning_run dbs st [] meaning ≡ meaning_run dbs st choices meaning
+  meant_same : (st : Stage) (choices : Choices) (meaning : Result Line Why) → MayHaveSites st.cell
+      → FreeLine (meaning_run dbs st choices meaning) → meaning_run dbs st (quieted choices) meaning ≡ meaning_run dbs st choices meaning
   meant_same st choices (Err w) has free = refl
   meant_same st choices (Ok l) has free = any_same st choices l st.cell has free
 
@@ -338,10 +345,10 @@ module _ (dbs : Databases) where
   unless_past false x y same free = ap or_refused (same (refused_free y free))
 
   -- a line of which no fault is told is the same where every disk is sound
-  pub result_same : (st : Stage) (bytes : List ℕ) (choices : List Choice) → MayHaveSites st.cell
+  pub result_same : (st : Stage) (bytes : List ℕ) (choices : Choices) → MayHaveSites st.cell
       → FreeLine (line_result dbs st (record { line = bytes; choices = choices }))
-      → line_result dbs st (record { line = bytes; choices = [] }) ≡ line_result dbs st (record { line = bytes; choices = choices })
+      → line_result dbs st (record { line = bytes; choices = quieted choices }) ≡ line_result dbs st (record { line = bytes; choices = choices })
   result_same st bytes choices has free =
-      let meaning = line_of (servers_of st.cell) bytes in
-      unless_past (nat_le MAX_LINES st.lines) (meaning_run dbs (next_line st) [] meaning) (meaning_run dbs (next_line st) choices meaning)
+      let meaning = line_of bytes in
+      unless_past (nat_le MAX_LINES st.lines) (meaning_run dbs (next_line st) (quieted choices) meaning) (meaning_run dbs (next_line st) choices meaning)
       (meant_same (next_line st) choices meaning has) free

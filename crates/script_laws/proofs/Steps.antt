@@ -16,25 +16,26 @@ use Rattle.cell_model.specs.World.{site_of, triggered, happens, may_tick, is_dow
 use Rattle.cell_model.specs.World.{may_stop, may_fail, IsEvent}
 use Rattle.cell_places.specs.Places.{IsBetween, IsPlacedStep, PacketsHavePlaces}
 use Rattle.script_laws.specs.Runs.{AsksACall, IsScripted}
-use Rattle.script_laws.proofs.Worlds.{AskFits, NodeFits, SiteFits, Fits, asked_fit, new_ask, site_later, fits_at, ticked_fits, all_ticked_fits}
+use Rattle.script_laws.specs.CellRuns.{NodeFits, SiteFits, Fits}
+use Rattle.script_laws.proofs.Worlds.{AskFits, asked_fit, new_ask, site_later, fits_at, ticked_fits, all_ticked_fits}
 
 both : (a b : Bool) → a ≡ true → b ≡ true → (a && b) ≡ true
 both true b first second = second
 both false b first second = first
 
--- an event of the world that a script may bring, and the world after it
-pub record IsLegal (db : Database) (later : ℕ) (w : World) (e : Event) : Type 0 where
+-- An event of the world, and the world after it. A script may bring it, where what is asked is a call.
+pub record IsLegal (calls : Type 0) (db : Database) (later : ℕ) (w : World) (e : Event) : Type 0 where
   pub event : IsEvent w e
-  pub scripted : IsScripted db e
+  pub scripted : calls → IsScripted db e
   pub fits : Fits later (happens db w e).world
   pub hosts : (happens db w e).world.hosts ≡ w.hosts
   pub grows : length w.packets ≤ length (happens db w e).world.packets
 
 -- so of one that happens at a server
-happened_legal : (db : Database) (asks later : ℕ) (w : World) (k : ℕ) (e : Event) (h : SiteHappened) → asks ≤ later → Fits asks w
-    → happens db w e ≡ happened_at w k h → IsEvent w e → IsScripted db e
-    → SiteFits w.hosts later h.site → All (IsBetween w.hosts) (packets_of h.shown) → IsLegal db later w e
-happened_legal db asks later w k e h more fits is event scripted site packets = record {
+happened_legal : (calls : Type 0) (db : Database) (asks later : ℕ) (w : World) (k : ℕ) (e : Event) (h : SiteHappened) → asks ≤ later → Fits asks w
+    → happens db w e ≡ happened_at w k h → IsEvent w e → (calls → IsScripted db e)
+    → SiteFits w.hosts later h.site → All (IsBetween w.hosts) (packets_of h.shown) → IsLegal calls db later w e
+happened_legal calls db asks later w k e h more fits is event scripted site packets = record {
   event = event;
   scripted = scripted;
   fits = subst (λ (x : Happened). Fits later x.world) (sym is) (fits_at asks later w k h more fits site packets);
@@ -51,17 +52,17 @@ refusals_send P event.RecoverTurn = All-nil P
 refusals_send P (event.Ask id call) = All-nil P
 
 -- a trigger brings an event to a server of the cell
-pub record IsOccasion (db : Database) (asks later : ℕ) (w : World) (trigger : Trigger) (k : ℕ) (e : NodeEvent) (site : Site) : Type 0 where
+pub record IsOccasion (calls : Type 0) (db : Database) (asks later : ℕ) (w : World) (trigger : Trigger) (k : ℕ) (e : NodeEvent) (site : Site) : Type 0 where
   pub more : asks ≤ later
   pub brought : occasion w trigger ≡ Some (k, e)
   pub there : site_of w k ≡ Some site
   pub inside : k < length w.hosts
   pub site_fits : SiteFits w.hosts asks site
   pub asked : AskFits asks later e
-  pub call : AsksACall db trigger
+  pub call : calls → AsksACall db trigger
 
-module _ (law : PacketsHavePlaces) (db : Database) (asks later : ℕ) (w : World) (fits : Fits asks w) (trigger : Trigger) (k : ℕ) (e : NodeEvent)
-    (site : Site) (is : IsOccasion db asks later w trigger k e site) where
+module _ (calls : Type 0) (law : PacketsHavePlaces) (db : Database) (asks later : ℕ) (w : World) (fits : Fits asks w) (trigger : Trigger) (k : ℕ)
+    (e : NodeEvent) (site : Site) (is : IsOccasion calls db asks later w trigger k e site) where
   -- ---- a step
 
   stepped_site : (node : Node) → NodeFits w.hosts node → SiteFits w.hosts later (step_at db (member w k) trigger e [] site node).site
@@ -88,50 +89,50 @@ module _ (law : PacketsHavePlaces) (db : Database) (asks later : ℕ) (w : World
   may_be false at delivered = new_ask asks later site.asked e is.asked is.site_fits.ids
 
   -- a packet may come to a server that is down; else the server is up
-  pub step_legal : (is_down site.node ≡ true → may_be_down trigger ≡ true) → IsLegal db later w (Step trigger [])
+  pub step_legal : (is_down site.node ≡ true → may_be_down trigger ≡ true) → IsLegal calls db later w (Step trigger [])
   step_legal delivered =
-      happened_legal db asks later w k (Step trigger []) (step_at db (member w k) trigger e [] site site.node) is.more fits
+      happened_legal calls db asks later w k (Step trigger []) (step_at db (member w k) trigger e [] site site.node) is.more fits
       (ap (triggered w (λ m e site. step_at db m trigger e [] site site.node)) is.brought
       ∙ ap (happens_at w k (λ site. step_at db (member w k) trigger e [] site site.node)) is.there)
       (ap (occurs w (may_step trigger)) is.brought ∙ ap (holds_at (may_step trigger e)) is.there ∙ may_be
       (is_down site.node) refl delivered)
-      (is.call, refl) (stepped_site site.node is.site_fits.node) (stepped_packets site.node is.site_fits.node)
+      (λ named. (is.call named, refl)) (stepped_site site.node is.site_fits.node) (stepped_packets site.node is.site_fits.node)
 
   -- ---- a stop, and a fault
 
   module _ (s : Server) (up : site.node ≡ Up s) (made : ℕ) where
-    pub stop_legal : IsLegal db later w (Stop trigger [] made)
+    pub stop_legal : IsLegal calls db later w (Stop trigger [] made)
     stop_legal =
-        happened_legal db asks later w k (Stop trigger [] made) (stop_at db (member w k) e [] made site (Up s)) is.more fits
+        happened_legal calls db asks later w k (Stop trigger [] made) (stop_at db (member w k) e [] made site (Up s)) is.more fits
         (ap (triggered w (λ m e site. stop_at db m e [] made site site.node)) is.brought
         ∙ ap (happens_at w k (λ site. stop_at db (member w k) e [] made site site.node)) is.there
         ∙ ap (λ (node : Node). happened_at w k (stop_at db (member w k) e [] made site node)) up)
         (ap (occurs w may_stop) is.brought ∙ ap (holds_at (may_stop e)) is.there
         ∙ both (not (is_down site.node)) (is_new_ask site.asked e) (ap (λ (node : Node). not (is_down node)) up)
         (new_ask asks later site.asked e is.asked is.site_fits.ids))
-        (is.call, refl)
+        (λ named. (is.call named, refl))
         (record { ids = (site_later w.hosts asks later site is.more is.site_fits).ids; node = tt }) (All-nil (IsBetween w.hosts))
 
-    pub fault_legal : IsLegal db later w (Fault trigger [] made)
+    pub fault_legal : IsLegal calls db later w (Fault trigger [] made)
     fault_legal =
-        happened_legal db asks later w k (Fault trigger [] made) (fault_at db (member w k) e [] made site (Up s)) is.more fits
+        happened_legal calls db asks later w k (Fault trigger [] made) (fault_at db (member w k) e [] made site (Up s)) is.more fits
         (ap (triggered w (λ m e site. fault_at db m e [] made site site.node)) is.brought
         ∙ ap (happens_at w k (λ site. fault_at db (member w k) e [] made site site.node)) is.there
         ∙ ap (λ (node : Node). happened_at w k (fault_at db (member w k) e [] made site node)) up)
         (ap (occurs w may_fail) is.brought ∙ ap (holds_at (may_fail e)) is.there
         ∙ both (has_disk site.node) (is_new_ask site.asked e) (ap has_disk up) (new_ask asks later site.asked e is.asked is.site_fits.ids))
-        (is.call, refl)
+        (λ named. (is.call named, refl))
         (record { ids = asked_fit asks later site.asked e is.more is.asked is.site_fits.ids; node = tt })
         (refusals_send (IsBetween w.hosts) e)
 
 -- ---- the other events
 
-module _ (law : PacketsHavePlaces) (db : Database) (asks : ℕ) (w : World) (fits : Fits asks w) (k : ℕ) (site : Site)
+module _ (calls : Type 0) (law : PacketsHavePlaces) (db : Database) (asks : ℕ) (w : World) (fits : Fits asks w) (k : ℕ) (site : Site)
     (there : site_of w k ≡ Some site) (fit : SiteFits w.hosts asks site) where
-  pub crash_legal : IsLegal db asks w (Crash k)
+  pub crash_legal : IsLegal calls db asks w (Crash k)
   crash_legal =
-      happened_legal db asks asks w k (Crash k) (crash_at site) (omega arith) fits (ap (happens_at w k crash_at) there)
-      (ap is_some there) tt
+      happened_legal calls db asks asks w k (Crash k) (crash_at site) (omega arith) fits (ap (happens_at w k crash_at) there)
+      (ap is_some there) (λ _. tt)
       (record { ids = fit.ids; node = tt }) (All-nil (IsBetween w.hosts))
 
   opened_fits : (failed : Bool) → SiteFits w.hosts asks (restart_at (length w.hosts) k failed site).site
@@ -142,33 +143,33 @@ module _ (law : PacketsHavePlaces) (db : Database) (asks : ℕ) (w : World) (fit
   opened_sends true = All-nil (IsBetween w.hosts)
   opened_sends false = All-nil (IsBetween w.hosts)
 
-  pub restart_legal : (failed : Bool) → is_down site.node ≡ true → IsLegal db asks w (Restart k failed)
+  pub restart_legal : (failed : Bool) → is_down site.node ≡ true → IsLegal calls db asks w (Restart k failed)
   restart_legal failed down =
-      happened_legal db asks asks w k (Restart k failed) (restart_at (length w.hosts) k failed site) (omega arith) fits
+      happened_legal calls db asks asks w k (Restart k failed) (restart_at (length w.hosts) k failed site) (omega arith) fits
       (ap (happens_at w k (restart_at (length w.hosts) k failed)) there)
-      (ap (holds_at (λ (site : Site). is_down site.node)) there ∙ down) tt
+      (ap (holds_at (λ (site : Site). is_down site.node)) there ∙ down) (λ _. tt)
       (opened_fits failed) (opened_sends failed)
 
-  pub tick_legal : (seconds : ℕ) → 0 < seconds → may_tick (tick_at w.sites k seconds) ≡ true → IsLegal db asks w (Tick k seconds)
+  pub tick_legal : (seconds : ℕ) → 0 < seconds → may_tick (tick_at w.sites k seconds) ≡ true → IsLegal calls db asks w (Tick k seconds)
   tick_legal seconds some may =
       let goes : nat_lt 0 seconds ≡ true = grind (arith, nat_tests) in
       record {
         event =
             both (nat_lt 0 seconds && is_some (site_of w k)) (may_tick (tick_at w.sites k seconds))
             (both (nat_lt 0 seconds) (is_some (site_of w k)) goes (ap is_some there)) may;
-        scripted = tt;
+        scripted = λ _. tt;
         fits = ticked_fits asks w k seconds fits;
         hosts = refl;
         grows = omega arith;
       }
 
-pub tick_all_legal : (db : Database) (asks : ℕ) (w : World) (seconds : ℕ) → Fits asks w → 0 < seconds
-    → may_tick (map (ticked seconds) w.sites) ≡ true → IsLegal db asks w (Tick_all seconds)
-tick_all_legal db asks w seconds fits some may =
+pub tick_all_legal : (calls : Type 0) (db : Database) (asks : ℕ) (w : World) (seconds : ℕ) → Fits asks w → 0 < seconds
+    → may_tick (map (ticked seconds) w.sites) ≡ true → IsLegal calls db asks w (Tick_all seconds)
+tick_all_legal calls db asks w seconds fits some may =
     let goes : nat_lt 0 seconds ≡ true = grind (arith, nat_tests) in
     record {
       event = both (nat_lt 0 seconds) (may_tick (map (ticked seconds) w.sites)) goes may;
-      scripted = tt;
+      scripted = λ _. tt;
       fits = all_ticked_fits asks w seconds fits;
       hosts = refl;
       grows = omega arith;

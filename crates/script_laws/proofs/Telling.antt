@@ -17,20 +17,21 @@ use Rattle.cell_script.specs.declared.lines.Kind.{Kind}
 use Rattle.cell_script.specs.declared.lines.Line.{Line}
 use Rattle.cell_script.specs.declared.lines.Line.TheVariants as line
 use Rattle.cell_script.specs.declared.lines.Why.{Why}
-use Rattle.cell_script.specs.Meaning.{line_of}
+use Rattle.cell_script.specs.Meaning.{HasBounds, line_of}
 use Rattle.cell_runs.specs.declared.limits.TheConstants.{MAX_LINES}
 use Rattle.cell_runs.specs.declared.endings.Ending.{Ending}
-use Rattle.cell_runs.specs.Script.{Choice, LineRead, Opening, Cell, Cell_run, Stage, Line_run, Run_or_why, ScriptEnd, Told, hosts_from, hosts_of}
-use Rattle.cell_runs.specs.Script.{fails_at, first_choice, opened_cell, kind_of_cell, cell_size_of, servers_of, next_line, in_stage, asked, run_in}
+use Rattle.cell_runs.specs.Script.{Choice, Choices, LineRead, Opening, Cell, Cell_run, Stage, Line_run, Run_or_why, ScriptEnd, Told, hosts_from, hosts_of}
+use Rattle.cell_runs.specs.Script.{fails_at, first_choice, opened_cell, kind_of_cell, next_line, in_stage, asked, run_in}
 use Rattle.cell_runs.specs.Script.{run_first, run_standing, line_run, meaning_run, or_refused, line_result, first_told, end_text, ended_at, told_with}
 use Rattle.cell_runs.specs.Script.{told_after, told_from, told}
 use Rattle.cell_runs.specs.ScriptDatabase.{ScriptDatabase, Databases}
 use Rattle.cell_runs.specs.Trace.{TraceItem, Tells, trace, item_text}
+use Rattle.script_laws.specs.CellRuns.{Fits}
 use Rattle.script_laws.specs.Runs.{NamesCalls, database_of, first_of, happenings_of, passes_packets, IsScripted, IsRunOf, IsRunOfCell, ScriptsAreRuns}
-use Rattle.script_laws.proofs.LineFacts.{IsUsual, line_usual}
+use Rattle.script_laws.proofs.LineFacts.{line_bounds, ticks_on}
 use Rattle.script_laws.proofs.LineRuns.{line_part, ask_part}
 use Rattle.script_laws.proofs.Parts.{IsPart, ends_by_packets, happenings-append, run-append, world_of_run, legal-append, seen-append}
-use Rattle.script_laws.proofs.Worlds.{Fits, first_fits}
+use Rattle.script_laws.proofs.Worlds.{first_fits}
 
 -- ---- the opening
 
@@ -43,7 +44,7 @@ rising k zero = tt
 rising k (suc zero) = tt
 rising k (suc (suc n)) = (omega arith, rising (k + 1) (suc n))
 
-is_cell : (n : ℕ) → 1 ≤ n → n ≤ MAXSERVERS → IsCell (hosts_of n)
+pub is_cell : (n : ℕ) → 1 ≤ n → n ≤ MAXSERVERS → IsCell (hosts_of n)
 is_cell n some few = record { some = omega (arith, length-hosts 0 n); not_more = omega (arith, length-hosts 0 n); ascending = rising 0 n }
 
 pub length-fails : (n : ℕ) (choices : List Choice) → length (fails_at n choices) ≡ n
@@ -83,7 +84,7 @@ pub record GoesOn (dbs : Databases) (c : Cell) (run : Line_run) : Type 0 where
   pub stage : Stage
   pub r : Cell_run
   pub is : run ≡ ran stage r.cell r.items r.ending
-  pub part : IsPart (dbs (kind_of_cell c)) stage.asks c.opening c.events c.run r
+  pub part : IsPart (Unit {0}) (dbs (kind_of_cell c)) stage.asks c.opening c.events c.run r
 
 abbrev pub IsLine : Databases → Option Cell → Line_run → Type 0
 IsLine dbs None run = Rests run ⊎ Opens run
@@ -94,83 +95,83 @@ abbrev pub CellFits : ℕ → Option Cell → Type 0
 CellFits asks None = Unit {0}
 CellFits asks (Some c) = Fits asks c.run.world × (length c.handed ≡ length c.run.world.packets)
 
-first_line : (dbs : Databases) (st : Stage) (choices : List Choice) (l : Line) → st.cell ≡ None → IsUsual 0 l
+first_line : (dbs : Databases) (st : Stage) (choices : Choices) (l : Line) → st.cell ≡ None → HasBounds l
     → IfOk (run_first st choices l) (IsLine dbs None)
-first_line dbs st choices line.Nothing none usual = inl (record { stage = st; none = none; is = refl })
-first_line dbs st choices (line.Cell servers clock k) none usual = inr (record {
+first_line dbs st choices line.Nothing none bounds = inl (record { stage = st; none = none; is = refl })
+first_line dbs st choices (line.Cell servers clock k) none bounds = inr (record {
   stage = st;
   servers = servers;
   clock = clock;
   kind = k;
-  failed = fails_at servers choices;
+  failed = fails_at servers choices.each;
   is = refl;
-  cell = is_cell servers usual.bounds.0 usual.bounds.1;
-  moment = usual.bounds.2;
-  each = length-fails servers choices;
+  cell = is_cell servers bounds.0 bounds.1;
+  moment = bounds.2;
+  each = length-fails servers choices.each;
 })
-first_line dbs st choices (line.Ask None words) none usual = tt
-first_line dbs st choices (line.Ask (Some server) words) none usual = tt
-first_line dbs st choices (line.Tick server seconds) none usual = tt
-first_line dbs st choices (line.TickAll seconds) none usual = tt
-first_line dbs st choices (line.Beacon server) none usual = tt
-first_line dbs st choices (line.Recover server) none usual = tt
-first_line dbs st choices (line.Deliver packet) none usual = tt
-first_line dbs st choices (line.Drop packet) none usual = tt
-first_line dbs st choices (line.DropAll server) none usual = tt
-first_line dbs st choices line.DeliverAll none usual = tt
-first_line dbs st choices (line.Stop server calls f) none usual = tt
-first_line dbs st choices (line.Crash server) none usual = tt
-first_line dbs st choices (line.Restart server) none usual = tt
-first_line dbs st choices (line.Show server) none usual = tt
+first_line dbs st choices (line.Ask None words) none bounds = tt
+first_line dbs st choices (line.Ask (Some server) words) none bounds = tt
+first_line dbs st choices (line.Tick server seconds) none bounds = tt
+first_line dbs st choices (line.TickAll seconds) none bounds = tt
+first_line dbs st choices (line.Beacon server) none bounds = tt
+first_line dbs st choices (line.Recover server) none bounds = tt
+first_line dbs st choices (line.Deliver packet) none bounds = tt
+first_line dbs st choices (line.Drop packet) none bounds = tt
+first_line dbs st choices (line.DropAll server) none bounds = tt
+first_line dbs st choices line.DeliverAll none bounds = tt
+first_line dbs st choices (line.Stop server calls f) none bounds = tt
+first_line dbs st choices (line.Crash server) none bounds = tt
+first_line dbs st choices (line.Restart server) none bounds = tt
+first_line dbs st choices (line.Show server) none bounds = tt
 
 goes_on : (dbs : Databases) (c : Cell) (st : Stage) (r : Run_or_why)
-    → IfOk r (IsPart (dbs (kind_of_cell c)) st.asks c.opening c.events c.run) → IfOk (in_stage st r) (GoesOn dbs c)
+    → IfOk r (IsPart (Unit {0}) (dbs (kind_of_cell c)) st.asks c.opening c.events c.run) → IfOk (in_stage st r) (GoesOn dbs c)
 goes_on dbs c st (Err w) part = tt
 goes_on dbs c st (Ok r) part = record { stage = st; r = r; is = refl; part = part }
 
 module _ (law : PacketsHavePlaces) (dbs : Databases) (names : NamesCalls dbs) where
-  other_line : (st : Stage) (choices : List Choice) (c : Cell) (l : Line) → Fits st.asks c.run.world
-      → length c.handed ≡ length c.run.world.packets → IsUsual (cell_size_of c) l
+  other_line : (st : Stage) (choices : Choices) (c : Cell) (l : Line) → Fits st.asks c.run.world
+      → length c.handed ≡ length c.run.world.packets → HasBounds l
       → IfOk (in_stage st (run_in (dbs (kind_of_cell c)) c choices l)) (GoesOn dbs c)
-  other_line st choices c l fits each usual =
+  other_line st choices c l fits each bounds =
       goes_on dbs c st (run_in (dbs (kind_of_cell c)) c choices l)
-      (line_part law (dbs (kind_of_cell c)) st.asks c fits each choices l usual)
+      (line_part (Unit {0}) law (dbs (kind_of_cell c)) st.asks c fits each choices l (ticks_on l bounds))
 
-  standing_line : (st : Stage) (choices : List Choice) (c : Cell) (l : Line) → Fits st.asks c.run.world
-      → length c.handed ≡ length c.run.world.packets → IsUsual (cell_size_of c) l
+  standing_line : (st : Stage) (choices : Choices) (c : Cell) (l : Line) → Fits st.asks c.run.world
+      → length c.handed ≡ length c.run.world.packets → HasBounds l
       → IfOk (run_standing dbs st choices c l) (GoesOn dbs c)
-  standing_line st choices c (line.Ask server words) fits each usual =
+  standing_line st choices c (line.Ask server words) fits each bounds =
       goes_on dbs c (record st { asks = st.asks + 1 }) (asked (dbs (kind_of_cell c)) c (first_choice choices) (st.asks + 1) words server)
-      (ask_part law (dbs (kind_of_cell c)) st.asks c fits each (names (kind_of_cell c)) (first_choice choices) words server)
-  standing_line st choices c line.Nothing fits each usual = other_line st choices c line.Nothing fits each usual
-  standing_line st choices c (line.Cell servers clock k) fits each usual =
-      other_line st choices c (line.Cell servers clock k) fits each usual
-  standing_line st choices c (line.Tick server seconds) fits each usual = other_line st choices c (line.Tick server seconds) fits each usual
-  standing_line st choices c (line.TickAll seconds) fits each usual = other_line st choices c (line.TickAll seconds) fits each usual
-  standing_line st choices c (line.Beacon server) fits each usual = other_line st choices c (line.Beacon server) fits each usual
-  standing_line st choices c (line.Recover server) fits each usual = other_line st choices c (line.Recover server) fits each usual
-  standing_line st choices c (line.Deliver packet) fits each usual = other_line st choices c (line.Deliver packet) fits each usual
-  standing_line st choices c (line.Drop packet) fits each usual = other_line st choices c (line.Drop packet) fits each usual
-  standing_line st choices c (line.DropAll server) fits each usual = other_line st choices c (line.DropAll server) fits each usual
-  standing_line st choices c line.DeliverAll fits each usual = other_line st choices c line.DeliverAll fits each usual
-  standing_line st choices c (line.Stop server calls f) fits each usual = other_line st choices c (line.Stop server calls f) fits each usual
-  standing_line st choices c (line.Crash server) fits each usual = other_line st choices c (line.Crash server) fits each usual
-  standing_line st choices c (line.Restart server) fits each usual = other_line st choices c (line.Restart server) fits each usual
-  standing_line st choices c (line.Show server) fits each usual = other_line st choices c (line.Show server) fits each usual
+      (ask_part (Unit {0}) law (dbs (kind_of_cell c)) st.asks c fits each (λ _. names (kind_of_cell c)) (first_choice choices) words server)
+  standing_line st choices c line.Nothing fits each bounds = other_line st choices c line.Nothing fits each bounds
+  standing_line st choices c (line.Cell servers clock k) fits each bounds =
+      other_line st choices c (line.Cell servers clock k) fits each bounds
+  standing_line st choices c (line.Tick server seconds) fits each bounds = other_line st choices c (line.Tick server seconds) fits each bounds
+  standing_line st choices c (line.TickAll seconds) fits each bounds = other_line st choices c (line.TickAll seconds) fits each bounds
+  standing_line st choices c (line.Beacon server) fits each bounds = other_line st choices c (line.Beacon server) fits each bounds
+  standing_line st choices c (line.Recover server) fits each bounds = other_line st choices c (line.Recover server) fits each bounds
+  standing_line st choices c (line.Deliver packet) fits each bounds = other_line st choices c (line.Deliver packet) fits each bounds
+  standing_line st choices c (line.Drop packet) fits each bounds = other_line st choices c (line.Drop packet) fits each bounds
+  standing_line st choices c (line.DropAll server) fits each bounds = other_line st choices c (line.DropAll server) fits each bounds
+  standing_line st choices c line.DeliverAll fits each bounds = other_line st choices c line.DeliverAll fits each bounds
+  standing_line st choices c (line.Stop server calls f) fits each bounds = other_line st choices c (line.Stop server calls f) fits each bounds
+  standing_line st choices c (line.Crash server) fits each bounds = other_line st choices c (line.Crash server) fits each bounds
+  standing_line st choices c (line.Restart server) fits each bounds = other_line st choices c (line.Restart server) fits each bounds
+  standing_line st choices c (line.Show server) fits each bounds = other_line st choices c (line.Show server) fits each bounds
 
-  any_line : (st : Stage) (choices : List Choice) (l : Line) (cell : Option Cell) → st.cell ≡ cell → CellFits st.asks cell
-      → IsUsual (servers_of cell) l → IfOk (line_run dbs st choices l cell) (IsLine dbs cell)
-  any_line st choices l None is fits usual = first_line dbs st choices l is usual
-  any_line st choices l (Some c) is fits usual = standing_line st choices c l fits.0 fits.1 usual
+  any_line : (st : Stage) (choices : Choices) (l : Line) (cell : Option Cell) → st.cell ≡ cell → CellFits st.asks cell
+      → HasBounds l → IfOk (line_run dbs st choices l cell) (IsLine dbs cell)
+  any_line st choices l None is fits bounds = first_line dbs st choices l is bounds
+  any_line st choices l (Some c) is fits bounds = standing_line st choices c l fits.0 fits.1 bounds
 
   refused_line : (cell : Option Cell) (r : Result Line_run Why) → IfOk r (IsLine dbs cell) → IfOk (or_refused r) (IsLine dbs cell)
   refused_line cell (Ok run) is = is
   refused_line cell (Err w) is = tt
 
-  meant_line : (st : Stage) (choices : List Choice) (meaning : Result Line Why) → CellFits st.asks st.cell
-      → IfOk meaning (IsUsual (servers_of st.cell)) → IfOk (meaning_run dbs st choices meaning) (IsLine dbs st.cell)
-  meant_line st choices (Err w) fits usual = tt
-  meant_line st choices (Ok l) fits usual = any_line st choices l st.cell refl fits usual
+  meant_line : (st : Stage) (choices : Choices) (meaning : Result Line Why) → CellFits st.asks st.cell
+      → IfOk meaning HasBounds → IfOk (meaning_run dbs st choices meaning) (IsLine dbs st.cell)
+  meant_line st choices (Err w) fits bounds = tt
+  meant_line st choices (Ok l) fits bounds = any_line st choices l st.cell refl fits bounds
 
   if_line : (cell : Option Cell) (b : Bool) (x y : Result Line_run Ending) → IfOk x (IsLine dbs cell) → IfOk y (IsLine dbs cell)
       → IfOk (cond b x y) (IsLine dbs cell)
@@ -180,8 +181,8 @@ module _ (law : PacketsHavePlaces) (dbs : Databases) (names : NamesCalls dbs) wh
   pub result_line : (st : Stage) (r : LineRead) → CellFits st.asks st.cell → IfOk (line_result dbs st r) (IsLine dbs st.cell)
   result_line st r fits =
       if_line st.cell (nat_le MAX_LINES st.lines) _ _ tt
-      (refused_line st.cell (meaning_run dbs (next_line st) r.choices (line_of (servers_of st.cell) r.line))
-      (meant_line (next_line st) r.choices (line_of (servers_of st.cell) r.line) fits (line_usual (servers_of st.cell) r.line)))
+      (refused_line st.cell (meaning_run dbs (next_line st) r.choices (line_of r.line))
+      (meant_line (next_line st) r.choices (line_of r.line) fits (line_bounds r.line)))
 
 -- ---- what is told
 
@@ -273,7 +274,7 @@ opened_line law dbs t run goes so is =
 -- ---- a line that goes on with a run
 
 module _ (dbs : Databases) (t : Told) (c : Cell) (stage : Stage) (r : Cell_run) (goes : t.ended ≡ None) (so : IsSoFar dbs t c)
-    (part : IsPart (dbs (kind_of_cell c)) stage.asks c.opening c.events c.run r) where
+    (part : IsPart (Unit {0}) (dbs (kind_of_cell c)) stage.asks c.opening c.events c.run r) where
   abbrev db : Database
   db = database_of dbs c
 
@@ -334,7 +335,7 @@ module _ (dbs : Databases) (t : Told) (c : Cell) (stage : Stage) (r : Cell_run) 
         ap (λ (x : Run). run_through db x part.events) so.run.run
         ∙ ap (λ (w : World). run_through db (run_through db (first_run w) c.events) part.events) same_first
         ∙ sym (run-append db (first_run (first_of after)) c.events part.events);
-    scripted = All-append (IsScripted db) c.events part.events so.run.scripted part.scripted;
+    scripted = All-append (IsScripted db) c.events part.events so.run.scripted (part.scripted tt);
     legal = subst (λ (w : World). IsRun db w (c.events ++ part.events)) same_first
         (legal-append db (first_of c) c.events part.events so.run.legal
         (subst (λ (w : World). IsRun db w part.events) world_before part.legal));

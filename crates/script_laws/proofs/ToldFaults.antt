@@ -14,7 +14,7 @@ use Rattle.cell_model.specs.Step.{Member, Evaluation, Shown}
 use Rattle.cell_model.specs.World as world
 use Rattle.cell_model.specs.World.{Site, World, Trigger, Event, Tick, Tick_all, Step, Stop, Fault, Crash, Restart, Happening, Happened, SiteHappened}
 use Rattle.cell_model.specs.World.{member, site_of, occasion, seen_from, seen_of_output, number_after, packet_of, first_site, first_seen, step_at}
-use Rattle.cell_model.specs.World.{stop_at, fault_at, crash_at, restart_at, tick_at, ticked, happens_at, triggered, happens, world_after, seen_of}
+use Rattle.cell_model.specs.World.{stop_at, fault_at, crash_at, restart_at, ticked, happens_at, triggered, happens, world_after, seen_of}
 use Rattle.cell_runs.specs.Script.{Cell, Told, told}
 use Rattle.cell_runs.specs.ScriptDatabase.{Databases}
 use Rattle.cell_runs.specs.Trace.{TraceItem, Tells, Shows, is_fault_of, fault_count}

@@ -9,16 +9,11 @@ use Rattle.ubik_types.specs.declared.hosts.Host.{Host}
 use Rattle.cell_model.specs.declared.events.NodeEvent.{NodeEvent}
 use Rattle.cell_model.specs.declared.events.NodeEvent.TheVariants as event
 use Rattle.cell_model.specs.Durable.{no_database}
-use Rattle.cell_model.specs.Node.{Node, Down, Halted, Up}
 use Rattle.cell_model.specs.World.{Site, World, SiteHappened, packets_of, happened_at, asked_after, is_new_ask, ticked, tick_at, first_site, first_world}
-use Rattle.cell_places.specs.Places.{IsPhaseOf, IsBetween, PacketsHavePlaces}
+use Rattle.cell_places.specs.Places.{IsBetween, PacketsHavePlaces}
+use Rattle.script_laws.specs.CellRuns.{IdsFit, SiteFits, Fits}
 
 -- ---- ids
-
--- these ids are of so many calls
-abbrev pub IdsFit : ℕ → List ℕ → Type 0
-IdsFit asks [] = Unit {0}
-IdsFit asks (id ∷ ids) = (id ≤ asks) × IdsFit asks ids
 
 more_ids : (asks later : ℕ) (ids : List ℕ) → asks ≤ later → IdsFit asks ids → IdsFit later ids
 more_ids asks later [] more fit = tt
@@ -51,21 +46,6 @@ new_ask asks later ids event.RecoverTurn is fit = refl
 new_ask asks later ids (event.Ask id call) is fit = not_among asks id ids fit is.0
 
 -- ---- sites and worlds
-
--- the phase of a server that is up has a place for each server of the cell
-abbrev pub NodeFits : List Host → Node → Type 0
-NodeFits hosts Down = Unit {0}
-NodeFits hosts (Halted h) = Unit {0}
-NodeFits hosts (Up s) = IsPhaseOf (length hosts) s.phase
-
-pub record SiteFits (hosts : List Host) (asks : ℕ) (site : Site) : Type 0 where
-  pub ids : IdsFit asks site.asked
-  pub node : NodeFits hosts site.node
-
-pub record Fits (asks : ℕ) (w : World) : Type 0 where
-  pub each : length w.sites ≡ length w.hosts
-  pub sites : All (SiteFits w.hosts asks) w.sites
-  pub packets : All (IsBetween w.hosts) w.packets
 
 pub site_later : (hosts : List Host) (asks later : ℕ) (site : Site) → asks ≤ later → SiteFits hosts asks site → SiteFits hosts later site
 site_later hosts asks later site more fit = record { ids = more_ids asks later site.asked more fit.ids; node = fit.node }

@@ -1,13 +1,13 @@
 -- Where no fault of a disk is told, no choice of what disks do matters (own).
-use Rattle.std.specs.Prelude.{◌≡◌, ◌≤◌, ℕ, Option, Some, None, List, [], ◌++◌, length, map}
-use Rattle.cell_runs.specs.Script.{LineRead, Cell, told}
+use Rattle.std.specs.Prelude.{◌≡◌, ◌≤◌, ℕ, Option, Some, None, List, ◌++◌, length, map}
+use Rattle.cell_runs.specs.Script.{AreWhole, Cell, LineRead, sound_choices, told}
 use Rattle.cell_runs.specs.ScriptDatabase.{Databases}
 use Rattle.cell_runs.specs.Trace.{TraceItem, fault_count}
 use Rattle.script_laws.specs.Runs.{NamesCalls}
 
 -- these lines where every disk is sound
 abbrev pub sound_lines : List (List ℕ) → List LineRead
-sound_lines lines = map (λ l. record { line = l; choices = [] }) lines
+sound_lines lines = map (λ l. record { line = l; choices = sound_choices }) lines
 
 -- the lines that were read, without the choices in them
 abbrev pub lines_read : List LineRead → List (List ℕ)
@@ -17,16 +17,16 @@ lines_read readings = map (λ (r : LineRead). r.line) readings
 abbrev pub HasNoFault : List TraceItem → Type 0
 HasNoFault items = (k : ℕ) → fault_count k items ≡ 0
 
--- Lines of which no fault is told leave and tell what they do where every disk is sound.
+-- Lines that are run to their ends, and of which no fault is told, leave and tell what they do where every disk is sound.
 abbrev pub SoundScripts : Type 0
 SoundScripts =
-    (dbs : Databases) (readings : List LineRead) → HasNoFault (told dbs readings).items
+    (dbs : Databases) (readings : List LineRead) → AreWhole readings → HasNoFault (told dbs readings).items
     → told dbs (sound_lines (lines_read readings)) ≡ told dbs readings
 
 -- Where a script does not end where every disk is sound, no front of it ends of which no fault is told.
 abbrev pub SoundFronts : Type 0
 SoundFronts =
-    (dbs : Databases) (readings : List LineRead) (later : List (List ℕ)) → HasNoFault (told dbs readings).items
+    (dbs : Databases) (readings : List LineRead) (later : List (List ℕ)) → AreWhole readings → HasNoFault (told dbs readings).items
     → (told dbs (sound_lines (lines_read readings ++ later))).ended ≡ None → (told dbs readings).ended ≡ None
 
 -- how many servers the cell has, 0 where none stands

@@ -4,18 +4,20 @@ use Rattle.ubik_types.specs.declared.hosts.Host.{Host}
 use Rattle.cell_model.specs.KeptLaws.{AcknowledgedStay, OksAreAcknowledged, RepliesAreSingle, SitesAreSingle}
 use Rattle.cell_model.specs.Laws.{AnnouncementsGrow}
 use Rattle.cell_model.specs.World.{first_world}
-use Rattle.pt_calls.specs.Laws.{NamesCallsAlone}
-use Rattle.cell_runs.specs.Script.{Cell, Told, cell_size_of, hosts_of, told}
+use Rattle.db_image.specs.Standing.{Standing}
+use Rattle.cell_script.specs.declared.lines.Kind.{Kind}
+use Rattle.cell_script.specs.declared.lines.Kind.TheVariants.{Location, Protection}
+use Rattle.cell_runs.specs.Script.{Cell, Told, cell_size_of, hosts_of, kind_of_cell, told}
 use Rattle.script_laws.specs.Runs.{NamesCalls, IsRunOf, IsRunOfCell, ScriptsAreRuns}
-use Rattle.script_promises.specs.Databases.{databases}
+use Rattle.script_promises.specs.Databases.{databases, standing_of, standings}
+use Rattle.script_promises.specs.Lawful.{IsLawful}
 use Rattle.script_promises.specs.Promises.{KeepsPromises, ScriptsKeepPromises}
 use Rattle.script_promises.proofs.Copies.{IsOfOne, kept, one_order, single_replies}
-use Rattle.script_promises.proofs.SingleStates.{DatabaseLaws}
 
--- the laws of runs of one server, of the protection database, and of scripts
+-- the laws of runs of one server, of the databases, and of scripts
 pub record Laws : Type 0 where
-  pub database : DatabaseLaws
-  pub names : NamesCallsAlone
+  pub lawful : (k : Kind) → IsLawful (standings k)
+  pub names : NamesCalls databases
   pub order : AnnouncementsGrow
   pub stay : AcknowledgedStay
   pub acknowledged : OksAreAcknowledged
@@ -23,9 +25,10 @@ pub record Laws : Type 0 where
   pub replies : RepliesAreSingle
   pub runs : ScriptsAreRuns
 
--- words name calls
-pub names_calls : NamesCallsAlone → NamesCalls databases
-names_calls law k words call is = law words call is
+-- what holds of both kinds
+pub by_kind : (P : Kind → Type 0) → P Protection → P Location → (k : Kind) → P k
+by_kind P protection location Protection = protection
+by_kind P protection location Location = location
 
 -- ---- a cell of one server
 
@@ -48,10 +51,12 @@ of_one t c run one = of_failed c c.opening.failed refl (run.first.each ∙ one) 
 worth : Laws → (t : Told) (c : Cell) → IsRunOf databases t c → KeepsPromises c
 worth laws t c run one =
     let is : IsOfOne c = of_one t c run one in
+    let d : Standing = standing_of c in
+    let lawful : IsLawful d = laws.lawful (kind_of_cell c) in
     record {
-      order = one_order c is laws.order;
-      kept = kept c is laws.database laws.stay laws.sites laws.acknowledged;
-      replies = single_replies c is laws.database laws.replies run.scripted;
+      order = one_order d c is laws.order;
+      kept = kept d c is lawful laws.stay laws.sites laws.acknowledged;
+      replies = single_replies d c is lawful laws.replies run.scripted;
     }
 
 cell_worth : Laws → (t : Told) (cell : Option Cell) → IsRunOfCell databases t cell → IfSome cell KeepsPromises
@@ -60,4 +65,4 @@ cell_worth laws t (Some c) run = worth laws t c run
 
 pub scripts_keep_promises : Laws → ScriptsKeepPromises
 scripts_keep_promises laws readings =
-    cell_worth laws (told databases readings) (told databases readings).stage.cell (laws.runs databases (names_calls laws.names) readings)
+    cell_worth laws (told databases readings) (told databases readings).stage.cell (laws.runs databases laws.names readings)

@@ -1,6 +1,7 @@
 -- The replies in a cell of one server are those of a single copy, and nothing is seen that such a cell cannot show (own).
 use Rattle.std.specs.Prelude.{◌≡◌, ℕ, Option, List, ◌∷◌, ◌++◌, All}
 use Rattle.db_image.specs.Meaning.{reply_of}
+use Rattle.db_image.specs.Standing.{Standing}
 use Rattle.db_image.specs.declared.services.CallReply.{CallReply}
 use Rattle.ubik_calls.specs.declared.replies.Reply.{Reply}
 use Rattle.ubik_calls.specs.declared.replies.Reply.TheVariants as reply
@@ -8,14 +9,12 @@ use Rattle.cell_model.specs.Book.{Run}
 use Rattle.cell_model.specs.Durable.{Transaction}
 use Rattle.cell_model.specs.KeptLaws.{Answered, IsAnsweredBy, answered_by}
 use Rattle.cell_model.specs.World.{Event, Happening, Announced, Replied, Stops, Halts, Restarts, Stays_down, happens}
-use Rattle.pt_calls.specs.Meaning.{pt_meaning}
-use Rattle.pt_calls.specs.Standing.{pt_database}
 use Rattle.cell_runs.specs.Script.{Cell}
 use Rattle.script_promises.specs.Order.{run_at, order_in}
 
 -- what the single copy replies to a call after these transactions
-abbrev pub meant_reply : List Transaction → (now : ℕ) → List ℕ → CallReply
-meant_reply order = reply_of pt_meaning order
+abbrev pub meant_reply : Standing → List Transaction → (now : ℕ) → List ℕ → CallReply
+meant_reply d order = reply_of d.meaning order
 
 -- No reply is that the bytes asked are no call, that the database is bad, that memory ran out, that another server is the sync
 -- site, or that a line is full.
@@ -43,12 +42,12 @@ IsSeenOf single (Replied server id r evaluation) = IsAnsweredBy single server id
 IsSeenOf single _ = Unit {0}
 
 -- what the single copy answers after a run, in an event
-abbrev pub single_in : Run → Event → Option Answered
-single_in r e = answered_by (meant_reply (order_in r)) r.world e
+abbrev pub single_in : Standing → Run → Event → Option Answered
+single_in d r e = answered_by (meant_reply d (order_in r)) r.world e
 
 -- Each reply Ok or Rule of an event is what its call means for the state of the order before the event, at the clock of
 -- the server; and nothing is seen but announcements, proper replies, and that the server stops, halts, is opened or stays down.
-abbrev pub HasSingleReplies : Cell → Type 0
-HasSingleReplies c =
+abbrev pub HasSingleReplies : Standing → Cell → Type 0
+HasSingleReplies d c =
     (front back : List Event) (e : Event) → c.events ≡ front ++ e ∷ back →
-    let r = run_at c front in All (λ seen. IsSeenOf (single_in r e) seen × IsProper seen) (happens pt_database r.world e).seen
+    let r = run_at d c front in All (λ seen. IsSeenOf (single_in d r e) seen × IsProper seen) (happens d.database r.world e).seen

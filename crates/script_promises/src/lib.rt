@@ -4,4 +4,6 @@
 
 mod laws;
 
-pub use laws::{law_scripts_keep_promises, law_words_are_calls};
+pub use laws::{
+    law_location_is_lawful, law_protection_is_lawful, law_scripts_keep_promises, law_words_are_calls,
+};

@@ -11,7 +11,7 @@ use Rattle.cell_script.specs.declared.lines.TheConstants.{MAX_TICK}
 use Rattle.cell_script.specs.declared.lines.Why.{Why}
 use Rattle.cell_runs.specs.declared.endings.Ending.TheVariants as ending
 use Rattle.cell_runs.specs.declared.endings.Which.{Which}
-use Rattle.cell_runs.specs.Script.{Cell, Choice, Run_or_why, resting, run_in}
+use Rattle.cell_runs.specs.Script.{Cell, Choices, Run_or_why, resting, run_in, sound_choices}
 use Rattle.cell_runs.specs.ScriptDatabase.{ScriptDatabase}
 use Rattle.cell_sites.specs.declared.cells.OpenCell.{OpenCell}
 use Rattle.cell_sites.specs.declared.faults.LineFault.{LineFault}
@@ -19,30 +19,37 @@ use Rattle.cell_sites.specs.declared.faults.LineFault.TheVariants.{Refused, Limi
 use Rattle.cell_sites.specs.declared.sites.Site.{Site}
 use Rattle.cell_sites.specs.Disks.{Held, AreRises}
 use Rattle.cell_sites.specs.Sites.{IsModelledBy, helds}
-use Rattle.cell_sites.specs.Sound.{AreSound, IsSound}
+use Rattle.cell_sites.specs.Sound.{AreSound, Bounds, IsSound}
 use Rattle.cell_sites.specs.Told.{CellTold, IsRefused, IsShort}
-use Rattle.ubik_cell.specs.LineRuns.{CellDone, KeepsCell}
+use Rattle.db_image.specs.Database.{Database}
 use Rattle.db_image.specs.Standing.{Standing}
+use Rattle.ubik_cell.specs.LineRuns.{CellDone, KeepsCell}
 
 -- ---- what stays sound
 
-sites_raised : {D V : Type 0} (standing : Standing) (g : Ghosts D) (hosts : List Host) (place bound later : ℕ) (sites : List (Site D V)) → bound ≤ later
-    → AreSound g standing hosts place bound sites → AreSound g standing hosts place later sites
-sites_raised standing g hosts place bound later [] more sound = tt
-sites_raised standing g hosts place bound later (site ∷ sites) more sound = (
+sites_raised : {D V : Type 0} (g : Ghosts D) (hosts : List Host) (place bound later : ℕ) (sites : List (Site D V)) → bound ≤ later
+    → AreSound g hosts place bound sites → AreSound g hosts place later sites
+sites_raised g hosts place bound later [] more sound = tt
+sites_raised g hosts place bound later (site ∷ sites) more sound = (
   record { moment = sound.0.moment; within = omega (arith, sound.0.within); server = sound.0.server; disk = sound.0.disk },
-  sites_raised standing g hosts (place + 1) bound later sites more sound.1,
+  sites_raised g hosts (place + 1) bound later sites more sound.1,
 )
 
-pub raised : {D V : Type 0} {standing : Standing} (g : Ghosts D) (bound later : ℕ) (running : OpenCell D V) → bound ≤ later → IsSound g standing bound running → IsSound g standing later running
-raised {standing = standing} g bound later running more sound = record {
-  some = sound.some;
-  few = sound.few;
-  hosts = sound.hosts;
-  sites = sites_raised standing g running.hosts.items 0 bound later running.sites.items more sound.sites;
-  near = sound.near;
-  packets = sound.packets;
-  told = sound.told;
+-- at a later clock
+pub raised : {D V : Type 0} (g : Ghosts D) (db : Database) (bounds : Bounds) (later : ℕ) (running : OpenCell D V) → bounds.clock ≤ later
+    → IsSound g db bounds running → IsSound g db (record bounds { clock = later }) running
+raised g db bounds later running more sound = record {
+  steady = record {
+    some = sound.steady.some;
+    few = sound.steady.few;
+    hosts = sound.steady.hosts;
+    sites = sites_raised g running.hosts.items 0 bounds.clock later running.sites.items more sound.steady.sites;
+    near = sound.steady.near;
+    packets = sound.steady.packets;
+    told = sound.steady.told;
+  };
+  run = sound.run;
+  blocks = sound.blocks;
 }
 
 pub no_rises : (k : ℕ) (disks : List Held) → AreRises k [] disks disks
@@ -53,17 +60,31 @@ no_rises k (disk ∷ disks) = (omega arith, no_rises (k + 1) disks)
 
 module _ {D V : Type 0} (g : Ghosts D) (before after : OpenCell D V) where
   pub kept_of : {standing : Standing} (result : Result (Unit {0}) LineFault) (seconds : ℕ) → seconds ≤ MAX_TICK
-      → (result ≡ Ok tt → (bound : ℕ) → IsSound g standing bound before → IsSound g standing (bound + seconds) after)
+      → (result ≡ Ok tt → (bounds : Bounds) → IsSound g standing.database bounds before
+      → IsSound g standing.database (record bounds { clock = bounds.clock + seconds }) after)
       → AreRises 0 [] (helds g before) (helds g after) → length after.sites.items ≡ length before.sites.items
       → KeepsCell g standing result before after
-  kept_of result seconds few sound rises same = record {
-    sound = λ done bound is. raised g (bound + seconds) (bound + MAX_TICK) after (omega (arith, few)) (sound done bound is);
+  kept_of {standing} result seconds few sound rises same = record {
+    sound = λ done bounds is.
+        raised g standing.database (record bounds { clock = bounds.clock + seconds }) (bounds.clock + MAX_TICK) after (omega (arith, few))
+        (sound done bounds is);
+    never_falls = rises;
+    same = same;
+  }
+
+  -- a line in which no clock goes on
+  pub kept_still : {standing : Standing} (result : Result (Unit {0}) LineFault)
+      → (result ≡ Ok tt → (bounds : Bounds) → IsSound g standing.database bounds before → IsSound g standing.database bounds after)
+      → AreRises 0 [] (helds g before) (helds g after) → length after.sites.items ≡ length before.sites.items
+      → KeepsCell g standing result before after
+  kept_still {standing} result sound rises same = record {
+    sound = λ done bounds is. raised g standing.database bounds (bounds.clock + MAX_TICK) after (omega arith) (sound done bounds is);
     never_falls = rises;
     same = same;
   }
 
   -- what became of it, by its result
-  pub cell_done : (db : ScriptDatabase) (run : Cell → List Choice → Run_or_why) (result : Result (Unit {0}) LineFault) (text_before text_after : List ℕ)
+  pub cell_done : (db : ScriptDatabase) (run : Cell → Choices → Run_or_why) (result : Result (Unit {0}) LineFault) (text_before text_after : List ℕ)
       → (result ≡ Ok tt → (given : List ℕ) (c : Cell) → IsModelledBy g db.database given before c → CellTold g db given (run c) None before after text_before text_after)
       → ((which : Which) → result ≡ Err (Limit which) → (given : List ℕ) (c : Cell) → IsModelledBy g db.database given before c
       → CellTold g db given (run c) (Some (ending.Limit which)) before after text_before text_after)
@@ -107,14 +128,13 @@ module _ {D V : Type 0} (g : Ghosts D) (before after : OpenCell D V) where
 
 -- a line that does nothing
 pub kept_same : {D V : Type 0} {standing : Standing} (g : Ghosts D) (result : Result (Unit {0}) LineFault) (running : OpenCell D V) → KeepsCell g standing result running running
-kept_same g result running =
-    kept_of g running running result 0 (omega arith) (λ done bound is. raised g bound (bound + 0) running (omega arith) is)
-    (no_rises 0 (helds g running)) refl
+kept_same g result running = kept_still g running running result (λ done bounds is. is) (no_rises 0 (helds g running)) refl
 
 pub nothing_told : {D V : Type 0} (g : Ghosts D) (db : ScriptDatabase) (running : OpenCell D V) (text : List ℕ) (given : List ℕ) (c : Cell)
     → IsModelledBy g db.database given running c → CellTold g db given (λ choices. run_in db c choices line.Nothing) None running running text text
 nothing_told g db running text given c stands = record {
-  choices = [];
+  choices = sound_choices;
+  whole = refl;
   ran = resting c;
   is = refl;
   ends = refl;

@@ -7,7 +7,7 @@ use Rattle.std.specs.Prelude.{All, Bool, true, false, nat_lt}
 use Rattle.disk_base.specs.declared.disks.Disk.{Ghosts}
 use Rattle.cell_model.specs.World.{Site}
 use Rattle.cell_script.specs.Lines.{lines_of}
-use Rattle.cell_runs.specs.Script.{Cell, LineRead, told}
+use Rattle.cell_runs.specs.Script.{AreWhole, Cell, LineRead, told}
 use Rattle.cell_runs.specs.Trace.{TraceItem, fault_count}
 use Rattle.cell_runs.specs.declared.endings.Ending.{Ending}
 use Rattle.cell_runs.specs.declared.endings.Ending.TheVariants.{Refused, Limit}
@@ -102,9 +102,9 @@ none_more more (inr none) = no_lines more none
 
 module _ (fronts : SoundFronts) (law : FaultsHaveServers) (names : NamesCalls databases) where
   not_until : (number : ℕ) (ending : Ending) (readings : List LineRead) (text : List ℕ) (left : Option (List ℕ)) (before : List ℕ)
-      (after : Option (List ℕ)) → RanUntil number ending databases readings text left before after
+      (after : Option (List ℕ)) → AreWhole readings → RanUntil number ending databases readings text left before after
       → HasNoFault (told databases readings).items → IsInside databases text → ⊥
-  not_until number ending readings text left before after run sound inside =
+  not_until number ending readings text left before after are_whole run sound inside =
       let lines : read_lines readings ≡ read_lines run.earlier ++ run.last.line ∷ [] =
       ap read_lines run.is ∙ read_lines-push run.earlier run.last in
       let all : lines_of text ≡ read_lines readings ++ run.later =
@@ -112,7 +112,7 @@ module _ (fronts : SoundFronts) (law : FaultsHaveServers) (names : NamesCalls da
       ∙ ap (λ (l : List (List ℕ)). l ++ run.later) (sym lines) in
       let whole : (told databases (sound_lines (read_lines readings ++ run.later))).ended ≡ None =
       subst (λ (l : List (List ℕ)). (told databases (sound_lines l)).ended ≡ None) all inside in
-      let never = sym (fronts databases readings run.later sound whole) ∙ run.ended in cc
+      let never = sym (fronts databases readings run.later are_whole sound whole) ∙ run.ended in cc
 
   module _ (given : List ℕ) (text : List ℕ) (left : Option (List ℕ)) (before : List ℕ) (after : Option (List ℕ)) (reached : ℕ)
       (disks : List Held) (none : NoneFailed disks) where
@@ -128,12 +128,12 @@ module _ (fronts : SoundFronts) (law : FaultsHaveServers) (names : NamesCalls da
         → k ≢ kind.WriteFault → ((place : ℕ) → k ≢ kind.Words place) → IsDoneOrShort k
     is_complete kind.Done ran inside read wrote words = tt
     is_complete (kind.ScriptRefused line why) ran inside read wrote words =
-        not_until line (Refused why) ran.readings text left before after ran.run
+        not_until line (Refused why) ran.readings text left before after ran.whole ran.run
         (quiet false ran.readings ran.more ran.run_or_not ran.causes ran.held) inside
     is_complete kind.ReadFault ran inside read wrote words = read refl
     is_complete kind.WriteFault ran inside read wrote words = wrote refl
     is_complete (kind.Limit line which) ran inside read wrote words =
-        not_until line (Limit which) ran.readings text left before after ran.run
+        not_until line (Limit which) ran.readings text left before after ran.whole ran.run
         (quiet false ran.readings ran.more ran.run_or_not ran.causes ran.held) inside
     is_complete kind.NoMemory ran inside read wrote words = tt
     is_complete (kind.Words place) ran inside read wrote words = words place refl

@@ -3,17 +3,17 @@ use Rattle.std.proofs.Common.{take, ◌≡◌, ◌≢◌, ◌+◌, ◌⊎◌, in
 use Rattle.disk_base.specs.declared.disks.Disk.{Ghosts}
 use Rattle.cell_script.specs.Write.{AppendsPart}
 use Rattle.cell_runs.specs.Script.{Told, told}
-use Rattle.cell_runs.specs.ScriptDatabase.{Databases}
+use Rattle.script_promises.specs.Databases.{databases}
 use Rattle.ubik_cell.specs.declared.cells.CellKind.{CellKind}
 use Rattle.ubik_cell.specs.declared.cells.CellKind.TheVariants as kind
-use Rattle.ubik_cell.specs.declared.scripts.CellRun.{CellRun}
+use Rattle.ubik_cell.specs.declared.runs.ScriptRun.{ScriptRun}
 use Rattle.ubik_cell.specs.declared.scripts.RunEnd.{RunEnd}
 use Rattle.ubik_cell.specs.declared.scripts.RunEnd.TheVariants.{Ended, NoMemory}
-use Rattle.ubik_cell.specs.Lines.{IsSoundRun, LineShort, LineTold, run_helds, sites_in}
+use Rattle.ubik_cell.specs.Lines.{ShortLine}
 use Rattle.ubik_cell.specs.Runs.{kind_at}
+use Rattle.ubik_cell.specs.ScriptRuns.{IsSoundScript, ScriptTold, script_helds, script_lines, script_sites}
 use Rattle.ubik_cell.specs.Turns.{Ran, SoFar, end_after}
 use Rattle.ubik_cell.proofs.Turning.{AtLine, AtWhole, ended_told, going_on, part_told, short_told}
-use Rattle.db_image.specs.Standing.{Standing}
 
 is_fault : (o : Option CellKind) → (o ≡ Some kind.WriteFault) ⊎ (o ≢ Some kind.WriteFault)
 is_fault None = inr (λ is. cc)
@@ -39,54 +39,53 @@ pub as_written : (P : List ℕ → Option (List ℕ) → Type 0) (w : Option (Li
 as_written P None all = tt
 as_written P (Some written) all = all written
 
-module _ {D V : Type 0} (g : Ghosts D) (dbs : Databases) (left : Option (List ℕ)) (after : Option (List ℕ))
-    (run next : CellRun D V) where
+module _ {D : Type 0} (g : Ghosts D) (left : Option (List ℕ)) (after : Option (List ℕ)) (run next : ScriptRun D) where
   -- what a line did to a run before it
   pub record ReadyAt (result : Result (Unit {0}) RunEnd) (bytes given script before written : List ℕ) : Type 0 where
     pub line : List ℕ
-    pub at : AtLine g dbs given script left before (Some written) run line
-    pub line_told : result ≢ Err NoMemory → LineTold g dbs given line (told dbs at.readings) result next [] bytes
-    pub short : result ≡ Err NoMemory → LineShort g dbs given (take 1025 line) (told dbs at.readings) next
+    pub at : AtLine g given script left before (Some written) run line
+    pub line_told : result ≢ Err NoMemory → ScriptTold g given line (told databases at.readings) result next [] bytes
+    pub short : result ≡ Err NoMemory → ShortLine databases given (take 1025 line) (told databases at.readings) (script_helds g next)
 
   -- what was told, of a text that was cleared before
   pub retold : (given line : List ℕ) (t : Told) (result : Result (Unit {0}) RunEnd) (text_before text_after bytes : List ℕ) → text_before ≡ []
-      → bytes ≡ text_after → LineTold g dbs given line t result next text_before text_after
-      → LineTold g dbs given line t result next [] bytes
+      → bytes ≡ text_after → ScriptTold g given line t result next text_before text_after
+      → ScriptTold g given line t result next [] bytes
   retold given line t result text_before text_after bytes none same of =
-      subst (λ (b : List ℕ). LineTold g dbs given line t result next [] b) (sym same)
-      (subst (λ (b : List ℕ). LineTold g dbs given line t result next b text_after) none of)
+      subst (λ (b : List ℕ). ScriptTold g given line t result next [] b) (sym same)
+      (subst (λ (b : List ℕ). ScriptTold g given line t result next b text_after) none of)
 
   abbrev RanSo : (given script before : List ℕ) → CellKind → Type 0
-  RanSo given script before k = Ran k dbs given script left before after (sites_in next.cell) (run_helds g next)
+  RanSo given script before k = Ran k databases given script left before after (script_sites next) (script_helds g next)
 
-  module _ (number : ℕ) (next_number : number ≡ run.lines + 1) (bytes : List ℕ) (P : (given script before written : List ℕ) → Type 0) where
+  module _ (number : ℕ) (next_number : number ≡ script_lines run + 1) (bytes : List ℕ) (P : (given script before written : List ℕ) → Type 0) where
     abbrev AllRan : List ℕ → CellKind → Type 0
     AllRan written k = (given script before : List ℕ) → P given script before written → RanSo given script before k
 
     abbrev AreReady : Result (Unit {0}) RunEnd → List ℕ → Type 0
     AreReady result written = (given script before : List ℕ) → P given script before written → ReadyAt result bytes given script before written
 
-    part_ends : {standing : Standing} (result : Result (Unit {0}) RunEnd) (written : List ℕ) → result ≢ Err NoMemory
-        → (result ≡ Ok tt → IsSoundRun g standing next) → AreReady result written → AppendsPart written after bytes
+    part_ends : (result : Result (Unit {0}) RunEnd) (written : List ℕ) → result ≢ Err NoMemory
+        → (result ≡ Ok tt → IsSoundScript g next) → AreReady result written → AppendsPart written after bytes
         → AllRan written kind.WriteFault
     part_ends result written goes sound ready wrote = λ given script before p.
         let r = ready given script before p in
-        part_told g dbs given script left before written after run next r.line r.at result bytes (r.line_told goes) sound wrote
+        part_told g given script left before written after run next r.line r.at result bytes (r.line_told goes) sound wrote
 
-    by_part : {standing : Standing} (result : Result (Unit {0}) RunEnd) (written : List ℕ) → result ≢ Err NoMemory
-        → (result ≡ Ok tt → IsSoundRun g standing next) → AreReady result written → (o : Option CellKind) → o ≡ Some kind.WriteFault
+    by_part : (result : Result (Unit {0}) RunEnd) (written : List ℕ) → result ≢ Err NoMemory
+        → (result ≡ Ok tt → IsSoundScript g next) → AreReady result written → (o : Option CellKind) → o ≡ Some kind.WriteFault
         → AppendsPart written after bytes → IfSome o (AllRan written)
     by_part result written goes sound ready o is wrote =
         subst (λ (x : Option CellKind). IfSome x (AllRan written)) (sym is) (part_ends result written goes sound ready wrote)
 
-    by_result : {standing : Standing} (result : Result (Unit {0}) RunEnd) (o : Option CellKind) (written : List ℕ)
-        → IsWritten result number bytes o (Some written) after → (result ≡ Ok tt → IsSoundRun g standing next) → AreReady result written
+    by_result : (result : Result (Unit {0}) RunEnd) (o : Option CellKind) (written : List ℕ)
+        → IsWritten result number bytes o (Some written) after → (result ≡ Ok tt → IsSoundScript g next) → AreReady result written
         → (o ≡ Some kind.WriteFault) ⊎ (o ≢ Some kind.WriteFault) → IfSome o (AllRan written)
     by_result (Err NoMemory) o written is sound ready fault =
         let none = is.unwritten refl in
         subst (λ (x : Option CellKind). IfSome x (AllRan written)) (sym none.0) (λ given script before p.
         let r = ready given script before p in
-        short_told g dbs given script left before written after run next r.line r.at (r.short refl) none.1)
+        short_told g given script left before written after run next r.line r.at (r.short refl) none.1)
     by_result (Ok done) o written is sound ready (inl fault) =
         let part = is.part fault in by_part (Ok done) written part.0 sound ready o fault part.1
     by_result (Ok done) o written is sound ready (inr whole) =
@@ -101,16 +100,16 @@ module _ {D V : Type 0} (g : Ghosts D) (dbs : Databases) (left : Option (List �
         let wrote = is.whole other whole in
         subst (λ (x : Option CellKind). IfSome x (AllRan written)) (sym wrote.0) (λ given script before p.
         let r = ready given script before p in
-        ended_told g dbs given script left before written after run next r.line r.at ending bytes (r.line_told other) number
+        ended_told g given script left before written after run next r.line r.at ending bytes (r.line_told other) number
         next_number wrote.1)
 
     none_written : (o : Option CellKind) → IfSome o (λ k. Unit {0})
     none_written None = tt
     none_written (Some k) = tt
 
-    pub ends_line : {standing : Standing} (result : Result (Unit {0}) RunEnd) (o : Option CellKind) (w : Option (List ℕ))
+    pub ends_line : (result : Result (Unit {0}) RunEnd) (o : Option CellKind) (w : Option (List ℕ))
         → IsWritten result number bytes o w after
-        → (result ≡ Ok tt → IsSoundRun g standing next) → ((written : List ℕ) → AreReady result written)
+        → (result ≡ Ok tt → IsSoundScript g next) → ((written : List ℕ) → AreReady result written)
         → IfSome o (λ k. IfSome w (λ written. AllRan written k))
     ends_line result o None is sound ready = none_written o
     ends_line result o (Some written) is sound ready = by_result result o written is sound (ready written) (is_fault o)
@@ -121,8 +120,8 @@ module _ {D V : Type 0} (g : Ghosts D) (dbs : Databases) (left : Option (List �
       -- what a line that was read whole did
       pub record GoesAt (result : Result (Unit {0}) RunEnd) (given script before written : List ℕ) : Type 0 where
         pub line : List ℕ
-        pub at : AtWhole g dbs given script ended left before (Some written) run line
-        pub line_told : LineTold g dbs given line (told dbs at.at.readings) result next [] bytes
+        pub at : AtWhole g given script ended left before (Some written) run line
+        pub line_told : ScriptTold g given line (told databases at.at.readings) result next [] bytes
 
       goes_by : (result : Result (Unit {0}) RunEnd) (o : Option CellKind) (w : Option (List ℕ)) → o ≡ None
           → IsWritten result number bytes o w after
@@ -138,12 +137,12 @@ module _ {D V : Type 0} (g : Ghosts D) (dbs : Databases) (left : Option (List �
       pub goes_line : (result : Result (Unit {0}) RunEnd) (o : Option CellKind) (w : Option (List ℕ)) → o ≡ None
           → IsWritten result number bytes o w after
           → (result ≡ Ok tt → (given script before written : List ℕ) → P given script before written → GoesAt result given script before written)
-          → IfSome w (λ written. (given script before : List ℕ) → P given script before written → SoFar g dbs given script ended left before
+          → IfSome w (λ written. (given script before : List ℕ) → P given script before written → SoFar g given script ended left before
           after next)
       goes_line result o None none is ready = tt
       goes_line result o (Some written) none is ready = λ given script before p.
           let by = goes_by result o (Some written) none is in
           let r = ready by.0 given script before written p in
-          going_on g dbs given script ended left before written after run next r.line bytes r.at
-          (subst (λ (x : Result (Unit {0}) RunEnd). LineTold g dbs given r.line (told dbs r.at.at.readings) x next [] bytes) by.0
+          going_on g given script ended left before written after run next r.line bytes r.at
+          (subst (λ (x : Result (Unit {0}) RunEnd). ScriptTold g given r.line (told databases r.at.at.readings) x next [] bytes) by.0
           r.line_told) by.1

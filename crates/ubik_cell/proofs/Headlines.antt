@@ -4,7 +4,7 @@ use Rattle.disk_base.specs.declared.disks.Disk.{Ghosts}
 use Rattle.cell_runs.specs.Script.{Cell, LineRead, told}
 use Rattle.script_laws.specs.Runs.{NamesCalls, ScriptsAreRuns}
 use Rattle.cell_promises.specs.Promises.{CellsKeepPromises}
-use Rattle.script_promises.specs.Databases.{databases}
+use Rattle.script_promises.specs.Databases.{databases, standing_of}
 use Rattle.script_promises.specs.Kept.{IsKept}
 use Rattle.script_promises.specs.Order.{HasOneOrder}
 use Rattle.script_promises.specs.Promises.{HasPromises, KeepsPromises, ScriptsKeepPromises}
@@ -17,7 +17,7 @@ use Rattle.ubik_cell.specs.Turns.{RanOver, more_of}
 
 -- ---- a cell of one server
 
-of_one : (P : Cell → Type 0) → ((c : Cell) → HasPromises c → P c) → (cell : Option Cell) → IfSome cell KeepsPromises → OfOne P cell
+of_one : (P : Cell → Type 0) → ((c : Cell) → HasPromises (standing_of c) c → P c) → (cell : Option Cell) → IfSome cell KeepsPromises → OfOne P cell
 of_one P has None keeps = tt
 of_one P has (Some c) keeps = λ one. has c (keeps one)
 
@@ -48,12 +48,13 @@ headline runs names promises every g k script left before after disks_before dis
     let cell : Option Cell = (told databases readings).stage.cell in
     record {
       readings = readings;
+      whole = ran.whole;
       run = ran.run;
       world = runs databases names readings;
       every_cell = every readings;
-      one_order = of_one HasOneOrder (λ c has. has.order) cell keeps;
-      kept = of_one IsKept (λ c has. has.kept) cell keeps;
-      single_copy = of_one HasSingleReplies (λ c has. has.replies) cell keeps;
+      one_order = of_one (λ c. HasOneOrder (standing_of c) c) (λ c has. has.order) cell keeps;
+      kept = of_one (λ c. IsKept (standing_of c) c) (λ c has. has.kept) cell keeps;
+      single_copy = of_one (λ c. HasSingleReplies (standing_of c) c) (λ c has. has.replies) cell keeps;
       causes = ran.causes;
       disks = record {
         more = ran.more;
@@ -62,7 +63,7 @@ headline runs names promises every g k script left before after disks_before dis
         causes = ran.held.causes;
         holds = ran.held.holds;
         every_cell = every with_more;
-        kept = of_one IsKept (λ c has. has.kept) (told databases with_more).stage.cell (promises with_more);
+        kept = of_one (λ c. IsKept (standing_of c) c) (λ c has. has.kept) (told databases with_more).stage.cell (promises with_more);
       };
       others = record { reached = over.reached; stay = over.stay; exact = ran.servers };
     }

@@ -5,7 +5,7 @@ use Rattle.cell_runs.specs.Script.{Told, servers_of}
 use Rattle.cell_runs.specs.ScriptDatabase.{Databases}
 use Rattle.cell_sites.specs.Disks.{all_held}
 use Rattle.ubik_cell.specs.declared.scripts.CellRun.{CellRun}
-use Rattle.ubik_cell.specs.Lines.{AreHeld, IsAt, IsSoundRun, clock_bound, run_helds, sites_in}
+use Rattle.ubik_cell.specs.Lines.{AreHeld, IsAt, IsSoundRun, bounds_after, run_helds, sites_in}
 use Rattle.ubik_cell.proofs.Lifting.{near_holds, run_causes, servers_match}
 use Rattle.db_image.specs.Standing.{Standing}
 
@@ -19,4 +19,4 @@ module _ {D V : Type 0} {standing : Standing} (g : Ghosts D) (dbs : Databases) (
 
   -- as many sites as the cell has servers
   pub count_at : sites_in run.cell ≡ servers_of t.stage.cell
-  count_at = sym (servers_match standing g dbs given (clock_bound run.lines) run.cell t.stage.cell sound.cell at.stage.cell)
+  count_at = sym (servers_match standing g dbs given (bounds_after run.lines run.asks) run.cell t.stage.cell sound.cell at.stage.cell)

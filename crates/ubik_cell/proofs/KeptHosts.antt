@@ -10,8 +10,7 @@ use Rattle.cell_script.specs.declared.lines.Line.{Line}
 use Rattle.cell_script.specs.declared.lines.Line.TheVariants as line
 use Rattle.cell_script.specs.declared.lines.Why.TheVariants as why
 use Rattle.cell_runs.specs.declared.endings.Ending.{Ending}
-use Rattle.cell_runs.specs.declared.limits.TheConstants.{MAX_PACKETS}
-use Rattle.cell_runs.specs.Script.{Choice, Cell, Cell_run, Run_or_why, DiskOutcome, Serves, Fails_after, Stops_after, outcome_of, place_in, stepped_so, stepped, delivered, all_delivered, unless_ended, first_choice, first_waiting, at_server, at_up, at_down, at_packet, is_down_at, unless_skewed, run_in, asked, asked_in, with_event, cell_size_of, dropped_of, shown_site}
+use Rattle.cell_runs.specs.Script.{Choice, Choices, Cell, Cell_run, Run_or_why, DiskOutcome, Serves, Fails_after, Stops_after, outcome_of, place_in, stepped_so, stepped, delivered, all_delivered, unless_ended, choice_of, first_choice, first_waiting, at_server, at_up, at_down, at_packet, is_down_at, is_later_write, unless_skewed, run_in, asked, asked_in, with_event, cell_size_of, dropped_of, shown_site}
 use Rattle.cell_runs.specs.ScriptDatabase.{ScriptDatabase}
 
 -- ---- events
@@ -60,9 +59,9 @@ module _ (script_db : ScriptDatabase) where
   all_stay zero c choices (Some number) = refl
   all_stay (suc most) c choices None = refl
   all_stay (suc most) c choices (Some number) =
-      let r : Cell_run = delivered script_db c (first_choice choices) number in
+      let r : Cell_run = delivered script_db c (choice_of choices) number in
       unless_stays c.run.world.hosts r (all_delivered script_db most r.cell (drop 1 choices) (first_waiting 1 r.cell.handed)) r.ending
-      (delivered_stays c (first_choice choices) number) (all_stay most r.cell (drop 1 choices) (first_waiting 1 r.cell.handed))
+      (delivered_stays c (choice_of choices) number) (all_stay most r.cell (drop 1 choices) (first_waiting 1 r.cell.handed))
 
   -- ---- lines
 
@@ -91,7 +90,7 @@ module _ (script_db : ScriptDatabase) where
     skewed_stays : (sites : List Site) (e : Event) → MayStay (unless_skewed script_db c sites e)
     skewed_stays sites e = if_stays (may_tick sites) (Ok (with_event script_db c e)) (Err why.Skew) (happens_hosts script_db.database c.run.world e) tt
 
-    pub line_stays : (choices : List Choice) (l : Line) → MayStay (run_in script_db c choices l)
+    pub line_stays : (choices : Choices) (l : Line) → MayStay (run_in script_db c choices l)
     line_stays choices (line.Tick server seconds) =
         server_stays server (λ k. unless_skewed script_db c (tick_at c.run.world.sites k seconds) (Tick k seconds))
         (λ k. skewed_stays (tick_at c.run.world.sites k seconds) (Tick k seconds))
@@ -105,7 +104,7 @@ module _ (script_db : ScriptDatabase) where
         packet_stays packet (record { cell = record c { handed = set c.handed (packet - 1) true }; items = []; ending = None }) refl
     line_stays choices (line.DropAll server) =
         up_stays server (λ k. record { cell = record c { handed = dropped_of (host_at c.run.world.hosts k) c.run.world.packets c.handed }; items = []; ending = None }) (λ k. refl)
-    line_stays choices line.DeliverAll = all_stay MAX_PACKETS c choices (first_waiting 1 c.handed)
+    line_stays choices line.DeliverAll = all_stay choices.most c choices.each (first_waiting 1 c.handed)
     line_stays choices (line.Stop server calls f) =
         up_stays server (λ k. record { cell = record c { armed = set c.armed k (Some (record { calls = calls; made = 0 })) }; items = []; ending = None }) (λ k. refl)
     line_stays choices (line.Crash server) =
@@ -126,4 +125,6 @@ module _ (script_db : ScriptDatabase) where
         by server None = if_stays (script_db.words.is_unbuilt words) (Err why.Unbuilt) (Err why.Syntax) tt tt
         by None (Some call) = tt
         by (Some number) (Some call) =
-            up_stays number (λ k. stepped script_db c choice (Asking k id call)) (λ k. stepped_stays c choice (Asking k id call))
+            if_stays (is_later_write script_db.database c number call) (Err why.Unbuilt)
+            (at_up c number (λ k. stepped script_db c choice (Asking k id call))) tt
+            (up_stays number (λ k. stepped script_db c choice (Asking k id call)) (λ k. stepped_stays c choice (Asking k id call)))

@@ -9,9 +9,11 @@ pub mod KeptHosts
 pub mod Lifting
 pub mod LineDisks
 pub mod LineReads
+pub mod OneKind
 pub mod Opened
 pub mod Opening
 pub mod Refusing
+pub mod ScriptKinds
 pub mod Starting
 pub mod Telling
 pub mod Turning

@@ -7,11 +7,12 @@ use Rattle.db_image.specs.Database.{Database}
 use Rattle.ubik_types.specs.declared.hosts.Host.{Host}
 use Rattle.cell_script.specs.declared.lines.Line.{Line}
 use Rattle.cell_script.specs.declared.lines.Line.TheVariants as line
+use Rattle.cell_script.specs.declared.lines.TheConstants.{MAX_TICK}
 use Rattle.cell_script.specs.declared.lines.Why.{Why}
 use Rattle.cell_runs.specs.declared.endings.Ending.{Ending}
 use Rattle.cell_runs.specs.declared.endings.Ending.TheVariants as ending
 use Rattle.cell_runs.specs.declared.limits.TheConstants.{MAX_LINES}
-use Rattle.cell_runs.specs.Script.{Cell, Choice, Run_or_why, Stage, asked, asked_at, asked_in, first_choice, in_stage, kind_of_cell, line_run, next_line, run_in, run_standing, servers_of}
+use Rattle.cell_runs.specs.Script.{Cell, Choices, Run_or_why, Stage, asked, asked_at, asked_in, first_choice, in_stage, kind_of_cell, line_run, next_line, run_in, run_standing, servers_of}
 use Rattle.cell_runs.specs.ScriptDatabase.{ScriptDatabase, Databases}
 use Rattle.cell_runs.specs.Trace.{TraceItem, trace}
 use Rattle.cell_sites.specs.declared.cells.OpenCell.{OpenCell}
@@ -21,11 +22,11 @@ use Rattle.cell_sites.specs.Counts.{HoldRun}
 use Rattle.cell_sites.specs.Disks.{Held, all_held, AreCauses, AreRises}
 use Rattle.cell_sites.specs.Opened.{counts_of}
 use Rattle.cell_sites.specs.Sites.{IsModelledBy, helds}
-use Rattle.cell_sites.specs.Sound.{IsSound}
+use Rattle.cell_sites.specs.Sound.{Bounds, IsSound}
 use Rattle.cell_sites.specs.Told.{CellTold, IsAfter, IsRefused, IsShort}
 use Rattle.ubik_cell.specs.declared.scripts.CellRun.{CellRun}
 use Rattle.ubik_cell.specs.LineRuns.{CellDone, KeepsCell, KeepsRun, LineDone, run_of_line}
-use Rattle.ubik_cell.specs.Lines.{AreUnwritten, CellIsSound, CellStandsFor, HasCauses, HeldCauses, HoldStage, IsNear, IsRefusedLine, IsSoundRun, ShortAfter, StageShort, StageTold, cell_helds, clock_bound, only, run_helds, sites_in}
+use Rattle.ubik_cell.specs.Lines.{AreUnwritten, CellIsSound, CellStandsFor, HasCauses, HeldCauses, HoldStage, IsNear, IsRefusedLine, IsSoundRun, ShortAfter, StageShort, StageTold, bounds_after, cell_helds, clock_bound, only, run_helds, sites_in}
 use Rattle.ubik_cell.proofs.KeptHosts.{ask_stays, line_stays}
 use Rattle.ubik_cell.proofs.LineDisks.{counted_causes, fewer_rises, first_causes, hold_cell, hosts_count, length-helds, length-read, more_causes, same_causes, stage_short, unwritten}
 use Rattle.db_image.specs.Standing.{Standing}
@@ -48,9 +49,9 @@ ok_of P (Ok y) x is holds = subst P (cc) holds
 ok_of P (Err e) x is holds = absurd (cc)
 
 -- A line l that runs so in each cell that stands, and leaves the stage with so many asks. The run stands over a cell.
-module _ {D V : Type 0} {standing : Standing} (g : Ghosts D) (db : ScriptDatabase) (l : Line) (run : Stage → Cell → List Choice → Run_or_why) (later : Stage → Stage)
-    (run_is : (st : Stage) (c : Cell) (choices : List Choice) → st.cell ≡ Some c → run_of_line db l st choices ≡ in_stage (later st) (run st c choices))
-    (hosts : (st : Stage) (c : Cell) (choices : List Choice) → IfOk (run st c choices) (λ r. r.cell.run.world.hosts ≡ c.run.world.hosts))
+module _ {D V : Type 0} {standing : Standing} (g : Ghosts D) (db : ScriptDatabase) (l : Line) (run : Stage → Cell → Choices → Run_or_why) (later : Stage → Stage)
+    (run_is : (st : Stage) (c : Cell) (choices : Choices) → st.cell ≡ Some c → run_of_line db l st choices ≡ in_stage (later st) (run st c choices))
+    (hosts : (st : Stage) (c : Cell) (choices : Choices) → IfOk (run st c choices) (λ r. r.cell.run.world.hosts ≡ c.run.world.hosts))
     (before : CellRun D V) (running : OpenCell D V) (here : before.cell ≡ Some running) (sound : IsSoundRun g standing before)
     (given : List ℕ) (st : Stage) (near : IsNear g (only db) given 0 before st) where
   -- the counts of the disks of the cell before the script
@@ -87,8 +88,9 @@ module _ {D V : Type 0} {standing : Standing} (g : Ghosts D) (db : ScriptDatabas
   -- as many disks as hosts
   count_before : length running.hosts.items ≡ length running.sites.items
   count_before =
-      let is_sound : IsSound g standing (clock_bound before.lines) running = subst (CellIsSound g standing (clock_bound before.lines)) here sound.cell in
-      ap length is_sound.hosts ∙ hosts_count (length running.sites.items)
+      let bounds : Bounds = bounds_after before.lines before.asks in
+      let is_sound : IsSound g standing.database bounds running = subst (CellIsSound g standing bounds) here sound.cell in
+      ap length is_sound.steady.hosts ∙ hosts_count (length running.sites.items)
 
   -- the disks behind those of the cell
   spare_given : counts_of g before.spare.items ≡ drop (length running.sites.items) given
@@ -113,6 +115,7 @@ module _ {D V : Type 0} {standing : Standing} (g : Ghosts D) (db : ScriptDatabas
       let holds : HoldRun db.database own false t.ran.cell (helds g after) = holds_after g db.database own ended after t.ran.cell t.cell in
       record {
         choices = t.choices;
+        whole = t.whole;
         ran = record { stage = record (later st) { cell = Some t.ran.cell }; items = t.ran.items; ending = t.ran.ending };
         is = run_is st c t.choices stands.1 ∙ ap (in_stage (later st)) t.is;
         ends = t.ends;
@@ -168,7 +171,7 @@ abbrev pub IsNoAsk : Line → Type 0
 IsNoAsk (line.Ask server words) = ⊥
 IsNoAsk _ = Unit {0}
 
-run_there : (dbs : Databases) (st : Stage) (choices : List Choice) (c : Cell) (l : Line) → IsNoAsk l → run_standing dbs st choices c l ≡ in_stage st (run_in (dbs (kind_of_cell c)) c choices l)
+run_there : (dbs : Databases) (st : Stage) (choices : Choices) (c : Cell) (l : Line) → IsNoAsk l → run_standing dbs st choices c l ≡ in_stage st (run_in (dbs (kind_of_cell c)) c choices l)
 run_there dbs st choices c line.Nothing no_ask = refl
 run_there dbs st choices c (line.Cell servers clock k) no_ask = refl
 run_there dbs st choices c (line.Tick server seconds) no_ask = refl
@@ -185,33 +188,48 @@ run_there dbs st choices c (line.Crash server) no_ask = refl
 run_there dbs st choices c (line.Restart server) no_ask = refl
 run_there dbs st choices c (line.Show server) no_ask = refl
 
-pub no_ask_is : (db : ScriptDatabase) (l : Line) → IsNoAsk l → (st : Stage) (c : Cell) (choices : List Choice) → st.cell ≡ Some c → run_of_line db l st choices ≡ in_stage (next_line st) (run_in db c choices l)
+pub no_ask_is : (db : ScriptDatabase) (l : Line) → IsNoAsk l → (st : Stage) (c : Cell) (choices : Choices) → st.cell ≡ Some c → run_of_line db l st choices ≡ in_stage (next_line st) (run_in db c choices l)
 no_ask_is db l no_ask st c choices is =
     ap (λ (o : Option Cell). line_run (only db) (next_line st) choices l o) is ∙ run_there (only db) (next_line st) choices c l no_ask
 
 -- ---- what stays
 
+-- a line that leaves the cell of a run so, with so many asks
 pub kept_run : {D V : Type 0} {standing : Standing} (g : Ghosts D) (result : Result (Unit {0}) LineFault) (before : CellRun D V) (running after : OpenCell D V) (asks : ℕ)
     → before.cell ≡ Some running → IsSoundRun g standing before → before.lines < MAX_LINES → asks ≤ before.lines + 1
-    → KeepsCell g standing result running after → KeepsRun g standing result before (record before { cell = Some after; asks = asks })
-kept_run {D} {V} {standing} g result before running after asks here sound room few keeps =
+    → length after.sites.items ≡ length running.sites.items
+    → (result ≡ Ok tt → IsSound g standing.database (bounds_after before.lines before.asks) running
+    → IsSound g standing.database (bounds_after (before.lines + 1) asks) after)
+    → KeepsRun g standing result before (record before { cell = Some after; asks = asks })
+kept_run {D} {V} {standing} g result before running after asks here sound room few same goes =
     let count : sites_in before.cell ≡ length running.sites.items = ap sites_in here in
     record {
       lines = refl;
-      disks = omega (arith, sound.disks, count, keeps.same);
-      spare = let none : length after.sites.items - sites_in before.cell ≡ 0 = omega (arith, count, keeps.same) in sym (ap (λ n. drop n before.spare.items) none);
+      disks = omega (arith, sound.disks, count, same);
+      spare = let none : length after.sites.items - sites_in before.cell ≡ 0 = omega (arith, count, same) in sym (ap (λ n. drop n before.spare.items) none);
       sound = λ done. record {
-        cell =
-            let cell : IsSound g standing (clock_bound before.lines) running = subst (CellIsSound g standing (clock_bound before.lines)) here sound.cell in
-            subst (λ (bound : ℕ). IsSound g standing bound after) (omega arith) (keeps.sound done (clock_bound before.lines) cell);
+        cell = goes done (subst (CellIsSound g standing (bounds_after before.lines before.asks)) here sound.cell);
         spare = sound.spare;
         settled = sound.settled;
         unarmed = sound.unarmed;
-        disks = omega (arith, sound.disks, count, keeps.same);
+        disks = omega (arith, sound.disks, count, same);
         asks = few;
         few = omega (arith, room);
       };
     }
+
+-- after one line more
+next_bound : (lines : ℕ) → clock_bound lines + MAX_TICK ≡ clock_bound (lines + 1)
+next_bound lines = omega arith
+
+-- a line that asks nothing
+pub kept_line : {D V : Type 0} {standing : Standing} (g : Ghosts D) (result : Result (Unit {0}) LineFault) (before : CellRun D V) (running after : OpenCell D V)
+    → before.cell ≡ Some running → IsSoundRun g standing before → before.lines < MAX_LINES
+    → KeepsCell g standing result running after → KeepsRun g standing result before (record before { cell = Some after; asks = before.asks })
+kept_line {D} {V} {standing} g result before running after here sound room keeps =
+    kept_run g result before running after before.asks here sound room (omega (arith, sound.asks)) keeps.same
+    (λ done is. subst (λ (clock : ℕ). IsSound g standing.database (record { clock = clock; asks = before.asks }) after) (next_bound before.lines)
+    (keeps.sound done (bounds_after before.lines before.asks) is))
 
 -- ---- what becomes of a line
 
@@ -252,22 +270,22 @@ module _ {D V : Type 0} {standing : Standing} (g : Ghosts D) (db : ScriptDatabas
   abbrev ask : Line
   ask = line.Ask (Some number) words
 
-  abbrev ask_run : Stage → Cell → List Choice → Run_or_why
+  abbrev ask_run : Stage → Cell → Choices → Run_or_why
   ask_run st c choices = asked db c (first_choice choices) (st.asks + 1) words (Some number)
 
   abbrev ask_later : Stage → Stage
   ask_later st = record (next_line st) { asks = st.asks + 1 }
 
-  ask_is : (st : Stage) (c : Cell) (choices : List Choice) → st.cell ≡ Some c → run_of_line db ask st choices ≡ in_stage (ask_later st) (ask_run st c choices)
+  ask_is : (st : Stage) (c : Cell) (choices : Choices) → st.cell ≡ Some c → run_of_line db ask st choices ≡ in_stage (ask_later st) (ask_run st c choices)
   ask_is st c choices is = ap (λ (o : Option Cell). line_run (only db) (next_line st) choices ask o) is
 
-  abbrev asked_so : Cell → List Choice → Run_or_why
+  abbrev asked_so : Cell → Choices → Run_or_why
   asked_so c choices = asked_at db c (first_choice choices) (before.asks + 1) call (Some number)
 
   same_run : (given : List ℕ) (st : Stage) (c : Cell) → IsNear g (only db) given 0 before st → ask_run st c ≡ asked_so c
   same_run given st c near =
-      ap (λ (n : ℕ). λ (choices : List Choice). asked db c (first_choice choices) (n + 1) words (Some number)) near.asks
-      ∙ ap (λ (o : Option (List ℕ)). λ (choices : List Choice). asked_in db c (first_choice choices) (before.asks + 1) words (Some number) o) named
+      ap (λ (n : ℕ). λ (choices : Choices). asked db c (first_choice choices) (n + 1) words (Some number)) near.asks
+      ∙ ap (λ (o : Option (List ℕ)). λ (choices : Choices). asked_in db c (first_choice choices) (before.asks + 1) words (Some number) o) named
 
   -- what is told of it, where the run counts so many asks
   ask_told : (ended : Option Ending) (text_before text_after : List ℕ) (given : List ℕ) (st : Stage) (near : IsNear g (only db) given 0 before st)
@@ -278,7 +296,7 @@ module _ {D V : Type 0} {standing : Standing} (g : Ghosts D) (db : ScriptDatabas
   ask_told ended text_before text_after given st near told same =
       told_line g db ask ask_run ask_later ask_is (λ st c choices. ask_stays db c (first_choice choices) (st.asks + 1) words (Some number))
       before running here sound given st near (before.asks + 1) ended after text_before text_after
-      (λ own c stands. subst (λ (run : List Choice → Run_or_why). CellTold g db own run ended running after text_before text_after)
+      (λ own c stands. subst (λ (run : Choices → Run_or_why). CellTold g db own run ended running after text_before text_after)
       (sym (same_run given st c near)) (told own c stands))
       same (λ _. (omega (arith, near.lines), ap (λ (n : ℕ). n + 1) near.asks))
 
@@ -297,6 +315,7 @@ module _ {D V : Type 0} {standing : Standing} (g : Ghosts D) (db : ScriptDatabas
       let t = ask_told (Some (ending.Limit which)) text_before text_after given st near cell same in
       record {
         choices = t.choices;
+        whole = t.whole;
         ran = t.ran;
         is = t.is;
         ends = t.ends;
@@ -314,12 +333,12 @@ module _ {D V : Type 0} {standing : Standing} (g : Ghosts D) (db : ScriptDatabas
     λ given st near.
         refused_line g db ask ask_run ask_later ask_is (λ st c choices. ask_stays db c (first_choice choices) (st.asks + 1) words (Some number))
         before running here sound given st near why
-        (λ own c stands. subst (λ (run : List Choice → Run_or_why). IsRefused why run) (sym (same_run given st c near)) (cell.2 own c stands)),
+        (λ own c stands. subst (λ (run : Choices → Run_or_why). IsRefused why run) (sym (same_run given st c near)) (cell.2 own c stands)),
   )
   asked_err text_before text_after NoMemory cell same rises = λ given st near.
       short_line g db ask ask_run ask_later ask_is (λ st c choices. ask_stays db c (first_choice choices) (st.asks + 1) words (Some number))
       before running here sound given st near after same rises
-      (λ own c stands. subst (λ (run : List Choice → Run_or_why). IsShort g db.database own run c running after)
+      (λ own c stands. subst (λ (run : Choices → Run_or_why). IsShort g db.database own run c running after)
       (sym (same_run given st c near)) (cell own c stands))
 
 -- ---- a run that stays
@@ -345,12 +364,12 @@ run_causes g dbs given (Some running) (Some c) items behind at causes =
     first_causes c.run.world.sites items (helds g running) behind at.disks.read causes
 
 -- as many servers as the cell of the stage has
-pub servers_match : {D V : Type 0} (standing : Standing) (g : Ghosts D) (dbs : Databases) (given : List ℕ) (bound : ℕ) (cell : Option (OpenCell D V)) (c : Option Cell)
-    → CellIsSound g standing bound cell → CellStandsFor g dbs given cell c → servers_of c ≡ sites_in cell
-servers_match standing g dbs given bound None None sound at = refl
-servers_match standing g dbs given bound None (Some c) sound at = absurd at
-servers_match standing g dbs given bound (Some running) None sound at = absurd at
-servers_match standing g dbs given bound (Some running) (Some c) sound at = ap length (at.hosts ∙ sound.hosts) ∙ hosts_count (length running.sites.items)
+pub servers_match : {D V : Type 0} (standing : Standing) (g : Ghosts D) (dbs : Databases) (given : List ℕ) (bounds : Bounds) (cell : Option (OpenCell D V)) (c : Option Cell)
+    → CellIsSound g standing bounds cell → CellStandsFor g dbs given cell c → servers_of c ≡ sites_in cell
+servers_match standing g dbs given bounds None None sound at = refl
+servers_match standing g dbs given bounds None (Some c) sound at = absurd at
+servers_match standing g dbs given bounds (Some running) None sound at = absurd at
+servers_match standing g dbs given bounds (Some running) (Some c) sound at = ap length (at.hosts ∙ sound.steady.hosts) ∙ hosts_count (length running.sites.items)
 
 -- the disks of a run that stays hold the stage at which it stands
 pub near_holds : {D V : Type 0} {standing : Standing} (g : Ghosts D) (dbs : Databases) (given : List ℕ) (ahead : ℕ) (run : CellRun D V) (st : Stage) → IsSoundRun g standing run

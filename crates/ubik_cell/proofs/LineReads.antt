@@ -13,7 +13,7 @@ use Rattle.cell_runs.specs.declared.endings.Ending.{Ending}
 use Rattle.cell_runs.specs.declared.endings.Ending.TheVariants as ending
 use Rattle.cell_runs.specs.declared.endings.Which.TheVariants.{Lines}
 use Rattle.cell_runs.specs.declared.limits.TheConstants.{MAX_LINES}
-use Rattle.cell_runs.specs.Script.{Choice, Line_run, Stage, Told, end_text, ended_at, meaning_run, next_line, or_refused, servers_of, text_in, told_with}
+use Rattle.cell_runs.specs.Script.{Choices, Line_run, Stage, Told, end_text, ended_at, meaning_run, next_line, or_refused, sound_choices, text_in, told_with}
 use Rattle.cell_runs.specs.ScriptDatabase.{ScriptDatabase}
 use Rattle.cell_runs.specs.Trace.{ending_text}
 use Rattle.cell_sites.specs.declared.faults.LineFault.{LineFault}
@@ -23,10 +23,10 @@ use Rattle.ubik_cell.specs.declared.scripts.CellRun.{CellRun}
 use Rattle.ubik_cell.specs.declared.scripts.RunEnd.{RunEnd}
 use Rattle.ubik_cell.specs.declared.scripts.RunEnd.TheVariants as run_end
 use Rattle.ubik_cell.specs.LineRuns.{EndTold, IsEnded, KeepsPlaces, KeepsRun, LineDone, LineEnds, ReadDone, result_of, run_of_line}
-use Rattle.ubik_cell.specs.Lines.{AreHeld, HeldAfter, HoldStage, IsAt, IsNear, IsSoundBy, IsSoundRun, LineShort, LineTold, ShortAfter, StageTold, clock_bound, only, run_helds, sites_in}
+use Rattle.ubik_cell.specs.Lines.{AreHeld, HeldAfter, HoldStage, IsAt, IsNear, IsSoundBy, IsSoundRun, LineShort, LineTold, ShortAfter, StageTold, only, run_helds, sites_in}
 use Rattle.ubik_cell.proofs.Holding.{count_at, held_at}
 use Rattle.ubik_cell.proofs.LineDisks.{stage_short}
-use Rattle.ubik_cell.proofs.Lifting.{near_holds, run_causes, servers_match}
+use Rattle.ubik_cell.proofs.Lifting.{near_holds, run_causes}
 use Rattle.db_image.specs.Standing.{Standing}
 
 -- ---- what the bytes mean
@@ -45,17 +45,15 @@ over_long false x y is = absurd (cc)
 
 module _ {D V : Type 0} {standing : Standing} (g : Ghosts D) (db : ScriptDatabase) (bytes : List ℕ) (before : CellRun D V) (sound : IsSoundRun g standing before) where
   -- the bytes of a line that stands for this, where lines are left
-  result_is : (given : List ℕ) (st : Stage) → IsNear g (only db) given 0 before st → before.lines < MAX_LINES → (m : Result Line Why) → line_of (sites_in before.cell) bytes ≡ m → (choices : List Choice)
+  result_is : (given : List ℕ) (st : Stage) → IsNear g (only db) given 0 before st → before.lines < MAX_LINES → (m : Result Line Why) → line_of bytes ≡ m → (choices : Choices)
       → result_of db bytes st choices ≡ or_refused (meaning_run (only db) (next_line st) choices m)
   result_is given st near room m is choices =
       let more : nat_le MAX_LINES st.lines ≡ false = grind (arith, nat_tests, near.lines) in
-      let servers : servers_of st.cell ≡ sites_in before.cell = servers_match standing g (only db) given (clock_bound before.lines) before.cell st.cell sound.cell near.cell in
       few_lines (nat_le MAX_LINES st.lines) _ _ more
-      ∙ ap (λ n. or_refused (meaning_run (only db) (next_line st) choices (line_of n bytes))) servers
       ∙ ap (λ x. or_refused (meaning_run (only db) (next_line st) choices x)) is
 
   -- a line that means nothing
-  pub ended_meaning : (reason : Why) (text : List ℕ) → before.lines < MAX_LINES → line_of (sites_in before.cell) bytes ≡ Err reason → IsEnded g db bytes (ending.Refused reason) before before text text
+  pub ended_meaning : (reason : Why) (text : List ℕ) → before.lines < MAX_LINES → line_of bytes ≡ Err reason → IsEnded g db bytes (ending.Refused reason) before before text text
   ended_meaning reason text room is = (refl, refl, λ given st near choices. result_is given st near room (Err reason) is choices)
 
   -- a line of too many bytes
@@ -80,12 +78,13 @@ module _ {D V : Type 0} {standing : Standing} (g : Ghosts D) (db : ScriptDatabas
     held = inl (stage_short (only db) given st.cell (run_helds g before) (near_holds g (only db) given 0 before st sound near));
   }
 
-  module _ (l : Line) (room : before.lines < MAX_LINES) (is : line_of (sites_in before.cell) bytes ≡ Ok l) (after : CellRun D V) (text_before text_after : List ℕ) where
+  module _ (l : Line) (room : before.lines < MAX_LINES) (is : line_of bytes ≡ Ok l) (after : CellRun D V) (text_before text_after : List ℕ) where
     stage_told : (ended : Option Ending) (given : List ℕ) (st : Stage) → IsNear g (only db) given 0 before st
         → StageTold g (only db) given (run_of_line db l st) ended before after text_before text_after
         → StageTold g (only db) given (result_of db bytes st) ended before after text_before text_after
     stage_told ended given st near t = record {
       choices = t.choices;
+      whole = t.whole;
       ran = t.ran;
       is = result_is given st near room (Ok l) is t.choices ∙ ap or_refused t.is;
       ends = t.ends;
@@ -140,6 +139,7 @@ module _ {D V : Type 0} (g : Ghosts D) (db : ScriptDatabase) (bytes : List ℕ) 
       let later = told_with (only db) t (Ok s.ran) in
       record {
         choices = s.choices;
+        whole = s.whole;
         later = later;
         is = ap (told_with (only db) t) (sym s.is);
         ended = ap (ended_at (t.stage.lines + 1)) s.ends;
@@ -165,9 +165,10 @@ module _ {D V : Type 0} (g : Ghosts D) (db : ScriptDatabase) (bytes : List ℕ) 
     ended_told e after text_before middle text_after sound ends told =
         let held = held_at g (only db) given before t sound at in
         record {
-          choices = [];
+          choices = sound_choices;
+          whole = refl;
           later = told_with (only db) t (Err e);
-          is = ap (told_with (only db) t) (sym (ends.2 given t.stage at.stage []));
+          is = ap (told_with (only db) t) (sym (ends.2 given t.stage at.stage sound_choices));
           ended = refl;
           added = ending_text (t.stage.lines + 1) e;
           told = told ∙ ap (λ l. l ++ ending_text (before.lines + 1) e) ends.1 ∙ ap (λ n. text_before ++ ending_text n e) (sym line_number);
@@ -186,6 +187,7 @@ module _ {D V : Type 0} (g : Ghosts D) (db : ScriptDatabase) (bytes : List ℕ) 
         let line = t.stage.lines + 1 in
         record {
           choices = s.choices;
+          whole = s.whole;
           later = told_with (only db) t (Ok s.ran);
           is = ap (told_with (only db) t) (sym s.is);
           ended = ap (ended_at line) s.ends;

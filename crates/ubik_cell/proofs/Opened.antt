@@ -13,8 +13,8 @@ use Rattle.cell_script.specs.declared.lines.Kind.{Kind}
 use Rattle.cell_script.specs.declared.lines.Line.{Line}
 use Rattle.cell_script.specs.declared.lines.Line.TheVariants as line
 use Rattle.cell_script.specs.declared.lines.TheConstants.{MAX_CLOCK}
-use Rattle.cell_runs.specs.declared.limits.TheConstants.{MAX_LINES}
-use Rattle.cell_runs.specs.Script.{Cell, Choice, Stage, fails_at, hosts_of, line_run, next_line, opened, opened_cell, text_in}
+use Rattle.cell_runs.specs.declared.limits.TheConstants.{MAX_LINES, MAX_PACKETS}
+use Rattle.cell_runs.specs.Script.{Cell, Choice, Choices, Stage, fails_at, hosts_of, line_run, next_line, opened, opened_cell, sound_choices, text_in}
 use Rattle.cell_runs.specs.ScriptDatabase.{ScriptDatabase, Databases}
 use Rattle.cell_runs.specs.Trace.{TraceItem, trace}
 use Rattle.cell_sites.specs.declared.cells.OpenCell.{OpenCell}
@@ -26,7 +26,7 @@ use Rattle.cell_sites.specs.Sites.{IsModelledBy, helds}
 use Rattle.cell_sites.specs.Sound.{IsSound}
 use Rattle.ubik_cell.specs.declared.scripts.CellRun.{CellRun}
 use Rattle.ubik_cell.specs.LineRuns.{KeepsRun, LineDone, run_of_line}
-use Rattle.ubik_cell.specs.Lines.{AreUnwritten, CellIsSound, CellStandsFor, HasCauses, HeldCauses, HoldStage, IsNear, IsSoundRun, cell_helds, clock_bound, only, run_helds, sites_in}
+use Rattle.ubik_cell.specs.Lines.{AreUnwritten, CellIsSound, CellStandsFor, HasCauses, HeldCauses, HoldStage, IsNear, IsSoundRun, bounds_after, cell_helds, clock_bound, only, run_helds, sites_in}
 use Rattle.ubik_cell.proofs.CellLines.{raised}
 use Rattle.ubik_cell.proofs.LineDisks.{hosts_count, more_causes, unwritten, unwritten-append}
 use Rattle.ubik_cell.proofs.Lifting.{near_holds, run_causes, run_holds, servers_match}
@@ -64,11 +64,11 @@ module _ {D V : Type 0} (g : Ghosts D) (db : ScriptDatabase) (servers clock : �
   abbrev opens : Line
   opens = line.Cell servers clock k
 
-  opens_is : (st : Stage) → st.cell ≡ None → (choices : List Choice) → run_of_line db opens st choices ≡ Ok (opened (next_line st) choices servers clock k)
+  opens_is : (st : Stage) → st.cell ≡ None → (choices : Choices) → run_of_line db opens st choices ≡ Ok (opened (next_line st) choices servers clock k)
   opens_is st is choices = ap (λ (o : Option Cell). line_run (only db) (next_line st) choices opens o) is
 
   -- each failed opening is a fault of its disk
-  told_causes : {standing : Standing} {text_before text_after : List ℕ} (given : List D) (items : List TraceItem) (is : IsOpened g standing db clock k given running text_before text_after)
+  told_causes : {text_before text_after : List ℕ} (given : List D) (items : List TraceItem) (is : IsOpened g db clock k given running text_before text_after)
       → length given ≡ servers → HasCauses g before.cell items → HasCauses g after.cell (items ++ opening_items (fails_at servers is.choices))
   told_causes given items is count causes =
       let failed = fails_at servers is.choices in
@@ -83,17 +83,18 @@ module _ {D V : Type 0} (g : Ghosts D) (db : ScriptDatabase) (servers clock : �
   all_given given st near = near.spare ∙ ap (λ (o : Option (OpenCell D V)). drop (sites_in o) given) none
 
   -- all servers were opened
-  pub opened_line : {standing : Standing} (text_before text_after : List ℕ) → length (take servers before.spare.items) ≡ servers
-      → IsOpened g standing db clock k (take servers before.spare.items) running text_before text_after
+  pub opened_line : (text_before text_after : List ℕ) → length (take servers before.spare.items) ≡ servers
+      → IsOpened g db clock k (take servers before.spare.items) running text_before text_after
       → running.hosts.items ≡ hosts_of servers → All (λ disk. g.files disk ≡ Some no_files) after.spare.items
       → after.spare.items ≡ drop servers before.spare.items
       → LineDone g db opens (Ok tt) before after text_before text_after
   opened_line text_before text_after count is hosts empty left = λ given st near.
       let disks : List D = take servers before.spare.items in
-      let choices = is.choices in
+      let choices : List Choice = is.choices in
+      let whole : Choices = record { each = choices; most = MAX_PACKETS } in
       let failed = fails_at servers choices in
       let opened_c : Cell = opened_cell servers clock k failed in
-      let hosts_are : length running.hosts.items ≡ length running.sites.items = ap length is.sound.hosts ∙ hosts_count (length running.sites.items) in
+      let hosts_are : length running.hosts.items ≡ length running.sites.items = ap length (is.sound 0).steady.hosts ∙ hosts_count (length running.sites.items) in
       let sites_are : length running.sites.items ≡ servers = sym hosts_are ∙ ap length hosts ∙ hosts_count servers in
       let all : counts_of g before.spare.items ≡ given = all_given given st near in
       let own : counts_of g disks ≡ take (length running.sites.items) given =
@@ -108,9 +109,10 @@ module _ {D V : Type 0} (g : Ghosts D) (db : ScriptDatabase) (servers clock : �
       let spare : counts_of g after.spare.items ≡ drop (sites_in after.cell) given =
       behind ∙ ap (λ (o : Option (OpenCell D V)). drop (sites_in o) given) (sym here) in
       record {
-        choices = choices;
-        ran = opened (next_line st) choices servers clock k;
-        is = opens_is st (none_of g (only db) given before.cell st.cell none near.cell) choices;
+        choices = whole;
+        whole = refl;
+        ran = opened (next_line st) whole servers clock k;
+        is = opens_is st (none_of g (only db) given before.cell st.cell none near.cell) whole;
         ends = refl;
         near = λ _. record { lines = omega (arith, near.lines, lines); asks = near.asks ∙ sym asks; cell = at; spare = spare };
         servers = ap sites_in here ∙ sym hosts_are ∙ ap length hosts;
@@ -155,7 +157,7 @@ module _ {D V : Type 0} (g : Ghosts D) (db : ScriptDatabase) (servers clock : �
 
   -- what stays
   pub opened_keeps : {standing : Standing} (result : Result (Unit {0}) LineFault) → IsSoundRun g standing before → before.lines < MAX_LINES → length running.sites.items ≤ MAXSERVERS
-      → after.spare.items ≡ drop (length running.sites.items) before.spare.items → (result ≡ Ok tt → IsSound g standing clock running) → clock ≤ MAX_CLOCK
+      → after.spare.items ≡ drop (length running.sites.items) before.spare.items → (result ≡ Ok tt → (asks : ℕ) → IsSound g standing.database (record { clock = clock; asks = asks }) running) → clock ≤ MAX_CLOCK
       → KeepsRun g standing result before after
   opened_keeps {standing} result sound room few spare is_sound early =
       let count : sites_in after.cell ≡ length running.sites.items = ap sites_in here in
@@ -169,8 +171,9 @@ module _ {D V : Type 0} (g : Ghosts D) (db : ScriptDatabase) (servers clock : �
             let all : sites_in after.cell - sites_in before.cell ≡ length running.sites.items = omega (arith, count, no_sites) in
             spare ∙ sym (ap (λ n. drop n before.spare.items) all);
         sound = λ done. record {
-          cell = subst (CellIsSound g standing (clock_bound (before.lines + 1))) (sym here)
-              (raised g clock (clock_bound (before.lines + 1)) running (omega (arith, early)) (is_sound done));
+          cell = subst (CellIsSound g standing (bounds_after (before.lines + 1) after.asks)) (sym here)
+              (raised g standing.database (record { clock = clock; asks = after.asks }) (clock_bound (before.lines + 1)) running
+              (omega (arith, early)) (is_sound done after.asks));
           spare = subst (All (λ disk. g.files disk ≡ Some no_files)) (sym spare) (All-drop (λ disk. g.files disk ≡ Some no_files) (length running.sites.items) before.spare.items sound.spare);
           settled = subst (All (λ disk. IsSettled (g.files disk) (g.may_leave disk))) (sym spare)
               (All-drop (λ disk. IsSettled (g.files disk) (g.may_leave disk)) (length running.sites.items) before.spare.items sound.settled);
@@ -185,7 +188,7 @@ module _ {D V : Type 0} (g : Ghosts D) (db : ScriptDatabase) (servers clock : �
 -- ---- an empty line
 
 module _ {D V : Type 0} {standing : Standing} (g : Ghosts D) (db : ScriptDatabase) (before : CellRun D V) (sound : IsSoundRun g standing before) where
-  nothing_in : (st : Stage) (cell : Option Cell) → st.cell ≡ cell → (choices : List Choice)
+  nothing_in : (st : Stage) (cell : Option Cell) → st.cell ≡ cell → (choices : Choices)
       → run_of_line db line.Nothing st choices ≡ Ok (record { stage = record (next_line st) { cell = cell }; items = []; ending = None })
   nothing_in st None is choices =
       ap (λ (o : Option Cell). line_run (only db) (next_line st) choices line.Nothing o) is
@@ -198,12 +201,13 @@ module _ {D V : Type 0} {standing : Standing} (g : Ghosts D) (db : ScriptDatabas
 
   pub nothing_line : (text : List ℕ) → LineDone g db line.Nothing (Ok tt) before before text text
   nothing_line text = λ given st near. record {
-    choices = [];
+    choices = sound_choices;
+    whole = refl;
     ran = record { stage = next_line st; items = []; ending = None };
-    is = nothing_in st st.cell refl [];
+    is = nothing_in st st.cell refl sound_choices;
     ends = refl;
     near = λ _. record { lines = omega (arith, near.lines); asks = near.asks; cell = near.cell; spare = near.spare };
-    servers = sym (servers_match standing g (only db) given (clock_bound before.lines) before.cell st.cell sound.cell near.cell);
+    servers = sym (servers_match standing g (only db) given (bounds_after before.lines before.asks) before.cell st.cell sound.cell near.cell);
     holds = near_holds g (only db) given 0 before st sound near;
     kept = λ o items at causes. run_causes g (only db) given before.cell o items (all_held g before.spare.items) at causes;
     told = sym (ap (λ (l : List ℕ). text ++ l) (no_text st.cell) ∙ append-nil text);
@@ -229,9 +233,11 @@ module _ {D V : Type 0} {standing : Standing} (g : Ghosts D) (db : ScriptDatabas
     };
   }
     where
-      by : (cell : Option (OpenCell D V)) → CellIsSound g standing (clock_bound before.lines) cell → CellIsSound g standing (clock_bound (before.lines + 1)) cell
+      by : (cell : Option (OpenCell D V)) → CellIsSound g standing (bounds_after before.lines before.asks) cell
+          → CellIsSound g standing (bounds_after (before.lines + 1) before.asks) cell
       by None is = tt
-      by (Some running) is = raised g (clock_bound before.lines) (clock_bound (before.lines + 1)) running (omega arith) is
+      by (Some running) is =
+          raised g standing.database (bounds_after before.lines before.asks) (clock_bound (before.lines + 1)) running (omega arith) is
 
 -- ---- the disks that are left
 

@@ -14,7 +14,7 @@ use Rattle.cell_runs.specs.declared.endings.Ending.{Ending}
 use Rattle.cell_runs.specs.declared.endings.Ending.TheVariants.{Refused, Limit}
 use Rattle.cell_runs.specs.declared.endings.Which.TheVariants.{Lines}
 use Rattle.cell_runs.specs.declared.limits.TheConstants.{MAX_LINES}
-use Rattle.cell_runs.specs.Script.{Choice, LineRead, Stage, Told, line_result, meaning_run, next_line, or_refused, servers_of, told_with}
+use Rattle.cell_runs.specs.Script.{LineRead, Stage, Told, line_result, meaning_run, next_line, or_refused, sound_choices, told_with}
 use Rattle.cell_runs.specs.ScriptDatabase.{Databases}
 use Rattle.cell_runs.specs.Trace.{ending_text}
 use Rattle.ubik_cell.specs.declared.scripts.CellRun.{CellRun}
@@ -27,15 +27,16 @@ use Rattle.db_image.specs.Standing.{Standing}
 module _ {D V : Type 0} {standing : Standing} (g : Ghosts D) (dbs : Databases) (given : List ℕ) (run : CellRun D V) (t : Told)
     (sound : IsSoundRun g standing run) (at : IsAt g dbs given run t) where
   -- the end was told
-  pub end_told : (line : List ℕ) (choices : List Choice) (ending : Ending) (text_before text_after : List ℕ)
-      → line_result dbs t.stage (record { line = line; choices = choices }) ≡ Err ending
+  pub end_told : (line : List ℕ) (ending : Ending) (text_before text_after : List ℕ)
+      → line_result dbs t.stage (record { line = line; choices = sound_choices }) ≡ Err ending
       → text_after ≡ text_before ++ ending_text (run.lines + 1) ending
       → LineTold g dbs given line t (Err (Ended ending)) run text_before text_after
-  end_told line choices ending text_before text_after ends told =
+  end_told line ending text_before text_after ends told =
       let held = held_at g dbs given run t sound at in
       let place : run.lines + 1 ≡ t.stage.lines + 1 = omega (arith, at.stage.lines) in
       record {
-        choices = choices;
+        choices = sound_choices;
+        whole = refl;
         later = told_with dbs t (Err ending);
         is = ap (told_with dbs t) (sym ends);
         ended = refl;
@@ -57,19 +58,19 @@ module _ {D V : Type 0} {standing : Standing} (g : Ghosts D) (dbs : Databases) (
 past_lines : (dbs : Databases) (st : Stage) (r : LineRead) → MAX_LINES ≤ st.lines → line_result dbs st r ≡ Err (Limit Lines)
 past_lines dbs st r past =
     let full : nat_le MAX_LINES st.lines ≡ true = grind (arith, nat_tests) in
-    ap (λ (b : Bool). cond b (Err (Limit Lines)) (or_refused (meaning_run dbs (next_line st) r.choices (line_of (servers_of st.cell) r.line)))) full
+    ap (λ (b : Bool). cond b (Err (Limit Lines)) (or_refused (meaning_run dbs (next_line st) r.choices (line_of r.line)))) full
 
-too_long : (servers : ℕ) (line : List ℕ) → MAX_LINE < length line → line_of servers line ≡ Err why.Syntax
-too_long servers line long =
+too_long : (line : List ℕ) → MAX_LINE < length line → line_of line ≡ Err why.Syntax
+too_long line long =
     let past : nat_lt MAX_LINE (length line) ≡ true = grind (arith, nat_tests) in
-    ap (λ (b : Bool). cond b (Err why.Syntax) (cond (is_idle line) (Ok Nothing) (line_of_split servers (words_of line)))) past
+    ap (λ (b : Bool). cond b (Err why.Syntax) (cond (is_idle line) (Ok Nothing) (line_of_split (words_of line)))) past
 
 refused_long : (dbs : Databases) (st : Stage) (r : LineRead) → st.lines < MAX_LINES → MAX_LINE < length r.line
     → line_result dbs st r ≡ Err (Refused why.Syntax)
 refused_long dbs st r few long =
     let going : nat_le MAX_LINES st.lines ≡ false = grind (arith, nat_tests) in
-    ap (λ (b : Bool). cond b (Err (Limit Lines)) (or_refused (meaning_run dbs (next_line st) r.choices (line_of (servers_of st.cell) r.line)))) going
-    ∙ ap (λ (m : Result Line Why). or_refused (meaning_run dbs (next_line st) r.choices m)) (too_long (servers_of st.cell) r.line long)
+    ap (λ (b : Bool). cond b (Err (Limit Lines)) (or_refused (meaning_run dbs (next_line st) r.choices (line_of r.line)))) going
+    ∙ ap (λ (m : Result Line Why). or_refused (meaning_run dbs (next_line st) r.choices m)) (too_long r.line long)
 
 pub long_full : (dbs : Databases) (st : Stage) (r : LineRead) (lines : ℕ) → st.lines ≡ lines → MAX_LINES ≤ lines
     → line_result dbs st r ≡ Err (Limit Lines)

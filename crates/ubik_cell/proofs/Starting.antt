@@ -10,11 +10,12 @@ use Rattle.cell_runs.specs.Script.{first_told}
 use Rattle.cell_runs.specs.ScriptDatabase.{Databases}
 use Rattle.cell_sites.specs.Disks.{Held, all_held}
 use Rattle.cell_sites.specs.Opened.{counts_of}
+use Rattle.script_promises.specs.Databases.{databases}
 use Rattle.ubik_cell.specs.declared.cells.CellKind.{CellKind}
 use Rattle.ubik_cell.specs.declared.cells.CellKind.TheVariants as kind
-use Rattle.ubik_cell.specs.declared.scripts.CellRun.{CellRun}
-use Rattle.ubik_cell.specs.Lines.{IsAt, run_helds, sites_in}
+use Rattle.ubik_cell.specs.declared.runs.ScriptRun.{ScriptRun}
 use Rattle.ubik_cell.specs.Runs.{IsConsumed, Runs}
+use Rattle.ubik_cell.specs.ScriptRuns.{StandsAt, script_helds, script_sites, script_spare}
 use Rattle.ubik_cell.specs.Turns.{Ran, RanOver, SoFar}
 use Rattle.ubik_cell.proofs.LineDisks.{unwritten}
 
@@ -43,6 +44,7 @@ module _ {D : Type 0} (g : Ghosts D) (dbs : Databases) where
     reached = 0;
     ran = record {
       readings = [];
+      whole = tt;
       run = run;
       more = [];
       run_or_not = inl refl;
@@ -66,14 +68,15 @@ module _ {D : Type 0} (g : Ghosts D) (dbs : Databases) where
         wrote = ap Some (sym (append-nil before));
       })
 
-module _ {D V : Type 0} (g : Ghosts D) (dbs : Databases) where
+module _ {D : Type 0} (g : Ghosts D) where
   -- before the first line
-  pub first_so_far : (given : List ℕ) (ended : Bool) (run : CellRun D V) → ended ≡ false → IsAt g dbs given run first_told → (script before : List ℕ)
-      → SoFar g dbs given script ended (Some script) before (Some before) run
+  pub first_so_far : (given : List ℕ) (ended : Bool) (run : ScriptRun D) → ended ≡ false → StandsAt g given run first_told → (script before : List ℕ)
+      → SoFar g given script ended (Some script) before (Some before) run
   first_so_far given ended run going at script before =
       let P : Bool → Type 0 = λ b. IsConsumed b script script [] in
       record {
         readings = [];
+        whole = tt;
         rest = script;
         remains = refl;
         consumed = subst P (sym going) (refl, All-nil _);
@@ -83,44 +86,44 @@ module _ {D V : Type 0} (g : Ghosts D) (dbs : Databases) where
       }
 
   -- what is told of what a sink holds, where it holds something
-  from_sink : (given script : List ℕ) (ended : Bool) (left : Option (List ℕ)) (before : List ℕ) (w : Option (List ℕ)) (run : CellRun D V)
+  from_sink : (given script : List ℕ) (ended : Bool) (left : Option (List ℕ)) (before : List ℕ) (w : Option (List ℕ)) (run : ScriptRun D)
       (Q : (given script before : List ℕ) → Type 0)
-      → IfSome w (λ written. (given script before : List ℕ) → SoFar g dbs given script ended left before (Some written) run
+      → IfSome w (λ written. (given script before : List ℕ) → SoFar g given script ended left before (Some written) run
       → Q given script before)
-      → SoFar g dbs given script ended left before w run → Q given script before
+      → SoFar g given script ended left before w run → Q given script before
   from_sink given script ended left before None run Q goes so = let never = so.wrote in absurd (cc)
   from_sink given script ended left before (Some written) run Q goes so = goes given script before so
 
   -- one more turn, where disks had these counts before the script
-  pub so_far_on : (given : List ℕ) (ended : Bool) (left : Option (List ℕ)) (w : Option (List ℕ)) (run : CellRun D V)
+  pub so_far_on : (given : List ℕ) (ended : Bool) (left : Option (List ℕ)) (w : Option (List ℕ)) (run : ScriptRun D)
       (Q : (given script before : List ℕ) → Type 0) (input out : Option (List ℕ))
-      → IfSome input (λ script. IfSome out (λ before. SoFar g dbs given script ended left before w run))
-      → IfSome w (λ written. (given script before : List ℕ) → SoFar g dbs given script ended left before (Some written) run
+      → IfSome input (λ script. IfSome out (λ before. SoFar g given script ended left before w run))
+      → IfSome w (λ written. (given script before : List ℕ) → SoFar g given script ended left before (Some written) run
       → Q given script before)
       → IfSome input (λ script. IfSome out (λ before. Q given script before))
   so_far_on given ended left w run Q input out so goes =
-      over_both (λ script before. SoFar g dbs given script ended left before w run) (Q given) input out so
+      over_both (λ script before. SoFar g given script ended left before w run) (Q given) input out so
       (λ script before is. from_sink given script ended left before w run Q goes is)
 
   -- how the disks lie that were not reached
-  pub unreached : (run next : CellRun D V) (disks after : List D) → sites_in run.cell + length run.spare.items ≡ MAXSERVERS
-      → sites_in next.cell + length next.spare.items ≡ MAXSERVERS → run.spare.items ≡ drop (sites_in run.cell) disks
-      → next.spare.items ≡ drop (sites_in next.cell - sites_in run.cell) run.spare.items
-      → next.spare.items ≡ drop (sites_in next.cell) disks
+  pub unreached : (run next : ScriptRun D) (disks after : List D) → script_sites run + length (script_spare run) ≡ MAXSERVERS
+      → script_sites next + length (script_spare next) ≡ MAXSERVERS → script_spare run ≡ drop (script_sites run) disks
+      → script_spare next ≡ drop (script_sites next - script_sites run) (script_spare run)
+      → script_spare next ≡ drop (script_sites next) disks
   unreached run next disks after count next_count spare more =
-      let rise = sites_in next.cell - sites_in run.cell in
-      let same : sites_in run.cell + rise ≡ sites_in next.cell =
-      omega (arith, count, next_count, ap (λ (l : List D). length l) more, length-drop rise run.spare.items) in
-      more ∙ ap (drop rise) spare ∙ drop-drop rise (sites_in run.cell) disks ∙ ap (λ (n : ℕ). drop n disks) same
+      let rise = script_sites next - script_sites run in
+      let same : script_sites run + rise ≡ script_sites next =
+      omega (arith, count, next_count, ap (λ (l : List D). length l) more, length-drop rise (script_spare run)) in
+      more ∙ ap (drop rise) spare ∙ drop-drop rise (script_sites run) disks ∙ ap (λ (n : ℕ). drop n disks) same
 
   -- the disks in their places again
-  pub closed : (k : CellKind) (script : List ℕ) (left : Option (List ℕ)) (before : List ℕ) (after : Option (List ℕ)) (next : CellRun D V)
-      (disks disks_after : List D) → all_held g disks_after ≡ run_helds g next
-      → drop (sites_in next.cell) disks_after ≡ next.spare.items → next.spare.items ≡ drop (sites_in next.cell) disks
-      → Ran k dbs (counts_of g disks) script left before after (sites_in next.cell) (run_helds g next)
-      → RanOver g k dbs script left before after disks disks_after
+  pub closed : (k : CellKind) (script : List ℕ) (left : Option (List ℕ)) (before : List ℕ) (after : Option (List ℕ)) (next : ScriptRun D)
+      (disks disks_after : List D) → all_held g disks_after ≡ script_helds g next
+      → drop (script_sites next) disks_after ≡ script_spare next → script_spare next ≡ drop (script_sites next) disks
+      → Ran k databases (counts_of g disks) script left before after (script_sites next) (script_helds g next)
+      → RanOver g k databases script left before after disks disks_after
   closed k script left before after next disks disks_after held others spare ran = record {
-    reached = sites_in next.cell;
-    ran = subst (λ (h : List Held). Ran k dbs (counts_of g disks) script left before after (sites_in next.cell) h) (sym held) ran;
+    reached = script_sites next;
+    ran = subst (λ (h : List Held). Ran k databases (counts_of g disks) script left before after (script_sites next) h) (sym held) ran;
     stay = others ∙ spare;
   }

@@ -1,6 +1,6 @@
 -- What one more line adds to what is told.
 use Rattle.std.proofs.Common.{◌≡◌, ℕ, List, [], ◌∷◌, ◌++◌, Option, Some, None, IfSome, refl, ap, ◌∙◌}
-use Rattle.cell_runs.specs.Script.{LineRead, Told, first_told, line_result, told, told_after, told_from, told_with}
+use Rattle.cell_runs.specs.Script.{AreWhole, IsWhole, LineRead, Told, first_told, line_result, told, told_after, told_from, told_with}
 use Rattle.cell_runs.specs.ScriptDatabase.{Databases}
 use Rattle.ubik_cell.specs.Runs.{read_lines}
 
@@ -17,6 +17,10 @@ told-push dbs readings r good = told_from-push dbs first_told readings r ∙ ap 
 pub read_lines-push : (readings : List LineRead) (r : LineRead) → read_lines (readings ++ r ∷ []) ≡ read_lines readings ++ r.line ∷ []
 read_lines-push [] r = refl
 read_lines-push (q ∷ readings) r = ap (λ (lines : List (List ℕ)). q.line ∷ lines) (read_lines-push readings r)
+
+pub whole-push : (readings : List LineRead) (r : LineRead) → AreWhole readings → IsWhole r.choices → AreWhole (readings ++ r ∷ [])
+whole-push [] r whole one = (one, tt)
+whole-push (q ∷ readings) r whole one = (whole.0, whole-push readings r whole.1 one)
 
 -- from a fact of what is there to another
 pub over_told : {X : Type 0} (P Q : X → Type 0) (o : Option X) → IfSome o P → ((x : X) → P x → Q x) → IfSome o Q

@@ -3,4 +3,5 @@ pub mod Headline
 pub mod LineRuns
 pub mod Lines
 pub mod Runs
+pub mod ScriptRuns
 pub mod Turns

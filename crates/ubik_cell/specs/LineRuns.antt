@@ -8,7 +8,7 @@ use Rattle.cell_script.specs.declared.lines.TheConstants.{MAX_TICK}
 use Rattle.cell_script.specs.declared.lines.Why.{Why}
 use Rattle.cell_runs.specs.declared.endings.Ending.{Ending}
 use Rattle.cell_runs.specs.declared.endings.Ending.TheVariants as ending
-use Rattle.cell_runs.specs.Script.{Cell, Choice, Line_run, Run_or_why, Stage, Told, line_result, line_run, next_line}
+use Rattle.cell_runs.specs.Script.{Cell, Choices, Line_run, Run_or_why, Stage, Told, line_result, line_run, next_line}
 use Rattle.cell_runs.specs.ScriptDatabase.{ScriptDatabase}
 use Rattle.cell_runs.specs.Trace.{ending_text}
 use Rattle.cell_sites.specs.declared.cells.OpenCell.{OpenCell}
@@ -16,7 +16,7 @@ use Rattle.cell_sites.specs.declared.faults.LineFault.{LineFault}
 use Rattle.cell_sites.specs.declared.faults.LineFault.TheVariants.{Refused, Limit, NoMemory}
 use Rattle.cell_sites.specs.Disks.{AreRises}
 use Rattle.cell_sites.specs.Sites.{IsModelledBy, helds}
-use Rattle.cell_sites.specs.Sound.{IsSound}
+use Rattle.cell_sites.specs.Sound.{Bounds, IsSound}
 use Rattle.cell_sites.specs.Told.{CellTold, IsRefused, IsShort}
 use Rattle.ubik_cell.specs.declared.scripts.CellRun.{CellRun}
 use Rattle.ubik_cell.specs.declared.scripts.RunEnd.{RunEnd}
@@ -24,7 +24,7 @@ use Rattle.ubik_cell.specs.declared.scripts.RunEnd.TheVariants as run_end
 use Rattle.ubik_cell.specs.Lines.{IsAt, IsNear, IsSoundBy, IsSoundRun, IsRefusedLine, LineShort, LineTold, StageShort, StageTold, only, sites_in}
 
 -- what a line does to a stage, by its choices
-abbrev pub run_of_line : ScriptDatabase → Line → Stage → List Choice → Result Line_run Why
+abbrev pub run_of_line : ScriptDatabase → Line → Stage → Choices → Result Line_run Why
 run_of_line db l st choices = line_run (only db) (next_line st) choices l st.cell
 
 -- What became of a line in a run: it was run and told; it passed a limit, or was refused, and nothing was done; or memory ran out.
@@ -48,14 +48,14 @@ pub record KeepsRun {D V : Type 0} (g : Ghosts D) (standing : Standing) (result 
   pub sound : result ≡ Ok tt → IsSoundBy g standing (before.lines + 1) after
 
 -- what the bytes of a line do to a stage, by its choices
-abbrev pub result_of : ScriptDatabase → List ℕ → Stage → List Choice → Result Line_run Ending
+abbrev pub result_of : ScriptDatabase → List ℕ → Stage → Choices → Result Line_run Ending
 result_of db bytes st choices = line_result (only db) st (record { line = bytes; choices = choices })
 
 -- the script ends before a line does anything
 abbrev pub IsEnded : {D V : Type 0} → Ghosts D → ScriptDatabase → List ℕ → Ending → (before after : CellRun D V) → (text_before text_after : List ℕ) → Type 0
 IsEnded g db bytes e before after text_before text_after =
     (after ≡ before) × (text_after ≡ text_before)
-    × ((given : List ℕ) (st : Stage) → IsNear g (only db) given 0 before st → (choices : List Choice) → result_of db bytes st choices ≡ Err e)
+    × ((given : List ℕ) (st : Stage) → IsNear g (only db) given 0 before st → (choices : Choices) → result_of db bytes st choices ≡ Err e)
 
 -- What became of the bytes of a line in a run.
 abbrev pub ReadDone : {D V : Type 0} → Ghosts D → ScriptDatabase → List ℕ → Result (Unit {0}) LineFault
@@ -96,7 +96,7 @@ pub record KeepsPlaces {D V : Type 0} (g : Ghosts D) (standing : Standing) (resu
   pub lines : result ≡ Ok tt → after.lines ≡ before.lines + 1
 
 -- the same of a line in a cell that stands
-abbrev pub CellDone : {D V : Type 0} → Ghosts D → ScriptDatabase → (Cell → List Choice → Run_or_why)
+abbrev pub CellDone : {D V : Type 0} → Ghosts D → ScriptDatabase → (Cell → Choices → Run_or_why)
     → Result (Unit {0}) LineFault → (before after : OpenCell D V) → (text_before text_after : List ℕ) → Type 0
 CellDone g db run (Ok done) before after text_before text_after =
     (given : List ℕ) (c : Cell) → IsModelledBy g db.database given before c → CellTold g db given (run c) None before after text_before text_after
@@ -108,6 +108,7 @@ CellDone g db run (Err NoMemory) before after text_before text_after =
     (given : List ℕ) (c : Cell) → IsModelledBy g db.database given before c → IsShort g db.database given (run c) c before after
 
 pub record KeepsCell {D V : Type 0} (g : Ghosts D) (standing : Standing) (result : Result (Unit {0}) LineFault) (before after : OpenCell D V) : Type 0 where
-  pub sound : result ≡ Ok tt → (bound : ℕ) → IsSound g standing bound before → IsSound g standing (bound + MAX_TICK) after
+  pub sound : result ≡ Ok tt → (bounds : Bounds) → IsSound g standing.database bounds before
+      → IsSound g standing.database (record bounds { clock = bounds.clock + MAX_TICK }) after
   pub never_falls : AreRises 0 [] (helds g before) (helds g after)
   pub same : length after.sites.items ≡ length before.sites.items

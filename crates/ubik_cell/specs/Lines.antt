@@ -11,7 +11,7 @@ use Rattle.db_image.specs.Standing.{Standing}
 use Rattle.cell_script.specs.declared.lines.TheConstants.{MAX_CLOCK, MAX_TICK}
 use Rattle.cell_runs.specs.declared.endings.Ending.{Ending}
 use Rattle.cell_runs.specs.declared.limits.TheConstants.{MAX_LINES}
-use Rattle.cell_runs.specs.Script.{Cell, Choice, Line_run, ScriptEnd, Stage, Told, kind_of_cell, line_result, servers_of, text_in, told_with}
+use Rattle.cell_runs.specs.Script.{Cell, Choices, IsWhole, Line_run, ScriptEnd, Stage, Told, kind_of_cell, line_result, servers_of, text_in, told_with}
 use Rattle.cell_runs.specs.ScriptDatabase.{ScriptDatabase, Databases}
 use Rattle.cell_runs.specs.Trace.{TraceItem}
 use Rattle.cell_script.specs.declared.lines.Why.{Why}
@@ -20,7 +20,7 @@ use Rattle.cell_sites.specs.Counts.{HoldRun, OpensFirst}
 use Rattle.cell_sites.specs.Disks.{Held, all_held, AreCauses}
 use Rattle.cell_sites.specs.Opened.{counts_of}
 use Rattle.cell_sites.specs.Sites.{IsModelledBy, helds}
-use Rattle.cell_sites.specs.Sound.{IsSound}
+use Rattle.cell_sites.specs.Sound.{Bounds, IsSound}
 use Rattle.ubik_node.specs.Disk.{StandsAs}
 use Rattle.ubik_cell.specs.declared.scripts.CellRun.{CellRun}
 use Rattle.ubik_cell.specs.declared.scripts.RunEnd.{RunEnd}
@@ -34,10 +34,14 @@ only db kind = db
 abbrev pub clock_bound : ℕ → ℕ
 clock_bound lines = MAX_CLOCK + MAX_TICK * lines
 
+-- what clocks and the ids of calls are at most after so many lines
+abbrev pub bounds_after : (lines asks : ℕ) → Bounds
+bounds_after lines asks = record { clock = clock_bound lines; asks = asks }
+
 -- a cell stands, and is sound
-abbrev pub CellIsSound : {D V : Type 0} → Ghosts D → Standing → (bound : ℕ) → Option (OpenCell D V) → Type 0
-CellIsSound g standing bound None = Unit {0}
-CellIsSound g standing bound (Some running) = IsSound g standing bound running
+abbrev pub CellIsSound : {D V : Type 0} → Ghosts D → Standing → Bounds → Option (OpenCell D V) → Type 0
+CellIsSound g standing bounds None = Unit {0}
+CellIsSound g standing bounds (Some running) = IsSound g standing.database bounds running
 
 abbrev pub sites_in : {D V : Type 0} → Option (OpenCell D V) → ℕ
 sites_in None = 0
@@ -46,7 +50,7 @@ sites_in (Some running) = length running.sites.items
 -- A run that was sound after so many lines: its cell is sound, the disks that no cell has are empty, with nothing pending, and not to
 -- stop, there are 20 in all, no more calls were asked than there were lines, and these are within their limit.
 pub record IsSoundBy {D V : Type 0} (g : Ghosts D) (standing : Standing) (lines : ℕ) (run : CellRun D V) : Type 0 where
-  pub cell : CellIsSound g standing (clock_bound lines) run.cell
+  pub cell : CellIsSound g standing (bounds_after lines run.asks) run.cell
   pub spare : All (λ disk. g.files disk ≡ Some no_files) run.spare.items
   pub settled : All (λ disk. IsSettled (g.files disk) (g.may_leave disk)) run.spare.items
   pub unarmed : All (λ disk. g.stop disk ≡ Unarmed) run.spare.items
@@ -135,36 +139,46 @@ abbrev pub Leaves : {D V : Type 0} → Ghosts D → Databases → List ℕ → R
 Leaves g dbs given (Ok done) run t = IsAt g dbs given run t
 Leaves g dbs given (Err e) run t = AreHeld dbs given false t (run_helds g run)
 
--- A line was run with some choices, or ended the script: what is told of it was added to a text.
-pub record LineTold {D V : Type 0} (g : Ghosts D) (dbs : Databases) (given : List ℕ) (line : List ℕ) (t : Told)
-    (result : Result (Unit {0}) RunEnd) (after : CellRun D V) (text_before text_after : List ℕ) : Type 0 where
-  pub choices : List Choice
+-- A line was run to its end with some choices, or ended the script: what is told of it was added to a text. This follows of what it left,
+-- in a run with so many servers.
+pub record ToldLine (dbs : Databases) (line : List ℕ) (t : Told) (result : Result (Unit {0}) RunEnd) (Follows : Told → Type 0) (sites : ℕ)
+    (text_before text_after : List ℕ) : Type 0 where
+  pub choices : Choices
+  pub whole : IsWhole choices
   pub later : Told
   pub is : later ≡ told_with dbs t (line_result dbs t.stage (record { line = line; choices = choices }))
   pub ended : later.ended ≡ ended_of t result
   pub added : List ℕ
   pub told : text_after ≡ text_before ++ added
   pub text : later.text ≡ t.text ++ added
-  pub leaves : Leaves g dbs given result after later
-  pub servers : sites_in after.cell ≡ servers_of later.stage.cell
+  pub leaves : Follows later
+  pub servers : sites ≡ servers_of later.stage.cell
 
--- disks hold what a line leaves with some choices
+abbrev pub LineTold : {D V : Type 0} → Ghosts D → Databases → (given line : List ℕ) → Told → Result (Unit {0}) RunEnd → (after : CellRun D V)
+    → (text_before text_after : List ℕ) → Type 0
+LineTold g dbs given line t result after text_before text_after =
+    ToldLine dbs line t result (Leaves g dbs given result after) (sites_in after.cell) text_before text_after
+
+-- disks hold what a line leaves with some choices, of a line that was run perhaps in part
 pub record HeldAfter (dbs : Databases) (given : List ℕ) (line : List ℕ) (t : Told) (disks : List Held) : Type 0 where
-  pub choices : List Choice
+  pub choices : Choices
   pub held : AreHeld dbs given true (told_with dbs t (line_result dbs t.stage (record { line = line; choices = choices }))) disks
 
 -- Memory ran out in a line: each fault that was told before it has its cause, and the disks hold what the lines before it left, or
 -- what it left with some choices.
-pub record LineShort {D V : Type 0} (g : Ghosts D) (dbs : Databases) (given : List ℕ) (line : List ℕ) (t : Told)
-    (after : CellRun D V) : Type 0 where
-  pub causes : HeldCauses t.stage.cell t.items (run_helds g after)
-  pub held : HoldStage dbs given true t.stage.cell (run_helds g after) ⊎ HeldAfter dbs given line t (run_helds g after)
+pub record ShortLine (dbs : Databases) (given : List ℕ) (line : List ℕ) (t : Told) (disks : List Held) : Type 0 where
+  pub causes : HeldCauses t.stage.cell t.items disks
+  pub held : HoldStage dbs given true t.stage.cell disks ⊎ HeldAfter dbs given line t disks
 
--- A line was run in a stage with some choices: it ended so, and what it told was added to a text. Each fault that was told has its cause.
+abbrev pub LineShort : {D V : Type 0} → Ghosts D → Databases → (given line : List ℕ) → Told → (after : CellRun D V) → Type 0
+LineShort g dbs given line t after = ShortLine dbs given line t (run_helds g after)
+
+-- A line was run to its end in a stage with some choices: it ended so, and what it told was added to a text. Each fault that was told has its cause.
 pub record StageTold {D V : Type 0} (g : Ghosts D) {E : Type 0} (dbs : Databases) (given : List ℕ)
-    (run : List Choice → Result Line_run E) (ended : Option Ending) (before after : CellRun D V)
+    (run : Choices → Result Line_run E) (ended : Option Ending) (before after : CellRun D V)
     (text_before text_after : List ℕ) : Type 0 where
-  pub choices : List Choice
+  pub choices : Choices
+  pub whole : IsWhole choices
   pub ran : Line_run
   pub is : run choices ≡ Ok ran
   pub ends : ran.ending ≡ ended
@@ -179,13 +193,13 @@ pub record StageTold {D V : Type 0} (g : Ghosts D) {E : Type 0} (dbs : Databases
       → HeldCauses c items (run_helds g after)
 
 -- a line is refused for this reason, whatever its choices
-abbrev pub IsRefusedLine : Why → (List Choice → Result Line_run Why) → Type 0
-IsRefusedLine why run = (choices : List Choice) → run choices ≡ Err why
+abbrev pub IsRefusedLine : Why → (Choices → Result Line_run Why) → Type 0
+IsRefusedLine why run = (choices : Choices) → run choices ≡ Err why
 
--- what a line in which memory ran out left on the disks, with some choices
-pub record ShortAfter {D V : Type 0} (g : Ghosts D) {E : Type 0} (dbs : Databases) (given : List ℕ) (run : List Choice → Result Line_run E)
+-- what a line in which memory ran out, perhaps half way, left on the disks, with some choices
+pub record ShortAfter {D V : Type 0} (g : Ghosts D) {E : Type 0} (dbs : Databases) (given : List ℕ) (run : Choices → Result Line_run E)
     (before after : CellRun D V) : Type 0 where
-  pub choices : List Choice
+  pub choices : Choices
   pub ran : Line_run
   pub is : run choices ≡ Ok ran
   pub holds : HoldStage dbs given true ran.stage.cell (run_helds g after)
@@ -193,7 +207,7 @@ pub record ShortAfter {D V : Type 0} (g : Ghosts D) {E : Type 0} (dbs : Database
       → HeldCauses ran.stage.cell (items ++ ran.items) (run_helds g after)
 
 -- Memory ran out in a line: each fault that was told before it has its cause, and the disks hold what was before it, or what it left.
-pub record StageShort {D V : Type 0} (g : Ghosts D) {E : Type 0} (dbs : Databases) (given : List ℕ) (run : List Choice → Result Line_run E)
+pub record StageShort {D V : Type 0} (g : Ghosts D) {E : Type 0} (dbs : Databases) (given : List ℕ) (run : Choices → Result Line_run E)
     (st : Stage) (before after : CellRun D V) : Type 0 where
   pub causes : (items : List TraceItem) → HasCauses g before.cell items → HeldCauses st.cell items (run_helds g after)
   pub held : HoldStage dbs given true st.cell (run_helds g after) ⊎ ShortAfter g dbs given run before after

@@ -4,7 +4,7 @@ use Rattle.cell_script.specs.LineLaws.{text_of}
 use Rattle.cell_script.specs.Lines.{HasNoLf, lines_of, whole_lines}
 use Rattle.cell_runs.specs.declared.endings.Ending.{Ending}
 use Rattle.cell_runs.specs.declared.endings.Ending.TheVariants.{Refused, Limit}
-use Rattle.cell_runs.specs.Script.{LineRead, ScriptEnd, told}
+use Rattle.cell_runs.specs.Script.{LineRead, ScriptEnd, sound_choices, told}
 use Rattle.cell_runs.specs.ScriptDatabase.{Databases}
 use Rattle.ubik_cell.specs.declared.cells.CellKind.{CellKind}
 use Rattle.ubik_cell.specs.declared.cells.CellKind.TheVariants as kind
@@ -118,7 +118,7 @@ kind_at line (Limit which) = kind.Limit line which
 
 -- lines at which no disk fails
 abbrev pub sound_lines : List (List ℕ) → List LineRead
-sound_lines lines = map (λ l. record { line = l; choices = [] }) lines
+sound_lines lines = map (λ l. record { line = l; choices = sound_choices }) lines
 
 -- the script was run to its end, or memory ran out
 abbrev pub IsDoneOrShort : CellKind → Type 0

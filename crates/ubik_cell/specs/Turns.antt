@@ -1,28 +1,31 @@
 -- A script that is read line by line: between two lines, and at its end.
 use Rattle.std.specs.Prelude.{◌≡◌, ◌≢◌, ◌⊎◌, ℕ, Bool, true, false, Option, Some, None, Result, Ok, Err, List, [], ◌++◌, drop}
 use Rattle.disk_base.specs.declared.disks.Disk.{Ghosts}
-use Rattle.cell_runs.specs.Script.{LineRead, servers_of, told}
+use Rattle.cell_runs.specs.Script.{AreWhole, LineRead, servers_of, told}
 use Rattle.cell_runs.specs.ScriptDatabase.{Databases}
 use Rattle.cell_sites.specs.Disks.{Held, all_held}
 use Rattle.cell_sites.specs.Opened.{counts_of}
+use Rattle.script_promises.specs.Databases.{databases}
 use Rattle.ubik_cell.specs.declared.cells.CellKind.{CellKind}
 use Rattle.ubik_cell.specs.declared.cells.CellKind.TheVariants as kind
-use Rattle.ubik_cell.specs.declared.scripts.CellRun.{CellRun}
+use Rattle.ubik_cell.specs.declared.runs.ScriptRun.{ScriptRun}
 use Rattle.ubik_cell.specs.declared.scripts.RunEnd.{RunEnd}
 use Rattle.ubik_cell.specs.declared.scripts.RunEnd.TheVariants.{Ended, NoMemory}
-use Rattle.ubik_cell.specs.Lines.{AreHeld, HeldCauses, IsAt}
+use Rattle.ubik_cell.specs.Lines.{AreHeld, HeldCauses}
 use Rattle.ubik_cell.specs.Runs.{IsConsumed, Runs, Wrote, kind_at, read_lines}
+use Rattle.ubik_cell.specs.ScriptRuns.{StandsAt}
 
 -- a run between two lines, where the source has ended or not
-pub record SoFar {D V : Type 0} (g : Ghosts D) (dbs : Databases) (given : List ℕ) (text : List ℕ) (ended : Bool)
-    (left : Option (List ℕ)) (before : List ℕ) (after : Option (List ℕ)) (run : CellRun D V) : Type 0 where
+pub record SoFar {D : Type 0} (g : Ghosts D) (given : List ℕ) (text : List ℕ) (ended : Bool) (left : Option (List ℕ)) (before : List ℕ)
+    (after : Option (List ℕ)) (run : ScriptRun D) : Type 0 where
   pub readings : List LineRead
+  pub whole : AreWhole readings
   pub rest : List ℕ
   pub remains : left ≡ Some rest
   pub consumed : IsConsumed ended text rest (read_lines readings)
-  pub good : (told dbs readings).ended ≡ None
-  pub at : IsAt g dbs given run (told dbs readings)
-  pub wrote : Wrote before after (told dbs readings).text
+  pub good : (told databases readings).ended ≡ None
+  pub at : StandsAt g given run (told databases readings)
+  pub wrote : Wrote before after (told databases readings).text
 
 -- how a script ends at a line of this number, if it does, where all that the line told was written
 abbrev pub end_after : ℕ → Result (Unit {0}) RunEnd → Option CellKind
@@ -45,6 +48,7 @@ is_short _ = false
 pub record Ran (k : CellKind) (dbs : Databases) (given : List ℕ) (text : List ℕ) (left : Option (List ℕ)) (before : List ℕ) (after : Option (List ℕ))
     (reached : ℕ) (disks : List Held) : Type 0 where
   pub readings : List LineRead
+  pub whole : AreWhole readings
   pub run : Runs k dbs readings text left before after
   pub more : List LineRead
   pub run_or_not : (more ≡ []) ⊎ (read_lines more ≡ more_of k dbs readings text left before after run)

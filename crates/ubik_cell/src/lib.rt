@@ -2,6 +2,7 @@
 #![tactic(auto)]
 
 mod cells;
+mod runs;
 mod scripts;
 mod tops;
 

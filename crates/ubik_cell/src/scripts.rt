@@ -6,7 +6,7 @@ ghost use Rattle.disk_base.specs.Files.{no_files};
 ghost use Rattle.disk_base.specs.Stops.DiskStop.{Unarmed};
 ghost use Rattle.ubik_types.specs.declared.limits.TheConstants.{MAXSERVERS, MAX_MOMENT};
 ghost use Rattle.ubik_types.specs.Moment.{IsMoment};
-ghost use Rattle.cell_script.specs.Meaning.{HasBounds, line_of};
+ghost use Rattle.cell_script.specs.Meaning.{HasBounds};
 ghost use Rattle.cell_script.specs.declared.lines.Kind.{Kind};
 ghost use Rattle.cell_script.specs.declared.lines.Line.TheVariants as line;
 ghost use Rattle.cell_script.specs.declared.lines.Why.TheVariants as Why;
@@ -19,18 +19,18 @@ ghost use Rattle.cell_runs.specs.ScriptDatabase.{Databases, script_database};
 ghost use Rattle.cell_sites.specs.Disks.{all_held};
 ghost use Rattle.cell_sites.specs.Opened.{ArePartOpened, HasRoom, counts_of};
 ghost use Rattle.cell_sites.specs.Sites.{helds};
-ghost use Rattle.cell_sites.specs.Sound.{IsSound};
-ghost use Rattle.script_laws.specs.Built.{IsBuiltLine};
+ghost use Rattle.cell_sites.specs.Sound.{Bounds, IsSound};
 ghost use Rattle.ubik_cell.specs.LineRuns.{CellDone, KeepsCell, KeepsRun, LineDone, ReadDone};
-ghost use Rattle.ubik_cell.specs.Lines.{IsAt, IsSoundBy, IsSoundRun, LineTold, LineShort, AreUnwritten, only, run_helds, sites_in};
+ghost use Rattle.ubik_cell.specs.ScriptRuns.{kind_opened};
+ghost use Rattle.ubik_cell.specs.Lines.{IsAt, IsSoundRun, LineTold, LineShort, AreUnwritten, only, run_helds, sites_in};
 
 use cell_runs::{Ending, MAX_LINES, Which, tell_ending};
-use cell_script::{Line, Why, Words, line_meaning};
+use cell_script::{Kind, Line, Why, Words, line_meaning};
 use cell_sites::{LineFault, OpenCell, law_cell_opened};
 use db_image::DraftWords;
 use disk_base::StopDisk;
-use script_laws::law_lines_are_built;
 use std::alloc::Global;
+use std::mem::replace;
 use ubik_node::SteadyDisk;
 use ubik_types::NoMemory;
 
@@ -84,6 +84,48 @@ impl<D: SteadyDisk + StopDisk, V: DraftWords> CellRun<D, V> {
         self.lines
     }
 
+    /// The same run over another database, which takes the disks. No cell stands.
+    pub fn hand_over<W: DraftWords>(&mut self) -> CellRun<D, W>
+        requires none { self.old.cell ≡ None }
+        ensures none { result.cell ≡ None }
+        ensures same { (result.lines ≡ self.old.lines) × (result.asks ≡ self.old.asks) × (result.spare ≡ self.old.spare) }
+        ensures empty { (self.new.cell ≡ None) × (self.new.spare.items ≡ []) }
+    {
+        let spare = replace(&mut self.spare, Vec::new(self.alloc));
+        CellRun {
+            alloc: self.alloc,
+            lines: self.lines,
+            asks: self.asks,
+            cell: None,
+            spare,
+        }
+    }
+
+    /// Lets go of a run that has no cell and no disks.
+    pub fn destroy_empty(self)
+        requires none { self.cell ≡ None }
+        requires empty { self.spare.items ≡ [] }
+    {
+        let CellRun { cell, spare, .. } = self;
+        match cell {
+            None => spare.destroy_empty(),
+            Some(_) => unreachable!(),
+        }
+    }
+
+    /// The kind of the cell that a line opens, where none stands yet.
+    pub fn kind_opened(&self, line: &[u8]) -> Result<Option<Kind>, NoMemory>
+        ensures { IfOk result (λ kind. kind ≡ kind_opened self.now.cell line.now) }
+    {
+        if self.cell.is_some() {
+            return Ok(None);
+        }
+        match line_meaning(self.alloc, line)? {
+            Ok(Line::Cell { kind, .. }) => Ok(Some(kind)),
+            _ => Ok(None),
+        }
+    }
+
     /// Takes all servers down, and puts the disks into an empty list, each in its place.
     pub fn close(self, disks: &mut Vec<D>)
         requires count { sites_in self.cell + length self.spare.items ≡ MAXSERVERS }
@@ -103,16 +145,6 @@ impl<D: SteadyDisk + StopDisk, V: DraftWords> CellRun<D, V> {
         }
         disks.append(&mut spare).unwrap();
         spare.destroy_empty();
-    }
-
-    /// How many servers the cell has that stands; 0 where none does.
-    fn servers(&self) -> usize
-        ensures { result ≡ sites_in self.now.cell }
-    {
-        match &self.cell {
-            None => 0,
-            Some(cell) => cell.servers(),
-        }
     }
 
     /// Opens a cell of so many servers at a clock: at first and once.
@@ -168,7 +200,6 @@ impl<D: SteadyDisk + StopDisk, V: DraftWords> CellRun<D, V> {
     /// A line that was understood.
     fn run_line(&mut self, line: &Line, text: &mut String) -> Result<(), LineFault>
         requires bounds { HasBounds line.now }
-        requires built { IsBuiltLine (sites_in self.old.cell) line.now }
         requires room { self.old.lines < MAX_LINES }
         requires sound { IsSoundRun D.Disk V.standing self.old }
         ensures done { LineDone D.Disk (script_database V.standing.database V.words) line.now result
@@ -207,8 +238,7 @@ impl<D: SteadyDisk + StopDisk, V: DraftWords> CellRun<D, V> {
         if self.lines >= MAX_LINES {
             return Err(LineFault::Limit(Which::Lines));
         }
-        law_lines_are_built();
-        let meaning = line_meaning(self.alloc, line, self.servers())?;
+        let meaning = line_meaning(self.alloc, line)?;
         let line = meaning?;
         self.run_line(&line, text)
     }
@@ -291,8 +321,8 @@ fn open_servers<D: SteadyDisk + StopDisk, V: DraftWords>(
     requires empty { All (λ disk. D.files disk ≡ Some no_files) spare.old.items }
     requires settled { All (λ disk. IsSettled (D.files disk) (D.may_leave disk)) spare.old.items }
     requires unarmed { All (λ disk. D.stop disk ≡ Unarmed) spare.old.items }
-    requires opened { ArePartOpened D.Disk V.standing (script_database V.standing.database V.words) clock [] cell.old (string_bytes text.old) (string_bytes text.old) }
-    ensures opened { OnOk result (ArePartOpened D.Disk V.standing (script_database V.standing.database V.words) clock (take servers spare.old.items)
+    requires opened { ArePartOpened D.Disk (script_database V.standing.database V.words) clock [] cell.old (string_bytes text.old) (string_bytes text.old) }
+    ensures opened { OnOk result (ArePartOpened D.Disk (script_database V.standing.database V.words) clock (take servers spare.old.items)
         cell.new (string_bytes text.old) (string_bytes text.new)) }
     ensures all { OnOk result (length cell.new.sites.items ≡ servers) }
     ensures spare { spare.new.items ≡ drop (length cell.new.sites.items) spare.old.items }
@@ -315,8 +345,7 @@ fn run_in_cell<D: SteadyDisk + StopDisk, V: DraftWords>(
     text: &mut String,
 ) -> Result<(), LineFault>
     requires bounds { HasBounds line.now }
-    requires built { IsBuiltLine (length cell.old.sites.items) line.now }
-    requires sound { (bound : ℕ) × IsSound D.Disk V.standing bound cell.old × (bound + MAX_TICK ≤ MAX_MOMENT) }
+    requires sound { (bounds : Bounds) × IsSound D.Disk V.standing.database bounds cell.old × (bounds.clock + MAX_TICK ≤ MAX_MOMENT) }
     ensures done { CellDone D.Disk (script_database V.standing.database V.words)
         (λ c choices. run_in (script_database V.standing.database V.words) c choices line.now) result
         cell.old cell.new (string_bytes text.old) (string_bytes text.new) }

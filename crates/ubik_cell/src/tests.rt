@@ -16,6 +16,7 @@ mod chance;
 mod refusals;
 mod stops;
 mod texts;
+mod volumes;
 
 /// A user is made and looked up.
 const FIRST_USER: &str =

@@ -6,24 +6,21 @@ ghost use Rattle.disk_base.specs.Crash.{IsSettled};
 ghost use Rattle.disk_base.specs.Files.{no_files};
 ghost use Rattle.disk_base.specs.Stops.DiskStop.{Unarmed};
 ghost use Rattle.ubik_types.specs.declared.limits.TheConstants.{MAXSERVERS};
-ghost use Rattle.cell_runs.specs.ScriptDatabase.{script_database};
 ghost use Rattle.cell_script.specs.Write.{AppendsPart};
-ghost use Rattle.cell_sites.specs.Disks.{all_held};
 ghost use Rattle.script_promises.specs.Databases.{databases};
 ghost use Rattle.ubik_cell.specs.Disks.{AllFresh};
 ghost use Rattle.ubik_cell.specs.Headline.{Headline};
-ghost use Rattle.ubik_cell.specs.Lines.{IsSoundRun, only, run_helds, sites_in};
 ghost use Rattle.ubik_cell.specs.Runs.{IsDoneOrShort, IsInside, kind_at, status_of};
+ghost use Rattle.ubik_cell.specs.ScriptRuns.{IsSoundScript, script_helds, script_lines, script_sites, script_spare};
 ghost use Rattle.ubik_cell.specs.Turns.{Ran, RanOver, SoFar, end_after};
 
 use crate::cells::{CellEnd, CellKind};
-use crate::scripts::{CellRun, RunEnd};
+use crate::runs::ScriptRun;
+use crate::scripts::RunEnd;
 use cell_promises::law_cells_keep_promises;
 use cell_runs::Ending;
 use cell_script::{LineEnd, LineReader, write_whole};
-use db_image::DraftWords;
 use disk_base::{Sink, Source, StopDisk};
-use pt_calls::PtService;
 use script_laws::{law_faults_have_servers, law_scripts_are_runs, law_sound_fronts};
 use script_promises::{law_scripts_keep_promises, law_words_are_calls};
 use std::alloc::Global;
@@ -66,28 +63,28 @@ fn write_line<K: Sink>(
 }
 
 /// Reads one line of the script, and runs and tells it. None: the script goes on.
-fn turn<S: Source, K: Sink, D: SteadyDisk + StopDisk, V: DraftWords>(
+fn turn<S: Source, K: Sink, D: SteadyDisk + StopDisk>(
     reader: &mut LineReader,
     input: &mut S,
     out: &mut K,
-    run: &mut CellRun<D, V>,
+    run: &mut ScriptRun<D>,
     text: &mut String,
 ) -> Option<CellKind>
-    requires sound { IsSoundRun D.Disk V.standing run.old }
+    requires sound { IsSoundScript D.Disk run.old }
     ensures goes { result ≡ None → IfSome (K.written out.old) (λ written. (given script before : List ℕ) →
-        SoFar D.Disk (only (script_database V.standing.database V.words)) given script reader.old.ended (S.left input.old) before
+        SoFar D.Disk given script reader.old.ended (S.left input.old) before
         (Some written) run.old →
-        SoFar D.Disk (only (script_database V.standing.database V.words)) given script reader.new.ended (S.left input.new) before
+        SoFar D.Disk given script reader.new.ended (S.left input.new) before
         (K.written out.new) run.new) }
     ensures ends { IfSome result (λ kind. IfSome (K.written out.old) (λ written. (given script before : List ℕ) →
-        SoFar D.Disk (only (script_database V.standing.database V.words)) given script reader.old.ended (S.left input.old) before
+        SoFar D.Disk given script reader.old.ended (S.left input.old) before
         (Some written) run.old →
-        Ran kind (only (script_database V.standing.database V.words)) given script (S.left input.new) before (K.written out.new)
-        (sites_in run.new.cell) (run_helds D.Disk run.new))) }
-    ensures sound { result ≡ None → IsSoundRun D.Disk V.standing run.new }
-    ensures longer { result ≡ None → run.new.lines ≡ run.old.lines + 1 }
-    ensures disks { sites_in run.new.cell + length run.new.spare.items ≡ MAXSERVERS }
-    ensures spare { run.new.spare.items ≡ drop (sites_in run.new.cell - sites_in run.old.cell) run.old.spare.items }
+        Ran kind databases given script (S.left input.new) before (K.written out.new)
+        (script_sites run.new) (script_helds D.Disk run.new))) }
+    ensures sound { result ≡ None → IsSoundScript D.Disk run.new }
+    ensures longer { result ≡ None → script_lines run.new ≡ script_lines run.old + 1 }
+    ensures disks { script_sites run.new + length (script_spare run.new) ≡ MAXSERVERS }
+    ensures spare { script_spare run.new ≡ drop (script_sites run.new - script_sites run.old) (script_spare run.old) }
     ensures read_cause { HasCause (S.faults input.old) (S.faults input.new) (result ≡ Some CellKind.ReadFault) }
     ensures write_cause { HasCause (K.faults out.old) (K.faults out.new) (result ≡ Some CellKind.WriteFault) }
     ensures no_words { (place : ℕ) → result ≢ Some (CellKind.Words place) }
@@ -109,7 +106,7 @@ fn turn<S: Source, K: Sink, D: SteadyDisk + StopDisk, V: DraftWords>(
 }
 
 /// Runs a script to its end, over the disks.
-fn run_script<S: Source, K: Sink, D: SteadyDisk + StopDisk, V: DraftWords>(
+fn run_script<S: Source, K: Sink, D: SteadyDisk + StopDisk>(
     alloc: Global,
     input: &mut S,
     out: &mut K,
@@ -120,7 +117,7 @@ fn run_script<S: Source, K: Sink, D: SteadyDisk + StopDisk, V: DraftWords>(
     requires settled { All (λ disk. IsSettled (D.files disk) (D.may_leave disk)) disks.old.items }
     requires unarmed { All (λ disk. D.stop disk ≡ Unarmed) disks.old.items }
     ensures ran { IfSome (S.left input.old) (λ script. IfSome (K.written out.old) (λ before.
-        RanOver D.Disk result (only (script_database V.standing.database V.words)) script (S.left input.new) before (K.written out.new)
+        RanOver D.Disk result databases script (S.left input.new) before (K.written out.new)
         disks.old.items disks.new.items)) }
     ensures read_cause { HasCause (S.faults input.old) (S.faults input.new) (result ≡ CellKind.ReadFault) }
     ensures write_cause { HasCause (K.faults out.old) (K.faults out.new) (result ≡ CellKind.WriteFault) }
@@ -130,7 +127,7 @@ fn run_script<S: Source, K: Sink, D: SteadyDisk + StopDisk, V: DraftWords>(
     let Ok(mut reader) = LineReader::new(alloc) else {
         return CellKind::NoMemory;
     };
-    let Ok(mut run) = CellRun::<D, V>::new(alloc, disks) else {
+    let Ok(mut run) = ScriptRun::new(alloc, disks) else {
         return CellKind::NoMemory;
     };
     let mut text = String::new(alloc);
@@ -180,7 +177,7 @@ pub fn cell_top<S: Source, K: Sink, D: SteadyDisk + StopDisk>(
             kind,
         };
     }
-    let kind = run_script::<S, K, D, PtService>(alloc, input, out, disks);
+    let kind = run_script(alloc, input, out, disks);
     CellEnd {
         status: kind.status(),
         kind,

@@ -15,11 +15,12 @@ use Rattle.vl_calls.specs.declared.calls.VlCall.{VlCall}
 use Rattle.vl_calls.specs.Reading.{call_of}
 use Rattle.vldb_records.specs.declared.entries.VlEntry.{VlEntry}
 use Rattle.vldb_records.specs.Location.{Location, is_name}
-use Rattle.vldb_records.specs.Records.{Holds}
+use Rattle.vldb_records.specs.Records.{Holds, whole}
 use Rattle.vl_service.specs.Meaning.{Answers, Makes, NoCall, Refuses, Verdict, asked, entry_named, entry_of_type, is_partition, is_volume_type, named_verdict, of_entry, of_id, page, reply_by, told, verdict}
 use Rattle.vl_service.specs.Refusals as rule
 use Rattle.vl_service.specs.Standing.{IsDecidedEnd, IsDone, image_by}
-use Rattle.vl_database.specs.Service.{vl_database}
+use Rattle.vl_service.specs.Told.{location_in}
+use Rattle.vl_database.specs.Service.{moment_word, vl_database}
 use Rattle.vl_service.proofs.ToldLocations.{location_told}
 
 -- ---- calls that only read
@@ -74,7 +75,7 @@ look_ok (Ok ended) (Some image) after v w same look is told = λ s holds.
 
 -- ---- the call that bytes are
 
-bytes_fit : (bytes : List ℕ) → IsBytes bytes → list_all (λ b. nat_lt b 256) bytes ≡ true
+pub bytes_fit : (bytes : List ℕ) → IsBytes bytes → list_all (λ b. nat_lt b 256) bytes ≡ true
 bytes_fit [] are = refl
 bytes_fit (b ∷ bytes) are = and_from (nat_lt b 256) (list_all (λ x. nat_lt x 256) bytes) (lt-ltb b 256 (are 0)) (bytes_fit bytes (λ i. are (suc i)))
 
@@ -125,13 +126,20 @@ ends_by o (end.BadRecord at) after reply leaves = (reply, leaves)
 ends_by o end.DiskFault after reply leaves = tt
 ends_by o end.NoMemory after reply leaves = tt
 
-pub meant : (held after : Option (List ℕ)) (now : ℕ) (bytes : List ℕ) (ended : CallEnd)
+moment_is : (now : ℕ) → now < 2 ^ 32 → moment_word now ≡ now
+moment_is now low = ap (λ (b : Bool). cond b now 0) (lt-ltb now 4294967296 (omega (arith, low)))
+
+abbrev EndsAt : (image bytes : List ℕ) → CallEnd → Option (List ℕ) → (now : ℕ) → Location → Type 0
+EndsAt image bytes ended after now s =
+    let c = asked now bytes in EndsBy (record { reply = reply_by (verdict s now c); image = image_by (verdict s now c) s image }) ended after
+
+pub meant : (held after : Option (List ℕ)) (now : ℕ) (bytes : List ℕ) (ended : CallEnd) → now < 2 ^ 32
     → IfSome held (λ image. (s : Location) → Holds image s → IsDone (verdict s now (asked now bytes)) s image ended after)
     → IfSome held (λ image. (s : Location) → Holds image s → EndsBy (vl_database.call image now bytes) ended after)
-meant None after now bytes ended done = tt
-meant (Some image) after now bytes ended done = λ s holds.
+meant None after now bytes ended low done = tt
+meant (Some image) after now bytes ended low done = λ s holds.
     let d = done s holds in
     let c = asked now bytes in
-    subst (λ (t : Location). EndsBy (record { reply = reply_by (verdict t now c); image = image_by (verdict t now c) t image }) ended after)
-    (location_told image s holds)
-    (ends_by (record { reply = reply_by (verdict s now c); image = image_by (verdict s now c) s image }) ended after d.reply d.leaves)
+    subst (λ (moment : ℕ). EndsAt image bytes ended after moment (location_in (whole image))) (sym (moment_is now low))
+    (subst (EndsAt image bytes ended after now) (location_told image s holds)
+    (ends_by (record { reply = reply_by (verdict s now c); image = image_by (verdict s now c) s image }) ended after d.reply d.leaves))

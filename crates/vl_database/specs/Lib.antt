@@ -1,2 +1,4 @@
+pub mod Laws
 pub mod Service
 pub mod ServiceLaws
+pub mod Words

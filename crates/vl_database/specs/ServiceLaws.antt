@@ -11,8 +11,8 @@ use Rattle.db_blocks.specs.Bytes.{word, words, zeros}
 use Rattle.vldb_records.specs.declared.entries.VlEntry.{VlEntry}
 use Rattle.vldb_records.specs.Location.{Location, first_location}
 use Rattle.vldb_records.specs.Records.{Holds, addresses_in, after_insert, after_remove, after_replace, after_set_next, after_set_places, block_of, block_of_id, blocks_in, next_block, next_in, whole, with_count, with_entry_in}
-use Rattle.vl_service.specs.Meaning.{Answers, Change, Enter, Leave, Makes, Move, NextVolume, NoCall, Refuses, Verdict, asked, reply_by, state_by, verdict, vl_meaning, with_place_of}
-use Rattle.vl_database.specs.Service.{vl_database, vl_standing}
+use Rattle.vl_service.specs.Meaning.{Answers, Change, Enter, Leave, Makes, Move, NextVolume, NoCall, Refuses, Verdict, asked, reply_by, state_by, verdict, with_place_of}
+use Rattle.vl_database.specs.Service.{location_meaning, moment_word, vl_database, vl_standing}
 use Rattle.vl_service.specs.Standing.{image_after, image_by, readdressed}
 use Rattle.vl_service.specs.Told.{location_in}
 use Rattle.vl_service.proofs.Made.{holds_made, made_stays}
@@ -34,11 +34,14 @@ made_so image s (Makes a change) holds can = record {
 }
 
 pub database_is_meant : (image : List ℕ) (s : Location) (now : ℕ) (bytes : List ℕ) → Holds image s
-    → IsMeantOver vl_standing image s (vl_database.call image now bytes) (vl_meaning.call s now bytes)
+    → IsMeantOver vl_standing image s (vl_database.call image now bytes) (location_meaning.call s now bytes)
 database_is_meant image s now bytes holds =
-    let c = asked now bytes in
-    subst (λ (t : Location). IsMeantOver vl_standing image s (record { reply = reply_by (verdict t now c); image = image_by (verdict t now c) t image }) (vl_meaning.call s now bytes))
-    (location_told image s holds) (made_so image s (verdict s now c) holds (sound s now bytes holds.valid))
+    let moment = moment_word now in
+    let c = asked moment bytes in
+    subst
+    (λ (t : Location). IsMeantOver vl_standing image s (record { reply = reply_by (verdict t moment c); image = image_by (verdict t moment c) t image })
+    (location_meaning.call s now bytes))
+    (location_told image s holds) (made_so image s (verdict s moment c) holds (sound s moment bytes holds.valid))
 
 pub empty_stands : Holds [] first_location
 empty_stands = empty_holds
@@ -125,4 +128,4 @@ grows_by image s (Answers a) = omega arith
 grows_by image s (Makes a change) = grows_after image s change
 
 pub database_never_shrinks : (image : List ℕ) (now : ℕ) (bytes : List ℕ) → length image ≤ length (vl_database.call image now bytes).image
-database_never_shrinks image now bytes = let s = location_in (whole image) in grows_by image s (verdict s now (asked now bytes))
+database_never_shrinks image now bytes = let s = location_in (whole image) in grows_by image s (verdict s (moment_word now) (asked (moment_word now) bytes))

@@ -13,10 +13,12 @@ ghost use Rattle.vl_service.specs.Meaning.{asked, verdict};
 ghost use Rattle.vl_service.specs.Standing.{IsDecidedEnd, IsDone};
 ghost use Rattle.vl_database.specs.Service.{is_write};
 
+use crate::words::{bytes_fit, push_words};
 use db_blocks::BLOCK_LEN;
-use db_image::{CallEnd, Draft, DraftService, ImageRead, RecordFault};
+use db_image::{CallEnd, Draft, DraftService, DraftWords, ImageRead, RecordFault};
 use std::alloc::Global;
-use vl_calls::{CallKind, VlCall, kind_of, read_call};
+use ubik_types::{Bytes, NoMemory};
+use vl_calls::{CallKind, VlCall, call_words, kind_of, read_call, reply_words};
 use vl_service::{
     all_addresses, change_address, create_entry, delete_entry, entry_by_id, entry_by_name,
     list_entries, probe, release_lock, replace_entry, set_lock, take_volume_ids,
@@ -151,5 +153,33 @@ impl DraftService for VlService {
 
     fn draft<I: ImageRead>(alloc: Global, image: I) -> Draft<I> {
         Draft::over(alloc, image, HEAD_LEN, BLOCK_LEN as u32)
+    }
+}
+
+impl DraftWords for VlService {
+    ghost use Rattle.vl_database.specs.Words.{vl_words};
+
+    ghost words = { vl_words };
+
+    fn call_words(alloc: Global, call: &[Bytes]) -> Result<Option<Bytes>, NoMemory> {
+        match call_words(alloc, call)? {
+            None => Ok(None),
+            Some(bytes) => {
+                bytes_fit(bytes.as_slice());
+                Ok(Some(bytes))
+            }
+        }
+    }
+
+    fn is_unbuilt(_call: &[Bytes]) -> bool {
+        false
+    }
+
+    fn tell_answer(text: &mut String, call: &[u8], answer: &[u8]) -> Result<(), NoMemory> {
+        let alloc = *text.allocator();
+        match reply_words(alloc, call, answer)? {
+            Some(words) => push_words(text, words.as_slice()),
+            None => Ok(()),
+        }
     }
 }

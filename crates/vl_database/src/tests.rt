@@ -1,9 +1,10 @@
 //! The service over an image in memory: each call by its bytes, as a server makes it.
 use crate::VlService;
-use db_image::{CallEnd, Draft, DraftService, ImageRead, VecImage};
+use db_image::{CallEnd, Draft, DraftService, DraftWords, ImageRead, VecImage};
 use std::alloc::Global;
 use std::process::Abort;
 use std::test::Fail;
+use ubik_types::bytes_of;
 
 /// Makes a call at the second 7, and looks for its answer.
 fn answers(
@@ -76,5 +77,37 @@ fn it_tells_which_calls_write(rt: HostRuntime) -> Result<(), Fail> {
     ] {
         assert!(rt; VlService::writes(call) == writes);
     }
+    Ok(())
+}
+
+#[test]
+fn calls_and_answers_have_words(rt: HostRuntime) -> Result<(), Fail> {
+    let alloc = rt.alloc();
+    let mut words = Vec::new(alloc);
+    for word in [
+        b"createentry".as_slice(),
+        b"root.cell",
+        b"4096",
+        b"5",
+        b"6",
+        b"0",
+        b"0",
+        b"1",
+        b"167772161",
+        b"7",
+        b"4",
+    ] {
+        words.push(bytes_of(alloc, word)?)?;
+    }
+    let call = VlService::call_words(alloc, &words)?.ok_or("no words of a call")?;
+    assert_eq!(rt; call.as_slice(), CREATE);
+    let mut text = String::new(alloc);
+    VlService::tell_answer(&mut text, CREATE, b"")?;
+    assert_eq!(rt; text.as_str(), "");
+    VlService::tell_answer(&mut text, b"\0\0\0\x05\0\0\0\x09root.cell\0\0\0", LOCKED)?;
+    assert_eq!(rt;
+        text.as_str(),
+        " root.cell 4096 5 6 0 0 1 167772161 7 4 32 7"
+    );
     Ok(())
 }

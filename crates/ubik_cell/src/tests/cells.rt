@@ -141,14 +141,28 @@ fn a_call_names_the_sync_site_that_was_heard(rt: HostRuntime) -> Result<(), Fail
     expect_told(&rt, rt.alloc(), script, text)
 }
 
-/// Recovery waits for its own work in a larger cell.
+/// Three servers elect the first, which polls them and gives its database a version that all keep.
+const RECOVERS: &str = "cell 3 1000 pt\ntickall 76\nbeacon 1\ndeliverall\nrecover 1\ndeliverall\n";
+const RECOVERED: &str = "packet 1 1>2 beacon 0.0\npacket 2 1>3 beacon 0.0\n\
+    packet 3 2>1 yes 1076\npacket 4 3>1 yes 1076\n\
+    packet 5 1>2 getversion 1076\npacket 6 1>3 getversion 1076\n\
+    packet 7 2>1 versionis 0.0\npacket 8 3>1 versionis 0.0\n\
+    packet 9 1>2 setversion 1076.1\npacket 10 1>3 setversion 1076.1\n\
+    packet 11 2>1 versionkept 1076.1\npacket 12 3>1 versionkept 1076.1\nannounce 1 1076.1\n";
+
+/// Behind a recovery the sync site answers.
 #[test]
-fn recovery_in_a_larger_cell_is_not_built(rt: HostRuntime) -> Result<(), Fail> {
-    for line in ["recover 1", "recover 0", "recover 3", "recover x"] {
-        let script = format!(in rt.alloc(); "cell 2 1000 pt\n{line}\n")?;
-        expect_refused(&rt, rt.alloc(), script.as_bytes(), &[], 2, Why::Unbuilt, "")?;
-    }
-    Ok(())
+fn three_servers_recover(rt: HostRuntime) -> Result<(), Fail> {
+    let script = format!(in rt.alloc(); "{RECOVERS}ask 1 nametoid 1 smith\n")?;
+    let text = format!(in rt.alloc(); "{RECOVERED}reply 1 1 ok 1 32766\n")?;
+    expect_told(&rt, rt.alloc(), &script, &text)
+}
+
+/// A write waits for its own work in a larger cell: a server that serves calls there refuses it.
+#[test]
+fn a_write_in_a_larger_cell_is_not_built(rt: HostRuntime) -> Result<(), Fail> {
+    let script = format!(in rt.alloc(); "{RECOVERS}ask 1 newentry smith 0 0\n")?;
+    expect_refused(&rt, rt.alloc(), script.as_bytes(), &[], 7, Why::Unbuilt, RECOVERED)
 }
 
 /// Each beacon of the first of 20 servers sends 19 packets. The 10,527th would send the 200,001st: what it sends before that is told.

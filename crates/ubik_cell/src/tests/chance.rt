@@ -58,7 +58,7 @@ const LINES: [&str; 16] = [
     "# dance",
     "tickall 50",
     "beacon 1",
-    "recover 1",
+    "ask 1 delete 1",
     "ask 1 newentry \"\" 0 0",
     "ask 1 nametoid 0",
     "tick 1 76",
@@ -154,19 +154,19 @@ fn value_of(word: &str) -> Option<u32> {
     }
 }
 
-/// What the lines before left: how many servers the cell has, 0 where none stands, and by how much the clock of the first is past
-/// that of the second.
+/// What the lines before left: how many servers the cell has, 0 where none stands, by how much the clock of the first is past
+/// that of the second, and whether its database is one of volumes.
 #[derive(Clone, Copy)]
 struct Place {
     servers: u32,
     ahead: i64,
+    location: bool,
 }
 
 /// Why a line is refused that opens a cell.
 fn cell_reason(servers: &str, clock: &str, kind: &str, place: Place) -> Option<Why> {
     match kind {
-        "pt" => {}
-        "vl" => return Some(Why::Unbuilt),
+        "pt" | "vl" => {}
         _ => return Some(Why::Syntax),
     }
     match (value_of(servers), value_of(clock)) {
@@ -233,14 +233,6 @@ fn stop_reason(server: &str, calls: &str, fill: &str, place: Place) -> Option<Wh
     }
 }
 
-/// Why a recovery turn is refused, which is built for a cell of one.
-fn recover_reason(server: &str, place: Place) -> Option<Why> {
-    if place.servers > 1 {
-        return Some(Why::Unbuilt);
-    }
-    server_reason(server, place)
-}
-
 /// Why a call is refused for its words. The calls that fit are those of the lines above, and one of no name.
 fn call_reason(name: &str, arguments: &[&str]) -> Option<Why> {
     match (name, arguments.len()) {
@@ -254,9 +246,13 @@ fn call_reason(name: &str, arguments: &[&str]) -> Option<Why> {
     }
 }
 
-/// Why a line is refused that asks a call. Before a cell stands its call is not looked at.
+/// Why a line is refused that asks a call, all of which are calls on users. Before a cell stands its call is not looked at. No cell of
+/// several servers gets so far here that one of them serves calls.
 fn ask_reason(server: &str, name: &str, arguments: &[&str], place: Place) -> Option<Why> {
     if place.servers > 0 {
+        if place.location {
+            return Some(Why::Syntax);
+        }
         let reason = call_reason(name, arguments);
         if reason.is_some() {
             return reason;
@@ -275,7 +271,7 @@ fn reason_of(line: &[&str], place: Place) -> Option<Why> {
         ("tick", 2) => tick_reason(words[0], words[1], place),
         ("tickall", 1) => seconds_reason(words[0]).or(place_reason(place)),
         ("beacon", 1) => server_reason(words[0], place),
-        ("recover", 1) => recover_reason(words[0], place),
+        ("recover", 1) => server_reason(words[0], place),
         ("deliverall", 0) => place_reason(place),
         ("stop", 3) => stop_reason(words[0], words[1], words[2], place),
         ("show", 1) => server_reason(words[0], place),
@@ -293,10 +289,11 @@ fn place_after(line: &[&str], place: Place) -> Place {
         ("cell", 3) => Place {
             servers: value_of(words[0]).unwrap_or(0),
             ahead: 0,
+            location: words[2] == "vl",
         },
         ("tick", 2) if place.servers == 2 => Place {
-            servers: 2,
             ahead: ahead_after(words[0], words[1], place),
+            ..place
         },
         _ => place,
     }
@@ -351,6 +348,7 @@ impl Judged {
             place: Place {
                 servers: 0,
                 ahead: 0,
+                location: false,
             },
             refused: None,
         }

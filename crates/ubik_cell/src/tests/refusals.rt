@@ -275,11 +275,11 @@ fn a_line_has_its_count_of_words(rt: HostRuntime) -> Result<(), Fail> {
     expect_everywhere(&rt, rt.alloc(), b"ask 1", Why::Syntax)
 }
 
-/// Lines of the language that are not built, whatever their numbers.
+/// A cell of a location database is judged by its numbers as another one is.
 #[test]
-fn a_line_that_is_not_built_is_not_judged_by_its_numbers(rt: HostRuntime) -> Result<(), Fail> {
-    for line in ["cell 1 1000 vl", "cell 0 01 vl", "cell x x vl"] {
-        expect_everywhere(&rt, rt.alloc(), line.as_bytes(), Why::Unbuilt)?;
+fn a_cell_of_volumes_has_the_same_numbers(rt: HostRuntime) -> Result<(), Fail> {
+    for line in ["cell 0 1 vl", "cell 1 01 vl", "cell x x vl"] {
+        expect_everywhere(&rt, rt.alloc(), line.as_bytes(), Why::Number)?;
     }
     Ok(())
 }

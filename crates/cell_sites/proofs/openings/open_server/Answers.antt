@@ -21,14 +21,14 @@ returns-in-Ok-open g c = λ d stands.
     let e = c.in-Ok-open.ensures in
     let same = cell_hosts (length c.args.hosts.now) c.args.hosts.now c.in-Ok.cell c.requires.cell c.in-Ok.ensures.cell c.in-Ok.ensures.same in
     opened_up g.D.Disk c.args.hosts.now c.in-Ok.cell c.args.me c.args.clock c.args.disk c.in-Ok-open.node d e.opened.0 c.requires.sound stands e.opening
-    c.law_voters_vote.ensures.first same e.opened.1 e.opened.2 e.member e.stored e.told e.steps e.last c.version-version.result c.version-version.ensures
+    c.law_recovery_spreads.ensures.first same e.opened.1 e.opened.2 e.member e.stored e.told e.steps e.last c.version-version.result c.version-version.ensures
 
 pub returns-after-why : goal.returns-after-why
 returns-after-why g c = λ d stands.
     let e = c.in-Err.ensures in
     let r = c.revive.ensures in
     let m : Member = record { hosts = c.args.hosts.now; me = c.args.me } in
-    let P : OpenEnd → Type 0 = λ end. ServerOpens {V = g.row.V.Denot} g.D.Disk g.V.DraftService.standing m c.args.clock d end c.args.disk
+    let P : OpenEnd → Type 0 = λ end. ServerOpens {V = g.row.V.Denot} g.D.Disk m c.args.clock d end c.args.disk
     (server.Down c.revive.new.self) in
     elim c.match-why.branch [
       | in-NoMemory w ↦

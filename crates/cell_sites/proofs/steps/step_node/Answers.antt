@@ -1,60 +1,58 @@
 use Rattle.std.proofs.Common.{◌∙◌, sym}
 use Rattle.std.proofs.lemmas.Bool.{false≢true}
-use Rattle.cell_sites.proofs.Leading.{built_for, leads_on, needs_met, votes_on}
+use Rattle.cell_sites.proofs.Leading.{built_for, quiet_on}
 use Rattle.cell_sites.proofs.Nodes.{done_now, halted_now, halts, rested_now, short_now, stopped_now}
 use Rattle.cell_sites.proofs.steps.step_node.Goals as goal
 
 pub step-requires-clause-built : goal.step-requires-clause-built
 step-requires-clause-built g c =
-    built_for g.D.Disk _ _ _ c.requires.sound c.requires.disk g.V.DraftService.standing.database c.args.event c.requires.taken
+    built_for g.D.Disk g.V.DraftService.standing.database _ _ _ c.requires.sound c.law_recovery_spreads.ensures c.args.event c.requires.taken
 
 pub returns-in-Done : goal.returns-in-Done
 returns-in-Done g c =
     let e = c.in-Done.ensures in
-    let needs = needs_met g.D.Disk _ _ _ c.requires.sound c.requires.disk c.args.event in
-    let leads = leads_on g.D.Disk _ _ _ c.requires.sound c.requires.disk g.met.V.DraftService.is_meant c.args.event c.requires.taken in
-    let votes = votes_on g.D.Disk _ _ _ c.requires.sound c.requires.disk c.law_voters_vote.ensures c.requires.place c.args.event c.requires.taken in
-    done_now g.D.Disk _ _ _ _ _ c.requires.sound c.requires.disk leads votes _ (e.step needs) e.member e.stored (e.told (λ is. cc)) e.calls e.last
+    let quiet = quiet_on g.D.Disk g.V.DraftService.standing.database _ _ _ c.requires.sound c.law_recovery_spreads.ensures c.requires.place
+    c.requires.moment c.args.event c.requires.taken in
+    done_now g.D.Disk g.V.DraftService.standing.database _ _ _ _ _ c.requires.sound c.requires.disk quiet _ (e.step c.requires.needs) e.member e.stored
+    (e.told (λ is. cc)) e.calls e.last
 
 pub returns-in-NoMemory : goal.returns-in-NoMemory
 returns-in-NoMemory g c =
     let e = c.in-NoMemory.ensures in
-    let needs = needs_met g.D.Disk _ _ _ c.requires.sound c.requires.disk c.args.event in
-    let leads = leads_on g.D.Disk _ _ _ c.requires.sound c.requires.disk g.met.V.DraftService.is_meant c.args.event c.requires.taken in
-    let votes = votes_on g.D.Disk _ _ _ c.requires.sound c.requires.disk c.law_voters_vote.ensures c.requires.place c.args.event c.requires.taken in
-    short_now g.D.Disk _ _ _ _ _ c.requires.sound c.requires.disk leads votes _ (e.step needs) e.member e.stored e.last
+    let quiet = quiet_on g.D.Disk g.V.DraftService.standing.database _ _ _ c.requires.sound c.law_recovery_spreads.ensures c.requires.place
+    c.requires.moment c.args.event c.requires.taken in
+    short_now g.D.Disk g.V.DraftService.standing.database _ _ _ _ _ c.requires.sound c.requires.disk quiet _ (e.step c.requires.needs) e.member e.stored e.last
 
 pub returns-in-Halted : goal.returns-in-Halted
 returns-in-Halted g c =
     let e = c.in-Halted.ensures in
     let halted = sym c.halted-was_halted.ensures ∙ c.if-was_halted.true in
-    let needs = needs_met g.D.Disk _ _ _ c.requires.sound c.requires.disk c.args.event in
-    let leads = leads_on g.D.Disk _ _ _ c.requires.sound c.requires.disk g.met.V.DraftService.is_meant c.args.event c.requires.taken in
-    let votes = votes_on g.D.Disk _ _ _ c.requires.sound c.requires.disk c.law_voters_vote.ensures c.requires.place c.args.event c.requires.taken in
-    rested_now g.D.Disk _ _ _ _ _ c.requires.sound c.requires.disk leads votes _ halted (e.step needs) e.member e.stored e.calls e.last
+    let quiet = quiet_on g.D.Disk g.V.DraftService.standing.database _ _ _ c.requires.sound c.law_recovery_spreads.ensures c.requires.place
+    c.requires.moment c.args.event c.requires.taken in
+    rested_now g.D.Disk g.V.DraftService.standing.database _ _ _ _ _ c.requires.sound c.requires.disk quiet _ halted (e.step c.requires.needs) e.member
+    e.stored e.calls e.last
 
 pub returns-in-Halted-2 : goal.returns-in-Halted-2
 returns-in-Halted-2 g c =
     let e = c.in-Halted-2.ensures in
     let up = sym c.halted-was_halted.ensures ∙ c.if-was_halted.false in
-    let needs = needs_met g.D.Disk _ _ _ c.requires.sound c.requires.disk c.args.event in
-    let leads = leads_on g.D.Disk _ _ _ c.requires.sound c.requires.disk g.met.V.DraftService.is_meant c.args.event c.requires.taken in
-    let votes = votes_on g.D.Disk _ _ _ c.requires.sound c.requires.disk c.law_voters_vote.ensures c.requires.place c.args.event c.requires.taken in
-    stopped_now g.D.Disk _ _ _ _ _ c.requires.sound c.requires.disk leads votes _ up (e.step needs) e.calls (c.stopped.ensures.0 c.if-stopped.true)
+    let quiet = quiet_on g.D.Disk g.V.DraftService.standing.database _ _ _ c.requires.sound c.law_recovery_spreads.ensures c.requires.place
+    c.requires.moment c.args.event c.requires.taken in
+    stopped_now g.D.Disk g.V.DraftService.standing.database _ _ _ _ _ c.requires.sound c.requires.disk quiet _ up (e.step c.requires.needs) e.calls
+    (c.stopped.ensures.0 c.if-stopped.true)
 
 pub returns-in-Halted-3 : goal.returns-in-Halted-3
 returns-in-Halted-3 g c =
     let e = c.in-Halted-3.ensures in
     let up = sym c.halted-was_halted.ensures ∙ c.if-was_halted.false in
-    let needs = needs_met g.D.Disk _ _ _ c.requires.sound c.requires.disk c.args.event in
-    let leads = leads_on g.D.Disk _ _ _ c.requires.sound c.requires.disk g.met.V.DraftService.is_meant c.args.event c.requires.taken in
-    let votes = votes_on g.D.Disk _ _ _ c.requires.sound c.requires.disk c.law_voters_vote.ensures c.requires.place c.args.event c.requires.taken in
-    halted_now g.D.Disk _ _ _ _ _ c.requires.sound c.requires.disk leads votes c.step.new.self c.revive.new.self up (e.step needs) e.calls
+    let quiet = quiet_on g.D.Disk g.V.DraftService.standing.database _ _ _ c.requires.sound c.law_recovery_spreads.ensures c.requires.place
+    c.requires.moment c.args.event c.requires.taken in
+    halted_now g.D.Disk g.V.DraftService.standing.database _ _ _ _ _ c.requires.sound c.requires.disk quiet c.step.new.self c.revive.new.self up (e.step
+    c.requires.needs) e.calls
     (λ stopped. absurd (false≢true (sym c.if-stopped.false ∙ c.stopped.ensures.1 stopped)))
     c.revive.ensures.disk c.revive.ensures.same e.member c.revive.ensures.stored e.last
 
 pub revive-requires-clause-halted : goal.revive-requires-clause-halted
 revive-requires-clause-halted g c =
     let e = c.in-Halted-3.ensures in
-    let needs = needs_met g.D.Disk _ _ _ c.requires.sound c.requires.disk c.args.event in
-    halts g.D.Disk _ _ c.args.event c.args.clock _ c.step.new.self _ _ _ (e.step needs)
+    halts g.D.Disk _ _ c.args.event c.args.clock _ c.step.new.self _ _ _ (e.step c.requires.needs)

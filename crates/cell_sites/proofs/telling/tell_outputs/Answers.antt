@@ -13,8 +13,8 @@ use Rattle.cell_sites.specs.Traffic.{Traffic}
 use Rattle.cell_sites.proofs.TellingOn.{TellsOn, telling, tells_more, tells_part, tells_all}
 use Rattle.cell_sites.proofs.telling.tell_outputs.Goals as goal
 
-pub tell_one-requires-clause-votes : goal.tell_one-requires-clause-votes
-tell_one-requires-clause-votes g c =
+pub tell_one-requires-clause-short : goal.tell_one-requires-clause-short
+tell_one-requires-clause-short g c =
     All-head MayBeTold c.in-Some.output c.take.new.self (subst (λ (o : List Output). All MayBeTold o) c.in-Some.ensures.first c.loop-output.invariant.votes)
 
 pub loop-output-preserved : goal.loop-output-preserved

@@ -48,7 +48,7 @@ loop-preserved g c =
     let opened = c.in_ok-open_next.ensures.opened (take c.loop.counter given) (string_bytes c.args.text.now) c.loop.invariant.opened in
     let counts = ap (counts_of g.D.Disk) taken ∙ counts-push g.D.Disk (take c.loop.counter given) disk in
     record {
-      opened = subst (λ l. ArePartOpened g.D.Disk g.V.DraftService.standing (script_database g.V.DraftService.standing.database g.V.DraftWords.words) c.args.clock l
+      opened = subst (λ l. ArePartOpened g.D.Disk (script_database g.V.DraftService.standing.database g.V.DraftWords.words) c.args.clock l
           c.open_next.new.self (string_bytes c.args.text.now) (string_bytes c.open_next.new.text)) (sym taken) opened;
       count = c.open_next.ensures.count ∙ ap (λ n. n + 1) c.loop.invariant.count;
       left = next_left given c.loop.spare.items c.remove-disk.new.self.items c.loop.counter left c.remove-disk.ensures.items;

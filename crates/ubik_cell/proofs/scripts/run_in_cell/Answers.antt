@@ -1,7 +1,7 @@
-use Rattle.std.proofs.Common.{◌+◌, refl, subst, arith}
+use Rattle.std.proofs.Common.{refl, subst}
 use Rattle.cell_script.specs.Meaning.{HasBounds}
 use Rattle.cell_runs.specs.ScriptDatabase.{script_database}
-use Rattle.ubik_cell.proofs.CellLines.{done_of, kept_of, kept_same, nothing_told, raised, refused_of, told_of}
+use Rattle.ubik_cell.proofs.CellLines.{done_of, kept_of, kept_same, kept_still, nothing_told, refused_of, told_of}
 use Rattle.ubik_cell.proofs.scripts.run_in_cell.Goals as goal
 
 pub returns-in-Nothing-clause-done : goal.returns-in-Nothing-clause-done
@@ -53,8 +53,7 @@ returns-in_ok-drop_packet-in-Drop-clause-done g c =
 
 pub returns-in_ok-drop_packet-in-Drop-clause-kept : goal.returns-in_ok-drop_packet-in-Drop-clause-kept
 returns-in_ok-drop_packet-in-Drop-clause-kept g c =
-    kept_of g.D.Disk c.args.cell.now c.drop_packet.new.self _ 0 (omega arith)
-    (λ done bound is. raised g.D.Disk bound (bound + 0) c.drop_packet.new.self (omega arith) (c.drop_packet.ensures.sound bound is))
+    kept_still g.D.Disk c.args.cell.now c.drop_packet.new.self _ (λ done. c.drop_packet.ensures.sound)
     c.drop_packet.ensures.never_falls c.drop_packet.ensures.same
 
 pub returns-in_err-drop_packet-in-Drop-clause-done : goal.returns-in_err-drop_packet-in-Drop-clause-done
@@ -69,8 +68,7 @@ returns-in_ok-drop_all-in-DropAll-clause-done g c =
 
 pub returns-in_ok-drop_all-in-DropAll-clause-kept : goal.returns-in_ok-drop_all-in-DropAll-clause-kept
 returns-in_ok-drop_all-in-DropAll-clause-kept g c =
-    kept_of g.D.Disk c.args.cell.now c.drop_all.new.self _ 0 (omega arith)
-    (λ done bound is. raised g.D.Disk bound (bound + 0) c.drop_all.new.self (omega arith) (c.drop_all.ensures.sound bound is))
+    kept_still g.D.Disk c.args.cell.now c.drop_all.new.self _ (λ done. c.drop_all.ensures.sound)
     c.drop_all.ensures.never_falls c.drop_all.ensures.same
 
 pub returns-in_err-drop_all-in-DropAll-clause-done : goal.returns-in_err-drop_all-in-DropAll-clause-done
@@ -85,8 +83,7 @@ returns-in-Beacon-clause-done g c =
 
 pub returns-in-Beacon-clause-kept : goal.returns-in-Beacon-clause-kept
 returns-in-Beacon-clause-kept g c =
-    kept_of g.D.Disk c.args.cell.now c.beacon.new.self c.beacon.result 0 (omega arith)
-    (λ done bound is. raised g.D.Disk bound (bound + 0) c.beacon.new.self (omega arith) (c.beacon.ensures.sound done bound is))
+    kept_still g.D.Disk c.args.cell.now c.beacon.new.self c.beacon.result c.beacon.ensures.sound
     c.beacon.ensures.never_falls c.beacon.ensures.same
 
 pub returns-in-Recover-clause-done : goal.returns-in-Recover-clause-done
@@ -96,8 +93,7 @@ returns-in-Recover-clause-done g c =
 
 pub returns-in-Recover-clause-kept : goal.returns-in-Recover-clause-kept
 returns-in-Recover-clause-kept g c =
-    kept_of g.D.Disk c.args.cell.now c.recover.new.self c.recover.result 0 (omega arith)
-    (λ done bound is. raised g.D.Disk bound (bound + 0) c.recover.new.self (omega arith) (c.recover.ensures.sound done bound is))
+    kept_still g.D.Disk c.args.cell.now c.recover.new.self c.recover.result c.recover.ensures.sound
     c.recover.ensures.never_falls c.recover.ensures.same
 
 pub returns-in-Deliver-clause-done : goal.returns-in-Deliver-clause-done
@@ -107,8 +103,7 @@ returns-in-Deliver-clause-done g c =
 
 pub returns-in-Deliver-clause-kept : goal.returns-in-Deliver-clause-kept
 returns-in-Deliver-clause-kept g c =
-    kept_of g.D.Disk c.args.cell.now c.deliver.new.self c.deliver.result 0 (omega arith)
-    (λ done bound is. raised g.D.Disk bound (bound + 0) c.deliver.new.self (omega arith) (c.deliver.ensures.sound done bound is))
+    kept_still g.D.Disk c.args.cell.now c.deliver.new.self c.deliver.result c.deliver.ensures.sound
     c.deliver.ensures.never_falls c.deliver.ensures.same
 
 pub returns-in-DeliverAll-clause-done : goal.returns-in-DeliverAll-clause-done
@@ -119,8 +114,7 @@ returns-in-DeliverAll-clause-done g c =
 
 pub returns-in-DeliverAll-clause-kept : goal.returns-in-DeliverAll-clause-kept
 returns-in-DeliverAll-clause-kept g c =
-    kept_of g.D.Disk c.args.cell.now c.deliver_all.new.self c.deliver_all.result 0 (omega arith)
-    (λ done bound is. raised g.D.Disk bound (bound + 0) c.deliver_all.new.self (omega arith) (c.deliver_all.ensures.sound done bound is))
+    kept_still g.D.Disk c.args.cell.now c.deliver_all.new.self c.deliver_all.result c.deliver_all.ensures.sound
     c.deliver_all.ensures.never_falls c.deliver_all.ensures.same
 
 pub returns-in-Show-clause-done : goal.returns-in-Show-clause-done
@@ -139,8 +133,7 @@ returns-in_ok-stop-in-Stop-clause-done g c =
 
 pub returns-in_ok-stop-in-Stop-clause-kept : goal.returns-in_ok-stop-in-Stop-clause-kept
 returns-in_ok-stop-in-Stop-clause-kept g c =
-    kept_of g.D.Disk c.args.cell.now c.stop.new.self _ 0 (omega arith)
-    (λ done bound is. raised g.D.Disk bound (bound + 0) c.stop.new.self (omega arith) (c.stop.ensures.sound bound is))
+    kept_still g.D.Disk c.args.cell.now c.stop.new.self _ (λ done. c.stop.ensures.sound)
     c.stop.ensures.never_falls c.stop.ensures.same
 
 pub returns-in_err-stop-in-Stop-clause-done : goal.returns-in_err-stop-in-Stop-clause-done
@@ -155,8 +148,7 @@ returns-in_ok-crash-in-Crash-clause-done g c =
 
 pub returns-in_ok-crash-in-Crash-clause-kept : goal.returns-in_ok-crash-in-Crash-clause-kept
 returns-in_ok-crash-in-Crash-clause-kept g c =
-    kept_of g.D.Disk c.args.cell.now c.crash.new.self _ 0 (omega arith)
-    (λ done bound is. raised g.D.Disk bound (bound + 0) c.crash.new.self (omega arith) (c.crash.ensures.sound bound is))
+    kept_still g.D.Disk c.args.cell.now c.crash.new.self _ (λ done. c.crash.ensures.sound)
     c.crash.ensures.never_falls c.crash.ensures.same
 
 pub returns-in_err-crash-in-Crash-clause-done : goal.returns-in_err-crash-in-Crash-clause-done
@@ -172,6 +164,5 @@ returns-in-Restart-clause-done g c =
 
 pub returns-in-Restart-clause-kept : goal.returns-in-Restart-clause-kept
 returns-in-Restart-clause-kept g c =
-    kept_of g.D.Disk c.args.cell.now c.restart.new.self c.restart.result 0 (omega arith)
-    (λ done bound is. raised g.D.Disk bound (bound + 0) c.restart.new.self (omega arith) (c.restart.ensures.sound done bound is))
+    kept_still g.D.Disk c.args.cell.now c.restart.new.self c.restart.result c.restart.ensures.sound
     c.restart.ensures.never_falls c.restart.ensures.same

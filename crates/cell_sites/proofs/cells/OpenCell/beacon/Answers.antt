@@ -1,9 +1,11 @@
-use Rattle.std.proofs.Common.{◌≡◌, ◌∙◌, ℕ, List, Ok, Err, refl, ap}
+use Rattle.std.proofs.Common.{◌≡◌, ◌∙◌, ℕ, Ok, Err, refl, ap}
 use Rattle.std.proofs.lemmas.Result.{err_from_is_err_and}
 use Rattle.cell_model.specs.World.{Beacon_turn}
+use Rattle.std.specs.String.{string_bytes}
 use Rattle.cell_runs.specs.ScriptDatabase.{script_database}
-use Rattle.cell_runs.specs.Script.{Cell_run, Choice, first_choice, run_in, stepped}
+use Rattle.cell_runs.specs.Script.{Cell_run, Choices, first_choice, run_in, stepped}
 use Rattle.cell_script.specs.declared.lines.Line.TheVariants as line
+use Rattle.cell_sites.proofs.Behind.{runs_on}
 use Rattle.cell_sites.proofs.AtPlace.{rises_same}
 use Rattle.cell_sites.proofs.Lining.{short_as, size_of, told_as}
 use Rattle.cell_sites.proofs.cells.OpenCell.beacon.Goals as goal
@@ -16,7 +18,7 @@ returns-in_err-k-clause-refused g c = λ why is.
       refl,
       λ given cell stands choices.
           let does : ℕ → Cell_run = λ k. stepped db cell (first_choice choices) (Beacon_turn k) in
-          c.in_err-k.ensures.up cell does (size_of g.D.Disk c.requires.0 c.args.self.now cell c.requires.1 stands) stands.sites ∙ ap Err same,
+          c.in_err-k.ensures.up cell does (size_of g.D.Disk c.requires.0.clock c.args.self.now cell c.requires.1.steady stands) stands.sites ∙ ap Err same,
     )
 
 pub returns-in_err-k-clause-never_falls : goal.returns-in_err-k-clause-never_falls
@@ -25,23 +27,35 @@ returns-in_err-k-clause-never_falls g c = rises_same _ _ refl
 pub returns-clause-told : goal.returns-clause-told
 returns-clause-told g c = λ ok given cell stands.
     let db = script_database g.V.DraftService.standing.database g.V.DraftWords.words in
-    let does : List Choice → ℕ → Cell_run = λ choices k. stepped db cell (first_choice choices) (Beacon_turn k) in
+    let does : Choices → ℕ → Cell_run = λ choices k. stepped db cell (first_choice choices) (Beacon_turn k) in
     told_as g.D.Disk (λ choices. run_in db cell choices (line.Beacon c.args.server)) (λ choices. Ok (does choices c.in_ok-k.k))
-    (λ choices. c.in_ok-k.ensures.up cell (does choices) (size_of g.D.Disk c.requires.0 c.args.self.now cell c.requires.1 stands) stands.sites)
+    (λ choices. c.in_ok-k.ensures.up cell (does choices) (size_of g.D.Disk c.requires.0.clock c.args.self.now cell c.requires.1.steady stands) stands.sites)
     db _ _ _ _ _ (c.step.ensures.told ok given cell (Beacon_turn c.in_ok-k.k) stands refl)
 
 pub returns-clause-limit : goal.returns-clause-limit
 returns-clause-limit g c = λ which is given cell stands.
     let db = script_database g.V.DraftService.standing.database g.V.DraftWords.words in
-    let does : List Choice → ℕ → Cell_run = λ choices k. stepped db cell (first_choice choices) (Beacon_turn k) in
+    let does : Choices → ℕ → Cell_run = λ choices k. stepped db cell (first_choice choices) (Beacon_turn k) in
     told_as g.D.Disk (λ choices. run_in db cell choices (line.Beacon c.args.server)) (λ choices. Ok (does choices c.in_ok-k.k))
-    (λ choices. c.in_ok-k.ensures.up cell (does choices) (size_of g.D.Disk c.requires.0 c.args.self.now cell c.requires.1 stands) stands.sites)
+    (λ choices. c.in_ok-k.ensures.up cell (does choices) (size_of g.D.Disk c.requires.0.clock c.args.self.now cell c.requires.1.steady stands) stands.sites)
     db _ _ _ _ _ (c.step.ensures.limit which is given cell (Beacon_turn c.in_ok-k.k) stands refl)
 
 pub returns-clause-short : goal.returns-clause-short
 returns-clause-short g c = λ is given cell stands.
     let db = script_database g.V.DraftService.standing.database g.V.DraftWords.words in
-    let does : List Choice → ℕ → Cell_run = λ choices k. stepped db cell (first_choice choices) (Beacon_turn k) in
+    let does : Choices → ℕ → Cell_run = λ choices k. stepped db cell (first_choice choices) (Beacon_turn k) in
     short_as g.D.Disk (λ choices. run_in db cell choices (line.Beacon c.args.server)) (λ choices. Ok (does choices c.in_ok-k.k))
-    (λ choices. c.in_ok-k.ensures.up cell (does choices) (size_of g.D.Disk c.requires.0 c.args.self.now cell c.requires.1 stands) stands.sites)
+    (λ choices. c.in_ok-k.ensures.up cell (does choices) (size_of g.D.Disk c.requires.0.clock c.args.self.now cell c.requires.1.steady stands) stands.sites)
     cell _ _ (c.step.ensures.short is given cell (Beacon_turn c.in_ok-k.k) stands refl)
+
+pub step-requires-clause-taken : goal.step-requires-clause-taken
+step-requires-clause-taken g c = λ clock node there. tt
+
+pub returns-clause-sound : goal.returns-clause-sound
+returns-clause-sound g c = λ ok bounds still. record {
+  steady = c.step.ensures.steady ok bounds.clock still.steady;
+  run = runs_on g.D.Disk (script_database g.V.DraftService.standing.database g.V.DraftWords.words) bounds.asks c.args.self.now
+      c.step.new.self (line.Beacon c.args.server) (string_bytes c.args.text.now) (string_bytes c.step.new.text) c.law_cells_go_on.ensures tt still.run
+      (returns-clause-told g c ok still.run.given still.run.cell still.run.stands);
+  blocks = still.blocks;
+}

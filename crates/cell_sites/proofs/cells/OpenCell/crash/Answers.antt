@@ -1,10 +1,11 @@
-use Rattle.std.proofs.Common.{◌≡◌, ◌∙◌, ℕ, None, Err, set, refl, ap}
+use Rattle.std.proofs.Common.{[], ◌≡◌, ◌∙◌, ℕ, None, Err, set, refl, ap}
 use Rattle.std.proofs.lemmas.Option.{slice_get_within}
 use Rattle.std.proofs.lemmas.Result.{err_from_is_err_and}
 use Rattle.cell_model.specs.World.{Crash}
 use Rattle.cell_runs.specs.ScriptDatabase.{script_database}
 use Rattle.cell_runs.specs.Script.{Cell_run, run_in, with_event}
 use Rattle.cell_script.specs.declared.lines.Line.TheVariants as line
+use Rattle.cell_sites.proofs.Behind.{runs_on}
 use Rattle.cell_sites.proofs.AtPlace.{rises_same}
 use Rattle.cell_sites.proofs.Downtimes.{crash_rises, crash_sound, crash_told, many_at}
 use Rattle.cell_sites.proofs.Lining.{size_of}
@@ -19,7 +20,7 @@ returns-in_err-k-clause-refused g c = λ why is.
       refl,
       λ given cell stands choices.
           let does : ℕ → Cell_run = λ k. with_event db (record cell { armed = set cell.armed k None }) (Crash k) in
-          c.in_err-k.ensures.up cell does (size_of g.D.Disk c.requires.0 c.args.self.now cell c.requires.1 stands) stands.sites ∙ ap Err same,
+          c.in_err-k.ensures.up cell does (size_of g.D.Disk c.requires.0.clock c.args.self.now cell c.requires.1.steady stands) stands.sites ∙ ap Err same,
     )
 
 pub returns-in_err-k-clause-never_falls : goal.returns-in_err-k-clause-never_falls
@@ -34,21 +35,27 @@ returns-clause-told g c = λ ok given cell text stands.
     let down = c.take_down.ensures in
     let does : ℕ → Cell_run = λ k. with_event db (record cell { armed = set cell.armed k None }) (Crash k) in
     crash_told g.D.Disk c.args.self.now c.take_down.new.self c.in_ok-k.k down
-    (disk_here g.D.Disk c.requires.0 c.args.self.now c.in_ok-k.k _ c.requires.1 down.there) db given cell
+    (disk_here g.D.Disk c.requires.0.clock c.args.self.now c.in_ok-k.k _ c.requires.1.steady down.there) db given cell
     (λ choices. run_in db cell choices (line.Crash c.args.server)) text stands
-    (λ choices. c.in_ok-k.ensures.up cell does (size_of g.D.Disk c.requires.0 c.args.self.now cell c.requires.1 stands) stands.sites)
+    (λ choices. c.in_ok-k.ensures.up cell does (size_of g.D.Disk c.requires.0.clock c.args.self.now cell c.requires.1.steady stands) stands.sites)
 
 pub returns-clause-sound : goal.returns-clause-sound
-returns-clause-sound g c = λ bound still.
+returns-clause-sound g c = λ bounds still.
     let down = c.take_down.ensures in
-    crash_sound g.D.Disk c.args.self.now c.take_down.new.self c.in_ok-k.k down
-    (disk_here g.D.Disk c.requires.0 c.args.self.now c.in_ok-k.k _ c.requires.1 down.there) bound still
+    record {
+      steady = crash_sound g.D.Disk c.args.self.now c.take_down.new.self c.in_ok-k.k down
+          (disk_here g.D.Disk c.requires.0.clock c.args.self.now c.in_ok-k.k _ c.requires.1.steady down.there) bounds.clock still.steady;
+      run = runs_on g.D.Disk (script_database g.V.DraftService.standing.database g.V.DraftWords.words) bounds.asks c.args.self.now
+          c.take_down.new.self (line.Crash c.args.server) [] [] c.law_cells_go_on.ensures tt still.run
+          (returns-clause-told g c refl still.run.given still.run.cell [] still.run.stands);
+      blocks = still.blocks;
+    }
 
 pub returns-clause-never_falls : goal.returns-clause-never_falls
 returns-clause-never_falls g c =
     let down = c.take_down.ensures in
     crash_rises g.D.Disk c.args.self.now c.take_down.new.self c.in_ok-k.k down
-    (disk_here g.D.Disk c.requires.0 c.args.self.now c.in_ok-k.k _ c.requires.1 down.there)
+    (disk_here g.D.Disk c.requires.0.clock c.args.self.now c.in_ok-k.k _ c.requires.1.steady down.there)
 
 pub returns-clause-same : goal.returns-clause-same
 returns-clause-same g c = many_at g.D.Disk c.args.self.now c.take_down.new.self c.in_ok-k.k _ _ c.take_down.ensures.there c.take_down.ensures.sites

@@ -4,8 +4,7 @@ use Rattle.std.specs.String.{string_bytes}
 use Rattle.cell_runs.specs.declared.endings.Ending.TheVariants as ending
 use Rattle.cell_runs.specs.declared.limits.TheConstants.{MAX_PACKETS}
 use Rattle.cell_runs.specs.ScriptDatabase.{script_database}
-use Rattle.cell_runs.specs.Script.{first_waiting, run_in}
-use Rattle.cell_script.specs.declared.lines.Line.TheVariants as line
+use Rattle.cell_runs.specs.Script.{first_waiting}
 use Rattle.cell_sites.specs.declared.faults.LineFault.TheVariants as fault
 use Rattle.cell_sites.specs.Sites.{helds}
 use Rattle.cell_sites.specs.Traffic.{Traffic}
@@ -33,9 +32,9 @@ returns-in_default-clause-told g c = λ ok given cell stands.
     let db = script_database g.V.DraftService.standing.database g.V.DraftWords.words in
     let now = with_packets c.loop.self c.first_waiting.new.self in
     all_followed g.D.Disk db MAX_PACKETS (MAX_PACKETS - c.loop.counter) c.args.self.now now (string_bytes c.args.text.now) (string_bytes c.loop.text)
-    (subst (λ (p : Traffic). Follows g.D.Disk g.V.DraftService.standing db MAX_PACKETS (MAX_PACKETS - c.loop.counter) c.args.self.now
+    (subst (λ (p : Traffic). Follows g.D.Disk db MAX_PACKETS (MAX_PACKETS - c.loop.counter) c.args.self.now
     (with_packets c.loop.self p) (string_bytes c.args.text.now) (string_bytes c.loop.text)) (sym c.first_waiting.ensures.same) c.loop.invariant)
-    (ap (λ (p : Traffic). first_waiting 1 p.handed) c.first_waiting.ensures.same ∙ sym c.in_default.ensures.first) given cell stands
+    refl (ap (λ (p : Traffic). first_waiting 1 p.handed) c.first_waiting.ensures.same ∙ sym c.in_default.ensures.first) given cell stands
 
 pub returns-in_err-deliver_sent-clause-limit : goal.returns-in_err-deliver_sent-clause-limit
 returns-in_err-deliver_sent-clause-limit g c = λ which is given cell stands.
@@ -46,11 +45,11 @@ returns-in_err-deliver_sent-clause-limit g c = λ which is given cell stands.
     limit_there g.D.Disk db MAX_PACKETS (MAX_PACKETS - c.loop.counter) (MAX_PACKETS - (c.loop.counter + 1)) c.requires.0 c.args.self.now now
     c.deliver_sent.new.self
     (string_bytes c.args.text.now) (string_bytes c.loop.text) (string_bytes c.deliver_sent.new.text)
-    (subst (λ (p : Traffic). Follows g.D.Disk g.V.DraftService.standing db MAX_PACKETS (MAX_PACKETS - c.loop.counter) c.args.self.now
+    (subst (λ (p : Traffic). Follows g.D.Disk db MAX_PACKETS (MAX_PACKETS - c.loop.counter) c.args.self.now
     (with_packets c.loop.self p) (string_bytes c.args.text.now) (string_bytes c.loop.text)) (sym c.first_waiting.ensures.same) c.loop.invariant)
     (omega (arith, c.loop-test.true)) c.requires.1 c.in-Some.number
     (ap (λ (p : Traffic). first_waiting 1 p.handed) c.first_waiting.ensures.same ∙ sym c.in-Some.ensures.first)
-    given cell stands (ending.Limit which) (c.in_err-deliver_sent.ensures.limit which (ap Err e) given)
+    refl given cell stands (ending.Limit which) (c.in_err-deliver_sent.ensures.limit which (ap Err e) given)
 
 pub returns-in_err-deliver_sent-clause-short : goal.returns-in_err-deliver_sent-clause-short
 returns-in_err-deliver_sent-clause-short g c = λ is given cell stands.
@@ -58,9 +57,13 @@ returns-in_err-deliver_sent-clause-short g c = λ is given cell stands.
     let now = with_packets c.loop.self c.first_waiting.new.self in
     short_there g.D.Disk db MAX_PACKETS (MAX_PACKETS - c.loop.counter) c.args.self.now now c.deliver_sent.new.self
     (string_bytes c.args.text.now) (string_bytes c.loop.text)
-    (subst (λ (p : Traffic). Follows g.D.Disk g.V.DraftService.standing db MAX_PACKETS (MAX_PACKETS - c.loop.counter) c.args.self.now
+    (subst (λ (p : Traffic). Follows g.D.Disk db MAX_PACKETS (MAX_PACKETS - c.loop.counter) c.args.self.now
     (with_packets c.loop.self p) (string_bytes c.args.text.now) (string_bytes c.loop.text)) (sym c.first_waiting.ensures.same) c.loop.invariant)
-    c.in_err-deliver_sent.ensures.keeps (λ choices. run_in db cell choices line.DeliverAll) given cell stands
+    c.in-Some.number (ap (λ (p : Traffic). first_waiting 1 p.handed) c.first_waiting.ensures.same ∙ sym c.in-Some.ensures.first)
+    c.in_err-deliver_sent.ensures.never_falls
+    (c.in_err-deliver_sent.ensures.short
+    (ap Err (let p = err_from_is_err_and c.from_residual.result c.from_residual.ensures.1 in let from = p.2 in let left = p.1 in cc (from, left, is))))
+    given cell stands
 
 pub returns-in_err-deliver_sent-clause-never_falls : goal.returns-in_err-deliver_sent-clause-never_falls
 returns-in_err-deliver_sent-clause-never_falls g c =
@@ -74,16 +77,16 @@ loop-preserved g c =
     follows_more g.D.Disk db MAX_PACKETS (MAX_PACKETS - c.loop.counter) (MAX_PACKETS - (c.loop.counter + 1)) c.requires.0 c.args.self.now now
     c.deliver_sent.new.self
     (string_bytes c.args.text.now) (string_bytes c.loop.text) (string_bytes c.deliver_sent.new.text)
-    (subst (λ (p : Traffic). Follows g.D.Disk g.V.DraftService.standing db MAX_PACKETS (MAX_PACKETS - c.loop.counter) c.args.self.now
+    (subst (λ (p : Traffic). Follows g.D.Disk db MAX_PACKETS (MAX_PACKETS - c.loop.counter) c.args.self.now
     (with_packets c.loop.self p) (string_bytes c.args.text.now) (string_bytes c.loop.text)) (sym c.first_waiting.ensures.same) c.loop.invariant)
     (omega (arith, c.loop-test.true)) c.requires.1 c.in-Some.number
     (ap (λ (p : Traffic). first_waiting 1 p.handed) c.first_waiting.ensures.same ∙ sym c.in-Some.ensures.first)
     (c.in_ok-deliver_sent.ensures.told refl) (c.in_ok-deliver_sent.ensures.sound refl) c.in_ok-deliver_sent.ensures.never_falls
-    c.in_ok-deliver_sent.ensures.same c.in_ok-deliver_sent.ensures.keeps
+    c.in_ok-deliver_sent.ensures.same
 
 pub returns-clause-told : goal.returns-clause-told
 returns-clause-told g c = λ ok given cell stands.
     let db = script_database g.V.DraftService.standing.database g.V.DraftWords.words in
     fuel_followed g.D.Disk db MAX_PACKETS (MAX_PACKETS - c.loop.counter) c.args.self.now c.loop.self (string_bytes c.args.text.now) (string_bytes c.loop.text)
     c.loop.invariant
-    (omega (arith, c.loop-test.false)) given cell stands
+    refl (omega (arith, c.loop-test.false)) given cell stands

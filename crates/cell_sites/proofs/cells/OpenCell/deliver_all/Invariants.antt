@@ -7,5 +7,5 @@ use Rattle.cell_sites.proofs.cells.OpenCell.deliver_all.Given as goal
 
 abbrev pub invariant-loop : goal.invariant-loop
 invariant-loop g l =
-    Follows g.D.Disk g.V.DraftService.standing (script_database g.V.DraftService.standing.database g.V.DraftWords.words) MAX_PACKETS (MAX_PACKETS - l.counter)
+    Follows g.D.Disk (script_database g.V.DraftService.standing.database g.V.DraftWords.words) MAX_PACKETS (MAX_PACKETS - l.counter)
     l.initial.self l.self (string_bytes l.initial.text) (string_bytes l.text)

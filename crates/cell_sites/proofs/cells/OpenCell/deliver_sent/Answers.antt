@@ -4,73 +4,100 @@ use Rattle.std.specs.String.{string_bytes}
 use Rattle.std.proofs.lemmas.List.Quantifiers.{position-Some}
 use Rattle.ubik_types.specs.declared.hosts.Host.{Host}
 use Rattle.cell_model.specs.NodeRule.{place_of}
-use Rattle.cell_model.specs.Voters.{IsVotePacket}
+use Rattle.cell_model.specs.Step.{Member}
+use Rattle.recovery_laws.specs.HasNoWrite.{IsRecoveryPacket}
 use Rattle.cell_model.specs.World.{Delivery}
 use Rattle.cell_runs.specs.ScriptDatabase.{script_database}
 use Rattle.cell_sites.specs.Traffic.{Traffic}
 use Rattle.cell_sites.proofs.AtPlace.{rises_same}
 use Rattle.cell_sites.proofs.Delivering.{all_at, handed_cell, lost, short_before, sound_with, told_before, with_handed, with_packets}
 use Rattle.cell_sites.proofs.Reading.{nothing_done}
-use Rattle.cell_sites.proofs.Soundly.{host_count}
+use Rattle.cell_sites.proofs.Behind.{delivered_on, handed_on}
+use Rattle.cell_sites.proofs.Soundly.{here, host_count}
 use Rattle.cell_sites.proofs.cells.OpenCell.deliver_sent.Goals as goal
 
 pub is_up-requires : goal.is_up-requires
 is_up-requires g c =
-    let to = c.copy_of_votes-packet.result.to in
+    let to = c.in_ok-packet.packet.to in
     let place : place_of c.args.self.now.hosts.items to ≡ Some c.in-Some.k = sym
     (c.place_of.ensures ∙ ap (λ (h : List Host). place_of h to) c.deref.ensures.value) ∙ c.in-Some.is in
     let lt = (position-Some (λ (other : Host). other.0 == to.0) c.args.self.now.hosts.items c.in-Some.k (record { 0 = 0 }) place).0 in
-    let count = host_count g.D.Disk c.requires.sound.0 c.args.self.now c.requires.sound.1 in
+    let count = host_count g.D.Disk c.requires.sound.0.clock c.args.self.now c.requires.sound.1.steady in
     omega (arith, lt, count)
 
+pub step-requires-clause-sound : goal.step-requires-clause-sound
+step-requires-clause-sound g c =
+    let b = c.requires.sound.0 in
+    let p = c.hand_over.new.self in (
+      b,
+      record {
+        steady = sound_with g.D.Disk b.clock c.args.self.now p c.requires.sound.1.steady (ap (λ (t : Traffic). t.sent) c.hand_over.ensures);
+        run = handed_on g.D.Disk (script_database g.V.DraftService.standing.database g.V.DraftWords.words) b.asks c.args.self.now p
+            c.args.number c.law_cells_go_on.ensures c.requires.some c.requires.sent c.hand_over.ensures c.requires.sound.1.run;
+        blocks = c.requires.sound.1.blocks;
+      },
+    )
+
 pub step-requires-clause-taken : goal.step-requires-clause-taken
-step-requires-clause-taken g c =
+step-requires-clause-taken g c = λ clock node there.
     let hosts = c.args.self.now.hosts.items in
-    let there = sym (ap (λ (t : Traffic). slice_get t.sent (c.args.number - 1)) c.hand_over.ensures) ∙ c.packet.ensures in
-    subst (IsVotePacket hosts) (sym c.copy_of_votes-packet.ensures)
-    (all_at (IsVotePacket hosts) c.args.self.now.packets.sent (c.args.number - 1) c.packet.result.now c.requires.sound.1.packets there)
+    let sent = sym (ap (λ (t : Traffic). slice_get t.sent (c.args.number - 1)) c.hand_over.ensures) ∙ c.packet.ensures in
+    let at = here g.D.Disk c.requires.sound.0.clock c.args.self.now c.in-Some.k clock node c.requires.sound.1.steady there in
+    subst (λ (m : Member). IsRecoveryPacket m.hosts c.in_ok-packet.packet) (sym at.sound.member)
+    (subst (IsRecoveryPacket hosts) (sym c.in_ok-packet.ensures)
+    (all_at (IsRecoveryPacket hosts) c.args.self.now.packets.sent (c.args.number - 1) c.packet.result.now c.requires.sound.1.steady.packets sent))
 
 pub returns-then-is_up-clause-told : goal.returns-then-is_up-clause-told
 returns-then-is_up-clause-told g c = λ ok given cell stands.
     let db = script_database g.V.DraftService.standing.database g.V.DraftWords.words in
-    let to = c.copy_of_votes-packet.result.to in
+    let to = c.in_ok-packet.packet.to in
     let p = c.hand_over.new.self in
     let place : place_of c.args.self.now.hosts.items to ≡ Some c.in-Some.k = sym
     (c.place_of.ensures ∙ ap (λ (h : List Host). place_of h to) c.deref.ensures.value) ∙ c.in-Some.is in
-    let h = handed_cell c.args.self.now cell p c.args.number c.in-Some.k c.copy_of_votes-packet.result c.packet.result.now stands c.hand_over.ensures
-    c.requires.some c.packet.ensures c.copy_of_votes-packet.ensures place in
+    let h = handed_cell c.args.self.now cell p c.args.number c.in-Some.k c.in_ok-packet.packet c.packet.result.now stands c.hand_over.ensures
+    c.requires.some c.packet.ensures c.in_ok-packet.ensures place in
     told_before g.D.Disk db c.args.self.now c.step.new.self p _ _ _ _
     (c.step.ensures.told ok given (with_handed cell (set cell.handed (c.args.number - 1) true)) (Delivery c.args.number) h.stands h.goes)
 
 pub returns-then-is_up-clause-limit : goal.returns-then-is_up-clause-limit
 returns-then-is_up-clause-limit g c = λ which is given cell stands.
     let db = script_database g.V.DraftService.standing.database g.V.DraftWords.words in
-    let to = c.copy_of_votes-packet.result.to in
+    let to = c.in_ok-packet.packet.to in
     let p = c.hand_over.new.self in
     let place : place_of c.args.self.now.hosts.items to ≡ Some c.in-Some.k = sym
     (c.place_of.ensures ∙ ap (λ (h : List Host). place_of h to) c.deref.ensures.value) ∙ c.in-Some.is in
-    let h = handed_cell c.args.self.now cell p c.args.number c.in-Some.k c.copy_of_votes-packet.result c.packet.result.now stands c.hand_over.ensures
-    c.requires.some c.packet.ensures c.copy_of_votes-packet.ensures place in
+    let h = handed_cell c.args.self.now cell p c.args.number c.in-Some.k c.in_ok-packet.packet c.packet.result.now stands c.hand_over.ensures
+    c.requires.some c.packet.ensures c.in_ok-packet.ensures place in
     told_before g.D.Disk db c.args.self.now c.step.new.self p _ _ _ _
     (c.step.ensures.limit which is given (with_handed cell (set cell.handed (c.args.number - 1) true)) (Delivery c.args.number) h.stands h.goes)
 
 pub returns-then-is_up-clause-short : goal.returns-then-is_up-clause-short
 returns-then-is_up-clause-short g c = λ is given cell stands.
-    let to = c.copy_of_votes-packet.result.to in
+    let to = c.in_ok-packet.packet.to in
     let p = c.hand_over.new.self in
     let place : place_of c.args.self.now.hosts.items to ≡ Some c.in-Some.k = sym
     (c.place_of.ensures ∙ ap (λ (h : List Host). place_of h to) c.deref.ensures.value) ∙ c.in-Some.is in
-    let h = handed_cell c.args.self.now cell p c.args.number c.in-Some.k c.copy_of_votes-packet.result c.packet.result.now stands c.hand_over.ensures
-    c.requires.some c.packet.ensures c.copy_of_votes-packet.ensures place in
+    let h = handed_cell c.args.self.now cell p c.args.number c.in-Some.k c.in_ok-packet.packet c.packet.result.now stands c.hand_over.ensures
+    c.requires.some c.packet.ensures c.in_ok-packet.ensures place in
     short_before g.D.Disk c.args.self.now c.step.new.self p _ cell (set cell.handed (c.args.number - 1) true)
     (c.step.ensures.short is given (with_handed cell (set cell.handed (c.args.number - 1) true)) (Delivery c.args.number) h.stands h.goes)
 
 pub returns-then-is_up-clause-sound : goal.returns-then-is_up-clause-sound
-returns-then-is_up-clause-sound g c = λ ok bound sound.
-    c.step.ensures.sound ok bound (sound_with g.D.Disk bound c.args.self.now c.hand_over.new.self sound (ap (λ (t : Traffic). t.sent) c.hand_over.ensures))
+returns-then-is_up-clause-sound g c = λ ok bounds still. record {
+  steady = c.step.ensures.steady ok bounds.clock
+      (sound_with g.D.Disk bounds.clock c.args.self.now c.hand_over.new.self still.steady (ap (λ (t : Traffic). t.sent) c.hand_over.ensures));
+  run = delivered_on g.D.Disk (script_database g.V.DraftService.standing.database g.V.DraftWords.words) bounds.asks c.args.self.now
+      c.step.new.self c.args.number (string_bytes c.args.text.now) (string_bytes c.step.new.text) c.law_cells_go_on.ensures c.requires.some c.requires.sent
+      still.run (returns-then-is_up-clause-told g c ok still.run.given still.run.cell still.run.stands);
+  blocks = still.blocks;
+}
 
-pub returns-then-is_up-clause-keeps : goal.returns-then-is_up-clause-keeps
-returns-then-is_up-clause-keeps g c = λ given cell hold. c.step.ensures.keeps c.copy_of_votes-packet.result refl given cell hold
+pub returns-in_err-packet-clause-short : goal.returns-in_err-packet-clause-short
+returns-in_err-packet-clause-short g c =
+    λ is given cell stands. inl (nothing_done g.D.Disk g.V.DraftService.standing.database given c.args.self.now cell stands)
+
+pub returns-in_err-packet-clause-never_falls : goal.returns-in_err-packet-clause-never_falls
+returns-in_err-packet-clause-never_falls g c = rises_same _ _ refl
 
 pub returns-in_err-tell_mark-clause-short : goal.returns-in_err-tell_mark-clause-short
 returns-in_err-tell_mark-clause-short g c =
@@ -85,13 +112,22 @@ returns-clause-never_falls g c = rises_same _ _ refl
 pub returns-clause-told : goal.returns-clause-told
 returns-clause-told g c = λ ok given cell stands.
     let db = script_database g.V.DraftService.standing.database g.V.DraftWords.words in
-    let to = c.copy_of_votes-packet.result.to in
+    let to = c.in_ok-packet.packet.to in
     let p = c.hand_over.new.self in
     let place : place_of c.args.self.now.hosts.items to ≡ Some c.in-Some.k = sym
     (c.place_of.ensures ∙ ap (λ (h : List Host). place_of h to) c.deref.ensures.value) ∙ c.in-Some.is in
-    let h = handed_cell c.args.self.now cell p c.args.number c.in-Some.k c.copy_of_votes-packet.result c.packet.result.now stands c.hand_over.ensures
-    c.requires.some c.packet.ensures c.copy_of_votes-packet.ensures place in
+    let h = handed_cell c.args.self.now cell p c.args.number c.in-Some.k c.in_ok-packet.packet c.packet.result.now stands c.hand_over.ensures
+    c.requires.some c.packet.ensures c.in_ok-packet.ensures place in
     told_before g.D.Disk db c.args.self.now (with_packets c.args.self.now p) p _ _ _ _
     (lost g.D.Disk db (with_packets c.args.self.now p) (with_handed cell (set cell.handed (c.args.number - 1) true)) c.args.number c.in-Some.k
-    c.copy_of_votes-packet.result (string_bytes c.args.text.now) (string_bytes c.tell_mark.new.text)
+    c.in_ok-packet.packet (string_bytes c.args.text.now) (string_bytes c.tell_mark.new.text)
     h.stands c.if-is_up.ensures h.goes c.in_ok-tell_mark.ensures)
+
+pub returns-clause-sound : goal.returns-clause-sound
+returns-clause-sound g c = λ ok bounds still. record {
+  steady = sound_with g.D.Disk bounds.clock c.args.self.now c.hand_over.new.self still.steady (ap (λ (t : Traffic). t.sent) c.hand_over.ensures);
+  run = delivered_on g.D.Disk (script_database g.V.DraftService.standing.database g.V.DraftWords.words) bounds.asks c.args.self.now
+      (with_packets c.args.self.now c.hand_over.new.self) c.args.number (string_bytes c.args.text.now) (string_bytes c.tell_mark.new.text)
+      c.law_cells_go_on.ensures c.requires.some c.requires.sent still.run (returns-clause-told g c ok still.run.given still.run.cell still.run.stands);
+  blocks = still.blocks;
+}

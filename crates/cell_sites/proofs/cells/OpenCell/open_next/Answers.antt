@@ -6,7 +6,7 @@ use Rattle.cell_sites.proofs.Opened.{fresh_sound, fresh_told, next_added, next_o
 use Rattle.cell_sites.proofs.cells.OpenCell.open_next.Goals as goal
 
 pub open_server-server-requires-clause-sound : goal.open_server-server-requires-clause-sound
-open_server-server-requires-clause-sound g c = fresh_sound g.D.Disk c.args.disk c.requires.empty c.requires.settled (_, g.met.V.DraftService.empty_is_first)
+open_server-server-requires-clause-sound g c = fresh_sound g.D.Disk c.args.disk c.requires.empty c.requires.settled
 
 pub returns-clause-opened : goal.returns-clause-opened
 returns-clause-opened g c =

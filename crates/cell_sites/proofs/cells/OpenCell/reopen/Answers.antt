@@ -19,19 +19,19 @@ use Rattle.cell_sites.proofs.cells.OpenCell.reopen.Goals as goal
 pub open_server-server-requires-clause-cell : goal.open_server-server-requires-clause-cell
 open_server-server-requires-clause-cell g c =
     let running = c.args.self.now in
-    let count = host_count g.D.Disk c.requires.sound.0 running c.requires.sound.1 in
-    subst (λ (h : List Host). h ≡ hosts_of (length h)) (sym c.deref.ensures.value) (c.requires.sound.1.hosts ∙ ap hosts_of (sym count))
+    let count = host_count g.D.Disk c.requires.sound.0.clock running c.requires.sound.1.steady in
+    subst (λ (h : List Host). h ≡ hosts_of (length h)) (sym c.deref.ensures.value) (c.requires.sound.1.steady.hosts ∙ ap hosts_of (sym count))
 
 pub open_server-server-requires-clause-few : goal.open_server-server-requires-clause-few
 open_server-server-requires-clause-few g c =
-    let count = host_count g.D.Disk c.requires.sound.0 c.args.self.now c.requires.sound.1 in
+    let count = host_count g.D.Disk c.requires.sound.0.clock c.args.self.now c.requires.sound.1.steady in
     let same = ap (λ (h : List Host). length h) c.deref.ensures.value in
-    let few = c.requires.sound.1.few in
+    let few = c.requires.sound.1.steady.few in
     omega (arith, count, same, few)
 
 pub open_server-server-requires-clause-me : goal.open_server-server-requires-clause-me
 open_server-server-requires-clause-me g c =
-    let count = host_count g.D.Disk c.requires.sound.0 c.args.self.now c.requires.sound.1 in
+    let count = host_count g.D.Disk c.requires.sound.0.clock c.args.self.now c.requires.sound.1.steady in
     let same = ap (λ (h : List Host). length h) c.deref.ensures.value in
     let within = slice_get_within c.args.self.now.sites.items c.args.k _ c.requires.down.there in
     omega (arith, count, same, within)
@@ -41,15 +41,16 @@ open_server-server-requires-clause-moment g c =
     let running = c.args.self.now in
     let within = slice_get_within running.sites.items c.args.k _ c.requires.down.there in
     let there = site_there running.sites.items c.args.k c.remove-clock.result within c.remove-clock.ensures.value in
-    (sound_at g.D.Disk running.hosts.items 0 c.requires.sound.0 running.sites.items c.args.k c.remove-clock.result c.requires.sound.1.sites there).moment
+    (sound_at g.D.Disk running.hosts.items 0 c.requires.sound.0.clock running.sites.items c.args.k c.remove-clock.result c.requires.sound.1.steady.sites
+    there).moment
 
 pub open_server-server-requires-clause-sound : goal.open_server-server-requires-clause-sound
 open_server-server-requires-clause-sound g c =
     let running = c.args.self.now in
     let within = slice_get_within running.sites.items c.args.k _ c.requires.down.there in
     let there = site_there running.sites.items c.args.k c.remove-clock.result within c.remove-clock.ensures.value in
-    subst (λ (d : _). IsSoundDisk g.D.Disk g.V.DraftService.standing d) (sym c.close.ensures)
-    (disk_here g.D.Disk c.requires.sound.0 running c.args.k c.remove-clock.result c.requires.sound.1 there)
+    subst (λ (d : _). IsSoundDisk g.D.Disk d) (sym c.close.ensures)
+    (disk_here g.D.Disk c.requires.sound.0.clock running c.args.k c.remove-clock.result c.requires.sound.1.steady there)
 
 pub returns : goal.returns
 returns g c =
@@ -73,7 +74,7 @@ returns g c =
       end = opened.1;
       server = opened.0;
       opens = λ d stands.
-          subst (λ (h : List Host). ServerOpens g.D.Disk g.V.DraftService.standing (record { hosts = h; me = c.args.k }) site.clock d opened.1 disk opened.0)
+          subst (λ (h : List Host). ServerOpens g.D.Disk (record { hosts = h; me = c.args.k }) site.clock d opened.1 disk opened.0)
           c.deref.ensures.value
           (c.open_server-server.ensures d stands);
       sites = c.put_site.ensures.sites

@@ -1,30 +1,29 @@
-use Rattle.std.proofs.Common.{ap, List, ◌∙◌, arith, refl, sym, subst, true, false}
+use Rattle.std.proofs.Common.{ap, List, ◌∙◌, arith, refl, sym, true, false}
 use Rattle.std.specs.String.{string_bytes}
-use Rattle.cell_model.specs.declared.events.NodeEvent.{NodeEvent}
 use Rattle.std.specs.Prelude.{filter_map}
 use Rattle.cell_model.specs.declared.events.Output.{Output}
-use Rattle.cell_model.specs.Voters.{IsTaken}
 use Rattle.cell_model.specs.World.{packet_in}
 use Rattle.cell_runs.specs.declared.endings.Ending.TheVariants as ending
 use Rattle.cell_runs.specs.ScriptDatabase.{script_database}
-use Rattle.cell_sites.specs.Stepped.{SiteStepped, member_at}
 use Rattle.cell_sites.specs.Traffic.{sent_all}
 use Rattle.cell_sites.proofs.Joined.{all_may_tell, as_many, found_halts, found_made, limit_line, rises, short_line, sound_still, stop_line, stops_quiet}
 use Rattle.cell_sites.proofs.Joined.{tells_halts, tells_made, told_line, votes}
-use Rattle.cell_sites.proofs.Keeping.{keeps}
+use Rattle.cell_sites.proofs.Made.{laws_of}
 use Rattle.cell_sites.proofs.Soundly.{here, host_count, none_sent}
 use Rattle.cell_sites.proofs.cells.OpenCell.step.Goals as goal
 
 pub tell_step-requires : goal.tell_step-requires
 tell_step-requires g c =
     let before = c.args.self.now in
-    let at = here g.D.Disk c.requires.sound.0 before c.args.k c.requires.up.clock c.requires.up.node c.requires.sound.1 c.requires.up.there in
+    let at = here g.D.Disk c.requires.sound.0.clock before c.args.k c.requires.up.clock c.requires.up.node c.requires.sound.1.steady c.requires.up.there in
     record {
-      place = let few = c.requires.sound.1.few in let count = host_count g.D.Disk c.requires.sound.0 before c.requires.sound.1 in let me = at.me in omega
+      place = let few = c.requires.sound.1.steady.few in let count = host_count g.D.Disk c.requires.sound.0.clock before c.requires.sound.1.steady in let me
+      = at.me in omega
           (arith, me, few, count);
-      votes = all_may_tell c.step_site.new.self.outputs before.hosts.items
+      short = all_may_tell c.law_recovery_spreads.ensures c.step_site.new.self.outputs before.hosts.items
           (votes g.D.Disk (script_database g.V.DraftService.standing.database g.V.DraftWords.words) c.args.self.now c.step_site.new.self c.step_site.new.self
-          c.law_voters_vote.ensures c.args.k c.args.event c.step_site.result c.args.call.now c.requires.sound.0 c.requires.sound.1 c.requires.taken
+          (laws_of c.law_recovery_spreads.ensures c.law_memory_is_told.ensures) c.args.k c.args.event c.step_site.result c.args.call.now
+          c.requires.sound.0.clock c.requires.sound.1.steady c.requires.taken
           c.requires.asks c.step_site.ensures refl refl);
     }
 
@@ -37,48 +36,51 @@ returns-in-Made g c =
     record {
       told = λ ok given cell trigger stands o.
           told_line g.D.Disk (script_database g.V.DraftService.standing.database g.V.DraftWords.words) c.args.self.now c.step_site.new.self c.tell_step.new.self
-          c.law_voters_vote.ensures c.args.k c.args.event c.step_site.result c.args.call.now c.requires.sound.0 c.requires.sound.1 c.requires.taken
+          (laws_of c.law_recovery_spreads.ensures c.law_memory_is_told.ensures) c.args.k c.args.event c.step_site.result c.args.call.now
+          c.requires.sound.0.clock c.requires.sound.1.steady c.requires.taken
           c.requires.asks c.step_site.ensures hosts sites
           given cell stands trigger o false (tells_made c.args.k end is) (string_bytes c.args.text.now) (string_bytes c.tell_step.new.text)
           (c.tell_step.ensures.told ok) (found_made end is) (c.tell_step.ensures.found ok) (c.tell_step.ensures.sends ok);
       limit = λ which passed given cell trigger stands o.
           limit_line g.D.Disk (script_database g.V.DraftService.standing.database g.V.DraftWords.words) c.args.self.now c.step_site.new.self
-          c.tell_step.new.self c.law_voters_vote.ensures c.args.k c.args.event c.step_site.result c.args.call.now c.requires.sound.0 c.requires.sound.1
+          c.tell_step.new.self (laws_of c.law_recovery_spreads.ensures c.law_memory_is_told.ensures) c.args.k c.args.event c.step_site.result c.args.call.now
+          c.requires.sound.0.clock c.requires.sound.1.steady
           c.requires.taken c.requires.asks c.step_site.ensures hosts sites
           given cell stands trigger o (ending.Limit which) (string_bytes c.args.text.now) (string_bytes c.tell_step.new.text)
           (c.tell_step.ensures.limit which passed) (found_made end is);
       refused = c.tell_step.ensures.refused;
       short = λ out given cell trigger stands o. short_line g.D.Disk (script_database g.V.DraftService.standing.database g.V.DraftWords.words) c.args.self.now
-          c.step_site.new.self c.tell_step.new.self c.law_voters_vote.ensures c.args.k c.args.event c.step_site.result c.args.call.now c.requires.sound.0
-          c.requires.sound.1 c.requires.taken c.requires.asks c.step_site.ensures hosts sites given cell stands trigger o;
-      sound = λ ok bound still. sound_still g.D.Disk (script_database g.V.DraftService.standing.database g.V.DraftWords.words) c.args.self.now
-          c.step_site.new.self c.tell_step.new.self c.law_voters_vote.ensures c.args.k c.args.event c.step_site.result c.args.call.now c.requires.sound.0
-          c.requires.sound.1 c.requires.taken c.requires.asks c.step_site.ensures hosts sites (c.tell_step.ensures.sends ok) (c.tell_step.ensures.emptied ok)
+          c.step_site.new.self c.tell_step.new.self (laws_of c.law_recovery_spreads.ensures c.law_memory_is_told.ensures) c.args.k c.args.event
+          c.step_site.result c.args.call.now c.requires.sound.0.clock
+          c.requires.sound.1.steady c.requires.taken c.requires.asks c.step_site.ensures hosts sites given cell stands trigger o;
+      steady = λ ok bound still. sound_still g.D.Disk (script_database g.V.DraftService.standing.database g.V.DraftWords.words) c.args.self.now
+          c.step_site.new.self c.tell_step.new.self (laws_of c.law_recovery_spreads.ensures c.law_memory_is_told.ensures) c.args.k c.args.event
+          c.step_site.result c.args.call.now c.requires.sound.0.clock
+          c.requires.sound.1.steady c.requires.taken c.requires.asks c.step_site.ensures hosts sites (c.tell_step.ensures.sends ok)
+          (c.tell_step.ensures.emptied ok)
           bound still;
       never_falls = rises g.D.Disk (script_database g.V.DraftService.standing.database g.V.DraftWords.words) c.args.self.now c.step_site.new.self
-          c.tell_step.new.self c.law_voters_vote.ensures c.args.k c.args.event c.step_site.result c.args.call.now c.requires.sound.0 c.requires.sound.1
+          c.tell_step.new.self (laws_of c.law_recovery_spreads.ensures c.law_memory_is_told.ensures) c.args.k c.args.event c.step_site.result c.args.call.now
+          c.requires.sound.0.clock c.requires.sound.1.steady
           c.requires.taken c.requires.asks c.step_site.ensures hosts sites;
-      keeps = λ packet sent given cell hold.
-          let taken = subst (λ (e : NodeEvent). IsTaken (member_at c.args.self.now c.args.k) e) sent c.requires.taken in
-          let ss = subst (λ (e : NodeEvent). SiteStepped g.D.Disk g.V.DraftService.standing g.V.DraftService.standing.database c.args.k e end c.args.self.now
-          c.step_site.new.self) sent c.step_site.ensures in
-          keeps g.D.Disk (script_database g.V.DraftService.standing.database g.V.DraftWords.words) c.args.self.now c.step_site.new.self c.tell_step.new.self
-          c.args.k packet end c.requires.sound.0 c.requires.sound.1 taken ss sites given cell hold;
       same = as_many g.D.Disk (script_database g.V.DraftService.standing.database g.V.DraftWords.words) c.args.self.now c.step_site.new.self
-          c.tell_step.new.self c.law_voters_vote.ensures c.args.k c.args.event c.step_site.result c.args.call.now c.requires.sound.0 c.requires.sound.1
+          c.tell_step.new.self (laws_of c.law_recovery_spreads.ensures c.law_memory_is_told.ensures) c.args.k c.args.event c.step_site.result c.args.call.now
+          c.requires.sound.0.clock c.requires.sound.1.steady
           c.requires.taken c.requires.asks c.step_site.ensures hosts sites;
     }
 
 pub tell_step-requires-in-Halts : goal.tell_step-requires-in-Halts
 tell_step-requires-in-Halts g c =
     let before = c.args.self.now in
-    let at = here g.D.Disk c.requires.sound.0 before c.args.k c.requires.up.clock c.requires.up.node c.requires.sound.1 c.requires.up.there in
+    let at = here g.D.Disk c.requires.sound.0.clock before c.args.k c.requires.up.clock c.requires.up.node c.requires.sound.1.steady c.requires.up.there in
     record {
-      place = let few = c.requires.sound.1.few in let count = host_count g.D.Disk c.requires.sound.0 before c.requires.sound.1 in let me = at.me in omega
+      place = let few = c.requires.sound.1.steady.few in let count = host_count g.D.Disk c.requires.sound.0.clock before c.requires.sound.1.steady in let me
+      = at.me in omega
           (arith, me, few, count);
-      votes = all_may_tell c.step_site.new.self.outputs before.hosts.items
+      short = all_may_tell c.law_recovery_spreads.ensures c.step_site.new.self.outputs before.hosts.items
           (votes g.D.Disk (script_database g.V.DraftService.standing.database g.V.DraftWords.words) c.args.self.now c.step_site.new.self c.step_site.new.self
-          c.law_voters_vote.ensures c.args.k c.args.event c.step_site.result c.args.call.now c.requires.sound.0 c.requires.sound.1 c.requires.taken
+          (laws_of c.law_recovery_spreads.ensures c.law_memory_is_told.ensures) c.args.k c.args.event c.step_site.result c.args.call.now
+          c.requires.sound.0.clock c.requires.sound.1.steady c.requires.taken
           c.requires.asks c.step_site.ensures refl refl);
     }
 
@@ -91,129 +93,118 @@ returns-in-Halts g c =
     record {
       told = λ ok given cell trigger stands o.
           told_line g.D.Disk (script_database g.V.DraftService.standing.database g.V.DraftWords.words) c.args.self.now c.step_site.new.self
-          c.tell_step-in-Halts.new.self c.law_voters_vote.ensures c.args.k c.args.event c.step_site.result c.args.call.now c.requires.sound.0
-          c.requires.sound.1 c.requires.taken c.requires.asks c.step_site.ensures hosts sites
+          c.tell_step-in-Halts.new.self (laws_of c.law_recovery_spreads.ensures c.law_memory_is_told.ensures) c.args.k c.args.event c.step_site.result
+          c.args.call.now c.requires.sound.0.clock
+          c.requires.sound.1.steady c.requires.taken c.requires.asks c.step_site.ensures hosts sites
           given cell stands trigger o true (tells_halts c.args.k end is) (string_bytes c.args.text.now) (string_bytes c.tell_step-in-Halts.new.text)
           (c.tell_step-in-Halts.ensures.told ok) (found_halts end is) (c.tell_step-in-Halts.ensures.found ok) (c.tell_step-in-Halts.ensures.sends ok);
       limit = λ which passed given cell trigger stands o.
           limit_line g.D.Disk (script_database g.V.DraftService.standing.database g.V.DraftWords.words) c.args.self.now c.step_site.new.self
-          c.tell_step-in-Halts.new.self c.law_voters_vote.ensures c.args.k c.args.event c.step_site.result c.args.call.now c.requires.sound.0
-          c.requires.sound.1 c.requires.taken c.requires.asks c.step_site.ensures hosts sites
+          c.tell_step-in-Halts.new.self (laws_of c.law_recovery_spreads.ensures c.law_memory_is_told.ensures) c.args.k c.args.event c.step_site.result
+          c.args.call.now c.requires.sound.0.clock
+          c.requires.sound.1.steady c.requires.taken c.requires.asks c.step_site.ensures hosts sites
           given cell stands trigger o (ending.Limit which) (string_bytes c.args.text.now) (string_bytes c.tell_step-in-Halts.new.text)
           (c.tell_step-in-Halts.ensures.limit which passed) (found_halts end is);
       refused = c.tell_step-in-Halts.ensures.refused;
       short = λ out given cell trigger stands o. short_line g.D.Disk (script_database g.V.DraftService.standing.database g.V.DraftWords.words) c.args.self.now
-          c.step_site.new.self c.tell_step-in-Halts.new.self c.law_voters_vote.ensures c.args.k c.args.event c.step_site.result c.args.call.now
-          c.requires.sound.0 c.requires.sound.1 c.requires.taken c.requires.asks c.step_site.ensures hosts sites given cell stands trigger o;
-      sound = λ ok bound still. sound_still g.D.Disk (script_database g.V.DraftService.standing.database g.V.DraftWords.words) c.args.self.now
-          c.step_site.new.self c.tell_step-in-Halts.new.self c.law_voters_vote.ensures c.args.k c.args.event c.step_site.result c.args.call.now
-          c.requires.sound.0 c.requires.sound.1 c.requires.taken c.requires.asks c.step_site.ensures hosts sites (c.tell_step-in-Halts.ensures.sends ok)
+          c.step_site.new.self c.tell_step-in-Halts.new.self (laws_of c.law_recovery_spreads.ensures c.law_memory_is_told.ensures) c.args.k c.args.event
+          c.step_site.result c.args.call.now
+          c.requires.sound.0.clock c.requires.sound.1.steady c.requires.taken c.requires.asks c.step_site.ensures hosts sites given cell stands trigger o;
+      steady = λ ok bound still. sound_still g.D.Disk (script_database g.V.DraftService.standing.database g.V.DraftWords.words) c.args.self.now
+          c.step_site.new.self c.tell_step-in-Halts.new.self (laws_of c.law_recovery_spreads.ensures c.law_memory_is_told.ensures) c.args.k c.args.event
+          c.step_site.result c.args.call.now
+          c.requires.sound.0.clock c.requires.sound.1.steady c.requires.taken c.requires.asks c.step_site.ensures hosts sites
+          (c.tell_step-in-Halts.ensures.sends ok)
           (c.tell_step-in-Halts.ensures.emptied ok) bound still;
       never_falls = rises g.D.Disk (script_database g.V.DraftService.standing.database g.V.DraftWords.words) c.args.self.now c.step_site.new.self
-          c.tell_step-in-Halts.new.self c.law_voters_vote.ensures c.args.k c.args.event c.step_site.result c.args.call.now c.requires.sound.0 c.requires.sound.1
+          c.tell_step-in-Halts.new.self (laws_of c.law_recovery_spreads.ensures c.law_memory_is_told.ensures) c.args.k c.args.event c.step_site.result
+          c.args.call.now c.requires.sound.0.clock c.requires.sound.1.steady
           c.requires.taken c.requires.asks c.step_site.ensures hosts sites;
-      keeps = λ packet sent given cell hold.
-          let taken = subst (λ (e : NodeEvent). IsTaken (member_at c.args.self.now c.args.k) e) sent c.requires.taken in
-          let ss = subst (λ (e : NodeEvent). SiteStepped g.D.Disk g.V.DraftService.standing g.V.DraftService.standing.database c.args.k e end c.args.self.now
-          c.step_site.new.self) sent c.step_site.ensures in
-          keeps g.D.Disk (script_database g.V.DraftService.standing.database g.V.DraftWords.words) c.args.self.now c.step_site.new.self
-          c.tell_step-in-Halts.new.self c.args.k packet end c.requires.sound.0 c.requires.sound.1 taken ss sites given cell hold;
       same = as_many g.D.Disk (script_database g.V.DraftService.standing.database g.V.DraftWords.words) c.args.self.now c.step_site.new.self
-          c.tell_step-in-Halts.new.self c.law_voters_vote.ensures c.args.k c.args.event c.step_site.result c.args.call.now c.requires.sound.0 c.requires.sound.1
+          c.tell_step-in-Halts.new.self (laws_of c.law_recovery_spreads.ensures c.law_memory_is_told.ensures) c.args.k c.args.event c.step_site.result
+          c.args.call.now c.requires.sound.0.clock c.requires.sound.1.steady
           c.requires.taken c.requires.asks c.step_site.ensures hosts sites;
     }
 
 pub returns-in-NoMemory-clause-short : goal.returns-in-NoMemory-clause-short
 returns-in-NoMemory-clause-short g c =
     λ out given cell trigger stands o. short_line g.D.Disk (script_database g.V.DraftService.standing.database g.V.DraftWords.words) c.args.self.now
-    c.step_site.new.self c.step_site.new.self c.law_voters_vote.ensures c.args.k c.args.event c.step_site.result c.args.call.now c.requires.sound.0
-    c.requires.sound.1 c.requires.taken c.requires.asks c.step_site.ensures refl refl given cell stands trigger o
+    c.step_site.new.self c.step_site.new.self (laws_of c.law_recovery_spreads.ensures c.law_memory_is_told.ensures) c.args.k c.args.event c.step_site.result
+    c.args.call.now c.requires.sound.0.clock
+    c.requires.sound.1.steady c.requires.taken c.requires.asks c.step_site.ensures refl refl given cell stands trigger o
 
 pub returns-in-NoMemory-clause-never_falls : goal.returns-in-NoMemory-clause-never_falls
 returns-in-NoMemory-clause-never_falls g c =
     rises g.D.Disk (script_database g.V.DraftService.standing.database g.V.DraftWords.words) c.args.self.now c.step_site.new.self c.step_site.new.self
-    c.law_voters_vote.ensures c.args.k c.args.event c.step_site.result c.args.call.now c.requires.sound.0 c.requires.sound.1 c.requires.taken c.requires.asks
+    (laws_of c.law_recovery_spreads.ensures c.law_memory_is_told.ensures) c.args.k c.args.event c.step_site.result c.args.call.now c.requires.sound.0.clock
+    c.requires.sound.1.steady c.requires.taken c.requires.asks
     c.step_site.ensures refl refl
-
-pub returns-in-NoMemory-clause-keeps : goal.returns-in-NoMemory-clause-keeps
-returns-in-NoMemory-clause-keeps g c = λ packet sent given cell hold.
-    let taken = subst (λ (e : NodeEvent). IsTaken (member_at c.args.self.now c.args.k) e) sent c.requires.taken in
-    let ss = subst (λ (e : NodeEvent). SiteStepped g.D.Disk g.V.DraftService.standing g.V.DraftService.standing.database c.args.k e c.step_site.result
-    c.args.self.now c.step_site.new.self) sent c.step_site.ensures in
-    keeps g.D.Disk (script_database g.V.DraftService.standing.database g.V.DraftWords.words) c.args.self.now c.step_site.new.self c.step_site.new.self c.args.k
-    packet c.step_site.result c.requires.sound.0 c.requires.sound.1 taken ss refl given cell hold
 
 pub returns-in-NoMemory-clause-same : goal.returns-in-NoMemory-clause-same
 returns-in-NoMemory-clause-same g c =
     as_many g.D.Disk (script_database g.V.DraftService.standing.database g.V.DraftWords.words) c.args.self.now c.step_site.new.self c.step_site.new.self
-    c.law_voters_vote.ensures c.args.k c.args.event c.step_site.result c.args.call.now c.requires.sound.0 c.requires.sound.1 c.requires.taken c.requires.asks
+    (laws_of c.law_recovery_spreads.ensures c.law_memory_is_told.ensures) c.args.k c.args.event c.step_site.result c.args.call.now c.requires.sound.0.clock
+    c.requires.sound.1.steady c.requires.taken c.requires.asks
     c.step_site.ensures refl refl
 
 pub returns-in_err-tell_mark-in-Stops-clause-short : goal.returns-in_err-tell_mark-in-Stops-clause-short
 returns-in_err-tell_mark-in-Stops-clause-short g c =
     λ out given cell trigger stands o. short_line g.D.Disk (script_database g.V.DraftService.standing.database g.V.DraftWords.words) c.args.self.now
-    c.step_site.new.self c.step_site.new.self c.law_voters_vote.ensures c.args.k c.args.event c.step_site.result c.args.call.now c.requires.sound.0
-    c.requires.sound.1 c.requires.taken c.requires.asks c.step_site.ensures refl refl given cell stands trigger o
+    c.step_site.new.self c.step_site.new.self (laws_of c.law_recovery_spreads.ensures c.law_memory_is_told.ensures) c.args.k c.args.event c.step_site.result
+    c.args.call.now c.requires.sound.0.clock
+    c.requires.sound.1.steady c.requires.taken c.requires.asks c.step_site.ensures refl refl given cell stands trigger o
 
 pub returns-in_err-tell_mark-in-Stops-clause-never_falls : goal.returns-in_err-tell_mark-in-Stops-clause-never_falls
 returns-in_err-tell_mark-in-Stops-clause-never_falls g c =
     rises g.D.Disk (script_database g.V.DraftService.standing.database g.V.DraftWords.words) c.args.self.now c.step_site.new.self c.step_site.new.self
-    c.law_voters_vote.ensures c.args.k c.args.event c.step_site.result c.args.call.now c.requires.sound.0 c.requires.sound.1 c.requires.taken c.requires.asks
+    (laws_of c.law_recovery_spreads.ensures c.law_memory_is_told.ensures) c.args.k c.args.event c.step_site.result c.args.call.now c.requires.sound.0.clock
+    c.requires.sound.1.steady c.requires.taken c.requires.asks
     c.step_site.ensures refl refl
-
-pub returns-in_err-tell_mark-in-Stops-clause-keeps : goal.returns-in_err-tell_mark-in-Stops-clause-keeps
-returns-in_err-tell_mark-in-Stops-clause-keeps g c = λ packet sent given cell hold.
-    let taken = subst (λ (e : NodeEvent). IsTaken (member_at c.args.self.now c.args.k) e) sent c.requires.taken in
-    let ss = subst (λ (e : NodeEvent). SiteStepped g.D.Disk g.V.DraftService.standing g.V.DraftService.standing.database c.args.k e c.step_site.result
-    c.args.self.now c.step_site.new.self) sent c.step_site.ensures in
-    keeps g.D.Disk (script_database g.V.DraftService.standing.database g.V.DraftWords.words) c.args.self.now c.step_site.new.self c.step_site.new.self c.args.k
-    packet c.step_site.result c.requires.sound.0 c.requires.sound.1 taken ss refl given cell hold
 
 pub returns-in_err-tell_mark-in-Stops-clause-same : goal.returns-in_err-tell_mark-in-Stops-clause-same
 returns-in_err-tell_mark-in-Stops-clause-same g c =
     as_many g.D.Disk (script_database g.V.DraftService.standing.database g.V.DraftWords.words) c.args.self.now c.step_site.new.self c.step_site.new.self
-    c.law_voters_vote.ensures c.args.k c.args.event c.step_site.result c.args.call.now c.requires.sound.0 c.requires.sound.1 c.requires.taken c.requires.asks
+    (laws_of c.law_recovery_spreads.ensures c.law_memory_is_told.ensures) c.args.k c.args.event c.step_site.result c.args.call.now c.requires.sound.0.clock
+    c.requires.sound.1.steady c.requires.taken c.requires.asks
     c.step_site.ensures refl refl
 
 pub returns-in_ok-tell_mark-in-Stops-clause-short : goal.returns-in_ok-tell_mark-in-Stops-clause-short
 returns-in_ok-tell_mark-in-Stops-clause-short g c =
     λ out given cell trigger stands o. short_line g.D.Disk (script_database g.V.DraftService.standing.database g.V.DraftWords.words) c.args.self.now
-    c.step_site.new.self c.step_site.new.self c.law_voters_vote.ensures c.args.k c.args.event c.step_site.result c.args.call.now c.requires.sound.0
-    c.requires.sound.1 c.requires.taken c.requires.asks c.step_site.ensures refl refl given cell stands trigger o
+    c.step_site.new.self c.step_site.new.self (laws_of c.law_recovery_spreads.ensures c.law_memory_is_told.ensures) c.args.k c.args.event c.step_site.result
+    c.args.call.now c.requires.sound.0.clock
+    c.requires.sound.1.steady c.requires.taken c.requires.asks c.step_site.ensures refl refl given cell stands trigger o
 
 pub returns-in_ok-tell_mark-in-Stops-clause-never_falls : goal.returns-in_ok-tell_mark-in-Stops-clause-never_falls
 returns-in_ok-tell_mark-in-Stops-clause-never_falls g c =
     rises g.D.Disk (script_database g.V.DraftService.standing.database g.V.DraftWords.words) c.args.self.now c.step_site.new.self c.step_site.new.self
-    c.law_voters_vote.ensures c.args.k c.args.event c.step_site.result c.args.call.now c.requires.sound.0 c.requires.sound.1 c.requires.taken c.requires.asks
+    (laws_of c.law_recovery_spreads.ensures c.law_memory_is_told.ensures) c.args.k c.args.event c.step_site.result c.args.call.now c.requires.sound.0.clock
+    c.requires.sound.1.steady c.requires.taken c.requires.asks
     c.step_site.ensures refl refl
-
-pub returns-in_ok-tell_mark-in-Stops-clause-keeps : goal.returns-in_ok-tell_mark-in-Stops-clause-keeps
-returns-in_ok-tell_mark-in-Stops-clause-keeps g c = λ packet sent given cell hold.
-    let taken = subst (λ (e : NodeEvent). IsTaken (member_at c.args.self.now c.args.k) e) sent c.requires.taken in
-    let ss = subst (λ (e : NodeEvent). SiteStepped g.D.Disk g.V.DraftService.standing g.V.DraftService.standing.database c.args.k e c.step_site.result
-    c.args.self.now c.step_site.new.self) sent c.step_site.ensures in
-    keeps g.D.Disk (script_database g.V.DraftService.standing.database g.V.DraftWords.words) c.args.self.now c.step_site.new.self c.step_site.new.self c.args.k
-    packet c.step_site.result c.requires.sound.0 c.requires.sound.1 taken ss refl given cell hold
 
 pub returns-in_ok-tell_mark-in-Stops-clause-same : goal.returns-in_ok-tell_mark-in-Stops-clause-same
 returns-in_ok-tell_mark-in-Stops-clause-same g c =
     as_many g.D.Disk (script_database g.V.DraftService.standing.database g.V.DraftWords.words) c.args.self.now c.step_site.new.self c.step_site.new.self
-    c.law_voters_vote.ensures c.args.k c.args.event c.step_site.result c.args.call.now c.requires.sound.0 c.requires.sound.1 c.requires.taken c.requires.asks
+    (laws_of c.law_recovery_spreads.ensures c.law_memory_is_told.ensures) c.args.k c.args.event c.step_site.result c.args.call.now c.requires.sound.0.clock
+    c.requires.sound.1.steady c.requires.taken c.requires.asks
     c.step_site.ensures refl refl
 
 pub returns-in_ok-tell_mark-in-Stops-clause-told : goal.returns-in_ok-tell_mark-in-Stops-clause-told
 returns-in_ok-tell_mark-in-Stops-clause-told g c = λ ok given cell trigger stands o.
     stop_line g.D.Disk (script_database g.V.DraftService.standing.database g.V.DraftWords.words) c.args.self.now c.step_site.new.self c.step_site.new.self
-    c.law_voters_vote.ensures c.args.k c.args.event c.step_site.result c.args.call.now c.requires.sound.0 c.requires.sound.1 c.requires.taken
+    (laws_of c.law_recovery_spreads.ensures c.law_memory_is_told.ensures) c.args.k c.args.event c.step_site.result c.args.call.now c.requires.sound.0.clock
+    c.requires.sound.1.steady c.requires.taken
     c.requires.asks c.step_site.ensures refl refl given cell stands trigger o c.in-Stops.is (string_bytes c.args.text.now)
     (string_bytes c.tell_mark.new.text) c.in_ok-tell_mark-in-Stops.ensures refl
 
-pub returns-in_ok-tell_mark-in-Stops-clause-sound : goal.returns-in_ok-tell_mark-in-Stops-clause-sound
-returns-in_ok-tell_mark-in-Stops-clause-sound g c = λ ok bound still.
+pub returns-in_ok-tell_mark-in-Stops-clause-steady : goal.returns-in_ok-tell_mark-in-Stops-clause-steady
+returns-in_ok-tell_mark-in-Stops-clause-steady g c = λ ok bound still.
     let none = stops_quiet g.D.Disk (script_database g.V.DraftService.standing.database g.V.DraftWords.words) c.args.self.now c.step_site.new.self
-    c.step_site.new.self c.law_voters_vote.ensures c.args.k c.args.event c.step_site.result c.args.call.now c.requires.sound.0 c.requires.sound.1
+    c.step_site.new.self (laws_of c.law_recovery_spreads.ensures c.law_memory_is_told.ensures) c.args.k c.args.event c.step_site.result c.args.call.now
+    c.requires.sound.0.clock c.requires.sound.1.steady
     c.requires.taken c.requires.asks c.step_site.ensures refl refl c.in-Stops.is in
     sound_still g.D.Disk (script_database g.V.DraftService.standing.database g.V.DraftWords.words) c.args.self.now c.step_site.new.self c.step_site.new.self
-    c.law_voters_vote.ensures c.args.k c.args.event c.step_site.result c.args.call.now c.requires.sound.0 c.requires.sound.1 c.requires.taken
+    (laws_of c.law_recovery_spreads.ensures c.law_memory_is_told.ensures) c.args.k c.args.event c.step_site.result c.args.call.now c.requires.sound.0.clock
+    c.requires.sound.1.steady c.requires.taken
     c.requires.asks c.step_site.ensures refl refl (none_sent c.step_site.new.self.packets
     ∙ ap (λ (out : List Output). sent_all c.step_site.new.self.packets (filter_map packet_in out)) (sym none)) none bound still

@@ -1,8 +1,10 @@
 use Rattle.std.proofs.Common.{◌<◌, refl, subst, sym}
 use Rattle.cell_model.specs.Step.{Member, cell_size}
-use Rattle.cell_model.specs.Voters.{IsTaken}
 use Rattle.cell_sites.specs.Sound.{IsSoundNode}
 use Rattle.cell_sites.specs.Stepped.{NodeStepped}
+use Rattle.ubik_node.specs.Node.{own_member}
+use Rattle.cell_sites.proofs.Behind.{up_meant}
+use Rattle.cell_sites.proofs.Leading.{needs_met}
 use Rattle.cell_sites.proofs.Soundly.{found_up, here}
 use Rattle.cell_sites.proofs.cells.OpenCell.step_up.Goals as goal
 
@@ -10,46 +12,54 @@ pub step_node-requires-clause-moment : goal.step_node-requires-clause-moment
 step_node-requires-clause-moment g c =
     let site = c.index_mut-site.result.now in
     let there = found_up c.args.self.now c.args.k site c.in-Up.node c.requires.up c.index_mut-site.ensures.value c.in-Up.is in
-    (here g.D.Disk c.requires.sound.0 c.args.self.now c.args.k site.clock c.in-Up.node c.requires.sound.1 there).moment
+    (here g.D.Disk c.requires.sound.0.clock c.args.self.now c.args.k site.clock c.in-Up.node c.requires.sound.1.steady there).moment
 
 pub step_node-requires-clause-place : goal.step_node-requires-clause-place
 step_node-requires-clause-place g c =
     let site = c.index_mut-site.result.now in
     let there = found_up c.args.self.now c.args.k site c.in-Up.node c.requires.up c.index_mut-site.ensures.value c.in-Up.is in
-    let at = here g.D.Disk c.requires.sound.0 c.args.self.now c.args.k site.clock c.in-Up.node c.requires.sound.1 there in
+    let at = here g.D.Disk c.requires.sound.0.clock c.args.self.now c.args.k site.clock c.in-Up.node c.requires.sound.1.steady there in
     subst (λ (m : Member). m.me < cell_size m) (sym at.sound.member) at.me
 
 pub step_node-requires-clause-sound : goal.step_node-requires-clause-sound
 step_node-requires-clause-sound g c =
     let site = c.index_mut-site.result.now in
     let there = found_up c.args.self.now c.args.k site c.in-Up.node c.requires.up c.index_mut-site.ensures.value c.in-Up.is in
-    let at = here g.D.Disk c.requires.sound.0 c.args.self.now c.args.k site.clock c.in-Up.node c.requires.sound.1 there in
+    let at = here g.D.Disk c.requires.sound.0.clock c.args.self.now c.args.k site.clock c.in-Up.node c.requires.sound.1.steady there in
     subst (λ (m : Member). IsSoundNode g.D.Disk m site.clock c.in-Up.node) (sym at.sound.member) at.sound
 
 pub step_node-requires-clause-taken : goal.step_node-requires-clause-taken
 step_node-requires-clause-taken g c =
     let site = c.index_mut-site.result.now in
     let there = found_up c.args.self.now c.args.k site c.in-Up.node c.requires.up c.index_mut-site.ensures.value c.in-Up.is in
-    let at = here g.D.Disk c.requires.sound.0 c.args.self.now c.args.k site.clock c.in-Up.node c.requires.sound.1 there in
-    subst (λ (m : Member). IsTaken m c.args.event) (sym at.sound.member) c.requires.taken
+    c.requires.taken site.clock c.in-Up.node there
+
+pub step_node-requires-clause-needs : goal.step_node-requires-clause-needs
+step_node-requires-clause-needs g c =
+    let site = c.index_mut-site.result.now in
+    let there = found_up c.args.self.now c.args.k site c.in-Up.node c.requires.up c.index_mut-site.ensures.value c.in-Up.is in
+    let at = here g.D.Disk c.requires.sound.0.clock c.args.self.now c.args.k site.clock c.in-Up.node c.requires.sound.1.steady there in
+    needs_met g.D.Disk g.V.DraftService.standing (own_member c.in-Up.node) c.in-Up.node at.disk
+    (up_meant g.D.Disk g.V.DraftService.standing c.requires.sound.0.asks c.args.self.now c.args.k site.clock c.in-Up.node c.law_images_stand.ensures.stand
+    (c.law_images_stand.ensures.service c.requires.sound.1.blocks) c.requires.sound.1.run there) c.args.event
 
 pub step_node-requires-clause-disk : goal.step_node-requires-clause-disk
 step_node-requires-clause-disk g c =
     let site = c.index_mut-site.result.now in
     let there = found_up c.args.self.now c.args.k site c.in-Up.node c.requires.up c.index_mut-site.ensures.value c.in-Up.is in
-    (here g.D.Disk c.requires.sound.0 c.args.self.now c.args.k site.clock c.in-Up.node c.requires.sound.1 there).disk
+    (here g.D.Disk c.requires.sound.0.clock c.args.self.now c.args.k site.clock c.in-Up.node c.requires.sound.1.steady there).disk
 
 pub returns : goal.returns
 returns g c =
     let site = c.index_mut-site.result.now in
     let there = found_up c.args.self.now c.args.k site c.in-Up.node c.requires.up c.index_mut-site.ensures.value c.in-Up.is in
-    let at = here g.D.Disk c.requires.sound.0 c.args.self.now c.args.k site.clock c.in-Up.node c.requires.sound.1 there in
+    let at = here g.D.Disk c.requires.sound.0.clock c.args.self.now c.args.k site.clock c.in-Up.node c.requires.sound.1.steady there in
     record {
       clock = site.clock;
       node = c.in-Up.node;
       there = there;
       later = c.step_node.new.node;
-      step = subst (λ (m : Member). NodeStepped g.D.Disk g.V.DraftService.standing g.V.DraftService.standing.database m site.clock c.args.event
+      step = subst (λ (m : Member). NodeStepped g.D.Disk g.V.DraftService.standing.database m site.clock c.args.event
           c.step_node.result c.in-Up.node c.step_node.new.node c.step_node.new.out) at.sound.member c.step_node.ensures;
       sites = refl;
       hosts = refl;

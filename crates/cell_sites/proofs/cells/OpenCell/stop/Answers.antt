@@ -4,6 +4,7 @@ use Rattle.std.proofs.lemmas.Result.{err_from_is_err_and}
 use Rattle.cell_runs.specs.ScriptDatabase.{script_database}
 use Rattle.cell_runs.specs.Script.{Cell_run, resting, run_in}
 use Rattle.cell_script.specs.declared.lines.Line.TheVariants as line
+use Rattle.cell_sites.proofs.Behind.{runs_on}
 use Rattle.cell_sites.proofs.AtPlace.{rises_same}
 use Rattle.cell_sites.proofs.Downtimes.{arm_disk, arm_node, arm_told, sound_at_place}
 use Rattle.cell_sites.proofs.Lining.{size_of}
@@ -20,7 +21,7 @@ returns-in_err-k-clause-refused g c = λ why is.
       refl,
       λ given cell stands choices.
           let does : ℕ → Cell_run = λ k. resting (record cell { armed = set cell.armed k (Some (record { calls = c.args.calls; made = 0 })) }) in
-          c.in_err-k.ensures.up cell does (size_of g.D.Disk c.requires.0 c.args.self.now cell c.requires.1 stands) stands.sites ∙ ap Err same,
+          c.in_err-k.ensures.up cell does (size_of g.D.Disk c.requires.0.clock c.args.self.now cell c.requires.1.steady stands) stands.sites ∙ ap Err same,
     )
 
 pub returns-in_err-k-clause-never_falls : goal.returns-in_err-k-clause-never_falls
@@ -39,7 +40,7 @@ pub arm-requires : goal.arm-requires
 arm-requires g c =
     let site = c.index_mut.result.now in
     let there = found_up c.args.self.now c.in_ok-k.k site c.in-Up.node c.in_ok-k.ensures.place.1 c.index_mut.ensures.value c.in-Up.is in
-    record { stored = (here g.D.Disk c.requires.0 c.args.self.now c.in_ok-k.k site.clock c.in-Up.node c.requires.1 there).sound.stored }
+    record { stored = (here g.D.Disk c.requires.0.clock c.args.self.now c.in_ok-k.k site.clock c.in-Up.node c.requires.1.steady there).sound.stored }
 
 pub returns-clause-told : goal.returns-clause-told
 returns-clause-told g c = λ ok given cell text stands.
@@ -50,19 +51,26 @@ returns-clause-told g c = λ ok given cell text stands.
     arm_told g.D.Disk c.args.self.now _ c.in_ok-k.k site.clock c.args.calls c.args.fill c.in-Up.node c.arm.new.self there refl refl refl c.arm.ensures.disk
     c.arm.ensures.same db given cell
     (λ choices. run_in db cell choices (line.Stop c.args.server c.args.calls c.args.fill)) text stands
-    (λ choices. c.in_ok-k.ensures.up cell does (size_of g.D.Disk c.requires.0 c.args.self.now cell c.requires.1 stands) stands.sites)
+    (λ choices. c.in_ok-k.ensures.up cell does (size_of g.D.Disk c.requires.0.clock c.args.self.now cell c.requires.1.steady stands) stands.sites)
 
 pub returns-clause-sound : goal.returns-clause-sound
-returns-clause-sound g c = λ bound still.
+returns-clause-sound g c = λ bounds still.
     let site = c.index_mut.result.now in
     let k = c.in_ok-k.k in
     let there = found_up c.args.self.now k site c.in-Up.node c.in_ok-k.ensures.place.1 c.index_mut.ensures.value c.in-Up.is in
-    let at = here g.D.Disk bound c.args.self.now k site.clock c.in-Up.node still there in
-    sound_at_place g.D.Disk c.args.self.now _ k (up_site site.clock c.in-Up.node) (up_site site.clock c.arm.new.self) there refl bound still refl
-    (arm_node g.D.Disk site.clock c.args.calls c.args.fill c.in-Up.node c.arm.new.self c.arm.ensures.disk c.arm.ensures.same (member_at c.args.self.now k)
-    at.sound c.arm.ensures.stored)
-    (arm_disk g.D.Disk site.clock c.args.calls c.args.fill c.in-Up.node c.arm.new.self c.arm.ensures.disk c.arm.ensures.same at.disk)
-    refl refl refl
+    let at = here g.D.Disk bounds.clock c.args.self.now k site.clock c.in-Up.node still.steady there in
+    record {
+      steady = sound_at_place g.D.Disk c.args.self.now _ k (up_site site.clock c.in-Up.node) (up_site site.clock c.arm.new.self) there refl bounds.clock
+          still.steady refl
+          (arm_node g.D.Disk site.clock c.args.calls c.args.fill c.in-Up.node c.arm.new.self c.arm.ensures.disk c.arm.ensures.same
+          (member_at c.args.self.now k) at.sound c.arm.ensures.stored)
+          (arm_disk g.D.Disk site.clock c.args.calls c.args.fill c.in-Up.node c.arm.new.self c.arm.ensures.disk c.arm.ensures.same at.disk)
+          refl refl refl;
+      run = runs_on g.D.Disk (script_database g.V.DraftService.standing.database g.V.DraftWords.words) bounds.asks c.args.self.now
+          _ (line.Stop c.args.server c.args.calls c.args.fill) [] [] c.law_cells_go_on.ensures tt still.run
+          (returns-clause-told g c refl still.run.given still.run.cell [] still.run.stands);
+      blocks = still.blocks;
+    }
 
 pub returns-clause-never_falls : goal.returns-clause-never_falls
 returns-clause-never_falls g c =

@@ -1,12 +1,13 @@
-use Rattle.std.proofs.Common.{◌≡◌, ◌+◌, Some, List, Ok, Err, refl, sym, ap, subst, ◌∙◌, arith}
+use Rattle.std.proofs.Common.{◌≡◌, ◌+◌, Some, Ok, Err, refl, sym, ap, subst, ◌∙◌, arith}
 use Rattle.std.specs.Result.{result_ok}
 use Rattle.std.specs.String.{string_bytes}
 use Rattle.cell_script.specs.declared.lines.Line.TheVariants as line
-use Rattle.cell_runs.specs.Script.{Cell, Choice, asked_at, first_choice}
+use Rattle.cell_runs.specs.Script.{Cell, Choices, asked_at, first_choice}
 use Rattle.cell_runs.specs.ScriptDatabase.{script_database}
 use Rattle.cell_sites.specs.declared.faults.LineFault.TheVariants.{NoMemory}
 use Rattle.ubik_cell.specs.LineRuns.{CellDone, LineDone}
-use Rattle.ubik_cell.proofs.CellLines.{cell_done, handed_on, kept_of, raised}
+use Rattle.ubik_cell.specs.Lines.{bounds_after, clock_bound}
+use Rattle.ubik_cell.proofs.CellLines.{cell_done, handed_on, raised}
 use Rattle.ubik_cell.proofs.Lifting.{asked_err, asked_ok, kept_run, same_again, short_same, with_cell}
 use Rattle.ubik_cell.proofs.scripts.CellRun.ask.Goals as goal
 
@@ -30,7 +31,7 @@ returns-in_err-ask-clause-done g c =
     let number : c.args.server ≡ Some c.in_ok-server.server = c.ok_or.ensures.ok_part ∙ ap result_ok c.in_ok-server.was in
     let named : g.V.DraftWords.words.call_of c.args.words.now ≡ Some c.in-Some-2.call =
     ap g.V.DraftWords.words.call_of (sym c.as_slice.ensures) ∙ sym c.in_ok-call.ensures ∙ c.in-Some-2.is in
-    let so = λ (cell : Cell) (choices : List Choice). asked_at db cell (first_choice choices) (run.asks + 1) c.in-Some-2.call (Some c.in_ok-server.server) in
+    let so = λ (cell : Cell) (choices : Choices). asked_at db cell (first_choice choices) (run.asks + 1) c.in-Some-2.call (Some c.in_ok-server.server) in
     let cell = cell_done g.D.Disk c.in-Some.cell c.ask.new.self db so c.ask.result text later
     c.ask.ensures.told c.ask.ensures.limit c.ask.ensures.refused c.ask.ensures.quiet c.ask.ensures.short in
     handed_on (λ r. LineDone g.D.Disk db (line.Ask c.args.server c.args.words.now) r run (with_cell run c.ask.new.self) text later)
@@ -56,7 +57,6 @@ returns-clause-done g c =
 pub returns-clause-kept : goal.returns-clause-kept
 returns-clause-kept g c =
     let run = c.args.self.now in
-    kept_run g.D.Disk (Ok tt) run c.in-Some.cell c.ask.new.self (run.asks + 1) c.in-Some.is c.requires.sound c.requires.room (omega (arith, c.requires.sound.asks))
-    (kept_of g.D.Disk c.in-Some.cell c.ask.new.self (Ok tt) 0 (omega arith)
-    (λ done bound is. raised g.D.Disk bound (bound + 0) c.ask.new.self (omega arith) (c.in_ok-ask.ensures.sound refl bound is))
-    c.ask.ensures.never_falls c.ask.ensures.same)
+    kept_run g.D.Disk (Ok tt) run c.in-Some.cell c.ask.new.self (run.asks + 1) c.in-Some.is c.requires.sound c.requires.room (omega (arith, c.requires.sound.asks)) c.ask.ensures.same
+    (λ done is. raised g.D.Disk g.V.DraftService.standing.database (bounds_after run.lines (run.asks + 1)) (clock_bound (run.lines + 1)) c.ask.new.self
+    (omega arith) (c.in_ok-ask.ensures.sound refl (bounds_after run.lines run.asks) (omega arith) is))

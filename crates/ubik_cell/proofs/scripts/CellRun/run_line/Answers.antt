@@ -1,9 +1,9 @@
-use Rattle.std.proofs.Common.{◌≡◌, inl, inr, Ok, sym, subst, arith}
+use Rattle.std.proofs.Common.{◌≡◌, inl, inr, Ok, sym, subst}
 use Rattle.std.specs.String.{string_bytes}
 use Rattle.cell_script.specs.declared.lines.Line.{Line}
 use Rattle.cell_runs.specs.ScriptDatabase.{script_database}
 use Rattle.ubik_cell.specs.LineRuns.{LineDone}
-use Rattle.ubik_cell.proofs.Lifting.{IsNoAsk, kept_run, lifted}
+use Rattle.ubik_cell.proofs.Lifting.{IsNoAsk, kept_line, lifted}
 use Rattle.ubik_cell.proofs.Opened.{nothing_keeps, nothing_line}
 use Rattle.ubik_cell.proofs.scripts.CellRun.run_line.Goals as goal
 
@@ -40,6 +40,6 @@ returns-in-Some g c =
       done = lifted g.D.Disk (script_database g.V.DraftService.standing.database g.V.DraftWords.words) c.args.line.now run c.in-Some.cell c.run_in_cell.new.cell
           c.run_in_cell.result (string_bytes c.args.text.now) (string_bytes c.run_in_cell.new.text) no_ask c.in-Some.is c.requires.sound
           c.run_in_cell.ensures.done c.run_in_cell.ensures.kept;
-      kept = kept_run g.D.Disk c.run_in_cell.result run c.in-Some.cell c.run_in_cell.new.cell run.asks c.in-Some.is c.requires.sound c.requires.room
-          (omega (arith, c.requires.sound.asks)) c.run_in_cell.ensures.kept;
+      kept = kept_line g.D.Disk c.run_in_cell.result run c.in-Some.cell c.run_in_cell.new.cell c.in-Some.is c.requires.sound c.requires.room
+          c.run_in_cell.ensures.kept;
     }

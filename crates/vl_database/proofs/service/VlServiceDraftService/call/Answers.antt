@@ -1,9 +1,10 @@
+use Rattle.std.proofs.Common.{arith}
 use Rattle.vl_database.proofs.Served.{decided_reads, decided_short, meant}
 use Rattle.vl_database.proofs.service.VlServiceDraftService.call.Goals as goal
 
 pub returns-in-Ok-clause-meant : goal.returns-in-Ok-clause-meant
 returns-in-Ok-clause-meant g c =
-    meant c.args.image.now.bytes c.evaluate.new.d.bytes c.args.now c.args.call.now c.in-Ok.end c.in-Ok.ensures.meant
+    meant c.args.image.now.bytes c.evaluate.new.d.bytes c.args.now c.args.call.now c.in-Ok.end (omega arith) c.in-Ok.ensures.meant
 
 pub returns-in-Ok-clause-short : goal.returns-in-Ok-clause-short
 returns-in-Ok-clause-short g c = decided_short c.in-Ok.end c.in-Ok.ensures.short

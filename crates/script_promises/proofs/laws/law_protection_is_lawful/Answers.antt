@@ -1,0 +1,12 @@
+use Rattle.std.proofs.Common.{arith}
+use Rattle.script_promises.proofs.laws.law_protection_is_lawful.Goals as goal
+
+pub returns : goal.returns
+returns c = record {
+  first = c.an_image_stands_for_one_state.ensures.first;
+  means = c.calls_are_meant.ensures.meant;
+  leaves = c.calls_are_meant.ensures.leaves;
+  answers = c.calls_are_answered.ensures;
+  never_shrinks = c.calls_are_meant.ensures.longer;
+  block = omega arith;
+}
