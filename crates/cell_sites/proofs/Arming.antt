@@ -65,7 +65,7 @@ unarmed_runs n stopped = subst IsStopped (never_stops n) stopped
 
 -- ---- where a disk stops that lets so many changing calls pass
 
-pub take_nil : {X : Type 0} (n : ℕ) → take n ([] : List X) ≡ []
+pub take_nil : {X : Type 0} (n : ℕ) → take {A = X} n [] ≡ []
 take_nil zero = refl
 take_nil (suc n) = refl
 
