@@ -1,5 +1,5 @@
 -- Calls at a server: those that are not built yet are refused, and the others are taken.
-use Rattle.std.proofs.Common.{if◌then◌else◌, not, ◌≡◌, ◌&&◌, ◌<◌, ◌≤◌, ◌+◌, ◌-◌, ℕ, Bool, true, false, Option, Some, Ok, Err, List, length, refl, sym, ap}
+use Rattle.std.proofs.Common.{if◌then◌else◌, not, ◌≡◌, ◌×◌, ◌⊎◌, inl, inr, ◌&&◌, ◌<◌, ◌≤◌, ◌+◌, ◌-◌, ℕ, Bool, true, false, Option, Some, Ok, Err, List, length, refl, sym, ap}
 use Rattle.std.proofs.Common.{◌∙◌, arith}
 use Rattle.std.proofs.lemmas.Bool.{false≢true}
 use Rattle.std.proofs.lemmas.Bool.Decides.{nat_tests}
@@ -113,6 +113,20 @@ later_is db running c k call clock node size sites there =
     ∙ ap (λ (n : ℕ). nat_lt 1 n && serves_calls (node_in (site_of c.run.world (k + 1 - 1))) && writes) size
     ∙ ap (λ (x : model.Node). nat_lt 1 (length running.sites.items) && serves_calls x && writes) found
     ∙ ap (λ (b : Bool). nat_lt 1 (length running.sites.items) && b && writes) (serves_of node.halted (up_server node))
+
+-- the cell has several servers, and the server serves calls; or one of the two is not so
+pub both_hold : (n m : ℕ) (t s w : Bool) → m ≡ n → t ≡ s → (1 < m) × (t ≡ true) → w ≡ (nat_lt 1 n && s && w)
+both_hold n m t s w size same holds =
+    let many : nat_lt 1 n ≡ true = let more = holds.0 in grind (arith, nat_tests, more, size) in
+    sym (ap (λ (b : Bool). b && s && w) many ∙ ap (λ (b : Bool). b && w) (sym same ∙ holds.1))
+
+pub one_fails : (n m : ℕ) (t s w : Bool) → m ≡ n → t ≡ s → ((1 < m) × (t ≡ false)) ⊎ (m ≤ 1) → false ≡ (nat_lt 1 n && s && w)
+one_fails n m t s w size same (inl holds) =
+    let many : nat_lt 1 n ≡ true = let more = holds.0 in grind (arith, nat_tests, more, size) in
+    sym (ap (λ (b : Bool). b && s && w) many ∙ ap (λ (b : Bool). b && w) (sym same ∙ holds.1))
+one_fails n m t s w size same (inr few) =
+    let one : nat_lt 1 n ≡ false = grind (arith, nat_tests, few, size) in
+    sym (ap (λ (b : Bool). b && s && w) one)
 
 -- ---- a call that is built
 

@@ -392,8 +392,7 @@ module _ {D V : Type 0} (g : Ghosts D) (script_db : ScriptDatabase) (running aft
       pub reopen_told : (marks : ta ≡ tb ++ trace script_db running.hosts.items (map Tells h.marks))
           → CellTold g script_db given restarts None running after tb ta
       reopen_told marks =
-          whole g script_db given running after c stands k (Restart k failed) h c.armed restarts (whole_choices (choice_of failed ∷ [])) line_is (marks_are
-          failed) closed_site
+          whole g script_db given running after c stands k (Restart k failed) h c.armed restarts (choice_of failed ∷ []) line_is (marks_are failed) closed_site
           open_site re.there re.sites
           (faults_told failed faulted opens.never_falls) (faults_others failed)
           tb tb ta (ap (told_of script_db running.hosts.items k (record { text = tb; sent = running.packets.sent })) (shown_none failed)
@@ -419,7 +418,7 @@ module _ {D V : Type 0} (g : Ghosts D) (script_db : ScriptDatabase) (running aft
 
       pub reopen_short_after : IsShort g script_db.database given restarts c running after
       reopen_short_after =
-          short_after g script_db given running after c stands k (Restart k failed) h c.armed restarts (whole_choices (choice_of failed ∷ [])) line_is
+          short_after g script_db given running after c stands k (Restart k failed) h c.armed restarts (choice_of failed ∷ []) line_is
           (marks_are failed)
           closed_site open_site re.there re.sites
           (faults_told failed faulted opens.never_falls) (faults_others failed) hold_next

@@ -193,7 +193,6 @@ text_is may_begin k version total at bytes before is old =
         })
         (λ _. tt)
 
--- a whole text is no longer than the longest image
 -- the version of a text that is received is not the first
 abbrev pub IsLaterText : Option ReceivedText → Type 0
 IsLaterText None = Unit {0}
@@ -209,6 +208,9 @@ text_later may_begin k version total at bytes before later =
     (λ _. cond_both may_begin (Some (text_begun k version total bytes)) None IsLaterText (λ _. later) (λ _. tt)) (λ _. continued before))
     (λ _. tt)
   where
+    same_later : (v other : Version) → version_eq v other ≡ true → version_eq other zero_version ≡ false → version_eq v zero_version ≡ false
+    same_later v other same later = grind (arith, nat_tests)
+
     continued : (text : Option ReceivedText) → IsLaterText (text_continued k version total at bytes text)
     continued None = tt
     continued (Some text) =
@@ -219,9 +221,7 @@ text_later may_begin k version total at bytes before later =
         same_later text.version version (and_both (text.server == k) (version_eq text.version version) second.0).1 later)
         (λ _. tt)
 
-    same_later : (v other : Version) → version_eq v other ≡ true → version_eq other zero_version ≡ false → version_eq v zero_version ≡ false
-    same_later v other same later = grind (arith, nat_tests)
-
+-- a whole text is no longer than the longest image
 pub whole_fits : (text : ReceivedText) → IsTextOf text → length text.bytes ≤ MAX_IMAGE
 whole_fits text is = let total : text.total ≤ MAX_IMAGE = is.total in let front : length text.bytes ≤ text.total = is.front in omega arith
 
