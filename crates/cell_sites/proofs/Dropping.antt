@@ -33,7 +33,7 @@ packets_told g db running c packets handed run text does sent same stands =
       choices = sound_choices;
       whole = refl;
       ran = resting (record c { handed = handed });
-      is = does [];
+      is = does sound_choices;
       ends = refl;
       cell = record {
         hosts = stands.hosts;
