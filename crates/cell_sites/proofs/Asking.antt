@@ -1,5 +1,5 @@
 -- Calls at a server: those that are not built yet are refused, and the others are taken.
-use Rattle.std.proofs.Common.{if◌then◌else◌, not, ◌≡◌, ◌×◌, ◌⊎◌, inl, inr, ◌&&◌, ◌<◌, ◌≤◌, ◌+◌, ◌-◌, ℕ, Bool, true, false, Option, Some, Ok, Err, List, length, refl, sym, ap}
+use Rattle.std.proofs.Common.{if◌then◌else◌, not, ◌≡◌, ◌⊎◌, inl, inr, ◌&&◌, ◌<◌, ◌≤◌, ◌+◌, ◌-◌, ℕ, Bool, true, false, Option, Some, Ok, Err, List, length, refl, sym, ap}
 use Rattle.std.proofs.Common.{◌∙◌, arith}
 use Rattle.std.proofs.lemmas.Bool.{false≢true}
 use Rattle.std.proofs.lemmas.Bool.Decides.{nat_tests}

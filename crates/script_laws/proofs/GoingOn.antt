@@ -58,9 +58,9 @@ module _ (calls : Type 0) (script_db : ScriptDatabase) (asks later : ℕ) (c : C
       })
 
 -- of a part that is run
-part_of : {P : Cell_run → Type 0} (r : Run_or_why) (ran : Cell_run) → r ≡ Ok ran → IfOk r P → P ran
-part_of {P = P} (Ok x) ran is holds = let same : x ≡ ran = cc in subst P same holds
-part_of (Err why) ran is holds = cc
+part_of : (P : Cell_run → Type 0) (r : Run_or_why) (ran : Cell_run) → r ≡ Ok ran → IfOk r P → P ran
+part_of P (Ok x) ran is holds = let same : x ≡ ran = cc in subst P same holds
+part_of P (Err why) ran is holds = cc
 
 opened_run : PacketsHavePlaces → (db : Database) (asks servers clock : ℕ) (k : Kind) (failed : List Bool) → 1 ≤ servers → servers ≤ MAXSERVERS
     → IsMoment clock → length failed ≡ servers → IsWorldRun db asks (opened_cell servers clock k failed)
@@ -78,8 +78,9 @@ pub cells_go_on : PacketsHavePlaces → CellsGoOn
 cells_go_on law = record {
   opened = opened_run law;
   line = λ script_db asks c choices l r on is ran.
-      goes_on ⊥ script_db asks asks c r is (part_of _ r ran (line_part ⊥ law script_db asks c is.fits is.handed choices l on));
+      goes_on ⊥ script_db asks asks c r is (part_of (IsPart ⊥ script_db asks c.opening c.events c.run) _ r ran
+      (line_part ⊥ law script_db asks c is.fits is.handed choices l on));
   ask = λ script_db asks id c choice call server r new is ran.
       goes_on ⊥ script_db asks id c r is
-      (part_of _ r ran (at_part ⊥ law script_db asks c is.fits is.handed id id new (omega arith) choice call (λ never. absurd never) server));
+      (part_of (IsPart ⊥ script_db id c.opening c.events c.run) _ r ran (at_part ⊥ law script_db asks c is.fits is.handed id id new (omega arith) choice call (λ never. absurd never) server));
 }
