@@ -61,11 +61,7 @@ fn call_of(alloc: Global, asked: Asked, entry: u32) -> Result<Bytes, NoMemory>
 }
 
 /// Makes so many calls one after the other over a draft, and says how many of them took place.
-fn called_often<I: ImageRead>(
-    alloc: Global,
-    d: &mut Draft<I>,
-    plan: Plan,
-) -> Result<u32, NoMemory>
+fn called_often<I: ImageRead>(alloc: Global, d: &mut Draft<I>, plan: Plan) -> Result<u32, NoMemory>
     ensures { IfOk result (λ done. done ≤ plan.times) }
 {
     let call = call_of(alloc, plan.asked, plan.entry)?;

@@ -5,5 +5,6 @@
 mod laws;
 
 pub use laws::{
-    law_location_is_lawful, law_protection_is_lawful, law_scripts_keep_promises, law_words_are_calls,
+    law_location_is_lawful, law_protection_is_lawful, law_scripts_keep_promises,
+    law_words_are_calls,
 };
