@@ -75,8 +75,16 @@ pub told_before : {D V : Type 0} {given : List ℕ} (g : Ghosts D) (script_db : 
     → Run_or_why) (ended : Option Ending) (tb ta : List ℕ) → CellTold g script_db given run ended (with_packets running p) after tb ta
     → CellTold g script_db given run ended running after tb ta
 told_before g script_db running after p run ended tb ta told =
-    record { choices = told.choices; whole = told.whole; ran = told.ran; is = told.is; ends = told.ends; cell = told.cell; told = told.told; causes =
-    told.causes }
+    record {
+      choices = told.choices;
+      whole = told.whole;
+      ran = told.ran;
+      is = told.is;
+      ends = told.ends;
+      cell = told.cell;
+      told = told.told;
+      causes = told.causes;
+    }
 
 pub short_before : {D V : Type 0} {database : Database} {given : List ℕ} (g : Ghosts D) (running after : OpenCell D V) (p : Traffic) (run : Choices
     → Run_or_why) (c : Cell) (handed : List Bool) → IsShort g database given run (with_handed c handed) (with_packets running p) after

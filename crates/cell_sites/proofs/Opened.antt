@@ -319,17 +319,17 @@ all_opened {D} {V} g db clock k given running before after law moment room same 
     let few = room.few in
     let near : are_near (clocks_of ss) ≡ true = near_make (clocks_of ss) (near_same (clocks_of ss) clock (first_clock (length hosts) clock failed)) in
     let opened_so : IsModelledBy g db.database (counts_of g given) running (opened_cell n clock k failed) = record {
-        hosts = ap hosts_of same ∙ sym room.hosts;
-        sites = subst (λ (m : ℕ). AreSitesOf items (map (first_site m clock) failed)) (sym size) p.sites;
-        sent = ap (λ (t : Traffic). t.sent) (sym p.packets);
-        handed = ap (λ (t : Traffic). t.handed) (sym p.packets);
-        armed = subst (λ (m : ℕ). AreArmed g items (replicate m None)) (count ∙ sym same) (all_unarmed g items p.unarmed);
-        disks = record {
-          world = refl;
-          read = subst (λ (m : ℕ). AreReadBy (map (first_site m clock) failed) (helds g running)) (sym size) p.read;
-          counts = first_counts db.database (opened_cell n clock k failed) 0 failed (counts_of g given) (helds g running) refl p.counts;
-        };
-      } in
+      hosts = ap hosts_of same ∙ sym room.hosts;
+      sites = subst (λ (m : ℕ). AreSitesOf items (map (first_site m clock) failed)) (sym size) p.sites;
+      sent = ap (λ (t : Traffic). t.sent) (sym p.packets);
+      handed = ap (λ (t : Traffic). t.handed) (sym p.packets);
+      armed = subst (λ (m : ℕ). AreArmed g items (replicate m None)) (count ∙ sym same) (all_unarmed g items p.unarmed);
+      disks = record {
+        world = refl;
+        read = subst (λ (m : ℕ). AreReadBy (map (first_site m clock) failed) (helds g running)) (sym size) p.read;
+        counts = first_counts db.database (opened_cell n clock k failed) 0 failed (counts_of g given) (helds g running) refl p.counts;
+      };
+    } in
     record {
       choices = choices;
       stands = subst (λ (f : List Bool). IsModelledBy g db.database (counts_of g given) running (opened_cell n clock k f)) (sym is) opened_so;

@@ -245,11 +245,8 @@ module _ (m : Member) (now : ℕ) (e : NodeEvent) (inside : m.me < cell_size m) 
   fetch_goes s poll best from (Some text) is known version there good =
       cond_both (is_whole text) _ _ (Goes 2 m e s)
       (λ _. follows m e 1 1 s (fetch_installed s best text.bytes) (λ after. relabelled m after poll now)
-      (cond_both (version_lt s.version best) _ _ (Goes 1 m e s) (λ better. installed_goes s best text (record {
-        version = version;
-        later = above_first
-            s.version best better;
-      }) is good) (λ _. rests m e 1 s good))
+      (cond_both (version_lt s.version best) _ _ (Goes 1 m e s)
+      (λ better. installed_goes s best text (record { version = version; later = above_first s.version best better }) is good) (λ _. rests m e 1 s good))
       (λ after. relabelled_goes (fetch_installed s best text.bytes).server poll known after))
       (λ _. turns m e 2 s (record s { received = Some text }) _ refl (received_is (cell_size m) s text is good)
       (one_fine m e inside (host_at m.hosts from) (body.GetPiece poll.number best (length text.bytes)) (host_placed m.hosts from there)

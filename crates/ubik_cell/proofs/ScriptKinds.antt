@@ -1,10 +1,6 @@
 -- A run over the database of its cell: what holds of it over whichever.
-use Rattle.std.proofs.Common.{drop, ◌++◌, ◌≡◌, ◌≢◌, ◌+◌, ◌<◌, ◌≤◌, ℕ, Bool, true, false, cond, nat_lt, List, length, Option, Some, None, IfSome, Result, Ok, Err, inl, refl, sym, ap, subst, ◌∙◌, arith}
+use Rattle.std.proofs.Common.{◌≡◌, ◌≢◌, ◌+◌, ◌<◌, ◌≤◌, ℕ, Bool, true, false, cond, nat_lt, List, length, Option, Some, None, IfSome, Result, Ok, Err, inl, refl, sym, ap, subst, arith}
 use Rattle.std.proofs.lemmas.Bool.Decides.{nat_tests}
-use Rattle.std.specs.Prelude.{All}
-use Rattle.disk_base.specs.Crash.{IsSettled}
-use Rattle.disk_base.specs.Files.{no_files}
-use Rattle.disk_base.specs.Stops.DiskStop.{Unarmed}
 use Rattle.disk_base.specs.declared.disks.Disk.{Ghosts}
 use Rattle.ubik_types.specs.declared.limits.TheConstants.{MAXSERVERS}
 use Rattle.cell_script.specs.Meaning.{line_of}
@@ -17,13 +13,11 @@ use Rattle.cell_script.specs.declared.readers.TheConstants.{MAX_LINE}
 use Rattle.cell_runs.specs.declared.limits.TheConstants.{MAX_LINES}
 use Rattle.cell_runs.specs.Script.{Cell, Told, servers_of}
 use Rattle.cell_runs.specs.ScriptDatabase.{Databases}
-use Rattle.cell_sites.specs.Disks.{all_held}
-use Rattle.cell_sites.specs.Opened.{counts_of}
 use Rattle.cell_sites.specs.declared.cells.OpenCell.{OpenCell}
 use Rattle.pt_calls.specs.declared.pt_service.PtService.{PtService}
 use Rattle.vl_database.specs.declared.service.VlService.{VlService}
 use Rattle.script_promises.specs.Databases.{databases, standings}
-use Rattle.ubik_cell.specs.Lines.{AreHeld, CellIsSound, CellStandsFor, HasCauses, IsSoundRun, Leaves, LineTold, ShortLine, ToldLine, bounds_after, cell_helds, only, run_helds, sites_in}
+use Rattle.ubik_cell.specs.Lines.{AreHeld, CellStandsFor, IsSoundRun, Leaves, LineTold, ShortLine, ToldLine, only, run_helds, sites_in}
 use Rattle.ubik_cell.specs.ScriptRuns.{HasNoCell, IsAtKind, IsOfKind, IsSoundScript, OpensItsKind, ScriptLeaves, ScriptTold, StandsAt, kind_in, kind_opened, script_helds, script_kind_opened, script_lines, script_sites, script_spare}
 use Rattle.ubik_cell.specs.declared.runs.ScriptRun.{ScriptRun}
 use Rattle.ubik_cell.specs.declared.runs.ScriptRun.TheVariants as over
@@ -57,62 +51,6 @@ module _ {D V : Type 0} (g : Ghosts D) (k : Kind) (given : List ℕ) where
   opens_kind dbs None (Some c) bytes stands opens = absurd stands
   opens_kind dbs (Some running) None bytes stands opens = absurd stands
   opens_kind dbs (Some running) (Some c) bytes stands opens = tt
-
-  -- a run without a cell stands there over any database
-  moved : {W : Type 0} (other : Kind) (cell : Option Cell) → CellStandsFor {V = V} g (only (databases k)) given None cell
-      → CellStandsFor {V = W} g (only (databases other)) given None cell × IsOfKind other cell
-  moved other None stands = (tt, tt)
-  moved other (Some c) stands = absurd stands
-
--- ---- a run without a cell, handed over to another database
-
--- one run has what another has, and neither has a cell
-pub record IsHandedOver {D V W : Type 0} (run : CellRun D V) (next : CellRun D W) : Type 0 where
-  pub none : run.cell ≡ None
-  pub next_none : next.cell ≡ None
-  pub lines : next.lines ≡ run.lines
-  pub asks : next.asks ≡ run.asks
-  pub spare : next.spare.items ≡ run.spare.items
-
-module _ {D V W : Type 0} (g : Ghosts D) (k other : Kind) (run : CellRun D V) (next : CellRun D W) (handed : IsHandedOver run next) where
-  same_sites : sites_in next.cell ≡ sites_in run.cell
-  same_sites =
-      ap (λ (c : Option (OpenCell D W)). sites_in c) handed.next_none ∙ sym (ap (λ (c : Option (OpenCell D V)). sites_in c) handed.none)
-
-  pub handed_at : (given : List ℕ) (t : Told) → IsAtKind g k given run t → IsAtKind g other given next t
-  handed_at given t at =
-      let there = moved g k given {W = W} other t.stage.cell
-      (subst (λ (c : Option (OpenCell D V)). CellStandsFor g (only (databases k)) given c t.stage.cell) handed.none at.at.stage.cell) in
-      let none : HasCauses {V = W} g None t.items = subst (λ (c : Option (OpenCell D V)). HasCauses g c t.items) handed.none at.at.causes in
-      record {
-        at = record {
-          stage = record {
-            lines = at.at.stage.lines ∙ ap (λ (n : ℕ). n + 0) (sym handed.lines);
-            asks = at.at.stage.asks ∙ sym handed.asks;
-            cell = subst (λ (c : Option (OpenCell D W)). CellStandsFor g (only (databases other)) given c t.stage.cell) (sym handed.next_none) there.0;
-            spare = ap (counts_of g) handed.spare ∙ at.at.stage.spare ∙ ap (λ (n : ℕ). drop n given) (sym same_sites);
-          };
-          causes = subst (λ (c : Option (OpenCell D W)). HasCauses g c t.items) (sym handed.next_none) none;
-        };
-        kind = there.1;
-      }
-
-  pub handed_sound : IsSoundRun g (standings k) run → IsSoundRun g (standings other) next
-  handed_sound sound = record {
-    cell = subst (λ (c : Option (OpenCell D W)). CellIsSound g (standings other) (bounds_after next.lines next.asks) c) (sym handed.next_none) tt;
-    spare = subst (All (λ (disk : D). g.files disk ≡ Some no_files)) (sym handed.spare) sound.spare;
-    settled = subst (All (λ (disk : D). IsSettled (g.files disk) (g.may_leave disk))) (sym handed.spare) sound.settled;
-    unarmed = subst (All (λ (disk : D). g.stop disk ≡ Unarmed)) (sym handed.spare) sound.unarmed;
-    disks = omega (arith, sound.disks, same_sites, ap (λ (l : List D). length l) handed.spare);
-    asks = omega (arith, sound.asks, handed.asks, handed.lines);
-    few = omega (arith, sound.few, handed.lines);
-  }
-
-  pub handed_helds : run_helds g next ≡ run_helds g run
-  handed_helds =
-      ap (λ (c : Option (OpenCell D W)). cell_helds g c ++ all_held g next.spare.items) handed.next_none
-      ∙ ap (all_held g) handed.spare
-      ∙ sym (ap (λ (c : Option (OpenCell D V)). cell_helds g c ++ all_held g run.spare.items) handed.none)
 
 -- ---- the same of a run over whichever
 
@@ -227,10 +165,6 @@ none_stands : {D V : Type 0} (cell : Option (OpenCell D V)) (line : List ℕ) (k
 none_stands None line k is = refl
 none_stands (Some running) line k is = absurd (cc)
 
-own_kind : (o : Option Kind) (k : Kind) → o ≡ Some k → IfSome o (λ x. x ≡ k)
-own_kind None k is = tt
-own_kind (Some other) k is = let same : other ≡ k = cc in same
-
 module _ {D : Type 0} where
   pub script_none_stands : (run : ScriptRun D) (line : List ℕ) (k : Kind) → script_kind_opened run line ≡ Some k → HasNoCell run
   script_none_stands (over.Protection run) line k is = none_stands run.cell line k is
@@ -244,17 +178,3 @@ module _ {D : Type 0} where
   pub opens_none : (run : ScriptRun D) (line : List ℕ) → script_kind_opened run line ≡ None → OpensItsKind line run
   opens_none (over.Protection run) line none = subst (λ (o : Option Kind). IfSome o (λ x. x ≡ Protection)) (sym none) tt
   opens_none (over.Location run) line none = subst (λ (o : Option Kind). IfSome o (λ x. x ≡ Location)) (sym none) tt
-
-  pub protection_opens : (run : CellRun D PtService) (line : List ℕ) → kind_opened run.cell line ≡ Some Protection → OpensItsKind line (over.Protection run)
-  protection_opens run line is = own_kind (kind_opened run.cell line) Protection is
-
-  pub location_opens : (run : CellRun D VlService) (line : List ℕ) → kind_opened run.cell line ≡ Some Location → OpensItsKind line (over.Location run)
-  location_opens run line is = own_kind (kind_opened run.cell line) Location is
-
--- a run handed over opens its kind where the one before opened it
-module _ {D V W : Type 0} (k : Kind) (run : CellRun D V) (next : CellRun D W) (handed : IsHandedOver run next) where
-  pub handed_opens : (line : List ℕ) → kind_opened run.cell line ≡ Some k → IfSome (kind_opened next.cell line) (λ x. x ≡ k)
-  handed_opens line is =
-      own_kind (kind_opened next.cell line) k
-      (ap (λ (c : Option (OpenCell D W)). kind_opened c line) handed.next_none
-      ∙ sym (ap (λ (c : Option (OpenCell D V)). kind_opened c line) handed.none) ∙ is)

@@ -23,7 +23,11 @@ fn volumes_are_entered_and_locked(rt: HostRuntime) -> Result<(), Fail> {
 #[test]
 fn a_cell_has_the_calls_of_its_database(rt: HostRuntime) -> Result<(), Fail> {
     for (script, line, why) in [
-        (b"cell 1 1000 vl\nask 1 newentry smith 0 0\n".as_slice(), 2, Why::Syntax),
+        (
+            b"cell 1 1000 vl\nask 1 newentry smith 0 0\n".as_slice(),
+            2,
+            Why::Syntax,
+        ),
         (b"cell 1 1000 pt\nask 1 getaddrs\n", 2, Why::Syntax),
         (b"cell 1 1000 vl\ncell 1 1000 pt\n", 2, Why::Cell),
         (b"cell 1 1000 pt\ncell 1 1000 vl\n", 2, Why::Cell),

@@ -13,9 +13,6 @@ use Rattle.cell_sites.proofs.Lining.{short_as, size_of, told_as}
 use Rattle.cell_sites.proofs.Reading.{nothing_done}
 use Rattle.cell_sites.proofs.cells.OpenCell.ask.Goals as goal
 
--- The names of what the call of is_later_write leaves (`c.is_later_write`, `c.if-is_later_write`, `c.as_slice-bytes`) are guessed: no check has
--- seen them.
-
 pub returns-in_err-k-clause-refused : goal.returns-in_err-k-clause-refused
 returns-in_err-k-clause-refused g c = λ reason is.
     let db = script_database g.V.DraftService.standing.database g.V.DraftWords.words in

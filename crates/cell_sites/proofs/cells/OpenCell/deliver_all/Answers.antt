@@ -7,6 +7,7 @@ use Rattle.cell_runs.specs.ScriptDatabase.{script_database}
 use Rattle.cell_runs.specs.Script.{first_waiting}
 use Rattle.cell_sites.specs.declared.faults.LineFault.TheVariants as fault
 use Rattle.cell_sites.specs.Sites.{helds}
+use Rattle.cell_sites.specs.Sound.{IsSound}
 use Rattle.cell_sites.specs.Traffic.{Traffic}
 use Rattle.cell_sites.proofs.Delivering.{with_packets}
 use Rattle.cell_sites.proofs.Following.{Follows, all_followed, follows_more, follows_none, fuel_followed, is_waiting, limit_there, rises_both, short_there}
@@ -35,6 +36,11 @@ returns-in_default-clause-told g c = λ ok given cell stands.
     (subst (λ (p : Traffic). Follows g.D.Disk db MAX_PACKETS (MAX_PACKETS - c.loop.counter) c.args.self.now
     (with_packets c.loop.self p) (string_bytes c.args.text.now) (string_bytes c.loop.text)) (sym c.first_waiting.ensures.same) c.loop.invariant)
     refl (ap (λ (p : Traffic). first_waiting 1 p.handed) c.first_waiting.ensures.same ∙ sym c.in_default.ensures.first) given cell stands
+
+pub returns-in_default-clause-sound : goal.returns-in_default-clause-sound
+returns-in_default-clause-sound g c = λ is bounds still.
+    subst (λ (p : Traffic). IsSound g.D.Disk g.V.DraftService.standing.database bounds (with_packets c.loop.self p)) (sym c.first_waiting.ensures.same)
+    (c.loop.invariant.sound bounds still)
 
 pub returns-in_err-deliver_sent-clause-limit : goal.returns-in_err-deliver_sent-clause-limit
 returns-in_err-deliver_sent-clause-limit g c = λ which is given cell stands.

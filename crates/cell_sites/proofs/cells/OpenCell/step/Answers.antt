@@ -17,9 +17,9 @@ tell_step-requires g c =
     let before = c.args.self.now in
     let at = here g.D.Disk c.requires.sound.0.clock before c.args.k c.requires.up.clock c.requires.up.node c.requires.sound.1.steady c.requires.up.there in
     record {
-      place = let few = c.requires.sound.1.steady.few in let count = host_count g.D.Disk c.requires.sound.0.clock before c.requires.sound.1.steady in let me
-      = at.me in omega
-          (arith, me, few, count);
+      place = let few = c.requires.sound.1.steady.few in
+          let count = host_count g.D.Disk c.requires.sound.0.clock before c.requires.sound.1.steady in
+          let me = at.me in omega (arith, me, few, count);
       short = all_may_tell c.law_recovery_spreads.ensures c.step_site.new.self.outputs before.hosts.items
           (votes g.D.Disk (script_database g.V.DraftService.standing.database g.V.DraftWords.words) c.args.self.now c.step_site.new.self c.step_site.new.self
           (laws_of c.law_recovery_spreads.ensures c.law_memory_is_told.ensures) c.args.k c.args.event c.step_site.result c.args.call.now
@@ -74,9 +74,9 @@ tell_step-requires-in-Halts g c =
     let before = c.args.self.now in
     let at = here g.D.Disk c.requires.sound.0.clock before c.args.k c.requires.up.clock c.requires.up.node c.requires.sound.1.steady c.requires.up.there in
     record {
-      place = let few = c.requires.sound.1.steady.few in let count = host_count g.D.Disk c.requires.sound.0.clock before c.requires.sound.1.steady in let me
-      = at.me in omega
-          (arith, me, few, count);
+      place = let few = c.requires.sound.1.steady.few in
+          let count = host_count g.D.Disk c.requires.sound.0.clock before c.requires.sound.1.steady in
+          let me = at.me in omega (arith, me, few, count);
       short = all_may_tell c.law_recovery_spreads.ensures c.step_site.new.self.outputs before.hosts.items
           (votes g.D.Disk (script_database g.V.DraftService.standing.database g.V.DraftWords.words) c.args.self.now c.step_site.new.self c.step_site.new.self
           (laws_of c.law_recovery_spreads.ensures c.law_memory_is_told.ensures) c.args.k c.args.event c.step_site.result c.args.call.now

@@ -6,7 +6,7 @@ use Rattle.ubik_cell.proofs.runs.ScriptRun.own_line.Goals as goal
 
 pub returns-in-Protection-clause-told : goal.returns-in-Protection-clause-told
 returns-in-Protection-clause-told g c = λ goes given t at good.
-    let run = c.in-Protection.run in
+    let run = c.in-Protection.run' in
     let line = c.args.line.now in
     let here = subst (λ r. StandsAt g.D.Disk given r t) c.in-Protection.is at in
     let opens = subst (OpensItsKind line) c.in-Protection.is c.requires.opens in
@@ -15,7 +15,7 @@ returns-in-Protection-clause-told g c = λ goes given t at good.
 
 pub returns-in-Protection-clause-short : goal.returns-in-Protection-clause-short
 returns-in-Protection-clause-short g c = λ short given t at good.
-    let run = c.in-Protection.run in
+    let run = c.in-Protection.run' in
     let line = c.args.line.now in
     let here = subst (λ r. StandsAt g.D.Disk given r t) c.in-Protection.is at in
     let opens = subst (OpensItsKind line) c.in-Protection.is c.requires.opens in
@@ -23,7 +23,7 @@ returns-in-Protection-clause-short g c = λ short given t at good.
 
 pub returns-in-Location-clause-told : goal.returns-in-Location-clause-told
 returns-in-Location-clause-told g c = λ goes given t at good.
-    let run = c.in-Location.run in
+    let run = c.in-Location.run' in
     let line = c.args.line.now in
     let here = subst (λ r. StandsAt g.D.Disk given r t) c.in-Location.is at in
     let opens = subst (OpensItsKind line) c.in-Location.is c.requires.opens in
@@ -32,7 +32,7 @@ returns-in-Location-clause-told g c = λ goes given t at good.
 
 pub returns-in-Location-clause-short : goal.returns-in-Location-clause-short
 returns-in-Location-clause-short g c = λ short given t at good.
-    let run = c.in-Location.run in
+    let run = c.in-Location.run' in
     let line = c.args.line.now in
     let here = subst (λ r. StandsAt g.D.Disk given r t) c.in-Location.is at in
     let opens = subst (OpensItsKind line) c.in-Location.is c.requires.opens in
