@@ -1,6 +1,6 @@
 -- Calls at a server: those that are not built yet are refused, and the others are taken.
-use Rattle.std.proofs.Common.{if◌then◌else◌, not, ◌≡◌, ◌⊎◌, inl, inr, ◌&&◌, ◌<◌, ◌≤◌, ◌+◌, ◌-◌, ℕ, Bool, true, false, Option, Some, Ok, Err, List, length, refl, sym, ap}
-use Rattle.std.proofs.Common.{◌∙◌, arith}
+use Rattle.std.proofs.Common.{if◌then◌else◌, not, ◌≡◌, ◌⊎◌, inl, inr, ◌&&◌, ◌<◌, ◌≤◌, ◌+◌, ◌-◌, ℕ, Bool, true, false, Option, Some, Ok, Err, List, length}
+use Rattle.std.proofs.Common.{refl, sym, ap, ◌∙◌, arith}
 use Rattle.std.proofs.lemmas.Bool.{false≢true}
 use Rattle.std.proofs.lemmas.Bool.Decides.{nat_tests}
 use Rattle.std.proofs.lemmas.Option.{slice_get_past}
@@ -13,7 +13,8 @@ use Rattle.cell_model.specs.Step.{Member, cell_size, is_ready}
 use Rattle.cell_model.specs.World.{Asking, Site as ModelSite, is_down, site_of}
 use Rattle.cell_script.specs.declared.lines.Why.{Why}
 use Rattle.cell_script.specs.declared.lines.Why.TheVariants as why
-use Rattle.cell_runs.specs.Script.{Cell, Cell_run, Choice, asked_at, at_up, cell_size_of, does_write, is_down_at, is_later_write, node_in, serves_calls, stepped}
+use Rattle.cell_runs.specs.Script.{Cell, Cell_run, Choice, asked_at, at_up, cell_size_of, does_write, is_down_at, is_later_write, node_in}
+use Rattle.cell_runs.specs.Script.{serves_calls, stepped}
 use Rattle.cell_runs.specs.ScriptDatabase.{ScriptDatabase}
 use Rattle.ubik_node.specs.declared.nodes.Node.{Node}
 use Rattle.ubik_node.specs.Node.{node_of, up_server}
