@@ -1,5 +1,5 @@
 -- The image of a list of transactions stands for the state of the list, so the single copy replies what calls mean there.
-use Rattle.std.proofs.Common.{◌≡◌, ◌≢◌, ◌≤◌, ℕ, length, List, [], ◌∷◌, ◌++◌, inl, inr, refl, sym, subst, ◌∙◌, arith}
+use Rattle.std.proofs.Common.{◌≡◌, ◌≢◌, ◌≤◌, ℕ, length, List, [], ◌∷◌, ◌++◌, inl, inr, refl, sym, subst, ◌∙◌}
 use Rattle.db_image.specs.Database.{Database}
 use Rattle.db_image.specs.declared.services.CallReply.TheVariants.{BadRecord}
 use Rattle.db_image.specs.Meaning.{Meaning, state_from}

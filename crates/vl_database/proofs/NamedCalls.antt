@@ -17,7 +17,7 @@ use Rattle.vl_calls.specs.declared.calls.VlCall.{VlCall}
 use Rattle.vl_calls.specs.declared.shapes.Shape.{Shape}
 use Rattle.vl_calls.specs.declared.shapes.Shape.TheVariants as shapes
 use Rattle.vl_calls.specs.Calls as calls
-use Rattle.vl_calls.specs.Calls.{call_from, shapes_of, spelling, IsCall}
+use Rattle.vl_calls.specs.Calls.{call_from, shapes_of, spelling}
 use Rattle.vl_calls.specs.Entries.{site_at, SiteHasItsBits, Part, Name, Number, Sites, part_value, part_at, PartHasItsBits, given_parts, given_from, given_at, GivenHasItsBits}
 use Rattle.vl_calls.specs.Reading.{call_at, call_of}
 use Rattle.vl_calls.specs.Shapes.{value, shape_at, IsOfItsBits}

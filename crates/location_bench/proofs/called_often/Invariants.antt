@@ -1,5 +1,5 @@
 use Rattle.std.proofs.Common.{◌≤◌}
 use Rattle.location_bench.proofs.called_often.Given as goal
 
-abbrev pub invariant-loop-_turn : goal.invariant-loop-_turn
-invariant-loop-_turn g l = l.done ≤ l._turn
+abbrev pub invariant-loop-turn : goal.invariant-loop-turn
+invariant-loop-turn g l = l.done ≤ l._turn
