@@ -1,16 +1,20 @@
-//! Asks a server that is alone in its cell calls of the protection database, over a disk in memory, for `bench/node_writes`. Standard
-//! input gives the database file: a label, and an image. Its words are `newentry` or `nametoid`, and how many calls are asked. Without
-//! words it does nothing, and reads nothing.
+//! Asks a server that is alone in its cell calls of the protection database, over a disk in memory, for `bench/node_writes`; or has
+//! one of two servers send its database to the other one, for `bench/transfer`. Standard input gives the database file: a label, and an
+//! image. Its words are `newentry` or `nametoid`, and how many calls are asked; or `open` or `send`: the servers are opened, or opened and
+//! one sends. Without words it does nothing, and reads nothing.
 #![tactic(auto)]
 
 ghost use Rattle.std.specs.Prelude.{◌≡◌, ◌≤◌, IfOk, IfSome, IsTrue, Some, length};
 ghost use Rattle.disk_base.specs.Crash.{IsSettled};
 ghost use Rattle.disk_base.specs.Files.{no_files};
+ghost use Rattle.ubik_node.specs.Built.{IsBuilt};
 ghost use Rattle.cell_model.specs.Step.{cell_size};
-ghost use Rattle.ubik_node.specs.Node.{IsStored, own_member};
+ghost use Rattle.ubik_node.specs.Node.{IsStored, node_of, own_member};
 ghost use Rattle.page_file.specs.declared.label.TheConstants.{MAX_DATABASE_LEN};
 ghost use Rattle.node_bench.specs.Answers.{is_answer, answers};
-ghost use Rattle.node_bench.specs.Events.{IsOwn};
+ghost use Rattle.pt_calls.specs.Standing.{pt_standing};
+
+mod transfers;
 
 use bench_calls::{Asked, Idle, Task, call_of, task_of};
 use disk_base::{DiskEnd, FileNo, MemDisk, RoomEnd, StopDisk};
@@ -18,8 +22,10 @@ use page_file::MAX_DATABASE_LEN;
 use pt_calls::PtService;
 use std::alloc::Global;
 use std::env;
+use std::env::Args;
 use std::io::Read;
 use std::process::ExitCode;
+use transfers::goes_over;
 use ubik_node::{Node, NodeEvent, Output, Outputs, Reply, SteadyDisk, StepEnd};
 use ubik_types::{Cell, Host, NoMemory};
 
@@ -63,14 +69,13 @@ fn filled<D: StopDisk + Drop>(disk: D, file: &[u8]) -> Option<D>
     Some(disk)
 }
 
-/// One step of a server that is alone at the moment of all steps, and what it put out; none where it was not made.
+/// One step of a server at the moment of all steps, and what it put out; none where it was not made.
 fn step<D: SteadyDisk>(
     alloc: Global,
     node: &mut Server<D>,
     event: NodeEvent,
 ) -> Result<Option<Outputs>, NoMemory>
-    requires own { IsOwn event }
-    requires alone { cell_size (own_member node.old) ≡ 1 }
+    requires built { IsBuilt pt_standing.database (own_member node.old) (node_of node.old) event }
     requires stored { IsStored D.Disk node.old }
     ensures member { own_member node.new ≡ own_member node.old }
     ensures stored { IsStored D.Disk node.new }
@@ -169,23 +174,63 @@ fn is_done(alloc: Global, file: &[u8], task: Task) -> Result<bool, NoMemory>
     Ok(asked_often(alloc, &mut node, task.asked, task.times)? == task.times)
 }
 
+/// What the words of the program ask of it.
+#[derive(Clone, Copy)]
+enum Work {
+    /// Calls of a server that is alone.
+    Calls(Task),
+    /// Two servers are opened, and the first one sends its database to the second, or does not.
+    Pair { sends: bool },
+}
+
+/// What the words of the program ask, of which the first behind its name is given.
+fn work_of(kind: &str, words: Args) -> Result<Work, Idle> {
+    match kind {
+        "open" => Ok(Work::Pair { sends: false }),
+        "send" => Ok(Work::Pair { sends: true }),
+        _ => task_of(words).map(Work::Calls),
+    }
+}
+
+/// Does the work over this database file; whether it came to its end.
+fn is_worked(alloc: Global, file: &[u8], work: Work) -> Result<bool, NoMemory>
+    requires { length file.now ≤ MAX_DATABASE_LEN }
+{
+    match work {
+        Work::Calls(task) => is_done(alloc, file, task),
+        Work::Pair { sends } => {
+            let Some(full) = filled(MemDisk::new(alloc, &[])?, file) else {
+                return Ok(false);
+            };
+            goes_over(alloc, full, MemDisk::new(alloc, &[])?, sends)
+        }
+    }
+}
+
+/// What standard input gives, if that can be a database file.
+fn database_file(rt: &HostRuntime) -> Option<Vec<u8>>
+    ensures { IfSome result (λ file. length file.items ≤ MAX_DATABASE_LEN) }
+{
+    // Memory for it at once: what a growing list gave back would hide a copy from whoever measures.
+    let mut file = Vec::with_capacity(rt.alloc(), MAX_DATABASE_LEN as usize).ok()?;
+    rt.reader().read_to_end(&mut file).ok()?;
+    (file.len() as u64 <= MAX_DATABASE_LEN).then_some(file)
+}
+
 fn main(rt: HostRuntime) -> ExitCode {
-    let Ok(words) = env::args(&rt) else {
+    let (Ok(mut kinds), Ok(words)) = (env::args(&rt), env::args(&rt)) else {
         return ExitCode::from(WORDS);
     };
-    let task = match task_of(words) {
-        Ok(task) => task,
-        Err(Idle::NoWords) => return ExitCode::SUCCESS,
-        Err(Idle::FaultyWords) => return ExitCode::from(WORDS),
+    let Some(kind) = kinds.nth(1) else {
+        return ExitCode::SUCCESS;
     };
-    // Memory for it at once: what a growing list gave back would hide a copy from whoever measures.
-    let Ok(mut file) = Vec::with_capacity(rt.alloc(), MAX_DATABASE_LEN as usize) else {
+    let Ok(work) = work_of(kind.as_str(), words) else {
+        return ExitCode::from(WORDS);
+    };
+    let Some(file) = database_file(&rt) else {
         return ExitCode::from(FAILED);
     };
-    if rt.reader().read_to_end(&mut file).is_err() || file.len() as u64 > MAX_DATABASE_LEN {
-        return ExitCode::from(FAILED);
-    }
-    match is_done(rt.alloc(), &file, task) {
+    match is_worked(rt.alloc(), &file, work) {
         Ok(true) => ExitCode::SUCCESS,
         _ => ExitCode::from(FAILED),
     }

@@ -143,6 +143,7 @@ fn a_call_names_the_sync_site_that_was_heard(rt: HostRuntime) -> Result<(), Fail
 
 /// Three servers elect the first, which polls them and gives its database a version that all keep.
 const RECOVERS: &str = "cell 3 1000 pt\ntickall 76\nbeacon 1\ndeliverall\nrecover 1\ndeliverall\n";
+
 const RECOVERED: &str = "packet 1 1>2 beacon 0.0\npacket 2 1>3 beacon 0.0\n\
     packet 3 2>1 yes 1076\npacket 4 3>1 yes 1076\n\
     packet 5 1>2 getversion 1076\npacket 6 1>3 getversion 1076\n\
@@ -162,7 +163,15 @@ fn three_servers_recover(rt: HostRuntime) -> Result<(), Fail> {
 #[test]
 fn a_write_in_a_larger_cell_is_not_built(rt: HostRuntime) -> Result<(), Fail> {
     let script = format!(in rt.alloc(); "{RECOVERS}ask 1 newentry smith 0 0\n")?;
-    expect_refused(&rt, rt.alloc(), script.as_bytes(), &[], 7, Why::Unbuilt, RECOVERED)
+    expect_refused(
+        &rt,
+        rt.alloc(),
+        script.as_bytes(),
+        &[],
+        7,
+        Why::Unbuilt,
+        RECOVERED,
+    )
 }
 
 /// Each beacon of the first of 20 servers sends 19 packets. The 10,527th would send the 200,001st: what it sends before that is told.
