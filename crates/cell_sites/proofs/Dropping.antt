@@ -1,5 +1,5 @@
 -- Packets of a running cell that wait no longer.
-use Rattle.std.proofs.Common.{false, ◌≡◌, ◌<◌, ◌-◌, ℕ, Bool, true, List, [], Option, Some, None, Ok, length, set, refl, sym, ap, ◌∙◌, arith}
+use Rattle.std.proofs.Common.{false, ◌≡◌, ◌<◌, ◌-◌, ℕ, Bool, true, List, Option, Some, None, Ok, length, set, refl, sym, ap, ◌∙◌, arith}
 use Rattle.std.specs.Prelude.{slice_get, unwrap_or}
 use Rattle.std.proofs.lemmas.List.{append-nil}
 use Rattle.std.proofs.lemmas.Option.{slice_get_within}
