@@ -27,7 +27,7 @@ use std::io::Read;
 use std::process::ExitCode;
 use transfers::goes_over;
 use ubik_node::{Node, NodeEvent, Output, Outputs, Reply, SteadyDisk, StepEnd};
-use ubik_types::{Cell, Host, NoMemory};
+use ubik_types::{Bytes, Cell, Host, NoMemory};
 
 /// A call was refused, or memory ran out.
 const FAILED: u8 = 1;
@@ -137,6 +137,21 @@ fn answers(out: &mut Outputs) -> bool
     }
 }
 
+/// A call at a server that is alone, and what it put out; none where the step was not made.
+fn ask<D: SteadyDisk>(
+    alloc: Global,
+    node: &mut Server<D>,
+    id: u32,
+    call: Bytes,
+) -> Result<Option<Outputs>, NoMemory>
+    requires stored { IsStored D.Disk node.old }
+    requires alone { cell_size (own_member node.old) ≡ 1 }
+    ensures stored { IsStored D.Disk node.new }
+    ensures alone { cell_size (own_member node.new) ≡ 1 }
+{
+    step(alloc, node, NodeEvent::Ask { id, call })
+}
+
 /// Asks so many calls, one after the other, and says how many of them were answered.
 fn asked_often<D: SteadyDisk>(
     alloc: Global,
@@ -151,7 +166,7 @@ fn asked_often<D: SteadyDisk>(
     let mut done = 0;
     for id in 0..times {
         let call = call_of(alloc, asked, id)?;
-        let Some(mut out) = step(alloc, node, NodeEvent::Ask { id, call })? else {
+        let Some(mut out) = ask(alloc, node, id, call)? else {
             break;
         };
         if answers(&mut out) {

@@ -92,7 +92,28 @@ fn turn<D: SteadyDisk>(
     Ok(true)
 }
 
-/// A packet comes to its host; whether that took it.
+/// What a packet has its host put out; none where it is not taken.
+fn heard<D: SteadyDisk>(
+    alloc: Global,
+    pair: &mut Pair<D>,
+    packet: Packet,
+) -> Result<Option<Outputs>, NoMemory>
+    requires first { IsStored D.Disk pair.old.first }
+    requires second { IsStored D.Disk pair.old.second }
+    ensures first { IsStored D.Disk pair.new.first }
+    ensures second { IsStored D.Disk pair.new.second }
+{
+    if !may_come(&packet.body) {
+        return Ok(None);
+    }
+    if packet.to == Host(1) {
+        step(alloc, &mut pair.first, NodeEvent::Packet(packet))
+    } else {
+        step(alloc, &mut pair.second, NodeEvent::Packet(packet))
+    }
+}
+
+/// A packet comes to its host, and what that sends is on the way. Whether it was taken.
 fn arrives<D: SteadyDisk>(
     alloc: Global,
     pair: &mut Pair<D>,
@@ -103,15 +124,7 @@ fn arrives<D: SteadyDisk>(
     ensures first { IsStored D.Disk pair.new.first }
     ensures second { IsStored D.Disk pair.new.second }
 {
-    if !may_come(&packet.body) {
-        return Ok(false);
-    }
-    let host = if packet.to == Host(1) {
-        &mut pair.first
-    } else {
-        &mut pair.second
-    };
-    let Some(out) = step(alloc, host, NodeEvent::Packet(packet))? else {
+    let Some(out) = heard(alloc, pair, packet)? else {
         return Ok(false);
     };
     send(&mut pair.way, out)?;
@@ -125,7 +138,7 @@ fn all_come<D: SteadyDisk>(alloc: Global, pair: &mut Pair<D>) -> Result<bool, No
     ensures first { IsStored D.Disk pair.new.first }
     ensures second { IsStored D.Disk pair.new.second }
 {
-    for _ in 0..MOST_PACKETS {
+    for _turn in 0..MOST_PACKETS {
         let Some(packet) = pair.way.pop_front() else {
             return Ok(true);
         };

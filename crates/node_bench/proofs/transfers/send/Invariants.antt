@@ -2,4 +2,4 @@ use Rattle.std.proofs.Common.{length}
 use Rattle.node_bench.proofs.transfers.send.Given as goal
 
 abbrev pub decreases-loop-output : goal.decreases-loop-output
-decreases-loop-output g l = length l.out
+decreases-loop-output l = length l.out

@@ -1,5 +1,0 @@
-use Rattle.std.proofs.Common.{◌≡◌}
-use Rattle.node_bench.proofs.asked_often.Goals as goal
-
-pub step-requires-clause-built : goal.step-requires-clause-built
-step-requires-clause-built g c = λ writes serves. c.alone
