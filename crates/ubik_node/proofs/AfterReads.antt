@@ -27,9 +27,9 @@ module _ {D : Type 0} (g : Ghosts D) (old mid new : D) {F : Type 0} (reads : Onl
     moments =
         before_told (λ _. LeavesOnly g.steps g.left_since mid new (StandsWithin d calls)) (λ _. LeavesOnly g.steps g.left_since old new (StandsWithin d calls))
         (λ fs. leaves_before (StandsWithin d calls)) leaves.moments;
-    plain =
+    plain = λ taken.
         before_told (λ fs. IsPlain fs → LeavesOnly g.steps g.left_since mid new IsPlain) (λ fs. IsPlain fs → LeavesOnly g.steps g.left_since old new IsPlain)
-        (λ fs leave plain. leaves_before IsPlain (leave plain)) leaves.plain;
+        (λ fs leave plain. leaves_before IsPlain (leave plain)) (leaves.plain taken);
   }
 
   pub serves_after : (d : Durable) (calls : List Made) → Serves g d mid new calls → Serves g d old new calls

@@ -23,7 +23,7 @@ use Rattle.cell_model.specs.declared.events.Output.{Output}
 use Rattle.cell_model.specs.Node.{Server}
 use Rattle.cell_model.specs.Durable.{Made, change_count, durable, durable_after}
 use Rattle.cell_model.specs.Step.{Member, Stepped, outputs_of}
-use Rattle.ubik_node.specs.Disk.{FailsIn, Serves}
+use Rattle.ubik_node.specs.Disk.{FailsIn, Serves, TakenCutsNoPut}
 use Rattle.ubik_node.specs.Node.{Ends, Held, IsKept, durable_in}
 use Rattle.ubik_node.proofs.AfterReads.{fails_after, serves_after}
 use Rattle.ubik_node.proofs.Durables.{IsThere, fails_one, serves_one}
@@ -91,7 +91,7 @@ module _ {D : Type 0} (g : Ghosts D) where
 
   module _ {knows : Type 0} {t : Stepped} {before after : List Output} (n : Held D) (was : IsKept g n) (up : n.halted ≡ false) (s : Store D) {F : Type 0} (reads : OnlyReads g n.store.disk s.disk F) (went : ¬ F) (sound : IsSound g s)
       (stays : StaysAsItWas n.store s) (later : Store D) (sound_later : IsSound g later) (changes : List Change) (v : Version) (image : List ℕ) (made : Made) (leads : effect n.server.image changes ≡ image)
-      (same : durable_after (durable_in n.server) made.call ≡ durable v image) (cuts : CutsNoPut changes) (count : change_count made.call ≡ length changes) (calls : t.calls ≡ made ∷ []) where
+      (same : durable_after (durable_in n.server) made.call ≡ durable v image) (cuts : TakenCutsNoPut made.reason made.call → CutsNoPut changes) (count : change_count made.call ≡ length changes) (calls : t.calls ≡ made ∷ []) where
     pub call_made : {G : Type 0} (server : Server) (place : Member) → place ≡ n.member → Commits g changes v s later → IsDurable g changes v s later G → ¬ G → server.version ≡ v → length server.image ≡ later.len
         → IsThere server.image (image_in (g.files later.disk)) → (knows → (t.server ≡ server) × (after ≡ before ++ outputs_of t.shown))
         → Ends g knows t before after n (record n { store = later; server = server; member = place }) (Ok tt)

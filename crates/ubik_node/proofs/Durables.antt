@@ -25,7 +25,7 @@ use Rattle.ubik_store.specs.Rest.{IsAtRest}
 use Rattle.ubik_store.specs.Store.{IsReady, image_in}
 use Rattle.ubik_store.proofs.Telling.{told, of_told}
 use Rattle.cell_model.specs.Durable.{Durable, Made, durable, durable_after, durable_after_all, change_count}
-use Rattle.ubik_node.specs.Disk.{FailsIn, StandsAs, StandsBetween, StandsWithin, LeavesWithin, Serves, has_label, calls_made}
+use Rattle.ubik_node.specs.Disk.{FailsIn, StandsAs, StandsBetween, StandsWithin, LeavesWithin, Serves, TakenCutsNoPut, has_label, calls_made}
 
 -- the image that stands there is the one that is known
 abbrev pub IsThere : List ℕ → Option (List ℕ) → Type 0
@@ -60,7 +60,7 @@ calls_one file made changes count = let head = head_is (ltb (length file) 64) in
 
 module _ {D : Type 0} (g : Ghosts D) (old new : Store D) (d : Durable) (changes : List Change) (v : Version) (image : List ℕ) (made : Made) {F : Type 0} where
   -- one durable call of the store
-  pub leaves_one : IsThere d.image (image_in (g.files old.disk)) → old.version ≡ d.version → effect d.image changes ≡ image → durable_after d made.call ≡ durable v image → CutsNoPut changes
+  pub leaves_one : IsThere d.image (image_in (g.files old.disk)) → old.version ≡ d.version → effect d.image changes ≡ image → durable_after d made.call ≡ durable v image → (TakenCutsNoPut made.reason made.call → CutsNoPut changes)
       → IsDurable g changes v old new F → LeavesWithin g d old.disk new.disk (made ∷ [])
   leaves_one there version leads after cuts made_so = record {
     moments = told (g.files old.disk) (λ _. LeavesOnly g.steps g.left_since old.disk new.disk (StandsWithin d (made ∷ []))) (λ fs is.
@@ -70,10 +70,10 @@ module _ {D : Type 0} (g : Ghosts D) (old new : Store D) (d : Durable) (changes 
         (stands_one d (durable v image) made old.version v (image_of fs.database) (effect (image_of fs.database) changes) version here
         (ap (durable v) (ap (λ (xs : List ℕ). effect xs changes) here ∙ leads)) after)
         (of_told (g.files old.disk) fs (λ fs. LeavesOnly g.steps g.left_since old.disk new.disk (StandsForEither old.version (image_of fs.database) v (effect (image_of fs.database) changes))) is made_so.moments));
-    plain = made_so.plain cuts;
+    plain = λ taken. made_so.plain (cuts taken.0);
   }
 
-  pub serves_one : IsThere d.image (image_in (g.files old.disk)) → old.version ≡ d.version → effect d.image changes ≡ image → durable_after d made.call ≡ durable v image → CutsNoPut changes
+  pub serves_one : IsThere d.image (image_in (g.files old.disk)) → old.version ≡ d.version → effect d.image changes ≡ image → durable_after d made.call ≡ durable v image → (TakenCutsNoPut made.reason made.call → CutsNoPut changes)
       → change_count made.call ≡ length changes → IfSome (g.files old.disk) (λ fs. g.steps new.disk ≡ g.steps old.disk + (13 + length changes + head_calls fs.database))
       → IsDurable g changes v old new F → Serves g d old.disk new.disk (made ∷ [])
   serves_one there version leads after cuts count rose made_so = record {
@@ -84,7 +84,7 @@ module _ {D : Type 0} (g : Ghosts D) (old new : Store D) (d : Durable) (changes 
   }
 
   -- the store failed in it
-  pub fails_one : IsReady g old → IsThere d.image (image_in (g.files old.disk)) → old.version ≡ d.version → effect d.image changes ≡ image → durable_after d made.call ≡ durable v image → CutsNoPut changes
+  pub fails_one : IsReady g old → IsThere d.image (image_in (g.files old.disk)) → old.version ≡ d.version → effect d.image changes ≡ image → durable_after d made.call ≡ durable v image → (TakenCutsNoPut made.reason made.call → CutsNoPut changes)
       → change_count made.call ≡ length changes → IsDurable g changes v old new F → FailsIn g d old.disk new.disk (made ∷ [])
   fails_one ready there version leads after cuts count made_so =
       let leaves = leaves_one there version leads after cuts made_so in record {
@@ -132,7 +132,7 @@ module _ {D : Type 0} (g : Ghosts D) (s : Store D) (d : Durable) where
       record {
         leaves = record {
           moments = told (g.files s.disk) (λ _. LeavesOnly g.steps g.left_since s.disk new (StandsWithin d [])) (λ fs is. rest (StandsWithin d []) (stands_none ready there version fs is));
-          plain = told (g.files s.disk) (λ fs. IsPlain fs → LeavesOnly g.steps g.left_since s.disk new IsPlain) (λ fs is plain. rest IsPlain (plain_none ready fs is plain));
+          plain = λ _. told (g.files s.disk) (λ fs. IsPlain fs → LeavesOnly g.steps g.left_since s.disk new IsPlain) (λ fs is plain. rest IsPlain (plain_none ready fs is plain));
         };
         steps = told (g.files s.disk) (λ fs. g.steps new ≡ g.steps s.disk + 0) (λ fs is. omega (arith, reads.steps));
       }
@@ -180,7 +180,7 @@ module _ {D : Type 0} (g : Ghosts D) (s : Store D) (d : Durable) where
         leaves = record {
           moments = told (g.files s.disk) (λ _. Leaves new calls) (λ fs is.
               widened g.steps g.left_since s.disk new (StandsWithin d []) (StandsWithin d calls) (none_within d calls) (of_told (g.files s.disk) fs (λ _. Leaves new []) is served.leaves.moments));
-          plain = served.leaves.plain;
+          plain = λ _. served.leaves.plain tt;
         };
         whole = 0;
         now = told (g.files s.disk) (λ _. Narrows (StandsBetween d calls 0) (g.may_leave new)) (λ fs is c left.

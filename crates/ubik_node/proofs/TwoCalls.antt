@@ -31,7 +31,7 @@ use Rattle.cell_model.specs.declared.events.Output.{Output}
 use Rattle.cell_model.specs.Durable.{Durable, Made, change_count, durable, durable_after, durable_after_all}
 use Rattle.cell_model.specs.Node.{Server}
 use Rattle.cell_model.specs.Step.{Member, Stepped, outputs_of}
-use Rattle.ubik_node.specs.Disk.{FailsIn, LeavesWithin, Serves, StandsAs, StandsBetween, StandsWithin, calls_made, has_label}
+use Rattle.ubik_node.specs.Disk.{FailsIn, LeavesWithin, Serves, StandsAs, StandsBetween, StandsWithin, TakenCutsNoPut, calls_made, has_label}
 use Rattle.ubik_node.specs.Node.{Ends, Held, IsKept, durable_in}
 use Rattle.ubik_node.proofs.Calling.{call_failed, ended, told_by}
 use Rattle.ubik_node.proofs.Durables.{IsThere, calls_one, fails_one, image_then, leaves_one, serves_one}
@@ -107,7 +107,7 @@ module _ {D : Type 0} (g : Ghosts D) (old mid : D) (d : Durable) (first second :
         leaves = record {
           moments = told (g.files old) (λ _. LeavesOnly g.steps g.left_since old mid (StandsWithin d both)) (λ fs is.
               widened g.steps g.left_since old mid (StandsWithin d (first ∷ [])) (StandsWithin d both) within_first (run fs is));
-          plain = leaves.plain;
+          plain = λ taken. leaves.plain (taken.0, tt);
         };
         whole = 0;
         now = told (g.files old) (λ _. Narrows (StandsBetween d both 0) (g.may_leave mid)) (λ fs is c left.
@@ -140,12 +140,12 @@ module _ {D : Type 0} (g : Ghosts D) (old mid : D) (d : Durable) (first second :
           (of_told (g.files old) fs (λ _. LeavesOnly g.steps g.left_since old mid (StandsWithin d (first ∷ []))) is one.moments))
           (widened g.steps g.left_since mid new (StandsWithin middle (second ∷ [])) (StandsWithin d both) within_second
           (of_told (g.files mid) there.0 (λ _. LeavesOnly g.steps g.left_since mid new (StandsWithin middle (second ∷ []))) there.1 two.moments)));
-      plain = told (g.files old) (λ fs. IsPlain fs → LeavesOnly g.steps g.left_since old new IsPlain) (λ fs is plain.
+      plain = λ taken. told (g.files old) (λ fs. IsPlain fs → LeavesOnly g.steps g.left_since old new IsPlain) (λ fs is plain.
           let there = between fs is in
-          let run = of_told (g.files old) fs (λ fs. IsPlain fs → LeavesOnly g.steps g.left_since old mid IsPlain) is one.plain plain in
+          let run = of_told (g.files old) fs (λ fs. IsPlain fs → LeavesOnly g.steps g.left_since old mid IsPlain) is (one.plain (taken.0, tt)) plain in
           let still : IsPlain there.0 = run.each there.0 (g.counts_now mid (g.steps old) there.0 run.later (g.may_be_read mid there.0 there.1)) in
           joined g.steps g.left_since old mid new IsPlain run
-          (of_told (g.files mid) there.0 (λ fs. IsPlain fs → LeavesOnly g.steps g.left_since mid new IsPlain) there.1 two.plain still));
+          (of_told (g.files mid) there.0 (λ fs. IsPlain fs → LeavesOnly g.steps g.left_since mid new IsPlain) there.1 (two.plain taken.1) still));
     }
 
     module _ (label : IfSome (g.files mid) (λ fs. has_label fs.database ≡ true)) (one : Serves g d old mid (first ∷ [])) where
@@ -205,7 +205,7 @@ module _ {D : Type 0} (g : Ghosts D) (old mid : D) (d : Durable) (first second :
           as_many a b x n y one run = omega arith
 
 module _ {D : Type 0} (g : Ghosts D) (n : Held D) (was : IsKept g n) (up : n.halted ≡ false) (mid : Store D) (sound : IsSound g mid) (changes : List Change) (v : Version) (image : List ℕ)
-    (first second : Made) (leads : effect n.server.image changes ≡ image) (same : durable_after (durable_in n.server) first.call ≡ durable v image) (cuts : CutsNoPut changes) (count : change_count first.call ≡ length changes) where
+    (first second : Made) (leads : effect n.server.image changes ≡ image) (same : durable_after (durable_in n.server) first.call ≡ durable v image) (cuts : TakenCutsNoPut first.reason first.call → CutsNoPut changes) (count : change_count first.call ≡ length changes) where
   -- the first call was not made
   pub first_failed : {knows : Type 0} {t : Stepped} {before after : List Output} → t.calls ≡ first ∷ second ∷ [] → (long : ℕ → Type 0) (e : StoreFault) → EndsAs g long v n.store mid e → version_lt n.store.version v ≡ true → ((bytes : ℕ) → long bytes → ⊥) → IsDurable g changes v n.store mid (IsErrOf (ended e) DiskFault)
       → Ends g knows t before after n (record n { store = mid }) (Err e)
@@ -272,7 +272,7 @@ module _ {D : Type 0} (g : Ghosts D) (n : Held D) (was : IsKept g n) (up : n.hal
               subst (λ (all : List Made). Serves g (durable_in n.server) n.store.disk later.disk all) (sym calls)
               (serves_both g n.store.disk mid.disk (durable_in n.server) first second later.disk tells label one
               (subst (λ (e : Durable). Serves g e mid.disk later.disk (second ∷ [])) (sym same)
-              (serves_one g mid later (durable v image) [] w image second there done.version refl next tt none also.steps durably_too)));
+              (serves_one g mid later (durable v image) [] w image second there done.version refl next (λ _. tt) none also.steps durably_too)));
         })
 
     -- the second one was not made: its disk failed
@@ -284,7 +284,7 @@ module _ {D : Type 0} (g : Ghosts D) (n : Held D) (was : IsKept g n) (up : n.hal
           subst (λ (all : List Made). FailsIn g (durable_in n.server) n.store.disk later.disk all) (sym calls)
           (fails_second g n.store.disk mid.disk (durable_in n.server) first second later.disk tells label one durably.calls.advances
           (subst (λ (e : Durable). FailsIn g e mid.disk later.disk (second ∷ [])) (sym same)
-          (fails_one g mid later (durable v image) [] w image second ready there done.version refl next tt none durably_too)));
+          (fails_one g mid later (durable v image) [] w image second ready there done.version refl next (λ _. tt) none durably_too)));
       short = λ other. absurd (other refl);
       state = refl;
       stored = λ fine. absurd (fine refl);

@@ -9,15 +9,12 @@ use Rattle.cell_model.specs.declared.events.NodeEvent.TheVariants as event
 use Rattle.cell_model.specs.Node as model
 use Rattle.cell_model.specs.Step.{Member, cell_size, is_ready}
 
--- Packets of writes are not taken yet. A version that the server may come to have is one, as it is in each packet that has a spelling.
+-- A version that the server may come to have is one, as it is in each packet that has a spelling.
 abbrev pub IsBuiltBody : Body → Type 0
 IsBuiltBody (body.VersionIs poll version) = IsVersion version
 IsBuiltBody (body.SendPiece poll version total offset bytes) = IsVersion version
 IsBuiltBody (body.SetVersion poll old new) = IsVersion new
-IsBuiltBody (body.Begin old new pieces len) = ⊥
-IsBuiltBody (body.PutPiece new number bytes) = ⊥
-IsBuiltBody (body.Commit old new) = ⊥
-IsBuiltBody (body.Abort new) = ⊥
+IsBuiltBody (body.Begin old new pieces len) = IsVersion new
 IsBuiltBody _ = Unit {0}
 
 -- the server is up, and calls are served
@@ -38,6 +35,7 @@ BodyTakesNoMemory (body.Beacon start claim ready version) = Unit {0}
 BodyTakesNoMemory (body.Vote start granted) = Unit {0}
 BodyTakesNoMemory (body.GetVersion poll) = Unit {0}
 BodyTakesNoMemory (body.VersionKept version) = Unit {0}
+BodyTakesNoMemory (body.Abort new) = Unit {0}
 BodyTakesNoMemory _ = ⊥
 
 -- A step with this event never ends for want of memory. A call that finds none is answered so.

@@ -8,8 +8,8 @@ use Rattle.disk_base.specs.Stops.DiskStop.{Unarmed}
 use Rattle.disk_base.specs.declared.disks.Fill.{Fill}
 use Rattle.page_file.specs.declared.label.TheConstants.{LABEL_LEN}
 use Rattle.ubik_store.specs.Files.{StandsFor}
-use Rattle.ubik_store.specs.Gaps.{IsPlain}
-use Rattle.cell_model.specs.Durable.{Durable, Made, durable_after_all, disk_calls}
+use Rattle.ubik_store.specs.Gaps.{CutsNoPut, IsPlain}
+use Rattle.cell_model.specs.Durable.{Commit, Durable, DurableCall, Made, Reason, Received, durable_after_all, disk_calls}
 
 -- files stand for a durable state
 abbrev pub StandsAs : Durable → Files → Type 0
@@ -32,11 +32,21 @@ calls_made labelled (made ∷ calls) = disk_calls labelled made.call + calls_mad
 abbrev pub StandsBetween : Durable → List Made → ℕ → Files → Type 0
 StandsBetween d calls whole fs = StandsAs (durable_after_all d (take whole calls)) fs ⊎ StandsAs (durable_after_all d (take (whole + 1) calls)) fs
 
--- A crash at any moment of a step with these durable calls leaves the state after the first so many of them, and plain files stay plain,
--- so that an opening over what is left may crash in turn.
+-- changes that were taken from another server cut to nothing before where an earlier put of them begins
+abbrev pub TakenCutsNoPut : Reason → DurableCall → Type 0
+TakenCutsNoPut Received (Commit version changes image) = CutsNoPut changes
+TakenCutsNoPut _ _ = Unit {0}
+
+-- so of each of these durable calls
+abbrev pub TakenCutNoPut : List Made → Type 0
+TakenCutNoPut [] = Unit {0}
+TakenCutNoPut (made ∷ calls) = TakenCutsNoPut made.reason made.call × TakenCutNoPut calls
+
+-- A crash at any moment of a step with these durable calls leaves the state after the first so many of them. Plain files stay plain, so that
+-- an opening over what is left may crash in turn: where changes are taken from another server, if they cut no put.
 pub record LeavesWithin {D : Type 0} (g : Ghosts D) (d : Durable) (old new : D) (calls : List Made) : Type 0 where
   pub moments : IfSome (g.files old) (λ _. LeavesOnly g.steps g.left_since old new (StandsWithin d calls))
-  pub plain : IfSome (g.files old) (λ fs. IsPlain fs → LeavesOnly g.steps g.left_since old new IsPlain)
+  pub plain : TakenCutNoPut calls → IfSome (g.files old) (λ fs. IsPlain fs → LeavesOnly g.steps g.left_since old new IsPlain)
 
 -- The disk failed in a step with these durable calls: the first so many were made whole, and it failed before the end of the next one. Where it
 -- stopped, it did so after the whole ones.

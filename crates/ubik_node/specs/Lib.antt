@@ -6,6 +6,7 @@ pub mod Debug
 pub mod Disk
 pub mod Evaluation
 pub mod Held
+pub mod Keeping
 pub mod Node
 pub mod Receiving
 pub mod Recovering

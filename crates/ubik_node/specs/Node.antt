@@ -104,6 +104,9 @@ NeedsFiles (body.Vote start granted) tells = Unit {0}
 NeedsFiles (body.GetVersion poll) tells = Unit {0}
 NeedsFiles (body.SetVersion poll old new) tells = Unit {0}
 NeedsFiles (body.VersionKept version) tells = Unit {0}
+NeedsFiles (body.Begin old new pieces len) tells = Unit {0}
+NeedsFiles (body.PutPiece new number bytes) tells = Unit {0}
+NeedsFiles (body.Abort new) tells = Unit {0}
 NeedsFiles _ tells = tells
 
 -- What an event needs to be handled as the rules have it. A call at a server that is up needs its image, and what is sent of an image to

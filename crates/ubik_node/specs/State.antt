@@ -11,7 +11,7 @@ use Rattle.ubik_node.specs.Beacons.{beacon_of}
 abbrev pub member_of : State → Member
 member_of s = record { hosts = s.cell; me = s.me }
 
--- Nothing of another server's writes is kept, and no write is in flight: the announced version is the own one.
+-- No write of this server is in flight: the announced version is the own one.
 abbrev pub server_of : State → model.Server
 server_of s =
     record {
@@ -22,7 +22,7 @@ server_of s =
       opened = s.votes.opened;
       phase = phase_record s.version s.recovery;
       beacon = beacon_of s.beacon;
-      kept = None;
+      kept = s.pending;
       received = s.recovery.text;
       flight = None;
       waiting = [];

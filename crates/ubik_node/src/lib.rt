@@ -1,7 +1,7 @@
 //! One server of a cell: its database on a disk, its votes and its phase, and one step of it at a time. A
 //! step takes a moment and an event, and leaves what it puts out in a list; it has no clock and no thread.
 //!
-//! Votes and recovery are built for every cell, writes for a cell of one.
+//! Votes and recovery are built for every cell, and so is what a server keeps of another one's writes; its own writes for a cell of one.
 #![tactic(auto)]
 
 mod asking;
@@ -9,6 +9,7 @@ mod beacons;
 mod database;
 mod evaluations;
 mod held_images;
+mod keeping;
 mod nodes;
 mod outputs;
 mod pieces;
@@ -31,6 +32,8 @@ pub use steady_disks::SteadyDisk;
 pub use ubik_calls::{Body, DebugIs, Packet, Reply};
 pub use ubik_store::StoreFault;
 
+#[cfg(test)]
+mod keeping_tests;
 #[cfg(test)]
 mod stop_tests;
 #[cfg(test)]

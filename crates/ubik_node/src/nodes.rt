@@ -36,7 +36,7 @@ pub enum StepEnd {
     /// The server's disk failed, now or before: it answers every call with a fault of the disk, until it is
     /// opened anew.
     Halted,
-    /// Memory ran out in a recovery turn, or at a packet of recovery. Nothing changed and nothing was put out.
+    /// Memory ran out in a recovery turn, or at a packet of recovery or of a write. Nothing changed and nothing was put out.
     NoMemory,
 }
 
@@ -110,6 +110,7 @@ impl<D: SteadyDisk, V: DraftService> Node<D, V> {
             votes: Votes::start(servers, me, now),
             beacon: None,
             recovery: Recovery::in_cell(alloc, servers),
+            pending: None,
         };
         Ok(Node {
             alloc,
@@ -123,8 +124,8 @@ impl<D: SteadyDisk, V: DraftService> Node<D, V> {
 
     /// One step: what an event makes of the server at a moment in seconds, not below the last one. An id of a
     /// call is new since the opening. A call is made as the database has it where the image stands for a state. `out` is empty before it, and
-    /// has what the step put out after it. A recovery turn, and packets of recovery, can end for want of memory: a call that finds none is
-    /// answered so. At each moment of the step a crash leaves the state after the first so many of its durable calls.
+    /// has what the step put out after it. A recovery turn, and packets of recovery and of writes, can end for want of memory: a call that
+    /// finds none is answered so. At each moment of the step a crash leaves the state after the first so many of its durable calls.
     pub fn step(&mut self, now: u32, event: NodeEvent, out: &mut Outputs) -> StepEnd
         requires moment { IsMoment now }
         requires order { self.old.last ≤ now }
@@ -393,7 +394,20 @@ impl<D: SteadyDisk, V: DraftService> Node<D, V> {
                 };
                 self.take_piece(host, *poll, source, *offset, bytes.as_slice(), out)
             }
-            _ => unreachable!(),
+            Body::Begin {
+                old,
+                new,
+                pieces,
+                len,
+            } => self.begin_received(*old, *new, *pieces, *len),
+            Body::PutPiece { new, number, bytes } => {
+                self.put_piece_received(*new, *number, bytes.as_slice())
+            }
+            Body::Commit { old, new } => self.commit_received(host, *old, *new, out),
+            Body::Abort { new } => {
+                self.state.abort_received(*new);
+                Ok(())
+            }
         }
     }
 }

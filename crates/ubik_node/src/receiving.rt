@@ -28,7 +28,7 @@ impl State {
     ghost use Rattle.ubik_node.specs.State.{server_of, server_with, member_of, Keeps};
 
     /// Whether a database of the old version may be the one of the new version.
-    fn may_become(&self, old: Version, new: Version) -> bool
+    pub fn may_become(&self, old: Version, new: Version) -> bool
         ensures { result ≡ (version_eq self.now.version old && version_lt old new) }
     {
         self.version == old && old < new

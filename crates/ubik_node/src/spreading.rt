@@ -82,7 +82,7 @@ impl State {
         Ok(())
     }
 
-    /// The database was relabelled for the poll of a recovery: only this server has it.
+    /// The database was relabelled for the poll of a recovery: only this server has it. The write that was begun is dropped.
     pub fn begin_sending(&mut self, next: Recovery, new: Version)
         requires of_cell { IsOfCell (length self.old.cell) next }
         requires version { IsVersion new }
@@ -96,6 +96,7 @@ impl State {
         next.keep_old(self.version);
         next.set_phase(Phase::Send, self.me);
         next.drop_text();
+        self.pending = None;
         self.recovery = next;
         self.version = new;
     }

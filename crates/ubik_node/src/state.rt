@@ -7,6 +7,7 @@ ghost use Rattle.cell_model.specs.Lapse.{lapsed, no_quorum};
 ghost use Rattle.cell_model.specs.Step.{outputs_of, packet_to, quiet, sends_to, with_database};
 ghost use Rattle.ubik_recovery.specs.Record.{held_alone, with_text};
 ghost use Rattle.ubik_recovery.specs.Rules.{recovering};
+ghost use Rattle.ubik_node.specs.Keeping.{IsKeptOver};
 ghost use Rattle.ubik_node.specs.Recovering.{IsOfCell, IsServing};
 
 use crate::beacons::ReadyBeacon;
@@ -17,9 +18,10 @@ use ubik_calls::{Body, Packet, Reply};
 use ubik_recovery::Recovery;
 use ubik_types::{Applied, Cell, Host, Phase, Version};
 use ubik_votes::Votes;
+use ubik_write::Pending;
 
 /// A server that is up: its cell and its place in it, its version and image, its votes, the ready beacon that
-/// it keeps, and its recovery.
+/// it keeps, its recovery, and the write that another server began.
 #[derive(Drop)]
 pub struct State {
     pub cell: Cell,
@@ -29,6 +31,7 @@ pub struct State {
     pub votes: Votes,
     pub beacon: Option<ReadyBeacon>,
     pub recovery: Recovery,
+    pub pending: Option<Pending>,
     ghost few: { length cell ≤ 20 },
     ghost place: { me < length cell },
     ghost voters: { votes.servers ≡ length cell },
@@ -37,6 +40,7 @@ pub struct State {
     ghost counter_fits: { version.counter ≤ MAX_COUNTER },
     ghost image_fits: { length image ≤ MAX_IMAGE },
     ghost of_cell: { IsOfCell (length cell) recovery },
+    ghost begun: { IfSome pending (IsKeptOver version) },
 }
 
 impl State {
@@ -89,7 +93,7 @@ impl State {
         out.put(Output::Send(self.packet_to(to, body)));
     }
 
-    /// Another version and image are taken over. The text that was received is dropped.
+    /// Another version and image are taken over. The text that was received is dropped, and the write that was begun.
     pub fn take_over(&mut self, version: Version, image: HeldImage)
         requires resting { ¬ IsServing self.old.recovery }
         requires version { IsVersion version }
@@ -100,6 +104,7 @@ impl State {
         ensures version { self.new.version ≡ version }
     {
         self.recovery.drop_text();
+        self.pending = None;
         self.version = version;
         self.image = image;
     }
@@ -115,12 +120,13 @@ impl State {
         ensures version { self.new.version ≡ version }
     {
         self.recovery.drop_text();
+        self.pending = None;
         self.recovery.hold_alone(self.me);
         self.version = version;
         self.image = image;
     }
 
-    /// The database gets another version. The text that was received is dropped.
+    /// The database gets another version. The text that was received is dropped, and the write that was begun.
     pub fn relabel(&mut self, version: Version)
         requires resting { ¬ IsServing self.old.recovery }
         requires version { IsVersion version }
@@ -130,6 +136,7 @@ impl State {
         ensures version { self.new.version ≡ version }
     {
         self.recovery.drop_text();
+        self.pending = None;
         self.version = version;
     }
 

@@ -27,7 +27,7 @@ returns-in_err-commit_all-clause-left g c = λ failed t image written.
     let same = kept_so n.store.len (length n.state.image) c.as_slice.result.now c.args.changes.now c.as_slice.ensures (c.requires.stored.len c.requires.not_halted) written.kept in
     fails_one g.D.Disk n.store c.commit_all.new.store (durable n.state.version n.state.image) c.args.changes.now v image (own_commit v c.args.changes.now image t)
     (c.requires.stored.sound.ready (c.requires.stored.failed ∙ c.requires.not_halted)) (c.requires.stored.image c.requires.not_halted) (c.requires.stored.version c.requires.not_halted) written.leads refl
-    written.puts refl
+    (λ _. written.puts) refl
     (subst (λ (cs : List Change). IsDurable g.D.Disk cs v n.store c.commit_all.new.store (IsErrOf c.commit_all.result DiskFault)) same c.commit_all.ensures.durable)
 
 pub returns-clause-served : goal.returns-clause-served
@@ -38,7 +38,7 @@ returns-clause-served g c = λ t image written.
     let done : Commits g.D.Disk c.args.changes.now v n.store c.commit_all.new.store =
     subst (λ (cs : List Change). Commits g.D.Disk cs v n.store c.commit_all.new.store) same c.in_ok-commit_all.ensures.done in
     serves_one g.D.Disk n.store c.commit_all.new.store (durable n.state.version n.state.image) c.args.changes.now v image (own_commit v c.args.changes.now image t)
-    (c.requires.stored.image c.requires.not_halted) (c.requires.stored.version c.requires.not_halted) written.leads refl written.puts refl done.steps
+    (c.requires.stored.image c.requires.not_halted) (c.requires.stored.version c.requires.not_halted) written.leads refl (λ _. written.puts) refl done.steps
     (subst (λ (cs : List Change). IsDurable g.D.Disk cs v n.store c.commit_all.new.store (IsErrOf c.commit_all.result DiskFault)) same c.commit_all.ensures.durable)
 
 pub returns-clause-made : goal.returns-clause-made

@@ -19,7 +19,7 @@ returns-in_err-install g c =
     let text = c.args.text.now in
     handed_ends g.D.Disk c.from_residual.result c.in_err-install.field-0.0 c.from_residual.ensures.1
     (call_failed g.D.Disk (held n) c.requires.stored c.requires.not_halted n.store (reads_none g.D.Disk n.store.disk) (λ none. none) c.requires.stored.sound (record { version = refl; len = refl; begun = refl; failed = refl }) c.install.new.self
-    c.install.ensures.sound (whole_image text) v text (record { call = durable.Install v text; reason = Received }) (effect_whole n.state.image text) refl (tt, tt) refl refl (IsTooLong text) c.in_err-install.field-0.0 c.in_err-install.ensures.ended
+    c.install.ensures.sound (whole_image text) v text (record { call = durable.Install v text; reason = Received }) (effect_whole n.state.image text) refl (λ _. (tt, tt)) refl refl (IsTooLong text) c.in_err-install.field-0.0 c.in_err-install.ensures.ended
     (rw (c.requires.stored.version c.requires.not_halted) c.requires.newer) (λ bytes long. absurd (omega (arith, long.0, c.requires.fits))) (c.in_err-install.ensures.durable (c.requires.stored.failed ∙ c.requires.not_halted)))
 
 pub returns : goal.returns
@@ -32,7 +32,7 @@ returns g c =
     let done = c.in_ok-install.ensures.ended in
     let last = c.take_over.new.self in
     call_made g.D.Disk (held n) c.requires.stored c.requires.not_halted n.store (reads_none g.D.Disk n.store.disk) (λ none. none) c.requires.stored.sound (record { version = refl; len = refl; begun = refl; failed = refl }) later
-    c.install.ensures.sound (whole_image text) v text (record { call = durable.Install v text; reason = Received }) (effect_whole st.image text) refl (tt, tt) refl refl (server_of last) (member_of last) c.take_over.ensures.place done
+    c.install.ensures.sound (whole_image text) v text (record { call = durable.Install v text; reason = Received }) (effect_whole st.image text) refl (λ _. (tt, tt)) refl refl (server_of last) (member_of last) c.take_over.ensures.place done
     (c.install.ensures.durable (c.requires.stored.failed ∙ c.requires.not_halted)) (λ failed. ok_not c.in_ok-install.field-0 (sym c.in_ok-install.was ∙ failed)) c.take_over.ensures.version
     (ap length (c.take_over.ensures.image ∙ c.of.ensures) ∙ held_length g.D.Disk later (c.install.ensures.sound.ready done.failed))
     (held_there (g.D.Disk.files later.disk) later.len last.image (c.take_over.ensures.image ∙ c.of.ensures))

@@ -47,7 +47,7 @@ returns-in_err-install g c =
     let s = with_database (server_of st) best text in
     handed_ends g.D.Disk c.from_residual-in_err-install.result c.in_err-install.field-0.0 c.from_residual-in_err-install.ensures.1
     (same_ends g.D.Disk (installed_comes m (server_of st) best text (polled_of c.args.next) c.args.now (later_epoch best.epoch c.args.now c.requires.past))
-    (first_failed g.D.Disk (held n) c.requires.stored c.requires.not_halted c.install.new.self c.install.ensures.sound (whole_image text) best text installs (own_relabelling v) (effect_whole st.image text) refl (tt, tt) refl
+    (first_failed g.D.Disk (held n) c.requires.stored c.requires.not_halted c.install.new.self c.install.ensures.sound (whole_image text) best text installs (own_relabelling v) (effect_whole st.image text) refl (λ _. (tt, tt)) refl
     (ap (λ (calls : List Made). installs ∷ own_relabelling v ∷ calls) (settled_calls m (relabelled_to m s (polled_of c.args.next) v).server)) (IsTooLong text) c.in_err-install.field-0.0 c.in_err-install.ensures.ended
     (rw (c.requires.stored.version c.requires.not_halted) c.requires.newer) (λ bytes long. absurd (omega (arith, long.0, c.requires.fits))) (c.in_err-install.ensures.durable (c.requires.stored.failed ∙ c.requires.not_halted))))
 
@@ -67,7 +67,7 @@ returns-in_err-relabel g c =
     let done = c.in_ok-install.ensures.ended in
     handed_ends g.D.Disk c.from_residual-in_err-relabel.result c.in_err-relabel.field-0.0 c.from_residual-in_err-relabel.ensures.1
     (same_ends g.D.Disk (installed_comes m (server_of st) best text (polled_of c.args.next) c.args.now (later_epoch best.epoch c.args.now c.requires.past))
-    (second_failed g.D.Disk (held n) c.requires.stored c.requires.not_halted c.install.new.self c.install.ensures.sound (whole_image text) best text installs (own_relabelling v) (effect_whole st.image text) refl (tt, tt) refl
+    (second_failed g.D.Disk (held n) c.requires.stored c.requires.not_halted c.install.new.self c.install.ensures.sound (whole_image text) best text installs (own_relabelling v) (effect_whole st.image text) refl (λ _. (tt, tt)) refl
     done
     (c.install.ensures.durable (c.requires.stored.failed ∙ c.requires.not_halted)) (λ failed. false≢true (ap is_err (sym c.in_ok-install.was ∙ failed))) c.relabel.new.self c.relabel.ensures.sound v refl refl (ap (λ (calls : List Made). installs ∷ own_relabelling v ∷ calls) (settled_calls m (relabelled_to m s (polled_of c.args.next) v).server)) c.in_err-relabel.field-0.0 c.in_err-relabel.ensures.ended
     (λ is. c.in_err-relabel.ensures.no_memory done.room (ap Err is)) (ap (λ (w : Version). version_lt w v) done.version ∙ past_newer best c.args.now c.requires.past) (c.in_err-relabel.ensures.durable done.failed)))
@@ -103,7 +103,7 @@ returns g c =
     let sent : Server → Member → Server = λ x k. with_phase (with_database x v x.image) (Send poll (record { old = x.version; holders = only_holder k })) in
     let image = c.settle.ensures.kept.image ∙ c.begin_sending.ensures.image ∙ c.take_over.ensures.image ∙ c.of.ensures in
     same_ends g.D.Disk (installed_comes m (server_of st) best text poll c.args.now (later_epoch best.epoch c.args.now c.requires.past))
-    (both_made g.D.Disk (held n) c.requires.stored c.requires.not_halted c.install.new.self c.install.ensures.sound (whole_image text) best text installs (own_relabelling v) (effect_whole st.image text) refl (tt, tt) refl
+    (both_made g.D.Disk (held n) c.requires.stored c.requires.not_halted c.install.new.self c.install.ensures.sound (whole_image text) best text installs (own_relabelling v) (effect_whole st.image text) refl (λ _. (tt, tt)) refl
     done (c.install.ensures.durable (c.requires.stored.failed ∙ c.requires.not_halted)) (λ failed. false≢true (ap is_err (sym c.in_ok-install.was ∙ failed))) later c.relabel.ensures.sound v refl refl (ap (λ (calls : List Made). installs ∷ own_relabelling v ∷ calls) (settled_calls m after))
     (server_of last) (member_of last) (c.settle.ensures.kept.member ∙ c.begin_sending.ensures.place ∙ c.take_over.ensures.place) also (c.relabel.ensures.durable done.failed) (λ failed. false≢true (ap is_err (sym c.in_ok-relabel.was ∙ failed))) (c.settle.ensures.kept.version ∙ c.begin_sending.ensures.version)
     (ap length image ∙ held_length g.D.Disk later (c.relabel.ensures.sound.ready also.failed)) (held_there (g.D.Disk.files later.disk) later.len last.image image)

@@ -8,6 +8,7 @@ use Rattle.ubik_node.specs.Built.{BodyTakesNoMemory, IsBuiltBody}
 use Rattle.ubik_node.specs.Node.{held}
 use Rattle.ubik_node.specs.State.{member_of, server_of}
 use Rattle.ubik_node.proofs.Endings.{rests_ends, shown_ends}
+use Rattle.ubik_node.proofs.Keeping.{quiet_ends, quietly}
 use Rattle.ubik_node.proofs.Places.{placed}
 use Rattle.ubik_node.proofs.Told.{sent_as}
 use Rattle.ubik_node.proofs.Voted.{behind, ignored_ends, placed_ends}
@@ -211,28 +212,62 @@ returns-in-VersionKept-clause-memory g c = λ takes. refl
 pub returns-in_default-clause-memory : goal.returns-in_default-clause-memory
 returns-in_default-clause-memory g c = λ takes. refl
 
--- a packet of a kind that is built is none of a write
-built_none : (b : Body) → IsBuiltBody b → ((start : ℕ) (claim ready : Bool) (version : Version) → b ≡ body.Beacon start claim ready version → ⊥) → ((start : ℕ) (granted : Bool) → b ≡ body.Vote start granted → ⊥)
-    → ((poll : ℕ) → b ≡ body.GetVersion poll → ⊥) → ((version : Version) → b ≡ body.VersionKept version → ⊥) → ((poll : ℕ) (version : Version) → b ≡ body.VersionIs poll version → ⊥)
-    → ((poll : ℕ) (version : Version) (offset : ℕ) → b ≡ body.GetPiece poll version offset → ⊥) → ((poll : ℕ) (version : Version) (next : ℕ) → b ≡ body.PieceKept poll version next → ⊥)
-    → ((poll : ℕ) (old new : Version) → b ≡ body.SetVersion poll old new → ⊥) → ((poll : ℕ) (version : Version) (total offset : ℕ) (bytes : List ℕ) → b ≡ body.Piece poll version total offset bytes → ⊥)
-    → ((poll : ℕ) (version : Version) (total offset : ℕ) (bytes : List ℕ) → b ≡ body.SendPiece poll version total offset bytes → ⊥) → ⊥
-built_none (body.Beacon start claim ready version) is no0 no1 no2 no3 no4 no5 no6 no7 no8 no9 = no0 start claim ready version refl
-built_none (body.Vote start granted) is no0 no1 no2 no3 no4 no5 no6 no7 no8 no9 = no1 start granted refl
-built_none (body.GetVersion poll) is no0 no1 no2 no3 no4 no5 no6 no7 no8 no9 = no2 poll refl
-built_none (body.VersionKept version) is no0 no1 no2 no3 no4 no5 no6 no7 no8 no9 = no3 version refl
-built_none (body.VersionIs poll version) is no0 no1 no2 no3 no4 no5 no6 no7 no8 no9 = no4 poll version refl
-built_none (body.GetPiece poll version offset) is no0 no1 no2 no3 no4 no5 no6 no7 no8 no9 = no5 poll version offset refl
-built_none (body.PieceKept poll version next) is no0 no1 no2 no3 no4 no5 no6 no7 no8 no9 = no6 poll version next refl
-built_none (body.SetVersion poll old new) is no0 no1 no2 no3 no4 no5 no6 no7 no8 no9 = no7 poll old new refl
-built_none (body.Piece poll version total offset bytes) is no0 no1 no2 no3 no4 no5 no6 no7 no8 no9 = no8 poll version total offset bytes refl
-built_none (body.SendPiece poll version total offset bytes) is no0 no1 no2 no3 no4 no5 no6 no7 no8 no9 = no9 poll version total offset bytes refl
-built_none (body.Begin old new pieces len) is no0 no1 no2 no3 no4 no5 no6 no7 no8 no9 = is
-built_none (body.PutPiece new number bytes) is no0 no1 no2 no3 no4 no5 no6 no7 no8 no9 = is
-built_none (body.Commit old new) is no0 no1 no2 no3 no4 no5 no6 no7 no8 no9 = is
-built_none (body.Abort new) is no0 no1 no2 no3 no4 no5 no6 no7 no8 no9 = is
+pub returns-in-Begin-clause-ends : goal.returns-in-Begin-clause-ends
+returns-in-Begin-clause-ends g c = λ db short.
+    let n = c.args.self.now in
+    placed_ends g.D.Disk db (member_of n.state) (server_of n.state) c.args.now c.args.packet.now short _ c.in-Some.from (body.Begin c.in-Begin.old c.in-Begin.new c.in-Begin.pieces c.in-Begin.len) (placed _ _ _ c.index.ensures.found c.index.ensures.only ∙ c.in-Some.is) c.in-Begin.is
+    (quiet_ends g.D.Disk c.args.out.now c.requires.empty c.begin_received.ensures)
 
-pub unreachable-requires : goal.unreachable-requires
-unreachable-requires g c =
-    let d = c.in_default-body in
-    built_none c.args.packet.now.body c.requires.kind d.not-Beacon d.not-Vote d.not-GetVersion d.not-VersionKept d.not-VersionIs d.not-GetPiece d.not-PieceKept d.not-SetVersion d.not-Piece d.not-SendPiece
+pub returns-in-PutPiece-clause-ends : goal.returns-in-PutPiece-clause-ends
+returns-in-PutPiece-clause-ends g c = λ db short.
+    let n = c.args.self.now in
+    placed_ends g.D.Disk db (member_of n.state) (server_of n.state) c.args.now c.args.packet.now short _ c.in-Some.from (body.PutPiece c.in-PutPiece.new c.in-PutPiece.number c.as_slice-in-PutPiece.result.now) (placed _ _ _ c.index.ensures.found c.index.ensures.only ∙ c.in-Some.is) (c.in-PutPiece.is ∙ ap (λ (bytes : List ℕ). body.PutPiece c.in-PutPiece.new c.in-PutPiece.number bytes) (sym c.as_slice-in-PutPiece.ensures))
+    (quiet_ends g.D.Disk c.args.out.now c.requires.empty c.put_piece_received.ensures)
+
+pub returns-in-Commit-clause-ends : goal.returns-in-Commit-clause-ends
+returns-in-Commit-clause-ends g c = λ db short.
+    let n = c.args.self.now in
+    placed_ends g.D.Disk db (member_of n.state) (server_of n.state) c.args.now c.args.packet.now short _ c.in-Some.from (body.Commit c.in-Commit.old c.in-Commit.new) (placed _ _ _ c.index.ensures.found c.index.ensures.only ∙ c.in-Some.is) c.in-Commit.is
+    c.commit_received.ensures
+
+pub returns-in-Abort-clause-ends : goal.returns-in-Abort-clause-ends
+returns-in-Abort-clause-ends g c = λ db short.
+    let n = c.args.self.now in
+    placed_ends g.D.Disk db (member_of n.state) (server_of n.state) c.args.now c.args.packet.now short _ c.in-Some.from (body.Abort c.in-Abort.new) (placed _ _ _ c.index.ensures.found c.index.ensures.only ∙ c.in-Some.is) c.in-Abort.is
+    (shown_ends g.D.Disk (held n) n.state c.abort_received.new.self c.requires.stored c.requires.not_halted refl refl c.abort_received.ensures.kept (quietly _ _ c.args.out.now c.abort_received.ensures.rests c.requires.empty))
+
+pub returns-in-Begin-clause-memory : goal.returns-in-Begin-clause-memory
+returns-in-Begin-clause-memory g c = λ takes. absurd (subst BodyTakesNoMemory c.in-Begin.is takes)
+
+pub returns-in-PutPiece-clause-memory : goal.returns-in-PutPiece-clause-memory
+returns-in-PutPiece-clause-memory g c = λ takes. absurd (subst BodyTakesNoMemory c.in-PutPiece.is takes)
+
+pub returns-in-Commit-clause-memory : goal.returns-in-Commit-clause-memory
+returns-in-Commit-clause-memory g c = λ takes. absurd (subst BodyTakesNoMemory c.in-Commit.is takes)
+
+pub returns-in-Abort-clause-memory : goal.returns-in-Abort-clause-memory
+returns-in-Abort-clause-memory g c = λ takes. refl
+
+pub begin_received-requires-clause-version : goal.begin_received-requires-clause-version
+begin_received-requires-clause-version g c = subst IsBuiltBody c.in-Begin.is c.requires.kind
+
+pub begin_received-requires-clause-not_halted : goal.begin_received-requires-clause-not_halted
+begin_received-requires-clause-not_halted g c = c.requires.not_halted
+
+pub begin_received-requires-clause-stored : goal.begin_received-requires-clause-stored
+begin_received-requires-clause-stored g c = c.requires.stored
+
+pub put_piece_received-requires-clause-not_halted : goal.put_piece_received-requires-clause-not_halted
+put_piece_received-requires-clause-not_halted g c = c.requires.not_halted
+
+pub put_piece_received-requires-clause-stored : goal.put_piece_received-requires-clause-stored
+put_piece_received-requires-clause-stored g c = c.requires.stored
+
+pub commit_received-requires-clause-not_halted : goal.commit_received-requires-clause-not_halted
+commit_received-requires-clause-not_halted g c = c.requires.not_halted
+
+pub commit_received-requires-clause-stored : goal.commit_received-requires-clause-stored
+commit_received-requires-clause-stored g c = c.requires.stored
+
+pub commit_received-requires-clause-empty : goal.commit_received-requires-clause-empty
+commit_received-requires-clause-empty g c = c.requires.empty

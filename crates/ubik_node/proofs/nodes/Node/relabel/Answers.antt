@@ -55,7 +55,7 @@ returns-in_err-relabel g c =
     handed_ends g.D.Disk c.from_residual-in_err-relabel.result c.in_err-relabel.field-0.0 c.from_residual-in_err-relabel.ensures.1
     (same_ends g.D.Disk step
     (call_failed g.D.Disk (held n) c.requires.stored c.requires.not_halted c.first_piece.new.store c.in_ok-piece.ensures.disk went c.in_ok-piece.ensures.sound stays c.relabel.new.self c.relabel.ensures.sound [] v st.image (own_relabelling v)
-    refl refl tt refl (ap (λ (calls : List Made). own_relabelling v ∷ calls) (settled_calls m (relabelled_to m s (polled_of c.args.next) v).server)) IsNeverLong c.in_err-relabel.field-0.0 c.in_err-relabel.ensures.ended
+    refl refl (λ _. tt) refl (ap (λ (calls : List Made). own_relabelling v ∷ calls) (settled_calls m (relabelled_to m s (polled_of c.args.next) v).server)) IsNeverLong c.in_err-relabel.field-0.0 c.in_err-relabel.ensures.ended
     (subst (λ (w : Version). version_lt w v ≡ true) (sym (stays.version ∙ c.requires.stored.version c.requires.not_halted)) (newer_epoch st.version c.args.now c.requires.past)) (λ bytes long. absurd long)
     (c.in_err-relabel.ensures.durable (stays.failed ∙ c.requires.stored.failed ∙ c.requires.not_halted))))
 
@@ -83,7 +83,7 @@ returns g c =
     let image : last.image ≡ st.image = c.settle.ensures.kept.image ∙ c.begin_sending.ensures.image in
     same_ends g.D.Disk step
     (call_made g.D.Disk (held n) c.requires.stored c.requires.not_halted c.first_piece.new.store c.in_ok-piece.ensures.disk went c.in_ok-piece.ensures.sound stays later c.relabel.ensures.sound [] v st.image (own_relabelling v)
-    refl refl tt refl (ap (λ (calls : List Made). own_relabelling v ∷ calls) (settled_calls m after)) (server_of last) (member_of last) (c.settle.ensures.kept.member ∙ c.begin_sending.ensures.place) done
+    refl refl (λ _. tt) refl (ap (λ (calls : List Made). own_relabelling v ∷ calls) (settled_calls m after)) (server_of last) (member_of last) (c.settle.ensures.kept.member ∙ c.begin_sending.ensures.place) done
     (c.relabel.ensures.durable (stays.failed ∙ c.requires.stored.failed ∙ c.requires.not_halted)) (λ failed. ok_not c.in_ok-relabel.field-0 (sym c.in_ok-relabel.was ∙ failed))
     (c.settle.ensures.kept.version ∙ c.begin_sending.ensures.version)
     (ap length image ∙ sym (done.len ∙ stays.len ∙ c.requires.stored.len c.requires.not_halted))

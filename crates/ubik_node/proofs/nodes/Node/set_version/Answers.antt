@@ -69,7 +69,7 @@ returns-in_err-relabel g c =
     handed_ends g.D.Disk c.from_residual.result c.in_err-relabel.field-0.0 c.from_residual.ensures.1
     (same_ends g.D.Disk (set_made (member_of st) (server_of st) c.args.host c.args.poll c.args.old c.args.new rests has lacks)
     (call_failed g.D.Disk (held n) c.requires.stored c.requires.not_halted n.store (reads_none g.D.Disk n.store.disk) (λ none. none) c.requires.stored.sound (record { version = refl; len = refl; begun = refl; failed = refl }) c.relabel.new.self
-    c.relabel.ensures.sound [] c.args.new st.image (record { call = durable.Relabel c.args.new; reason = Received }) refl refl tt refl refl IsNeverLong c.in_err-relabel.field-0.0 c.in_err-relabel.ensures.ended
+    c.relabel.ensures.sound [] c.args.new st.image (record { call = durable.Relabel c.args.new; reason = Received }) refl refl (λ _. tt) refl refl IsNeverLong c.in_err-relabel.field-0.0 c.in_err-relabel.ensures.ended
     (rw (c.requires.stored.version c.requires.not_halted) (newer_than st.version c.args.old c.args.new lacks)) (λ bytes long. absurd long) (c.in_err-relabel.ensures.durable (c.requires.stored.failed ∙ c.requires.not_halted))))
 
 pub relabel-requires-2-clause-resting : goal.relabel-requires-2-clause-resting
@@ -88,7 +88,7 @@ returns g c =
     let lacks = sym c.may_become-lacks.ensures ∙ c.if-not-lacks.false in
     same_ends g.D.Disk (set_made (member_of st) (server_of st) c.args.host c.args.poll c.args.old c.args.new rests has lacks)
     (call_made g.D.Disk (held n) c.requires.stored c.requires.not_halted n.store (reads_none g.D.Disk n.store.disk) (λ none. none) c.requires.stored.sound (record { version = refl; len = refl; begun = refl; failed = refl }) later
-    c.relabel.ensures.sound [] c.args.new st.image (record { call = durable.Relabel c.args.new; reason = Received }) refl refl tt refl refl (server_of last) (member_of last) c.relabel-2.ensures.place done (c.relabel.ensures.durable (c.requires.stored.failed ∙ c.requires.not_halted))
+    c.relabel.ensures.sound [] c.args.new st.image (record { call = durable.Relabel c.args.new; reason = Received }) refl refl (λ _. tt) refl refl (server_of last) (member_of last) c.relabel-2.ensures.place done (c.relabel.ensures.durable (c.requires.stored.failed ∙ c.requires.not_halted))
     (λ failed. ok_not c.in_ok-relabel.field-0 (sym c.in_ok-relabel.was ∙ failed)) c.relabel-2.ensures.version (ap length c.relabel-2.ensures.image ∙ sym (done.len ∙ c.requires.stored.len c.requires.not_halted))
     (image_then (λ bytes. effect bytes []) (image_in (g.D.Disk.files n.store.disk)) (image_in (g.D.Disk.files later.disk)) st.image last.image done.image (c.requires.stored.image c.requires.not_halted) (sym c.relabel-2.ensures.image))
     (λ told. (

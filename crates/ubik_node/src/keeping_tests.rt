@@ -1,0 +1,1 @@
+//! Writes that another server began.
