@@ -47,6 +47,9 @@ needs_told (body.Vote start granted) tells told = tt
 needs_told (body.GetVersion poll) tells told = tt
 needs_told (body.SetVersion poll old new) tells told = tt
 needs_told (body.VersionKept version) tells told = tt
+needs_told (body.Begin old new pieces len) tells told = tt
+needs_told (body.PutPiece new number bytes) tells told = tt
+needs_told (body.Abort new) tells told = tt
 needs_told _ tells told = told
 
 -- ---- a step
@@ -83,7 +86,7 @@ module _ {D V : Type 0} (g : Ghosts D) (db : Database) (m : Member) (clock : ℕ
       by (model.Up s) is writes ready = up_taken s (event.Ask id call) is taken writes ready
 
   pub quiet_on : RecoverySpreads → m.me < cell_size m → IsMoment clock → (e : NodeEvent) → IsTakenBy db node e → QuietOn db m e clock (node_of node)
-  quiet_on law me moment e taken = λ s up short. (step_is law me moment s e short up taken).server
+  quiet_on law me moment e taken = λ s up short. let step = step_is law me moment s e short up taken in record { server = step.server; own = step.own }
 
 -- what a step needs, where the image of the server stands for a state of the database
 pub needs_met : {D V : Type 0} (g : Ghosts D) (standing : Standing) (m : Member) (node : Node D V) (disk : IsSoundDisk g node.store.disk)

@@ -1,12 +1,13 @@
 -- Files that a disk tells, and that stay plain.
-use Rattle.std.proofs.Common.{◌≡◌, Option, Some, None, IfSome, IsSome, IsSomeAnd, List, refl, sym, subst}
+use Rattle.std.proofs.Common.{◌≡◌, Option, Some, None, IfSome, IsSome, IsSomeAnd, List, [], ◌∷◌, refl, sym, subst}
 use Rattle.std.proofs.lemmas.Bool.{false≢true}
 use Rattle.disk_base.specs.declared.disks.Disk.{Ghosts}
 use Rattle.disk_base.specs.Crash.{LeavesOnly}
 use Rattle.disk_base.specs.Files.{Files}
 use Rattle.ubik_store.specs.Gaps.{IsPlain}
-use Rattle.cell_model.specs.Durable.{Durable, Made}
-use Rattle.ubik_node.specs.Disk.{LeavesWithin}
+use Rattle.cell_model.specs.Durable.{Commit, Committed, Durable, DurableCall, Install, Made, Own_relabelling, Reason, Received, Relabel}
+use Rattle.recovery_laws.specs.Spreads.{AllTakeNoWrite, TakesNoWrite}
+use Rattle.ubik_node.specs.Disk.{LeavesWithin, TakenCutNoPut, TakenCutsNoPut}
 
 -- ---- what is there
 
@@ -30,9 +31,21 @@ pub if_more : {X : Type 0} (o : Option X) (P Q : X → Type 0) → ((x : X) → 
 if_more None P Q more holds = tt
 if_more (Some x) P Q more holds = more x holds
 
+-- where no changes are taken from another server, none of them cut a put
+none_taken : (calls : List Made) → AllTakeNoWrite calls → TakenCutNoPut calls
+none_taken [] own = tt
+none_taken (made ∷ calls) own = (by made.reason made.call own.0, none_taken calls own.1)
+  where
+    by : (r : Reason) (c : DurableCall) → TakesNoWrite r c → TakenCutsNoPut r c
+    by Received (Commit version changes image) none = absurd none
+    by Received (Relabel version) none = tt
+    by Received (Install version image) none = tt
+    by Own_relabelling c none = tt
+    by (Committed t) c none = tt
+
 -- plain files stay plain
 pub left_plain : {D : Type 0} (g : Ghosts D) (d : Durable) (old new : D) (calls : List Made) (fs later : Files) → g.files old ≡ Some fs → IsPlain fs
-    → LeavesWithin g d old new calls → g.may_leave new later → IsPlain later
-left_plain g d old new calls fs later is plain leaves left =
-    let run = of_some (g.files old) fs (λ fs. IsPlain fs → LeavesOnly g.steps g.left_since old new IsPlain) is leaves.plain plain in
+    → AllTakeNoWrite calls → LeavesWithin g d old new calls → g.may_leave new later → IsPlain later
+left_plain g d old new calls fs later is plain own leaves left =
+    let run = of_some (g.files old) fs (λ fs. IsPlain fs → LeavesOnly g.steps g.left_since old new IsPlain) is (leaves.plain (none_taken calls own)) plain in
     run.each later (g.counts_now new (g.steps old) later run.later left)

@@ -146,7 +146,7 @@ fails_first {D} g d old new calls fails =
       leaves = record {
         moments = if_more (g.files old) _ _ (λ fs run. widened g.steps g.left_since old new (StandsWithin d []) (StandsWithin d calls) within run)
             fails.leaves.moments;
-        plain = fails.leaves.plain;
+        plain = λ _. fails.leaves.plain tt;
       };
       whole = 0;
       now = if_more (g.files old) _ _ (λ fs narrows c left. between c (narrows c left)) fails.now;

@@ -74,7 +74,7 @@ module _ (m : Member) (now : ℕ) (e : NodeEvent) (inside : m.me < cell_size m) 
       (λ _. cond_both (version_eq s.version old && version_lt old new) _ _ (Goes 1 m e s)
       (λ rises. follows m e 1 0 s (relabelled_by s new) (answers_version_kept m host)
       (makes m e s (with_database s new s.image) (record { call = durables.Relabel new; reason = Received }) [] refl
-      (record { version = is; later = above_first old new (and_both (version_eq s.version old) (version_lt old new) rises).1 })
+      (record { version = is; later = above_first old new (and_both (version_eq s.version old) (version_lt old new) rises).1 }) tt
       (database_is (cell_size m) s new s.image is good) tt)
       (λ after. kept_goes 0 (with_database s new s.image) host there after))
       (λ _. tells_goes 1 s host poll there good)))
@@ -280,6 +280,7 @@ module _ (host : Host) (s : Server) (now : ℕ) (moment : IsMoment now) (good : 
         fits = ((record { version = next; later = next_later s.version }, small), tt);
         leads = refl;
         few = omega arith;
+        own = (tt, tt);
       }
 
   last_goes : Alone (last_counter (one_of host) s now id)
@@ -372,7 +373,7 @@ module _ (db : Database) (m : Member) (now : ℕ) (inside : m.me < cell_size m) 
       again u t goes version image =
           before m e 2 s u (record { server = t.server; calls = t.calls; shown = t.shown })
           (ap (λ (v : Version). durables.durable v u.image) (sym version) ∙ ap (λ (i : List ℕ). durables.durable s.version i) (sym image))
-          (record { server = goes.server; shown = goes.shown; fits = goes.fits; leads = goes.leads; few = goes.few })
+          (record { server = goes.server; shown = goes.shown; fits = goes.fits; leads = goes.leads; few = goes.few; own = goes.own })
 
       kept : (f : Option Flight) → f ≡ None → P (write_lapsed m s now f)
       kept None is = again s (handled db m s now e short) (handled_goes s e short good taken) refl refl

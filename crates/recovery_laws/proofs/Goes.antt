@@ -16,7 +16,7 @@ use Rattle.cell_model.specs.Voters.{IsOkOf, AnswersCall, AsksNoOther}
 use Rattle.cell_model.specs.World.{packets_of}
 use Rattle.cell_places.proofs.Hosts.{HasPlace, all_placed, host_placed}
 use Rattle.recovery_laws.specs.HasNoWrite.{HasNoWrite, IsRecoveryBody, IsRecoveryPacket}
-use Rattle.recovery_laws.specs.Spreads.{FitsOver, AllFit, durable_of}
+use Rattle.recovery_laws.specs.Spreads.{FitsOver, AllFit, TakesNoWrite, AllTakeNoWrite, durable_of}
 
 -- ---- what is shown
 
@@ -97,6 +97,10 @@ after_append : (d : Durable) (calls more : List Made) →
 after_append d [] more = refl
 after_append d (made ∷ calls) more = after_append (durable_after d made.call) calls more
 
+own_append : (calls more : List Made) → AllTakeNoWrite calls → AllTakeNoWrite more → AllTakeNoWrite (calls ++ more)
+own_append [] more first second = second
+own_append (made ∷ calls) more first second = (first.0, own_append calls more first.1 second)
+
 zero_few : (n : ℕ) → zero ≤ n
 zero_few n = omega arith
 
@@ -112,12 +116,13 @@ pub record Goes (most : ℕ) (m : Member) (e : NodeEvent) (s : Server) (t : Step
   pub fits : AllFit (durable_of s) t.calls
   pub leads : durable_after_all (durable_of s) t.calls ≡ durable_of t.server
   pub few : length t.calls ≤ most
+  pub own : AllTakeNoWrite t.calls
 
 module _ (m : Member) (e : NodeEvent) where
   -- the server is another one, with the same database
   pub turns : (most : ℕ) (s u : Server) (shown : List Shown) → durable_of s ≡ durable_of u → HasNoWrite (cell_size m) u →
       AllFine m e shown → Goes most m e s (showing u shown)
-  turns most s u shown same good fine = record { server = good; shown = fine; fits = tt; leads = same; few = zero_few most }
+  turns most s u shown same good fine = record { server = good; shown = fine; fits = tt; leads = same; few = zero_few most; own = tt }
 
   pub shows : (most : ℕ) (s : Server) (shown : List Shown) → HasNoWrite (cell_size m) s → AllFine m e shown →
       Goes most m e s (showing s shown)
@@ -128,10 +133,10 @@ module _ (m : Member) (e : NodeEvent) where
 
   -- one durable call
   pub makes : (s u : Server) (made : Made) (shown : List Shown) → durable_after (durable_of s) made.call ≡ durable_of u →
-      FitsOver s.image made.call → HasNoWrite (cell_size m) u → AllFine m e shown →
+      FitsOver s.image made.call → TakesNoWrite made.reason made.call → HasNoWrite (cell_size m) u → AllFine m e shown →
       Goes 1 m e s (record { server = u; calls = made ∷ []; shown = shown })
-  makes s u made shown same fits good fine =
-      record { server = good; shown = fine; fits = (fits, tt); leads = same; few = omega arith }
+  makes s u made shown same fits own good fine =
+      record { server = good; shown = fine; fits = (fits, tt); leads = same; few = omega arith; own = (own, tt) }
 
   pub follows : (a b : ℕ) (s : Server) (t : Stepped) (next : Server → Stepped) → Goes a m e s t →
       (HasNoWrite (cell_size m) t.server → Goes b m e t.server (next t.server)) → Goes (a + b) m e s (followed t next)
@@ -150,6 +155,7 @@ module _ (m : Member) (e : NodeEvent) where
         few =
             sum_few (length (t.calls ++ (next t.server).calls)) (length t.calls) (length (next t.server).calls) a b
             (length-append t.calls (next t.server).calls) first.few then.few;
+        own = own_append t.calls (next t.server).calls first.own then.own;
       }
 
   -- the same from a server that has the same database
@@ -160,6 +166,7 @@ module _ (m : Member) (e : NodeEvent) where
     fits = subst (λ (d : Durable). AllFit d t.calls) same goes.fits;
     leads = ap (λ (d : Durable). durable_after_all d t.calls) (sym same) ∙ goes.leads;
     few = goes.few;
+    own = goes.own;
   }
 
   -- at most more
@@ -170,6 +177,7 @@ module _ (m : Member) (e : NodeEvent) where
     fits = goes.fits;
     leads = goes.leads;
     few = at_most (length t.calls) goes.few;
+    own = goes.own;
   }
     where
       at_most : (n : ℕ) → n ≤ less → n ≤ most

@@ -74,7 +74,7 @@ module _ (m : Member) (now : ℕ) (e : NodeEvent) (inside : m.me < cell_size m) 
 
       made : Goes 1 m e s begun
       made =
-          makes m e s begun.server (own_relabelling (first_of_epoch now)) begun.shown refl (first_later now moment)
+          makes m e s begun.server (own_relabelling (first_of_epoch now)) begun.shown refl (first_later now moment) tt
           (phase_is (cell_size m) (with_database s (first_of_epoch now) s.image) begun.server.phase (is, good.version)
           (database_is (cell_size m) s (first_of_epoch now) s.image (first_is now moment) good))
           (each_fine m e inside (λ k. spread_answer begun.server poll s.version (entry_at poll.answers k))
@@ -236,7 +236,7 @@ module _ (m : Member) (now : ℕ) (e : NodeEvent) (inside : m.me < cell_size m) 
       Goes 1 m e s (installed s version text.bytes)
   installed_goes s version text is whole good =
       makes m e s (with_database s version text.bytes) (record { call = durables.Install version text.bytes; reason = Received }) [] refl
-      (is, whole_fits text whole) (database_is (cell_size m) s version text.bytes is.version good) tt
+      (is, whole_fits text whole) tt (database_is (cell_size m) s version text.bytes is.version good) tt
 
   fetch_goes : (s : Server) (poll : Polled) (best : Version) (from : ℕ) (text : Option ReceivedText) → IsReceived text →
       IsPollOf (cell_size m) poll → IsVersion best → from < cell_size m → Good s →

@@ -127,6 +127,7 @@ recovery_spreads long = record {
         leads = goes.leads;
         versions = λ made. versions_within (durable_of s) (step_of db m s now e short).calls made good.version goes.fits;
         few = goes.few;
+        own = goes.own;
       };
   answers = λ db m s now e short call inside moment good taken asks.
       fine_answers m e call (step_of db m s now e short).shown asks (step_goes db m now inside moment s e short good taken).shown;

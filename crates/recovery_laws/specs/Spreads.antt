@@ -14,7 +14,7 @@ use Rattle.ubik_calls.specs.Length.{HasShortBytes}
 use Rattle.ubik_calls.specs.WireGrammar.{HasSpelling}
 use Rattle.db_image.specs.Database.{Database}
 use Rattle.cell_model.specs.declared.events.NodeEvent.{NodeEvent}
-use Rattle.cell_model.specs.Durable.{Durable, DurableCall, Commit, Relabel, Install, Made, durable, durable_after, durable_after_all}
+use Rattle.cell_model.specs.Durable.{Durable, DurableCall, Commit, Relabel, Install, Made, Reason, Received, durable, durable_after, durable_after_all}
 use Rattle.cell_model.specs.Node.{Server, opened_server}
 use Rattle.cell_model.specs.NodeRule.{step_of}
 use Rattle.cell_model.specs.Step.{Member, cell_size, Stepped}
@@ -41,13 +41,23 @@ abbrev pub AllFit : Durable → List Made → Type 0
 AllFit d [] = Unit {0}
 AllFit d (made ∷ calls) = FitsOver d.image made.call × AllFit (durable_after d made.call) calls
 
+-- no changes are taken from another server
+abbrev pub TakesNoWrite : Reason → DurableCall → Type 0
+TakesNoWrite Received (Commit version changes image) = ⊥
+TakesNoWrite _ _ = Unit {0}
+
+abbrev pub AllTakeNoWrite : List Made → Type 0
+AllTakeNoWrite [] = Unit {0}
+AllTakeNoWrite (made ∷ calls) = TakesNoWrite made.reason made.call × AllTakeNoWrite calls
+
 abbrev pub durable_of : Server → Durable
 durable_of s = durable s.version s.image
 
 -- ---- steps
 
 -- A step after which the server has no write either. It sends packets of votes and recovery alone, and makes at most two durable calls,
--- which fit, and lead to the database of the server; after the first so many of them the database has a version too.
+-- which fit, take no changes from another server, and lead to the database of the server; after the first so many of them the database has a
+-- version too.
 pub record IsRecoveryStep (m : Member) (s : Server) (t : Stepped) : Type 0 where
   pub server : HasNoWrite (cell_size m) t.server
   pub packets : All (IsRecoveryPacket m.hosts) (packets_of t.shown)
@@ -55,6 +65,7 @@ pub record IsRecoveryStep (m : Member) (s : Server) (t : Stepped) : Type 0 where
   pub leads : durable_after_all (durable_of s) t.calls ≡ durable_of t.server
   pub versions : (made : ℕ) → IsVersion (durable_after_all (durable_of s) (take made t.calls)).version
   pub few : length t.calls ≤ 2
+  pub own : AllTakeNoWrite t.calls
 
 -- what a server of code asks of a packet: the version that it may come to have by it is one
 abbrev pub NamesVersion : Body → Type 0

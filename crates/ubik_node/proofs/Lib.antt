@@ -1,6 +1,7 @@
 pub mod AfterReads
 pub mod Alone
 pub mod Appended
+pub mod Begun
 pub mod Calling
 pub mod Closing
 pub mod Committing

@@ -1,5 +1,6 @@
 //! The writes that another server began: they are kept until their commit comes. All memory is taken before the disk is changed.
-ghost use Rattle.std.specs.Prelude.{◌≡◌, [], true, false, None, Some, IfSome, IsSome, OnOk, OnErr};
+ghost use Rattle.std.specs.Prelude.{◌≡◌, ◌<◌, [], length, true, false, None, Some, IsSome, OnOk, OnErr};
+ghost use Rattle.ubik_types.specs.Logged.{too_large};
 ghost use Rattle.ubik_types.specs.Version.{IsVersion, version_lt};
 ghost use Rattle.cell_model.specs.Receiver.{abort_received, begin_received, committed_by, commit_received, kept_with, put_piece_received, whole_write};
 ghost use Rattle.cell_model.specs.Step.{quiet};

@@ -1,1 +1,331 @@
-//! Writes that another server began.
+//! The second of two servers, which keeps the writes that host 1 begins there.
+ghost use Rattle.std.specs.Prelude.{◌≡◌, ◌≤◌, IfOk};
+ghost use Rattle.disk_base.specs.Crash.{IsSettled};
+ghost use Rattle.ubik_node.specs.Built.{IsBuiltBody};
+ghost use Rattle.ubik_node.specs.Node.{IsStored};
+
+use super::*;
+use crate::tests::{Server, filled, revived, step, version};
+use crate::transfer_tests::{comes, has, one_of_two};
+use disk_base::{Fill, MemDisk};
+use std::alloc::Global;
+use std::process::Abort;
+use std::test::Fail;
+use ubik_types::{Host, Version, bytes_of};
+
+const OLD: Version = version(2000, 1);
+
+const NEXT: Version = version(2000, 2);
+
+const NEW: Version = version(2000, 3);
+
+/// The image before a write, and after it.
+const BEFORE: &[u8] = b"abc";
+
+const AFTER: &[u8] = b"aXYZW";
+
+/// The text of the write: four bytes are put at position 1.
+const TEXT: [u8; 16] = [
+    0, 0, 0, 1, 0, 0, 0, 1, 0, 0, 0, 4, b'X', b'Y', b'Z', b'W',
+];
+
+/// A packet of host 1 about a write from the old version to the new one, in three pieces.
+#[derive(Clone, Copy)]
+enum Sent {
+    Begin,
+    /// It begins at another version.
+    BeginAt(Version),
+    /// Its text is said to be one byte longer.
+    BeginLonger,
+    /// It has more pieces than a write may have.
+    BeginMany,
+    Piece(u32),
+    /// A piece with the number of none.
+    PieceAt(u32),
+    /// A first piece of no text of changes.
+    Strange,
+    /// It follows this version.
+    Commit(Version),
+    Abort(Version),
+    /// The next version without a change.
+    Set,
+}
+
+fn begin(old: Version, pieces: u32, len: u32) -> Body
+    ensures { result ≡ Body.Begin old (record { epoch = 2000; counter = 3 }) pieces len }
+{
+    Body::Begin {
+        old,
+        new: NEW,
+        pieces,
+        len,
+    }
+}
+
+/// A piece of the text: the last one is shorter.
+fn piece(rt: &impl Abort, alloc: Global, number: u32) -> Result<Body, Fail> {
+    let bytes = match number {
+        0 => &TEXT[..6],
+        1 => &TEXT[6..12],
+        2 => &TEXT[12..],
+        _ => panic!(rt; "no piece {number}"),
+    };
+    let bytes = bytes_of(alloc, bytes)?;
+    Ok(Body::PutPiece {
+        new: NEW,
+        number,
+        bytes,
+    })
+}
+
+fn body_of(rt: &impl Abort, alloc: Global, sent: Sent) -> Result<Body, Fail> {
+    let body = match sent {
+        Sent::Begin => begin(OLD, 3, 16),
+        Sent::BeginAt(old) => begin(old, 3, 16),
+        Sent::BeginLonger => begin(OLD, 3, 17),
+        Sent::BeginMany => begin(OLD, 161, 16),
+        Sent::Piece(number) => piece(rt, alloc, number)?,
+        Sent::PieceAt(number) => Body::PutPiece {
+            new: NEW,
+            number,
+            bytes: bytes_of(alloc, b"more")?,
+        },
+        Sent::Strange => Body::PutPiece {
+            new: NEW,
+            number: 0,
+            bytes: bytes_of(alloc, &[0, 0, 0, 7, 0, 0])?,
+        },
+        Sent::Commit(old) => Body::Commit { old, new: NEW },
+        Sent::Abort(new) => Body::Abort { new },
+        Sent::Set => Body::SetVersion {
+            poll: 1960,
+            old: OLD,
+            new: NEXT,
+        },
+    };
+    Ok(body)
+}
+
+/// The version that the second server says to have once a packet has come; none where it says nothing.
+fn hears<D: SteadyDisk>(
+    rt: &impl Abort,
+    alloc: Global,
+    node: &mut Server<D>,
+    sent: Sent,
+) -> Result<Option<Version>, Fail>
+    requires stored { IsStored D.Disk node.old }
+    ensures stored { IsStored D.Disk node.new }
+{
+    let packet = Packet {
+        from: Host(1),
+        to: Host(2),
+        body: body_of(rt, alloc, sent)?,
+    };
+    let mut out = comes(rt, alloc, node, 2010, packet)?;
+    let told = match out.take() {
+        Some(Output::Send(answer)) => {
+            assert_eq!(rt; (answer.from, answer.to), (Host(2), Host(1)));
+            match answer.body {
+                Body::VersionKept { version } => Some(version),
+                _ => panic!(rt; "another packet"),
+            }
+        }
+        Some(_) => panic!(rt; "no packet"),
+        None => None,
+    };
+    assert!(rt; out.take().is_none());
+    Ok(told)
+}
+
+/// The second server, over the image before the write.
+fn second(rt: &impl Abort, alloc: Global) -> Result<Server<MemDisk>, Fail>
+    ensures stored { IfOk result (IsStored MemDisk.Disk) }
+{
+    let disk = filled(rt, alloc, MemDisk::new(alloc, &[])?, BEFORE)?;
+    one_of_two(rt, alloc, revived(disk), 1)
+}
+
+/// Packets come to a server, of which only the last may be answered. What it answers.
+fn hears_all<D: SteadyDisk>(
+    rt: &impl Abort,
+    alloc: Global,
+    node: &mut Server<D>,
+    sent: &[Sent],
+) -> Result<Option<Version>, Fail>
+    requires stored { IsStored D.Disk node.old }
+    ensures stored { IsStored D.Disk node.new }
+{
+    let mut told = None;
+    for one in sent {
+        told = hears(rt, alloc, node, *one)?;
+    }
+    Ok(told)
+}
+
+/// What a server reads that knows by a beacon that its version is the one of the sync site.
+fn reads<D: SteadyDisk>(
+    rt: &impl Abort,
+    alloc: Global,
+    node: &mut Server<D>,
+    wanted: (Version, &[u8]),
+) -> Result<(), Fail>
+    requires stored { IsStored D.Disk node.old }
+    ensures stored { IsStored D.Disk node.new }
+{
+    let packet = Packet {
+        from: Host(1),
+        to: Host(2),
+        body: Body::Beacon {
+            start: 2040,
+            claim: true,
+            ready: true,
+            version: wanted.0,
+        },
+    };
+    let _ = comes(rt, alloc, node, 2040, packet)?;
+    has(rt, alloc, node, wanted)
+}
+
+/// Packets, what the last one is answered, and the version of the server after it.
+type Row = (&'static [Sent], Option<Version>, Version);
+
+const ROWS: [Row; 13] = [
+    (
+        &[Sent::Begin, Sent::Piece(0), Sent::Piece(1), Sent::Piece(2), Sent::Commit(OLD)],
+        Some(NEW),
+        NEW,
+    ),
+    // In another order, and one of them twice.
+    (
+        &[Sent::Begin, Sent::Piece(2), Sent::Piece(0), Sent::Piece(0), Sent::Piece(1), Sent::Commit(OLD)],
+        Some(NEW),
+        NEW,
+    ),
+    // A piece takes the place of another one of its number; a piece past the last one is nothing.
+    (
+        &[Sent::Begin, Sent::Strange, Sent::Piece(2), Sent::Piece(1), Sent::PieceAt(3), Sent::Piece(0), Sent::Commit(OLD)],
+        Some(NEW),
+        NEW,
+    ),
+    // The last piece comes behind a commit, which is not answered.
+    (
+        &[Sent::Begin, Sent::Piece(1), Sent::Piece(2), Sent::Commit(OLD), Sent::Piece(0), Sent::Commit(OLD)],
+        Some(NEW),
+        NEW,
+    ),
+    // A write takes the place of another one; one of too many pieces is none, and another one is given up.
+    (
+        &[
+            Sent::BeginLonger, Sent::Begin, Sent::BeginMany, Sent::Piece(0), Sent::Piece(1), Sent::Piece(2), Sent::Abort(NEXT),
+            Sent::Commit(OLD),
+        ],
+        Some(NEW),
+        NEW,
+    ),
+    // Once it is committed that is said again, and a new write from the old version is none.
+    (
+        &[
+            Sent::Begin, Sent::Piece(0), Sent::Piece(1), Sent::Piece(2), Sent::Commit(OLD), Sent::Begin, Sent::Commit(OLD),
+        ],
+        Some(NEW),
+        NEW,
+    ),
+    // A piece is missing.
+    (
+        &[Sent::Begin, Sent::Piece(0), Sent::Piece(2), Sent::Commit(OLD)],
+        None,
+        OLD,
+    ),
+    (
+        &[Sent::BeginAt(NEXT), Sent::Piece(0), Sent::Piece(1), Sent::Piece(2), Sent::Commit(OLD)],
+        None,
+        OLD,
+    ),
+    (
+        &[Sent::Begin, Sent::Piece(0), Sent::Piece(1), Sent::Piece(2), Sent::Commit(NEXT)],
+        None,
+        OLD,
+    ),
+    (
+        &[Sent::BeginLonger, Sent::Piece(0), Sent::Piece(1), Sent::Piece(2), Sent::Commit(OLD)],
+        None,
+        OLD,
+    ),
+    (
+        &[Sent::Begin, Sent::Strange, Sent::Piece(1), Sent::Piece(2), Sent::Commit(OLD)],
+        None,
+        OLD,
+    ),
+    (
+        &[Sent::Begin, Sent::Piece(0), Sent::Piece(1), Sent::Piece(2), Sent::Abort(NEW), Sent::Commit(OLD)],
+        None,
+        OLD,
+    ),
+    // A change of version drops the write, also where its commit names the version after that.
+    (
+        &[Sent::Begin, Sent::Piece(0), Sent::Piece(1), Sent::Piece(2), Sent::Set, Sent::Commit(NEXT)],
+        None,
+        NEXT,
+    ),
+];
+
+/// One row.
+fn ends_so(rt: &impl Abort, alloc: Global, row: &Row) -> Result<(), Fail> {
+    let (sent, answer, last) = row;
+    let mut node = second(rt, alloc)?;
+    let told = hears_all(rt, alloc, &mut node, sent)?;
+    assert_eq!(rt; told, *answer);
+    let image = if *last == NEW { AFTER } else { BEFORE };
+    reads(rt, alloc, &mut node, (*last, image))
+}
+
+#[test]
+fn writes_that_another_server_began(rt: HostRuntime) -> Result<(), Fail> {
+    let alloc = rt.alloc();
+    for row in &ROWS {
+        ends_so(&rt, alloc, row)?;
+    }
+    Ok(())
+}
+
+/// The changing calls of a commit of one put.
+const CALLS: u32 = 14;
+
+/// The version and the length that an opening finds after a commit in which the disk stops after so many changing calls.
+fn stopped_at(rt: &impl Abort, alloc: Global, calls: u32, fill: Fill) -> Result<(Version, u32), Fail> {
+    let mut node = second(rt, alloc)?;
+    let whole = [Sent::Begin, Sent::Piece(0), Sent::Piece(1), Sent::Piece(2)];
+    let _ = hears_all(rt, alloc, &mut node, &whole)?;
+    node.arm(calls, fill);
+    let commit = Packet {
+        from: Host(1),
+        to: Host(2),
+        body: Body::Commit { old: OLD, new: NEW },
+    };
+    let is_short = calls < CALLS;
+    let (end, own) = if is_short {
+        (StepEnd::Halted, OLD)
+    } else {
+        (StepEnd::Done, NEW)
+    };
+    let mut out = step(rt, alloc, &mut node, 2011, NodeEvent::Packet(commit), end)?;
+    assert_eq!(rt; (out.take().is_none(), node.stopped()), (is_short, is_short));
+    assert_eq!(rt; node.version(), own);
+    let again = one_of_two(rt, alloc, revived(node.close()), 1)?;
+    Ok((again.version(), again.len()))
+}
+
+#[test]
+fn a_stop_in_each_call_of_a_commit_for_another_server(rt: HostRuntime) -> Result<(), Fail> {
+    let alloc = rt.alloc();
+    for calls in 0..=CALLS {
+        for fill in [Fill::Old, Fill::New, Fill::Byte(100)] {
+            let found = stopped_at(&rt, alloc, calls, fill)?;
+            // The fifth call writes the gate, whose byte is then 100, and the sixth syncs it.
+            let is_after = calls > 5 || calls > 3 && fill != Fill::Old;
+            let wanted = if is_after { (NEW, 5) } else { (OLD, 3) };
+            assert_eq!(rt; found, wanted, "after {calls} calls");
+        }
+    }
+    Ok(())
+}

@@ -1,4 +1,5 @@
 //! What a server keeps between two steps, apart from its disk; and how each step begins.
+ghost use Rattle.std.specs.Option.{ForSome};
 ghost use Rattle.std.specs.Prelude.{◌≡◌, ◌≤◌, ◌<◌, ◌+◌, ◌++◌, length, None, IfSome};
 ghost use Rattle.ubik_types.specs.Version.{IsVersion};
 ghost use Rattle.ubik_types.specs.declared.limits.TheConstants.{MAX_IMAGE};
@@ -40,7 +41,7 @@ pub struct State {
     ghost counter_fits: { version.counter ≤ MAX_COUNTER },
     ghost image_fits: { length image ≤ MAX_IMAGE },
     ghost of_cell: { IsOfCell (length cell) recovery },
-    ghost begun: { IfSome pending (IsKeptOver version) },
+    ghost begun: { ForSome pending (IsKeptOver version) },
 }
 
 impl State {

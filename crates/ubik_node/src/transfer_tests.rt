@@ -28,7 +28,7 @@ struct Pair<D: SteadyDisk> {
 }
 
 /// Opens a server of a cell of two at 1950.
-fn one_of_two<D: SteadyDisk + Drop>(
+pub(crate) fn one_of_two<D: SteadyDisk + Drop>(
     rt: &impl Abort,
     alloc: Global,
     disk: D,
@@ -57,16 +57,13 @@ fn is_built(body: &Body) -> bool
 {
     match body {
         Body::VersionIs { version, .. } | Body::SendPiece { version, .. } => is_version(*version),
-        Body::SetVersion { new, .. } => is_version(*new),
-        Body::Begin { .. } | Body::PutPiece { .. } | Body::Commit { .. } | Body::Abort { .. } => {
-            false
-        }
+        Body::SetVersion { new, .. } | Body::Begin { new, .. } => is_version(*new),
         _ => true,
     }
 }
 
 /// A packet comes to a server.
-fn comes<D: SteadyDisk>(
+pub(crate) fn comes<D: SteadyDisk>(
     rt: &impl Abort,
     alloc: Global,
     node: &mut Server<D>,
@@ -272,7 +269,7 @@ fn turn<D: SteadyDisk>(
 }
 
 /// A server has the image under a version, and reads it.
-fn has<D: SteadyDisk>(
+pub(crate) fn has<D: SteadyDisk>(
     rt: &impl Abort,
     alloc: Global,
     node: &mut Server<D>,

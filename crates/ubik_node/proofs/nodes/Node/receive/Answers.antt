@@ -8,7 +8,7 @@ use Rattle.ubik_node.specs.Built.{BodyTakesNoMemory, IsBuiltBody}
 use Rattle.ubik_node.specs.Node.{held}
 use Rattle.ubik_node.specs.State.{member_of, server_of}
 use Rattle.ubik_node.proofs.Endings.{rests_ends, shown_ends}
-use Rattle.ubik_node.proofs.Keeping.{quiet_ends, quietly}
+use Rattle.ubik_node.proofs.Begun.{quiet_ends, quietly}
 use Rattle.ubik_node.proofs.Places.{placed}
 use Rattle.ubik_node.proofs.Told.{sent_as}
 use Rattle.ubik_node.proofs.Voted.{behind, ignored_ends, placed_ends}
