@@ -1,9 +1,8 @@
 -- The write that another server began.
 use Rattle.std.specs.Option.{ForSome}
-use Rattle.std.proofs.Common.{◌≡◌, ◌∙◌, Bool, true, false, cond, Option, Some, None, List, [], ℕ, Result, refl, sym, ap, subst, arith}
-use Rattle.std.proofs.lemmas.Bool.{false≢true}
+use Rattle.std.proofs.Common.{◌≡◌, ◌≢◌, ◌⊎◌, ◌∙◌, ⊎_elim, Bool, true, false, cond, Option, Some, None, List, [], length, ℕ, Result, Ok, Err, refl, sym, ap, subst, arith}
 use Rattle.std.proofs.lemmas.Bool.Decides.{nat_tests}
-use Rattle.std.specs.Prelude.{◌&&◌, is_none, nat_le}
+use Rattle.std.specs.Prelude.{◌&&◌, is_none, nat_le, OnOk, OnErr}
 use Rattle.disk_base.specs.declared.disks.Disk.{Ghosts}
 use Rattle.ubik_types.specs.declared.images.Change.{Change}
 use Rattle.ubik_types.specs.declared.hosts.Host.{Host}
@@ -12,6 +11,9 @@ use Rattle.ubik_types.specs.Logged.{too_large}
 use Rattle.ubik_types.specs.Version.{IsVersion, version_eq, version_lt}
 use Rattle.ubik_calls.specs.declared.packets.TheConstants.{MAX_PIECES}
 use Rattle.ubik_store.specs.declared.faults.StoreFault.{StoreFault}
+use Rattle.ubik_store.specs.declared.faults.StoreFault.TheVariants.{BadLabel, DiskFault, NoMemory, NotNewer, TooLarge}
+use Rattle.ubik_store.specs.declared.stores.Store.{Store}
+use Rattle.ubik_store.specs.DurableCall.{EndsAs, HasFailed, IsNeverLong, Refuses}
 use Rattle.cell_model.specs.declared.events.Output.{Output}
 use Rattle.cell_model.specs.Node.{KeptWrite, Server}
 use Rattle.cell_model.specs.Receiver.{abort_received, answers_version_kept, begin_received, commit_received, committed_by, empty_write, is_sending, kept_but, kept_with, put_piece_received, whole_changes, whole_write, write_taken}
@@ -19,6 +21,7 @@ use Rattle.cell_model.specs.Step.{Member, Stepped, followed, quiet}
 use Rattle.ubik_node.specs.Keeping.{IsKeptOver}
 use Rattle.ubik_node.specs.Node.{Ends, Held}
 use Rattle.ubik_node.specs.State.{ShowsBehind}
+use Rattle.ubik_write.specs.Pending.{with_piece_at}
 
 -- ---- rules that show nothing
 
@@ -113,3 +116,29 @@ whole_over own new (Some w) changes over is = by (version_eq w.new new) refl
     by : (b : Bool) → version_eq w.new new ≡ b → IsVersion new × (version_lt own new ≡ true)
     by true same = let it = same_version w.new new same in let known = over w refl in (subst IsVersion it known.version, subst (λ (v : Version). version_lt own v ≡ true) it known.newer)
     by false other = let none : None ≡ Some changes = sym (ap (λ (b : Bool). cond b (whole_changes w) None) other) ∙ is in absurd cc
+
+pub newer_than : (own old new : Version) → (version_eq own old && version_lt old new) ≡ true → version_lt own new ≡ true
+newer_than own old new is = grind (arith, nat_tests)
+
+-- ---- a durable call that was not made
+
+pub commit_ended : {D : Type 0} (g : Ghosts D) (v : Version) (old new : Store D) (e : StoreFault) → version_lt old.version v ≡ true → (e ≡ DiskFault) ⊎ (e ≡ NoMemory)
+    → (e ≡ DiskFault → HasFailed old new) → (e ≢ DiskFault → Refuses g old new) → EndsAs g IsNeverLong v old new e
+commit_ended g v old new DiskFault newer cause failed refused = failed refl
+commit_ended g v old new (BadLabel len head) newer cause failed refused = ⊎_elim (λ is. absurd cc) (λ is. absurd cc) cause
+commit_ended g v old new (TooLarge bytes) newer cause failed refused = ⊎_elim (λ is. absurd cc) (λ is. absurd cc) cause
+commit_ended g v old new (NotNewer own given) newer cause failed refused = ⊎_elim (λ is. absurd cc) (λ is. absurd cc) cause
+commit_ended g v old new NoMemory newer cause failed refused = (newer, refused (λ is. absurd cc))
+
+-- ---- a piece
+
+-- whether it was taken or memory lacked, the write is of the same version
+pub same_new : {E : Type 0} (r : Result (Unit {0}) E) (number : ℕ) (bytes : List ℕ) (before after : KeptWrite) → OnOk r (after ≡ with_piece_at number bytes before) → OnErr r (after ≡ before) → after.new ≡ before.new
+same_new (Ok done) number bytes before after ok err = ap (λ (w : KeptWrite). w.new) ok
+same_new (Err e) number bytes before after ok err = ap (λ (w : KeptWrite). w.new) err
+
+pub still_over : (own : Version) (before after : KeptWrite) → after.new ≡ before.new → IsKeptOver own before → ForSome (Some after) (IsKeptOver own)
+still_over own before after same over = λ w is.
+    let it : after ≡ w = cc in
+    let new : before.new ≡ w.new = sym same ∙ ap (λ (x : KeptWrite). x.new) it in
+    record { version = subst IsVersion new over.version; newer = subst (λ (v : Version). version_lt own v ≡ true) new over.newer }

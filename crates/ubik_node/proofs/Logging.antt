@@ -1,16 +1,16 @@
 -- The changes of a transaction as a store keeps them, begun one after the other.
 use Rattle.std.proofs.Common.{◌≡◌, ◌≢◌, ℕ, ◌+◌, ◌-◌, max, min, Bool, true, false, cond, ltb, List, [], ◌∷◌, ◌++◌, length, replicate, Option, Some, None, IfSome, refl, sym, ap, ◌∙◌, append_assoc, arith}
-use Rattle.std.proofs.lemmas.Bool.{false≢true, ltb-true}
+use Rattle.std.proofs.lemmas.Bool.{false≢true, ltb-false, ltb-true}
 use Rattle.std.proofs.lemmas.List.{length-replicate}
 use Rattle.ubik_types.specs.declared.images.Change.{Change}
 use Rattle.ubik_types.specs.declared.images.Change.TheVariants.{Put, Cut}
-use Rattle.ubik_types.specs.Logged.{gap_before, logged}
+use Rattle.ubik_types.specs.Logged.{first_of_two, gap_before, logged, too_large}
 use Rattle.ubik_store.specs.declared.faults.StoreFault.{StoreFault}
 use Rattle.ubik_store.specs.declared.faults.StoreFault.TheVariants.{DiskFault, BadLabel, TooLarge, NotNewer, NoMemory}
 use Rattle.ubik_store.specs.declared.stores.Store.{Store}
 use Rattle.ubik_store.specs.declared.transactions.Transaction.{Transaction}
 use Rattle.ubik_store.specs.Redo.{len_after}
-use Rattle.ubik_store.specs.Store.{Adds, IsBegunOver, IsPutRefused, changes_begun}
+use Rattle.ubik_store.specs.Store.{Adds, IsBegunOver, IsPutRefused, changes_begun, put_bytes}
 use Rattle.ubik_store.proofs.Begun.{len_after-append}
 
 -- an image that a put leads to is as long with the gap filled first
@@ -59,3 +59,70 @@ refused_in_memory s change (BadLabel len head) refused fresh is = absurd refused
 refused_in_memory s change (TooLarge bytes) refused fresh is = absurd cc
 refused_in_memory s change (NotNewer own given) refused fresh is = absurd refused
 refused_in_memory s change NoMemory refused fresh is = absurd cc
+
+-- ---- changes that pass no limit
+
+none_of_two : (a b : Option ℕ) → first_of_two a b ≡ None → (a ≡ None) × (b ≡ None)
+none_of_two None b is = (refl, is)
+none_of_two (Some a) b is = absurd cc
+
+both_none : (a b : Option ℕ) → a ≡ None → b ≡ None → first_of_two a b ≡ None
+both_none None b first second = second
+both_none (Some a) b first second = absurd cc
+
+-- the first of them
+fits_first : (sum len : ℕ) (x : Change) (rest : List Change) → too_large sum len (x ∷ rest) ≡ None → too_large sum len (x ∷ []) ≡ None
+fits_first sum len (Put at bytes) rest fits =
+    let one = none_of_two _ _ fits in
+    let two = none_of_two _ _ one.1 in
+    both_none _ _ one.0 (both_none _ _ two.0 refl)
+fits_first sum len (Cut to) rest fits = refl
+
+filled_bytes : (b : Bool) (len at : ℕ) → ltb len at ≡ b → put_bytes (cond b (Put len (replicate (at - len) 0) ∷ []) []) ≡ at - len
+filled_bytes true len at is = let zeros = length-replicate {A = ℕ} (at - len) 0 in omega (arith, zeros)
+filled_bytes false len at is = let not = ltb-false len at is in omega (arith, not)
+
+put_bytes-append : (xs ys : List Change) → put_bytes (xs ++ ys) ≡ put_bytes xs + put_bytes ys
+put_bytes-append [] ys = refl
+put_bytes-append (Put at bytes ∷ xs) ys = let rest = put_bytes-append xs ys in omega (arith, rest)
+put_bytes-append (Cut to ∷ xs) ys = put_bytes-append xs ys
+
+-- one behind others that are kept
+fits_next : (sum len : ℕ) (done : List Change) (x : Change) (rest : List Change) → too_large sum len (done ++ x ∷ rest) ≡ None
+    → too_large (sum + put_bytes (logged len done)) (len_after len (logged len done)) (x ∷ []) ≡ None
+fits_next sum len [] x rest fits =
+    let same : sum ≡ sum + 0 = omega arith in ap (λ (n : ℕ). too_large n len (x ∷ [])) (sym same) ∙ fits_first sum len x rest fits
+fits_next sum len (Put at bytes ∷ done) x rest fits =
+    let long : ℕ = max len (at + length bytes) in
+    let kept : List Change = logged long done in
+    let then = (none_of_two _ _ (none_of_two _ _ fits).1).1 in
+    let gap = filled_bytes (ltb len at) len at refl in
+    let all = put_bytes-append (gap_before len at) (Put at bytes ∷ kept) in
+    let same : sum + put_bytes (gap_before len at ++ Put at bytes ∷ kept) ≡ sum + (at - len) + length bytes + put_bytes kept = omega (arith, gap, all) in
+    ap (λ (n : ℕ). too_large n (len_after len (gap_before len at ++ Put at bytes ∷ kept)) (x ∷ [])) same
+    ∙ ap (λ (n : ℕ). too_large (sum + (at - len) + length bytes + put_bytes kept) n (x ∷ [])) (put_long len at bytes kept)
+    ∙ fits_next (sum + (at - len) + length bytes) long done x rest then
+fits_next sum len (Cut to ∷ done) x rest fits =
+    let short : ℕ = min to len in
+    let same : short ≡ min short len = omega arith in
+    ap (λ (n : ℕ). too_large (sum + put_bytes (logged short done)) (len_after n (logged short done)) (x ∷ [])) (sym same) ∙ fits_next sum short done x rest fits
+
+-- so changes that pass no limit are refused for want of memory alone
+pub refused_within : {D : Type 0} (s : Store D) (done : List Change) (change : Change) (rest : List Change) (fault : StoreFault) → IsPutRefused s change fault → s.failed ≡ false
+    → IfSome s.begun (IsBegunOver s.len) → changes_begun s.begun ≡ Some (logged s.len done) → too_large 0 s.len (done ++ change ∷ rest) ≡ None → fault ≡ NoMemory
+refused_within s done change rest DiskFault refused fresh begun is fits = absurd (false≢true (sym fresh ∙ refused))
+refused_within s done change rest (BadLabel len head) refused fresh begun is fits = absurd refused
+refused_within s done change rest (TooLarge bytes) refused fresh begun is fits = by s.begun begun is refused
+  where
+    by : (b : Option Transaction) → IfSome b (IsBegunOver s.len) → changes_begun b ≡ Some (logged s.len done) → IfSome b (λ t. too_large t.sum t.len (change ∷ []) ≡ Some bytes) → TooLarge bytes ≡ NoMemory
+    by None begun is large = absurd cc
+    by (Some t) begun is large =
+        let same : t.changes ≡ logged s.len done = cc in
+        let sum : t.sum ≡ put_bytes (logged s.len done) = begun.sum ∙ ap put_bytes same in
+        let long : t.len ≡ len_after s.len (logged s.len done) = begun.len ∙ ap (len_after s.len) same in
+        let none : too_large t.sum t.len (change ∷ []) ≡ None =
+        ap (λ (n : ℕ). too_large n t.len (change ∷ [])) sum ∙ ap (λ (n : ℕ). too_large (put_bytes (logged s.len done)) n (change ∷ [])) long ∙ fits_next 0 s.len done change rest fits in
+        let both : Some bytes ≡ None = sym large ∙ none in
+        absurd cc
+refused_within s done change rest (NotNewer own given) refused fresh begun is fits = absurd refused
+refused_within s done change rest NoMemory refused fresh begun is fits = refl

@@ -1,6 +1,6 @@
 //! Commits of a server: its changes become one durable call of its store.
-ghost use Rattle.std.specs.Prelude.{◌≡◌, ◌≢◌, [], true, false, None, Some, IfErr, IsErrOf, IsSome, OnOk};
-ghost use Rattle.ubik_types.specs.Logged.{logged};
+ghost use Rattle.std.specs.Prelude.{◌≡◌, ◌≢◌, ◌⊎◌, [], true, false, None, Some, IfErr, IsErrOf, IsSome, OnOk};
+ghost use Rattle.ubik_types.specs.Logged.{logged, too_large};
 ghost use Rattle.ubik_types.specs.Version.{IsVersion, version_lt};
 ghost use Rattle.ubik_store.specs.DurableCall.{Commits, HasFailed, IsDurable, Refuses};
 ghost use Rattle.ubik_store.specs.Store.{Adds, IsPutRefused, IsSound, SameButBegun, changes_begun};
@@ -33,6 +33,7 @@ fn put_all<D: Disk>(store: &mut Store<D>, changes: &[Change]) -> Result<(), Stor
     ensures begun { OnOk result (changes_begun store.new.begun ≡ Some (logged store.old.len changes.now)) }
     ensures same { SameButBegun store.old store.new }
     ensures fault { IfErr result (λ fault. fault ≢ StoreFault.DiskFault) }
+    ensures memory { too_large 0 store.old.len changes.now ≡ None → IfErr result (λ fault. fault ≡ StoreFault.NoMemory) }
 {
     for change in changes {
         put_one(store, change)?;
@@ -57,6 +58,7 @@ pub fn commit_all<D: Disk>(
     ensures done { OnOk result (Commits D.Disk (logged store.old.len changes.now) v store.old store.new) }
     ensures failed { IsErrOf result StoreFault.DiskFault → HasFailed store.old store.new }
     ensures refused { IfErr result (λ fault. fault ≢ StoreFault.DiskFault → Refuses D.Disk store.old store.new) }
+    ensures memory { too_large 0 store.old.len changes.now ≡ None → IfErr result (λ fault. (fault ≡ StoreFault.DiskFault) ⊎ (fault ≡ StoreFault.NoMemory)) }
     ensures durable { IsDurable D.Disk (logged store.old.len changes.now) v store.old store.new (IsErrOf result StoreFault.DiskFault) }
 {
     store.begin();

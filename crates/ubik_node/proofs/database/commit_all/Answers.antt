@@ -1,11 +1,15 @@
-use Rattle.std.proofs.Common.{◌≡◌, ◌≢◌, ◌∙◌, List, Option, Some, IfSome, sym, ap, subst, refl}
-use Rattle.std.specs.Prelude.{Result, Err, IsErrOf}
+use Rattle.std.proofs.Common.{◌≡◌, ◌≢◌, ◌⊎◌, ◌∙◌, inl, inr, true, ℕ, List, Option, None, Some, IfErr, IfSome, sym, ap, subst, refl}
+use Rattle.std.specs.Prelude.{Result, Ok, Err, IsErrOf, MatchResult}
+use Rattle.std.proofs.lemmas.Bool.{false≢true}
+use Rattle.disk_base.specs.declared.disks.Disk.{Ghosts}
 use Rattle.ubik_types.specs.declared.images.Change.{Change}
-use Rattle.ubik_types.specs.Logged.{logged}
+use Rattle.ubik_types.specs.Logged.{logged, too_large}
+use Rattle.ubik_types.specs.declared.versions.Version.{Version}
+use Rattle.ubik_types.specs.Version.{version_lt}
 use Rattle.ubik_store.specs.declared.faults.StoreFault.{StoreFault}
-use Rattle.ubik_store.specs.declared.faults.StoreFault.TheVariants.{DiskFault}
+use Rattle.ubik_store.specs.declared.faults.StoreFault.TheVariants.{BadLabel, DiskFault, NoMemory, NotNewer, TooLarge}
 use Rattle.ubik_store.specs.declared.stores.Store.{Store}
-use Rattle.ubik_store.specs.DurableCall.{IsDurable}
+use Rattle.ubik_store.specs.DurableCall.{Commits, EndsAs, IsDurable, IsNeverLong}
 use Rattle.ubik_store.specs.Store.{changes_begun}
 use Rattle.ubik_store.proofs.Ended.{durable_itself}
 use Rattle.ubik_node.proofs.Putting.{durable_moved}
@@ -40,4 +44,32 @@ returns-clause-durable g c =
           (c.abort.ensures.same.disk ∙ ap (λ (s : Store g.row.D.Denot). s.disk) w.store-is ∙ same.disk ∙ first.disk)
           (durable_itself g.D.Disk changes c.args.v old (IsErrOf c.match-put_all.ended DiskFault) (c.requires.sound.ready c.requires.fresh)
           (no_fault c.match-put_all.ended w.in-Err.fault w.ended-is w.in-Err.ensures.fault))
+    ]
+
+short_or_disk : {D : Type 0} (g : Ghosts D) (changes : List Change) (v : Version) (old new : Store D) (r : Result (Unit {0}) StoreFault) → MatchResult r (λ _. Commits g changes v old new) (EndsAs g IsNeverLong v old new) → version_lt old.version v ≡ true
+    → IfErr r (λ fault. (fault ≡ DiskFault) ⊎ (fault ≡ NoMemory))
+short_or_disk g changes v old new (Ok done) ends newer = tt
+short_or_disk g changes v old new (Err DiskFault) ends newer = inl refl
+short_or_disk g changes v old new (Err (BadLabel len head)) ends newer = absurd ends
+short_or_disk g changes v old new (Err (TooLarge bytes)) ends newer = absurd ends.0
+short_or_disk g changes v old new (Err (NotNewer own given)) ends newer = absurd (false≢true (sym ends.0.not_newer ∙ newer))
+short_or_disk g changes v old new (Err NoMemory) ends newer = inr refl
+
+pub returns-clause-memory : goal.returns-clause-memory
+returns-clause-memory g c = λ fits.
+    let old = c.args.store.now in
+    let changes : List Change = logged old.len c.args.changes.now in
+    let put = c.put_all.new.store in
+    let same = c.put_all.ensures.same in
+    let first = c.begin.ensures.same in
+    elim c.match-put_all.branch [
+      | in-Ok w ↦
+          let new = w.commit-ended.new.self in
+          let begun : changes_begun put.begun ≡ Some changes = w.in-Ok.ensures.begun ∙ ap (λ n. Some (logged n c.args.changes.now)) first.len in
+          let ends = of_these (changes_begun put.begun) changes (λ cs. MatchResult w.commit-ended.result (λ _. Commits g.D.Disk cs c.args.v put new) (EndsAs g.D.Disk IsNeverLong c.args.v put new)) begun w.commit-ended.ensures.ended in
+          let newer : version_lt put.version c.args.v ≡ true = ap (λ (own : Version). version_lt own c.args.v) (same.version ∙ first.version) ∙ c.requires.newer in
+          subst (λ r. IfErr r (λ fault. (fault ≡ DiskFault) ⊎ (fault ≡ NoMemory))) (sym w.ended-is) (short_or_disk g.D.Disk changes c.args.v put new w.commit-ended.result ends newer)
+      | in-Err w ↦
+          subst (λ r. IfErr r (λ fault. (fault ≡ DiskFault) ⊎ (fault ≡ NoMemory))) (sym w.ended-is)
+          (inr (w.in-Err.ensures.memory (ap (λ (n : ℕ). too_large 0 n c.args.changes.now) first.len ∙ fits)))
     ]

@@ -78,4 +78,5 @@ invariant_of-state g c =
       counter_fits = omega (arith, opened.sound.version.counter, ap (λ (v : Version). v.counter) c.version.ensures);
       image_fits = subst (λ (k : ℕ). k ≤ MAX_IMAGE) (sym (ap length c.of.ensures ∙ held_length g.D.Disk s (opened.sound.ready opened.fresh.1))) opened.sound.len;
       of_cell = subst (λ (r : RecoveryRecord). IsOfCell (length c.args.cell) r) (sym (c.in_cell.ensures ∙ ap no_recovery c.len-servers.ensures.len)) (of_none (length c.args.cell));
+      begun = λ w is. absurd cc;
     }

@@ -8,5 +8,5 @@ use Rattle.ubik_node.proofs.state.State.take_over.Goals as goal
 pub returns-clause-after : goal.returns-clause-after
 returns-clause-after c =
     let st = c.args.self.now in
-    ap (λ (r : RecoveryRecord). record (server_of st) { version = c.args.version; image = c.args.image; phase = phase_record c.args.version r; received = r.text }) c.drop_text.ensures
-    ∙ ap (λ (p : PhaseRecord). record (server_of st) { version = c.args.version; image = c.args.image; phase = p; received = None }) (unannounced st.recovery None c.args.version st.version c.requires.resting)
+    ap (λ (r : RecoveryRecord). record (server_of st) { version = c.args.version; image = c.args.image; phase = phase_record c.args.version r; kept = None; received = r.text }) c.drop_text.ensures
+    ∙ ap (λ (p : PhaseRecord). record (server_of st) { version = c.args.version; image = c.args.image; phase = p; kept = None; received = None }) (unannounced st.recovery None c.args.version st.version c.requires.resting)
