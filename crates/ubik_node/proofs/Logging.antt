@@ -83,7 +83,7 @@ filled_bytes true len at is = let zeros = length-replicate {A = ℕ} (at - len) 
 filled_bytes false len at is = let not = ltb-false len at is in omega (arith, not)
 
 put_bytes-append : (xs ys : List Change) → put_bytes (xs ++ ys) ≡ put_bytes xs + put_bytes ys
-put_bytes-append [] ys = refl
+put_bytes-append [] ys = omega arith
 put_bytes-append (Put at bytes ∷ xs) ys = let rest = put_bytes-append xs ys in omega (arith, rest)
 put_bytes-append (Cut to ∷ xs) ys = put_bytes-append xs ys
 
@@ -120,8 +120,9 @@ refused_within s done change rest (TooLarge bytes) refused fresh begun is fits =
         let same : t.changes ≡ logged s.len done = cc in
         let sum : t.sum ≡ put_bytes (logged s.len done) = begun.sum ∙ ap put_bytes same in
         let long : t.len ≡ len_after s.len (logged s.len done) = begun.len ∙ ap (len_after s.len) same in
+        let first : t.sum ≡ 0 + put_bytes (logged s.len done) = omega (arith, sum) in
         let none : too_large t.sum t.len (change ∷ []) ≡ None =
-        ap (λ (n : ℕ). too_large n t.len (change ∷ [])) sum ∙ ap (λ (n : ℕ). too_large (put_bytes (logged s.len done)) n (change ∷ [])) long ∙ fits_next 0 s.len done change rest fits in
+        ap (λ (n : ℕ). too_large n t.len (change ∷ [])) first ∙ ap (λ (n : ℕ). too_large (0 + put_bytes (logged s.len done)) n (change ∷ [])) long ∙ fits_next 0 s.len done change rest fits in
         let both : Some bytes ≡ None = sym large ∙ none in
         absurd cc
 refused_within s done change rest (NotNewer own given) refused fresh begun is fits = absurd refused

@@ -13,7 +13,7 @@ use Rattle.ubik_store.specs.DurableCall.{Commits, IsDurable, IsNeverLong}
 use Rattle.ubik_node.specs.Node.{held}
 use Rattle.ubik_node.specs.State.{member_of, server_of}
 use Rattle.ubik_node.proofs.Begun.{commit_ended}
-use Rattle.ubik_node.proofs.Calling.{call_failed, call_made}
+use Rattle.ubik_node.proofs.Calling.{call_failed, call_made, ended}
 use Rattle.ubik_node.proofs.Endings.{handed_ends, ok_not, reads_none}
 use Rattle.ubik_node.proofs.HeldImages.{held_after, held_length, held_there}
 use Rattle.ubik_node.proofs.nodes.Node.take_write.Goals as goal
@@ -34,7 +34,7 @@ returns-in_err-commit_all g c =
     c.commit_all.ensures.sound kept v (effect st.image kept) (record { call = durable.Commit v kept (effect st.image kept); reason = Received }) refl refl (λ cuts. cuts) refl refl IsNeverLong e
     (commit_ended g.D.Disk v n.store later e newer (c.in_err-commit_all.ensures.memory fits) (λ is. c.commit_all.ensures.failed (c.in_err-commit_all.was ∙ ap Err is)) c.in_err-commit_all.ensures.refused)
     newer (λ bytes long. absurd long)
-    (subst (λ (cs : List Change). IsDurable g.D.Disk cs v n.store later (IsErrOf c.commit_all.result DiskFault)) same c.commit_all.ensures.durable))
+    (subst (λ (cs : List Change). IsDurable g.D.Disk cs v n.store later (IsErrOf (ended e) DiskFault)) same c.in_err-commit_all.ensures.durable))
 
 pub returns : goal.returns
 returns g c =
