@@ -16,7 +16,7 @@ use Rattle.ubik_store.specs.declared.stores.Store.{Store}
 use Rattle.ubik_store.specs.DurableCall.{EndsAs, HasFailed, IsNeverLong, Refuses}
 use Rattle.cell_model.specs.declared.events.Output.{Output}
 use Rattle.cell_model.specs.Node.{KeptWrite, Server}
-use Rattle.cell_model.specs.Receiver.{abort_received, answers_version_kept, begin_received, commit_received, committed_by, empty_write, is_sending, kept_but, kept_with, put_piece_received, whole_changes, whole_write, write_taken}
+use Rattle.cell_model.specs.Receiver.{answers_version_kept, begin_received, commit_received, committed_by, empty_write, is_sending, kept_with, put_piece_received, whole_changes, whole_write, write_taken}
 use Rattle.cell_model.specs.Step.{Member, Stepped, followed, quiet}
 use Rattle.ubik_node.specs.Keeping.{IsKeptOver}
 use Rattle.ubik_node.specs.Node.{Ends, Held}

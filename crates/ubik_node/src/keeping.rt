@@ -33,12 +33,7 @@ impl State {
     }
 
     /// Takes a piece of the write of a version in, where that write is kept.
-    fn keep_write_piece(
-        &mut self,
-        new: Version,
-        number: u32,
-        bytes: &[u8],
-    ) -> Result<(), NoMemory>
+    fn keep_write_piece(&mut self, new: Version, number: u32, bytes: &[u8]) -> Result<(), NoMemory>
         ensures after { OnOk result (server_of self.new ≡ record (server_of self.old) { kept = kept_with new number bytes.now self.old.pending }) }
         ensures kept { Keeps self.old self.new }
         ensures err { OnErr result (self.new ≡ self.old) }

@@ -25,9 +25,7 @@ const BEFORE: &[u8] = b"abc";
 const AFTER: &[u8] = b"aXYZW";
 
 /// The text of the write: four bytes are put at position 1.
-const TEXT: [u8; 16] = [
-    0, 0, 0, 1, 0, 0, 0, 1, 0, 0, 0, 4, b'X', b'Y', b'Z', b'W',
-];
+const TEXT: [u8; 16] = [0, 0, 0, 1, 0, 0, 0, 1, 0, 0, 0, 4, b'X', b'Y', b'Z', b'W'];
 
 /// A packet of host 1 about a write from the old version to the new one, in three pieces.
 #[derive(Clone, Copy)]
@@ -191,32 +189,66 @@ type Row = (&'static [Sent], Option<Version>, Version);
 
 const ROWS: [Row; 13] = [
     (
-        &[Sent::Begin, Sent::Piece(0), Sent::Piece(1), Sent::Piece(2), Sent::Commit(OLD)],
+        &[
+            Sent::Begin,
+            Sent::Piece(0),
+            Sent::Piece(1),
+            Sent::Piece(2),
+            Sent::Commit(OLD),
+        ],
         Some(NEW),
         NEW,
     ),
     // In another order, and one of them twice.
     (
-        &[Sent::Begin, Sent::Piece(2), Sent::Piece(0), Sent::Piece(0), Sent::Piece(1), Sent::Commit(OLD)],
+        &[
+            Sent::Begin,
+            Sent::Piece(2),
+            Sent::Piece(0),
+            Sent::Piece(0),
+            Sent::Piece(1),
+            Sent::Commit(OLD),
+        ],
         Some(NEW),
         NEW,
     ),
     // A piece takes the place of another one of its number; a piece past the last one is nothing.
     (
-        &[Sent::Begin, Sent::Strange, Sent::Piece(2), Sent::Piece(1), Sent::PieceAt(3), Sent::Piece(0), Sent::Commit(OLD)],
+        &[
+            Sent::Begin,
+            Sent::Strange,
+            Sent::Piece(2),
+            Sent::Piece(1),
+            Sent::PieceAt(3),
+            Sent::Piece(0),
+            Sent::Commit(OLD),
+        ],
         Some(NEW),
         NEW,
     ),
     // The last piece comes behind a commit, which is not answered.
     (
-        &[Sent::Begin, Sent::Piece(1), Sent::Piece(2), Sent::Commit(OLD), Sent::Piece(0), Sent::Commit(OLD)],
+        &[
+            Sent::Begin,
+            Sent::Piece(1),
+            Sent::Piece(2),
+            Sent::Commit(OLD),
+            Sent::Piece(0),
+            Sent::Commit(OLD),
+        ],
         Some(NEW),
         NEW,
     ),
     // A write takes the place of another one; one of too many pieces is none, and another one is given up.
     (
         &[
-            Sent::BeginLonger, Sent::Begin, Sent::BeginMany, Sent::Piece(0), Sent::Piece(1), Sent::Piece(2), Sent::Abort(NEXT),
+            Sent::BeginLonger,
+            Sent::Begin,
+            Sent::BeginMany,
+            Sent::Piece(0),
+            Sent::Piece(1),
+            Sent::Piece(2),
+            Sent::Abort(NEXT),
             Sent::Commit(OLD),
         ],
         Some(NEW),
@@ -225,45 +257,94 @@ const ROWS: [Row; 13] = [
     // Once it is committed that is said again, and a new write from the old version is none.
     (
         &[
-            Sent::Begin, Sent::Piece(0), Sent::Piece(1), Sent::Piece(2), Sent::Commit(OLD), Sent::Begin, Sent::Commit(OLD),
+            Sent::Begin,
+            Sent::Piece(0),
+            Sent::Piece(1),
+            Sent::Piece(2),
+            Sent::Commit(OLD),
+            Sent::Begin,
+            Sent::Commit(OLD),
         ],
         Some(NEW),
         NEW,
     ),
     // A piece is missing.
     (
-        &[Sent::Begin, Sent::Piece(0), Sent::Piece(2), Sent::Commit(OLD)],
+        &[
+            Sent::Begin,
+            Sent::Piece(0),
+            Sent::Piece(2),
+            Sent::Commit(OLD),
+        ],
         None,
         OLD,
     ),
     (
-        &[Sent::BeginAt(NEXT), Sent::Piece(0), Sent::Piece(1), Sent::Piece(2), Sent::Commit(OLD)],
+        &[
+            Sent::BeginAt(NEXT),
+            Sent::Piece(0),
+            Sent::Piece(1),
+            Sent::Piece(2),
+            Sent::Commit(OLD),
+        ],
         None,
         OLD,
     ),
     (
-        &[Sent::Begin, Sent::Piece(0), Sent::Piece(1), Sent::Piece(2), Sent::Commit(NEXT)],
+        &[
+            Sent::Begin,
+            Sent::Piece(0),
+            Sent::Piece(1),
+            Sent::Piece(2),
+            Sent::Commit(NEXT),
+        ],
         None,
         OLD,
     ),
     (
-        &[Sent::BeginLonger, Sent::Piece(0), Sent::Piece(1), Sent::Piece(2), Sent::Commit(OLD)],
+        &[
+            Sent::BeginLonger,
+            Sent::Piece(0),
+            Sent::Piece(1),
+            Sent::Piece(2),
+            Sent::Commit(OLD),
+        ],
         None,
         OLD,
     ),
     (
-        &[Sent::Begin, Sent::Strange, Sent::Piece(1), Sent::Piece(2), Sent::Commit(OLD)],
+        &[
+            Sent::Begin,
+            Sent::Strange,
+            Sent::Piece(1),
+            Sent::Piece(2),
+            Sent::Commit(OLD),
+        ],
         None,
         OLD,
     ),
     (
-        &[Sent::Begin, Sent::Piece(0), Sent::Piece(1), Sent::Piece(2), Sent::Abort(NEW), Sent::Commit(OLD)],
+        &[
+            Sent::Begin,
+            Sent::Piece(0),
+            Sent::Piece(1),
+            Sent::Piece(2),
+            Sent::Abort(NEW),
+            Sent::Commit(OLD),
+        ],
         None,
         OLD,
     ),
     // A change of version drops the write, also where its commit names the version after that.
     (
-        &[Sent::Begin, Sent::Piece(0), Sent::Piece(1), Sent::Piece(2), Sent::Set, Sent::Commit(NEXT)],
+        &[
+            Sent::Begin,
+            Sent::Piece(0),
+            Sent::Piece(1),
+            Sent::Piece(2),
+            Sent::Set,
+            Sent::Commit(NEXT),
+        ],
         None,
         NEXT,
     ),
@@ -292,7 +373,12 @@ fn writes_that_another_server_began(rt: HostRuntime) -> Result<(), Fail> {
 const CALLS: u32 = 14;
 
 /// The version and the length that an opening finds after a commit in which the disk stops after so many changing calls.
-fn stopped_at(rt: &impl Abort, alloc: Global, calls: u32, fill: Fill) -> Result<(Version, u32), Fail> {
+fn stopped_at(
+    rt: &impl Abort,
+    alloc: Global,
+    calls: u32,
+    fill: Fill,
+) -> Result<(Version, u32), Fail> {
     let mut node = second(rt, alloc)?;
     let whole = [Sent::Begin, Sent::Piece(0), Sent::Piece(1), Sent::Piece(2)];
     let _ = hears_all(rt, alloc, &mut node, &whole)?;
@@ -309,7 +395,10 @@ fn stopped_at(rt: &impl Abort, alloc: Global, calls: u32, fill: Fill) -> Result<
         (StepEnd::Done, NEW)
     };
     let mut out = step(rt, alloc, &mut node, 2011, NodeEvent::Packet(commit), end)?;
-    assert_eq!(rt; (out.take().is_none(), node.stopped()), (is_short, is_short));
+    assert_eq!(rt;
+        (out.take().is_none(), node.stopped()),
+        (is_short, is_short)
+    );
     assert_eq!(rt; node.version(), own);
     let again = one_of_two(rt, alloc, revived(node.close()), 1)?;
     Ok((again.version(), again.len()))

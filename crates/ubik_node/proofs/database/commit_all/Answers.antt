@@ -1,4 +1,4 @@
-use Rattle.std.proofs.Common.{◌≡◌, ◌≢◌, ◌⊎◌, ◌∙◌, inl, inr, true, ℕ, List, Option, None, Some, IfErr, IfSome, sym, ap, subst, refl}
+use Rattle.std.proofs.Common.{◌≡◌, ◌≢◌, ◌⊎◌, ◌∙◌, inl, inr, true, ℕ, List, Option, Some, IfErr, IfSome, sym, ap, subst, refl}
 use Rattle.std.specs.Prelude.{Result, Ok, Err, IsErrOf, MatchResult}
 use Rattle.std.proofs.lemmas.Bool.{false≢true}
 use Rattle.disk_base.specs.declared.disks.Disk.{Ghosts}

@@ -1,16 +1,13 @@
-use Rattle.std.proofs.Common.{◌≡◌, ◌∙◌, [], true, false, refl, rules, sym, ap, subst, arith}
-use Rattle.std.specs.Prelude.{◌&&◌, Some, nat_le}
+use Rattle.std.proofs.Common.{◌≡◌, ◌∙◌, true, false, refl, rules, sym, ap, subst, arith}
+use Rattle.std.specs.Prelude.{Some, nat_le}
 use Rattle.std.proofs.lemmas.Bool.Decides.{nat_tests}
-use Rattle.ubik_types.specs.declared.versions.Version.{Version}
-use Rattle.ubik_types.specs.Version.{version_eq, version_lt}
 use Rattle.ubik_calls.specs.declared.packets.TheConstants.{MAX_PIECES}
-use Rattle.cell_model.specs.Node.{KeptWrite, Server}
-use Rattle.cell_model.specs.Receiver.{empty_write}
+use Rattle.cell_model.specs.Node.{KeptWrite}
 use Rattle.ubik_node.specs.Keeping.{IsKeptOver}
 use Rattle.ubik_node.specs.Node.{held}
 use Rattle.ubik_node.specs.State.{server_of}
 use Rattle.ubik_node.proofs.Begun.{begin_ignored, begin_kept, begin_long, begin_other, newer_than}
-use Rattle.ubik_node.proofs.Endings.{handed_ends, rests_ends, same_ends, short_ends, shown_ends}
+use Rattle.ubik_node.proofs.Endings.{rests_ends, same_ends, shown_ends}
 use Rattle.ubik_node.proofs.Received.{sending_is}
 use Rattle.ubik_node.proofs.nodes.Node.begin_received.Goals as goal
 

@@ -1,11 +1,10 @@
-use Rattle.std.proofs.Common.{◌≡◌, ◌∙◌, ◌++◌, [], true, false, IsSome, Option, List, ℕ, length, refl, rules, sym, ap, subst, arith}
-use Rattle.std.specs.Prelude.{None, Some, is_none}
+use Rattle.std.proofs.Common.{◌≡◌, ◌∙◌, ◌++◌, true, false, length, refl, rules, sym, ap, arith}
+use Rattle.std.specs.Prelude.{is_none}
 use Rattle.std.proofs.lemmas.Bool.{false≢true}
-use Rattle.ubik_types.specs.declared.images.Change.{Change}
 use Rattle.ubik_types.specs.Logged.{too_large}
-use Rattle.ubik_types.specs.Version.{IsVersion, version_eq, version_lt}
+use Rattle.ubik_types.specs.Version.{version_eq}
 use Rattle.ubik_calls.specs.declared.packets.Body.TheVariants as body
-use Rattle.cell_model.specs.Receiver.{committed_by, whole_write}
+use Rattle.cell_model.specs.Receiver.{committed_by}
 use Rattle.cell_model.specs.Step.{Member, outputs_of, sends_to}
 use Rattle.ubik_node.specs.Node.{held}
 use Rattle.ubik_node.specs.State.{member_of, server_of}

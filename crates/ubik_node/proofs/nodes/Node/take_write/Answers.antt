@@ -1,4 +1,4 @@
-use Rattle.std.proofs.Common.{◌≡◌, ◌∙◌, ℕ, true, List, None, Err, IsErrOf, length, refl, sym, ap, subst, arith}
+use Rattle.std.proofs.Common.{◌≡◌, ◌∙◌, ℕ, List, None, Err, IsErrOf, length, refl, sym, ap, subst, arith}
 use Rattle.ubik_types.specs.declared.images.Change.{Change}
 use Rattle.ubik_types.specs.Image.{effect}
 use Rattle.ubik_types.specs.Logged.{logged, too_large}
@@ -7,8 +7,7 @@ use Rattle.ubik_types.specs.Version.{version_lt}
 use Rattle.cell_model.specs.Durable as durable
 use Rattle.cell_model.specs.Durable.{Received}
 use Rattle.cell_model.specs.Step.{with_database}
-use Rattle.ubik_store.specs.declared.faults.StoreFault.{StoreFault}
-use Rattle.ubik_store.specs.declared.faults.StoreFault.TheVariants.{DiskFault, NoMemory}
+use Rattle.ubik_store.specs.declared.faults.StoreFault.TheVariants.{DiskFault}
 use Rattle.ubik_store.specs.DurableCall.{Commits, IsDurable, IsNeverLong}
 use Rattle.ubik_node.specs.Node.{held}
 use Rattle.ubik_node.specs.State.{member_of, server_of}
