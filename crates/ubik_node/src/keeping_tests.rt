@@ -5,7 +5,7 @@ ghost use Rattle.ubik_node.specs.Built.{IsBuiltBody};
 ghost use Rattle.ubik_node.specs.Node.{IsStored};
 
 use super::*;
-use crate::tests::{Server, filled, revived, step, version};
+use crate::tests::{Server, filled, revived, step};
 use crate::transfer_tests::{comes, has, one_of_two};
 use disk_base::{Fill, MemDisk};
 use std::alloc::Global;
@@ -13,11 +13,20 @@ use std::process::Abort;
 use std::test::Fail;
 use ubik_types::{Host, Version, bytes_of};
 
-const OLD: Version = version(2000, 1);
+const OLD: Version = Version {
+    epoch: 2000,
+    counter: 1,
+};
 
-const NEXT: Version = version(2000, 2);
+const NEXT: Version = Version {
+    epoch: 2000,
+    counter: 2,
+};
 
-const NEW: Version = version(2000, 3);
+const NEW: Version = Version {
+    epoch: 2000,
+    counter: 3,
+};
 
 /// The image before a write, and after it.
 const BEFORE: &[u8] = b"abc";
