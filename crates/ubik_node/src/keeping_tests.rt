@@ -1,12 +1,11 @@
 //! The second of two servers, which keeps the writes that host 1 begins there.
-ghost use Rattle.std.specs.Prelude.{◌≡◌, ◌≤◌, IfOk};
-ghost use Rattle.disk_base.specs.Crash.{IsSettled};
-ghost use Rattle.ubik_node.specs.Built.{IsBuiltBody};
+ghost use Rattle.std.specs.Prelude.{IfOk};
 ghost use Rattle.ubik_node.specs.Node.{IsStored};
 
 use super::*;
 use crate::tests::{Server, filled, revived, step};
 use crate::transfer_tests::{comes, has, one_of_two};
+use Sent::{Begin, BeginAt, BeginLonger, BeginMany, Commit, GiveUp, Piece, PieceAt, Set, Strange};
 use disk_base::{Fill, MemDisk};
 use std::alloc::Global;
 use std::process::Abort;
@@ -53,14 +52,12 @@ enum Sent {
     Strange,
     /// It follows this version.
     Commit(Version),
-    Abort(Version),
+    GiveUp(Version),
     /// The next version without a change.
     Set,
 }
 
-fn begin(old: Version, pieces: u32, len: u32) -> Body
-    ensures { result ≡ Body.Begin old (record { epoch = 2000; counter = 3 }) pieces len }
-{
+fn beginning(old: Version, pieces: u32, len: u32) -> Body {
     Body::Begin {
         old,
         new: NEW,
@@ -70,7 +67,7 @@ fn begin(old: Version, pieces: u32, len: u32) -> Body
 }
 
 /// A piece of the text: the last one is shorter.
-fn piece(rt: &impl Abort, alloc: Global, number: u32) -> Result<Body, Fail> {
+fn piece_of_text(rt: &impl Abort, alloc: Global, number: u32) -> Result<Body, Fail> {
     let bytes = match number {
         0 => &TEXT[..6],
         1 => &TEXT[6..12],
@@ -87,11 +84,11 @@ fn piece(rt: &impl Abort, alloc: Global, number: u32) -> Result<Body, Fail> {
 
 fn body_of(rt: &impl Abort, alloc: Global, sent: Sent) -> Result<Body, Fail> {
     let body = match sent {
-        Sent::Begin => begin(OLD, 3, 16),
-        Sent::BeginAt(old) => begin(old, 3, 16),
-        Sent::BeginLonger => begin(OLD, 3, 17),
-        Sent::BeginMany => begin(OLD, 161, 16),
-        Sent::Piece(number) => piece(rt, alloc, number)?,
+        Sent::Begin => beginning(OLD, 3, 16),
+        Sent::BeginAt(old) => beginning(old, 3, 16),
+        Sent::BeginLonger => beginning(OLD, 3, 17),
+        Sent::BeginMany => beginning(OLD, 161, 16),
+        Sent::Piece(number) => piece_of_text(rt, alloc, number)?,
         Sent::PieceAt(number) => Body::PutPiece {
             new: NEW,
             number,
@@ -103,7 +100,7 @@ fn body_of(rt: &impl Abort, alloc: Global, sent: Sent) -> Result<Body, Fail> {
             bytes: bytes_of(alloc, &[0, 0, 0, 7, 0, 0])?,
         },
         Sent::Commit(old) => Body::Commit { old, new: NEW },
-        Sent::Abort(new) => Body::Abort { new },
+        Sent::GiveUp(new) => Body::Abort { new },
         Sent::Set => Body::SetVersion {
             poll: 1960,
             old: OLD,
@@ -198,39 +195,26 @@ type Row = (&'static [Sent], Option<Version>, Version);
 
 const ROWS: [Row; 13] = [
     (
-        &[
-            Sent::Begin,
-            Sent::Piece(0),
-            Sent::Piece(1),
-            Sent::Piece(2),
-            Sent::Commit(OLD),
-        ],
+        &[Begin, Piece(0), Piece(1), Piece(2), Commit(OLD)],
         Some(NEW),
         NEW,
     ),
     // In another order, and one of them twice.
     (
-        &[
-            Sent::Begin,
-            Sent::Piece(2),
-            Sent::Piece(0),
-            Sent::Piece(0),
-            Sent::Piece(1),
-            Sent::Commit(OLD),
-        ],
+        &[Begin, Piece(2), Piece(0), Piece(0), Piece(1), Commit(OLD)],
         Some(NEW),
         NEW,
     ),
     // A piece takes the place of another one of its number; a piece past the last one is nothing.
     (
         &[
-            Sent::Begin,
-            Sent::Strange,
-            Sent::Piece(2),
-            Sent::Piece(1),
-            Sent::PieceAt(3),
-            Sent::Piece(0),
-            Sent::Commit(OLD),
+            Begin,
+            Strange,
+            Piece(2),
+            Piece(1),
+            PieceAt(3),
+            Piece(0),
+            Commit(OLD),
         ],
         Some(NEW),
         NEW,
@@ -238,12 +222,12 @@ const ROWS: [Row; 13] = [
     // The last piece comes behind a commit, which is not answered.
     (
         &[
-            Sent::Begin,
-            Sent::Piece(1),
-            Sent::Piece(2),
-            Sent::Commit(OLD),
-            Sent::Piece(0),
-            Sent::Commit(OLD),
+            Begin,
+            Piece(1),
+            Piece(2),
+            Commit(OLD),
+            Piece(0),
+            Commit(OLD),
         ],
         Some(NEW),
         NEW,
@@ -251,14 +235,14 @@ const ROWS: [Row; 13] = [
     // A write takes the place of another one; one of too many pieces is none, and another one is given up.
     (
         &[
-            Sent::BeginLonger,
-            Sent::Begin,
-            Sent::BeginMany,
-            Sent::Piece(0),
-            Sent::Piece(1),
-            Sent::Piece(2),
-            Sent::Abort(NEXT),
-            Sent::Commit(OLD),
+            BeginLonger,
+            Begin,
+            BeginMany,
+            Piece(0),
+            Piece(1),
+            Piece(2),
+            GiveUp(NEXT),
+            Commit(OLD),
         ],
         Some(NEW),
         NEW,
@@ -266,94 +250,54 @@ const ROWS: [Row; 13] = [
     // Once it is committed that is said again, and a new write from the old version is none.
     (
         &[
-            Sent::Begin,
-            Sent::Piece(0),
-            Sent::Piece(1),
-            Sent::Piece(2),
-            Sent::Commit(OLD),
-            Sent::Begin,
-            Sent::Commit(OLD),
+            Begin,
+            Piece(0),
+            Piece(1),
+            Piece(2),
+            Commit(OLD),
+            Begin,
+            Commit(OLD),
         ],
         Some(NEW),
         NEW,
     ),
     // A piece is missing.
+    (&[Begin, Piece(0), Piece(2), Commit(OLD)], None, OLD),
     (
-        &[
-            Sent::Begin,
-            Sent::Piece(0),
-            Sent::Piece(2),
-            Sent::Commit(OLD),
-        ],
+        &[BeginAt(NEXT), Piece(0), Piece(1), Piece(2), Commit(OLD)],
+        None,
+        OLD,
+    ),
+    (
+        &[Begin, Piece(0), Piece(1), Piece(2), Commit(NEXT)],
+        None,
+        OLD,
+    ),
+    (
+        &[BeginLonger, Piece(0), Piece(1), Piece(2), Commit(OLD)],
+        None,
+        OLD,
+    ),
+    (
+        &[Begin, Strange, Piece(1), Piece(2), Commit(OLD)],
         None,
         OLD,
     ),
     (
         &[
-            Sent::BeginAt(NEXT),
-            Sent::Piece(0),
-            Sent::Piece(1),
-            Sent::Piece(2),
-            Sent::Commit(OLD),
-        ],
-        None,
-        OLD,
-    ),
-    (
-        &[
-            Sent::Begin,
-            Sent::Piece(0),
-            Sent::Piece(1),
-            Sent::Piece(2),
-            Sent::Commit(NEXT),
-        ],
-        None,
-        OLD,
-    ),
-    (
-        &[
-            Sent::BeginLonger,
-            Sent::Piece(0),
-            Sent::Piece(1),
-            Sent::Piece(2),
-            Sent::Commit(OLD),
-        ],
-        None,
-        OLD,
-    ),
-    (
-        &[
-            Sent::Begin,
-            Sent::Strange,
-            Sent::Piece(1),
-            Sent::Piece(2),
-            Sent::Commit(OLD),
-        ],
-        None,
-        OLD,
-    ),
-    (
-        &[
-            Sent::Begin,
-            Sent::Piece(0),
-            Sent::Piece(1),
-            Sent::Piece(2),
-            Sent::Abort(NEW),
-            Sent::Commit(OLD),
+            Begin,
+            Piece(0),
+            Piece(1),
+            Piece(2),
+            GiveUp(NEW),
+            Commit(OLD),
         ],
         None,
         OLD,
     ),
     // A change of version drops the write, also where its commit names the version after that.
     (
-        &[
-            Sent::Begin,
-            Sent::Piece(0),
-            Sent::Piece(1),
-            Sent::Piece(2),
-            Sent::Set,
-            Sent::Commit(NEXT),
-        ],
+        &[Begin, Piece(0), Piece(1), Piece(2), Set, Commit(NEXT)],
         None,
         NEXT,
     ),
@@ -389,7 +333,7 @@ fn stopped_at(
     fill: Fill,
 ) -> Result<(Version, u32), Fail> {
     let mut node = second(rt, alloc)?;
-    let whole = [Sent::Begin, Sent::Piece(0), Sent::Piece(1), Sent::Piece(2)];
+    let whole = [Begin, Piece(0), Piece(1), Piece(2)];
     let _ = hears_all(rt, alloc, &mut node, &whole)?;
     node.arm(calls, fill);
     let commit = Packet {
