@@ -115,6 +115,17 @@ fn a_flight_tells_the_image_before(rt: HostRuntime) -> Result<(), Fail> {
 /// The image after the changes, of seven bytes.
 const AFTER: &[u8; 7] = b"aXYde\0W";
 
+/// Whether an image has these bytes, eight at most, from a position on.
+fn has<I: ImageRead>(image: &mut I, at: u32, wanted: &[u8]) -> bool {
+    let mut buf = [b'?'; 8];
+    if wanted.len() > 8 || at as usize + wanted.len() > image.len() as usize {
+        return false;
+    }
+    let part = &mut buf[..wanted.len()];
+    let end = image.read(at, part);
+    end == ReadEnd::Done && &*part == wanted
+}
+
 /// Each part of the image before, read through the image after it, which is shorter.
 #[test]
 fn a_before_image_reads_each_part(rt: HostRuntime) -> Result<(), Fail> {
@@ -126,11 +137,7 @@ fn a_before_image_reads_each_part(rt: HostRuntime) -> Result<(), Fail> {
     };
     assert_eq!(rt; before.len(), 8);
     for (at, wanted) in PARTS {
-        let mut buf = [b'?'; 8];
-        assert!(rt; at as usize + wanted.len() <= 8);
-        let part = &mut buf[..wanted.len()];
-        assert_eq!(rt; before.read(at, part), ReadEnd::Done);
-        assert!(rt; &*part == wanted, "from {at} on");
+        assert!(rt; has(&mut before, at, wanted), "from {at} on");
     }
     Ok(())
 }
