@@ -43,4 +43,4 @@ without_first site = record site { waiting = drop 1 site.waiting }
 
 -- the fault names the write in flight
 abbrev pub LineIsFull : SiteRecord → WaitFault → Type 0
-LineIsFull site fault = IfSome site.own (λ write. fault ≡ fault.LineFull write.flight.id)
+LineIsFull site why = IfSome site.own (λ write. why ≡ fault.LineFull write.flight.id)

@@ -4,7 +4,7 @@ ghost use Rattle.xdr_base.specs.ChangeText.{text_of};
 ghost use Rattle.cell_model.specs.Pieces.{piece_count, numbered_piece};
 ghost use Rattle.site_writes.specs.OwnWrite.{own_write};
 
-use ghost_values::Ghost;
+use ghost_values::{Ghost, Says};
 use std::marker::Model;
 use ubik_types::{Bytes, Changes, Version};
 use ubik_write::Flight;
@@ -32,25 +32,36 @@ impl Model for OwnWrite {
     ghost invariant = { IsOfItsChanges };
 }
 
+/// How contracts see a call and its changes.
+struct Seen;
+
+impl<'a> Says<&'a [u8], Bytes> for Seen {
+    ghost says = { λ call. call.now };
+}
+
+impl Says<Changes, Changes> for Seen {
+    ghost says = { λ changes. changes };
+}
+
 impl OwnWrite {
-    /// The write that a flight carries, with the answer of its call. It takes no memory.
+    /// The write of a flight of these changes to an image, with its call and the answer of that. It takes no memory.
     pub fn new(
         flight: Flight,
         answer: Bytes,
-        call: Ghost<Bytes>,
+        call: &[u8],
+        changes: &Changes,
         old_image: Ghost<Bytes>,
-        changes: Ghost<Changes>,
     ) -> OwnWrite
-        requires text { flight.text ≡ text_of changes.value }
+        requires text { flight.text ≡ text_of changes.now }
         requires len { flight.old_len ≡ length old_image.value }
-        ensures { result ≡ own_write flight answer call.value old_image.value changes.value }
+        ensures { result ≡ own_write flight answer call.now old_image.value changes.now }
     {
         OwnWrite {
             flight,
             answer,
-            call,
+            call: Ghost::of::<&[u8], Seen>(&call),
             old_image,
-            changes,
+            changes: Ghost::of::<Changes, Seen>(changes),
         }
     }
 

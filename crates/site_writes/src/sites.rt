@@ -1,5 +1,5 @@
 //! The writes of a sync site.
-ghost use Rattle.std.specs.Prelude.{◌≡◌, ◌≢◌, ◌≤◌, ◌<◌, ◌↔◌, ◌&&◌, Some, None, IsSome, IfSome, IfOk, IfErr, OnOk, OnErr, length, slice_get, option_copied, is_none};
+ghost use Rattle.std.specs.Prelude.{◌≡◌, ◌≤◌, ◌<◌, ◌↔◌, IsTrue, IsSome, IfOk, IsErrAnd, IsOkUnless, OnOk, OnErr, length, slice_get, option_copied};
 ghost use Rattle.site_writes.specs.Site.{no_writes, with_place, without_place, with_flight, without_flight, with_waiting, without_first, LineIsFull};
 
 use crate::own_writes::OwnWrite;
@@ -135,7 +135,7 @@ impl SiteWrites {
 
     /// Whether a writing call may have its turn: no write is in flight, and none has the place.
     pub fn is_free(&self) -> bool
-        ensures { result ≡ (is_none self.now.held && is_none self.now.own) }
+        ensures { IsTrue result ↔ (self.now.held ≡ None) × (self.now.own ≡ None) }
     {
         self.held.is_none() && self.own.is_none()
     }
@@ -144,8 +144,8 @@ impl SiteWrites {
     pub fn wait(&mut self, id: u32, call: &[u8]) -> Result<(), WaitFault>
         requires { IsSome self.old.own }
         ensures ok { OnOk result (self.new ≡ with_waiting self.old id call.now) }
-        ensures room { MAX_WAITING ≤ length self.old.waiting → IfErr result (LineIsFull self.old) }
-        ensures full { IfErr result (λ fault. fault ≢ WaitFault.NoMemory → MAX_WAITING ≤ length self.old.waiting) }
+        ensures full { MAX_WAITING ≤ length self.old.waiting → IsErrAnd result (LineIsFull self.old) }
+        ensures room { length self.old.waiting < MAX_WAITING → IsOkUnless result WaitFault.NoMemory }
         ensures err { OnErr result (self.new ≡ self.old) }
     {
         let holder = self.own.as_ref().unwrap().id();
