@@ -20,4 +20,4 @@ calls_of-push (first ∷ ids) (its ∷ calls) id call same =
 -- what is so where a result is Ok, and it is
 pub on_ok : {T E P : Type 0} (r : Result T E) → IsOk r → OnOk r P → P
 on_ok (Ok value) ok so = so
-on_ok (Err fault) ok so = absurd ok
+on_ok (Err fault) ok so = cc
