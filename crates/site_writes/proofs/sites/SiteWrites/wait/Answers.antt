@@ -1,4 +1,4 @@
-use Rattle.std.proofs.Common.{◌≡◌, ◌∷◌, ◌++◌, ◌<◌, ◌≤◌, ℕ, List, [], length, ap, arith}
+use Rattle.std.proofs.Common.{◌≡◌, ◌∷◌, ◌++◌, ◌<◌, ℕ, List, [], length, ap, arith}
 use Rattle.circular_buffer.specs.Buffer.{Buffer}
 use Rattle.lock_table.specs.Table.{Table}
 use Rattle.lock_table.specs.declared.tables.TheConstants.{MAX_WAITING}

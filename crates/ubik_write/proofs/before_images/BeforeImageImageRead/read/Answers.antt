@@ -1,4 +1,4 @@
-use Rattle.std.proofs.Common.{◌≡◌, ◌∙◌, ◌≤◌, ◌+◌, ℕ, length, take, IfSome, sym, subst, arith}
+use Rattle.std.proofs.Common.{◌≡◌, length, arith}
 use Rattle.ubik_write.proofs.BeforeImages.{read-before}
 use Rattle.ubik_write.proofs.before_images.BeforeImageImageRead.read.Goals as goal
 
