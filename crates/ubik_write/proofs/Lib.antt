@@ -1,3 +1,4 @@
+mod BeforeImages
 mod BytesBefore
 mod ChangeReading
 mod ChangeTexts

@@ -1,5 +1,6 @@
 -- The bytes of an image that changes overwrite or cut off, and how they lead back (own).
-use Rattle.std.specs.Prelude.{◌≡◌, ℕ, ◌+◌, ◌-◌, ◌<◌, ◌&&◌, nat_le, nat_lt, if◌then◌else◌, Bool, List, [], ◌∷◌, length, take, drop, min, slice_index}
+use Rattle.std.specs.Prelude.{◌≡◌, ℕ, ◌+◌, ◌-◌, ◌<◌, ◌&&◌, nat_le, nat_lt, if◌then◌else◌, Bool, List, [], ◌∷◌, length, map, take, drop, min, slice_index}
+use Rattle.std.specs.List.{range_with_len}
 use Rattle.ubik_types.specs.declared.images.Change.{Change}
 use Rattle.ubik_types.specs.declared.images.Change.TheVariants.{Put, Cut}
 use Rattle.ubik_write.specs.declared.undo.Patch.{Patch}
@@ -38,3 +39,7 @@ ShowsWithin at image buf = (i : ℕ) → i < length buf → at + i < length imag
 -- a buffer has the bytes under patches of what another one had
 abbrev pub IsUndone : List Patch → (at : ℕ) → (before after : List ℕ) → Type 0
 IsUndone undo at before after = (i : ℕ) → i < length before → slice_index after i ≡ byte_before undo (at + i) (slice_index before i)
+
+-- the image of so many bytes that patches make of another one, which has zero bytes behind its end
+unfoldable pub image_before : List Patch → (len : ℕ) → List ℕ → List ℕ
+image_before undo len after = map (λ at. byte_before undo at (slice_index after at)) (range_with_len 0 len)

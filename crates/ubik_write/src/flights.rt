@@ -7,7 +7,7 @@ ghost use Rattle.xdr_base.specs.ChangeText.{text_of};
 ghost use Rattle.db_image.specs.Images.{OnlyReads};
 ghost use Rattle.cell_model.specs.Pieces.{piece_count, numbered_piece};
 ghost use Rattle.ubik_write.specs.Flight.{IsFlightOf, Undoes, kept_by};
-ghost use Rattle.ubik_write.specs.Undo.{ShowsWithin};
+ghost use Rattle.ubik_write.specs.Undo.{ShowsWithin, IsUndone};
 
 use crate::texts::text_of;
 use crate::undo::{Patch, undo_of, undone};
@@ -135,7 +135,8 @@ impl Flight {
     /// image after the changes it does not matter what the buffer has.
     pub fn undone(&self, at: u32, buf: &mut [u8])
         requires { at + length buf.old ≤ self.now.old_len }
-        ensures { (image : List ℕ) (changes : List Change) → Undoes self.now image changes
+        ensures bytes { IsUndone self.now.undo at buf.old buf.new }
+        ensures image { (image : List ℕ) (changes : List Change) → Undoes self.now image changes
             → ShowsWithin at (effect image changes) buf.old → buf.new ≡ take (length buf.old) (drop at image) }
     {
         undone(&self.undo, at, buf);

@@ -1,7 +1,7 @@
 //! A write from its flight to the changes at another server.
 ghost use Rattle.std.specs.Prelude.{◌<◌, ◌^◌, length};
 
-use crate::{Flight, FlightFault, Pending, PendingEnd, text_len};
+use crate::{BeforeImage, Flight, FlightFault, Pending, PendingEnd, text_len};
 use db_image::{ImageRead, ReadEnd, VecImage};
 use std::alloc::{AllocError, Global};
 use std::process::Abort;
@@ -69,6 +69,17 @@ fn changes(alloc: Global) -> Result<Changes, NoMemory> {
     Ok(Changes::new(list))
 }
 
+/// Parts of the image before those changes, from positions on.
+const PARTS: [(u32, &[u8]); 7] = [
+    (0, b"abcdefgh"),
+    (0, b""),
+    (8, b""),
+    (1, b"bc"),
+    (4, b"ef"),
+    (6, b"gh"),
+    (7, b"h"),
+];
+
 /// A flight of changes with a short text, over an image of these bytes.
 fn short_flight(
     rt: &impl Abort,
@@ -98,6 +109,55 @@ fn a_flight_tells_the_image_before(rt: HostRuntime) -> Result<(), Fail> {
     let mut part = *b"de\0W";
     flight.undone(3, &mut part);
     assert!(rt; part.as_slice() == b"defg".as_slice());
+    Ok(())
+}
+
+/// The image after the changes, of seven bytes.
+const AFTER: &[u8; 7] = b"aXYde\0W";
+
+/// Whether an image has these bytes, eight at most, from a position on.
+fn has<I: ImageRead>(image: &mut I, at: u32, wanted: &[u8]) -> bool {
+    let mut buf = [b'?'; 8];
+    if wanted.len() > 8 || at as usize + wanted.len() > image.len() as usize {
+        return false;
+    }
+    let part = &mut buf[..wanted.len()];
+    let end = image.read(at, part);
+    end == ReadEnd::Done && &*part == wanted
+}
+
+/// Each part of the image before, read through the image after it, which is shorter.
+#[test]
+fn a_before_image_reads_each_part(rt: HostRuntime) -> Result<(), Fail> {
+    let changes = changes(rt.alloc())?;
+    let flight = short_flight(&rt, rt.alloc(), &changes, b"abcdefgh")?;
+    let mut before = BeforeImage {
+        image: VecImage::new(rt.alloc(), AFTER)?,
+        flight: &flight,
+    };
+    assert_eq!(rt; before.len(), 8);
+    for (at, wanted) in PARTS {
+        assert!(rt; has(&mut before, at, wanted), "from {at} on");
+    }
+    Ok(())
+}
+
+/// An image whose reads fail fails before a write too, and where nothing of it is read there is no fault.
+#[test]
+fn a_before_image_over_reads_that_fail(rt: HostRuntime) -> Result<(), Fail> {
+    let changes = changes(rt.alloc())?;
+    let flight = short_flight(&rt, rt.alloc(), &changes, b"abcdefgh")?;
+    let mut before = BeforeImage {
+        image: FailingImage { faults: 0 },
+        flight: &flight,
+    };
+    let mut part = [0; 5];
+    assert_eq!(rt; before.len(), 8);
+    assert_eq!(rt; before.read(2, &mut part), ReadEnd::DiskFault);
+    assert_eq!(rt; before.image.faults, 1);
+    assert_eq!(rt; before.read(3, &mut part), ReadEnd::Done);
+    assert_eq!(rt; before.image.faults, 1);
+    assert!(rt; part.as_slice() == b"\0\0fgh".as_slice());
     Ok(())
 }
 

@@ -11,4 +11,7 @@ returns c =
     let within = subst (λ (f : FlightRecord). c.args.at + length c.args.buf.now ≤ f.old_len) (sym c.self.view_is) c.requires in
     let undone = subst (λ (undo : List Patch). IsUndone undo c.args.at c.args.buf.now c.undone.new.buf) c.deref.ensures.value c.undone.ensures in
     rw (← c.self.view_is)
-    (λ image changes undoes shows. read-back (flight_of c.self.inside) image changes c.args.at c.args.buf.now c.undone.new.buf undoes within c.undone.auto.buf undone shows)
+    (record {
+      bytes = undone;
+      image = λ image changes undoes shows. read-back (flight_of c.self.inside) image changes c.args.at c.args.buf.now c.undone.new.buf undoes within c.undone.auto.buf undone shows;
+    })
