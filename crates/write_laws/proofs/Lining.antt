@@ -1,0 +1,94 @@
+-- Lines of calls without an answer, and the replies that are shown.
+use Rattle.std.proofs.Common.{◌≡◌, inl, inr, ℕ, ◌+◌, ◌≤◌, List, [], ◌∷◌, ◌++◌, length, refl, sym, ap, subst, ◌∙◌, append_assoc, arith}
+use Rattle.std.proofs.lemmas.List.{length-append}
+use Rattle.std.proofs.lemmas.List.Elements.{filter_map-append}
+use Rattle.std.specs.Prelude.{Option, Some, None}
+use Rattle.lock_table.specs.declared.tables.TheConstants.{MAX_WAITING}
+use Rattle.ubik_calls.specs.declared.replies.Reply.{Reply}
+use Rattle.cell_model.specs.declared.events.Output.{Output}
+use Rattle.cell_model.specs.declared.events.Output.TheVariants as output
+use Rattle.cell_model.specs.Lapse.{flight_refused, waiting_refused}
+use Rattle.cell_model.specs.Node.{Server, Flight, Waiting}
+use Rattle.cell_model.specs.Step.{Shown}
+use Rattle.cell_model.specs.Voters.{IsOkOf}
+use Rattle.write_laws.specs.Lines.{call_in_flight, unanswered, Answer, answer_in, answers_of, IsAnswerTo, AreAnswersTo, GoOn, IsLine}
+
+-- ---- replies
+
+pub answers_append : (shown more : List Shown) → answers_of (shown ++ more) ≡ answers_of shown ++ answers_of more
+answers_append shown more = filter_map-append (λ (one : Shown). answer_in one.output one.evaluation) shown more
+
+pub told_append : (calls more : List Waiting) (answers others : List Answer) → AreAnswersTo calls answers → AreAnswersTo more others →
+    AreAnswersTo (calls ++ more) (answers ++ others)
+told_append [] more [] others first second = second
+told_append [] more (a ∷ answers) others first second = absurd first
+told_append (w ∷ calls) more [] others first second = absurd first
+told_append (w ∷ calls) more (a ∷ answers) others first second = (first.0, told_append calls more answers others first.1 second)
+
+-- of one part of a step, and then of the next
+pub told_both : (calls more : List Waiting) (shown then : List Shown) → AreAnswersTo calls (answers_of shown) →
+    AreAnswersTo more (answers_of then) → AreAnswersTo (calls ++ more) (answers_of (shown ++ then))
+told_both calls more shown then first second =
+    subst (AreAnswersTo (calls ++ more)) (sym (answers_append shown then))
+    (told_append calls more (answers_of shown) (answers_of then) first second)
+
+-- a refusal that is no Ok
+abbrev pub IsRefusal : Reply → Type 0
+IsRefusal r = (id : ℕ) (call : List ℕ) → IsOkOf call (output.Reply id r) None
+
+pub waiting_told : (waiting : List Waiting) (r : Reply) → IsRefusal r → AreAnswersTo waiting (answers_of (waiting_refused waiting r))
+waiting_told [] r refusal = tt
+waiting_told (w ∷ waiting) r refusal = (record { id = refl; call = refusal w.id w.call }, waiting_told waiting r refusal)
+
+pub flight_told : (f : Option Flight) (r : Reply) → IsRefusal r → AreAnswersTo (call_in_flight f) (answers_of (flight_refused f r))
+flight_told None r refusal = tt
+flight_told (Some f) r refusal = (record { id = refl; call = refusal f.id f.call }, tt)
+
+-- ---- lines
+
+-- parts of a step that answer from the front, and then the event
+pub goes_on : (before mid asked first answered after : List Waiting) → before ≡ first ++ mid → GoOn mid asked answered after →
+    GoOn before asked (first ++ answered) after
+goes_on before mid asked first answered after is (inl rest) =
+    inl (ap (λ (l : List Waiting). l ++ asked) is
+    ∙ append_assoc first mid asked ∙ ap (λ (l : List Waiting). first ++ l) rest ∙ sym (append_assoc first answered after))
+goes_on before mid asked first answered after is (inr rest) =
+    inr ((
+      first ++ rest.0,
+      ap (λ (l : List Waiting). first ++ l) rest.1 ∙ sym (append_assoc first rest.0 asked),
+      is ∙ ap (λ (l : List Waiting). first ++ l) rest.2 ∙ sym (append_assoc first rest.0 after),
+    ))
+
+pub rest_both : (before mid first second after : List Waiting) → before ≡ first ++ mid → mid ≡ second ++ after →
+    before ≡ (first ++ second) ++ after
+rest_both before mid first second after one two =
+    one ∙ ap (λ (l : List Waiting). first ++ l) two ∙ sym (append_assoc first second after)
+
+-- what waits where no write is in flight
+pub without_flight : (f : Option Flight) (waiting : List Waiting) → f ≡ None → call_in_flight f ++ waiting ≡ waiting
+without_flight None waiting is = refl
+without_flight (Some f) waiting is = absurd (cc)
+
+-- the line grows no longer
+pub still_few : (f : Option Flight) (waiting : List Waiting) (g : Option Flight) (later first : List Waiting) →
+    length waiting ≤ MAX_WAITING → (f ≡ None → waiting ≡ []) → (g ≡ None → later ≡ []) →
+    call_in_flight f ++ waiting ≡ first ++ (call_in_flight g ++ later) → length later ≤ MAX_WAITING
+still_few f waiting None later first few idle done is = subst (λ (l : List Waiting). length l ≤ MAX_WAITING) (sym (done refl)) (omega arith)
+still_few None waiting (Some g) later first few idle done is =
+    let none : waiting ≡ [] = idle refl in
+    let all : [] ≡ first ++ (call_in_flight (Some g) ++ later) = sym none ∙ is in
+    let longer : length (first ++ (call_in_flight (Some g) ++ later)) ≡ length first + (1 + length later) =
+    length-append first (call_in_flight (Some g) ++ later) ∙ ap (λ (n : ℕ). length first + n) (length-append (call_in_flight (Some g)) later) in
+    let zero_long : 0 ≡ length (first ++ (call_in_flight (Some g) ++ later)) = ap length all in
+    absurd (none_there (length first) (length later) (zero_long ∙ longer))
+  where
+    none_there : (a b : ℕ) → 0 ≡ a + (1 + b) → ⊥
+    none_there a b is = omega arith
+still_few (Some f) waiting (Some g) later first few idle done is =
+    let left : length (call_in_flight (Some f) ++ waiting) ≡ 1 + length waiting = length-append (call_in_flight (Some f)) waiting in
+    let right : length (first ++ (call_in_flight (Some g) ++ later)) ≡ length first + (1 + length later) =
+    length-append first (call_in_flight (Some g) ++ later) ∙ ap (λ (n : ℕ). length first + n) (length-append (call_in_flight (Some g)) later) in
+    shorter (length waiting) (length first) (length later) (sym left ∙ ap length is ∙ right) few
+  where
+    shorter : (a b c : ℕ) → 1 + a ≡ b + (1 + c) → a ≤ MAX_WAITING → c ≤ MAX_WAITING
+    shorter a b c is few = omega arith

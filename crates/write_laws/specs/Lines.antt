@@ -1,0 +1,68 @@
+-- The calls that a server has not answered yet, in their order, and what a step makes of them (own).
+use Rattle.std.specs.Prelude.{ℕ, ◌≡◌, ◌⊎◌, Option, Some, None, List, [], ◌∷◌, ◌++◌, filter_map}
+use Rattle.ubik_calls.specs.declared.replies.Reply.{Reply}
+use Rattle.cell_model.specs.declared.events.NodeEvent.{NodeEvent}
+use Rattle.cell_model.specs.declared.events.NodeEvent.TheVariants as event
+use Rattle.cell_model.specs.declared.events.Output.{Output}
+use Rattle.cell_model.specs.declared.events.Output.TheVariants as output
+use Rattle.cell_model.specs.Node.{Server, Flight, Waiting}
+use Rattle.cell_model.specs.Step.{Evaluation, Shown}
+use Rattle.cell_model.specs.Voters.{IsOkOf}
+
+-- ---- calls
+
+-- the call of the write in flight
+abbrev pub call_in_flight : Option Flight → List Waiting
+call_in_flight None = []
+call_in_flight (Some f) = record { id = f.id; call = f.call } ∷ []
+
+-- the calls that have no answer yet: first that of the write in flight, then those that wait
+abbrev pub unanswered : Server → List Waiting
+unanswered s = call_in_flight s.flight ++ s.waiting
+
+-- the call that an event asks
+abbrev pub asked_in : NodeEvent → List Waiting
+asked_in (event.Ask id call) = record { id = id; call = call } ∷ []
+asked_in _ = []
+
+-- ---- replies
+
+pub record Answer : Type 0 where
+  pub id : ℕ
+  pub reply : Reply
+  pub evaluation : Option Evaluation
+
+abbrev pub answer_in : Output → Option Evaluation → Option Answer
+answer_in (output.Reply id r) evaluation = Some (record { id = id; reply = r; evaluation = evaluation })
+answer_in _ evaluation = None
+
+-- the replies among what is shown, in their order
+abbrev pub answers_of : List Shown → List Answer
+answers_of shown = filter_map (λ (one : Shown). answer_in one.output one.evaluation) shown
+
+-- a reply goes to a call under its id, and an Ok tells of the evaluation of that call
+pub record IsAnswerTo (w : Waiting) (a : Answer) : Type 0 where
+  pub id : a.id ≡ w.id
+  pub call : IsOkOf w.call (output.Reply a.id a.reply) a.evaluation
+
+-- so one after the other: as many replies as calls
+abbrev pub AreAnswersTo : List Waiting → List Answer → Type 0
+AreAnswersTo [] [] = Unit {0}
+AreAnswersTo (w ∷ calls) (a ∷ answers) = IsAnswerTo w a × AreAnswersTo calls answers
+AreAnswersTo _ _ = ⊥
+
+-- ---- steps
+
+-- A step answers calls from the front of the line, each once. The call that it asks goes behind the others, and has its answer in its
+-- turn; or it has its answer at once, as the last of the step, and the others wait on.
+abbrev pub GoOn : (before asked answered after : List Waiting) → Type 0
+GoOn before asked answered after =
+    (before ++ asked ≡ answered ++ after)
+    ⊎ ((front : List Waiting) × (answered ≡ front ++ asked) × (before ≡ front ++ after))
+
+-- These calls have no answer before a step, and this one is asked in it. Its replies are the answers to some of them, and after it
+-- the others have none. So no reply has another id, and no call has two.
+pub record IsLine (before asked : List Waiting) (answers : List Answer) (after : List Waiting) : Type 0 where
+  pub answered : List Waiting
+  pub told : AreAnswersTo answered answers
+  pub rest : GoOn before asked answered after
