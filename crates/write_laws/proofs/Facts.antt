@@ -71,14 +71,14 @@ pub whole_later : (new : Version) (kept : Option KeptWrite) (changes : List Chan
     IsKept kept → IsLaterVersion new
 whole_later new None changes version whole is = absurd (cc)
 whole_later new (Some w) changes version whole is =
-    record { version = version; later = later w.old w.new new is.above (same (version_eq w.new new) whole) }
+    record { version = version; later = later w.old w.new new is.above (same (version_eq w.new new) _ whole) }
   where
     later : (old other new : Version) → version_lt old other ≡ true → version_eq other new ≡ true → version_eq new zero_version ≡ false
     later old other new above same = grind (arith, nat_tests)
 
-    same : (t : Bool) {o : Option (List Change)} → cond t o None ≡ Some changes → t ≡ true
-    same true whole = refl
-    same false whole = absurd (cc)
+    same : (t : Bool) (o : Option (List Change)) → cond t o None ≡ Some changes → t ≡ true
+    same true o whole = refl
+    same false o whole = absurd (cc)
 
 -- ---- the write in flight
 

@@ -2,7 +2,7 @@
 use Rattle.std.proofs.Common.{Bool, true, false, cond, ◌==◌, ◌≡◌, ℕ, zero, suc, ◌+◌, ◌<◌, List, [], ◌∷◌, ◌++◌, length, map, refl, sym, subst, arith}
 use Rattle.std.proofs.lemmas.Bool.{cond_both}
 use Rattle.std.specs.List.{AllByRecursion}
-use Rattle.std.specs.Prelude.{Option, Some, None, ◌&&◌, not, nat_lt, is_some}
+use Rattle.std.specs.Prelude.{◌*◌, Option, Some, None, ◌&&◌, not, nat_lt, is_some}
 use Rattle.ubik_types.specs.declared.hosts.Host.{Host}
 use Rattle.ubik_types.specs.declared.limits.TheConstants.{SMALLTIME}
 use Rattle.ubik_types.specs.declared.versions.Version.{Version}
@@ -18,7 +18,7 @@ use Rattle.cell_model.specs.Durable.{Received}
 use Rattle.cell_model.specs.Durable as durables
 use Rattle.cell_model.specs.Node.{Server, ReceivedText, Flight}
 use Rattle.cell_model.specs.Pieces.{piece_count, numbered_piece}
-use Rattle.cell_model.specs.Polls.{new_poll, polling, best_answer, first_with, entry_at, is_marked}
+use Rattle.cell_model.specs.Polls.{new_poll, polling, only_holder, best_answer, first_with, entry_at, is_marked}
 use Rattle.cell_model.specs.Recovery.{asks_versions, has_answered, spread_answer, spread_to, first_of_epoch, own_relabelling, relabelled_to}
 use Rattle.cell_model.specs.Recovery.{relabelled, polled, sent_piece, fetched_from, poll_asked, poll_begun, bytes_received, spread_bodies, spread_again}
 use Rattle.cell_model.specs.Recovery.{recovered, next_sent, piece_kept_received, text_with, is_whole, installed, fetch_installed}
@@ -93,7 +93,7 @@ module _ (db : Database) (m : Member) (now : ℕ) (inside : m.me < cell_size m) 
   relabelled_goes s poll none is good =
       cond_both (nat_lt s.version.epoch now) _ _ (Part 1 s)
       (λ _. follows db m 1 0 s begun (settled m) made
-      (λ after. sending_goes begun.server poll _ none is good.version after))
+      (λ after. sending_goes begun.server poll (record { old = s.version; holders = only_holder m }) none is good.version after))
       (λ _. turns db m 1 s (with_phase s (Relabel poll)) [] refl refl (phase_keeps db (cell_size m) s (Relabel poll) none is good) tt)
     where
       begun : Stepped
