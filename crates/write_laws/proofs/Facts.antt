@@ -162,7 +162,7 @@ module _ (db : Database) (servers : ℕ) where
   pub idle_flight : (s : Server) → is_sending s.phase ≡ false → Good s → s.flight ≡ None
   idle_flight s idle good = no_flight s s.phase refl (sending_or_ready s.phase idle) good
 
-  phase_received : (s : Server) (phase : PhaseRecord) → IsReceived s.received → IsReceived (with_phase s phase).received
+  pub phase_received : (s : Server) (phase : PhaseRecord) → IsReceived s.received → IsReceived (with_phase s phase).received
   phase_received s phase is =
       cond_both (is_fetch s.phase) None (cond (is_fetch phase) None s.received) IsReceived (λ _. tt)
       (λ _. cond_both (is_fetch phase) None s.received IsReceived (λ _. tt) (λ _. is))

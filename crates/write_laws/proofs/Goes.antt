@@ -273,7 +273,7 @@ module _ (db : Database) (m : Member) where
         rest_both waiting (unanswered t.server) first.answered then.answered (unanswered (next t.server).server) first.rest then.rest;
   }
 
-  keeping : (s : Server) → Keeps db (cell_size m) s → length s.waiting ≤ MAX_WAITING → IsIdle (line_of s) → IsKeeping db (cell_size m) s
+  pub keeping : (s : Server) → Keeps db (cell_size m) s → length s.waiting ≤ MAX_WAITING → IsIdle (line_of s) → IsKeeping db (cell_size m) s
   keeping s good few idle = record {
     version = good.version;
     phase = good.phase;

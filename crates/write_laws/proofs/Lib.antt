@@ -1,6 +1,9 @@
+mod Asking
 mod Facts
 mod Goes
 mod Lining
 mod Receiving
 mod Recovering
+mod Spreading
+mod Steps
 mod Turning

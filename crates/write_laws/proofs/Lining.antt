@@ -92,3 +92,14 @@ still_few (Some f) waiting (Some g) later first few idle done is =
   where
     shorter : (a b c : ℕ) → 1 + a ≡ b + (1 + c) → a ≤ MAX_WAITING → c ≤ MAX_WAITING
     shorter a b c is few = omega arith
+
+-- where one call had no answer at most one waits
+pub one_few : (w : Waiting) (g : Option Flight) (later first : List Waiting) → w ∷ [] ≡ first ++ (call_in_flight g ++ later) →
+    length later ≤ MAX_WAITING
+one_few w g later first is =
+    by (length first) (length (call_in_flight g)) (length later)
+    (ap length is ∙ length-append first (call_in_flight g ++ later)
+    ∙ ap (λ (n : ℕ). length first + n) (length-append (call_in_flight g) later))
+  where
+    by : (a b c : ℕ) → 1 ≡ a + (b + c) → c ≤ MAX_WAITING
+    by a b c is = omega arith

@@ -3,7 +3,7 @@ use Rattle.std.proofs.Common.{Bool, true, false, true≢false, cond, ◌==◌, �
 use Rattle.std.proofs.Common.{refl, sym, ap, subst, ◌∙◌, arith}
 use Rattle.std.proofs.lemmas.Bool.{cond_both}
 use Rattle.std.proofs.lemmas.Bool.Decides.{nat_tests}
-use Rattle.std.proofs.lemmas.List.{append-nil}
+use Rattle.std.proofs.lemmas.List.{append-nil, length-append}
 use Rattle.std.proofs.lemmas.Option.{none-some}
 use Rattle.std.specs.List.{AllByRecursion}
 use Rattle.std.specs.Prelude.{Option, Some, None, nat_le, count_by, replicate}
@@ -35,10 +35,10 @@ use Rattle.cell_model.specs.Writes.{write_bodies, next_version, own_write_begun,
 use Rattle.cell_model.specs.Writes.{last_counter, written_in, written_small, written_within, turned, write_turn, is_free_in, is_free, next_turns}
 use Rattle.recovery_laws.specs.HasNoWrite.{IsPhaseOf, IsReceived}
 use Rattle.recovery_laws.proofs.Facts.{next_is, next_later}
-use Rattle.write_laws.specs.Keeping.{IsWriting, IsKeeping}
+use Rattle.write_laws.specs.Keeping.{IsInFlight, IsWriting, IsKeeping}
 use Rattle.write_laws.specs.Lines.{call_in_flight, unanswered, answers_of, AreAnswersTo}
-use Rattle.write_laws.proofs.Facts.{Keeps, keeps, no_flight, held_keeps, line_keeps, polling_keeps}
-use Rattle.write_laws.proofs.Goes.{AllFine, AllSilent, silent_fine, silent_answers, fine_append, each_silent, Goes, rests, IsIdle, line_of, Serves}
+use Rattle.write_laws.proofs.Facts.{Keeps, keeps, no_flight, phase_received, held_keeps, line_keeps, polling_keeps}
+use Rattle.write_laws.proofs.Goes.{AllFine, AllSilent, silent_fine, silent_answers, fine_append, each_silent, Goes, rests, Line, IsIdle, line_of, Serves}
 use Rattle.write_laws.proofs.Goes.{Handles, of_silent, serves_then, handles}
 use Rattle.write_laws.proofs.Lining.{answers_append, told_both, waiting_told, without_flight}
 use Rattle.write_laws.proofs.Recovering.{write_bounded, sending_goes}
@@ -51,12 +51,12 @@ none_of (suc n) = none_of n
 
 one_of_them : (n me : ℕ) → size (only_at true false n me) ≤ 1
 one_of_them zero me = omega arith
-one_of_them (suc n) zero = (let none : size (replicate n false) ≡ 0 = none_of n in omega arith)
+one_of_them (suc n) zero = (let one : size (only_at true false (suc n) 0) ≡ 1 = ap suc (none_of n) in omega arith)
 one_of_them (suc n) (suc me) = one_of_them n me
 
 me_there : (n me : ℕ) → me < n → 1 ≤ size (only_at true false n me)
 me_there zero me inside = absurd (omega arith)
-me_there (suc n) zero inside = omega arith
+me_there (suc n) zero inside = (let one : size (only_at true false (suc n) 0) ≡ 1 = ap suc (none_of n) in omega arith)
 me_there (suc n) (suc me) inside = me_there n me (omega arith)
 
 -- this server alone is no majority of more
@@ -82,9 +82,9 @@ abbrev pub room : Option Flight → ℕ
 room None = 1
 room (Some f) = 0
 
-room_most : (f : Option Flight) → room f ≤ 1
-room_most None = omega arith
-room_most (Some f) = omega arith
+room_left : (f : Option Flight) → 0 + room f ≤ 1
+room_left None = omega arith
+room_left (Some f) = omega arith
 
 -- The turn of a call before which these wait: where the server is free after it, they wait on; where it is not, and no write is in flight,
 -- none waits any more. A server that is not alone makes a durable call only where a write is in flight after it.
@@ -136,7 +136,7 @@ module _ (db : Database) (m : Member) (now : ℕ) (inside : m.me < cell_size m) 
     };
     free = λ _. refl;
     stuck = λ stuck. absurd (true≢false (sym (free_in s.phase s.flight ready none) ∙ stuck));
-    few = λ _. room_most s.flight;
+    few = λ _. room_left s.flight;
   }
 
   -- the counter is at its end
@@ -155,7 +155,7 @@ module _ (db : Database) (m : Member) (now : ℕ) (inside : m.me < cell_size m) 
     };
     free = λ free. absurd (true≢false (sym free));
     stuck = λ _ _. refl;
-    few = λ _. room_most s.flight;
+    few = λ _. room_left s.flight;
   }
     where
       silenced : (waiting : List Waiting) → AllFine m (waiting_refused waiting (no_quorum m s now phases.Poll applied.No))
@@ -283,6 +283,197 @@ module _ (db : Database) (m : Member) (now : ℕ) (inside : m.me < cell_size m) 
 
 -- ---- the turns of those that wait
 
--- a server that is not alone makes at most one durable call in them
-pub record Turns (db : Database) (m : Member) (s : Server) (t : Stepped) : Type 0 where
-  pub server : Keeps db (cell_size m) t.server
+-- Of all calls without an answer the first ones are answered, and none waits without a write in flight. There is a durable call only where a
+-- write is in flight after it.
+pub record TurnsGo (db : Database) (m : Member) (s : Server) (t : Stepped) : Type 0 where
+  pub serves : Serves db m 1 (unanswered s) s t
+  pub idle : IsIdle (line_of t.server)
+  pub few : length t.calls + room t.server.flight ≤ room s.flight
+
+module _ (db : Database) (m : Member) (now : ℕ) (inside : m.me < cell_size m) where
+  abbrev Good : Server → Type 0
+  Good s = Keeps db (cell_size m) s
+
+  -- no turn
+  turns_over : (s : Server) → Good s → IsIdle (line_of s) → TurnsGo db m s (quiet s)
+  turns_over s good idle =
+      record { serves = of_silent db m 1 s (quiet s) (rests db m 1 s good); idle = idle; few = same (room s.flight) }
+    where
+      same : (n : ℕ) → 0 + n ≤ n
+      same n = omega arith
+
+  -- a turn, and then the next ones
+  turn_then : (w : Waiting) (waiting : List Waiting) (s : Server) (t : Stepped) (next : Server → Stepped) → s.flight ≡ None →
+      s.waiting ≡ w ∷ waiting → Turned db m w (record s { waiting = waiting }) t → 1 < cell_size m →
+      TurnsGo db m t.server (next t.server) → TurnsGo db m s (followed t next)
+  turn_then w waiting s t next none at first several then =
+      let both : Serves db m 2 (w ∷ waiting) (record s { waiting = waiting }) (followed t next) =
+      serves_then db m 1 1 (w ∷ waiting) (record s { waiting = waiting }) t next first.serves then.serves in
+      record {
+        serves = record {
+          server = both.server;
+          shown = both.shown;
+          fits = both.fits;
+          leads = both.leads;
+          few = calls (first.few several);
+          answered = both.answered;
+          told = both.told;
+          rest = without_flight s.flight s.waiting none ∙ at ∙ both.rest;
+        };
+        idle = then.idle;
+        few = subst (λ (f : Option Flight). length (followed t next).calls + room (next t.server).server.flight ≤ room f) (sym none) (left (first.few several));
+      }
+    where
+      long : length (t.calls ++ (next t.server).calls) ≡ length t.calls + length (next t.server).calls
+      long = length-append t.calls (next t.server).calls
+
+      sums : (n a b c d : ℕ) → n ≡ a + b → a + c ≤ 1 → b + d ≤ c → n + d ≤ 1
+      sums n a b c d is one two = omega arith
+
+      left : length t.calls + room t.server.flight ≤ 1 → length (t.calls ++ (next t.server).calls) + room (next t.server).server.flight ≤ 1
+      left one =
+          sums (length (t.calls ++ (next t.server).calls)) (length t.calls) (length (next t.server).calls) (room t.server.flight)
+          (room (next t.server).server.flight) long one then.few
+
+      calls : length t.calls + room t.server.flight ≤ 1 → length (t.calls ++ (next t.server).calls) ≤ 1
+      calls one = less (length (t.calls ++ (next t.server).calls)) (room (next t.server).server.flight) (left one)
+        where
+          less : (n d : ℕ) → n + d ≤ 1 → n ≤ 1
+          less n d is = omega arith
+
+  -- Where the server is free these wait; where it is not, and no write is in flight, none does.
+  pub next_go : (waiting : List Waiting) (s : Server) (short : List Bool) → 1 < cell_size m → Good s →
+      (is_free s ≡ true → s.waiting ≡ waiting) → (is_free s ≡ false → IsIdle (line_of s)) → TurnsGo db m s (next_turns db m now waiting s short)
+  next_go [] s short several good free stuck = turns_over s good (by (is_free s) refl)
+    where
+      by : (t : Bool) → is_free s ≡ t → IsIdle (line_of s)
+      by true is = λ _. free is
+      by false is = stuck is
+  next_go (w ∷ waiting) s short several good free stuck =
+      cond_both (is_free s) _ _ (TurnsGo db m s)
+      (λ is.
+      let has = free_has s.phase s.flight is in
+      let at : s.waiting ≡ w ∷ waiting = free is in
+      let line : AllByRecursion (IsWriting db) (w ∷ waiting) = subst (AllByRecursion (IsWriting db)) at good.line in
+      let u : Server = record s { waiting = waiting } in
+      let t : Stepped = write_turn db m u now w.id w.call (is_short short) in
+      let first : Turned db m w u t =
+      write_turned db m now inside u (line_keeps db (cell_size m) s waiting line.1 good) has.1 has.0 w.id w.call line.0 (is_short short) in
+      turn_then w waiting s t (λ after. next_turns db m now waiting after (short_after t.shown short)) has.1 at first several
+      (next_go waiting t.server (short_after t.shown short) several first.serves.server first.free first.stuck))
+      (λ is. turns_over s good (stuck is))
+
+  -- ---- holders
+
+  pub record Settled (s : Server) (t : Stepped) : Type 0 where
+    pub serves : Serves db m 0 (unanswered s) s t
+    pub stuck : is_free t.server ≡ false → IsIdle (line_of t.server)
+    pub waits : t.server.waiting ≡ s.waiting
+
+  still : (s : Server) (t : Stepped) → IsIdle (line_of s) → Goes db m 0 s t → Settled s t
+  still s t idle goes = record {
+    serves = of_silent db m 0 s t goes;
+    stuck = λ _. subst IsIdle (sym goes.same) idle;
+    waits = ap (λ (l : Line). l.waiting) goes.same;
+  }
+
+  flight_settles : (s : Server) (poll : Polled) (spread : Spread) (announced : Version) (f : Option Flight) → s.flight ≡ f →
+      IsPhaseOf (cell_size m) (Ready poll spread announced) → IsIdle (line_of s) → Good s →
+      Settled s (flight_settled m s poll spread announced f)
+  flight_settles s poll spread announced None at is idle good = still s (quiet s) idle (rests db m 0 s good)
+  flight_settles s poll spread announced (Some f) at is idle good =
+      cond_both (is_majority (cell_size m) spread.holders) _ _ (Settled s) (λ _. ended) (λ _. still s (quiet s) idle (rests db m 0 s good))
+    where
+      ended : Settled s (ended_write s f poll spread announced)
+      ended = record {
+        serves = record {
+          server = record {
+            version = good.version;
+            phase = (is.0, is.1, good.version);
+            received = phase_received db (cell_size m) s (Ready poll spread s.version) good.received;
+            kept = good.kept;
+            flight = tt;
+            line = good.line;
+          };
+          shown = (tt, (tt, tt));
+          fits = tt;
+          leads = refl;
+          few = omega arith;
+          answered = record { id = f.id; call = f.call } ∷ [];
+          told = (record { id = refl; call = refl }, tt);
+          rest = ap (λ (g : Option Flight). call_in_flight g ++ s.waiting) at;
+        };
+        stuck = λ stuck. absurd (true≢false stuck);
+        waits = refl;
+      }
+
+  settles : (s : Server) (phase : PhaseRecord) → s.phase ≡ phase → IsPhaseOf (cell_size m) phase → IsIdle (line_of s) → Good s →
+      Settled s (settled_in m s phase)
+  settles s NoPhase at is idle good = still s (quiet s) idle (rests db m 0 s good)
+  settles s (Poll poll) at is idle good = still s (quiet s) idle (rests db m 0 s good)
+  settles s (Fetch poll best from) at is idle good = still s (quiet s) idle (rests db m 0 s good)
+  settles s (Relabel poll) at is idle good = still s (quiet s) idle (rests db m 0 s good)
+  settles s (Send poll spread) at is idle good =
+      still s (settled_in m s (Send poll spread)) idle
+      (sending_goes db m now inside s poll spread (no_flight db (cell_size m) s (Send poll spread) at refl good) is.0 is.1 good)
+  settles s (Ready poll spread announced) at is idle good = flight_settles s poll spread announced s.flight refl is idle good
+
+  -- the cell has more servers where a write is in flight
+  several_there : (s : Server) (f : Flight) → s.flight ≡ Some f → Good s → 1 < cell_size m
+  several_there s f at good = by s.flight at good.flight
+    where
+      by : (g : Option Flight) → g ≡ Some f → IsInFlight db (cell_size m) s.phase s.version s.image g → 1 < cell_size m
+      by None is flies = absurd (cc)
+      by (Some g) is flies = flies.several
+
+  -- a holder is added, and those that wait have their turns
+  pub holder_handles : (s : Server) (k : ℕ) (short : List Bool) → IsKeeping db (cell_size m) s →
+      Handles db m 1 [] s (holder_added db m s now k short)
+  holder_handles s k short good = by s.flight refl
+    where
+      u : Server
+      u = with_phase s (held_by s.phase k)
+
+      held : Good u
+      held = held_keeps db (cell_size m) s k (keeps db (cell_size m) s good)
+
+      t : Stepped
+      t = settled m u
+
+      settling : Settled u t
+      settling = settles u u.phase refl held.phase good.idle held
+
+      from : Serves db m 1 (unanswered u) u (holder_added db m s now k short) → Serves db m 1 (unanswered s) s (holder_added db m s now k short)
+      from is = record {
+        server = is.server;
+        shown = is.shown;
+        fits = is.fits;
+        leads = is.leads;
+        few = is.few;
+        answered = is.answered;
+        told = is.told;
+        rest = is.rest;
+      }
+
+      -- nothing waits
+      none_waits : (waiting : List Waiting) → waiting ≡ [] → IsIdle (line_of t.server) →
+          TurnsGo db m t.server (next_turns db m now waiting t.server (short_after t.shown short))
+      none_waits [] none idle = turns_over t.server settling.serves.server idle
+      none_waits (w ∷ waiting) none idle = absurd (cc)
+
+      then_go : TurnsGo db m t.server (next_turns db m now t.server.waiting t.server (short_after t.shown short)) →
+          Handles db m 1 [] s (holder_added db m s now k short)
+      then_go go =
+          handles db m 1 s (holder_added db m s now k short) good
+          (from (serves_then db m 0 1 (unanswered u) u t (λ after. next_turns db m now after.waiting after (short_after t.shown short)) settling.serves go.serves))
+          go.idle
+
+      -- without a write in flight none waits behind it
+      nobody : s.flight ≡ None → t.server.waiting ≡ []
+      nobody none = settling.waits ∙ good.idle none
+
+      by : (f : Option Flight) → s.flight ≡ f → Handles db m 1 [] s (holder_added db m s now k short)
+      by None none = then_go (none_waits t.server.waiting (nobody none) (λ _. nobody none))
+      by (Some f) there =
+          then_go (next_go t.server.waiting t.server (short_after t.shown short) (several_there s f there (keeps db (cell_size m) s good))
+          settling.serves.server (λ _. refl) settling.stuck)
