@@ -96,7 +96,7 @@ no_flight_in : (db : Database) (servers : ℕ) (phase : PhaseRecord) (v : Versio
 no_flight_in db servers phase v image None other is = refl
 no_flight_in db servers phase v image (Some f) other is = absurd (true≢false (sym is.ready ∙ other))
 
-none_flies : (db : Database) (servers : ℕ) (phase : PhaseRecord) (v : Version) (image : List ℕ) (f : Option Flight) → f ≡ None →
+pub none_flies : (db : Database) (servers : ℕ) (phase : PhaseRecord) (v : Version) (image : List ℕ) (f : Option Flight) → f ≡ None →
     IsInFlight db servers phase v image f
 none_flies db servers phase v image None is = tt
 none_flies db servers phase v image (Some f) is = absurd (cc)

@@ -147,7 +147,7 @@ module _ (db : Database) (m : Member) (now : ℕ) (inside : m.me < cell_size m) 
   resting = still 2 (quiet s) (omega arith) (rests db m 2 s fits)
 
   holder : (k : ℕ) (short : List Bool) → Part (holder_added db m s now k short)
-  holder k short = by (holder_handles db m now inside s k short good)
+  holder k short = by (holder_handles db m now inside moment s k short good)
     where
       at_most : (n : ℕ) → n ≤ 1 → n ≤ 2
       at_most n few = omega arith

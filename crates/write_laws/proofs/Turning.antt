@@ -4,6 +4,7 @@ use Rattle.std.proofs.Common.{refl, sym, ap, subst, ◌∙◌, arith}
 use Rattle.std.proofs.lemmas.Bool.{cond_both}
 use Rattle.std.proofs.lemmas.Bool.Decides.{nat_tests}
 use Rattle.std.proofs.lemmas.List.{append-nil, length-append}
+use Rattle.std.proofs.lemmas.List.Sums.{sum_by-cons}
 use Rattle.std.proofs.lemmas.Option.{none-some}
 use Rattle.std.specs.List.{AllByRecursion}
 use Rattle.std.specs.Prelude.{Option, Some, None, nat_le, count_by, replicate}
@@ -13,6 +14,7 @@ use Rattle.ubik_types.specs.declared.phases.Applied.TheVariants as applied
 use Rattle.ubik_types.specs.declared.versions.TheConstants.{MAX_COUNTER}
 use Rattle.ubik_types.specs.declared.versions.Version.{Version}
 use Rattle.ubik_types.specs.Logged.{too_large}
+use Rattle.ubik_types.specs.Moment.{IsMoment}
 use Rattle.ubik_types.specs.Phase.{Polled, Spread, PhaseRecord, NoPhase, Poll, Fetch, Relabel, Send, Ready}
 use Rattle.ubik_types.specs.Quorum.{size, is_majority}
 use Rattle.ubik_types.specs.Version.{IsVersion}
@@ -45,19 +47,29 @@ use Rattle.write_laws.proofs.Recovering.{write_bounded, sending_goes}
 
 -- ---- majorities
 
+size-cons : (a : Bool) (set : List Bool) → size (a ∷ set) ≡ cond a 1 0 + size set
+size-cons a set = sum_by-cons (λ (marked : Bool). cond marked 1 0) a set
+
 none_of : (n : ℕ) → size (replicate n false) ≡ 0
 none_of zero = refl
-none_of (suc n) = none_of n
+none_of (suc n) = size-cons false (replicate n false) ∙ ap (λ (k : ℕ). 0 + k) (none_of n)
 
 one_of_them : (n me : ℕ) → size (only_at true false n me) ≤ 1
 one_of_them zero me = omega arith
-one_of_them (suc n) zero = (let one : size (only_at true false (suc n) 0) ≡ 1 = ap suc (none_of n) in omega arith)
-one_of_them (suc n) (suc me) = one_of_them n me
+one_of_them (suc n) zero =
+    let none : size (replicate n false) ≡ 0 = none_of n in
+    let first : size (true ∷ replicate n false) ≡ 1 + size (replicate n false) = size-cons true (replicate n false) in omega arith
+one_of_them (suc n) (suc me) =
+    let rest : size (only_at true false n me) ≤ 1 = one_of_them n me in
+    let first : size (false ∷ only_at true false n me) ≡ 0 + size (only_at true false n me) = size-cons false (only_at true false n me) in omega arith
 
 me_there : (n me : ℕ) → me < n → 1 ≤ size (only_at true false n me)
 me_there zero me inside = absurd (omega arith)
-me_there (suc n) zero inside = (let one : size (only_at true false (suc n) 0) ≡ 1 = ap suc (none_of n) in omega arith)
-me_there (suc n) (suc me) inside = me_there n me (omega arith)
+me_there (suc n) zero inside =
+    let first : size (true ∷ replicate n false) ≡ 1 + size (replicate n false) = size-cons true (replicate n false) in omega arith
+me_there (suc n) (suc me) inside =
+    let rest : 1 ≤ size (only_at true false n me) = me_there n me (omega arith) in
+    let first : size (false ∷ only_at true false n me) ≡ 0 + size (only_at true false n me) = size-cons false (only_at true false n me) in omega arith
 
 -- this server alone is no majority of more
 not_alone : (m : Member) → 1 < cell_size m → is_majority (cell_size m) (only_holder m) ≡ true → ⊥
@@ -290,7 +302,7 @@ pub record TurnsGo (db : Database) (m : Member) (s : Server) (t : Stepped) : Typ
   pub idle : IsIdle (line_of t.server)
   pub few : length t.calls + room t.server.flight ≤ room s.flight
 
-module _ (db : Database) (m : Member) (now : ℕ) (inside : m.me < cell_size m) where
+module _ (db : Database) (m : Member) (now : ℕ) (inside : m.me < cell_size m) (moment : IsMoment now) where
   abbrev Good : Server → Type 0
   Good s = Keeps db (cell_size m) s
 
@@ -415,7 +427,7 @@ module _ (db : Database) (m : Member) (now : ℕ) (inside : m.me < cell_size m) 
   settles s (Relabel poll) at is idle good = still s (quiet s) idle (rests db m 0 s good)
   settles s (Send poll spread) at is idle good =
       still s (settled_in m s (Send poll spread)) idle
-      (sending_goes db m now inside s poll spread (no_flight db (cell_size m) s (Send poll spread) at refl good) is.0 is.1 good)
+      (sending_goes db m now inside moment s poll spread (no_flight db (cell_size m) s (Send poll spread) at refl good) is.0 is.1 good)
   settles s (Ready poll spread announced) at is idle good = flight_settles s poll spread announced s.flight refl is idle good
 
   -- the cell has more servers where a write is in flight
