@@ -1,5 +1,5 @@
 -- A call that is asked has its answer at once, or goes behind those that have none.
-use Rattle.std.proofs.Common.{Bool, true, false, cond, ◌==◌, ◌≡◌, inl, inr, ℕ, ◌+◌, ◌<◌, ◌≤◌, List, [], ◌∷◌, ◌++◌, length, refl, sym, ap, subst, ◌∙◌}
+use Rattle.std.proofs.Common.{Bool, true, false, ◌==◌, ◌≡◌, inl, inr, ℕ, ◌+◌, ◌<◌, ◌≤◌, List, [], ◌∷◌, ◌++◌, length, refl, sym, ap, subst, ◌∙◌}
 use Rattle.std.proofs.Common.{append_assoc, arith}
 use Rattle.std.proofs.lemmas.Bool.{cond_both}
 use Rattle.std.proofs.lemmas.Bool.Decides.{nat_tests}
@@ -21,7 +21,7 @@ use Rattle.cell_model.specs.Step.{told_version, refusing}
 use Rattle.cell_model.specs.Voters.{IsOkOf}
 use Rattle.cell_model.specs.Writes.{announced_image, is_free, write_turn}
 use Rattle.write_laws.specs.Keeping.{IsWriting, IsKeeping}
-use Rattle.write_laws.specs.Lines.{call_in_flight, unanswered}
+use Rattle.write_laws.specs.Lines.{call_in_flight}
 use Rattle.write_laws.proofs.Facts.{keeps}
 use Rattle.write_laws.proofs.Goes.{IsIdle, line_of, Handles, keeping}
 use Rattle.write_laws.proofs.Lining.{without_flight, one_few}

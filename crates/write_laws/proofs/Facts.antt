@@ -1,5 +1,5 @@
 -- What parts of a server make of it: polls, texts, kept writes, and the write in flight.
-use Rattle.std.proofs.Common.{Bool, true, false, true≢false, cond, ◌==◌, ◌≡◌, ℕ, zero, suc, ◌+◌, ◌<◌, ◌≤◌, List, [], ◌∷◌, ◌++◌}
+use Rattle.std.proofs.Common.{Bool, true, false, true≢false, cond, ◌≡◌, ℕ, zero, suc, ◌+◌, ◌≤◌, List, [], ◌∷◌}
 use Rattle.std.proofs.Common.{length, refl, sym, ap, subst, ◌∙◌, arith}
 use Rattle.std.proofs.lemmas.Bool.{cond_both}
 use Rattle.std.proofs.lemmas.Bool.Decides.{nat_tests}
@@ -20,7 +20,7 @@ use Rattle.cell_model.specs.Step.{Member, cell_size, is_ready, is_fetch, told_ve
 use Rattle.recovery_laws.specs.HasNoWrite.{IsPhaseOf, IsReceived, IsTextOf}
 use Rattle.recovery_laws.specs.Spreads.{IsLaterVersion}
 use Rattle.recovery_laws.proofs.Facts.{held_is, new_poll_is}
-use Rattle.write_laws.specs.Keeping.{IsShortPiece, IsBegunWrite, IsKept, IsOwnWrite, IsInFlight, IsWriting, IsKeeping}
+use Rattle.write_laws.specs.Keeping.{IsShortPiece, IsBegunWrite, IsKept, IsInFlight, IsWriting, IsKeeping}
 
 -- ---- kept writes
 

@@ -22,8 +22,8 @@ use Rattle.recovery_laws.specs.Spreads.{FitsOver, AllFit, durable_of}
 use Rattle.recovery_laws.proofs.Goes.{fits_append, after_append, sum_few}
 use Rattle.write_laws.specs.Keeping.{IsKeeping, IsCellPacket}
 use Rattle.write_laws.specs.Lines.{call_in_flight, unanswered, answers_of, AreAnswersTo, GoOn, IsLine}
-use Rattle.write_laws.proofs.Facts.{Keeps, keeps}
-use Rattle.write_laws.proofs.Lining.{answers_append, told_both, goes_on, rest_both, still_few}
+use Rattle.write_laws.proofs.Facts.{Keeps}
+use Rattle.write_laws.proofs.Lining.{told_both, goes_on, rest_both, still_few}
 
 -- ---- what is shown
 

@@ -5,13 +5,12 @@ use Rattle.std.proofs.lemmas.List.Elements.{filter_map-append}
 use Rattle.std.specs.Prelude.{Option, Some, None}
 use Rattle.lock_table.specs.declared.tables.TheConstants.{MAX_WAITING}
 use Rattle.ubik_calls.specs.declared.replies.Reply.{Reply}
-use Rattle.cell_model.specs.declared.events.Output.{Output}
 use Rattle.cell_model.specs.declared.events.Output.TheVariants as output
 use Rattle.cell_model.specs.Lapse.{flight_refused, waiting_refused}
-use Rattle.cell_model.specs.Node.{Server, Flight, Waiting}
+use Rattle.cell_model.specs.Node.{Flight, Waiting}
 use Rattle.cell_model.specs.Step.{Shown}
 use Rattle.cell_model.specs.Voters.{IsOkOf}
-use Rattle.write_laws.specs.Lines.{call_in_flight, unanswered, Answer, answer_in, answers_of, IsAnswerTo, AreAnswersTo, GoOn, IsLine}
+use Rattle.write_laws.specs.Lines.{call_in_flight, Answer, answer_in, answers_of, AreAnswersTo, GoOn}
 
 -- ---- replies
 

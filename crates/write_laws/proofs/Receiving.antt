@@ -25,16 +25,15 @@ use Rattle.cell_model.specs.Receiver.{is_sending, answers_version_kept, answers_
 use Rattle.cell_model.specs.Receiver.{send_piece_received, empty_write, begin_received, kept_with, put_piece_received, whole_write, committed_by}
 use Rattle.cell_model.specs.Receiver.{write_taken, commit_received, kept_but, abort_received, get_piece_received}
 use Rattle.cell_model.specs.Recovery.{is_whole, installed, text_with}
-use Rattle.cell_model.specs.Step.{Member, cell_size, Stepped, quiet, showing, leased, is_ready, is_fetch, told_version, with_database}
+use Rattle.cell_model.specs.Step.{Member, cell_size, Stepped, quiet, leased, is_ready, is_fetch, told_version, with_database}
 use Rattle.cell_model.specs.Voting.{own_beacon, beacon_turn, beacon_taken, beacon_received, vote_received}
 use Rattle.cell_laws.proofs.Parts.{and_both, lt_true, lt_false, or_none}
 use Rattle.cell_places.proofs.Hosts.{HasPlace}
 use Rattle.recovery_laws.specs.HasNoWrite.{IsReceived}
-use Rattle.recovery_laws.specs.Spreads.{IsLaterVersion}
 use Rattle.recovery_laws.proofs.Facts.{IsLaterText, above_first, not_first, text_later, text_is, told_is, piece_short}
 use Rattle.write_laws.specs.Keeping.{IsKept}
 use Rattle.write_laws.proofs.Facts.{Keeps, begun_is, kept_with_is, kept_but_is, whole_later, idle_flight, database_keeps, received_keeps, kept_keeps}
-use Rattle.write_laws.proofs.Goes.{IsBoundedBody, Goes, one_silent, each_silent, turns, shows, rests, makes, follows, within}
+use Rattle.write_laws.proofs.Goes.{IsBoundedBody, Goes, one_silent, each_silent, turns, shows, rests, makes, follows}
 use Rattle.write_laws.proofs.Recovering.{installed_goes}
 
 -- ---- changes as a store keeps them

@@ -1,5 +1,5 @@
 -- Recovery and its packets keep what a server knows, and answer no call.
-use Rattle.std.proofs.Common.{Bool, true, false, cond, ◌==◌, ◌≡◌, ℕ, zero, suc, ◌+◌, ◌<◌, List, [], ◌∷◌, ◌++◌, length, map, refl, sym, subst, arith}
+use Rattle.std.proofs.Common.{Bool, true, false, cond, ◌==◌, ◌≡◌, ℕ, zero, suc, ◌+◌, ◌<◌, List, [], ◌∷◌, ◌++◌, length, map, refl, sym, subst}
 use Rattle.std.proofs.lemmas.Bool.{cond_both}
 use Rattle.std.specs.List.{AllByRecursion}
 use Rattle.std.specs.Prelude.{◌*◌, Option, Some, None, ◌&&◌, not, nat_lt, is_some}
@@ -17,7 +17,7 @@ use Rattle.db_image.specs.Database.{Database}
 use Rattle.cell_model.specs.Durable.{Received}
 use Rattle.cell_model.specs.Durable as durables
 use Rattle.cell_model.specs.Node.{Server, ReceivedText, Flight}
-use Rattle.cell_model.specs.Pieces.{piece_count, numbered_piece}
+use Rattle.cell_model.specs.Pieces.{piece_count}
 use Rattle.cell_model.specs.Polls.{new_poll, polling, only_holder, best_answer, first_with, entry_at, is_marked}
 use Rattle.cell_model.specs.Recovery.{asks_versions, has_answered, spread_answer, spread_to, first_of_epoch, own_relabelling, relabelled_to}
 use Rattle.cell_model.specs.Recovery.{relabelled, polled, sent_piece, fetched_from, poll_asked, poll_begun, bytes_received, spread_bodies, spread_again}
@@ -30,7 +30,7 @@ use Rattle.recovery_laws.specs.HasNoWrite.{IsPollOf, IsPhaseOf, IsReceived, IsTe
 use Rattle.recovery_laws.specs.Spreads.{IsLaterVersion}
 use Rattle.recovery_laws.proofs.Facts.{above_first, first_is, first_later, new_poll_is, best_answer_is, text_is, whole_fits, piece_short}
 use Rattle.write_laws.proofs.Facts.{Keeps, no_flight, phase_keeps, database_keeps, received_keeps, polling_keeps}
-use Rattle.write_laws.proofs.Goes.{IsBoundedBody, Goes, one_silent, each_silent, turns, shows, rests, makes, follows, before, within}
+use Rattle.write_laws.proofs.Goes.{IsBoundedBody, Goes, one_silent, each_silent, turns, shows, rests, makes, follows, before}
 
 -- ---- bodies
 

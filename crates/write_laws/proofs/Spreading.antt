@@ -1,5 +1,5 @@
 -- A server stays one that takes writes, and each packet that it takes or sends has a spelling.
-use Rattle.std.proofs.Common.{◌≡◌, ℕ, ◌+◌, ◌<◌, ◌≤◌, List, [], ◌∷◌, length, refl, sym, subst, arith}
+use Rattle.std.proofs.Common.{◌≡◌, ℕ, ◌+◌, ◌≤◌, List, length, refl, sym, subst, arith}
 use Rattle.std.proofs.lemmas.List.{length-append}
 use Rattle.std.specs.List.{AllByRecursion}
 use Rattle.std.specs.Prelude.{Option, Some, None}
@@ -13,7 +13,7 @@ use Rattle.ubik_calls.specs.Length.{HasShortBytes, body_length, packet_length}
 use Rattle.ubik_calls.specs.WireGrammar.{behind_length, spelling}
 use Rattle.xdr_base.specs.Spelling.{word, padding}
 use Rattle.db_image.specs.Database.{Database}
-use Rattle.cell_model.specs.Node.{Server, KeptWrite, Flight, Waiting}
+use Rattle.cell_model.specs.Node.{Server, KeptWrite, Waiting}
 use Rattle.cell_model.specs.NodeRule.{step_of}
 use Rattle.recovery_laws.specs.HasNoWrite.{HasNoWrite}
 use Rattle.recovery_laws.specs.Spreads.{durable_of}

@@ -1,8 +1,8 @@
 -- Each event that a cell brings keeps what a server knows.
-use Rattle.std.proofs.Common.{Bool, true, false, cond, ◌==◌, ◌≡◌, inl, ℕ, ◌+◌, ◌≤◌, ◌<◌, List, [], ◌∷◌, ◌++◌, length, refl, sym, ap, subst, ◌∙◌, arith}
+use Rattle.std.proofs.Common.{Bool, ◌==◌, ◌≡◌, ℕ, ◌+◌, ◌≤◌, ◌<◌, List, [], ◌∷◌, ◌++◌, length, refl, sym, ap, subst, ◌∙◌, arith}
 use Rattle.std.proofs.lemmas.Bool.{cond_both}
 use Rattle.std.proofs.lemmas.List.{append-nil}
-use Rattle.std.specs.Prelude.{Option, Some, None, nat_lt, is_some}
+use Rattle.std.specs.Prelude.{Option, Some, None, nat_lt}
 use Rattle.ubik_types.specs.declared.hosts.Host.{Host}
 use Rattle.ubik_types.specs.declared.limits.TheConstants.{SMALLTIME}
 use Rattle.ubik_types.specs.declared.phases.Phase.{Phase}
@@ -33,7 +33,7 @@ use Rattle.recovery_laws.proofs.Facts.{answered_is}
 use Rattle.write_laws.specs.Keeping.{IsKeeping, IsCellPacket, IsBrought}
 use Rattle.write_laws.specs.Lines.{call_in_flight, unanswered, answers_of, asked_in, AreAnswersTo}
 use Rattle.write_laws.proofs.Facts.{Keeps, keeps, no_flight, phase_keeps, polling_keeps}
-use Rattle.write_laws.proofs.Goes.{IsBoundedBody, AllFine, AllSilent, silent_fine, silent_answers, fine_append, each_silent, Goes, rests, within, Serves}
+use Rattle.write_laws.proofs.Goes.{IsBoundedBody, AllFine, AllSilent, silent_fine, silent_answers, fine_append, each_silent, Goes, rests, within}
 use Rattle.write_laws.proofs.Goes.{Handles, handles, silent, handles_then}
 use Rattle.write_laws.proofs.Lining.{told_both, waiting_told, flight_told}
 use Rattle.write_laws.proofs.Recovering.{polled_goes, recovered_goes, refused_goes, lacking_goes, piece_kept_goes, piece_received_goes}

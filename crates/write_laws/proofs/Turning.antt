@@ -7,7 +7,7 @@ use Rattle.std.proofs.lemmas.List.{append-nil, length-append}
 use Rattle.std.proofs.lemmas.List.Sums.{sum_by-cons}
 use Rattle.std.proofs.lemmas.Option.{none-some}
 use Rattle.std.specs.List.{AllByRecursion}
-use Rattle.std.specs.Prelude.{Option, Some, None, nat_le, count_by, replicate}
+use Rattle.std.specs.Prelude.{Option, Some, None, nat_le, replicate}
 use Rattle.ubik_types.specs.declared.images.Change.{Change}
 use Rattle.ubik_types.specs.declared.phases.Phase.TheVariants as phases
 use Rattle.ubik_types.specs.declared.phases.Applied.TheVariants as applied
@@ -23,15 +23,14 @@ use Rattle.ubik_calls.specs.declared.replies.Reply.{Reply}
 use Rattle.ubik_calls.specs.declared.replies.Reply.TheVariants as reply
 use Rattle.db_image.specs.declared.services.CallReply.{CallReply}
 use Rattle.db_image.specs.declared.services.CallReply.TheVariants as call_reply
-use Rattle.db_image.specs.Database.{Database, Outcome, changes_of}
-use Rattle.cell_model.specs.declared.events.Output.{Output}
+use Rattle.db_image.specs.Database.{Database, changes_of}
 use Rattle.cell_model.specs.declared.events.Output.TheVariants as output
 use Rattle.cell_model.specs.Lapse.{no_quorum, waiting_refused}
 use Rattle.cell_model.specs.Node.{Server, Flight, Waiting}
 use Rattle.cell_model.specs.Polls.{only_at, only_holder}
 use Rattle.cell_model.specs.Recovery.{held_by, holder_added}
-use Rattle.cell_model.specs.Step.{Member, cell_size, Evaluation, Shown, Stepped, quiet, showing, followed, is_ready, is_fetch, told_version}
-use Rattle.cell_model.specs.Step.{with_phase, refusing, is_short, short_after, sends_to_each}
+use Rattle.cell_model.specs.Step.{Member, cell_size, Evaluation, Stepped, quiet, showing, followed, is_ready, is_fetch}
+use Rattle.cell_model.specs.Step.{with_phase, is_short, short_after}
 use Rattle.cell_model.specs.Voters.{IsOkOf}
 use Rattle.cell_model.specs.Writes.{write_bodies, next_version, own_write_begun, flight_of, ended_write, flight_settled, settled_in, settled}
 use Rattle.cell_model.specs.Writes.{last_counter, written_in, written_small, written_within, turned, write_turn, is_free_in, is_free, next_turns}
@@ -42,7 +41,7 @@ use Rattle.write_laws.specs.Lines.{call_in_flight, unanswered, answers_of, AreAn
 use Rattle.write_laws.proofs.Facts.{Keeps, keeps, no_flight, phase_received, held_keeps, line_keeps, polling_keeps}
 use Rattle.write_laws.proofs.Goes.{AllFine, AllSilent, silent_fine, silent_answers, fine_append, each_silent, Goes, rests, Line, IsIdle, line_of, Serves}
 use Rattle.write_laws.proofs.Goes.{Handles, of_silent, serves_then, handles}
-use Rattle.write_laws.proofs.Lining.{answers_append, told_both, waiting_told, without_flight}
+use Rattle.write_laws.proofs.Lining.{told_both, waiting_told, without_flight}
 use Rattle.write_laws.proofs.Recovering.{write_bounded, sending_goes}
 
 -- ---- majorities
