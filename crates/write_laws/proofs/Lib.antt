@@ -2,6 +2,7 @@ mod Asking
 mod Facts
 mod Goes
 mod Lining
+mod Memory
 mod Receiving
 mod Recovering
 mod Spreading

@@ -1,4 +1,5 @@
 //! Laws of writes: each is the clause of a call that does nothing.
+ghost use Rattle.write_laws.specs.Memory.{RepliesTellMemory};
 ghost use Rattle.write_laws.specs.Spreads.{WritesSpread};
 
 use ubik_calls::packets_are_as_long_as_said;
@@ -12,3 +13,9 @@ pub fn law_writes_spread()
 {
     packets_are_as_long_as_said();
 }
+
+/// At each server, whatever the event, and however many calls have their turns in it, a step is the one in which just those calls found no
+/// memory whose replies tell it. Where no reply tells it the step is the one for which all memory was found.
+pub fn law_replies_tell_memory()
+    ensures { RepliesTellMemory }
+{}
