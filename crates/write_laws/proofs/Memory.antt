@@ -149,12 +149,13 @@ record FindsMemory (t : Stepped) : Type 0 where
   head : HeadFound (answers_of t.shown)
   stuck : answers_of t.shown ≡ [] → is_free t.server ≡ false
 
+some_there : (a : Answer) (answers : List Answer) → a ∷ answers ≡ [] → ⊥
+some_there a answers none = cc
+
 one_found : (s : Server) (id : ℕ) (r : Reply) (evaluation : Option Evaluation) → is_no_memory r ≡ false →
     FindsMemory (showing s (record { output = output.Reply id r; evaluation = evaluation } ∷ []))
-one_found s id r evaluation is = record { head = is; stuck = λ none. absurd (some_there none) }
-  where
-    some_there : record { id = id; reply = r; evaluation = evaluation } ∷ [] ≡ [] → ⊥
-    some_there none = (let zero_long : 1 ≡ 0 = ap (λ (l : List Answer). length l) none in omega arith)
+one_found s id r evaluation is =
+    record { head = is; stuck = λ none. absurd (some_there (record { id = id; reply = r; evaluation = evaluation }) [] none) }
 
 module _ (db : Database) (m : Member) (s : Server) (now id : ℕ) (call : List ℕ) where
   begun_found : (answer image : List ℕ) (changes : List Change) (poll : Polled) (spread : Spread) →
@@ -176,10 +177,7 @@ module _ (db : Database) (m : Member) (s : Server) (now id : ℕ) (call : List �
       behind more = answers_append begun.shown more ∙ ap (λ (l : List Answer). l ++ answers_of more) silent
 
       ended : FindsMemory (followed begun (λ _. ended_write begun.server f poll (record spread { holders = only_holder m }) s.version))
-      ended = record { head = subst HeadFound (sym (behind _)) refl; stuck = λ none. absurd (some_there (sym (behind _) ∙ none)) }
-        where
-          some_there : answers_of (ended_write begun.server f poll (record spread { holders = only_holder m }) s.version).shown ≡ [] → ⊥
-          some_there none = (let zero_long : 1 ≡ 0 = ap (λ (l : List Answer). length l) none in omega arith)
+      ended = record { head = subst HeadFound (sym (behind _)) refl; stuck = λ none. absurd (some_there _ [] (sym (behind _) ∙ none)) }
 
       flies : FindsMemory (followed begun (λ _. quiet begun.server))
       flies = record { head = subst HeadFound (sym (behind [])) tt; stuck = λ _. refl }
