@@ -21,7 +21,7 @@ use Rattle.cell_model.specs.Step.{told_version, refusing}
 use Rattle.cell_model.specs.Voters.{IsOkOf}
 use Rattle.cell_model.specs.Writes.{announced_image, is_free, write_turn}
 use Rattle.write_laws.specs.Keeping.{IsWriting, IsKeeping}
-use Rattle.write_laws.specs.Lines.{call_in_flight}
+use Rattle.write_laws.specs.Lines.{call_in_flight, IsGiven}
 use Rattle.write_laws.proofs.Facts.{keeps}
 use Rattle.write_laws.proofs.Goes.{IsIdle, line_of, Handles, keeping}
 use Rattle.write_laws.proofs.Lining.{without_flight, one_few}
@@ -41,34 +41,34 @@ module _ (db : Database) (m : Member) (now : ℕ) (inside : m.me < cell_size m) 
   Asked t = Handles db m 2 (w ∷ []) s t
 
   -- it is answered at once
-  one_reply : (r : Reply) (evaluation : Option Evaluation) → IsOkOf call (output.Reply id r) evaluation →
+  one_reply : (r : Reply) (evaluation : Option Evaluation) → IsOkOf call (output.Reply id r) evaluation → IsGiven db r evaluation →
       Asked (showing s (record { output = output.Reply id r; evaluation = evaluation } ∷ []))
-  one_reply r evaluation fits = record {
+  one_reply r evaluation fits given = record {
     server = good;
     shown = (tt, tt);
     fits = tt;
     leads = refl;
     few = omega arith;
-    line = record { answered = w ∷ []; told = (record { id = refl; call = fits }, tt); rest = inr ([], refl, refl) };
+    line = record { answered = w ∷ []; told = (record { id = refl; call = fits; given = given }, tt); rest = inr ([], refl, refl) };
   }
 
   -- ---- reads
 
-  answer_goes : (basis : Basis) (r : CallReply) →
+  answer_goes : (image : List ℕ) (basis : Basis) (r : CallReply) → (db.call image now call).reply ≡ r →
       Asked (showing s (read_reply id (record { call = call; moment = now; basis = basis }) r ∷ []))
-  answer_goes basis (call_reply.Done answer) = one_reply (reply.Ok answer) _ refl
-  answer_goes basis (call_reply.Rule number) = one_reply (reply.Rule number) _ tt
-  answer_goes basis call_reply.Malformed = one_reply reply.Malformed None tt
-  answer_goes basis (call_reply.BadRecord at) = one_reply (reply.BadRecord at) None tt
+  answer_goes image basis (call_reply.Done answer) is = one_reply (reply.Ok answer) _ refl (image, is)
+  answer_goes image basis (call_reply.Rule number) is = one_reply (reply.Rule number) _ tt (image, is)
+  answer_goes image basis call_reply.Malformed is = one_reply reply.Malformed None tt tt
+  answer_goes image basis (call_reply.BadRecord at) is = one_reply (reply.BadRecord at) None tt tt
 
   read_goes : (image : List ℕ) (basis : Basis) (short : Bool) → Asked (read db s now id call image basis short)
-  read_goes image basis true = one_reply reply.NoMemory None tt
-  read_goes image basis false = answer_goes basis (db.call image now call).reply
+  read_goes image basis true = one_reply reply.NoMemory None tt tt
+  read_goes image basis false = answer_goes image basis (db.call image now call).reply refl
 
   unserved_goes : (heard : Option (ℕ × ℕ)) → Asked (showing s (refusing id (not_served m s now heard) ∷ []))
-  unserved_goes None = one_reply _ None tt
+  unserved_goes None = one_reply _ None tt tt
   unserved_goes (Some heard) =
-      cond_both (heard.0 == m.me) _ _ (λ r. Asked (showing s (refusing id r ∷ []))) (λ _. one_reply _ None tt) (λ _. one_reply _ None tt)
+      cond_both (heard.0 == m.me) _ _ (λ r. Asked (showing s (refusing id r ∷ []))) (λ _. one_reply _ None tt tt) (λ _. one_reply _ None tt tt)
 
   elsewhere_goes : (writes short may_read : Bool) → Asked (asked_elsewhere db m s now id call writes short may_read)
   elsewhere_goes true short may_read = unserved_goes (sync_heard now s.votes)
@@ -107,8 +107,8 @@ module _ (db : Database) (m : Member) (now : ℕ) (inside : m.me < cell_size m) 
   -- it waits behind the write in flight
   line_goes : (short : Bool) (f : Flight) → s.flight ≡ Some f → db.writes call ≡ Some true → Asked (put_into_line s id call short f)
   line_goes short f at writes =
-      cond_both (nat_le MAX_WAITING (length s.waiting)) _ _ Asked (λ _. one_reply (reply.LineFull f.id) None tt)
-      (λ some. cond_both short _ _ Asked (λ _. one_reply reply.NoMemory None tt) (λ _. waits some))
+      cond_both (nat_le MAX_WAITING (length s.waiting)) _ _ Asked (λ _. one_reply (reply.LineFull f.id) None tt tt)
+      (λ some. cond_both short _ _ Asked (λ _. one_reply reply.NoMemory None tt tt) (λ _. waits some))
     where
       shorter : (n : ℕ) → nat_le MAX_WAITING n ≡ false → n + 1 ≤ MAX_WAITING
       shorter n is = grind (arith, nat_tests)
@@ -144,8 +144,8 @@ module _ (db : Database) (m : Member) (now : ℕ) (inside : m.me < cell_size m) 
   served_goes false short is ready = read_goes (announced_image s) (Announced_image (told_version s.phase s.version)) short
 
   pub asked_goes : (short : Bool) (o : Option Bool) → db.writes call ≡ o → Asked (asked_as db m s now id call short o)
-  asked_goes short None is = one_reply reply.Malformed None tt
+  asked_goes short None is = one_reply reply.Malformed None tt tt
   asked_goes short (Some writes) is =
       cond_both (leased m s now) _ _ Asked
-      (λ _. cond_both (is_ready s.phase) _ _ Asked (served_goes writes short is) (λ _. one_reply _ None tt))
+      (λ _. cond_both (is_ready s.phase) _ _ Asked (served_goes writes short is) (λ _. one_reply _ None tt tt))
       (λ _. elsewhere_goes writes short (allows_reads s.version now s.beacon))

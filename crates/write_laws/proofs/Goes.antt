@@ -225,7 +225,7 @@ pub record Serves (db : Database) (m : Member) (most : ℕ) (waiting : List Wait
   pub leads : durable_after_all (durable_of s) t.calls ≡ durable_of t.server
   pub few : length t.calls ≤ most
   pub answered : List Waiting
-  pub told : AreAnswersTo answered (answers_of t.shown)
+  pub told : AreAnswersTo db answered (answers_of t.shown)
   pub rest : waiting ≡ answered ++ unanswered t.server
 
 -- A whole step, or the lapse: in it these calls are asked.
@@ -235,11 +235,11 @@ pub record Handles (db : Database) (m : Member) (most : ℕ) (asked : List Waiti
   pub fits : AllFit (durable_of s) t.calls
   pub leads : durable_after_all (durable_of s) t.calls ≡ durable_of t.server
   pub few : length t.calls ≤ most
-  pub line : IsLine (unanswered s) asked (answers_of t.shown) (unanswered t.server)
+  pub line : IsLine db (unanswered s) asked (answers_of t.shown) (unanswered t.server)
 
 module _ (db : Database) (m : Member) where
-  abbrev pub none_told : (shown : List Shown) → AllSilent m shown → AreAnswersTo [] (answers_of shown)
-  none_told shown silent = subst (AreAnswersTo []) (sym (silent_answers m shown silent)) tt
+  abbrev pub none_told : (shown : List Shown) → AllSilent m shown → AreAnswersTo db [] (answers_of shown)
+  none_told shown silent = subst (AreAnswersTo db []) (sym (silent_answers m shown silent)) tt
 
   pub of_silent : (most : ℕ) (s : Server) (t : Stepped) → Goes db m most s t → Serves db m most (unanswered s) s t
   of_silent most s t goes = record {
@@ -268,7 +268,7 @@ module _ (db : Database) (m : Member) where
         sum_few (length (t.calls ++ (next t.server).calls)) (length t.calls) (length (next t.server).calls) a b
         (length-append t.calls (next t.server).calls) first.few then.few;
     answered = first.answered ++ then.answered;
-    told = told_both first.answered then.answered t.shown (next t.server).shown first.told then.told;
+    told = told_both db first.answered then.answered t.shown (next t.server).shown first.told then.told;
     rest =
         rest_both waiting (unanswered t.server) first.answered then.answered (unanswered (next t.server).server) first.rest then.rest;
   }
@@ -319,7 +319,7 @@ module _ (db : Database) (m : Member) where
         (length-append t.calls (next t.server).calls) first.few then.few;
     line = record {
       answered = first.line.answered ++ then.line.answered;
-      told = told_both first.line.answered then.line.answered t.shown (next t.server).shown first.line.told then.line.told;
+      told = told_both db first.line.answered then.line.answered t.shown (next t.server).shown first.line.told then.line.told;
       rest =
           goes_on (unanswered s) (unanswered t.server) asked first.line.answered then.line.answered (unanswered (next t.server).server)
           (in_order (unanswered s) first.line.answered (unanswered t.server) first.line.rest) then.line.rest;

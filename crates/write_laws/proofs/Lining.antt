@@ -5,43 +5,46 @@ use Rattle.std.proofs.lemmas.List.Elements.{filter_map-append}
 use Rattle.std.specs.Prelude.{Option, Some, None}
 use Rattle.lock_table.specs.declared.tables.TheConstants.{MAX_WAITING}
 use Rattle.ubik_calls.specs.declared.replies.Reply.{Reply}
+use Rattle.db_image.specs.Database.{Database}
 use Rattle.cell_model.specs.declared.events.Output.TheVariants as output
 use Rattle.cell_model.specs.Lapse.{flight_refused, waiting_refused}
 use Rattle.cell_model.specs.Node.{Flight, Waiting}
 use Rattle.cell_model.specs.Step.{Shown}
 use Rattle.cell_model.specs.Voters.{IsOkOf}
-use Rattle.write_laws.specs.Lines.{call_in_flight, Answer, answer_in, answers_of, AreAnswersTo, GoOn}
+use Rattle.write_laws.specs.Lines.{call_in_flight, Answer, answer_in, answers_of, IsGiven, AreAnswersTo, GoOn}
 
 -- ---- replies
 
 pub answers_append : (shown more : List Shown) → answers_of (shown ++ more) ≡ answers_of shown ++ answers_of more
 answers_append shown more = filter_map-append (λ (one : Shown). answer_in one.output one.evaluation) shown more
 
-pub told_append : (calls more : List Waiting) (answers others : List Answer) → AreAnswersTo calls answers → AreAnswersTo more others →
-    AreAnswersTo (calls ++ more) (answers ++ others)
-told_append [] more [] others first second = second
-told_append [] more (a ∷ answers) others first second = absurd first
-told_append (w ∷ calls) more [] others first second = absurd first
-told_append (w ∷ calls) more (a ∷ answers) others first second = (first.0, told_append calls more answers others first.1 second)
+module _ (db : Database) where
+  pub told_append : (calls more : List Waiting) (answers others : List Answer) → AreAnswersTo db calls answers → AreAnswersTo db more others →
+      AreAnswersTo db (calls ++ more) (answers ++ others)
+  told_append [] more [] others first second = second
+  told_append [] more (a ∷ answers) others first second = absurd first
+  told_append (w ∷ calls) more [] others first second = absurd first
+  told_append (w ∷ calls) more (a ∷ answers) others first second = (first.0, told_append calls more answers others first.1 second)
 
--- of one part of a step, and then of the next
-pub told_both : (calls more : List Waiting) (shown then : List Shown) → AreAnswersTo calls (answers_of shown) →
-    AreAnswersTo more (answers_of then) → AreAnswersTo (calls ++ more) (answers_of (shown ++ then))
-told_both calls more shown then first second =
-    subst (AreAnswersTo (calls ++ more)) (sym (answers_append shown then))
-    (told_append calls more (answers_of shown) (answers_of then) first second)
+  -- of one part of a step, and then of the next
+  pub told_both : (calls more : List Waiting) (shown then : List Shown) → AreAnswersTo db calls (answers_of shown) →
+      AreAnswersTo db more (answers_of then) → AreAnswersTo db (calls ++ more) (answers_of (shown ++ then))
+  told_both calls more shown then first second =
+      subst (AreAnswersTo db (calls ++ more)) (sym (answers_append shown then))
+      (told_append calls more (answers_of shown) (answers_of then) first second)
 
--- a refusal that is no Ok
-abbrev pub IsRefusal : Reply → Type 0
-IsRefusal r = (id : ℕ) (call : List ℕ) → IsOkOf call (output.Reply id r) None
+  -- a refusal that is no Ok, and of no database
+  abbrev pub IsRefusal : Reply → Type 0
+  IsRefusal r = ((id : ℕ) (call : List ℕ) → IsOkOf call (output.Reply id r) None) × IsGiven db r None
 
-pub waiting_told : (waiting : List Waiting) (r : Reply) → IsRefusal r → AreAnswersTo waiting (answers_of (waiting_refused waiting r))
-waiting_told [] r refusal = tt
-waiting_told (w ∷ waiting) r refusal = (record { id = refl; call = refusal w.id w.call }, waiting_told waiting r refusal)
+  pub waiting_told : (waiting : List Waiting) (r : Reply) → IsRefusal r → AreAnswersTo db waiting (answers_of (waiting_refused waiting r))
+  waiting_told [] r refusal = tt
+  waiting_told (w ∷ waiting) r refusal =
+      (record { id = refl; call = refusal.0 w.id w.call; given = refusal.1 }, waiting_told waiting r refusal)
 
-pub flight_told : (f : Option Flight) (r : Reply) → IsRefusal r → AreAnswersTo (call_in_flight f) (answers_of (flight_refused f r))
-flight_told None r refusal = tt
-flight_told (Some f) r refusal = (record { id = refl; call = refusal f.id f.call }, tt)
+  pub flight_told : (f : Option Flight) (r : Reply) → IsRefusal r → AreAnswersTo db (call_in_flight f) (answers_of (flight_refused f r))
+  flight_told None r refusal = tt
+  flight_told (Some f) r refusal = (record { id = refl; call = refusal.0 f.id f.call; given = refusal.1 }, tt)
 
 -- ---- lines
 

@@ -59,12 +59,12 @@ module _ (db : Database) (m : Member) (now : ℕ) (inside : m.me < cell_size m) 
       (flight_fine s.flight (no_quorum m s now phase applied.Unknown)) (waiting_fine s.waiting (no_quorum m s now phase applied.No))
 
   -- all that have no answer are refused, in their order
-  refused_told : (phase : Phase) → AreAnswersTo (unanswered s) (answers_of (writes_refused m s now phase))
+  refused_told : (phase : Phase) → AreAnswersTo db (unanswered s) (answers_of (writes_refused m s now phase))
   refused_told phase =
-      told_both (call_in_flight s.flight) s.waiting (flight_refused s.flight (no_quorum m s now phase applied.Unknown))
+      told_both db (call_in_flight s.flight) s.waiting (flight_refused s.flight (no_quorum m s now phase applied.Unknown))
       (waiting_refused s.waiting (no_quorum m s now phase applied.No))
-      (flight_told s.flight (no_quorum m s now phase applied.Unknown) (λ id call. tt))
-      (waiting_told s.waiting (no_quorum m s now phase applied.No) (λ id call. tt))
+      (flight_told db s.flight (no_quorum m s now phase applied.Unknown) ((λ id call. tt), tt))
+      (waiting_told db s.waiting (no_quorum m s now phase applied.No) ((λ id call. tt), tt))
 
   freed : Keeps db (cell_size m) (without_writes s)
   freed = record {
@@ -78,7 +78,7 @@ module _ (db : Database) (m : Member) (now : ℕ) (inside : m.me < cell_size m) 
 
   -- they are refused, and no durable call is made
   drops : (u : Server) (shown : List Shown) → Keeps db (cell_size m) u → u.version ≡ s.version → u.image ≡ s.image → u.flight ≡ None →
-      u.waiting ≡ [] → AllFine m shown → AreAnswersTo (unanswered s) (answers_of shown) → Handles db m 0 [] s (showing u shown)
+      u.waiting ≡ [] → AllFine m shown → AreAnswersTo db (unanswered s) (answers_of shown) → Handles db m 0 [] s (showing u shown)
   drops u shown fits version image none waits fine told =
       handles db m 0 s (showing u shown) good
       (record {
@@ -110,9 +110,9 @@ module _ (db : Database) (m : Member) (now : ℕ) (inside : m.me < cell_size m) 
       drops (polling m (without_writes s) now) (writes_refused m s now phases.Poll ++ sends_to_all m (body.Abort s.version))
       (polling_keeps db m (without_writes s) now refl freed) refl refl refl refl
       (fine_append m (writes_refused m s now phases.Poll) aborts (refused_fine phases.Poll) (silent_fine m aborts silent_aborts))
-      (subst (λ (l : List Waiting). AreAnswersTo l (answers_of (writes_refused m s now phases.Poll ++ aborts))) (append-nil (unanswered s))
-      (told_both (unanswered s) [] (writes_refused m s now phases.Poll) aborts (refused_told phases.Poll)
-      (subst (AreAnswersTo []) (sym (silent_answers m aborts silent_aborts)) tt)))
+      (subst (λ (l : List Waiting). AreAnswersTo db l (answers_of (writes_refused m s now phases.Poll ++ aborts))) (append-nil (unanswered s))
+      (told_both db (unanswered s) [] (writes_refused m s now phases.Poll) aborts (refused_told phases.Poll)
+      (subst (AreAnswersTo db []) (sym (silent_answers m aborts silent_aborts)) tt)))
     where
       aborts : List Shown
       aborts = sends_to_all m (body.Abort s.version)

@@ -5,7 +5,7 @@ use Rattle.std.proofs.lemmas.Bool.{cond_both}
 use Rattle.std.proofs.lemmas.Bool.Decides.{nat_tests}
 use Rattle.std.proofs.lemmas.List.{append-nil, length-append}
 use Rattle.std.proofs.lemmas.List.Sums.{sum_by-cons}
-use Rattle.std.proofs.lemmas.Option.{none-some}
+use Rattle.std.proofs.lemmas.Option.{none-some, same_Some}
 use Rattle.std.specs.List.{AllByRecursion}
 use Rattle.std.specs.Prelude.{Option, Some, None, nat_le, replicate}
 use Rattle.ubik_types.specs.declared.images.Change.{Change}
@@ -23,13 +23,13 @@ use Rattle.ubik_calls.specs.declared.replies.Reply.{Reply}
 use Rattle.ubik_calls.specs.declared.replies.Reply.TheVariants as reply
 use Rattle.db_image.specs.declared.services.CallReply.{CallReply}
 use Rattle.db_image.specs.declared.services.CallReply.TheVariants as call_reply
-use Rattle.db_image.specs.Database.{Database, changes_of}
+use Rattle.db_image.specs.Database.{Database, Outcome, changes_of}
 use Rattle.cell_model.specs.declared.events.Output.TheVariants as output
 use Rattle.cell_model.specs.Lapse.{no_quorum, waiting_refused}
 use Rattle.cell_model.specs.Node.{Server, Flight, Waiting}
 use Rattle.cell_model.specs.Polls.{only_at, only_holder}
 use Rattle.cell_model.specs.Recovery.{held_by, holder_added}
-use Rattle.cell_model.specs.Step.{Member, cell_size, Evaluation, Stepped, quiet, showing, followed, is_ready, is_fetch}
+use Rattle.cell_model.specs.Step.{Member, cell_size, Commit_on, Evaluation, Stepped, quiet, showing, followed, is_ready, is_fetch}
 use Rattle.cell_model.specs.Step.{with_phase, is_short, short_after}
 use Rattle.cell_model.specs.Voters.{IsOkOf}
 use Rattle.cell_model.specs.Writes.{write_bodies, next_version, own_write_begun, flight_of, ended_write, flight_settled, settled_in, settled}
@@ -37,7 +37,7 @@ use Rattle.cell_model.specs.Writes.{last_counter, written_in, written_small, wri
 use Rattle.recovery_laws.specs.HasNoWrite.{IsPhaseOf, IsReceived}
 use Rattle.recovery_laws.proofs.Facts.{next_is, next_later}
 use Rattle.write_laws.specs.Keeping.{IsInFlight, IsWriting, IsKeeping}
-use Rattle.write_laws.specs.Lines.{call_in_flight, unanswered, answers_of, AreAnswersTo}
+use Rattle.write_laws.specs.Lines.{call_in_flight, unanswered, answers_of, IsGiven, AreAnswersTo}
 use Rattle.write_laws.proofs.Facts.{Keeps, keeps, no_flight, phase_received, held_keeps, line_keeps, polling_keeps}
 use Rattle.write_laws.proofs.Goes.{AllFine, AllSilent, silent_fine, silent_answers, fine_append, each_silent, Goes, rests, Line, IsIdle, line_of, Serves}
 use Rattle.write_laws.proofs.Goes.{Handles, of_silent, serves_then, handles}
@@ -132,9 +132,9 @@ module _ (db : Database) (m : Member) (now : ℕ) (inside : m.me < cell_size m) 
   T t = Turned db m w s t
 
   -- it is answered at once
-  replied : (r : Reply) (evaluation : Option Evaluation) → IsOkOf call (output.Reply id r) evaluation →
+  replied : (r : Reply) (evaluation : Option Evaluation) → IsOkOf call (output.Reply id r) evaluation → IsGiven db r evaluation →
       T (showing s (record { output = output.Reply id r; evaluation = evaluation } ∷ []))
-  replied r evaluation fits = record {
+  replied r evaluation fits given = record {
     serves = record {
       server = good;
       shown = (tt, tt);
@@ -142,7 +142,7 @@ module _ (db : Database) (m : Member) (now : ℕ) (inside : m.me < cell_size m) 
       leads = refl;
       few = omega arith;
       answered = w ∷ [];
-      told = (record { id = refl; call = fits }, tt);
+      told = (record { id = refl; call = fits; given = given }, tt);
       rest = ap (λ (l : List Waiting). w ∷ l) (sym (without_flight s.flight s.waiting none));
     };
     free = λ _. refl;
@@ -160,7 +160,7 @@ module _ (db : Database) (m : Member) (now : ℕ) (inside : m.me < cell_size m) 
       leads = refl;
       few = omega arith;
       answered = w ∷ s.waiting;
-      told = (record { id = refl; call = tt }, waiting_told s.waiting _ (λ id call. tt));
+      told = (record { id = refl; call = tt; given = tt }, waiting_told db s.waiting _ ((λ id call. tt), tt));
       rest =
           sym (append-nil (w ∷ s.waiting)) ∙ ap (λ (l : List Waiting). (w ∷ s.waiting) ++ l) (sym (without_flight s.flight [] none));
     };
@@ -201,8 +201,8 @@ module _ (db : Database) (m : Member) (now : ℕ) (inside : m.me < cell_size m) 
         texts : IsReceived begun.server.received
         texts = cond_both (is_fetch s.phase) None None IsReceived (λ _. tt) (λ _. tt)
 
-        silent_told : AreAnswersTo [] (answers_of begun.shown)
-        silent_told = subst (AreAnswersTo []) (sym (silent_answers m begun.shown sends)) tt
+        silent_told : AreAnswersTo db [] (answers_of begun.shown)
+        silent_told = subst (AreAnswersTo db []) (sym (silent_answers m begun.shown sends)) tt
 
         ended : is_majority (cell_size m) (only_holder m) ≡ true →
             T (followed begun (λ _. ended_write begun.server f poll (record spread { holders = only_holder m }) s.version))
@@ -214,7 +214,7 @@ module _ (db : Database) (m : Member) (now : ℕ) (inside : m.me < cell_size m) 
             leads = refl;
             few = omega arith;
             answered = w ∷ [];
-            told = told_both [] (w ∷ []) begun.shown _ silent_told (record { id = refl; call = refl }, tt);
+            told = told_both db [] (w ∷ []) begun.shown _ silent_told (record { id = refl; call = refl; given = (s.image, ap (λ (o : Outcome). o.reply) outcome) }, tt);
             rest = refl;
           };
           free = λ _. refl;
@@ -246,7 +246,7 @@ module _ (db : Database) (m : Member) (now : ℕ) (inside : m.me < cell_size m) 
             leads = refl;
             few = omega arith;
             answered = [];
-            told = told_both [] [] begun.shown [] silent_told tt;
+            told = told_both db [] [] begun.shown [] silent_told tt;
             rest = refl;
           };
           free = λ free. absurd (true≢false (sym free));
@@ -268,7 +268,7 @@ module _ (db : Database) (m : Member) (now : ℕ) (inside : m.me < cell_size m) 
   small_turned : (answer image : List ℕ) (changes : List Change) → db.call s.image now call ≡ record { reply = call_reply.Done answer; image = image } →
       changes ≡ changes_of db s.image image → too_large 0 (length s.image) changes ≡ None →
       T (written_small m s now id call answer image changes)
-  small_turned answer image [] outcome of_image small = replied (reply.Ok answer) _ refl
+  small_turned answer image [] outcome of_image small = replied (reply.Ok answer) _ refl (s.image, ap (λ (o : Outcome). o.reply) outcome)
   small_turned answer image (change ∷ changes) outcome of_image small =
       cond_both (s.version.counter == MAX_COUNTER) _ _ T (λ _. last_turned)
       (λ counter. in_goes answer image (change ∷ changes) outcome of_image small counter s.phase refl good.phase)
@@ -278,18 +278,18 @@ module _ (db : Database) (m : Member) (now : ℕ) (inside : m.me < cell_size m) 
       changes ≡ changes_of db s.image image → too_large 0 (length s.image) changes ≡ passed →
       T (written_within m s now id call answer image changes passed)
   within_turned answer image changes None outcome of_image is = small_turned answer image changes outcome of_image is
-  within_turned answer image changes (Some bytes) outcome of_image is = replied (reply.TooLarge bytes) None tt
+  within_turned answer image changes (Some bytes) outcome of_image is = replied (reply.TooLarge bytes) None tt tt
 
   turned_turned : (image : List ℕ) (r : CallReply) → db.call s.image now call ≡ record { reply = r; image = image } →
       T (turned db m s now id call image r)
   turned_turned image (call_reply.Done answer) outcome =
       within_turned answer image (changes_of db s.image image) (too_large 0 (length s.image) (changes_of db s.image image)) outcome refl refl
-  turned_turned image (call_reply.Rule number) outcome = replied (reply.Rule number) _ tt
-  turned_turned image call_reply.Malformed outcome = replied reply.Malformed None tt
-  turned_turned image (call_reply.BadRecord at) outcome = replied (reply.BadRecord at) None tt
+  turned_turned image (call_reply.Rule number) outcome = replied (reply.Rule number) _ tt (s.image, ap (λ (o : Outcome). o.reply) outcome)
+  turned_turned image call_reply.Malformed outcome = replied reply.Malformed None tt tt
+  turned_turned image (call_reply.BadRecord at) outcome = replied (reply.BadRecord at) None tt tt
 
   pub write_turned : (short : Bool) → T (write_turn db m s now id call short)
-  write_turned true = replied reply.NoMemory None tt
+  write_turned true = replied reply.NoMemory None tt tt
   write_turned false = turned_turned (db.call s.image now call).image (db.call s.image now call).reply refl
 
 -- ---- the turns of those that wait
@@ -411,12 +411,19 @@ module _ (db : Database) (m : Member) (now : ℕ) (inside : m.me < cell_size m) 
           leads = refl;
           few = omega arith;
           answered = record { id = f.id; call = f.call } ∷ [];
-          told = (record { id = refl; call = refl }, tt);
+          told = (record { id = refl; call = refl; given = outcome s.flight at good.flight }, tt);
           rest = ap (λ (g : Option Flight). call_in_flight g ++ s.waiting) at;
         };
         stuck = λ stuck. absurd (true≢false stuck);
         waits = refl;
       }
+        where
+          outcome : (g : Option Flight) → g ≡ Some f → IsInFlight db (cell_size m) s.phase s.version s.image g →
+              IsGiven db (reply.Ok f.answer) (Some (record { call = f.call; moment = f.began; basis = Commit_on announced s.version }))
+          outcome None is flies = absurd (cc)
+          outcome (Some g) is flies =
+              subst (λ (h : Flight). IsGiven db (reply.Ok h.answer) (Some (record { call = h.call; moment = h.began; basis = Commit_on announced s.version })))
+              (same_Some g f is) (g.old_image, ap (λ (o : Outcome). o.reply) flies.outcome)
 
   settles : (s : Server) (phase : PhaseRecord) → s.phase ≡ phase → IsPhaseOf (cell_size m) phase → IsIdle (line_of s) → Good s →
       Settled s (settled_in m s phase)

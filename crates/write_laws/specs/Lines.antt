@@ -1,6 +1,9 @@
 -- The calls that a server has not answered yet, in their order, and what a step makes of them (own).
-use Rattle.std.specs.Prelude.{ℕ, ◌≡◌, ◌⊎◌, Option, Some, None, List, [], ◌∷◌, ◌++◌, filter_map}
+use Rattle.std.specs.Prelude.{ℕ, ◌≡◌, ◌⊎◌, Option, Some, None, IsSomeAnd, List, [], ◌∷◌, ◌++◌, filter_map}
 use Rattle.ubik_calls.specs.declared.replies.Reply.{Reply}
+use Rattle.ubik_calls.specs.declared.replies.Reply.TheVariants as reply
+use Rattle.db_image.specs.declared.services.CallReply.TheVariants as call_reply
+use Rattle.db_image.specs.Database.{Database}
 use Rattle.cell_model.specs.declared.events.NodeEvent.{NodeEvent}
 use Rattle.cell_model.specs.declared.events.NodeEvent.TheVariants as event
 use Rattle.cell_model.specs.declared.events.Output.{Output}
@@ -40,16 +43,26 @@ answer_in _ evaluation = None
 abbrev pub answers_of : List Shown → List Answer
 answers_of shown = filter_map (λ (one : Shown). answer_in one.output one.evaluation) shown
 
--- a reply goes to a call under its id, and an Ok tells of the evaluation of that call
-pub record IsAnswerTo (w : Waiting) (a : Answer) : Type 0 where
+-- what the database replies to the call that was evaluated, on some image
+abbrev pub IsGiven : Database → Reply → Option Evaluation → Type 0
+IsGiven db (reply.Ok answer) evaluation =
+    IsSomeAnd evaluation (λ e. (image : List ℕ) × ((db.call image e.moment e.call).reply ≡ call_reply.Done answer))
+IsGiven db (reply.Rule number) evaluation =
+    IsSomeAnd evaluation (λ e. (image : List ℕ) × ((db.call image e.moment e.call).reply ≡ call_reply.Rule number))
+IsGiven db _ evaluation = Unit {0}
+
+-- A reply goes to a call under its id. An Ok tells of the evaluation of that call, and it and a broken rule are what the database
+-- replies: an answer is as short as that of the database.
+pub record IsAnswerTo (db : Database) (w : Waiting) (a : Answer) : Type 0 where
   pub id : a.id ≡ w.id
   pub call : IsOkOf w.call (output.Reply a.id a.reply) a.evaluation
+  pub given : IsGiven db a.reply a.evaluation
 
 -- so one after the other: as many replies as calls
-abbrev pub AreAnswersTo : List Waiting → List Answer → Type 0
-AreAnswersTo [] [] = Unit {0}
-AreAnswersTo (w ∷ calls) (a ∷ answers) = IsAnswerTo w a × AreAnswersTo calls answers
-AreAnswersTo _ _ = ⊥
+abbrev pub AreAnswersTo : Database → List Waiting → List Answer → Type 0
+AreAnswersTo db [] [] = Unit {0}
+AreAnswersTo db (w ∷ calls) (a ∷ answers) = IsAnswerTo db w a × AreAnswersTo db calls answers
+AreAnswersTo db _ _ = ⊥
 
 -- ---- steps
 
@@ -62,7 +75,7 @@ GoOn before asked answered after =
 
 -- These calls have no answer before a step, and this one is asked in it. Its replies are the answers to some of them, and after it
 -- the others have none. So no reply has another id, and no call has two.
-pub record IsLine (before asked : List Waiting) (answers : List Answer) (after : List Waiting) : Type 0 where
+pub record IsLine (db : Database) (before asked : List Waiting) (answers : List Answer) (after : List Waiting) : Type 0 where
   pub answered : List Waiting
-  pub told : AreAnswersTo answered answers
+  pub told : AreAnswersTo db answered answers
   pub rest : GoOn before asked answered after

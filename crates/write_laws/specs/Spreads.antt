@@ -28,7 +28,7 @@ pub record IsWriteStep (db : Database) (m : Member) (s : Server) (e : NodeEvent)
   pub leads : durable_after_all (durable_of s) t.calls ≡ durable_of t.server
   pub versions : (made : ℕ) → IsVersion (durable_after_all (durable_of s) (take made t.calls)).version
   pub few : length t.calls ≤ 2
-  pub line : IsLine (unanswered s) (asked_in e) (answers_of t.shown) (unanswered t.server)
+  pub line : IsLine db (unanswered s) (asked_in e) (answers_of t.shown) (unanswered t.server)
 
 -- what a packet of a cell is besides
 pub record IsSpelled (p : Packet) : Type 0 where
