@@ -7,6 +7,7 @@ use Rattle.std.proofs.lemmas.List.{length-append}
 use Rattle.std.specs.List.{AllByRecursion}
 use Rattle.std.specs.Prelude.{Option, Some, None, nat_le}
 use Rattle.lock_table.specs.declared.tables.TheConstants.{MAX_WAITING}
+use Rattle.ubik_types.specs.Moment.{IsMoment}
 use Rattle.ubik_types.specs.Votes.{sync_heard}
 use Rattle.ubik_calls.specs.declared.replies.Reply.{Reply}
 use Rattle.ubik_calls.specs.declared.replies.Reply.TheVariants as reply
@@ -32,7 +33,7 @@ all_behind : (P : Waiting → Type 0) (waiting : List Waiting) (w : Waiting) →
 all_behind P [] w all last = (last, tt)
 all_behind P (v ∷ waiting) w all last = (all.0, all_behind P waiting w all.1 last)
 
-module _ (db : Database) (m : Member) (now : ℕ) (inside : m.me < cell_size m) (s : Server) (good : IsKeeping db (cell_size m) s) (id : ℕ)
+module _ (db : Database) (m : Member) (now : ℕ) (inside : m.me < cell_size m) (moment : IsMoment now) (s : Server) (good : IsKeeping db (cell_size m) s) (id : ℕ)
     (call : List ℕ) where
   abbrev w : Waiting
   w = record { id = id; call = call }
@@ -136,7 +137,7 @@ module _ (db : Database) (m : Member) (now : ℕ) (inside : m.me < cell_size m) 
       Asked (write_asked db m s now id call short f)
   written_goes short None at ready writes =
       turn_goes (write_turn db m s now id call short) at
-      (write_turned db m now inside s (keeps db (cell_size m) s good) at ready id call writes short)
+      (write_turned db m now inside moment s (keeps db (cell_size m) s good) at ready id call writes short)
   written_goes short (Some f) at ready writes = line_goes short f at writes
 
   served_goes : (writes short : Bool) → db.writes call ≡ Some writes → is_ready s.phase ≡ true → Asked (served db m s now id call writes short)

@@ -124,6 +124,7 @@ flies_held db servers phase v image k (Some f) is = record {
   several = is.several;
   ready = ready_held phase k ∙ is.ready;
   next = is.next ∙ ap (λ (u : Version). record { epoch = u.epoch; counter = u.counter + 1 }) (sym (told_held phase k v));
+  began = is.began;
   writes = is.writes;
   outcome = is.outcome;
   changes = is.changes;

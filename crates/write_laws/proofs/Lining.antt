@@ -1,8 +1,9 @@
 -- Lines of calls without an answer, and the replies that are shown.
-use Rattle.std.proofs.Common.{◌≡◌, inl, inr, ℕ, ◌+◌, ◌≤◌, List, [], ◌∷◌, ◌++◌, length, refl, sym, ap, subst, ◌∙◌, append_assoc, arith}
+use Rattle.std.proofs.Common.{cond, ◌==◌, ◌≡◌, ◌⊎◌, inl, inr, ℕ, ◌+◌, ◌≤◌, List, [], ◌∷◌, ◌++◌, length, refl, sym, ap, subst, ◌∙◌, append_assoc, arith}
 use Rattle.std.proofs.lemmas.List.{length-append}
-use Rattle.std.proofs.lemmas.List.Elements.{filter_map-append}
-use Rattle.std.specs.Prelude.{Option, Some, None}
+use Rattle.std.proofs.lemmas.List.Elements.{filter_map-append, Contains-append_left, Contains-append_right, Contains-append_cases}
+use Rattle.std.proofs.lemmas.List.Sums.{sum_by-cons, sum_by-append}
+use Rattle.std.specs.Prelude.{Option, Some, None, Contains}
 use Rattle.lock_table.specs.declared.tables.TheConstants.{MAX_WAITING}
 use Rattle.ubik_calls.specs.declared.replies.Reply.{Reply}
 use Rattle.db_image.specs.Database.{Database}
@@ -11,7 +12,7 @@ use Rattle.cell_model.specs.Lapse.{flight_refused, waiting_refused}
 use Rattle.cell_model.specs.Node.{Flight, Waiting}
 use Rattle.cell_model.specs.Step.{Shown}
 use Rattle.cell_model.specs.Voters.{IsOkOf}
-use Rattle.write_laws.specs.Lines.{call_in_flight, Answer, answer_in, answers_of, IsGiven, AreAnswersTo, GoOn}
+use Rattle.write_laws.specs.Lines.{call_in_flight, Answer, answer_in, answers_of, IsGiven, AreAnswersTo, GoOn, calls_with, answers_with, LinesCount}
 
 -- ---- replies
 
@@ -105,3 +106,58 @@ one_few w g later first is =
   where
     by : (a b c : ℕ) → 1 ≡ a + (b + c) → c ≤ MAX_WAITING
     by a b c is = omega arith
+
+-- ---- counts
+
+calls_append : (id : ℕ) (calls more : List Waiting) → calls_with id (calls ++ more) ≡ calls_with id calls + calls_with id more
+calls_append id calls more = sum_by-append (λ (w : Waiting). cond (w.id == id) 1 0) calls more
+
+told_count : (db : Database) (id : ℕ) (calls : List Waiting) (answers : List Answer) → AreAnswersTo db calls answers →
+    answers_with id answers ≡ calls_with id calls
+told_count db id [] [] told = refl
+told_count db id [] (a ∷ answers) told = absurd told
+told_count db id (w ∷ calls) [] told = absurd told
+told_count db id (w ∷ calls) (a ∷ answers) told =
+    sum_by-cons (λ (b : Answer). cond (b.id == id) 1 0) a answers
+    ∙ ap (λ (n : ℕ). cond (n == id) 1 0 + answers_with id answers) told.0.id
+    ∙ ap (λ (n : ℕ). cond (w.id == id) 1 0 + n) (told_count db id calls answers told.1)
+    ∙ sym (sum_by-cons (λ (v : Waiting). cond (v.id == id) 1 0) w calls)
+
+rest_counts : (id : ℕ) (before asked answered after : List Waiting) → GoOn before asked answered after →
+    calls_with id before + calls_with id asked ≡ calls_with id answered + calls_with id after
+rest_counts id before asked answered after (inl is) =
+    sym (calls_append id before asked) ∙ ap (calls_with id) is ∙ calls_append id answered after
+rest_counts id before asked answered after (inr is) =
+    let first : calls_with id answered ≡ calls_with id is.0 + calls_with id asked = ap (calls_with id) is.1 ∙ calls_append id is.0 asked in
+    let second : calls_with id before ≡ calls_with id is.0 + calls_with id after = ap (calls_with id) is.2 ∙ calls_append id is.0 after in
+    omega arith
+
+answered_stands : (before asked answered after : List Waiting) (w : Waiting) → GoOn before asked answered after → Contains answered w →
+    Contains (before ++ asked) w
+answered_stands before asked answered after w (inl is) there =
+    subst (λ (l : List Waiting). Contains l w) (sym is) (Contains-append_left answered after w there)
+answered_stands before asked answered after w (inr is) there =
+    by (Contains-append_cases is.0 asked w (subst (λ (l : List Waiting). Contains l w) is.1 there))
+  where
+    by : Contains is.0 w ⊎ Contains asked w → Contains (before ++ asked) w
+    by (inl front) =
+        Contains-append_left before asked w
+        (subst (λ (l : List Waiting). Contains l w) (sym is.2) (Contains-append_left is.0 after w front))
+    by (inr last) = Contains-append_right before asked w last
+
+left_stands : (before asked answered after : List Waiting) (w : Waiting) → GoOn before asked answered after → Contains after w →
+    Contains (before ++ asked) w
+left_stands before asked answered after w (inl is) there =
+    subst (λ (l : List Waiting). Contains l w) (sym is) (Contains-append_right answered after w there)
+left_stands before asked answered after w (inr is) there =
+    Contains-append_left before asked w
+    (subst (λ (l : List Waiting). Contains l w) (sym is.2) (Contains-append_right is.0 after w there))
+
+pub lines_count : LinesCount
+lines_count db before asked answers after line = record {
+  each = λ id.
+      rest_counts id before asked line.answered after line.rest
+      ∙ ap (λ (n : ℕ). n + calls_with id after) (sym (told_count db id line.answered answers line.told));
+  answered_stood = λ w. answered_stands before asked line.answered after w line.rest;
+  left_stood = λ w. left_stands before asked line.answered after w line.rest;
+}

@@ -22,6 +22,7 @@ use Rattle.write_laws.specs.Keeping.{IsKept, IsWriting, IsKeeping}
 use Rattle.write_laws.specs.Spreads.{IsSpelled, WritesSpread}
 use Rattle.write_laws.proofs.Facts.{none_flies}
 use Rattle.write_laws.proofs.Goes.{IsBoundedBody, fine_packets}
+use Rattle.write_laws.proofs.Lining.{lines_count}
 use Rattle.write_laws.proofs.Steps.{step_goes}
 
 -- ---- packets
@@ -109,6 +110,7 @@ writes_spread long = record {
         few = goes.few;
         line = goes.line;
       };
+  lines = lines_count;
   whole = λ hosts p is. whole_packet long p is.bounded;
   of_server = of_server;
   of_packet = λ hosts p is. record { bounded = is.body.bounded; sender = is.sender; receiver = is.receiver };

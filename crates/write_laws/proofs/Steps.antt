@@ -238,7 +238,7 @@ module _ (db : Database) (m : Member) (now : ℕ) (inside : m.me < cell_size m) 
   handled_goes event.BeaconTurn short brought = still 2 _ (omega arith) (beacon_turn_goes db m now inside moment s fits)
   handled_goes event.RecoverTurn short brought =
       still 1 _ (omega arith) (recovered_goes db m now inside moment s s.phase refl fits.phase fits)
-  handled_goes (event.Ask id call) short brought = asked_goes db m now inside s good id call (is_short short) (db.writes call) refl
+  handled_goes (event.Ask id call) short brought = asked_goes db m now inside moment s good id call (is_short short) (db.writes call) refl
 
 -- ---- steps
 

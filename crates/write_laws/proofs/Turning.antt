@@ -123,7 +123,7 @@ free_has (Fetch poll best host) f free = absurd (true≢false (sym free))
 free_has (Relabel poll) f free = absurd (true≢false (sym free))
 free_has (Send poll spread) f free = absurd (true≢false (sym free))
 
-module _ (db : Database) (m : Member) (now : ℕ) (inside : m.me < cell_size m) (s : Server) (good : Keeps db (cell_size m) s)
+module _ (db : Database) (m : Member) (now : ℕ) (inside : m.me < cell_size m) (moment : IsMoment now) (s : Server) (good : Keeps db (cell_size m) s)
     (none : s.flight ≡ None) (ready : is_ready s.phase ≡ true) (id : ℕ) (call : List ℕ) (writes : db.writes call ≡ Some true) where
   abbrev w : Waiting
   w = record { id = id; call = call }
@@ -234,6 +234,7 @@ module _ (db : Database) (m : Member) (now : ℕ) (inside : m.me < cell_size m) 
                 several = more_than_one m inside most;
                 ready = refl;
                 next = refl;
+                began = moment;
                 writes = writes;
                 outcome = outcome;
                 changes = of_image;
@@ -369,7 +370,7 @@ module _ (db : Database) (m : Member) (now : ℕ) (inside : m.me < cell_size m) 
       let u : Server = record s { waiting = waiting } in
       let t : Stepped = write_turn db m u now w.id w.call (is_short short) in
       let first : Turned db m w u t =
-      write_turned db m now inside u (line_keeps db (cell_size m) s waiting line.1 good) has.1 has.0 w.id w.call line.0 (is_short short) in
+      write_turned db m now inside moment u (line_keeps db (cell_size m) s waiting line.1 good) has.1 has.0 w.id w.call line.0 (is_short short) in
       turn_then w waiting s t (λ after. next_turns db m now waiting after (short_after t.shown short)) has.1 at first several
       (next_go waiting t.server (short_after t.shown short) several first.serves.server first.free first.stuck))
       (λ is. turns_over s good (stuck is))

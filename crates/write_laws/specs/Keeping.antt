@@ -5,6 +5,7 @@ use Rattle.lock_table.specs.declared.tables.TheConstants.{MAX_WAITING}
 use Rattle.ubik_types.specs.declared.hosts.Host.{Host}
 use Rattle.ubik_types.specs.declared.versions.Version.{Version}
 use Rattle.ubik_types.specs.Logged.{too_large}
+use Rattle.ubik_types.specs.Moment.{IsMoment}
 use Rattle.ubik_types.specs.Phase.{PhaseRecord}
 use Rattle.ubik_types.specs.Version.{IsVersion, version_lt}
 use Rattle.ubik_calls.specs.declared.packets.Packet.{Packet}
@@ -43,12 +44,13 @@ IsKept (Some w) = IsBegunWrite w
 -- ---- the own write
 
 -- A write in flight, where this phase, version and image are the server's own: the server is ready, and not alone. The write is what the
--- database made of its call on the image before it, with changes that are not too large over that. The own version is the next of the
--- announced one.
+-- database made of its call at a moment, on the image before it, with changes that are not too large over that. The own version is the
+-- next of the announced one.
 pub record IsOwnWrite (db : Database) (servers : ℕ) (phase : PhaseRecord) (version : Version) (image : List ℕ) (f : Flight) : Type 0 where
   pub several : 1 < servers
   pub ready : is_ready phase ≡ true
   pub next : version ≡ next_version (told_version phase version)
+  pub began : IsMoment f.began
   pub writes : db.writes f.call ≡ Some true
   pub outcome : db.call f.old_image f.began f.call ≡ record { reply = call_reply.Done f.answer; image = image }
   pub changes : f.changes ≡ changes_of db f.old_image image

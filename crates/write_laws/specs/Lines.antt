@@ -1,5 +1,5 @@
 -- The calls that a server has not answered yet, in their order, and what a step makes of them (own).
-use Rattle.std.specs.Prelude.{ℕ, ◌≡◌, ◌⊎◌, Option, Some, None, IsSomeAnd, List, [], ◌∷◌, ◌++◌, filter_map}
+use Rattle.std.specs.Prelude.{ℕ, ◌≡◌, ◌+◌, ◌==◌, ◌⊎◌, Option, Some, None, IsSomeAnd, Contains, List, [], ◌∷◌, ◌++◌, count_by, filter_map}
 use Rattle.ubik_calls.specs.declared.replies.Reply.{Reply}
 use Rattle.ubik_calls.specs.declared.replies.Reply.TheVariants as reply
 use Rattle.db_image.specs.declared.services.CallReply.TheVariants as call_reply
@@ -74,8 +74,29 @@ GoOn before asked answered after =
     ⊎ ((front : List Waiting) × (answered ≡ front ++ asked) × (before ≡ front ++ after))
 
 -- These calls have no answer before a step, and this one is asked in it. Its replies are the answers to some of them, and after it
--- the others have none. So no reply has another id, and no call has two.
+-- the others have none.
 pub record IsLine (db : Database) (before asked : List Waiting) (answers : List Answer) (after : List Waiting) : Type 0 where
   pub answered : List Waiting
   pub told : AreAnswersTo db answered answers
   pub rest : GoOn before asked answered after
+
+-- ---- what lines come to
+
+-- how many of these calls have an id, and how many of these replies
+abbrev pub calls_with : ℕ → List Waiting → ℕ
+calls_with id calls = count_by (λ (w : Waiting). w.id == id) calls
+
+abbrev pub answers_with : ℕ → List Answer → ℕ
+answers_with id answers = count_by (λ (a : Answer). a.id == id) answers
+
+-- As many calls under an id as had no answer, or are asked, have one now or still have none; so no reply has another id. Each that has one
+-- now, and each that has none, is one of those.
+pub record Counts (before asked answered : List Waiting) (answers : List Answer) (after : List Waiting) : Type 0 where
+  pub each : (id : ℕ) → calls_with id before + calls_with id asked ≡ answers_with id answers + calls_with id after
+  pub answered_stood : (w : Waiting) → Contains answered w → Contains (before ++ asked) w
+  pub left_stood : (w : Waiting) → Contains after w → Contains (before ++ asked) w
+
+abbrev pub LinesCount : Type 0
+LinesCount =
+    (db : Database) (before asked : List Waiting) (answers : List Answer) (after : List Waiting) (line : IsLine db before asked answers after) →
+    Counts before asked line.answered answers after

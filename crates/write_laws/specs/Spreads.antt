@@ -17,7 +17,7 @@ use Rattle.cell_model.specs.World.{packets_of}
 use Rattle.recovery_laws.specs.HasNoWrite.{HasNoWrite, IsRecoveryPacket}
 use Rattle.recovery_laws.specs.Spreads.{AllFit, durable_of}
 use Rattle.write_laws.specs.Keeping.{IsKeeping, IsCellPacket, IsBrought}
-use Rattle.write_laws.specs.Lines.{unanswered, asked_in, answers_of, IsLine}
+use Rattle.write_laws.specs.Lines.{unanswered, asked_in, answers_of, IsLine, LinesCount}
 
 -- A step in an event. It sends packets of the cell alone, and makes at most two durable calls, which fit, and lead to the database of the
 -- server; after the first so many of them the database has a version too. Its replies are answers to calls that had none.
@@ -36,12 +36,14 @@ pub record IsSpelled (p : Packet) : Type 0 where
   pub spelled : HasSpelling (frame.Packet p)
 
 -- A server that was just opened on a version is such a server, and so is one after each event that a cell brings, at each moment. A
--- server without a write is one too, and a packet of votes or recovery is one of the cell. Each packet of the cell has a spelling.
+-- server without a write is one too, and a packet of votes or recovery is one of the cell. Each packet of the cell has a spelling, and
+-- each call has at most one reply.
 pub record WritesSpread : Type 0 where
   pub first : (db : Database) (servers : ℕ) (d : Durable) (now : ℕ) → IsVersion d.version →
       IsKeeping db servers (opened_server servers d now)
   pub steps : (db : Database) (m : Member) (s : Server) (now : ℕ) (e : NodeEvent) (short : List Bool) →
       m.me < cell_size m → IsMoment now → IsKeeping db (cell_size m) s → IsBrought m e → IsWriteStep db m s e (step_of db m s now e short)
+  pub lines : LinesCount
   pub whole : (hosts : List Host) (p : Packet) → IsCellPacket hosts p → IsSpelled p
   pub of_server : (db : Database) (servers : ℕ) (s : Server) → HasNoWrite servers s → IsKeeping db servers s
   pub of_packet : (hosts : List Host) (p : Packet) → IsRecoveryPacket hosts p → IsCellPacket hosts p
