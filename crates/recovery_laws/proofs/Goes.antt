@@ -88,11 +88,11 @@ module _ (m : Member) (e : NodeEvent) (inside : m.me < cell_size m) where
 
 -- ---- durable calls
 
-fits_append : (d : Durable) (calls more : List Made) → AllFit d calls → AllFit (durable_after_all d calls) more → AllFit d (calls ++ more)
+pub fits_append : (d : Durable) (calls more : List Made) → AllFit d calls → AllFit (durable_after_all d calls) more → AllFit d (calls ++ more)
 fits_append d [] more first second = second
 fits_append d (made ∷ calls) more first second = (first.0, fits_append (durable_after d made.call) calls more first.1 second)
 
-after_append : (d : Durable) (calls more : List Made) →
+pub after_append : (d : Durable) (calls more : List Made) →
     durable_after_all d (calls ++ more) ≡ durable_after_all (durable_after_all d calls) more
 after_append d [] more = refl
 after_append d (made ∷ calls) more = after_append (durable_after d made.call) calls more
@@ -104,7 +104,7 @@ own_append (made ∷ calls) more first second = (first.0, own_append calls more 
 zero_few : (n : ℕ) → zero ≤ n
 zero_few n = omega arith
 
-sum_few : (n x y a b : ℕ) → n ≡ x + y → x ≤ a → y ≤ b → n ≤ a + b
+pub sum_few : (n x y a b : ℕ) → n ≡ x + y → x ≤ a → y ≤ b → n ≤ a + b
 sum_few n x y a b is first second = omega arith
 
 -- ---- parts of a step

@@ -1,7 +1,7 @@
 mod Events
-mod Facts
-mod Goes
+pub mod Facts
+pub mod Goes
 mod Memory
 mod Recovering
-mod Spreading
+pub mod Spreading
 mod Standing

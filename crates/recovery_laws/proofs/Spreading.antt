@@ -39,10 +39,10 @@ names_version (body.Abort new) is = absurd is.kind
 names_version (body.VersionKept version) is = tt
 
 -- a piece is short
-piece_bytes : (bytes : List ℕ) → length bytes ≤ MAX_PIECE → length bytes < 2 ^ 32
+pub piece_bytes : (bytes : List ℕ) → length bytes ≤ MAX_PIECE → length bytes < 2 ^ 32
 piece_bytes bytes short = let few : length bytes ≤ 8192 = short in omega arith
 
-piece_length : (bytes : List ℕ) → length bytes ≤ MAX_PIECE → 4 + length bytes + padding (length bytes) ≤ 8200
+pub piece_length : (bytes : List ℕ) → length bytes ≤ MAX_PIECE → 4 + length bytes + padding (length bytes) ≤ 8200
 piece_length bytes short =
     let few : length bytes ≤ 8192 = short in
     let pad : padding (length bytes) < 4 = mod-lt (4 - length bytes % 4) (omega arith) in omega arith
@@ -82,7 +82,7 @@ body_short (body.Abort new) is = omega arith
 body_short (body.VersionKept version) is = omega arith
 
 -- a frame without its length
-bound_of : (whole head behind packet rest : ℕ) → whole ≡ packet → whole ≡ head + behind → packet ≡ 20 + rest → rest ≤ 8300 →
+pub bound_of : (whole head behind packet rest : ℕ) → whole ≡ packet → whole ≡ head + behind → packet ≡ 20 + rest → rest ≤ 8300 →
     behind ≤ 2097148
 bound_of whole head behind packet rest is parts known short = omega arith
 
@@ -106,7 +106,7 @@ after_fits d (Commit version changes image) fits = fits.0.version
 after_fits d (Relabel version) fits = fits.version
 after_fits d (Install version image) fits = fits.0.version
 
-versions_within : (d : Durable) (calls : List Made) (made : ℕ) → IsVersion d.version → AllFit d calls →
+pub versions_within : (d : Durable) (calls : List Made) (made : ℕ) → IsVersion d.version → AllFit d calls →
     IsVersion (durable_after_all d (take made calls)).version
 versions_within d calls zero is fits = is
 versions_within d [] (suc made) is fits = is

@@ -1,0 +1,10 @@
+mod Asking
+mod Facts
+mod Goes
+mod Lining
+mod Memory
+mod Receiving
+mod Recovering
+mod Spreading
+mod Steps
+mod Turning
