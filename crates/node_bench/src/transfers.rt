@@ -54,10 +54,7 @@ fn may_come(body: &Body) -> bool
 {
     match body {
         Body::VersionIs { version, .. } | Body::SendPiece { version, .. } => is_version(*version),
-        Body::SetVersion { new, .. } => is_version(*new),
-        Body::Begin { .. } | Body::PutPiece { .. } | Body::Commit { .. } | Body::Abort { .. } => {
-            false
-        }
+        Body::SetVersion { new, .. } | Body::Begin { new, .. } => is_version(*new),
         _ => true,
     }
 }

@@ -10,8 +10,8 @@ use ubik_calls::packets_are_as_long_as_said;
 
 /// A server of a cell of any size that has no write in flight stays one in each event that it takes: in votes and recovery, and, in a cell
 /// of one alone, in calls that write. It sends packets of votes and recovery alone, from host to host of the cell, and each of them has a
-/// spelling; it makes at most two durable calls in a step, which lead to versions and fit an image; and each Ok answers the call that is
-/// asked in that event. A server that was just opened is one.
+/// spelling; it makes at most two durable calls in a step, which lead to versions, fit an image and take no changes from another server;
+/// and each Ok answers the call that is asked in that event. A server that was just opened is one.
 pub fn law_recovery_spreads()
     ensures { RecoverySpreads }
 {

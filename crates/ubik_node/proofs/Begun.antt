@@ -107,7 +107,7 @@ same_version : (a b : Version) → version_eq a b ≡ true → a ≡ b
 same_version a b is =
     let epoch : a.epoch ≡ b.epoch = grind (arith, nat_tests) in
     let counter : a.counter ≡ b.counter = grind (arith, nat_tests) in
-    ap (λ (e : ℕ). record { epoch = e; counter = a.counter }) epoch ∙ ap (λ (c : ℕ). record { epoch = b.epoch; counter = c }) counter
+    ◌∙◌ {b = record { epoch = b.epoch; counter = a.counter }} (ap (λ (e : ℕ). record { epoch = e; counter = a.counter }) epoch) (ap (λ (c : ℕ). record { epoch = b.epoch; counter = c }) counter)
 
 pub whole_over : (own new : Version) (kept : Option KeptWrite) (changes : List Change) → ForSome kept (IsKeptOver own) → whole_write new kept ≡ Some changes → IsVersion new × (version_lt own new ≡ true)
 whole_over own new None changes over is = absurd cc

@@ -6,7 +6,7 @@ use super::*;
 use crate::tests::{Server, filled, revived, step};
 use crate::transfer_tests::{comes, has, one_of_two};
 use Sent::{Begin, BeginAt, BeginLonger, BeginMany, Commit, GiveUp, Piece, PieceAt, Set, Strange};
-use disk_base::{Fill, MemDisk};
+use disk_base::{Fill, MemDisk, StopDisk};
 use std::alloc::Global;
 use std::process::Abort;
 use std::test::Fail;
@@ -141,11 +141,15 @@ fn hears<D: SteadyDisk>(
     Ok(told)
 }
 
-/// The second server, over the image before the write.
-fn second(rt: &impl Abort, alloc: Global) -> Result<Server<MemDisk>, Fail>
-    ensures stored { IfOk result (IsStored MemDisk.Disk) }
+/// The second server, over an empty disk on which the image before the write is laid.
+fn second<D: SteadyDisk + StopDisk + Drop>(
+    rt: &impl Abort,
+    alloc: Global,
+    disk: D,
+) -> Result<Server<D>, Fail>
+    ensures stored { IfOk result (IsStored D.Disk) }
 {
-    let disk = filled(rt, alloc, MemDisk::new(alloc, &[])?, BEFORE)?;
+    let disk = filled(rt, alloc, disk, BEFORE)?;
     one_of_two(rt, alloc, revived(disk), 1)
 }
 
@@ -306,7 +310,7 @@ const ROWS: [Row; 13] = [
 /// One row.
 fn ends_so(rt: &impl Abort, alloc: Global, row: &Row) -> Result<(), Fail> {
     let (sent, answer, last) = row;
-    let mut node = second(rt, alloc)?;
+    let mut node = second(rt, alloc, MemDisk::new(alloc, &[])?)?;
     let told = hears_all(rt, alloc, &mut node, sent)?;
     assert_eq!(rt; told, *answer);
     let image = if *last == NEW { AFTER } else { BEFORE };
@@ -332,7 +336,7 @@ fn stopped_at(
     calls: u32,
     fill: Fill,
 ) -> Result<(Version, u32), Fail> {
-    let mut node = second(rt, alloc)?;
+    let mut node = second(rt, alloc, MemDisk::new(alloc, &[])?)?;
     let whole = [Begin, Piece(0), Piece(1), Piece(2)];
     let _ = hears_all(rt, alloc, &mut node, &whole)?;
     node.arm(calls, fill);
