@@ -63,7 +63,7 @@ fn begin(rt: &impl Abort, alloc: Global, site: &mut SiteWrites, id: u32) -> Resu
 /// Puts a call of one byte into the line behind the write in flight.
 fn wait(rt: &impl Abort, site: &mut SiteWrites, id: u32) -> Result<(), WaitFault> {
     assert!(rt; site.in_flight().is_some());
-    site.wait(id, &[id as u8 & 0x7f])
+    site.wait(id, &[(id & 0x7f) as u8])
 }
 
 /// The id of the first call in line, which gets its turn.
@@ -135,6 +135,18 @@ fn a_place_is_given_back(rt: HostRuntime) -> Result<(), Fail> {
     Ok(())
 }
 
+/// The eight bytes of the image before a write in flight, read through the image after it.
+fn image_before(rt: &impl Abort, alloc: Global, write: &OwnWrite) -> Result<[u8; 8], Fail> {
+    let mut before = BeforeImage {
+        image: VecImage::new(alloc, b"aXYdef")?,
+        flight: write.flight(),
+    };
+    let mut bytes = [0; 8];
+    assert_eq!(rt; before.len(), 8);
+    assert_eq!(rt; before.read(0, &mut bytes), ReadEnd::Done);
+    Ok(bytes)
+}
+
 /// What a write in flight tells of itself, and the image before it.
 #[test]
 fn a_write_in_flight(rt: HostRuntime) -> Result<(), Fail> {
@@ -146,15 +158,7 @@ fn a_write_in_flight(rt: HostRuntime) -> Result<(), Fail> {
         (24, 1, 8)
     );
     assert_eq!(rt; write.piece(0).len(), 24);
-    let image = VecImage::new(rt.alloc(), b"aXYdef")?;
-    let mut before = BeforeImage {
-        image,
-        flight: write.flight(),
-    };
-    let mut part = [0; 8];
-    assert_eq!(rt; before.len(), 8);
-    assert_eq!(rt; before.read(0, &mut part), ReadEnd::Done);
-    assert!(rt; part == *b"abcdefgh");
+    assert!(rt; image_before(&rt, rt.alloc(), &write)? == *b"abcdefgh");
     assert!(rt; write.answer() == b"ok".as_slice());
     assert!(rt; write.into_answer().as_slice() == b"ok".as_slice());
     Ok(())
