@@ -1,5 +1,5 @@
 -- The choices that count in a step are those that its replies tell.
-use Rattle.std.proofs.Common.{Bool, true, false, true≢false, cond, ◌==◌, ◌≡◌, ◌⊎◌, inl, inr, ℕ, zero, suc, ◌+◌, ◌≤◌, List, [], ◌∷◌, ◌++◌, length, map, drop, refl, sym, ap}
+use Rattle.std.proofs.Common.{Bool, true, false, cond, ◌==◌, ◌≡◌, ◌⊎◌, inl, inr, ℕ, zero, suc, ◌+◌, List, [], ◌∷◌, ◌++◌, length, map, drop, refl, sym, ap}
 use Rattle.std.proofs.Common.{subst, ◌∙◌, arith}
 use Rattle.std.proofs.lemmas.Bool.{cond_both}
 use Rattle.std.proofs.lemmas.List.{append-nil}
@@ -30,17 +30,17 @@ use Rattle.cell_model.specs.declared.events.NodeEvent.{NodeEvent}
 use Rattle.cell_model.specs.declared.events.NodeEvent.TheVariants as event
 use Rattle.cell_model.specs.declared.events.Output.{Output}
 use Rattle.cell_model.specs.declared.events.Output.TheVariants as output
-use Rattle.cell_model.specs.Asks.{read_reply, read, put_into_line, write_asked, served, asked_elsewhere, asked_as, asked, allows_reads}
+use Rattle.cell_model.specs.Asks.{read_reply, read, put_into_line, write_asked, served, asked_elsewhere, asked_as, allows_reads}
 use Rattle.cell_model.specs.Lapse.{no_quorum, lapsed}
 use Rattle.cell_model.specs.Node.{Server, Flight, Waiting}
 use Rattle.cell_model.specs.NodeRule.{place_of, received_from, received_packet, handled, step_of}
 use Rattle.cell_model.specs.Polls.{only_holder}
-use Rattle.cell_model.specs.Recovery.{held_by, holder_added, lacking_sent, told_to_spread, version_is_received, version_kept_received}
+use Rattle.cell_model.specs.Recovery.{held_by, holder_added, lacking_sent, version_is_received, version_kept_received}
 use Rattle.cell_model.specs.Step.{Member, cell_size, Basis, Evaluation, Shown, Stepped, quiet, showing, followed, with_phase, leased, is_ready}
 use Rattle.cell_model.specs.Step.{packet_to, sent, sends_from, outputs_of, refusing, is_short, is_reply, short_after}
-use Rattle.cell_model.specs.Writes.{write_bodies, own_write_begun, ended_write, settled, last_counter, written_in, written_small, written_within, turned}
-use Rattle.cell_model.specs.Writes.{flight_of, write_turn, is_free_in, is_free, next_turns, settled_with_turns}
-use Rattle.write_laws.specs.Lines.{Answer, answer_in, answers_of}
+use Rattle.cell_model.specs.Writes.{write_bodies, own_write_begun, ended_write, settled, written_in, written_small, written_within, turned}
+use Rattle.cell_model.specs.Writes.{flight_of, write_turn, is_free_in, is_free, next_turns}
+use Rattle.write_laws.specs.Lines.{Answer, answers_of}
 use Rattle.write_laws.specs.Memory.{is_no_memory, told_short, AllFound, TellsShort, RepliesTellMemory}
 use Rattle.write_laws.proofs.Lining.{answers_append}
 
