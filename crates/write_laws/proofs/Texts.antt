@@ -1,15 +1,15 @@
 -- How long the text of a write is: its changes are blocks.
-use Rattle.std.proofs.Common.{Bool, true, false, true≢false, cond, ◌≡◌, ℕ, zero, suc, ◌+◌, ◌-◌, ◌*◌, ◌/◌, ◌%◌, ◌<◌, ◌≤◌, List, [], ◌∷◌, ◌++◌, length, take, drop}
+use Rattle.std.proofs.Common.{Bool, true, false, true≢false, cond, ◌≡◌, ℕ, zero, suc, ◌+◌, ◌-◌, ◌*◌, ◌/◌, ◌%◌, ◌<◌, ◌≤◌, List, [], ◌∷◌, ◌++◌, length, drop}
 use Rattle.std.proofs.Common.{replicate, refl, sym, ap, subst, ◌∙◌, arith}
 use Rattle.std.proofs.Math.Nat.{mod-lt}
 use Rattle.std.proofs.lemmas.Bool.{cond_both}
 use Rattle.std.proofs.lemmas.List.{length-append, length-replicate, length-take, length-drop}
 use Rattle.std.specs.List.{AllByRecursion}
-use Rattle.std.specs.Prelude.{Option, Some, None, nat_lt, max, min}
+use Rattle.std.specs.Prelude.{None, nat_lt, max, min}
 use Rattle.std.specs.Str.{bytes_eq}
 use Rattle.ubik_types.specs.declared.images.Change.{Change}
 use Rattle.ubik_types.specs.declared.images.Change.TheVariants.{Put, Cut}
-use Rattle.ubik_types.specs.declared.limits.TheConstants.{MAX_CHANGES, MAX_IMAGE}
+use Rattle.ubik_types.specs.declared.limits.TheConstants.{MAX_CHANGES}
 use Rattle.ubik_types.specs.declared.versions.Version.{Version}
 use Rattle.ubik_types.specs.Logged.{passed_limit, too_large}
 use Rattle.ubik_types.specs.Phase.{PhaseRecord}
@@ -52,9 +52,14 @@ weight_append (Cut len ∷ a) b = (let rest : weight (a ++ b) ≡ weight a + wei
 put_long : (at : ℕ) (bytes : List ℕ) → length (change_spelling (Put at bytes)) ≤ 15 + length bytes
 put_long at bytes =
     let pad : padding (length bytes) < 4 = mod-lt (4 - length bytes % 4) (omega arith) in
-    omega (arith, length-append (word 1) (word at ++ opaque bytes), length-append (word at) (opaque bytes),
-    length-append (word (length bytes) ++ bytes) (replicate (padding (length bytes)) 0), length-append (word (length bytes)) bytes,
-    length-replicate {A = ℕ} (padding (length bytes)) 0)
+    omega (
+      arith,
+      length-append (word 1) (word at ++ opaque bytes),
+      length-append (word at) (opaque bytes),
+      length-append (word (length bytes) ++ bytes) (replicate (padding (length bytes)) 0),
+      length-append (word (length bytes)) bytes,
+      length-replicate {A = ℕ} (padding (length bytes)) 0,
+    )
 
 text_long : (changes : List Change) → length (text_of changes) ≤ weight changes
 text_long [] = omega arith
@@ -238,4 +243,7 @@ module _ (db : Database) (servers : ℕ) (phase : PhaseRecord) (version : Versio
           (between_near f.old_image image longer db.head db.block head block) bytes_few
 
 pub texts_fit : TextsFit
-texts_fit = record { each = has_text; few = few_pieces }
+texts_fit = record {
+  each = has_text;
+  few = λ db servers phase version image f keeps head block is. few_pieces db servers phase version image f keeps is head block;
+}
