@@ -2,6 +2,7 @@
 use Rattle.std.proofs.Common.{◌≡◌, ℕ, zero, suc, ◌+◌, ◌-◌, ◌%◌, ◌<◌, ◌≤◌, List, [], ◌∷◌, length, take, refl, arith}
 use Rattle.std.proofs.Math.Nat.{mod-lt}
 use Rattle.std.proofs.lemmas.List.{length-append}
+use Rattle.std.specs.List.{AllByRecursion}
 use Rattle.std.specs.Prelude.{◌^◌}
 use Rattle.ubik_types.specs.Version.{IsVersion}
 use Rattle.ubik_calls.specs.declared.frames.Frame.TheVariants as frame
@@ -11,7 +12,8 @@ use Rattle.ubik_calls.specs.declared.packets.Body.TheVariants as body
 use Rattle.ubik_calls.specs.declared.packets.TheConstants.{MAX_PIECE}
 use Rattle.ubik_calls.specs.Laws.{PacketsAreSoLong}
 use Rattle.ubik_calls.specs.Length.{HasShortBytes, body_length, packet_length}
-use Rattle.ubik_calls.specs.WireGrammar.{behind_length, spelling}
+use Rattle.ubik_calls.specs.Fields.{IsBounded}
+use Rattle.ubik_calls.specs.WireGrammar.{body_fields, behind_length, spelling, HasSpelling}
 use Rattle.xdr_base.specs.Spelling.{word, padding}
 use Rattle.cell_model.specs.Durable.{Durable, DurableCall, Commit, Relabel, Install, Made, durable_after, durable_after_all}
 use Rattle.cell_model.specs.NodeRule.{step_of}
@@ -38,19 +40,23 @@ names_version (body.Commit old new) is = absurd is.kind
 names_version (body.Abort new) is = absurd is.kind
 names_version (body.VersionKept version) is = tt
 
+-- bounded versions and pieces
+abbrev pub IsBoundedBody : Body → Type 0
+IsBoundedBody b = AllByRecursion IsBounded (body_fields b)
+
 -- a piece is short
-pub piece_bytes : (bytes : List ℕ) → length bytes ≤ MAX_PIECE → length bytes < 2 ^ 32
+piece_bytes : (bytes : List ℕ) → length bytes ≤ MAX_PIECE → length bytes < 2 ^ 32
 piece_bytes bytes short = let few : length bytes ≤ 8192 = short in omega arith
 
-pub piece_length : (bytes : List ℕ) → length bytes ≤ MAX_PIECE → 4 + length bytes + padding (length bytes) ≤ 8200
+piece_length : (bytes : List ℕ) → length bytes ≤ MAX_PIECE → 4 + length bytes + padding (length bytes) ≤ 8200
 piece_length bytes short =
     let few : length bytes ≤ 8192 = short in
     let pad : padding (length bytes) < 4 = mod-lt (4 - length bytes % 4) (omega arith) in omega arith
 
-short_bytes : (b : Body) → IsRecoveryBody b → HasShortBytes b
-short_bytes (body.Piece poll version total offset bytes) is = piece_bytes bytes is.bounded.1.1.1.1.0
-short_bytes (body.SendPiece poll version total offset bytes) is = piece_bytes bytes is.bounded.1.1.1.1.0
-short_bytes (body.PutPiece new number bytes) is = absurd is.kind
+pub short_bytes : (b : Body) → IsBoundedBody b → HasShortBytes b
+short_bytes (body.Piece poll version total offset bytes) is = piece_bytes bytes is.1.1.1.1.0
+short_bytes (body.SendPiece poll version total offset bytes) is = piece_bytes bytes is.1.1.1.1.0
+short_bytes (body.PutPiece new number bytes) is = piece_bytes bytes is.1.1.0
 short_bytes (body.Beacon start claim ready version) is = tt
 short_bytes (body.Vote start granted) is = tt
 short_bytes (body.GetVersion poll) is = tt
@@ -63,12 +69,13 @@ short_bytes (body.Commit old new) is = tt
 short_bytes (body.Abort new) is = tt
 short_bytes (body.VersionKept version) is = tt
 
-body_short : (b : Body) → IsRecoveryBody b → body_length b ≤ 8300
+body_short : (b : Body) → IsBoundedBody b → body_length b ≤ 8300
 body_short (body.Piece poll version total offset bytes) is =
-    let short : 4 + length bytes + padding (length bytes) ≤ 8200 = piece_length bytes is.bounded.1.1.1.1.0 in omega arith
+    let short : 4 + length bytes + padding (length bytes) ≤ 8200 = piece_length bytes is.1.1.1.1.0 in omega arith
 body_short (body.SendPiece poll version total offset bytes) is =
-    let short : 4 + length bytes + padding (length bytes) ≤ 8200 = piece_length bytes is.bounded.1.1.1.1.0 in omega arith
-body_short (body.PutPiece new number bytes) is = absurd is.kind
+    let short : 4 + length bytes + padding (length bytes) ≤ 8200 = piece_length bytes is.1.1.1.1.0 in omega arith
+body_short (body.PutPiece new number bytes) is =
+    let short : 4 + length bytes + padding (length bytes) ≤ 8200 = piece_length bytes is.1.1.0 in omega arith
 body_short (body.Beacon start claim ready version) is = omega arith
 body_short (body.Vote start granted) is = omega arith
 body_short (body.GetVersion poll) is = omega arith
@@ -82,22 +89,22 @@ body_short (body.Abort new) is = omega arith
 body_short (body.VersionKept version) is = omega arith
 
 -- a frame without its length
-pub bound_of : (whole head behind packet rest : ℕ) → whole ≡ packet → whole ≡ head + behind → packet ≡ 20 + rest → rest ≤ 8300 →
+bound_of : (whole head behind packet rest : ℕ) → whole ≡ packet → whole ≡ head + behind → packet ≡ 20 + rest → rest ≤ 8300 →
     behind ≤ 2097148
 bound_of whole head behind packet rest is parts known short = omega arith
 
-whole_packet : PacketsAreSoLong → (p : Packet) → IsRecoveryBody p.body → IsSentWhole p
-whole_packet long p is = record {
-  names = names_version p.body is;
-  short = short_bytes p.body is;
-  spelled = record {
-    bounded = (tt, (tt, (tt, (tt, is.bounded))));
-    bound =
-        bound_of (length (spelling (frame.Packet p))) (length (word (length (behind_length (frame.Packet p)))))
-        (length (behind_length (frame.Packet p))) (packet_length p) (body_length p.body) (long p)
-        (length-append (word (length (behind_length (frame.Packet p)))) (behind_length (frame.Packet p))) refl (body_short p.body is);
-  };
+pub spelled_packet : PacketsAreSoLong → (p : Packet) → IsBoundedBody p.body → HasSpelling (frame.Packet p)
+spelled_packet long p is = record {
+  bounded = (tt, (tt, (tt, (tt, is))));
+  bound =
+      bound_of (length (spelling (frame.Packet p))) (length (word (length (behind_length (frame.Packet p)))))
+      (length (behind_length (frame.Packet p))) (packet_length p) (body_length p.body) (long p)
+      (length-append (word (length (behind_length (frame.Packet p)))) (behind_length (frame.Packet p))) refl (body_short p.body is);
 }
+
+whole_packet : PacketsAreSoLong → (p : Packet) → IsRecoveryBody p.body → IsSentWhole p
+whole_packet long p is =
+    record { names = names_version p.body is; short = short_bytes p.body is.bounded; spelled = spelled_packet long p is.bounded }
 
 -- ---- durable calls
 

@@ -20,15 +20,13 @@ use Rattle.cell_model.specs.World.{packets_of}
 use Rattle.cell_places.proofs.Hosts.{HasPlace, all_placed, host_placed}
 use Rattle.recovery_laws.specs.Spreads.{FitsOver, AllFit, durable_of}
 use Rattle.recovery_laws.proofs.Goes.{fits_append, after_append, sum_few}
+pub use Rattle.recovery_laws.proofs.Spreading.{IsBoundedBody}
 use Rattle.write_laws.specs.Keeping.{IsKeeping, IsCellPacket}
 use Rattle.write_laws.specs.Lines.{call_in_flight, unanswered, answers_of, AreAnswersTo, GoOn, IsLine}
 use Rattle.write_laws.proofs.Facts.{Keeps}
 use Rattle.write_laws.proofs.Lining.{told_both, goes_on, rest_both, still_few}
 
 -- ---- what is shown
-
-abbrev pub IsBoundedBody : Body → Type 0
-IsBoundedBody b = AllByRecursion IsBounded (body_fields b)
 
 -- packets of the cell alone
 abbrev pub IsFine : Member → Output → Type 0

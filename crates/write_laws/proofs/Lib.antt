@@ -7,4 +7,5 @@ mod Receiving
 mod Recovering
 mod Spreading
 mod Steps
+mod Texts
 mod Turning

@@ -1,11 +1,12 @@
 -- The choices that count in a step are those that its replies tell.
-use Rattle.std.proofs.Common.{Bool, true, false, true≢false, cond, ◌==◌, ◌≡◌, ℕ, zero, suc, ◌+◌, ◌≤◌, List, [], ◌∷◌, ◌++◌, length, map, drop, refl, sym, ap}
+use Rattle.std.proofs.Common.{Bool, true, false, cond, ◌==◌, ◌≡◌, ◌⊎◌, inl, inr, ℕ, zero, suc, ◌+◌, List, [], ◌∷◌, ◌++◌, length, map, drop, refl, sym, ap}
 use Rattle.std.proofs.Common.{subst, ◌∙◌, arith}
 use Rattle.std.proofs.lemmas.Bool.{cond_both}
 use Rattle.std.proofs.lemmas.List.{append-nil}
+use Rattle.std.proofs.lemmas.List.Elements.{Contains-append_right}
 use Rattle.std.proofs.lemmas.List.Sums.{sum_by-cons}
 use Rattle.std.specs.List.{AllByRecursion}
-use Rattle.std.specs.Prelude.{Option, Some, None, nat_le, count_by}
+use Rattle.std.specs.Prelude.{Option, Some, None, Contains, nat_le, count_by}
 use Rattle.lock_table.specs.declared.tables.TheConstants.{MAX_WAITING}
 use Rattle.ubik_types.specs.declared.hosts.Host.{Host}
 use Rattle.ubik_types.specs.declared.images.Change.{Change}
@@ -29,18 +30,18 @@ use Rattle.cell_model.specs.declared.events.NodeEvent.{NodeEvent}
 use Rattle.cell_model.specs.declared.events.NodeEvent.TheVariants as event
 use Rattle.cell_model.specs.declared.events.Output.{Output}
 use Rattle.cell_model.specs.declared.events.Output.TheVariants as output
-use Rattle.cell_model.specs.Asks.{read_reply, read, put_into_line, write_asked, served, asked_elsewhere, asked_as, asked, allows_reads}
+use Rattle.cell_model.specs.Asks.{read_reply, read, put_into_line, write_asked, served, asked_elsewhere, asked_as, allows_reads}
 use Rattle.cell_model.specs.Lapse.{no_quorum, lapsed}
 use Rattle.cell_model.specs.Node.{Server, Flight, Waiting}
 use Rattle.cell_model.specs.NodeRule.{place_of, received_from, received_packet, handled, step_of}
 use Rattle.cell_model.specs.Polls.{only_holder}
-use Rattle.cell_model.specs.Recovery.{held_by, holder_added, lacking_sent, told_to_spread, version_is_received, version_kept_received}
+use Rattle.cell_model.specs.Recovery.{held_by, holder_added, lacking_sent, version_is_received, version_kept_received}
 use Rattle.cell_model.specs.Step.{Member, cell_size, Basis, Evaluation, Shown, Stepped, quiet, showing, followed, with_phase, leased, is_ready}
-use Rattle.cell_model.specs.Step.{packet_to, sent, sends_from, refusing, is_short, is_reply, short_after}
-use Rattle.cell_model.specs.Writes.{write_bodies, own_write_begun, ended_write, settled, last_counter, written_in, written_small, written_within, turned}
-use Rattle.cell_model.specs.Writes.{flight_of, write_turn, is_free_in, is_free, next_turns, settled_with_turns}
-use Rattle.write_laws.specs.Lines.{Answer, answer_in, answers_of}
-use Rattle.write_laws.specs.Memory.{is_no_memory, told_short, AllFound, RepliesTellMemory}
+use Rattle.cell_model.specs.Step.{packet_to, sent, sends_from, outputs_of, refusing, is_short, is_reply, short_after}
+use Rattle.cell_model.specs.Writes.{write_bodies, own_write_begun, ended_write, settled, written_in, written_small, written_within, turned}
+use Rattle.cell_model.specs.Writes.{flight_of, write_turn, is_free_in, is_free, next_turns}
+use Rattle.write_laws.specs.Lines.{Answer, answers_of}
+use Rattle.write_laws.specs.Memory.{is_no_memory, told_short, AllFound, TellsShort, RepliesTellMemory}
 use Rattle.write_laws.proofs.Lining.{answers_append}
 
 -- ---- choices that replies tell
@@ -458,9 +459,59 @@ tell_found : (answers : List Answer) → AllByRecursion (λ (a : Answer). is_no_
 tell_found [] all = tt
 tell_found (a ∷ answers) all = (sym all.0, tell_found answers all.1)
 
+-- all replies found memory, or one tells otherwise
+found_or_short : (shown : List Shown) → AllFound shown ⊎ TellsShort shown
+found_or_short [] = inl tt
+found_or_short (one ∷ shown) = by one.output one.evaluation (found_or_short shown)
+  where
+    behind : (o : Output) → TellsShort shown → (id : ℕ) × Contains (o ∷ outputs_of shown) (output.Reply id reply.NoMemory)
+    behind o short = (short.0, Contains-append_right (o ∷ []) (outputs_of shown) (output.Reply short.0 reply.NoMemory) short.1)
+
+    with_reply : (id : ℕ) (r : Reply) (evaluation : Option Evaluation) → (is_no_memory r ≡ false) ⊎ (r ≡ reply.NoMemory) →
+        AllFound shown ⊎ TellsShort shown →
+        AllFound (record { output = output.Reply id r; evaluation = evaluation } ∷ shown)
+        ⊎ TellsShort (record { output = output.Reply id r; evaluation = evaluation } ∷ shown)
+    with_reply id r evaluation (inl found) (inl all) = inl (found, all)
+    with_reply id r evaluation (inl found) (inr short) = inr (behind (output.Reply id r) short)
+    with_reply id r evaluation (inr none) rest = inr ((id, (0, omega arith, ap (λ (x : Reply). output.Reply id x) none)))
+
+    found : (r : Reply) → (is_no_memory r ≡ false) ⊎ (r ≡ reply.NoMemory)
+    found reply.NoMemory = inr refl
+    found (reply.Ok answer) = inl refl
+    found (reply.Rule number) = inl refl
+    found (reply.NoQuorum now until phase applied) = inl refl
+    found (reply.NotSync host heard) = inl refl
+    found (reply.LineFull holder) = inl refl
+    found (reply.TooLarge bytes) = inl refl
+    found reply.Malformed = inl refl
+    found reply.DiskFault = inl refl
+    found (reply.BadRecord place) = inl refl
+
+    by : (o : Output) (evaluation : Option Evaluation) → AllFound shown ⊎ TellsShort shown →
+        AllFound (record { output = o; evaluation = evaluation } ∷ shown) ⊎ TellsShort (record { output = o; evaluation = evaluation } ∷ shown)
+    by (output.Send p) evaluation (inl all) = inl all
+    by (output.Send p) evaluation (inr short) = inr (behind (output.Send p) short)
+    by (output.Reply id r) evaluation rest = with_reply id r evaluation (found r) rest
+    by (output.Announce version) evaluation (inl all) = inl all
+    by (output.Announce version) evaluation (inr short) = inr (behind (output.Announce version) short)
+
+step_found : (db : Database) (m : Member) (s : Server) (now : ℕ) (e : NodeEvent) (short : List Bool) →
+    AllFound (step_of db m s now e short).shown → step_of db m s now e short ≡ step_of db m s now e []
+step_found db m s now e short all = step_told db m s now e short [] (tell_found (answers_of (step_of db m s now e short).shown) all)
+
+step_either : (db : Database) (m : Member) (s : Server) (now : ℕ) (e : NodeEvent) (short : List Bool) →
+    (step_of db m s now e short ≡ step_of db m s now e []) ⊎ TellsShort (step_of db m s now e short).shown
+step_either db m s now e short = by (found_or_short (step_of db m s now e short).shown)
+  where
+    by : AllFound (step_of db m s now e short).shown ⊎ TellsShort (step_of db m s now e short).shown →
+        (step_of db m s now e short ≡ step_of db m s now e []) ⊎ TellsShort (step_of db m s now e short).shown
+    by (inl all) = inl (step_found db m s now e short all)
+    by (inr told) = inr told
+
 pub replies_tell_memory : RepliesTellMemory
 replies_tell_memory = record {
   told = λ db m s now e short.
       step_told db m s now e short (told_short (step_of db m s now e short).shown) (tell_told (answers_of (step_of db m s now e short).shown));
-  found = λ db m s now e short all. step_told db m s now e short [] (tell_found (answers_of (step_of db m s now e short).shown) all);
+  found = step_found;
+  either = step_either;
 }

@@ -38,7 +38,7 @@ use Rattle.write_laws.proofs.Recovering.{installed_goes}
 
 -- ---- changes as a store keeps them
 
-none_first : (a b : Option ℕ) → first_of_two a b ≡ None → (a ≡ None) × (b ≡ None)
+pub none_first : (a b : Option ℕ) → first_of_two a b ≡ None → (a ≡ None) × (b ≡ None)
 none_first None b is = (refl, is)
 none_first (Some n) b is = absurd (cc)
 
@@ -46,7 +46,7 @@ both_none : (a b : Option ℕ) → a ≡ None → b ≡ None → first_of_two a 
 both_none None b first second = second
 both_none (Some n) b first second = absurd (cc)
 
-limits : (sum end : ℕ) → passed_limit sum end ≡ None → (sum ≤ MAX_CHANGES) × (end ≤ MAX_IMAGE)
+pub limits : (sum end : ℕ) → passed_limit sum end ≡ None → (sum ≤ MAX_CHANGES) × (end ≤ MAX_IMAGE)
 limits sum end is = by (nat_lt MAX_CHANGES sum) (nat_lt MAX_IMAGE end) refl refl is
   where
     by : (a b : Bool) → nat_lt MAX_CHANGES sum ≡ a → nat_lt MAX_IMAGE end ≡ b → cond a (Some sum) (cond b (Some end) None) ≡ None →

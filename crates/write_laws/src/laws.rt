@@ -1,6 +1,7 @@
 //! Laws of writes: each is the clause of a call that does nothing.
 ghost use Rattle.write_laws.specs.Memory.{RepliesTellMemory};
 ghost use Rattle.write_laws.specs.Spreads.{WritesSpread};
+ghost use Rattle.write_laws.specs.Texts.{TextsFit};
 
 use ubik_calls::packets_are_as_long_as_said;
 
@@ -18,4 +19,10 @@ pub fn law_writes_spread()
 /// memory whose replies tell it. Where no reply tells it the step is the one for which all memory was found.
 pub fn law_replies_tell_memory()
     ensures { RepliesTellMemory }
+{}
+
+/// The changes of a write in flight have a spelling, and its text has at most 16,777,216 bytes, over each database that keeps its
+/// images. Where the head and the blocks of the database have at least 64 bytes its text has at most 160 pieces, as many as another server takes.
+pub fn law_texts_fit()
+    ensures { TextsFit }
 {}

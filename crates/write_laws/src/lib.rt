@@ -3,4 +3,4 @@
 
 mod laws;
 
-pub use laws::{law_replies_tell_memory, law_writes_spread};
+pub use laws::{law_replies_tell_memory, law_texts_fit, law_writes_spread};
