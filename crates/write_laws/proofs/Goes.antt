@@ -8,8 +8,6 @@ use Rattle.std.specs.Prelude.{Option, None, All}
 use Rattle.lock_table.specs.declared.tables.TheConstants.{MAX_WAITING}
 use Rattle.ubik_types.specs.declared.hosts.Host.{Host}
 use Rattle.ubik_calls.specs.declared.packets.Body.{Body}
-use Rattle.ubik_calls.specs.Fields.{IsBounded}
-use Rattle.ubik_calls.specs.WireGrammar.{body_fields}
 use Rattle.db_image.specs.Database.{Database}
 use Rattle.cell_model.specs.declared.events.Output.{Output}
 use Rattle.cell_model.specs.declared.events.Output.TheVariants as output

@@ -1,17 +1,9 @@
 -- A server stays one that takes writes, and each packet that it takes or sends has a spelling.
-use Rattle.std.proofs.Common.{◌≡◌, ℕ, ◌+◌, ◌≤◌, List, length, refl, sym, subst, arith}
-use Rattle.std.proofs.lemmas.List.{length-append}
+use Rattle.std.proofs.Common.{◌≡◌, ℕ, ◌≤◌, List, length, refl, sym, subst, arith}
 use Rattle.std.specs.List.{AllByRecursion}
 use Rattle.std.specs.Prelude.{Option, Some, None}
 use Rattle.lock_table.specs.declared.tables.TheConstants.{MAX_WAITING}
-use Rattle.ubik_calls.specs.declared.frames.Frame.TheVariants as frame
-use Rattle.ubik_calls.specs.declared.packets.Packet.{Packet}
-use Rattle.ubik_calls.specs.declared.packets.Body.{Body}
-use Rattle.ubik_calls.specs.declared.packets.Body.TheVariants as body
 use Rattle.ubik_calls.specs.Laws.{PacketsAreSoLong}
-use Rattle.ubik_calls.specs.Length.{HasShortBytes, body_length, packet_length}
-use Rattle.ubik_calls.specs.WireGrammar.{behind_length, spelling}
-use Rattle.xdr_base.specs.Spelling.{word, padding}
 use Rattle.db_image.specs.Database.{Database}
 use Rattle.cell_model.specs.Node.{Server, KeptWrite, Waiting}
 use Rattle.cell_model.specs.NodeRule.{step_of}
@@ -19,9 +11,9 @@ use Rattle.recovery_laws.specs.HasNoWrite.{HasNoWrite}
 use Rattle.recovery_laws.specs.Spreads.{durable_of}
 use Rattle.recovery_laws.proofs.Spreading.{short_bytes, spelled_packet, versions_within}
 use Rattle.write_laws.specs.Keeping.{IsKept, IsWriting, IsKeeping}
-use Rattle.write_laws.specs.Spreads.{IsSpelled, WritesSpread}
+use Rattle.write_laws.specs.Spreads.{WritesSpread}
 use Rattle.write_laws.proofs.Facts.{none_flies}
-use Rattle.write_laws.proofs.Goes.{IsBoundedBody, fine_packets}
+use Rattle.write_laws.proofs.Goes.{fine_packets}
 use Rattle.write_laws.proofs.Lining.{lines_count}
 use Rattle.write_laws.proofs.Steps.{step_goes}
 
