@@ -1,0 +1,15 @@
+//! Entries in the order of their names.
+ghost use Rattle.std.specs.Prelude.{◌≡◌, IfOk};
+ghost use Rattle.vos_tool.specs.Ordering.{by_name};
+
+use ubik_types::NoMemory;
+use vldb_records::VlEntry;
+
+/// The entries in the order of their names' bytes; those of equal names keep their order.
+pub fn by_name(entries: Vec<VlEntry>) -> Result<Vec<VlEntry>, NoMemory>
+    ensures { IfOk result (λ sorted. sorted.items ≡ by_name entries.items) }
+{
+    let mut sorted = entries;
+    sorted.sort_by(|a, b| a.name.as_slice().cmp(b.name.as_slice()))?;
+    Ok(sorted)
+}

@@ -1,0 +1,66 @@
+//! Entries of a listing, read in pages.
+ghost use Rattle.std.specs.Prelude.{◌≡◌, ◌++◌, IfOk, OnOk, length};
+ghost use Rattle.tool_base.specs.Running.{Ran};
+ghost use Rattle.vos_tool.specs.Answers.{IsPage};
+ghost use Rattle.vos_tool.specs.Listing.{entries_of, last_id, page_call};
+ghost use Rattle.vos_tool.specs.Asking.{asks_page};
+
+use crate::answers::Page;
+use crate::asking::ask;
+use crate::listing::Filter;
+use io_base::Link;
+use tool_base::{Client, Stop};
+use ubik_types::NoMemory;
+use vl_calls::{MAX_PAGE, VlCall};
+use vldb_records::VlEntry;
+
+/// All entries that a filter lets through.
+pub fn entries_of<L: Link>(
+    client: &mut Client<'_>,
+    link: &mut L,
+    filter: Filter,
+) -> Result<Vec<VlEntry>, Stop>
+    ensures { Ran (entries_of filter) client.old client.new (L.exchanges link.old) (L.exchanges link.new) result }
+{
+    let mut found = Vec::new(client.alloc());
+    let mut after = 0;
+    loop {
+        let mut page = page_behind(client, link, filter, after)?;
+        let is_last = page.len() < MAX_PAGE as usize;
+        after = last_id(after, &page);
+        found.append(&mut page).map_err(NoMemory::from)?;
+        if is_last {
+            return Ok(found);
+        }
+    }
+}
+
+/// The page behind an id.
+fn page_behind<L: Link>(
+    client: &mut Client<'_>,
+    link: &mut L,
+    filter: Filter,
+    after: u32,
+) -> Result<Vec<VlEntry>, Stop>
+    ensures ran { Ran (asks_page after (page_call filter after)) client.old client.new (L.exchanges link.old) (L.exchanges link.new) result }
+    ensures limits { IfOk result (λ page. IsPage after page) }
+{
+    let call = VlCall::ListAttributes {
+        after,
+        host: filter.host,
+        partition: filter.partition,
+        locked: filter.locked,
+    };
+    let page = ask(client, link, &call, &Page { after })?;
+    Ok(page.into_vec())
+}
+
+/// The last id of a page, or what was before it.
+fn last_id(after: u32, page: &[VlEntry]) -> u32
+    ensures { result ≡ last_id after page.now }
+{
+    match page.last() {
+        Some(entry) => entry.rw,
+        None => after,
+    }
+}

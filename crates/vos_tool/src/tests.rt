@@ -1,0 +1,1 @@
+//! Commands over a link in memory. Memory is ample.
