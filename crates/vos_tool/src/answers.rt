@@ -37,6 +37,7 @@ pub trait Reads<A> {
 }
 
 /// The answer that tells only that the call took place.
+#[derive(Drop)]
 pub struct Done;
 
 impl Reads<()> for Done {
@@ -53,6 +54,7 @@ impl Reads<()> for Done {
 }
 
 /// The first of the ids that were taken.
+#[derive(Drop)]
 pub struct NewId;
 
 impl Reads<u32> for NewId {
@@ -69,6 +71,7 @@ impl Reads<u32> for NewId {
 }
 
 /// One entry.
+#[derive(Drop)]
 pub struct OneEntry;
 
 impl Reads<VlEntry> for OneEntry {
@@ -85,6 +88,7 @@ impl Reads<VlEntry> for OneEntry {
 }
 
 /// Entries of ascending ids above this one.
+#[derive(Drop)]
 pub struct Page {
     pub after: u32,
 }
@@ -105,6 +109,7 @@ impl Reads<Entries> for Page {
 }
 
 /// Addresses of servers.
+#[derive(Drop)]
 pub struct Addresses;
 
 impl Reads<Hosts> for Addresses {
