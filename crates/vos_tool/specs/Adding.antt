@@ -24,10 +24,13 @@ new_entry name place id = record {
   sites = record { host = place.host; partition = place.partition; flags = READ_WRITE } ∷ [];
 }
 
+abbrev pub added_text : List ℕ → ℕ → List ℕ
+added_text name id = joined (joined (codes "Added entry " ∷ name ∷ []) ∷ codes " with id " ∷ decimal id ∷ line_end ∷ [])
+
 unfoldable pub makes : List ℕ → Place → ℕ → Course (List ℕ)
 makes name place id = do
   done ← asks_done (call.CreateEntry (new_entry name place id))
-  gives (joined (codes "Added entry " ∷ name ∷ codes " with id " ∷ decimal id ∷ line_end ∷ []))
+  gives (added_text name id)
 
 abbrev pub makes_of : List ℕ → Place → Option ℕ → Course (List ℕ)
 makes_of name place (Some id) = makes name place id

@@ -15,10 +15,16 @@ listaddrs_text = do
   hosts ← asks_hosts call.GetAddrs
   gives (flat_map address_line hosts)
 
+abbrev pub moved_text : ℕ → ℕ → List ℕ
+moved_text from to = joined (codes "Changed address " ∷ dotted from ∷ codes " to " ∷ dotted to ∷ line_end ∷ [])
+
+abbrev pub gone_text : ℕ → List ℕ
+gone_text from = joined (codes "Removed address " ∷ dotted from ∷ line_end ∷ [])
+
 abbrev pub changeaddr_text : ℕ → Option ℕ → Course (List ℕ)
 changeaddr_text from (Some to) = do
   done ← asks_done (call.ChangeAddr from to)
-  gives (joined (codes "Changed address " ∷ dotted from ∷ codes " to " ∷ dotted to ∷ line_end ∷ []))
+  gives (moved_text from to)
 changeaddr_text from None = do
   done ← asks_done (call.ChangeAddr from 0)
-  gives (joined (codes "Removed address " ∷ dotted from ∷ line_end ∷ []))
+  gives (gone_text from)

@@ -13,7 +13,7 @@ use Rattle.tool_base.specs.declared.stops.Stop.TheVariants.{Refused, NoServer, O
 use Rattle.vos_tool.specs.Asking.{asks_done, asks_entry}
 use Rattle.vos_tool.specs.Locking.{releases_lock, sets_lock}
 use Rattle.vos_tool.specs.Sites.{changed_sites}
-use Rattle.vos_tool.specs.Texts.{line_end, place_text}
+use Rattle.vos_tool.specs.Texts.{place_text, volume_line}
 use Rattle.vos_tool.specs.Volumes.{any_type, volume_id}
 use Rattle.vos_tool.specs.declared.locks.TheConstants.{WHOLE_LOCK}
 use Rattle.vos_tool.specs.declared.places.Place.{Place}
@@ -81,8 +81,11 @@ change_label Add = codes "Added replication site "
 change_label Remove = codes "Removed replication site "
 change_label Move = codes "Changed location to "
 
+abbrev pub changed_text : SiteChange → Place → List ℕ → List ℕ
+changed_text change place word = volume_line (joined (change_label change ∷ place_text place ∷ codes " for volume " ∷ [])) word
+
 unfoldable pub change_text : SiteChange → Place → List ℕ → Course (List ℕ)
 change_text change place word = do
   id ← volume_id word
   done ← changes_sites change place id
-  gives (joined (change_label change ∷ place_text place ∷ codes " for volume " ∷ word ∷ line_end ∷ []))
+  gives (changed_text change place word)

@@ -5,6 +5,7 @@ pub mod Asking
 pub mod Changing
 pub mod Command
 pub mod Deleting
+pub mod Each
 pub mod Listing
 pub mod Locking
 pub mod Ordering

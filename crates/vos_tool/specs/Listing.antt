@@ -1,5 +1,5 @@
 -- `listvldb`, `unlockvldb`: entries, read in pages.
-use Rattle.std.specs.Prelude.{ℕ, zero, suc, ℤ, ◌^◌, nat_lt, Bool, true, false, if◌then◌else◌, List, [], ◌∷◌, ◌++◌, length, codes, Option, Some, None}
+use Rattle.std.specs.Prelude.{ℕ, zero, suc, ◌-◌, ◌^◌, nat_lt, Bool, true, false, if◌then◌else◌, List, [], ◌∷◌, ◌++◌, length, codes, Option, Some, None, option_map, slice_get, unwrap_or}
 use Rattle.std.specs.Fmt.{decimal}
 use Rattle.std.specs.List.{flat_map}
 use Rattle.vl_calls.specs.declared.calls.VlCall.{VlCall}
@@ -9,6 +9,7 @@ use Rattle.vldb_records.specs.declared.entries.VlEntry.{VlEntry}
 use Rattle.tool_base.specs.Course.{◌>>=◌, Course, gives}
 use Rattle.tool_base.specs.Texts.{joined}
 use Rattle.vos_tool.specs.Asking.{asks_page}
+use Rattle.vos_tool.specs.Each.{each}
 use Rattle.vos_tool.specs.Locking.{releases_lock}
 use Rattle.vos_tool.specs.Ordering.{by_name}
 use Rattle.vos_tool.specs.Texts.{entry_text, line_end}
@@ -21,8 +22,7 @@ page_call filter after = call.ListAttributes after filter.host filter.partition 
 
 -- the last id of a page, or what was before it
 abbrev pub last_id : ℕ → List VlEntry → ℕ
-last_id after [] = after
-last_id after (e ∷ es) = last_id e.rw es
+last_id after es = unwrap_or (option_map (λ e. e.rw) (slice_get es (length es - 1))) after
 
 -- The entries behind those that were found, in at most so many pages; a page that is not full is the last.
 unfoldable pub pages : ℕ → Filter → ℕ → List VlEntry → Course (List VlEntry)
@@ -62,11 +62,13 @@ listvldb_text None filter style = listing_text filter style
 
 -- one after the other
 abbrev pub releases_each : List VlEntry → Course (Unit {0})
-releases_each [] = gives tt
-releases_each (e ∷ es) = releases_lock e.rw >>= λ done. releases_each es
+releases_each es = each (λ e. releases_lock e.rw) es
+
+abbrev pub released_text : ℕ → List ℕ
+released_text count = joined (codes "Locks released: " ∷ decimal count ∷ line_end ∷ [])
 
 unfoldable pub unlockvldb_text : Filter → Course (List ℕ)
 unlockvldb_text filter = do
   es ← entries_of filter
   done ← releases_each es
-  gives (joined (codes "Locks released: " ∷ decimal (length es) ∷ line_end ∷ []))
+  gives (released_text (length es))

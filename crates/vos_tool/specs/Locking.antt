@@ -1,10 +1,9 @@
 -- `lock`, `unlock`.
-use Rattle.std.specs.Prelude.{ℕ, List, [], ◌∷◌, codes}
+use Rattle.std.specs.Prelude.{ℕ, List, codes}
 use Rattle.vl_calls.specs.declared.calls.VlCall.TheVariants as call
 use Rattle.tool_base.specs.Course.{◌>>=◌, Course, gives}
-use Rattle.tool_base.specs.Texts.{joined}
 use Rattle.vos_tool.specs.Asking.{asks_done}
-use Rattle.vos_tool.specs.Texts.{line_end}
+use Rattle.vos_tool.specs.Texts.{volume_line}
 use Rattle.vos_tool.specs.Volumes.{any_type, volume_id}
 use Rattle.vos_tool.specs.declared.locks.TheConstants.{LOCK_SITES, WHOLE_LOCK}
 
@@ -18,10 +17,10 @@ unfoldable pub lock_text : List ℕ → Course (List ℕ)
 lock_text word = do
   id ← volume_id word
   done ← sets_lock id
-  gives (joined (codes "Locked VLDB entry for volume " ∷ word ∷ line_end ∷ []))
+  gives (volume_line (codes "Locked VLDB entry for volume ") word)
 
 unfoldable pub unlock_text : List ℕ → Course (List ℕ)
 unlock_text word = do
   id ← volume_id word
   done ← releases_lock id
-  gives (joined (codes "Released lock on vldb entry for volume " ∷ word ∷ line_end ∷ []))
+  gives (volume_line (codes "Released lock on vldb entry for volume ") word)

@@ -17,10 +17,14 @@ dotted host =
 
 -- the letters of a partition, 0 to 255: one for the first 26, then two
 abbrev pub letters : ℕ → List ℕ
-letters n = if nat_lt n 26 then 97 + n ∷ [] else 97 + (n - 26) / 26 ∷ 97 + (n - 26) % 26 ∷ []
+letters n = if nat_lt n 26 then (97 + n) ∷ [] else (97 + (n - 26) / 26) ∷ (97 + (n - 26) % 26) ∷ []
 
 unfoldable pub partition_text : ℕ → List ℕ
 partition_text partition = codes "/vicep" ++ letters (min partition 255)
+
+-- what is told of a volume
+abbrev pub volume_line : (told word : List ℕ) → List ℕ
+volume_line told word = joined (told ∷ word ∷ line_end ∷ [])
 
 -- a server and its partition
 unfoldable pub place_text : Place → List ℕ
@@ -65,8 +69,7 @@ lock_mark operation = if operation == 0 then [] else codes "    Volume is curren
 -- an entry as it is listed
 unfoldable pub entry_text : VlEntry → List ℕ
 entry_text e = joined (
-    e.name
-    ∷ line_end
+    joined (e.name ∷ line_end ∷ [])
     ∷ ids_text e
     ∷ codes "    number of sites -> "
     ∷ decimal (length e.sites)

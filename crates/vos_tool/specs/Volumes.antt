@@ -6,7 +6,7 @@ use Rattle.vldb_records.specs.declared.entries.VlEntry.{VlEntry}
 use Rattle.tool_base.specs.Course.{◌>>=◌, Course, gives, stops}
 use Rattle.tool_base.specs.declared.stops.Refusal.TheVariants.{Malformed}
 use Rattle.tool_base.specs.declared.stops.Stop.TheVariants.{Refused}
-use Rattle.afs_words.specs.declared.forms.TheConstants.{MAX_NAME as MAX_WORD}
+use Rattle.call_grammar.specs.declared.limits.TheConstants.{MAX_TEXT}
 use Rattle.vos_tool.specs.Asking.{asks_entry}
 
 -- the type of a volume that any of an entry's three ids fits
@@ -19,7 +19,7 @@ id_of word = number_within 0 4294967295 word
 
 -- a name that is too long for a call is refused as its bytes would be
 abbrev pub if_callable : {A : Type 0} → List ℕ → Course A → Course A
-if_callable name course = if nat_le (length name) MAX_WORD then course else stops (Refused Malformed)
+if_callable name course = if nat_le (length name) MAX_TEXT then course else stops (Refused Malformed)
 
 unfoldable pub entry_named : List ℕ → Course VlEntry
 entry_named name = if_callable name (asks_entry (call.GetEntryByName name))

@@ -1,12 +1,12 @@
 //! `addentry`.
-ghost use Rattle.std.specs.Prelude.{◌≡◌, ◌≤◌, IfSome, length};
+ghost use Rattle.std.specs.Prelude.{◌≡◌, ◌≤◌, IfOk, IfSome, length};
 ghost use Rattle.tool_base.specs.Running.{Ran};
-ghost use Rattle.vos_tool.specs.Adding.{addentry_text, makes, makes_of, new_entry};
+ghost use Rattle.vos_tool.specs.Adding.{added_text, addentry_text, makes, makes_of, new_entry};
 
 use crate::answers::{Done, MAX_ID, NewId};
 use crate::asking::ask;
 use crate::places::{Place, READ_WRITE};
-use afs_words::MAX_NAME;
+use call_grammar::MAX_TEXT;
 use io_base::Link;
 use std::alloc::Global;
 use tool_base::{Client, Refusal, Stop, joined, number_text};
@@ -31,7 +31,7 @@ pub fn add_entry<L: Link>(
     requires { IfSome id (λ n. n ≤ MAX_ID) }
     ensures { Ran (addentry_text name.now place id) client.old client.new (L.exchanges link.old) (L.exchanges link.new) result }
 {
-    if name.len() > MAX_NAME {
+    if name.len() > MAX_TEXT as usize {
         return Err(Stop::Refused(Refusal::Malformed));
     }
     match id {
@@ -56,25 +56,27 @@ fn make<L: Link>(
     place: Place,
     id: u32,
 ) -> Result<Bytes, Stop>
-    requires name { length name.now ≤ MAX_NAME }
+    requires name { length name.now ≤ MAX_TEXT }
     requires id { id ≤ MAX_ID }
     ensures { Ran (makes name.now place id) client.old client.new (L.exchanges link.old) (L.exchanges link.new) result }
 {
     let alloc = client.alloc();
     let entry = new_entry(alloc, name, place, id)?;
     ask(client, link, &VlCall::CreateEntry { entry }, &Done)?;
-    let number = number_text(alloc, id)?;
-    let text = joined(
-        alloc,
-        &[
-            b"Added entry ",
-            name,
-            b" with id ",
-            number.as_bytes(),
-            b"\n",
-        ],
-    )?;
+    let text = added_text(alloc, name, id)?;
     Ok(text)
+}
+
+/// What is told of an entry that was made.
+fn added_text(alloc: Global, name: &[u8], id: u32) -> Result<Bytes, NoMemory>
+    ensures { IfOk result (λ text. text ≡ added_text name.now id) }
+{
+    let number = number_text(alloc, id)?;
+    let told = joined(alloc, &[b"Added entry ", name])?;
+    joined(
+        alloc,
+        &[told.as_slice(), b" with id ", number.as_bytes(), b"\n"],
+    )
 }
 
 /// An entry with three ids from this one on, and one read-write site.

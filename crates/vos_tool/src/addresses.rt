@@ -2,7 +2,7 @@
 ghost use Rattle.std.specs.Prelude.{◌≡◌, IfOk};
 ghost use Rattle.std.specs.List.{flat_map};
 ghost use Rattle.tool_base.specs.Running.{Ran};
-ghost use Rattle.vos_tool.specs.Addresses.{address_line, changeaddr_text, listaddrs_text};
+ghost use Rattle.vos_tool.specs.Addresses.{address_line, changeaddr_text, gone_text, listaddrs_text, moved_text};
 
 use crate::answers::{Addresses, Done};
 use crate::asking::ask;
@@ -57,10 +57,17 @@ fn replace_address<L: Link>(
     ensures { Ran (changeaddr_text from (Some to)) client.old client.new (L.exchanges link.old) (L.exchanges link.new) result }
 {
     ask(client, link, &VlCall::ChangeAddr { from, to }, &Done)?;
-    let alloc = client.alloc();
+    let text = moved_text(client.alloc(), from, to)?;
+    Ok(text)
+}
+
+/// What is told of a server that has another address.
+fn moved_text(alloc: Global, from: u32, to: u32) -> Result<Bytes, NoMemory>
+    ensures { IfOk result (λ text. text ≡ moved_text from to) }
+{
     let from = address_text(alloc, from)?;
     let to = address_text(alloc, to)?;
-    let text = joined(
+    joined(
         alloc,
         &[
             b"Changed address ",
@@ -69,8 +76,7 @@ fn replace_address<L: Link>(
             to.as_bytes(),
             b"\n",
         ],
-    )?;
-    Ok(text)
+    )
 }
 
 fn remove_address<L: Link>(
@@ -81,8 +87,14 @@ fn remove_address<L: Link>(
     ensures { Ran (changeaddr_text from None) client.old client.new (L.exchanges link.old) (L.exchanges link.new) result }
 {
     ask(client, link, &VlCall::ChangeAddr { from, to: 0 }, &Done)?;
-    let alloc = client.alloc();
-    let from = address_text(alloc, from)?;
-    let text = joined(alloc, &[b"Removed address ", from.as_bytes(), b"\n"])?;
+    let text = gone_text(client.alloc(), from)?;
     Ok(text)
+}
+
+/// What is told of an address that was taken away.
+fn gone_text(alloc: Global, from: u32) -> Result<Bytes, NoMemory>
+    ensures { IfOk result (λ text. text ≡ gone_text from) }
+{
+    let from = address_text(alloc, from)?;
+    joined(alloc, &[b"Removed address ", from.as_bytes(), b"\n"])
 }

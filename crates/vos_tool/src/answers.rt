@@ -3,7 +3,7 @@ ghost use Rattle.std.specs.Prelude.{◌≡◌, ℕ, List, [], Option, IfOk, IfSo
 ghost use Rattle.std.specs.List.{list_all};
 ghost use Rattle.vl_calls.specs.declared.answers.VlAnswer.{VlAnswer};
 ghost use Rattle.vldb_records.specs.declared.entries.VlEntry.{VlEntry};
-ghost use Rattle.vos_tool.specs.Answers.{IsAnyDone, IsEntry, IsId, IsPage, ascend, done_in, entry_in, hosts_in, id_in, is_entry, is_page, is_site, page_in};
+ghost use Rattle.vos_tool.specs.Answers.{IsAnyDone, IsEntry, IsId, IsPage, ascend, done_in, entry_in, hosts_in, id_in, if_good, is_entry, is_page, is_site, page_in};
 
 use std::alloc::Global;
 use ubik_types::NoMemory;
@@ -81,7 +81,7 @@ impl Reads<VlEntry> for OneEntry {
 
     fn read(&self, alloc: Global, bytes: &[u8]) -> Result<Option<VlEntry>, NoMemory> {
         match read_answer(alloc, CallKind::GetEntryById, bytes)? {
-            Some(VlAnswer::Entry(entry)) if is_entry(&entry) => Ok(Some(entry)),
+            Some(VlAnswer::Entry(entry)) => Ok(good_entry(entry)),
             _ => Ok(None),
         }
     }
@@ -100,9 +100,7 @@ impl Reads<Entries> for Page {
 
     fn read(&self, alloc: Global, bytes: &[u8]) -> Result<Option<Entries>, NoMemory> {
         match read_answer(alloc, CallKind::ListAttributes, bytes)? {
-            Some(VlAnswer::Entries(entries)) if is_page(self.after, entries.as_slice()) => {
-                Ok(Some(entries))
-            }
+            Some(VlAnswer::Entries(entries)) => Ok(good_page(self.after, entries)),
             _ => Ok(None),
         }
     }
@@ -122,6 +120,26 @@ impl Reads<Hosts> for Addresses {
             Some(VlAnswer::Hosts(hosts)) => Ok(Some(hosts)),
             _ => Ok(None),
         }
+    }
+}
+
+/// The entry, where the database may have it.
+fn good_entry(entry: VlEntry) -> Option<VlEntry>
+    ensures value { result ≡ if_good is_entry entry }
+    ensures limits { IfSome result IsEntry }
+{
+    if is_entry(&entry) { Some(entry) } else { None }
+}
+
+/// The entries, where they are a page behind an id.
+fn good_page(after: u32, entries: Entries) -> Option<Entries>
+    ensures value { result ≡ if_good (is_page after) entries }
+    ensures limits { IfSome result (IsPage after) }
+{
+    if is_page(after, entries.as_slice()) {
+        Some(entries)
+    } else {
+        None
     }
 }
 

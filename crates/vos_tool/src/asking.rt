@@ -1,15 +1,15 @@
 //! Calls, asked of one host after the other.
-ghost use Rattle.std.specs.Prelude.{◌≡◌, ◌≢◌, IfOk, IfSome, IsOk, Err};
+ghost use Rattle.std.specs.Prelude.{◌≡◌, ◌≢◌, ◌≤◌, IfOk, IfSome, length};
 ghost use Rattle.tool_base.specs.Asking.{asks_call};
-ghost use Rattle.tool_base.specs.Hearing.{after_silence, taken, verdict};
+ghost use Rattle.tool_base.specs.Hearing.{verdict};
 ghost use Rattle.tool_base.specs.Running.{Ran};
-ghost use Rattle.vl_calls.specs.Calls.{HasSpelling, call_kind, spelling};
-ghost use Rattle.vos_tool.specs.Asking.{asks, asks_done, asks_entry, asks_hosts, asks_id, asks_page, writes};
+ghost use Rattle.vl_calls.specs.Calls.{HasSpelling};
+ghost use Rattle.vos_tool.specs.Asking.{asks, writes};
 
 use crate::answers::Reads;
 use io_base::Link;
 use std::alloc::Global;
-use tool_base::{Client, Heard, Stop, after_silence};
+use tool_base::{Client, Heard, MAX_CALL, Stop, after_silence};
 use ubik_types::Bytes;
 use vl_calls::{CallKind, VlCall, spell_call};
 
@@ -63,11 +63,14 @@ fn ask_bytes<L: Link, A: Drop, R: Reads<A>>(
     let alloc = client.alloc();
     client.count();
     let frame = client.frame(call)?;
+    let sent = frame.as_slice();
     let mut reply = Vec::new(alloc);
-    for host in client.hosts() {
-        let heard = client.hear(link, *host, frame.as_slice(), &mut reply)?;
-        if let Some(answer) = settled(alloc, writes, heard, reader)? {
-            return Ok(answer);
+    let hosts = client.hosts();
+    for host in hosts {
+        let heard = client.hear(link, *host, sent, &mut reply)?;
+        match settled(alloc, writes, heard, reader)? {
+            Some(answer) => return Ok(answer),
+            None => {}
         }
     }
     Err(Stop::NoServer)

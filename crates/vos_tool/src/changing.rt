@@ -1,19 +1,22 @@
 //! `addsite`, `remsite`, `changeloc`.
-ghost use Rattle.std.specs.Prelude.{◌≡◌, ◌≤◌, length};
+ghost use Rattle.std.specs.Prelude.{◌≡◌, IfOk};
 ghost use Rattle.tool_base.specs.Running.{Ran};
 ghost use Rattle.vos_tool.specs.Answers.{IsEntry};
-ghost use Rattle.vos_tool.specs.Changing.{change_label, change_text, changes_sites, entry_with, gives_up, replaces, replaces_if};
+ghost use Rattle.vl_calls.specs.Entries.{IsGiven};
+ghost use Rattle.vos_tool.specs.Changing.{change_label, change_text, changed_text, changes_sites, gives_up, replaces, replaces_if};
+ghost use Rattle.vos_tool.specs.Sites.{changed_sites};
 
 use crate::answers::{Done, OneEntry};
 use crate::asking::ask;
 use crate::locks::{WHOLE_LOCK, release_lock, set_lock};
 use crate::places::Place;
 use crate::sites::{NO_SUCH_SITE, SiteChange, changed_sites};
-use crate::texts::place_text;
+use crate::texts::{place_text, volume_line};
 use crate::volumes::{ANY_TYPE, volume_id};
 use io_base::Link;
+use std::alloc::Global;
 use tool_base::{Client, Refusal, Stop, joined};
-use ubik_types::Bytes;
+use ubik_types::{Bytes, NoMemory};
 use vl_calls::{GivenEntry, VlCall};
 use vldb_records::VlEntry;
 
@@ -29,19 +32,22 @@ pub fn change<L: Link>(
 {
     let id = volume_id(client, link, word)?;
     change_sites(client, link, change, place, id)?;
-    let alloc = client.alloc();
-    let at = place_text(alloc, place)?;
-    let text = joined(
-        alloc,
-        &[
-            change.label(),
-            at.as_slice(),
-            b" for volume ",
-            word,
-            b"\n",
-        ],
-    )?;
+    let text = changed_text(client.alloc(), change, place, word)?;
     Ok(text)
+}
+
+/// What is told of an entry whose sites changed.
+fn changed_text(
+    alloc: Global,
+    change: SiteChange,
+    place: Place,
+    word: &[u8],
+) -> Result<Bytes, NoMemory>
+    ensures { IfOk result (λ text. text ≡ changed_text change place word.now) }
+{
+    let at = place_text(alloc, place)?;
+    let told = joined(alloc, &[change.label(), at.as_slice(), b" for volume "])?;
+    volume_line(alloc, told.as_slice(), word)
 }
 
 impl SiteChange {

@@ -4,6 +4,7 @@ ghost use Rattle.disk_base.specs.Count.{HasCause};
 ghost use Rattle.afs_words.specs.Command.{Command};
 ghost use Rattle.tool_base.specs.Ending.{Commanded};
 ghost use Rattle.tool_base.specs.Running.{Ran, ToldSome};
+ghost use Rattle.vos_tool.specs.Changing.{change_text};
 ghost use Rattle.vos_tool.specs.Command.{address_at, any_partition, asker, filter_at, flag_at, partition_at, place_at, style_at, text_by, value_at, values_at, vos_course, vos_text, word_at};
 
 use crate::adding::add_entry;

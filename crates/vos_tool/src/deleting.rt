@@ -1,7 +1,7 @@
 //! `delentry`.
-ghost use Rattle.std.specs.Prelude.{◌≡◌, length};
+ghost use Rattle.std.specs.Prelude.{◌≡◌, IfOk};
 ghost use Rattle.tool_base.specs.Running.{Ran};
-ghost use Rattle.vos_tool.specs.Deleting.{deletes, deletes_each, delentry_text};
+ghost use Rattle.vos_tool.specs.Deleting.{deleted_text, deletes, deletes_each, delentry_text};
 
 use crate::answers::Done;
 use crate::asking::ask;
@@ -9,8 +9,9 @@ use crate::texts::count_text;
 use crate::volumes::{ANY_TYPE, volume_id};
 use afs_words::Word;
 use io_base::Link;
+use std::alloc::Global;
 use tool_base::{Client, Stop, joined};
-use ubik_types::Bytes;
+use ubik_types::{Bytes, NoMemory};
 use vl_calls::VlCall;
 
 /// `delentry`: the text, once the entries of these volumes are deleted, one after the other.
@@ -22,13 +23,19 @@ pub fn delete_entries<L: Link>(
     ensures { Ran (delentry_text words.now) client.old client.new (L.exchanges link.old) (L.exchanges link.new) result }
 {
     delete_each(client, link, words)?;
-    let alloc = client.alloc();
-    let count = count_text(alloc, words.len())?;
-    let text = joined(
+    let text = deleted_text(client.alloc(), words.len())?;
+    Ok(text)
+}
+
+/// What is told of entries that were deleted.
+fn deleted_text(alloc: Global, count: usize) -> Result<Bytes, NoMemory>
+    ensures { IfOk result (λ text. text ≡ deleted_text count) }
+{
+    let count = count_text(alloc, count)?;
+    joined(
         alloc,
         &[b"Deleted ", count.as_bytes(), b" VLDB entries", b"\n"],
-    )?;
-    Ok(text)
+    )
 }
 
 fn delete_each<L: Link>(

@@ -1,7 +1,7 @@
 //! `listvldb`, `unlockvldb`.
-ghost use Rattle.std.specs.Prelude.{◌≡◌, IfOk, option_map, length};
+ghost use Rattle.std.specs.Prelude.{◌≡◌, IfOk, option_map};
 ghost use Rattle.tool_base.specs.Running.{Ran};
-ghost use Rattle.vos_tool.specs.Listing.{entries_text, in_order, listing_text, listvldb_text, one_text, releases_each, total_text, unlockvldb_text};
+ghost use Rattle.vos_tool.specs.Listing.{entries_text, in_order, listing_text, listvldb_text, one_text, released_text, releases_each, total_text, unlockvldb_text};
 
 use crate::locks::release_lock;
 use crate::ordering::by_name;
@@ -12,6 +12,7 @@ use io_base::Link;
 use std::alloc::Global;
 use tool_base::{Client, Stop, joined};
 use ubik_types::{Bytes, NoMemory};
+use vl_calls::Entries;
 use vldb_records::VlEntry;
 
 /// Which entries are listed: those that have a site of this host (0 for any) on this partition (-1 for any), and of
@@ -68,11 +69,11 @@ fn list_all<L: Link>(
 }
 
 /// The entries as they are listed.
-fn entries_text(alloc: Global, style: Style, entries: Vec<VlEntry>) -> Result<Bytes, NoMemory>
-    ensures { IfOk result (λ text. text ≡ entries_text style entries.items) }
+fn entries_text(alloc: Global, style: Style, entries: Entries) -> Result<Bytes, NoMemory>
+    ensures { IfOk result (λ text. text ≡ entries_text style entries) }
 {
-    let total = total_text(alloc, style, entries.len())?;
-    let entries = in_order(style, entries)?;
+    let total = total_text(alloc, style, entries.as_slice().len())?;
+    let entries = in_order(alloc, style, entries.into_vec())?;
     let mut text = Vec::new(alloc);
     for entry in &entries {
         text.extend_from_slice(entry_text(alloc, entry)?.as_slice())?;
@@ -81,13 +82,13 @@ fn entries_text(alloc: Global, style: Style, entries: Vec<VlEntry>) -> Result<By
     Ok(Bytes::new(text))
 }
 
-fn in_order(style: Style, entries: Vec<VlEntry>) -> Result<Vec<VlEntry>, NoMemory>
+fn in_order(alloc: Global, style: Style, entries: Vec<VlEntry>) -> Result<Vec<VlEntry>, NoMemory>
     ensures { IfOk result (λ ordered. ordered.items ≡ in_order style entries.items) }
 {
     if style.unsorted {
         Ok(entries)
     } else {
-        by_name(entries)
+        by_name(alloc, entries)
     }
 }
 
@@ -111,11 +112,17 @@ pub fn unlock_all<L: Link>(
     ensures { Ran (unlockvldb_text filter) client.old client.new (L.exchanges link.old) (L.exchanges link.new) result }
 {
     let entries = entries_of(client, link, filter)?;
-    release_each(client, link, &entries)?;
-    let alloc = client.alloc();
-    let count = count_text(alloc, entries.len())?;
-    let text = joined(alloc, &[b"Locks released: ", count.as_bytes(), b"\n"])?;
+    release_each(client, link, entries.as_slice())?;
+    let text = released_text(client.alloc(), entries.as_slice().len())?;
     Ok(text)
+}
+
+/// What is told of locks that were released.
+fn released_text(alloc: Global, count: usize) -> Result<Bytes, NoMemory>
+    ensures { IfOk result (λ text. text ≡ released_text count) }
+{
+    let count = count_text(alloc, count)?;
+    joined(alloc, &[b"Locks released: ", count.as_bytes(), b"\n"])
 }
 
 fn release_each<L: Link>(

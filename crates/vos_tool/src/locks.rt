@@ -5,9 +5,10 @@ ghost use Rattle.vos_tool.specs.Locking.{lock_text, releases_lock, sets_lock, un
 
 use crate::answers::Done;
 use crate::asking::ask;
+use crate::texts::volume_line;
 use crate::volumes::{ANY_TYPE, volume_id};
 use io_base::Link;
-use tool_base::{Client, Stop, joined};
+use tool_base::{Client, Stop};
 use ubik_types::Bytes;
 use vl_calls::VlCall;
 
@@ -47,10 +48,7 @@ pub fn lock<L: Link>(client: &mut Client<'_>, link: &mut L, word: &[u8]) -> Resu
 {
     let id = volume_id(client, link, word)?;
     set_lock(client, link, id)?;
-    let text = joined(
-        client.alloc(),
-        &[b"Locked VLDB entry for volume ", word, b"\n"],
-    )?;
+    let text = volume_line(client.alloc(), b"Locked VLDB entry for volume ", word)?;
     Ok(text)
 }
 
@@ -60,9 +58,6 @@ pub fn unlock<L: Link>(client: &mut Client<'_>, link: &mut L, word: &[u8]) -> Re
 {
     let id = volume_id(client, link, word)?;
     release_lock(client, link, id)?;
-    let text = joined(
-        client.alloc(),
-        &[b"Released lock on vldb entry for volume ", word, b"\n"],
-    )?;
+    let text = volume_line(client.alloc(), b"Released lock on vldb entry for volume ", word)?;
     Ok(text)
 }

@@ -1,5 +1,5 @@
 //! Entries of a listing, read in pages.
-ghost use Rattle.std.specs.Prelude.{◌≡◌, ◌++◌, IfOk, OnOk, length};
+ghost use Rattle.std.specs.Prelude.{◌≡◌, IfOk};
 ghost use Rattle.tool_base.specs.Running.{Ran};
 ghost use Rattle.vos_tool.specs.Answers.{IsPage};
 ghost use Rattle.vos_tool.specs.Listing.{entries_of, last_id, page_call};
@@ -8,10 +8,11 @@ ghost use Rattle.vos_tool.specs.Asking.{asks_page};
 use crate::answers::Page;
 use crate::asking::ask;
 use crate::listing::Filter;
+use call_grammar::Items;
 use io_base::Link;
 use tool_base::{Client, Stop};
 use ubik_types::NoMemory;
-use vl_calls::{MAX_PAGE, VlCall};
+use vl_calls::{Entries, MAX_PAGE, VlCall};
 use vldb_records::VlEntry;
 
 /// All entries that a filter lets through.
@@ -19,18 +20,18 @@ pub fn entries_of<L: Link>(
     client: &mut Client<'_>,
     link: &mut L,
     filter: Filter,
-) -> Result<Vec<VlEntry>, Stop>
+) -> Result<Entries, Stop>
     ensures { Ran (entries_of filter) client.old client.new (L.exchanges link.old) (L.exchanges link.new) result }
 {
     let mut found = Vec::new(client.alloc());
     let mut after = 0;
     loop {
-        let mut page = page_behind(client, link, filter, after)?;
+        let mut page = page_behind(client, link, filter, after)?.into_vec();
         let is_last = page.len() < MAX_PAGE as usize;
         after = last_id(after, &page);
         found.append(&mut page).map_err(NoMemory::from)?;
         if is_last {
-            return Ok(found);
+            return Ok(Items::new(found));
         }
     }
 }
@@ -41,9 +42,9 @@ fn page_behind<L: Link>(
     link: &mut L,
     filter: Filter,
     after: u32,
-) -> Result<Vec<VlEntry>, Stop>
+) -> Result<Entries, Stop>
     ensures ran { Ran (asks_page after (page_call filter after)) client.old client.new (L.exchanges link.old) (L.exchanges link.new) result }
-    ensures limits { IfOk result (λ page. IsPage after page) }
+    ensures limits { IfOk result (IsPage after) }
 {
     let call = VlCall::ListAttributes {
         after,
@@ -51,8 +52,7 @@ fn page_behind<L: Link>(
         partition: filter.partition,
         locked: filter.locked,
     };
-    let page = ask(client, link, &call, &Page { after })?;
-    Ok(page.into_vec())
+    ask(client, link, &call, &Page { after })
 }
 
 /// The last id of a page, or what was before it.

@@ -3,7 +3,7 @@ ghost use Rattle.std.specs.Prelude.{◌≡◌, ◌++◌, IfOk, OnOk, length};
 ghost use Rattle.std.specs.Fmt.{decimal};
 ghost use Rattle.std.specs.List.{flat_map};
 ghost use Rattle.std.specs.String.{string_bytes};
-ghost use Rattle.vos_tool.specs.Texts.{dotted, entry_text, has_flag, id_text, ids_text, letters, lock_mark, new_mark, partition_text, place_text, site_kind, site_text};
+ghost use Rattle.vos_tool.specs.Texts.{dotted, entry_text, has_flag, id_text, ids_text, letters, lock_mark, new_mark, partition_text, place_text, site_kind, site_text, volume_line};
 
 use crate::places::{Place, READ_ONLY, READ_WRITE};
 use std::alloc::Global;
@@ -74,6 +74,16 @@ pub fn place_text(alloc: Global, place: Place) -> Result<Bytes, NoMemory>
     let host = address_text(alloc, place.host)?;
     let partition = partition_text(alloc, place.partition)?;
     joined(alloc, &[host.as_bytes(), b" ", partition.as_slice()])
+}
+
+/// What is told of a volume, which stands behind it.
+pub fn volume_line(alloc: Global, told: &[u8], word: &[u8]) -> Result<Bytes, NoMemory>
+    ensures { IfOk result (λ text. text ≡ volume_line told.now word.now) }
+{
+    let mut text = told.to_vec(alloc)?;
+    text.extend_from_slice(word)?;
+    text.push(b'\n')?;
+    Ok(Bytes::new(text))
 }
 
 /// Whether a word of flags has one.
@@ -200,14 +210,14 @@ fn lock_mark(operation: u32) -> &'static [u8]
 pub fn entry_text(alloc: Global, entry: &VlEntry) -> Result<Bytes, NoMemory>
     ensures { IfOk result (λ text. text ≡ entry_text entry.now) }
 {
+    let name = joined(alloc, &[entry.name.as_slice(), b"\n"])?;
     let ids = ids_text(alloc, entry)?;
     let count = count_text(alloc, entry.sites.as_slice().len())?;
     let sites = sites_text(alloc, entry.sites.as_slice())?;
     joined(
         alloc,
         &[
-            entry.name.as_slice(),
-            b"\n",
+            name.as_slice(),
             ids.as_slice(),
             b"    number of sites -> ",
             count.as_bytes(),

@@ -6,7 +6,7 @@ ghost use Rattle.vos_tool.specs.Volumes.{entry_named, id_of, volume_entry, volum
 
 use crate::answers::OneEntry;
 use crate::asking::ask;
-use afs_words::MAX_NAME;
+use call_grammar::MAX_TEXT;
 use io_base::Link;
 use script_words::number_within;
 use tool_base::{Client, Refusal, Stop};
@@ -69,7 +69,7 @@ fn entry_named<L: Link>(
 ) -> Result<VlEntry, Stop>
     ensures { Ran (entry_named name.now) client.old client.new (L.exchanges link.old) (L.exchanges link.new) result }
 {
-    if name.len() > MAX_NAME {
+    if name.len() > MAX_TEXT as usize {
         return Err(Stop::Refused(Refusal::Malformed));
     }
     let name = bytes_of(client.alloc(), name)?;
