@@ -40,10 +40,17 @@ address_at command place = option_and_then address_of (value_at command place)
 abbrev pub partition_at : Command → ℕ → Option ℕ
 partition_at command place = option_and_then partition_of (value_at command place)
 
+-- an address that has to be, and an id that may be
+abbrev pub host_at : Command → ℕ → ℕ
+host_at command place = unwrap_or (address_at command place) 0
+
+abbrev pub new_id_at : Command → ℕ → Option ℕ
+new_id_at command place = option_and_then (number_within 1 MAX_NEW_ID) (value_at command place)
+
 -- a server and its partition, at the first of these two places and behind it
 abbrev pub place_at : Command → ℕ → ℕ → Place
 place_at command server partition =
-    record { host = unwrap_or (address_at command server) 0; partition = unwrap_or (partition_at command partition) 0 }
+    record { host = host_at command server; partition = unwrap_or (partition_at command partition) 0 }
 
 -- any partition where none is given
 abbrev pub any_partition : Option ℕ → ℤ
@@ -52,7 +59,7 @@ any_partition None = negsuc 0
 
 abbrev pub filter_at : Command → ℕ → ℕ → Bool → Filter
 filter_at command server partition locked = record {
-  host = unwrap_or (address_at command server) 0;
+  host = host_at command server;
   partition = any_partition (partition_at command partition);
   locked = locked;
 }
@@ -62,7 +69,7 @@ style_at command = record { quiet = flag_at command 4; unsorted = flag_at comman
 
 -- the text of a command; words of another tool ask and write nothing
 abbrev pub text_by : Operation → Command → Course (List ℕ)
-text_by AddEntry c = addentry_text (word_at c 0) (place_at c 1 2) (option_and_then (number_within 1 MAX_NEW_ID) (value_at c 3))
+text_by AddEntry c = addentry_text (word_at c 0) (place_at c 1 2) (new_id_at c 3)
 text_by ListVldb c = listvldb_text (value_at c 0) (filter_at c 1 2 (flag_at c 3)) (style_at c)
 text_by Lock c = lock_text (word_at c 0)
 text_by Unlock c = unlock_text (word_at c 0)
@@ -72,7 +79,7 @@ text_by AddSite c = change_text Add (place_at c 0 1) (word_at c 2)
 text_by RemSite c = change_text Remove (place_at c 0 1) (word_at c 2)
 text_by ChangeLoc c = change_text Move (place_at c 0 1) (word_at c 2)
 text_by ListAddrs c = listaddrs_text
-text_by ChangeAddr c = changeaddr_text (unwrap_or (address_at c 0) 0) (address_at c 1)
+text_by ChangeAddr c = changeaddr_text (host_at c 0) (address_at c 1)
 text_by _ c = gives []
 
 unfoldable pub vos_text : Command → Course (List ℕ)

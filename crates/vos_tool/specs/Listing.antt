@@ -1,5 +1,5 @@
 -- `listvldb`, `unlockvldb`: entries, read in pages.
-use Rattle.std.specs.Prelude.{ℕ, zero, suc, ◌-◌, ◌^◌, nat_lt, Bool, true, false, if◌then◌else◌, List, [], ◌∷◌, ◌++◌, length, codes, Option, Some, None, option_map, slice_get, unwrap_or}
+use Rattle.std.specs.Prelude.{ℕ, zero, suc, ◌^◌, nat_lt, Bool, true, false, if◌then◌else◌, List, [], ◌∷◌, ◌++◌, length, codes, Option, Some, None, fold}
 use Rattle.std.specs.Fmt.{decimal}
 use Rattle.std.specs.List.{flat_map}
 use Rattle.vl_calls.specs.declared.calls.VlCall.{VlCall}
@@ -22,7 +22,7 @@ page_call filter after = call.ListAttributes after filter.host filter.partition 
 
 -- the last id of a page, or what was before it
 abbrev pub last_id : ℕ → List VlEntry → ℕ
-last_id after es = unwrap_or (option_map (λ e. e.rw) (slice_get es (length es - 1))) after
+last_id after es = fold (λ last e. e.rw) after es
 
 -- The entries behind those that were found, in at most so many pages; a page that is not full is the last.
 unfoldable pub pages : ℕ → Filter → ℕ → List VlEntry → Course (List VlEntry)

@@ -138,8 +138,11 @@ fn replace<L: Link>(
         mask: WHOLE_LOCK,
     };
     match ask(client, link, &call, &Done) {
-        Err(Stop::Refused(why)) => give_up(client, link, id, why),
-        end => end,
+        Ok(()) => Ok(()),
+        Err(stop) => match stop {
+            Stop::Refused(why) => give_up(client, link, id, why),
+            _ => Err(stop),
+        },
     }
 }
 
@@ -153,7 +156,10 @@ fn give_up<L: Link>(
     ensures { Ran (gives_up id why) client.old client.new (L.exchanges link.old) (L.exchanges link.new) result }
 {
     match release_lock(client, link, id) {
-        Err(Stop::NoMemory) => Err(Stop::NoMemory),
-        _ => Err(Stop::Refused(why)),
+        Ok(()) => Err(Stop::Refused(why)),
+        Err(stop) => match stop {
+            Stop::NoMemory => Err(Stop::NoMemory),
+            _ => Err(Stop::Refused(why)),
+        },
     }
 }

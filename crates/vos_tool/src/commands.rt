@@ -1,17 +1,19 @@
 //! A command of `vos`, from its words to its end.
-ghost use Rattle.std.specs.Prelude.{◌≡◌, ◌+◌, codes, option_map, slice_get, map, true};
+ghost use Rattle.std.specs.Prelude.{◌≡◌, ◌≤◌, ◌+◌, IfSome, codes, option_map, true};
 ghost use Rattle.disk_base.specs.Count.{HasCause};
-ghost use Rattle.afs_words.specs.Command.{Command};
 ghost use Rattle.tool_base.specs.Ending.{Commanded};
 ghost use Rattle.tool_base.specs.Running.{Ran, ToldSome};
+ghost use Rattle.vos_tool.specs.Adding.{addentry_text};
+ghost use Rattle.vos_tool.specs.Addresses.{changeaddr_text};
 ghost use Rattle.vos_tool.specs.Changing.{change_text};
-ghost use Rattle.vos_tool.specs.Command.{address_at, any_partition, asker, filter_at, flag_at, partition_at, place_at, style_at, text_by, value_at, values_at, vos_course, vos_text, word_at};
+ghost use Rattle.vos_tool.specs.Command.{address_at, any_partition, asker, filter_at, flag_at, host_at, new_id_at, partition_at, place_at, style_at, value_at, values_at, vos_course, vos_text, word_at};
+ghost use Rattle.vos_tool.specs.Listing.{listvldb_text, unlockvldb_text};
 
 use crate::adding::add_entry;
 use crate::addresses::{change_address, list_addresses};
 use crate::changing::change;
 use crate::deleting::delete_entries;
-use crate::listing::{Filter, Style, list, unlock_all};
+use crate::listing::{Filter, Style, list_all, list_one, unlock_all};
 use crate::locks::{lock, unlock};
 use crate::places::Place;
 use crate::sites::SiteChange;
@@ -69,33 +71,69 @@ fn text_of<L: Link>(
 ) -> Result<Bytes, Stop>
     ensures { Ran (vos_text words.now) client.old client.new (L.exchanges link.old) (L.exchanges link.new) result }
 {
+    let first = word_at(words, 0);
+    let all = values_at(words, 0);
     match words.operation() {
-        Operation::AddEntry => {
-            let id = value_at(words, 3).and_then(|word| number_within(word, 1, MAX_NEW_ID));
-            add_entry(client, link, word_at(words, 0), place_at(words, 1, 2), id)
-        }
-        Operation::ListVldb => {
-            let filter = filter_at(words, 1, 2, flag_at(words, 3));
-            list(client, link, value_at(words, 0), filter, style_of(words))
-        }
-        Operation::Lock => lock(client, link, word_at(words, 0)),
-        Operation::Unlock => unlock(client, link, word_at(words, 0)),
-        Operation::UnlockVldb => unlock_all(client, link, filter_at(words, 0, 1, true)),
-        Operation::DelEntry => delete_entries(client, link, values_at(words, 0)),
-        Operation::AddSite => change_at(client, link, words, SiteChange::Add),
-        Operation::RemSite => change_at(client, link, words, SiteChange::Remove),
-        Operation::ChangeLoc => change_at(client, link, words, SiteChange::Move),
+        Operation::AddEntry => add_by(client, link, words),
+        Operation::ListVldb => list_by(client, link, words),
+        Operation::Lock => lock(client, link, first),
+        Operation::Unlock => unlock(client, link, first),
+        Operation::UnlockVldb => unlock_by(client, link, words),
+        Operation::DelEntry => delete_entries(client, link, all),
+        Operation::AddSite => change_by(client, link, words, SiteChange::Add),
+        Operation::RemSite => change_by(client, link, words, SiteChange::Remove),
+        Operation::ChangeLoc => change_by(client, link, words, SiteChange::Move),
         Operation::ListAddrs => list_addresses(client, link),
-        Operation::ChangeAddr => {
-            let from = address_at(words, 0).unwrap_or(0);
-            change_address(client, link, from, address_at(words, 1))
-        }
+        Operation::ChangeAddr => move_by(client, link, words),
         _ => Ok(Bytes::new(Vec::new(client.alloc()))),
     }
 }
 
+/// `addentry` with its words.
+fn add_by<L: Link>(
+    client: &mut Client<'_>,
+    link: &mut L,
+    words: &Words,
+) -> Result<Bytes, Stop>
+    ensures { Ran (addentry_text (word_at words.now 0) (place_at words.now 1 2) (new_id_at words.now 3)) client.old client.new (L.exchanges link.old) (L.exchanges link.new) result }
+{
+    let name = word_at(words, 0);
+    let place = place_at(words, 1, 2);
+    let id = new_id_at(words, 3);
+    add_entry(client, link, name, place, id)
+}
+
+/// `listvldb` with its words.
+fn list_by<L: Link>(
+    client: &mut Client<'_>,
+    link: &mut L,
+    words: &Words,
+) -> Result<Bytes, Stop>
+    ensures { Ran (listvldb_text (value_at words.now 0) (filter_at words.now 1 2 (flag_at words.now 3)) (style_at words.now)) client.old client.new (L.exchanges link.old) (L.exchanges link.new) result }
+{
+    let locked = flag_at(words, 3);
+    let filter = filter_at(words, 1, 2, locked);
+    let style = style_of(words);
+    match value_at(words, 0) {
+        Some(word) => list_one(client, link, word),
+        None => list_all(client, link, filter, style),
+    }
+}
+
+/// `unlockvldb` with its words.
+fn unlock_by<L: Link>(
+    client: &mut Client<'_>,
+    link: &mut L,
+    words: &Words,
+) -> Result<Bytes, Stop>
+    ensures { Ran (unlockvldb_text (filter_at words.now 0 1 true)) client.old client.new (L.exchanges link.old) (L.exchanges link.new) result }
+{
+    let filter = filter_at(words, 0, 1, true);
+    unlock_all(client, link, filter)
+}
+
 /// A change of sites, with the words of the three operations that have the same switches.
-fn change_at<L: Link>(
+fn change_by<L: Link>(
     client: &mut Client<'_>,
     link: &mut L,
     words: &Words,
@@ -103,7 +141,22 @@ fn change_at<L: Link>(
 ) -> Result<Bytes, Stop>
     ensures { Ran (change_text kind (place_at words.now 0 1) (word_at words.now 2)) client.old client.new (L.exchanges link.old) (L.exchanges link.new) result }
 {
-    change(client, link, kind, place_at(words, 0, 1), word_at(words, 2))
+    let place = place_at(words, 0, 1);
+    let word = word_at(words, 2);
+    change(client, link, kind, place, word)
+}
+
+/// `changeaddr` with its words.
+fn move_by<L: Link>(
+    client: &mut Client<'_>,
+    link: &mut L,
+    words: &Words,
+) -> Result<Bytes, Stop>
+    ensures { Ran (changeaddr_text (host_at words.now 0) (address_at words.now 1)) client.old client.new (L.exchanges link.old) (L.exchanges link.new) result }
+{
+    let from = host_at(words, 0);
+    let to = address_at(words, 1);
+    change_address(client, link, from, to)
 }
 
 /// The values of the switch at this place of the operation's table.
@@ -155,12 +208,27 @@ fn partition_at(words: &Words, place: usize) -> Option<u32>
     partition(value_at(words, place)?)
 }
 
+/// The address of a switch that has one.
+fn host_at(words: &Words, place: usize) -> u32
+    ensures { result ≡ host_at words.now place }
+{
+    address_at(words, place).unwrap_or(0)
+}
+
+/// The id of a volume that is made.
+fn new_id_at(words: &Words, place: usize) -> Option<u32>
+    ensures id { result ≡ new_id_at words.now place }
+    ensures limits { IfSome result (λ n. n ≤ MAX_NEW_ID) }
+{
+    number_within(value_at(words, place)?, 1, MAX_NEW_ID)
+}
+
 /// The server of one switch and its partition of another.
 fn place_at(words: &Words, server: usize, partition: usize) -> Place
     ensures { result ≡ place_at words.now server partition }
 {
     Place {
-        host: address_at(words, server).unwrap_or(0),
+        host: host_at(words, server),
         partition: partition_at(words, partition).unwrap_or(0),
     }
 }
@@ -170,7 +238,7 @@ fn filter_at(words: &Words, server: usize, partition: usize, locked: bool) -> Fi
     ensures { result ≡ filter_at words.now server partition locked }
 {
     Filter {
-        host: address_at(words, server).unwrap_or(0),
+        host: host_at(words, server),
         partition: any_partition(partition_at(words, partition)),
         locked,
     }

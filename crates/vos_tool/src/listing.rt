@@ -1,7 +1,7 @@
 //! `listvldb`, `unlockvldb`.
-ghost use Rattle.std.specs.Prelude.{◌≡◌, IfOk, option_map};
+ghost use Rattle.std.specs.Prelude.{◌≡◌, IfOk};
 ghost use Rattle.tool_base.specs.Running.{Ran};
-ghost use Rattle.vos_tool.specs.Listing.{entries_text, in_order, listing_text, listvldb_text, one_text, released_text, releases_each, total_text, unlockvldb_text};
+ghost use Rattle.vos_tool.specs.Listing.{entries_text, in_order, listing_text, one_text, released_text, releases_each, total_text, unlockvldb_text};
 
 use crate::locks::release_lock;
 use crate::ordering::by_name;
@@ -31,23 +31,8 @@ pub struct Style {
     pub unsorted: bool,
 }
 
-/// `listvldb`: the entry of a volume, or all that a filter lets through.
-pub fn list<L: Link>(
-    client: &mut Client<'_>,
-    link: &mut L,
-    word: Option<&[u8]>,
-    filter: Filter,
-    style: Style,
-) -> Result<Bytes, Stop>
-    ensures { Ran (listvldb_text (option_map (λ w. w.now) word.entry) filter style) client.old client.new (L.exchanges link.old) (L.exchanges link.new) result }
-{
-    match word {
-        Some(word) => list_one(client, link, word),
-        None => list_all(client, link, filter, style),
-    }
-}
-
-fn list_one<L: Link>(client: &mut Client<'_>, link: &mut L, word: &[u8]) -> Result<Bytes, Stop>
+/// `listvldb` of one volume.
+pub fn list_one<L: Link>(client: &mut Client<'_>, link: &mut L, word: &[u8]) -> Result<Bytes, Stop>
     ensures { Ran (one_text word.now) client.old client.new (L.exchanges link.old) (L.exchanges link.new) result }
 {
     let entry = volume_entry(client, link, word)?;
@@ -55,7 +40,8 @@ fn list_one<L: Link>(client: &mut Client<'_>, link: &mut L, word: &[u8]) -> Resu
     Ok(text)
 }
 
-fn list_all<L: Link>(
+/// `listvldb` of all that a filter lets through.
+pub fn list_all<L: Link>(
     client: &mut Client<'_>,
     link: &mut L,
     filter: Filter,

@@ -59,8 +59,5 @@ fn page_behind<L: Link>(
 fn last_id(after: u32, page: &[VlEntry]) -> u32
     ensures { result ≡ last_id after page.now }
 {
-    match page.last() {
-        Some(entry) => entry.rw,
-        None => after,
-    }
+    page.iter().fold(after, |_, entry| entry.rw)
 }

@@ -7,13 +7,13 @@ use Rattle.vos_tool.proofs.changing.change.Goals as goal
 pub returns-in_err-id : goal.returns-in_err-id
 unfolding change_text
 returns-in_err-id g c =
-    ran_broken (λ (id : ℕ). changes_sites c.args.change c.args.place id >>= λ (done : Unit {0}). gives (changed_text c.args.change c.args.place c.args.word.now)) c.in_err-id.field-0 c.from_residual.result c.from_residual.ensures.1 refl c.in_err-id.ensures
+    ran_broken (λ (id : ℕ). changes_sites c.args.change c.args.place id >>= λ (done : Unit {0}). gives (changed_text c.args.change c.args.place c.args.word.now)) c.in_err-id.field-0.0 c.from_residual.result c.from_residual.ensures.1 refl c.in_err-id.ensures
 
 pub returns-in_err-change_sites : goal.returns-in_err-change_sites
 unfolding change_text
 returns-in_err-change_sites g c =
     ran_then (λ (id : ℕ). changes_sites c.args.change c.args.place id >>= λ (done : Unit {0}). gives (changed_text c.args.change c.args.place c.args.word.now)) c.in_ok-id.id refl c.in_ok-id.ensures
-    (ran_broken (λ (done : Unit {0}). gives (changed_text c.args.change c.args.place c.args.word.now)) c.in_err-change_sites.field-0 c.from_residual-in_err-change_sites.result c.from_residual-in_err-change_sites.ensures.1 refl c.in_err-change_sites.ensures)
+    (ran_broken (λ (done : Unit {0}). gives (changed_text c.args.change c.args.place c.args.word.now)) c.in_err-change_sites.field-0.0 c.from_residual-in_err-change_sites.result c.from_residual-in_err-change_sites.ensures.1 refl c.in_err-change_sites.ensures)
 
 pub returns-in_err-text : goal.returns-in_err-text
 unfolding change_text

@@ -7,7 +7,7 @@ use Rattle.vos_tool.proofs.deleting.delete_entries.Goals as goal
 pub returns-in_err-delete_each : goal.returns-in_err-delete_each
 unfolding delentry_text
 returns-in_err-delete_each g c =
-    ran_broken (λ (done : Unit {0}). gives (deleted_text (length c.args.words.now))) c.in_err-delete_each.field-0 c.from_residual.result c.from_residual.ensures.1 refl c.in_err-delete_each.ensures
+    ran_broken (λ (done : Unit {0}). gives (deleted_text (length c.args.words.now))) c.in_err-delete_each.field-0.0 c.from_residual.result c.from_residual.ensures.1 refl c.in_err-delete_each.ensures
 
 pub returns-in_err-text : goal.returns-in_err-text
 unfolding delentry_text

@@ -8,7 +8,7 @@ use Rattle.vos_tool.proofs.listing.list_all.Goals as goal
 pub returns-in_err-entries : goal.returns-in_err-entries
 unfolding listing_text
 returns-in_err-entries g c =
-    ran_broken (λ (entries : List VlEntry). gives (entries_text c.args.style entries)) c.in_err-entries.field-0 c.from_residual.result c.from_residual.ensures.1 refl c.in_err-entries.ensures
+    ran_broken (λ (entries : List VlEntry). gives (entries_text c.args.style entries)) c.in_err-entries.field-0.0 c.from_residual.result c.from_residual.ensures.1 refl c.in_err-entries.ensures
 
 pub returns-in_err-text : goal.returns-in_err-text
 unfolding listing_text

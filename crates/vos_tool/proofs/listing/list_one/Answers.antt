@@ -9,7 +9,7 @@ use Rattle.vos_tool.proofs.listing.list_one.Goals as goal
 pub returns-in_err-entry : goal.returns-in_err-entry
 unfolding one_text
 returns-in_err-entry g c =
-    ran_broken (λ (entry : VlEntry). gives (entry_text entry)) c.in_err-entry.field-0 c.from_residual.result c.from_residual.ensures.1 refl c.in_err-entry.ensures
+    ran_broken (λ (entry : VlEntry). gives (entry_text entry)) c.in_err-entry.field-0.0 c.from_residual.result c.from_residual.ensures.1 refl c.in_err-entry.ensures
 
 pub returns-in_err-text : goal.returns-in_err-text
 unfolding one_text

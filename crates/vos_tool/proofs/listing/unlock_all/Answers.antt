@@ -8,13 +8,13 @@ use Rattle.vos_tool.proofs.listing.unlock_all.Goals as goal
 pub returns-in_err-entries : goal.returns-in_err-entries
 unfolding unlockvldb_text
 returns-in_err-entries g c =
-    ran_broken (λ (entries : List VlEntry). releases_each entries >>= λ (done : Unit {0}). gives (released_text (length entries))) c.in_err-entries.field-0 c.from_residual.result c.from_residual.ensures.1 refl c.in_err-entries.ensures
+    ran_broken (λ (entries : List VlEntry). releases_each entries >>= λ (done : Unit {0}). gives (released_text (length entries))) c.in_err-entries.field-0.0 c.from_residual.result c.from_residual.ensures.1 refl c.in_err-entries.ensures
 
 pub returns-in_err-release_each : goal.returns-in_err-release_each
 unfolding unlockvldb_text
 returns-in_err-release_each g c =
     ran_then (λ (entries : List VlEntry). releases_each entries >>= λ (done : Unit {0}). gives (released_text (length entries))) c.in_ok-entries.entries refl c.in_ok-entries.ensures
-    (ran_broken (λ (done : Unit {0}). gives (released_text (length c.in_ok-entries.entries))) c.in_err-release_each.field-0 c.from_residual-in_err-release_each.result c.from_residual-in_err-release_each.ensures.1 refl c.in_err-release_each.ensures)
+    (ran_broken (λ (done : Unit {0}). gives (released_text (length c.in_ok-entries.entries))) c.in_err-release_each.field-0.0 c.from_residual-in_err-release_each.result c.from_residual-in_err-release_each.ensures.1 refl c.in_err-release_each.ensures)
 
 pub returns-in_err-text : goal.returns-in_err-text
 unfolding unlockvldb_text

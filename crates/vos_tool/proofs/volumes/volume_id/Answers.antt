@@ -16,7 +16,7 @@ unfolding volume_id
 returns-in_err-entry g c =
     let w = c.args.word.now in
     ran_as (id_or_named None w) (id_or_named (id_of w) w) (ap (λ (o : Option ℕ). id_or_named o w) c.in-None.ensures)
-    (ran_broken (λ (e : VlEntry). gives e.rw) c.in_err-entry.field-0 c.from_residual.result c.from_residual.ensures.1 refl c.in_err-entry.ensures)
+    (ran_broken (λ (e : VlEntry). gives e.rw) c.in_err-entry.field-0.0 c.from_residual.result c.from_residual.ensures.1 refl c.in_err-entry.ensures)
 
 pub returns-in-None : goal.returns-in-None
 unfolding volume_id
