@@ -1,5 +1,7 @@
+pub mod Args
 pub mod Asked
 pub mod Attempting
+pub mod Given
 pub mod Items
 pub mod Lengths
 pub mod Paged

@@ -1,5 +1,5 @@
 -- `listvldb`, `unlockvldb`: entries, read in pages.
-use Rattle.std.specs.Prelude.{ℕ, zero, suc, ◌^◌, nat_lt, Bool, true, false, if◌then◌else◌, List, [], ◌∷◌, ◌++◌, length, codes, Option, Some, None, fold}
+use Rattle.std.specs.Prelude.{ℕ, zero, suc, nat_lt, Bool, true, false, if◌then◌else◌, List, [], ◌∷◌, ◌++◌, length, codes, Option, Some, None, fold}
 use Rattle.std.specs.Fmt.{decimal}
 use Rattle.std.specs.List.{flat_map}
 use Rattle.vl_calls.specs.declared.calls.VlCall.{VlCall}
@@ -16,6 +16,7 @@ use Rattle.vos_tool.specs.Texts.{entry_text, line_end}
 use Rattle.vos_tool.specs.Volumes.{volume_entry}
 use Rattle.vos_tool.specs.declared.listing.Filter.{Filter}
 use Rattle.vos_tool.specs.declared.listing.Style.{Style}
+use Rattle.vos_tool.specs.declared.paging.TheConstants.{MOST_PAGES}
 
 abbrev pub page_call : Filter → ℕ → VlCall
 page_call filter after = call.ListAttributes after filter.host filter.partition filter.locked
@@ -33,7 +34,7 @@ pages (suc more) filter after found =
 
 -- all entries of a listing; there are no more pages than ids
 abbrev pub entries_of : Filter → Course (List VlEntry)
-entries_of filter = pages (2 ^ 32) filter 0 []
+entries_of filter = pages MOST_PAGES filter 0 []
 
 abbrev pub total_text : Style → ℕ → List ℕ
 total_text style count =

@@ -63,6 +63,10 @@ site_text s = joined (
     ∷ new_mark s.flags
     ∷ line_end ∷ [])
 
+-- how many sites there are, and each
+abbrev pub sites_text : List VlSite → List ℕ
+sites_text sites = joined (codes "    number of sites -> " ∷ decimal (length sites) ∷ line_end ∷ flat_map site_text sites ∷ [])
+
 abbrev pub lock_mark : ℕ → List ℕ
 lock_mark operation = if operation == 0 then [] else codes "    Volume is currently LOCKED" ++ line_end
 
@@ -71,9 +75,6 @@ unfoldable pub entry_text : VlEntry → List ℕ
 entry_text e = joined (
     joined (e.name ∷ line_end ∷ [])
     ∷ ids_text e
-    ∷ codes "    number of sites -> "
-    ∷ decimal (length e.sites)
-    ∷ line_end
-    ∷ flat_map site_text e.sites
+    ∷ sites_text e.sites
     ∷ lock_mark e.lock_op
     ∷ line_end ∷ [])

@@ -18,7 +18,8 @@ pub fn list_addresses<L: Link>(client: &mut Client<'_>, link: &mut L) -> Result<
     ensures { Ran listaddrs_text client.old client.new (L.exchanges link.old) (L.exchanges link.new) result }
 {
     let hosts = ask(client, link, &VlCall::GetAddrs, &Addresses)?;
-    let text = address_lines(client.alloc(), hosts.as_slice())?;
+    let found = hosts.as_slice();
+    let text = address_lines(client.alloc(), found)?;
     Ok(text)
 }
 

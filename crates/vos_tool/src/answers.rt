@@ -162,7 +162,13 @@ fn are_sites(sites: &[VlSite]) -> bool
 fn is_page(after: u32, entries: &[VlEntry]) -> bool
     ensures { result ≡ is_page after entries.now }
 {
-    entries.iter().all(|entry| is_entry(entry)) && ascend(after, entries)
+    are_entries(entries) && ascend(after, entries)
+}
+
+fn are_entries(entries: &[VlEntry]) -> bool
+    ensures { result ≡ list_all is_entry entries.now }
+{
+    entries.iter().all(|entry| is_entry(entry))
 }
 
 /// Whether the ids ascend, each above this one.

@@ -1,6 +1,6 @@
 //! Calls, asked of one host after the other.
 ghost use Rattle.std.specs.Prelude.{◌≡◌, ◌≢◌, ◌≤◌, IfOk, IfSome, length};
-ghost use Rattle.tool_base.specs.Asking.{asks_call};
+ghost use Rattle.tool_base.specs.Asking.{asks_call, asks_hosts};
 ghost use Rattle.tool_base.specs.Hearing.{verdict};
 ghost use Rattle.tool_base.specs.Running.{Ran};
 ghost use Rattle.vl_calls.specs.Calls.{HasSpelling};
@@ -10,7 +10,7 @@ use crate::answers::Reads;
 use io_base::Link;
 use std::alloc::Global;
 use tool_base::{Client, Heard, MAX_CALL, Stop, after_silence};
-use ubik_types::Bytes;
+use ubik_types::{Bytes, Host};
 use vl_calls::{CallKind, VlCall, spell_call};
 
 /// Whether a call of this kind changes the database.
@@ -60,14 +60,28 @@ fn ask_bytes<L: Link, A: Drop, R: Reads<A>>(
     ensures ran { Ran (asks_call writes (R.reads reader.now) call) client.old client.new (L.exchanges link.old) (L.exchanges link.new) result }
     ensures limits { IfOk result (R.keeps reader.now) }
 {
-    let alloc = client.alloc();
     client.count();
     let frame = client.frame(call)?;
-    let sent = frame.as_slice();
-    let mut reply = Vec::new(alloc);
     let hosts = client.hosts();
+    ask_hosts(client, link, writes, hosts, frame.as_slice(), reader)
+}
+
+/// Sends a frame to one host after the other, until one settles the call.
+fn ask_hosts<L: Link, A: Drop, R: Reads<A>>(
+    client: &Client<'_>,
+    link: &mut L,
+    writes: bool,
+    hosts: &[Host],
+    frame: &[u8],
+    reader: &R,
+) -> Result<A, Stop>
+    ensures ran { Ran (asks_hosts writes (R.reads reader.now) frame.now hosts.now) client.now client.now (L.exchanges link.old) (L.exchanges link.new) result }
+    ensures limits { IfOk result (R.keeps reader.now) }
+{
+    let alloc = client.alloc();
+    let mut reply = Vec::new(alloc);
     for host in hosts {
-        let heard = client.hear(link, *host, sent, &mut reply)?;
+        let heard = client.hear(link, *host, frame, &mut reply)?;
         match settled(alloc, writes, heard, reader)? {
             Some(answer) => return Ok(answer),
             None => {}

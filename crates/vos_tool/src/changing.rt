@@ -104,7 +104,8 @@ fn replace_changed<L: Link>(
         sites,
         ..
     } = entry;
-    match changed_sites(change, place, sites)? {
+    let changed = changed_sites(change, place, sites)?;
+    match changed {
         Some(sites) => {
             let given = GivenEntry {
                 name,

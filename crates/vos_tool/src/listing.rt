@@ -1,7 +1,9 @@
 //! `listvldb`, `unlockvldb`.
 ghost use Rattle.std.specs.Prelude.{◌≡◌, IfOk};
+ghost use Rattle.std.specs.List.{flat_map};
 ghost use Rattle.tool_base.specs.Running.{Ran};
 ghost use Rattle.vos_tool.specs.Listing.{entries_text, in_order, listing_text, one_text, released_text, releases_each, total_text, unlockvldb_text};
+ghost use Rattle.vos_tool.specs.Texts.{entry_text};
 
 use crate::locks::release_lock;
 use crate::ordering::by_name;
@@ -60,11 +62,18 @@ fn entries_text(alloc: Global, style: Style, entries: Entries) -> Result<Bytes, 
 {
     let total = total_text(alloc, style, entries.as_slice().len())?;
     let entries = in_order(alloc, style, entries.into_vec())?;
+    let mut text = entry_texts(alloc, entries.as_slice())?.into_vec();
+    text.extend_from_slice(total.as_slice())?;
+    Ok(Bytes::new(text))
+}
+
+fn entry_texts(alloc: Global, entries: &[VlEntry]) -> Result<Bytes, NoMemory>
+    ensures { IfOk result (λ text. text ≡ flat_map entry_text entries.now) }
+{
     let mut text = Vec::new(alloc);
-    for entry in &entries {
+    for entry in entries {
         text.extend_from_slice(entry_text(alloc, entry)?.as_slice())?;
     }
-    text.extend_from_slice(total.as_slice())?;
     Ok(Bytes::new(text))
 }
 
@@ -98,8 +107,9 @@ pub fn unlock_all<L: Link>(
     ensures { Ran (unlockvldb_text filter) client.old client.new (L.exchanges link.old) (L.exchanges link.new) result }
 {
     let entries = entries_of(client, link, filter)?;
-    release_each(client, link, entries.as_slice())?;
-    let text = released_text(client.alloc(), entries.as_slice().len())?;
+    let found = entries.as_slice();
+    release_each(client, link, found)?;
+    let text = released_text(client.alloc(), found.len())?;
     Ok(text)
 }
 

@@ -1,5 +1,5 @@
 //! Entries of a listing, read in pages.
-ghost use Rattle.std.specs.Prelude.{◌≡◌, IfOk};
+ghost use Rattle.std.specs.Prelude.{◌≡◌, ◌++◌, IfOk, OnOk};
 ghost use Rattle.tool_base.specs.Running.{Ran};
 ghost use Rattle.vos_tool.specs.Answers.{IsPage};
 ghost use Rattle.vos_tool.specs.Listing.{entries_of, last_id, page_call};
@@ -15,6 +15,9 @@ use ubik_types::NoMemory;
 use vl_calls::{Entries, MAX_PAGE, VlCall};
 use vldb_records::VlEntry;
 
+/// More pages than there are: each has an id of its own.
+pub const MOST_PAGES: u32 = u32::MAX;
+
 /// All entries that a filter lets through.
 pub fn entries_of<L: Link>(
     client: &mut Client<'_>,
@@ -25,15 +28,27 @@ pub fn entries_of<L: Link>(
 {
     let mut found = Vec::new(client.alloc());
     let mut after = 0;
-    loop {
-        let mut page = page_behind(client, link, filter, after)?.into_vec();
-        let is_last = page.len() < MAX_PAGE as usize;
-        after = last_id(after, &page);
-        found.append(&mut page).map_err(NoMemory::from)?;
-        if is_last {
+    for _ in 0..MOST_PAGES {
+        let page = page_behind(client, link, filter, after)?;
+        let listed = page.as_slice();
+        let count = listed.len();
+        let last = last_id(after, listed);
+        add_page(&mut found, page)?;
+        if count < MAX_PAGE as usize {
             return Ok(Items::new(found));
         }
+        after = last;
     }
+    Ok(Items::new(found))
+}
+
+/// Puts the entries of a page behind those that were found.
+fn add_page(found: &mut Vec<VlEntry>, page: Entries) -> Result<(), NoMemory>
+    ensures { OnOk result (found.new.items ≡ found.old.items ++ page) }
+{
+    let mut list = page.into_vec();
+    found.append(&mut list)?;
+    Ok(())
 }
 
 /// The page behind an id.

@@ -1,5 +1,5 @@
 //! Sites of an entry, added, taken away and moved.
-ghost use Rattle.std.specs.Prelude.{◌≡◌, IfOk, option_map, position};
+ghost use Rattle.std.specs.Prelude.{◌≡◌, ◌+◌, ◌≤◌, IfOk, IfSome, length, position};
 ghost use Rattle.vos_tool.specs.Sites.{changed_sites, is_read_write, is_replica_at, site_at};
 
 use crate::places::{Place, READ_ONLY, READ_WRITE};
@@ -41,7 +41,8 @@ pub fn changed_sites(
     place: Place,
     sites: SiteList,
 ) -> Result<Option<SiteList>, NoMemory>
-    ensures { IfOk result (λ changed. changed ≡ changed_sites change place sites) }
+    ensures value { IfOk result (λ changed. changed ≡ changed_sites change place sites) }
+    ensures few { IfOk result (λ changed. IfSome changed (λ list. length list ≤ length sites + 1)) }
 {
     let mut list = sites.into_vec();
     match change {

@@ -3,7 +3,7 @@ ghost use Rattle.std.specs.Prelude.{◌≡◌, ◌++◌, IfOk, OnOk, length};
 ghost use Rattle.std.specs.Fmt.{decimal};
 ghost use Rattle.std.specs.List.{flat_map};
 ghost use Rattle.std.specs.String.{string_bytes};
-ghost use Rattle.vos_tool.specs.Texts.{dotted, entry_text, has_flag, id_text, ids_text, letters, lock_mark, new_mark, partition_text, place_text, site_kind, site_text, volume_line};
+ghost use Rattle.vos_tool.specs.Texts.{dotted, entry_text, has_flag, id_text, ids_text, letters, lock_mark, new_mark, partition_text, place_text, site_kind, site_text, sites_text, volume_line};
 
 use crate::places::{Place, READ_ONLY, READ_WRITE};
 use std::alloc::Global;
@@ -184,7 +184,24 @@ fn new_mark(flags: u32) -> &'static [u8]
     }
 }
 
+/// How many sites there are, and each.
 fn sites_text(alloc: Global, sites: &[VlSite]) -> Result<Bytes, NoMemory>
+    ensures { IfOk result (λ text. text ≡ sites_text sites.now) }
+{
+    let count = count_text(alloc, sites.len())?;
+    let lines = site_lines(alloc, sites)?;
+    joined(
+        alloc,
+        &[
+            b"    number of sites -> ",
+            count.as_bytes(),
+            b"\n",
+            lines.as_slice(),
+        ],
+    )
+}
+
+fn site_lines(alloc: Global, sites: &[VlSite]) -> Result<Bytes, NoMemory>
     ensures { IfOk result (λ text. text ≡ flat_map site_text sites.now) }
 {
     let mut text = Vec::new(alloc);
@@ -212,16 +229,12 @@ pub fn entry_text(alloc: Global, entry: &VlEntry) -> Result<Bytes, NoMemory>
 {
     let name = joined(alloc, &[entry.name.as_slice(), b"\n"])?;
     let ids = ids_text(alloc, entry)?;
-    let count = count_text(alloc, entry.sites.as_slice().len())?;
     let sites = sites_text(alloc, entry.sites.as_slice())?;
     joined(
         alloc,
         &[
             name.as_slice(),
             ids.as_slice(),
-            b"    number of sites -> ",
-            count.as_bytes(),
-            b"\n",
             sites.as_slice(),
             lock_mark(entry.lock_op),
             b"\n",

@@ -1,7 +1,7 @@
-use Rattle.std.proofs.Common.{ℕ, List, Ok, length, codes, refl, ap}
+use Rattle.std.proofs.Common.{ℕ, List, Ok, refl, ap, ◌∙◌}
+use Rattle.std.specs.List.{flat_map}
 use Rattle.tool_base.specs.Course.{◌>>=◌, gives}
 use Rattle.tool_base.proofs.Walking.{ran_broken, ran_is, ran_lacks, ran_then}
-use Rattle.std.specs.List.{flat_map}
 use Rattle.vos_tool.specs.Addresses.{address_line, listaddrs_text}
 use Rattle.vos_tool.proofs.addresses.list_addresses.Goals as goal
 
@@ -19,4 +19,5 @@ pub returns : goal.returns
 unfolding listaddrs_text
 returns g c =
     ran_then (λ (hosts : List ℕ). gives (flat_map address_line hosts)) c.in_ok-hosts.hosts refl c.in_ok-hosts.ensures.ran
-    (ran_is _ _ (Ok (flat_map address_line c.in_ok-hosts.hosts)) _ tt (ap Ok c.in_ok-text.ensures))
+    (ran_is _ _ (Ok (flat_map address_line c.in_ok-hosts.hosts)) _ tt
+    (ap Ok (c.in_ok-text.ensures ∙ ap (λ (hosts : List ℕ). flat_map address_line hosts) c.as_slice-found.ensures)))

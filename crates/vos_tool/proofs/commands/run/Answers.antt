@@ -12,4 +12,4 @@ returns-in_err-text-clause-cause g c =
 
 pub returns-clause-told : goal.returns-clause-told
 returns-clause-told g c =
-    told_text (vos_text c.args.words.now) _ _ _ _ _ _ c.in_ok-text.text c.say.result c.in_ok-text.ensures c.say.ensures.said
+    told_text (vos_text c.args.words.now) _ _ _ _ _ _ c.in_ok-text.text c.say.result c.in_ok-text.ensures (rw c.as_slice.ensures at c.say.ensures.said)

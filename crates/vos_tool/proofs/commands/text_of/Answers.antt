@@ -1,13 +1,13 @@
-use Rattle.std.proofs.Common.{◌≡◌, ℕ, List, [], Ok, refl, ap, ◌∙◌, subst}
+use Rattle.std.proofs.Common.{◌≡◌, ℕ, List, [], Ok, refl, ap, ◌∙◌}
 use Rattle.afs_words.specs.Command.{Command}
 use Rattle.afs_words.specs.declared.tables.Operation.{Operation}
 use Rattle.afs_words.specs.declared.tables.Operation.TheVariants as op
 use Rattle.tool_base.specs.Course.{gives}
-use Rattle.tool_base.specs.Running.{Ran}
 use Rattle.tool_base.proofs.Walking.{ran_as, ran_is}
 use Rattle.vos_tool.specs.Command.{text_by, vos_text}
 use Rattle.vos_tool.specs.Deleting.{delentry_text}
 use Rattle.vos_tool.specs.Locking.{lock_text, unlock_text}
+use Rattle.vos_tool.proofs.Args.{ran_arg}
 use Rattle.vos_tool.proofs.commands.text_of.Goals as goal
 
 other_text : (o : Operation) (c : Command) → (o ≡ op.AddEntry → ⊥) → (o ≡ op.ListVldb → ⊥) → (o ≡ op.Lock → ⊥) → (o ≡ op.Unlock → ⊥) → (o ≡ op.UnlockVldb → ⊥) → (o ≡ op.DelEntry → ⊥) → (o ≡ op.AddSite → ⊥) → (o ≡ op.RemSite → ⊥) → (o ≡ op.ChangeLoc → ⊥) → (o ≡ op.ListAddrs → ⊥) → (o ≡ op.ChangeAddr → ⊥) → gives {A = List ℕ} [] ≡ text_by o c
@@ -53,13 +53,13 @@ pub returns-in-Lock : goal.returns-in-Lock
 unfolding vos_text
 returns-in-Lock g c =
     let w = c.args.words.now in
-    ran_as (text_by op.Lock w) (text_by w.operation w) (ap (λ (o : Operation). text_by o w) c.in-Lock.ensures) (subst (λ (x : List ℕ). Ran (lock_text x) _ _ _ _ _) c.word_at-first.ensures c.lock.ensures)
+    ran_as (text_by op.Lock w) (text_by w.operation w) (ap (λ (o : Operation). text_by o w) c.in-Lock.ensures) (ran_arg (λ (x : List ℕ). lock_text x) _ _ c.word_at-first.ensures c.lock.ensures)
 
 pub returns-in-Unlock : goal.returns-in-Unlock
 unfolding vos_text
 returns-in-Unlock g c =
     let w = c.args.words.now in
-    ran_as (text_by op.Unlock w) (text_by w.operation w) (ap (λ (o : Operation). text_by o w) c.in-Unlock.ensures) (subst (λ (x : List ℕ). Ran (unlock_text x) _ _ _ _ _) c.word_at-first.ensures c.unlock.ensures)
+    ran_as (text_by op.Unlock w) (text_by w.operation w) (ap (λ (o : Operation). text_by o w) c.in-Unlock.ensures) (ran_arg (λ (x : List ℕ). unlock_text x) _ _ c.word_at-first.ensures c.unlock.ensures)
 
 pub returns-in-UnlockVldb : goal.returns-in-UnlockVldb
 unfolding vos_text
@@ -71,7 +71,7 @@ pub returns-in-DelEntry : goal.returns-in-DelEntry
 unfolding vos_text
 returns-in-DelEntry g c =
     let w = c.args.words.now in
-    ran_as (text_by op.DelEntry w) (text_by w.operation w) (ap (λ (o : Operation). text_by o w) c.in-DelEntry.ensures) (subst (λ (xs : List (List ℕ)). Ran (delentry_text xs) _ _ _ _ _) c.values_at-all.ensures c.delete_entries.ensures)
+    ran_as (text_by op.DelEntry w) (text_by w.operation w) (ap (λ (o : Operation). text_by o w) c.in-DelEntry.ensures) (ran_arg (λ (xs : List (List ℕ)). delentry_text xs) _ _ c.values_at-all.ensures c.delete_entries.ensures)
 
 pub returns-in-AddSite : goal.returns-in-AddSite
 unfolding vos_text

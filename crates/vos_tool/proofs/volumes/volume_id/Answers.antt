@@ -11,16 +11,16 @@ returns-in-Some g c =
     let w = c.args.word.now in
     ran_as (id_or_named (Some c.in-Some.id) w) (id_or_named (id_of w) w) (ap (λ (o : Option ℕ). id_or_named o w) c.in-Some.ensures) (ran_still _ _ (Ok c.in-Some.id) tt)
 
-pub returns-in_err-entry : goal.returns-in_err-entry
+pub returns-in_err-entry-in-None : goal.returns-in_err-entry-in-None
 unfolding volume_id
-returns-in_err-entry g c =
+returns-in_err-entry-in-None g c =
     let w = c.args.word.now in
     ran_as (id_or_named None w) (id_or_named (id_of w) w) (ap (λ (o : Option ℕ). id_or_named o w) c.in-None.ensures)
-    (ran_broken (λ (e : VlEntry). gives e.rw) c.in_err-entry.field-0.0 c.from_residual.result c.from_residual.ensures.1 refl c.in_err-entry.ensures)
+    (ran_broken (λ (e : VlEntry). gives e.rw) c.in_err-entry-in-None.field-0.0 c.from_residual.result c.from_residual.ensures.1 refl c.in_err-entry-in-None.ensures)
 
-pub returns-in-None : goal.returns-in-None
+pub returns-in_ok-entry-in-None : goal.returns-in_ok-entry-in-None
 unfolding volume_id
-returns-in-None g c =
+returns-in_ok-entry-in-None g c =
     let w = c.args.word.now in
     ran_as (id_or_named None w) (id_or_named (id_of w) w) (ap (λ (o : Option ℕ). id_or_named o w) c.in-None.ensures)
-    (ran_then (λ (e : VlEntry). gives e.rw) c.in_ok-entry.entry refl c.in_ok-entry.ensures (ran_still _ _ (Ok c.in_ok-entry.entry.rw) tt))
+    (ran_then (λ (e : VlEntry). gives e.rw) c.in_ok-entry-in-None.entry refl c.in_ok-entry-in-None.ensures (ran_still _ _ (Ok c.in_ok-entry-in-None.entry.rw) tt))
