@@ -80,11 +80,7 @@ fn moved_text(alloc: Global, from: u32, to: u32) -> Result<Bytes, NoMemory>
     )
 }
 
-fn remove_address<L: Link>(
-    client: &mut Client<'_>,
-    link: &mut L,
-    from: u32,
-) -> Result<Bytes, Stop>
+fn remove_address<L: Link>(client: &mut Client<'_>, link: &mut L, from: u32) -> Result<Bytes, Stop>
     ensures { Ran (changeaddr_text from None) client.old client.new (L.exchanges link.old) (L.exchanges link.new) result }
 {
     ask(client, link, &VlCall::ChangeAddr { from, to: 0 }, &Done)?;

@@ -64,11 +64,7 @@ fn run<L: Link, K: Sink>(
 }
 
 /// The text of a command, once its calls were asked.
-fn text_of<L: Link>(
-    client: &mut Client<'_>,
-    link: &mut L,
-    words: &Words,
-) -> Result<Bytes, Stop>
+fn text_of<L: Link>(client: &mut Client<'_>, link: &mut L, words: &Words) -> Result<Bytes, Stop>
     ensures { Ran (vos_text words.now) client.old client.new (L.exchanges link.old) (L.exchanges link.new) result }
 {
     let first = word_at(words, 0);
@@ -90,11 +86,7 @@ fn text_of<L: Link>(
 }
 
 /// `addentry` with its words.
-fn add_by<L: Link>(
-    client: &mut Client<'_>,
-    link: &mut L,
-    words: &Words,
-) -> Result<Bytes, Stop>
+fn add_by<L: Link>(client: &mut Client<'_>, link: &mut L, words: &Words) -> Result<Bytes, Stop>
     ensures { Ran (addentry_text (word_at words.now 0) (place_at words.now 1 2) (new_id_at words.now 3)) client.old client.new (L.exchanges link.old) (L.exchanges link.new) result }
 {
     let name = word_at(words, 0);
@@ -104,11 +96,7 @@ fn add_by<L: Link>(
 }
 
 /// `listvldb` with its words.
-fn list_by<L: Link>(
-    client: &mut Client<'_>,
-    link: &mut L,
-    words: &Words,
-) -> Result<Bytes, Stop>
+fn list_by<L: Link>(client: &mut Client<'_>, link: &mut L, words: &Words) -> Result<Bytes, Stop>
     ensures { Ran (listvldb_text (value_at words.now 0) (filter_at words.now 1 2 (flag_at words.now 3)) (style_at words.now)) client.old client.new (L.exchanges link.old) (L.exchanges link.new) result }
 {
     let locked = flag_at(words, 3);
@@ -121,11 +109,7 @@ fn list_by<L: Link>(
 }
 
 /// `unlockvldb` with its words.
-fn unlock_by<L: Link>(
-    client: &mut Client<'_>,
-    link: &mut L,
-    words: &Words,
-) -> Result<Bytes, Stop>
+fn unlock_by<L: Link>(client: &mut Client<'_>, link: &mut L, words: &Words) -> Result<Bytes, Stop>
     ensures { Ran (unlockvldb_text (filter_at words.now 0 1 true)) client.old client.new (L.exchanges link.old) (L.exchanges link.new) result }
 {
     let filter = filter_at(words, 0, 1, true);
@@ -147,11 +131,7 @@ fn change_by<L: Link>(
 }
 
 /// `changeaddr` with its words.
-fn move_by<L: Link>(
-    client: &mut Client<'_>,
-    link: &mut L,
-    words: &Words,
-) -> Result<Bytes, Stop>
+fn move_by<L: Link>(client: &mut Client<'_>, link: &mut L, words: &Words) -> Result<Bytes, Stop>
     ensures { Ran (changeaddr_text (host_at words.now 0) (address_at words.now 1)) client.old client.new (L.exchanges link.old) (L.exchanges link.new) result }
 {
     let from = host_at(words, 0);

@@ -38,11 +38,7 @@ fn deleted_text(alloc: Global, count: usize) -> Result<Bytes, NoMemory>
     )
 }
 
-fn delete_each<L: Link>(
-    client: &mut Client<'_>,
-    link: &mut L,
-    words: &[Word],
-) -> Result<(), Stop>
+fn delete_each<L: Link>(client: &mut Client<'_>, link: &mut L, words: &[Word]) -> Result<(), Stop>
     ensures { Ran (deletes_each words.now) client.old client.new (L.exchanges link.old) (L.exchanges link.new) result }
 {
     for word in words {

@@ -58,6 +58,10 @@ pub fn unlock<L: Link>(client: &mut Client<'_>, link: &mut L, word: &[u8]) -> Re
 {
     let id = volume_id(client, link, word)?;
     release_lock(client, link, id)?;
-    let text = volume_line(client.alloc(), b"Released lock on vldb entry for volume ", word)?;
+    let text = volume_line(
+        client.alloc(),
+        b"Released lock on vldb entry for volume ",
+        word,
+    )?;
     Ok(text)
 }

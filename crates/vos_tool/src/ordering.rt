@@ -40,9 +40,7 @@ fn first_behind(sorted: &[VlEntry], entry: &VlEntry) -> Option<usize>
     ensures place { result ≡ position (λ other. may_precede entry.now other) sorted.now }
     ensures within { IfSome result (λ at. at ≤ length sorted.now) }
 {
-    sorted
-        .iter()
-        .position(|other| may_precede(entry, other))
+    sorted.iter().position(|other| may_precede(entry, other))
 }
 
 /// Whether an entry may stand before another.

@@ -69,9 +69,7 @@ fn replica_place(sites: &[VlSite], place: Place) -> Option<usize>
     ensures { result ≡ position (is_replica_at place) sites.now }
 {
     sites.iter().position(|site| {
-        site.host == place.host
-            && site.partition == place.partition
-            && site.flags & READ_ONLY != 0
+        site.host == place.host && site.partition == place.partition && site.flags & READ_ONLY != 0
     })
 }
 

@@ -86,14 +86,7 @@ impl Session {
         let mut link = MemLink::new(answers);
         let mut told = MemSink::new(alloc, &[])?;
         let mut errors = MemSink::new(alloc, &[])?;
-        let end = run_vos(
-            alloc,
-            &words,
-            &[HOST],
-            &mut link,
-            &mut told,
-            &mut errors,
-        );
+        let end = run_vos(alloc, &words, &[HOST], &mut link, &mut told, &mut errors);
         assert_eq!(rt; told.written(), out.as_bytes());
         assert_eq!(rt; errors.written(), err.as_bytes());
         assert_eq!(rt; end.status, status.parse::<u8>()?);

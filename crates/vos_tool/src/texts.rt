@@ -16,7 +16,9 @@ const ID_PLACES: usize = 10;
 
 /// The flags of an entry: its read-write, its read-only, its backup volume exists.
 const HAS_READ_WRITE: u32 = 0x1000;
+
 const HAS_READ_ONLY: u32 = 0x2000;
+
 const HAS_BACKUP: u32 = 0x4000;
 
 /// The flag of a site that is new.

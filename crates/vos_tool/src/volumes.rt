@@ -25,11 +25,7 @@ fn id_of(word: &[u8]) -> Option<u32>
 }
 
 /// The id of the volume that a word names: the word itself, or the read-write id of the entry that has this name.
-pub fn volume_id<L: Link>(
-    client: &mut Client<'_>,
-    link: &mut L,
-    word: &[u8],
-) -> Result<u32, Stop>
+pub fn volume_id<L: Link>(client: &mut Client<'_>, link: &mut L, word: &[u8]) -> Result<u32, Stop>
     ensures { Ran (volume_id word.now) client.old client.new (L.exchanges link.old) (L.exchanges link.new) result }
 {
     match id_of(word) {
@@ -62,11 +58,7 @@ pub fn volume_entry<L: Link>(
 }
 
 /// The entry that has this name.
-fn entry_named<L: Link>(
-    client: &mut Client<'_>,
-    link: &mut L,
-    name: &[u8],
-) -> Result<VlEntry, Stop>
+fn entry_named<L: Link>(client: &mut Client<'_>, link: &mut L, name: &[u8]) -> Result<VlEntry, Stop>
     ensures { Ran (entry_named name.now) client.old client.new (L.exchanges link.old) (L.exchanges link.new) result }
 {
     if name.len() > MAX_TEXT as usize {

@@ -34,4 +34,4 @@ returns g c =
     ran_then (λ (es : List VlEntry). releases_each es >>= λ (done : Unit {0}). gives (released_text (length es))) c.in_ok-entries.entries refl c.in_ok-entries.ensures
     (ran_arg (λ (es : List VlEntry). releases_each es >>= λ (done : Unit {0}). gives (released_text (length es))) _ _ c.as_slice-found.ensures
     (ran_then (λ (done : Unit {0}). gives (released_text (length es))) tt refl c.in_ok-release_each.ensures
-    (ran_is _ _ (Ok (released_text (length es))) _ tt (ap Ok (c.in_ok-text.ensures ∙ ap released_text c.len.ensures)))))
+    (ran_is _ _ (Ok (released_text (length es))) _ tt (ap Ok c.in_ok-text.ensures))))

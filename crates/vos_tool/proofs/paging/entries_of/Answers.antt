@@ -20,14 +20,14 @@ pub returns-then-count : goal.returns-then-count
 returns-then-count g c =
     ran_arg (λ (xs : List VlEntry). pages MOST_PAGES c.args.filter 0 xs) _ _ c.new-found.ensures.items
     (page_last (pages MOST_PAGES c.args.filter 0 c.new-found.result.items) c.args.filter _ _ _ _ _ _ c.loop.after c.loop.found.items MOST_PAGES c.loop.counter c.in_ok-page.page _ c.loop-test.true c.loop.invariant c.in_ok-page.ensures.ran
-    (rw (c.len-count.ensures, c.as_slice-listed.ensures) at c.if-count.true) (c.new-in-loop.ensures ∙ c.in_ok-add_page.ensures))
+    (rw c.as_slice-listed.ensures at c.if-count.true) (c.new.ensures ∙ c.in_ok-add_page.ensures))
 
 pub loop-preserved : goal.loop-preserved
 loop-preserved g c =
     page_next (pages MOST_PAGES c.args.filter 0 c.new-found.result.items) c.args.filter _ _ _ _ _ _ c.loop.after c.last_id-last.result c.loop.found.items MOST_PAGES c.loop.counter c.in_ok-page.page _ c.loop-test.true c.loop.invariant c.in_ok-page.ensures.ran
-    (rw (c.len-count.ensures, c.as_slice-listed.ensures) at c.if-count.false) (rw c.as_slice-listed.ensures at c.last_id-last.ensures) c.in_ok-add_page.ensures
+    (rw c.as_slice-listed.ensures at c.if-count.false) (rw c.as_slice-listed.ensures at c.last_id-last.ensures) c.in_ok-add_page.ensures
 
 pub returns : goal.returns
 returns g c =
     ran_arg (λ (xs : List VlEntry). pages MOST_PAGES c.args.filter 0 xs) _ _ c.new-found.ensures.items
-    (rw c.new.ensures (pages_all (pages MOST_PAGES c.args.filter 0 c.new-found.result.items) c.args.filter _ _ _ _ c.loop.after c.loop.found.items MOST_PAGES c.loop.counter (omega arith) c.loop.invariant))
+    (rw c.new-2.ensures (pages_all (pages MOST_PAGES c.args.filter 0 c.new-found.result.items) c.args.filter _ _ _ _ c.loop.after c.loop.found.items MOST_PAGES c.loop.counter (omega arith) c.loop.invariant))
