@@ -1,0 +1,9 @@
+pub mod Args
+pub mod Asked
+pub mod Attempting
+pub mod Given
+pub mod Items
+pub mod Lengths
+pub mod Paged
+pub mod Short
+pub mod Telling

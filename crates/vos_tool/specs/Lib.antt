@@ -1,0 +1,14 @@
+pub mod Adding
+pub mod Addresses
+pub mod Answers
+pub mod Asking
+pub mod Changing
+pub mod Command
+pub mod Deleting
+pub mod Each
+pub mod Listing
+pub mod Locking
+pub mod Ordering
+pub mod Sites
+pub mod Texts
+pub mod Volumes
