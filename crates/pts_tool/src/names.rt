@@ -1,0 +1,125 @@
+//! Names and ids of entries: each by the other.
+ghost use Rattle.std.specs.Prelude.{◌≡◌, [], ◌∷◌, IfOk};
+ghost use Rattle.pt_calls.specs.declared.calls.PtCall.TheVariants as call;
+ghost use Rattle.pts_tool.specs.Answers.{id_in};
+ghost use Rattle.pts_tool.specs.Asking.{asks};
+ghost use Rattle.tool_base.specs.Course.{◌>>=◌, still};
+ghost use Rattle.pts_tool.specs.Names.{known_id, the_id, owner_id, pieces, names_behind, the_names};
+ghost use Rattle.tool_base.specs.Running.{Ran};
+
+use crate::asking::ask;
+use io_base::Link;
+use pt_calls::{Ids, Items, MAX_LIST, Names, PtCall};
+use script_words::signed_number;
+use std::alloc::Global;
+use tool_base::{Client, Refusal, Stop};
+use ubik_types::{Bytes, NoMemory, bytes_of};
+
+/// The id of `anonymous`, to which the database translates a name that no entry has (ptserver).
+pub(crate) const ANONYMOUS: i32 = 32_766;
+
+/// No entry has the name or id (ptserver).
+pub(crate) const NO_ENTRY: u32 = 267_268;
+
+/// The id of an entry that there is, which was given as its name or its id.
+pub(crate) fn entry_id<L: Link>(
+    client: &mut Client<'_>,
+    link: &mut L,
+    word: &Bytes,
+) -> Result<i32, Stop>
+    ensures { Ran (the_id word.now) client.old client.new (L.exchanges link.old) (L.exchanges link.new) result }
+{
+    match signed_number(word.as_slice()) {
+        Some(id) => Ok(id),
+        None => name_id(client, link, word),
+    }
+}
+
+/// The id of an entry that there is, by its name.
+fn name_id<L: Link>(
+    client: &mut Client<'_>,
+    link: &mut L,
+    name: &Bytes,
+) -> Result<i32, Stop>
+    ensures { Ran (asks id_in (call.NameToId (name.now ∷ [])) >>= λ id. still (known_id name.now id))
+        client.old client.new (L.exchanges link.old) (L.exchanges link.new) result }
+{
+    let names = one_name(client.alloc(), name)?;
+    let id = ask(client, link, &PtCall::NameToId { names })?;
+    known_id(name.as_slice(), id)
+}
+
+/// A list of one name.
+fn one_name(alloc: Global, name: &Bytes) -> Result<Names, NoMemory>
+    ensures { IfOk result (λ names. names ≡ name.now ∷ []) }
+{
+    let mut names = Vec::new(alloc);
+    names.push(bytes_of(alloc, name.as_slice())?)?;
+    Ok(Items::new(names))
+}
+
+/// The id of a name, where an entry has it.
+fn known_id(name: &[u8], id: i32) -> Result<i32, Stop>
+    ensures { result ≡ known_id name.now id }
+{
+    if id == ANONYMOUS && name != b"anonymous" {
+        Err(Stop::Refused(Refusal::Rule(NO_ENTRY)))
+    } else {
+        Ok(id)
+    }
+}
+
+/// The id of an owner, 0 where none was given.
+pub(crate) fn owner_id<L: Link>(
+    client: &mut Client<'_>,
+    link: &mut L,
+    owner: &Option<Bytes>,
+) -> Result<i32, Stop>
+    ensures { Ran (owner_id owner.now) client.old client.new (L.exchanges link.old) (L.exchanges link.new) result }
+{
+    match owner {
+        Some(word) => entry_id(client, link, word),
+        None => Ok(0),
+    }
+}
+
+/// The names of ids, in calls of at most 5,000 ids each.
+pub(crate) fn names_of<L: Link>(
+    client: &mut Client<'_>,
+    link: &mut L,
+    ids: &[i32],
+) -> Result<Names, Stop>
+    ensures { Ran (the_names ids.now) client.old client.new (L.exchanges link.old) (L.exchanges link.new) result }
+{
+    let pieces = pieces(client.alloc(), ids)?;
+    names_of_pieces(client, link, pieces)
+}
+
+/// The names of the ids of lists, none of which is longer than a call may be.
+fn names_of_pieces<L: Link>(
+    client: &mut Client<'_>,
+    link: &mut L,
+    pieces: Vec<Ids>,
+) -> Result<Names, Stop>
+    ensures { Ran (names_behind [] pieces.items) client.old client.new (L.exchanges link.old) (L.exchanges link.new) result }
+{
+    let mut names = Vec::new(client.alloc());
+    for ids in pieces {
+        let found: Names = ask(client, link, &PtCall::IdToName { ids })?;
+        for name in found.into_vec() {
+            names.push(name)?;
+        }
+    }
+    Ok(Items::new(names))
+}
+
+/// Ids in pieces of at most as many as a call has.
+fn pieces(alloc: Global, ids: &[i32]) -> Result<Vec<Ids>, NoMemory>
+    ensures { IfOk result (λ lists. lists.items ≡ pieces ids.now) }
+{
+    let mut lists = Vec::new(alloc);
+    for piece in ids.chunks(MAX_LIST as usize) {
+        lists.push(Items::new(piece.to_vec(alloc)?))?;
+    }
+    Ok(lists)
+}

@@ -1,0 +1,2 @@
+//! Commands over a link in memory. Memory is ample.
+use super::*;
