@@ -62,7 +62,7 @@ fn one_name(alloc: Global, name: &Bytes) -> Result<Names, NoMemory>
 fn known_id(name: &[u8], id: i32) -> Result<i32, Stop>
     ensures { result ≡ known_id name.now id }
 {
-    if id == ANONYMOUS && name != b"anonymous" {
+    if id == ANONYMOUS && name != b"anonymous".as_slice() {
         Err(Stop::Refused(Refusal::Rule(NO_ENTRY)))
     } else {
         Ok(id)
@@ -107,7 +107,7 @@ fn names_of_pieces<L: Link>(
     for ids in pieces {
         let found: Names = ask(client, link, &PtCall::IdToName { ids })?;
         for name in found.into_vec() {
-            names.push(name)?;
+            names.push(name).map_err(NoMemory::from)?;
         }
     }
     Ok(Items::new(names))
