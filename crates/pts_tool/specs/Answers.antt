@@ -45,8 +45,11 @@ entry_in c (answer.Entry entry) = Some entry
 entry_in c _ = None
 
 -- a name for each id that was asked for
+abbrev pub counted : ℕ → List (List ℕ) → Option (List (List ℕ))
+counted count names = if length names == count then Some names else None
+
 abbrev pub names_in : PtCall → PtAnswer → Option (List (List ℕ))
-names_in c (answer.Names names) = if length names == names_asked c then Some names else None
+names_in c (answer.Names names) = counted (names_asked c) names
 names_in c _ = None
 
 -- a page of entries behind the id above which it was asked for

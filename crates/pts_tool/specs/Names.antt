@@ -1,7 +1,6 @@
 -- Names and ids of entries: each by the other.
-use Rattle.std.specs.Prelude.{ℕ, ℤ, pos, ◌&&◌, not, if◌then◌else◌, List, [], ◌∷◌, ◌++◌, length, take, drop, zero, suc, codes, Option, Some, None, Result, Ok, Err}
+use Rattle.std.specs.Prelude.{ℕ, ℤ, pos, ◌+◌, ◌/◌, ◌&&◌, not, if◌then◌else◌, List, [], ◌∷◌, ◌++◌, length, take, drop, zero, suc, codes, Option, Some, None, Result, Ok, Err}
 use Rattle.std.specs.Ordering.{int_eq}
-use Rattle.std.specs.Slice.Iter.{chunk_count}
 use Rattle.std.specs.Str.{bytes_eq}
 use Rattle.pt_calls.specs.declared.calls.PtCall.TheVariants as call
 use Rattle.pt_calls.specs.declared.limits.TheConstants.{MAX_LIST}
@@ -30,18 +29,15 @@ abbrev pub owner_id : Option (List ℕ) → Course ℤ
 owner_id None = gives (pos 0)
 owner_id (Some word) = the_id word
 
--- pieces of at most as many items as a list in a call may have
-abbrev pub pieces_by : ℕ → List ℤ → List (List ℤ)
-pieces_by zero ids = []
-pieces_by (suc count) ids = take MAX_LIST ids ∷ pieces_by count (drop MAX_LIST ids)
+-- how many calls translate so many ids
+abbrev pub calls_for : ℕ → ℕ
+calls_for count = (count + 4999) / MAX_LIST
 
-abbrev pub pieces : List ℤ → List (List ℤ)
-pieces ids = pieces_by (chunk_count (length ids) MAX_LIST) ids
-
--- the names of ids, piece by piece, behind these
-abbrev pub names_behind : List (List ℕ) → List (List ℤ) → Course (List (List ℕ))
-names_behind names [] = gives names
-names_behind names (piece ∷ more) = asks names_in (call.IdToName piece) >>= λ found. names_behind (names ++ found) more
+-- the names of ids behind these, in so many calls; no call has more ids than a list may have
+abbrev pub names_by : ℕ → List (List ℕ) → List ℤ → Course (List (List ℕ))
+names_by zero names ids = gives names
+names_by (suc count) names ids =
+    asks names_in (call.IdToName (take MAX_LIST ids)) >>= λ found. names_by count (names ++ found) (drop MAX_LIST ids)
 
 unfoldable pub the_names : List ℤ → Course (List (List ℕ))
-the_names ids = names_behind [] (pieces ids)
+the_names ids = names_by (calls_for (length ids)) [] ids

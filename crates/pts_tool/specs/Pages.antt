@@ -1,6 +1,6 @@
 -- Pages of entries.
 use Rattle.std.specs.Prelude.{ℤ, ◌&&◌, Bool, true, List, [], ◌∷◌}
-use Rattle.std.specs.Ordering.{int_lt}
+use Rattle.std.specs.Prelude.{int_lt}
 use Rattle.pt_calls.specs.declared.answers.PtEntry.{PtEntry}
 
 -- the ids ascend, and each is above this one

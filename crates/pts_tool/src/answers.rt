@@ -1,6 +1,6 @@
 //! What a command takes from an answer.
 ghost use Rattle.std.specs.Prelude.{◌≡◌};
-ghost use Rattle.pts_tool.specs.Answers.{done_in, id_in, ids_in, maxima_in, entry_in, names_in, page_in, names_asked, asked_after, page_after};
+ghost use Rattle.pts_tool.specs.Answers.{done_in, id_in, ids_in, maxima_in, entry_in, names_in, page_in, names_asked, counted, asked_after, page_after};
 ghost use Rattle.pts_tool.specs.Pages.{is_page};
 
 use pt_calls::{Entries, Ids, Names, PtAnswer, PtCall, PtEntry};
@@ -89,7 +89,7 @@ impl FromAnswer for Names {
 
     fn take(call: &PtCall, answer: PtAnswer) -> Option<Names> {
         match answer {
-            PtAnswer::Names(names) if names.as_slice().len() == names_asked(call) => Some(names),
+            PtAnswer::Names(names) => counted(names_asked(call), names),
             _ => None,
         }
     }
@@ -113,6 +113,17 @@ fn names_asked(call: &PtCall) -> usize
     match call {
         PtCall::IdToName { ids } => ids.as_slice().len(),
         _ => 0,
+    }
+}
+
+/// Names, where they are so many.
+fn counted(count: usize, names: Names) -> Option<Names>
+    ensures { result ≡ counted count names }
+{
+    if names.as_slice().len() == count {
+        Some(names)
+    } else {
+        None
     }
 }
 

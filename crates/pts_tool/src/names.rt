@@ -1,10 +1,10 @@
 //! Names and ids of entries: each by the other.
 ghost use Rattle.std.specs.Prelude.{◌≡◌, [], ◌∷◌, IfOk};
 ghost use Rattle.pt_calls.specs.declared.calls.PtCall.TheVariants as call;
-ghost use Rattle.pts_tool.specs.Answers.{id_in};
+ghost use Rattle.pts_tool.specs.Answers.{id_in, names_in};
 ghost use Rattle.pts_tool.specs.Asking.{asks};
 ghost use Rattle.tool_base.specs.Course.{◌>>=◌, still};
-ghost use Rattle.pts_tool.specs.Names.{known_id, the_id, owner_id, pieces, names_behind, the_names};
+ghost use Rattle.pts_tool.specs.Names.{known_id, the_id, owner_id, the_names};
 ghost use Rattle.tool_base.specs.Running.{Ran};
 
 use crate::asking::ask;
@@ -91,35 +91,35 @@ pub(crate) fn names_of<L: Link>(
 ) -> Result<Names, Stop>
     ensures { Ran (the_names ids.now) client.old client.new (L.exchanges link.old) (L.exchanges link.new) result }
 {
-    let pieces = pieces(client.alloc(), ids)?;
-    names_of_pieces(client, link, pieces)
-}
-
-/// The names of the ids of lists, none of which is longer than a call may be.
-fn names_of_pieces<L: Link>(
-    client: &mut Client<'_>,
-    link: &mut L,
-    pieces: Vec<Ids>,
-) -> Result<Names, Stop>
-    ensures { Ran (names_behind [] pieces.items) client.old client.new (L.exchanges link.old) (L.exchanges link.new) result }
-{
+    let calls = (ids.len() + 4999) / MAX_LIST as usize;
     let mut names = Vec::new(client.alloc());
-    for ids in pieces {
-        let found: Names = ask(client, link, &PtCall::IdToName { ids })?;
-        for name in found.into_vec() {
-            names.push(name).map_err(NoMemory::from)?;
-        }
+    let mut left = ids;
+    for _ in 0..calls {
+        let (now, later) = left.split_at(left.len().min(MAX_LIST as usize));
+        let found = names_of_some(client, link, now)?;
+        names
+            .append(&mut found.into_vec())
+            .map_err(NoMemory::from)?;
+        left = later;
     }
     Ok(Items::new(names))
 }
 
-/// Ids in pieces of at most as many as a call has.
-fn pieces(alloc: Global, ids: &[i32]) -> Result<Vec<Ids>, NoMemory>
-    ensures { IfOk result (λ lists. lists.items ≡ pieces ids.now) }
+/// The names of ids that one call may have.
+fn names_of_some<L: Link>(
+    client: &mut Client<'_>,
+    link: &mut L,
+    ids: &[i32],
+) -> Result<Names, Stop>
+    ensures { Ran (asks names_in (call.IdToName ids.now)) client.old client.new (L.exchanges link.old) (L.exchanges link.new) result }
 {
-    let mut lists = Vec::new(alloc);
-    for piece in ids.chunks(MAX_LIST as usize) {
-        lists.push(Items::new(piece.to_vec(alloc)?))?;
-    }
-    Ok(lists)
+    let ids = some_ids(client.alloc(), ids)?;
+    ask(client, link, &PtCall::IdToName { ids })
+}
+
+/// A copy of ids.
+fn some_ids(alloc: Global, ids: &[i32]) -> Result<Ids, NoMemory>
+    ensures { IfOk result (λ list. list ≡ ids.now) }
+{
+    Ok(Items::new(ids.to_vec(alloc)?))
 }

@@ -60,15 +60,14 @@ fn made(
 {
     let mut tasks = Vec::new(alloc);
     let mut left = ids;
-    for name in names {
-        let name = bytes_of(alloc, name.as_bytes())?;
-        let owner = copied(alloc, owner)?;
-        let id = number_in(left);
+    for word in names {
+        let name = bytes_of(alloc, word.as_bytes())?;
+        let by = copied(alloc, owner)?;
         tasks.push(Task::Create {
             name,
             is_group,
-            owner,
-            id,
+            owner: by,
+            id: number_in(left),
         })?;
         left = behind(left);
     }
@@ -100,8 +99,8 @@ fn each(alloc: Global, operation: Operation, entries: &[Word]) -> Result<Vec<Tas
     ensures { IfOk result (λ tasks. tasks.items ≡ map (entry_task operation) entries.now) }
 {
     let mut tasks = Vec::new(alloc);
-    for entry in entries {
-        let entry = bytes_of(alloc, entry.as_bytes())?;
+    for word in entries {
+        let entry = bytes_of(alloc, word.as_bytes())?;
         tasks.push(entry_task(operation, entry))?;
     }
     Ok(tasks)
@@ -165,10 +164,14 @@ fn put_pairs(
 ) -> Result<(), NoMemory>
     ensures { OnOk result (tasks.new.items ≡ tasks.old.items ++ map (λ group. task.Member user.now group adds) groups.now) }
 {
-    for group in groups {
-        let user = bytes_of(alloc, user)?;
-        let group = bytes_of(alloc, group.as_bytes())?;
-        tasks.push(Task::Member { user, group, adds })?;
+    for word in groups {
+        let member = bytes_of(alloc, user)?;
+        let group = bytes_of(alloc, word.as_bytes())?;
+        tasks.push(Task::Member {
+            user: member,
+            group,
+            adds,
+        })?;
     }
     Ok(())
 }
@@ -203,16 +206,16 @@ fn fields(
     ensures { IfOk result (λ tasks. tasks.items ≡ map (fields flags quota) entries.now) }
 {
     let mask = mask_of(flags, quota);
-    let flags = flags.unwrap_or(0);
-    let quota = quota.unwrap_or(0);
+    let bits = flags.unwrap_or(0);
+    let limit = quota.unwrap_or(0);
     let mut tasks = Vec::new(alloc);
-    for entry in entries {
-        let entry = bytes_of(alloc, entry.as_bytes())?;
+    for word in entries {
+        let entry = bytes_of(alloc, word.as_bytes())?;
         tasks.push(Task::SetFields {
             entry,
             mask,
-            flags,
-            quota,
+            flags: bits,
+            quota: limit,
         })?;
     }
     Ok(tasks)

@@ -25,12 +25,12 @@ pub(crate) fn made_text(
 }
 
 /// A line that names an entry with its id.
-fn named_line(
+fn named_line<'a>(
     alloc: Global,
-    before: &[u8],
-    name: &[u8],
+    before: &'a [u8],
+    name: &'a [u8],
     id: i32,
-    behind: &[u8],
+    behind: &'a [u8],
 ) -> Result<Bytes, NoMemory>
     ensures { IfOk result (λ text. text ≡ named_line before.now name.now id behind.now) }
 {
@@ -98,11 +98,11 @@ fn name_at(names: &Names, place: usize) -> &[u8]
     }
 }
 
-fn title_line(
+fn title_line<'a>(
     alloc: Global,
-    entry: &PtEntry,
-    owner: &[u8],
-    creator: &[u8],
+    entry: &'a PtEntry,
+    owner: &'a [u8],
+    creator: &'a [u8],
 ) -> Result<Bytes, NoMemory>
     ensures { IfOk result (λ text. text ≡ title_line entry.now owner.now creator.now) }
 {
