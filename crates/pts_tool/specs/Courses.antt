@@ -22,9 +22,18 @@ unfoldable pub does : PtCall → Course (List ℕ)
 does call = asks done_in call >>= λ done. gives []
 
 -- an entry is made with the next id, or with this one
+abbrev pub kind_of : Bool → ℕ
+kind_of is_group = if is_group then 2 else 0
+
+unfoldable pub next_id : List ℕ → Bool → ℤ → Course ℤ
+next_id name is_group owner = asks id_in (call.NewEntry name (kind_of is_group) owner)
+
+unfoldable pub given_id : List ℕ → ℤ → ℤ → Course ℤ
+given_id name owner id = asks done_in (call.INewEntry name id owner) >>= λ done. gives id
+
 abbrev pub new_id : List ℕ → Bool → ℤ → Option ℤ → Course ℤ
-new_id name is_group owner None = asks id_in (call.NewEntry name (if is_group then 2 else 0) owner)
-new_id name is_group owner (Some id) = asks done_in (call.INewEntry name id owner) >>= λ done. gives id
+new_id name is_group owner None = next_id name is_group owner
+new_id name is_group owner (Some id) = given_id name owner id
 
 unfoldable pub creates : List ℕ → Bool → Option (List ℕ) → Option ℤ → Course (List ℕ)
 creates name is_group owner id =
@@ -56,10 +65,11 @@ lists_members entry =
     >>= λ found. lists_names (members_line found.name found.id) (call.ListElements id)
 
 -- the groups that an entry owns; nobody's are listed under the id 0, which no entry has
+unfoldable pub found_line : ℤ → Course (List ℕ)
+found_line id = asks entry_in (call.ListEntry id) >>= λ found. gives (owned_line found.name found.id)
+
 unfoldable pub owner_line : ℤ → Course (List ℕ)
-owner_line id =
-    if int_eq id (pos 0) then gives (owned_line (codes "0") (pos 0))
-    else asks entry_in (call.ListEntry id) >>= λ found. gives (owned_line found.name found.id)
+owner_line id = if int_eq id (pos 0) then gives (owned_line (codes "0") (pos 0)) else found_line id
 
 unfoldable pub lists_owned : List ℕ → Course (List ℕ)
 lists_owned entry = the_id entry >>= λ id. owner_line id >>= λ head. lists_names head (call.ListOwned id)

@@ -16,10 +16,13 @@ use Rattle.pts_tool.specs.Asking.{asks}
 abbrev pub known_id : List ℕ → ℤ → Result ℤ Stop
 known_id name id = if int_eq id (pos 32766) && not (bytes_eq name (codes "anonymous")) then Err (Refused (Rule 267268)) else Ok id
 
+unfoldable pub name_id : List ℕ → Course ℤ
+name_id name = asks id_in (call.NameToId (name ∷ [])) >>= λ id. still (known_id name id)
+
 -- the id of an entry that there is: a decimal number is an id, and a name is translated
 abbrev pub id_or : Option ℤ → List ℕ → Course ℤ
 id_or (Some id) word = gives id
-id_or None word = asks id_in (call.NameToId (word ∷ [])) >>= λ id. still (known_id word id)
+id_or None word = name_id word
 
 unfoldable pub the_id : List ℕ → Course ℤ
 the_id word = id_or (signed_of word) word

@@ -46,10 +46,12 @@ title_line entry owner creator =
     joined (codes "Name: " ∷ entry.name ∷ codes ", id: " ∷ signed_decimal entry.id ∷ codes ", owner: " ∷ owner
     ∷ codes ", creator: " ∷ creator ∷ codes "," ∷ end ∷ [])
 
+abbrev pub fields_of : (count flags quota : List ℕ) → List ℕ
+fields_of count flags quota =
+    joined (codes "  membership: " ∷ count ∷ codes ", flags: " ∷ flags ∷ codes ", group quota: " ∷ quota ∷ codes "." ∷ end ∷ [])
+
 abbrev pub fields_line : PtEntry → List ℕ
-fields_line entry =
-    joined (codes "  membership: " ∷ decimal entry.count ∷ codes ", flags: " ∷ flags_text entry.flags
-    ∷ codes ", group quota: " ∷ signed_decimal entry.quota ∷ codes "." ∷ end ∷ [])
+fields_line entry = fields_of (decimal entry.count) (flags_text entry.flags) (signed_decimal entry.quota)
 
 abbrev pub entry_text : PtEntry → List (List ℕ) → List ℕ
 entry_text entry names = title_line entry (name_at names 0) (name_at names 1) ++ fields_line entry

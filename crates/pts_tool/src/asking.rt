@@ -1,10 +1,10 @@
 //! A call of the protection database, asked of the hosts.
-ghost use Rattle.std.specs.Prelude.{◌≡◌, ◌≢◌, IsTrue, Err};
+ghost use Rattle.std.specs.Prelude.{◌≡◌, ◌≢◌, true, Err};
 ghost use Rattle.pt_calls.specs.Built.{is_write};
 ghost use Rattle.pt_calls.specs.Calls.{spelling};
 ghost use Rattle.pts_tool.specs.Asking.{is_short, has_spelling, taken_from, asks};
 ghost use Rattle.tool_base.specs.Asking.{asks_call, asks_hosts};
-ghost use Rattle.tool_base.specs.Hearing.{verdict};
+ghost use Rattle.tool_base.specs.Hearing.{taken, verdict};
 ghost use Rattle.tool_base.specs.Running.{Ran};
 
 use crate::answers::FromAnswer;
@@ -12,7 +12,7 @@ use io_base::Link;
 use pt_calls::{MAX_LIST, MAX_NAME, PtCall, read_answer, spell_call};
 use std::alloc::Global;
 use tool_base::{Client, Heard, Refusal, Stop, after_silence};
-use ubik_types::Bytes;
+use ubik_types::{Bytes, Host};
 
 /// Asks a call of the hosts, and takes from the answer what it is asked for. A call that is too long for its grammar
 /// is not asked.
@@ -23,10 +23,11 @@ pub(crate) fn ask<L: Link, A: FromAnswer>(
 ) -> Result<A, Stop>
     ensures { Ran (asks A.taken call.now) client.old client.new (L.exchanges link.old) (L.exchanges link.new) result }
 {
-    if !has_spelling(call) {
-        return Err(Stop::Refused(Refusal::Malformed));
+    if has_spelling(call) {
+        ask_spelled(client, link, call)
+    } else {
+        Err(Stop::Refused(Refusal::Malformed))
     }
-    ask_spelled(client, link, call)
 }
 
 /// Asks a call that has a spelling.
@@ -35,14 +36,14 @@ fn ask_spelled<L: Link, A: FromAnswer>(
     link: &mut L,
     call: &PtCall,
 ) -> Result<A, Stop>
-    requires { IsTrue (has_spelling call.now) }
+    requires { has_spelling call.now ≡ true }
     ensures { Ran (asks_call (is_write call.now) (taken_from (A.taken call.now) call.now) (spelling call.now))
         client.old client.new (L.exchanges link.old) (L.exchanges link.new) result }
 {
     let spelled = spell_call(client.alloc(), call)?;
     client.count();
     let frame = client.frame(spelled)?;
-    ask_hosts(client, link, call, frame.as_slice())
+    ask_hosts(client, link, call, frame.as_slice(), client.hosts())
 }
 
 /// Sends the frame of a call to one host after the other, until one settles the call.
@@ -51,12 +52,13 @@ fn ask_hosts<L: Link, A: FromAnswer>(
     link: &mut L,
     call: &PtCall,
     frame: &[u8],
+    hosts: &[Host],
 ) -> Result<A, Stop>
-    ensures { Ran (asks_hosts (is_write call.now) (taken_from (A.taken call.now) call.now) frame.now client.now.hosts)
+    ensures { Ran (asks_hosts (is_write call.now) (taken_from (A.taken call.now) call.now) frame.now hosts.now)
         client.now client.now (L.exchanges link.old) (L.exchanges link.new) result }
 {
     let mut reply = Vec::new(client.alloc());
-    for host in client.hosts() {
+    for host in hosts {
         let heard = client.hear(link, *host, frame, &mut reply)?;
         if let Some(found) = settled(client.alloc(), call, heard)? {
             return Ok(found);

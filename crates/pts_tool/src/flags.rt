@@ -1,5 +1,5 @@
 //! The flags of an entry and the letters of its access (ptserver): five places of four bits.
-ghost use Rattle.std.specs.Prelude.{◌≡◌, ◌<◌, ◌≤◌, length};
+ghost use Rattle.std.specs.Prelude.{◌≡◌, ◌<◌, ◌≤◌, ◌==◌, length, position, IfSome};
 ghost use Rattle.pts_tool.specs.Flags.{letter_of, value_of, flags_text, flags_of};
 
 /// The letters of each place, by the value of its bits: `-` stands where a value has none.
@@ -51,8 +51,16 @@ fn value_of(letters: &[u8], letter: u8) -> u32
     ensures value { result ≡ value_of letters.now letter }
     ensures bound { result < 16 }
 {
-    match letters.iter().position(|other| *other == letter) {
+    match place_of(letters, letter) {
         Some(value) => value as u32,
         None => 0,
     }
+}
+
+/// Where a letter stands first.
+fn place_of(letters: &[u8], letter: u8) -> Option<usize>
+    ensures place { result ≡ position (λ other. other == letter) letters.now }
+    ensures bound { IfSome result (λ place. place < length letters.now) }
+{
+    letters.iter().position(|other| *other == letter)
 }

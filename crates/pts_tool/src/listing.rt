@@ -1,6 +1,7 @@
 //! What is told of entries.
-ghost use Rattle.std.specs.Prelude.{◌≡◌, [], ◌∷◌};
-ghost use Rattle.pts_tool.specs.Courses.{lists_names, lists_members, owner_line, lists_owned, examines, lists_pages, lists_entries, lists_maxima};
+ghost use Rattle.std.specs.Prelude.{◌≡◌, [], ◌∷◌, pos};
+ghost use Rattle.std.specs.Ordering.{int_eq};
+ghost use Rattle.pts_tool.specs.Courses.{lists_names, lists_members, found_line, owner_line, lists_owned, examines, lists_pages, lists_entries, lists_maxima};
 ghost use Rattle.pts_tool.specs.Pages.{last_id};
 ghost use Rattle.tool_base.specs.Running.{Ran};
 
@@ -47,13 +48,27 @@ pub(crate) fn list_owned<L: Link>(
 fn owner_line<L: Link>(client: &mut Client<'_>, link: &mut L, id: i32) -> Result<Bytes, Stop>
     ensures { Ran (owner_line id) client.old client.new (L.exchanges link.old) (L.exchanges link.new) result }
 {
-    let alloc = client.alloc();
-    if id == 0 {
-        let line = owned_line(alloc, b"0", 0)?;
-        return Ok(line);
+    if is_nobody(id) {
+        let line = owned_line(client.alloc(), b"0", 0)?;
+        Ok(line)
+    } else {
+        found_line(client, link, id)
     }
+}
+
+/// Whether an id is the one that no entry has.
+fn is_nobody(id: i32) -> bool
+    ensures { result ≡ int_eq id (pos 0) }
+{
+    id == 0
+}
+
+/// The line before the groups that an entry owns.
+fn found_line<L: Link>(client: &mut Client<'_>, link: &mut L, id: i32) -> Result<Bytes, Stop>
+    ensures { Ran (found_line id) client.old client.new (L.exchanges link.old) (L.exchanges link.new) result }
+{
     let found: PtEntry = ask(client, link, &PtCall::ListEntry { id })?;
-    let line = owned_line(alloc, found.name.as_slice(), found.id)?;
+    let line = owned_line(client.alloc(), found.name.as_slice(), found.id)?;
     Ok(line)
 }
 

@@ -1,5 +1,6 @@
 //! Entries that are made, removed and changed, and users that are put into groups.
-ghost use Rattle.pts_tool.specs.Courses.{new_id, creates, deletes, changes, moves};
+ghost use Rattle.std.specs.Prelude.{◌≡◌};
+ghost use Rattle.pts_tool.specs.Courses.{kind_of, next_id, given_id, new_id, member_call, creates, deletes, changes, moves};
 ghost use Rattle.tool_base.specs.Running.{Ran};
 
 use crate::asking::ask;
@@ -39,11 +40,45 @@ fn new_id<L: Link>(
 ) -> Result<i32, Stop>
     ensures { Ran (new_id name.now is_group owner id) client.old client.new (L.exchanges link.old) (L.exchanges link.new) result }
 {
+    match id {
+        Some(id) => given_id(client, link, name, owner, id),
+        None => next_id(client, link, name, is_group, owner),
+    }
+}
+
+/// Makes an entry with the next id, and gives the id.
+fn next_id<L: Link>(
+    client: &mut Client<'_>,
+    link: &mut L,
+    name: &Bytes,
+    is_group: bool,
+    owner: i32,
+) -> Result<i32, Stop>
+    ensures { Ran (next_id name.now is_group owner) client.old client.new (L.exchanges link.old) (L.exchanges link.new) result }
+{
     let name = bytes_of(client.alloc(), name.as_slice())?;
-    let Some(id) = id else {
-        let kind = if is_group { 2 } else { 0 };
-        return ask(client, link, &PtCall::NewEntry { name, kind, owner });
-    };
+    let kind = kind_of(is_group);
+    ask(client, link, &PtCall::NewEntry { name, kind, owner })
+}
+
+/// The kind of an entry in a call.
+fn kind_of(is_group: bool) -> u32
+    ensures { result ≡ kind_of is_group }
+{
+    if is_group { 2 } else { 0 }
+}
+
+/// Makes an entry with this id.
+fn given_id<L: Link>(
+    client: &mut Client<'_>,
+    link: &mut L,
+    name: &Bytes,
+    owner: i32,
+    id: i32,
+) -> Result<i32, Stop>
+    ensures { Ran (given_id name.now owner id) client.old client.new (L.exchanges link.old) (L.exchanges link.new) result }
+{
+    let name = bytes_of(client.alloc(), name.as_slice())?;
     let () = ask(client, link, &PtCall::INewEntry { name, id, owner })?;
     Ok(id)
 }
@@ -94,10 +129,16 @@ pub(crate) fn move_member<L: Link>(
 {
     let member = entry_id(client, link, user)?;
     let group = entry_id(client, link, group)?;
-    let call = if adds {
+    let call = member_call(adds, member, group);
+    do_call(client, link, &call)
+}
+
+fn member_call(adds: bool, member: i32, group: i32) -> PtCall
+    ensures { result ≡ member_call adds member group }
+{
+    if adds {
         PtCall::AddToGroup { member, group }
     } else {
         PtCall::RemoveFromGroup { member, group }
-    };
-    do_call(client, link, &call)
+    }
 }

@@ -1,10 +1,9 @@
 //! Names and ids of entries: each by the other.
-ghost use Rattle.std.specs.Prelude.{◌≡◌, [], ◌∷◌, IfOk};
+ghost use Rattle.std.specs.Prelude.{◌≡◌, [], ◌∷◌, ◌++◌, take, drop, IfOk};
 ghost use Rattle.pt_calls.specs.declared.calls.PtCall.TheVariants as call;
-ghost use Rattle.pts_tool.specs.Answers.{id_in, names_in};
+ghost use Rattle.pts_tool.specs.Answers.{names_in};
 ghost use Rattle.pts_tool.specs.Asking.{asks};
-ghost use Rattle.tool_base.specs.Course.{◌>>=◌, still};
-ghost use Rattle.pts_tool.specs.Names.{known_id, the_id, owner_id, the_names};
+ghost use Rattle.pts_tool.specs.Names.{known_id, name_id, the_id, owner_id, the_names};
 ghost use Rattle.tool_base.specs.Running.{Ran};
 
 use crate::asking::ask;
@@ -41,8 +40,7 @@ fn name_id<L: Link>(
     link: &mut L,
     name: &Bytes,
 ) -> Result<i32, Stop>
-    ensures { Ran (asks id_in (call.NameToId (name.now ∷ [])) >>= λ id. still (known_id name.now id))
-        client.old client.new (L.exchanges link.old) (L.exchanges link.new) result }
+    ensures { Ran (name_id name.now) client.old client.new (L.exchanges link.old) (L.exchanges link.new) result }
 {
     let names = one_name(client.alloc(), name)?;
     let id = ask(client, link, &PtCall::NameToId { names })?;
@@ -95,14 +93,32 @@ pub(crate) fn names_of<L: Link>(
     let mut names = Vec::new(client.alloc());
     let mut left = ids;
     for _ in 0..calls {
-        let (now, later) = left.split_at(left.len().min(MAX_LIST as usize));
+        let (now, later) = split(left);
         let found = names_of_some(client, link, now)?;
-        names
-            .append(&mut found.into_vec())
-            .map_err(NoMemory::from)?;
+        let all = extended(names, found)?;
+        names = all;
         left = later;
     }
     Ok(Items::new(names))
+}
+
+/// The first ids, as many as one call may have, and those behind them.
+#[tactic(auto, using(std::proofs::lemmas::List::take_min, std::proofs::lemmas::List::drop_min))]
+fn split(ids: &[i32]) -> (&[i32], &[i32])
+    ensures now { result.0.now ≡ take MAX_LIST ids.now }
+    ensures later { result.1.now ≡ drop MAX_LIST ids.now }
+{
+    let count = (MAX_LIST as usize).min(ids.len());
+    (&ids[..count], &ids[count..])
+}
+
+/// Names with more behind them.
+fn extended(names: Vec<Bytes>, more: Names) -> Result<Vec<Bytes>, NoMemory>
+    ensures { IfOk result (λ all. all.items ≡ names.items ++ more) }
+{
+    let mut all = names;
+    all.append(&mut more.into_vec())?;
+    Ok(all)
 }
 
 /// The names of ids that one call may have.

@@ -31,7 +31,7 @@ pub fn run_pts<L: Link, K: Sink>(
     out: &mut K,
     err: &mut K,
 ) -> ToolEnd
-    ensures commanded { let asker = record { hosts = hosts.now; port = PORT; number = 0 } in
+    ensures commanded { let asker : Asker = record { hosts = hosts.now; port = PORT; number = 0 } in
         Commanded (codes "pts") (pts_course words.now) asker (L.exchanges link.old) (L.exchanges link.new) result.status
         (K.written out.old) (K.written out.new) (K.written err.old) (K.written err.new) }
     ensures cause { HasCause (K.faults out.old + K.faults err.old) (K.faults out.new + K.faults err.new) (result.status ≡ 4) }

@@ -1,7 +1,7 @@
 //! What `pts` writes (the manual pages of pts).
 ghost use Rattle.std.specs.Prelude.{◌≡◌, ◌++◌, IfOk};
 ghost use Rattle.std.specs.List.{flat_map};
-ghost use Rattle.pts_tool.specs.Texts.{made_text, named_line, name_line, names_text, members_line, owned_line, name_at, title_line, fields_line, entry_text, row, head_row, entry_row, rows, maxima_text};
+ghost use Rattle.pts_tool.specs.Texts.{made_text, named_line, name_line, names_text, members_line, owned_line, name_at, title_line, fields_of, fields_line, entry_text, row, head_row, entry_row, rows, maxima_text};
 
 use crate::answers::Maxima;
 use crate::flags::flags_text;
@@ -130,15 +130,26 @@ fn fields_line(alloc: Global, entry: &PtEntry) -> Result<Bytes, NoMemory>
     let count = number_text(alloc, entry.count)?;
     let quota = signed_text(alloc, entry.quota)?;
     let flags = flags_text(entry.flags);
+    fields_of(alloc, count.as_bytes(), &flags, quota.as_bytes())
+}
+
+fn fields_of<'a>(
+    alloc: Global,
+    count: &'a [u8],
+    flags: &'a [u8],
+    quota: &'a [u8],
+) -> Result<Bytes, NoMemory>
+    ensures { IfOk result (λ text. text ≡ fields_of count.now flags.now quota.now) }
+{
     joined(
         alloc,
         &[
             b"  membership: ",
-            count.as_bytes(),
+            count,
             b", flags: ",
-            &flags,
+            flags,
             b", group quota: ",
-            quota.as_bytes(),
+            quota,
             b".",
             b"\n",
         ],

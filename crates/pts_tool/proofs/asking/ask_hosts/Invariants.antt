@@ -7,5 +7,5 @@ use Rattle.pts_tool.proofs.asking.ask_hosts.Given as goal
 
 abbrev pub invariant-loop-host : goal.invariant-loop-host
 invariant-loop-host g l =
-    Led (asks_hosts (is_write l.call) (taken_from (g.A.FromAnswer.taken l.call) l.call) l.frame l.client.hosts) l.client (g.L.Link.exchanges l.initial.link) []
-    (asks_hosts (is_write l.call) (taken_from (g.A.FromAnswer.taken l.call) l.call) l.frame (drop l.host-index l.host-items)) l.client (g.L.Link.exchanges l.link)
+    Led (asks_hosts (is_write l.call) (taken_from (g.A.FromAnswer.taken l.call) l.call) l.frame l.hosts) l.client (g.L.Link.exchanges l.initial.link) []
+    (asks_hosts (is_write l.call) (taken_from (g.A.FromAnswer.taken l.call) l.call) l.frame (drop l.host-index l.hosts)) l.client (g.L.Link.exchanges l.link)
