@@ -99,4 +99,6 @@ pages_all first n i kinds after text s0 s e0 e le led =
 pub last_is : (after : ℤ) (entries : List PtEntry) (x : PtEntry) → 1 ≤ length entries → x ≡ get_or entries (length entries - 1) x → x.id ≡ last_id after entries
 last_is after [] x some is = absurd (omega arith)
 last_is after (entry ∷ []) x some is = ap (λ (e : PtEntry). e.id) is
-last_is after (entry ∷ next ∷ entries) x some is = last_is entry.id (next ∷ entries) x (omega arith) is
+last_is after (entry ∷ next ∷ entries) x some is =
+    let one_less : length (entry ∷ next ∷ entries) - 1 ≡ suc (length (next ∷ entries) - 1) = omega arith in
+    last_is entry.id (next ∷ entries) x (omega arith) (rw (one_less) at is)

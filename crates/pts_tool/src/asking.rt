@@ -1,5 +1,6 @@
 //! A call of the protection database, asked of the hosts.
 ghost use Rattle.std.specs.Prelude.{◌≡◌, ◌≢◌, true, Err};
+ghost use Rattle.std.specs.List.{list_all};
 ghost use Rattle.pt_calls.specs.Built.{is_write};
 ghost use Rattle.pt_calls.specs.Calls.{spelling};
 ghost use Rattle.pts_tool.specs.Asking.{is_short, has_spelling, taken_from, asks};
@@ -118,11 +119,18 @@ fn has_spelling(call: &PtCall) -> bool
         | PtCall::INewEntry { name, .. }
         | PtCall::ChangeEntry { name, .. } => is_short(name),
         PtCall::NameToId { names } => {
-            names.as_slice().len() <= MAX_LIST as usize && names.as_slice().iter().all(is_short)
+            names.as_slice().len() <= MAX_LIST as usize && are_short(names.as_slice())
         }
         PtCall::IdToName { ids } => ids.as_slice().len() <= MAX_LIST as usize,
         _ => true,
     }
+}
+
+/// Whether all names are no longer than a call's names may be.
+fn are_short(names: &[Bytes]) -> bool
+    ensures { result ≡ list_all is_short names.now }
+{
+    names.iter().all(|name| is_short(name))
 }
 
 /// Whether a name is no longer than a call's names may be.

@@ -108,8 +108,7 @@ fn split(ids: &[i32]) -> (&[i32], &[i32])
     ensures now { result.0.now ≡ take MAX_LIST ids.now }
     ensures later { result.1.now ≡ drop MAX_LIST ids.now }
 {
-    let count = (MAX_LIST as usize).min(ids.len());
-    (&ids[..count], &ids[count..])
+    ids.split_at((MAX_LIST as usize).min(ids.len()))
 }
 
 /// Names with more behind them.

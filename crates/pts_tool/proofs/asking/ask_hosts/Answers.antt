@@ -22,8 +22,8 @@ returns-in_err-found g c =
 
 pub returns-in-Some : goal.returns-in-Some
 returns-in-Some g c =
-    host_gave (is_write c.args.call.now) (taken_from (g.A.FromAnswer.taken c.args.call.now) c.args.call.now) c.args.frame.now (asks_hosts (is_write c.args.call.now) (taken_from (g.A.FromAnswer.taken c.args.call.now) c.args.call.now) c.args.frame.now c.args.hosts.now) c.args.client.now _ _ _ c.args.hosts.now c.loop-host.host-index _ c.in_ok-heard.heard c.settled.result c.in-Some.found cc c.settled.ensures (omega arith) (search rules) c.loop-host.invariant c.in_ok-heard.ensures
+    host_gave (is_write c.args.call.now) (taken_from (g.A.FromAnswer.taken c.args.call.now) c.args.call.now) c.args.frame.now (asks_hosts (is_write c.args.call.now) (taken_from (g.A.FromAnswer.taken c.args.call.now) c.args.call.now) c.args.frame.now c.args.hosts.now) c.args.client.now _ _ _ c.args.hosts.now c.loop-host.host-index _ c.in_ok-heard.heard c.settled.result c.in-Some.found (cc) c.settled.ensures (omega arith) (search rules) c.loop-host.invariant c.in_ok-heard.ensures
 
 pub loop-host-preserved : goal.loop-host-preserved
 loop-host-preserved g c =
-    host_next (is_write c.args.call.now) (taken_from (g.A.FromAnswer.taken c.args.call.now) c.args.call.now) c.args.frame.now (asks_hosts (is_write c.args.call.now) (taken_from (g.A.FromAnswer.taken c.args.call.now) c.args.call.now) c.args.frame.now c.args.hosts.now) c.args.client.now _ _ _ c.args.hosts.now c.loop-host.host-index _ c.in_ok-heard.heard c.settled.result cc c.settled.ensures (omega arith) (search rules) c.loop-host.invariant c.in_ok-heard.ensures
+    host_next (is_write c.args.call.now) (taken_from (g.A.FromAnswer.taken c.args.call.now) c.args.call.now) c.args.frame.now (asks_hosts (is_write c.args.call.now) (taken_from (g.A.FromAnswer.taken c.args.call.now) c.args.call.now) c.args.frame.now c.args.hosts.now) c.args.client.now _ _ _ c.args.hosts.now c.loop-host.host-index _ c.in_ok-heard.heard c.settled.result (cc) c.settled.ensures (omega arith) (search rules) c.loop-host.invariant c.in_ok-heard.ensures

@@ -23,7 +23,7 @@ unfolding examines
 returns-in_err-found g c =
     let fits0 : FitsSigned w32 c.in_ok-id.id = search rules in
     ran_then (λ (id : ℤ). asks entry_in (call.ListEntry id) >>= λ (found : PtEntry). the_names (found.owner ∷ found.creator ∷ []) >>= λ (names : List (List ℕ)). gives (entry_text found names)) c.in_ok-id.id refl c.in_ok-id.ensures
-    (ran_broken (λ (found : PtEntry). the_names (found.owner ∷ found.creator ∷ []) >>= λ (names : List (List ℕ)). gives (entry_text found names)) c.in_err-found.field-0.0 c.from_residual-in_err-found.result c.from_residual-in_err-found.ensures.1 refl (rw to_z-of_z w32 c.in_ok-id.id fits0 at c.in_err-found.ensures))
+    (ran_broken (λ (found : PtEntry). the_names (found.owner ∷ found.creator ∷ []) >>= λ (names : List (List ℕ)). gives (entry_text found names)) c.in_err-found.field-0.0 c.from_residual-in_err-found.result c.from_residual-in_err-found.ensures.1 refl (rw (to_z-of_z w32 c.in_ok-id.id fits0) at c.in_err-found.ensures))
 
 pub returns-in_err-names : goal.returns-in_err-names
 unfolding examines
@@ -32,7 +32,7 @@ returns-in_err-names g c =
     let fits1 : FitsSigned w32 c.in_ok-found.found.owner = search rules in
     let fits2 : FitsSigned w32 c.in_ok-found.found.creator = search rules in
     ran_then (λ (id : ℤ). asks entry_in (call.ListEntry id) >>= λ (found : PtEntry). the_names (found.owner ∷ found.creator ∷ []) >>= λ (names : List (List ℕ)). gives (entry_text found names)) c.in_ok-id.id refl c.in_ok-id.ensures
-    (ran_then (λ (found : PtEntry). the_names (found.owner ∷ found.creator ∷ []) >>= λ (names : List (List ℕ)). gives (entry_text found names)) c.in_ok-found.found refl (rw to_z-of_z w32 c.in_ok-id.id fits0 at c.in_ok-found.ensures)
+    (ran_then (λ (found : PtEntry). the_names (found.owner ∷ found.creator ∷ []) >>= λ (names : List (List ℕ)). gives (entry_text found names)) c.in_ok-found.found refl (rw (to_z-of_z w32 c.in_ok-id.id fits0) at c.in_ok-found.ensures)
     (ran_broken (λ (names : List (List ℕ)). gives (entry_text c.in_ok-found.found names)) c.in_err-names.field-0.0 c.from_residual-in_err-names.result c.from_residual-in_err-names.ensures.1 refl (rw (to_z-of_z w32 c.in_ok-found.found.owner fits1, to_z-of_z w32 c.in_ok-found.found.creator fits2) at c.in_err-names.ensures)))
 
 pub returns-in_err-text : goal.returns-in_err-text
@@ -42,7 +42,7 @@ returns-in_err-text g c =
     let fits1 : FitsSigned w32 c.in_ok-found.found.owner = search rules in
     let fits2 : FitsSigned w32 c.in_ok-found.found.creator = search rules in
     ran_then (λ (id : ℤ). asks entry_in (call.ListEntry id) >>= λ (found : PtEntry). the_names (found.owner ∷ found.creator ∷ []) >>= λ (names : List (List ℕ)). gives (entry_text found names)) c.in_ok-id.id refl c.in_ok-id.ensures
-    (ran_then (λ (found : PtEntry). the_names (found.owner ∷ found.creator ∷ []) >>= λ (names : List (List ℕ)). gives (entry_text found names)) c.in_ok-found.found refl (rw to_z-of_z w32 c.in_ok-id.id fits0 at c.in_ok-found.ensures)
+    (ran_then (λ (found : PtEntry). the_names (found.owner ∷ found.creator ∷ []) >>= λ (names : List (List ℕ)). gives (entry_text found names)) c.in_ok-found.found refl (rw (to_z-of_z w32 c.in_ok-id.id fits0) at c.in_ok-found.ensures)
     (ran_lacks (λ (names : List (List ℕ)). gives (entry_text c.in_ok-found.found names)) c.in_ok-names.names c.from_residual-in_err-text.result c.from_residual-in_err-text.ensures.1 refl (rw (to_z-of_z w32 c.in_ok-found.found.owner fits1, to_z-of_z w32 c.in_ok-found.found.creator fits2) at c.in_ok-names.ensures)))
 
 pub returns : goal.returns
@@ -52,6 +52,6 @@ returns g c =
     let fits1 : FitsSigned w32 c.in_ok-found.found.owner = search rules in
     let fits2 : FitsSigned w32 c.in_ok-found.found.creator = search rules in
     ran_then (λ (id : ℤ). asks entry_in (call.ListEntry id) >>= λ (found : PtEntry). the_names (found.owner ∷ found.creator ∷ []) >>= λ (names : List (List ℕ)). gives (entry_text found names)) c.in_ok-id.id refl c.in_ok-id.ensures
-    (ran_then (λ (found : PtEntry). the_names (found.owner ∷ found.creator ∷ []) >>= λ (names : List (List ℕ)). gives (entry_text found names)) c.in_ok-found.found refl (rw to_z-of_z w32 c.in_ok-id.id fits0 at c.in_ok-found.ensures)
+    (ran_then (λ (found : PtEntry). the_names (found.owner ∷ found.creator ∷ []) >>= λ (names : List (List ℕ)). gives (entry_text found names)) c.in_ok-found.found refl (rw (to_z-of_z w32 c.in_ok-id.id fits0) at c.in_ok-found.ensures)
     (ran_then (λ (names : List (List ℕ)). gives (entry_text c.in_ok-found.found names)) c.in_ok-names.names refl (rw (to_z-of_z w32 c.in_ok-found.found.owner fits1, to_z-of_z w32 c.in_ok-found.found.creator fits2) at c.in_ok-names.ensures)
     (ran_is _ _ (Ok (entry_text c.in_ok-found.found c.in_ok-names.names)) _ tt (ap Ok c.in_ok-text.ensures))))

@@ -8,16 +8,9 @@ use Rattle.pts_tool.specs.Courses.{owner_line}
 use Rattle.pts_tool.specs.Texts.{owned_line}
 use Rattle.pts_tool.proofs.listing.owner_line.Goals as goal
 
-pub returns-then-is_nobody : goal.returns-then-is_nobody
-unfolding owner_line
-returns-then-is_nobody g c =
-    let fits0 : FitsSigned w32 c.args.id = search rules in
-    let none : int_eq c.args.id (pos 0) ≡ true = sym (rw to_z-of_z w32 c.args.id fits0 at c.is_nobody.ensures) ∙ c.if-is_nobody.true in
-    rw none (ran_is _ _ (Ok (owned_line (codes "0") (pos 0))) _ tt (ap Ok c.in_ok-line.ensures))
-
 pub returns-else-is_nobody : goal.returns-else-is_nobody
 unfolding owner_line
 returns-else-is_nobody g c =
     let fits0 : FitsSigned w32 c.args.id = search rules in
-    let some : int_eq c.args.id (pos 0) ≡ false = sym (rw to_z-of_z w32 c.args.id fits0 at c.is_nobody.ensures) ∙ c.if-is_nobody.false in
-    rw some (rw to_z-of_z w32 c.args.id fits0 at c.found_line.ensures)
+    let some : int_eq c.args.id (pos 0) ≡ false = sym (rw (to_z-of_z w32 c.args.id fits0) at c.is_nobody.ensures) ∙ c.if-is_nobody.false in
+    rw some (rw (to_z-of_z w32 c.args.id fits0) at c.found_line.ensures)

@@ -17,4 +17,4 @@ unfolding deletes
 returns g c =
     let fits0 : FitsSigned w32 c.in_ok-id.id = search rules in
     ran_then (λ (id : ℤ). does (call.Delete id)) c.in_ok-id.id refl c.in_ok-id.ensures
-    ((rw to_z-of_z w32 c.in_ok-id.id fits0 at c.do_call.ensures))
+    ((rw (to_z-of_z w32 c.in_ok-id.id fits0) at c.do_call.ensures))
