@@ -4,9 +4,13 @@ ghost use Rattle.pts_tool.specs.Flags.{letter_of, value_of, flags_text, flags_of
 
 /// The letters of each place, by the value of its bits: `-` stands where a value has none.
 const STATUS: &[u8] = b"-sS";
+
 const OWNED: &[u8] = b"--O";
+
 const MEMBERSHIP: &[u8] = b"-mM";
+
 const ADD: &[u8] = b"-aA";
+
 const REMOVE: &[u8] = b"-r";
 
 /// Flags in letters: who sees the entry, what it owns, and its members; who adds members, and who removes them.

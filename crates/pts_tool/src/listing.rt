@@ -8,7 +8,9 @@ ghost use Rattle.tool_base.specs.Running.{Ran};
 use crate::answers::Maxima;
 use crate::asking::ask;
 use crate::names::{entry_id, names_of};
-use crate::texts::{entry_text, head_row, maxima_text, members_line, names_behind, owned_line, rows_behind};
+use crate::texts::{
+    entry_text, head_row, maxima_text, members_line, names_behind, owned_line, rows_behind,
+};
 use io_base::Link;
 use pt_calls::{Entries, Ids, MAX_PAGE, PtCall, PtEntry};
 use tool_base::{Client, Stop};

@@ -35,11 +35,7 @@ pub(crate) fn entry_id<L: Link>(
 }
 
 /// The id of an entry that there is, by its name.
-fn name_id<L: Link>(
-    client: &mut Client<'_>,
-    link: &mut L,
-    name: &Bytes,
-) -> Result<i32, Stop>
+fn name_id<L: Link>(client: &mut Client<'_>, link: &mut L, name: &Bytes) -> Result<i32, Stop>
     ensures { Ran (name_id name.now) client.old client.new (L.exchanges link.old) (L.exchanges link.new) result }
 {
     let names = one_name(client.alloc(), name)?;
@@ -121,11 +117,7 @@ fn extended(names: Vec<Bytes>, more: Names) -> Result<Vec<Bytes>, NoMemory>
 }
 
 /// The names of ids that one call may have.
-fn names_of_some<L: Link>(
-    client: &mut Client<'_>,
-    link: &mut L,
-    ids: &[i32],
-) -> Result<Names, Stop>
+fn names_of_some<L: Link>(client: &mut Client<'_>, link: &mut L, ids: &[i32]) -> Result<Names, Stop>
     ensures { Ran (asks names_in (call.IdToName ids.now)) client.old client.new (L.exchanges link.old) (L.exchanges link.new) result }
 {
     let ids = some_ids(client.alloc(), ids)?;

@@ -139,12 +139,7 @@ fn handed(alloc: Global, entry: &[u8], owner: &[u8]) -> Result<Vec<Task>, NoMemo
 }
 
 /// Each user with each group.
-fn pairs(
-    alloc: Global,
-    adds: bool,
-    users: &[Word],
-    groups: &[Word],
-) -> Result<Vec<Task>, NoMemory>
+fn pairs(alloc: Global, adds: bool, users: &[Word], groups: &[Word]) -> Result<Vec<Task>, NoMemory>
     ensures { IfOk result (λ tasks. tasks.items ≡ pairs adds users.now groups.now) }
 {
     let mut tasks = Vec::new(alloc);
@@ -177,11 +172,7 @@ fn put_pairs(
 }
 
 /// The maxima that are set: that of groups first.
-fn maxima(
-    alloc: Global,
-    group: Option<i32>,
-    user: Option<i32>,
-) -> Result<Vec<Task>, NoMemory>
+fn maxima(alloc: Global, group: Option<i32>, user: Option<i32>) -> Result<Vec<Task>, NoMemory>
     ensures { IfOk result (λ tasks. tasks.items ≡ maximum true group ++ maximum false user) }
 {
     let mut tasks = Vec::new(alloc);

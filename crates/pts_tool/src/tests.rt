@@ -59,25 +59,360 @@ fn run_case(rt: &impl Abort, alloc: Global, case: &Case) -> Result<(), Fail> {
 
 /// Commands of users and groups over one server, which was empty at first (worked by hand from the formats).
 const CASES: &[Case] = &[
-    Case { words: &["createuser", "123", "-id", "100"], asks: &[Asked { frame: b"\0\0\0\x1c\0\0\0\x01\0\0\0\x01\0\0\0\x02\0\0\0\x03123\0\0\0\0d\0\0\0\0", answer: Answer::Got, reply: b"\0\0\0\x0c\0\0\0\x02\0\0\0\x01\0\0\0\0" }], out: b"User 123 has id 100\n", err: b"", status: 0 },
-    Case { words: &["createuser", "007", "Smith"], asks: &[Asked { frame: b"\0\0\0\x1c\0\0\0\x01\0\0\0\x01\0\0\0\x01\0\0\0\x03007\0\0\0\0\0\0\0\0\0", answer: Answer::Got, reply: b"\0\0\0\x10\0\0\0\x02\0\0\0\x01\0\0\0\0\0\0\0\x07" }, Asked { frame: b"\0\0\0 \0\0\0\x01\0\0\0\x02\0\0\0\x01\0\0\0\x05Smith\0\0\0\0\0\0\0\0\0\0\0", answer: Answer::Got, reply: b"\0\0\0\x10\0\0\0\x02\0\0\0\x02\0\0\0\x01\0\x04\x14\0" }], out: b"User 007 has id 7\n", err: b"pts: refused 267264\n", status: 1 },
-    Case { words: &["rename", "smith", "a.b"], asks: &[Asked { frame: b"\0\0\0\x1c\0\0\0\x01\0\0\0\x01\0\0\0\x03\0\0\0\x01\0\0\0\x05smith\0\0\0", answer: Answer::Got, reply: b"\0\0\0\x14\0\0\0\x02\0\0\0\x01\0\0\0\0\0\0\0\x01\0\0\0\x01" }, Asked { frame: b"\0\0\0 \0\0\0\x01\0\0\0\x02\0\0\0\x0d\0\0\0\x01\0\0\0\x03a.b\0\0\0\0\0\0\0\0\0", answer: Answer::Got, reply: b"\0\0\0\x0c\0\0\0\x02\0\0\0\x02\0\0\0\0" }], out: b"", err: b"", status: 0 },
-    Case { words: &["chown", "-name", "u3", "-owner", "smith"], asks: &[Asked { frame: b"\0\0\0\x18\0\0\0\x01\0\0\0\x01\0\0\0\x03\0\0\0\x01\0\0\0\x02u3\0\0", answer: Answer::Got, reply: b"\0\0\0\x14\0\0\0\x02\0\0\0\x01\0\0\0\0\0\0\0\x01\0\0\0\x06" }, Asked { frame: b"\0\0\0\x1c\0\0\0\x01\0\0\0\x02\0\0\0\x03\0\0\0\x01\0\0\0\x05smith\0\0\0", answer: Answer::Got, reply: b"\0\0\0\x14\0\0\0\x02\0\0\0\x02\0\0\0\0\0\0\0\x01\0\0\0\x01" }, Asked { frame: b"\0\0\0\x1c\0\0\0\x01\0\0\0\x03\0\0\0\x0d\0\0\0\x06\0\0\0\0\0\0\0\x01\0\0\0\0", answer: Answer::Got, reply: b"\0\0\0\x0c\0\0\0\x02\0\0\0\x03\0\0\0\0" }], out: b"", err: b"", status: 0 },
-    Case { words: &["membership", "-nameo", "kent", "staff"], asks: &[Asked { frame: b"\0\0\0\x18\0\0\0\x01\0\0\0\x01\0\0\0\x03\0\0\0\x01\0\0\0\x04kent", answer: Answer::Got, reply: b"\0\0\0\x14\0\0\0\x02\0\0\0\x01\0\0\0\0\0\0\0\x01\0\0\0\x03" }, Asked { frame: b"\0\0\0\x10\0\0\0\x01\0\0\0\x02\0\0\0\x0b\0\0\0\x03", answer: Answer::Got, reply: b"\0\0\0,\0\0\0\x02\0\0\0\x02\0\0\0\0\0\x02\0\0\0\0\0\x03\xff\xff\xff4\0\0\x7f\xfe\0\0\0\x14\0\0\0\0\0\0\0\x04kent" }, Asked { frame: b"\0\0\0\x10\0\0\0\x01\0\0\0\x03\0\0\0\x0f\0\0\0\x03", answer: Answer::Got, reply: b"\0\0\0\x10\0\0\0\x02\0\0\0\x03\0\0\0\0\0\0\0\0" }, Asked { frame: b"\0\0\0\x1c\0\0\0\x01\0\0\0\x04\0\0\0\x03\0\0\0\x01\0\0\0\x05staff\0\0\0", answer: Answer::Got, reply: b"\0\0\0\x14\0\0\0\x02\0\0\0\x04\0\0\0\0\0\0\0\x01\xff\xff\xff-" }, Asked { frame: b"\0\0\0\x10\0\0\0\x01\0\0\0\x05\0\0\0\x0b\xff\xff\xff-", answer: Answer::Got, reply: b"\0\0\00\0\0\0\x02\0\0\0\x05\0\0\0\0\0\x02\x02\0\xff\xff\xff-\xff\xff\xff4\0\0\x7f\xfe\0\0\0\0\0\0\0\x03\0\0\0\x05staff\0\0\0" }, Asked { frame: b"\0\0\0\x10\0\0\0\x01\0\0\0\x06\0\0\0\x0f\xff\xff\xff-", answer: Answer::Got, reply: b"\0\0\0\x1c\0\0\0\x02\0\0\0\x06\0\0\0\0\0\0\0\x03\0\0\0\x01\0\0\0\x02\0\0\0\x04" }, Asked { frame: b"\0\0\0\x1c\0\0\0\x01\0\0\0\x07\0\0\0\x04\0\0\0\x03\0\0\0\x01\0\0\0\x02\0\0\0\x04", answer: Answer::Got, reply: b"\0\0\00\0\0\0\x02\0\0\0\x07\0\0\0\0\0\0\0\x03\0\0\0\x05smith\0\0\0\0\0\0\x05jones\0\0\0\0\0\0\x02u1\0\0" }], out: b"Groups kent (id: 3) is a member of:\nMembers of staff (id: -211) are:\n  smith\n  jones\n  u1\n", err: b"", status: 0 },
-    Case { words: &["membership", "jones"], asks: &[Asked { frame: b"\0\0\0\x1c\0\0\0\x01\0\0\0\x01\0\0\0\x03\0\0\0\x01\0\0\0\x05jones\0\0\0", answer: Answer::Got, reply: b"\0\0\0\x14\0\0\0\x02\0\0\0\x01\0\0\0\0\0\0\0\x01\0\0\0\x02" }, Asked { frame: b"\0\0\0\x10\0\0\0\x01\0\0\0\x02\0\0\0\x0b\0\0\0\x02", answer: Answer::Got, reply: b"\0\0\00\0\0\0\x02\0\0\0\x02\0\0\0\0\0\x02\0\0\0\0\0\x02\xff\xff\xff4\0\0\x7f\xfe\0\0\0\x14\0\0\0\x02\0\0\0\x05jones\0\0\0" }, Asked { frame: b"\0\0\0\x10\0\0\0\x01\0\0\0\x03\0\0\0\x0f\0\0\0\x02", answer: Answer::Got, reply: b"\0\0\0\x18\0\0\0\x02\0\0\0\x03\0\0\0\0\0\0\0\x02\xff\xff\xff-\xff\xff\xff2" }, Asked { frame: b"\0\0\0\x18\0\0\0\x01\0\0\0\x04\0\0\0\x04\0\0\0\x02\xff\xff\xff-\xff\xff\xff2", answer: Answer::Got, reply: b"\0\0\0,\0\0\0\x02\0\0\0\x04\0\0\0\0\0\0\0\x02\0\0\0\x05staff\0\0\0\0\0\0\nsmith:pals\0\0" }], out: b"Groups jones (id: 2) is a member of:\n  staff\n  smith:pals\n", err: b"", status: 0 },
-    Case { words: &["examine", "smith:a", "-localauth"], asks: &[Asked { frame: b"\0\0\0\x1c\0\0\0\x01\0\0\0\x01\0\0\0\x03\0\0\0\x01\0\0\0\x07smith:a\0", answer: Answer::Got, reply: b"\0\0\0\x14\0\0\0\x02\0\0\0\x01\0\0\0\0\0\0\0\x01\xff\xff\xff1" }, Asked { frame: b"\0\0\0\x10\0\0\0\x01\0\0\0\x02\0\0\0\x0b\xff\xff\xff1", answer: Answer::Got, reply: b"\0\0\00\0\0\0\x02\0\0\0\x02\0\0\0\0\0\x02\x02\0\xff\xff\xff1\0\0\0\x01\0\0\x7f\xfe\0\0\0\0\0\0\0\0\0\0\0\x07smith:a\0" }, Asked { frame: b"\0\0\0\x18\0\0\0\x01\0\0\0\x03\0\0\0\x04\0\0\0\x02\0\0\0\x01\0\0\x7f\xfe", answer: Answer::Got, reply: b"\0\0\0,\0\0\0\x02\0\0\0\x03\0\0\0\0\0\0\0\x02\0\0\0\x05smith\0\0\0\0\0\0\x09anonymous\0\0\0" }], out: b"Name: smith:a, id: -207, owner: smith, creator: anonymous,\n  membership: 0, flags: S-M--, group quota: 0.\n", err: b"", status: 0 },
-    Case { words: &["listowned", "smith", "u1:g"], asks: &[Asked { frame: b"\0\0\0\x1c\0\0\0\x01\0\0\0\x01\0\0\0\x03\0\0\0\x01\0\0\0\x05smith\0\0\0", answer: Answer::Got, reply: b"\0\0\0\x14\0\0\0\x02\0\0\0\x01\0\0\0\0\0\0\0\x01\0\0\0\x01" }, Asked { frame: b"\0\0\0\x10\0\0\0\x01\0\0\0\x02\0\0\0\x0b\0\0\0\x01", answer: Answer::Got, reply: b"\0\0\00\0\0\0\x02\0\0\0\x02\0\0\0\0\0\x02\0\0\0\0\0\x01\xff\xff\xff4\0\0\x7f\xfe\0\0\0\x14\0\0\0\x02\0\0\0\x05smith\0\0\0" }, Asked { frame: b"\0\0\0\x10\0\0\0\x01\0\0\0\x03\0\0\0\x11\0\0\0\x01", answer: Answer::Got, reply: b"\0\0\0\x18\0\0\0\x02\0\0\0\x03\0\0\0\0\0\0\0\x02\xff\xff\xff1\xff\xff\xff2" }, Asked { frame: b"\0\0\0\x18\0\0\0\x01\0\0\0\x04\0\0\0\x04\0\0\0\x02\xff\xff\xff1\xff\xff\xff2", answer: Answer::Got, reply: b"\0\0\0,\0\0\0\x02\0\0\0\x04\0\0\0\0\0\0\0\x02\0\0\0\x07smith:a\0\0\0\0\nsmith:pals\0\0" }, Asked { frame: b"\0\0\0\x18\0\0\0\x01\0\0\0\x05\0\0\0\x03\0\0\0\x01\0\0\0\x04u1:g", answer: Answer::Got, reply: b"\0\0\0\x14\0\0\0\x02\0\0\0\x05\0\0\0\0\0\0\0\x01\0\0\x7f\xfe" }], out: b"Groups owned by smith (id: 1) are:\n  smith:a\n  smith:pals\n", err: b"pts: refused 267268\n", status: 1 },
-    Case { words: &["listentries", "-group"], asks: &[Asked { frame: b"\0\0\0\x14\0\0\0\x01\0\0\0\x01\0\0\0\x0c\0\0\0\x02\x80\0\0\0", answer: Answer::Got, reply: b"\0\0\x01\xd0\0\0\0\x02\0\0\0\x01\0\0\0\0\0\0\0\x0b\0\x02\x02\0\xff\xff\xff-\xff\xff\xff4\0\0\x7f\xfe\0\0\0\0\0\0\0\x03\0\0\0\x05staff\0\0\0\0\x02\x02\0\xff\xff\xff.\xff\xff\xff4\0\0\x7f\xfe\0\0\0\0\0\0\0\0\0\0\0\x04free\0\x02\x02\0\xff\xff\xff/\0\0\0\x03\0\0\x7f\xfe\0\0\0\0\0\0\0\0\0\0\0\x06kent:c\0\0\0\x02\x02\0\xff\xff\xff0\0\0\0\x02\0\0\x7f\xfe\0\0\0\0\0\0\0\0\0\0\0\x07jones:b\0\0\x02\x02\0\xff\xff\xff1\0\0\0\x01\0\0\x7f\xfe\0\0\0\0\0\0\0\0\0\0\0\x07smith:a\0\0\x02\x02\0\xff\xff\xff2\0\0\0\x01\0\0\x7f\xfe\0\0\0\0\0\0\0\x03\0\0\0\nsmith:pals\0\0\0\x02\x02\0\xff\xff\xff3\xff\xff\xff4\xff\xff\xff4\0\0\0\0\0\0\0\0\0\0\0\x0dsystem:backup\0\0\0\0\x02\x02\0\xff\xff\xff4\xff\xff\xff4\xff\xff\xff4\0\0\0\0\0\0\0\0\0\0\0\x15system:administrators\0\0\0\0\x02\x02\0\xff\xff\xff5\xff\xff\xff4\xff\xff\xff4\0\0\0\0\0\0\0\0\0\0\0\x11system:ptsviewers\0\0\0\0\x02\x02\0\xff\xff\xff\x9a\xff\xff\xff4\xff\xff\xff4\0\0\0\0\0\0\0\0\0\0\0\x0fsystem:authuser\0\0\x02\x02\0\xff\xff\xff\x9b\xff\xff\xff4\xff\xff\xff4\0\0\0\0\0\0\0\0\0\0\0\x0esystem:anyuser\0\0" }], out: b"Name                          ID  Owner Creator\nstaff                       -211   -204   32766\nfree                        -210   -204   32766\nkent:c                      -209      3   32766\njones:b                     -208      2   32766\nsmith:a                     -207      1   32766\nsmith:pals                  -206      1   32766\nsystem:backup               -205   -204    -204\nsystem:administrators       -204   -204    -204\nsystem:ptsviewers           -203   -204    -204\nsystem:authuser             -102   -204    -204\nsystem:anyuser              -101   -204    -204\n", err: b"", status: 0 },
-    Case { words: &["listentries"], asks: &[Asked { frame: b"\0\0\0\x14\0\0\0\x01\0\0\0\x01\0\0\0\x0c\0\0\0\x01\x80\0\0\0", answer: Answer::Got, reply: b"\0\0\0\xfc\0\0\0\x02\0\0\0\x01\0\0\0\0\0\0\0\x07\0\x02\0\0\0\0\0\x01\xff\xff\xff4\0\0\x7f\xfe\0\0\0\x14\0\0\0\x02\0\0\0\x03a.b\0\0\x02\0\0\0\0\0\x02\xff\xff\xff4\0\0\x7f\xfe\0\0\0\0\0\0\0\x02\0\0\0\x05jones\0\0\0\0\x02\0\0\0\0\0\x03\xff\xff\xff4\0\0\x7f\xfe\0\0\0\x14\0\0\0\0\0\0\0\x04kent\0\x02\0\0\0\0\0\x04\xff\xff\xff4\0\0\x7f\xfe\0\0\0\x14\0\0\0\x02\0\0\0\x02u1\0\0\0\x02\0\0\0\0\0\x05\xff\xff\xff4\0\0\x7f\xfe\0\0\0\x14\0\0\0\0\0\0\0\x02u2\0\0\0\x02\0\0\0\0\0\x06\0\0\0\x01\0\0\x7f\xfe\0\0\0\x14\0\0\0\0\0\0\0\x02u3\0\0\0\x02\0\0\0\0\x7f\xfe\xff\xff\xff4\xff\xff\xff4\0\0\0\0\0\0\0\0\0\0\0\x09anonymous\0\0\0" }], out: b"Name                          ID  Owner Creator\na.b                            1   -204   32766\njones                          2   -204   32766\nkent                           3   -204   32766\nu1                             4   -204   32766\nu2                             5   -204   32766\nu3                             6      1   32766\nanonymous                  32766   -204    -204\n", err: b"", status: 0 },
-    Case { words: &["listmax"], asks: &[Asked { frame: b"\0\0\0\x0c\0\0\0\x01\0\0\0\x01\0\0\0\x09", answer: Answer::Got, reply: b"\0\0\0\x14\0\0\0\x02\0\0\0\x01\0\0\0\0\0\0\0\x06\xff\xff\xff-" }], out: b"Max user id is 6 and max group id is -211.\n", err: b"", status: 0 },
-    Case { words: &["setmax", "-group", "-300", "-user", "5"], asks: &[Asked { frame: b"\0\0\0\x14\0\0\0\x01\0\0\0\x01\0\0\0\n\xff\xff\xfe\xd4\0\0\0\x01", answer: Answer::Got, reply: b"\0\0\0\x0c\0\0\0\x02\0\0\0\x01\0\0\0\0" }, Asked { frame: b"\0\0\0\x14\0\0\0\x01\0\0\0\x02\0\0\0\n\0\0\0\x05\0\0\0\0", answer: Answer::Got, reply: b"\0\0\0\x0c\0\0\0\x02\0\0\0\x02\0\0\0\0" }], out: b"", err: b"", status: 0 },
-    Case { words: &["setfields", "-access", "SOmar", "-nameorid", "free", "free"], asks: &[Asked { frame: b"\0\0\0\x18\0\0\0\x01\0\0\0\x01\0\0\0\x03\0\0\0\x01\0\0\0\x04free", answer: Answer::Got, reply: b"\0\0\0\x14\0\0\0\x02\0\0\0\x01\0\0\0\0\0\0\0\x01\xff\xff\xff." }, Asked { frame: b"\0\0\0\x1c\0\0\0\x01\0\0\0\x02\0\0\0\x0e\xff\xff\xff.\0\0\0\x01\0\x02!\x11\0\0\0\0", answer: Answer::Got, reply: b"\0\0\0\x0c\0\0\0\x02\0\0\0\x02\0\0\0\0" }, Asked { frame: b"\0\0\0\x18\0\0\0\x01\0\0\0\x03\0\0\0\x03\0\0\0\x01\0\0\0\x04free", answer: Answer::Got, reply: b"\0\0\0\x14\0\0\0\x02\0\0\0\x03\0\0\0\0\0\0\0\x01\xff\xff\xff." }, Asked { frame: b"\0\0\0\x1c\0\0\0\x01\0\0\0\x04\0\0\0\x0e\xff\xff\xff.\0\0\0\x01\0\x02!\x11\0\0\0\0", answer: Answer::Got, reply: b"\0\0\0\x0c\0\0\0\x02\0\0\0\x04\0\0\0\0" }], out: b"", err: b"", status: 0 },
-    Case { words: &["setfields", "smith:a", "-groupquota", "20"], asks: &[Asked { frame: b"\0\0\0\x1c\0\0\0\x01\0\0\0\x01\0\0\0\x03\0\0\0\x01\0\0\0\x07smith:a\0", answer: Answer::Got, reply: b"\0\0\0\x14\0\0\0\x02\0\0\0\x01\0\0\0\0\0\0\0\x01\xff\xff\xff1" }, Asked { frame: b"\0\0\0\x1c\0\0\0\x01\0\0\0\x02\0\0\0\x0e\xff\xff\xff1\0\0\0\x02\0\0\0\0\0\0\0\x14", answer: Answer::Got, reply: b"\0\0\0\x0c\0\0\0\x02\0\0\0\x02\0\0\0\0" }], out: b"", err: b"", status: 0 },
-    Case { words: &["createuser", "u1:g", "smith:pals", "5", "-i", "9", "9"], asks: &[Asked { frame: b"\0\0\0\x1c\0\0\0\x01\0\0\0\x01\0\0\0\x02\0\0\0\x04u1:g\0\0\0\x09\0\0\0\0", answer: Answer::Got, reply: b"\0\0\0\x0c\0\0\0\x02\0\0\0\x01\0\0\0\x07" }], out: b"", err: b"pts: outcome unknown\n", status: 6 },
-    Case { words: &["membership", "-nameorid", "system:authuser"], asks: &[Asked { frame: b"\0\0\0$\0\0\0\x01\0\0\0\x01\0\0\0\x03\0\0\0\x01\0\0\0\x0fsystem:authuser\0", answer: Answer::NoAnswer, reply: b"" }], out: b"", err: b"pts: no server\n", status: 3 },
-    Case { words: &["createuser", "-name", "u1:g", "xxxxxxxxxxxxxxxxxxxxxxxxxxxxxxxxxxxxxxxxxxxxxxxxxxxxxxxxxxxxxxx"], asks: &[Asked { frame: b"\0\0\0\x1c\0\0\0\x01\0\0\0\x01\0\0\0\x01\0\0\0\x04u1:g\0\0\0\0\0\0\0\0", answer: Answer::Got, reply: b"\0\0\0\x04\0\0\0\x03" }], out: b"", err: b"pts: outcome unknown\n", status: 6 },
-    Case { words: &["createuser", "smith", "a.b"], asks: &[Asked { frame: b"\0\0\0 \0\0\0\x01\0\0\0\x01\0\0\0\x01\0\0\0\x05smith\0\0\0\0\0\0\0\0\0\0\0", answer: Answer::Got, reply: b"\0\0\0\x0c\0\0\0\x02\0\0\0\x01\0\0\0\x06" }], out: b"", err: b"pts: refused malformed\n", status: 1 },
-    Case { words: &["del", "-nameorid", "smith", "system:anyuser", "-206"], asks: &[Asked { frame: b"\0\0\0\x1c\0\0\0\x01\0\0\0\x01\0\0\0\x03\0\0\0\x01\0\0\0\x05smith\0\0\0", answer: Answer::Got, reply: b"\0\0\0\x0c\0\0\0\x02\0\0\0\x01\0\0\0\x08" }], out: b"", err: b"pts: no server\n", status: 3 },
+    Case {
+        words: &["createuser", "123", "-id", "100"],
+        asks: &[Asked {
+            frame: b"\0\0\0\x1c\0\0\0\x01\0\0\0\x01\0\0\0\x02\0\0\0\x03123\0\0\0\0d\0\0\0\0",
+            answer: Answer::Got,
+            reply: b"\0\0\0\x0c\0\0\0\x02\0\0\0\x01\0\0\0\0",
+        }],
+        out: b"User 123 has id 100\n",
+        err: b"",
+        status: 0,
+    },
+    Case {
+        words: &["createuser", "007", "Smith"],
+        asks: &[
+            Asked {
+                frame: b"\0\0\0\x1c\0\0\0\x01\0\0\0\x01\0\0\0\x01\0\0\0\x03007\0\0\0\0\0\0\0\0\0",
+                answer: Answer::Got,
+                reply: b"\0\0\0\x10\0\0\0\x02\0\0\0\x01\0\0\0\0\0\0\0\x07",
+            },
+            Asked {
+                frame: b"\0\0\0 \0\0\0\x01\0\0\0\x02\0\0\0\x01\0\0\0\x05Smith\0\0\0\0\0\0\0\0\0\0\0",
+                answer: Answer::Got,
+                reply: b"\0\0\0\x10\0\0\0\x02\0\0\0\x02\0\0\0\x01\0\x04\x14\0",
+            },
+        ],
+        out: b"User 007 has id 7\n",
+        err: b"pts: refused 267264\n",
+        status: 1,
+    },
+    Case {
+        words: &["rename", "smith", "a.b"],
+        asks: &[
+            Asked {
+                frame: b"\0\0\0\x1c\0\0\0\x01\0\0\0\x01\0\0\0\x03\0\0\0\x01\0\0\0\x05smith\0\0\0",
+                answer: Answer::Got,
+                reply: b"\0\0\0\x14\0\0\0\x02\0\0\0\x01\0\0\0\0\0\0\0\x01\0\0\0\x01",
+            },
+            Asked {
+                frame: b"\0\0\0 \0\0\0\x01\0\0\0\x02\0\0\0\x0d\0\0\0\x01\0\0\0\x03a.b\0\0\0\0\0\0\0\0\0",
+                answer: Answer::Got,
+                reply: b"\0\0\0\x0c\0\0\0\x02\0\0\0\x02\0\0\0\0",
+            },
+        ],
+        out: b"",
+        err: b"",
+        status: 0,
+    },
+    Case {
+        words: &["chown", "-name", "u3", "-owner", "smith"],
+        asks: &[
+            Asked {
+                frame: b"\0\0\0\x18\0\0\0\x01\0\0\0\x01\0\0\0\x03\0\0\0\x01\0\0\0\x02u3\0\0",
+                answer: Answer::Got,
+                reply: b"\0\0\0\x14\0\0\0\x02\0\0\0\x01\0\0\0\0\0\0\0\x01\0\0\0\x06",
+            },
+            Asked {
+                frame: b"\0\0\0\x1c\0\0\0\x01\0\0\0\x02\0\0\0\x03\0\0\0\x01\0\0\0\x05smith\0\0\0",
+                answer: Answer::Got,
+                reply: b"\0\0\0\x14\0\0\0\x02\0\0\0\x02\0\0\0\0\0\0\0\x01\0\0\0\x01",
+            },
+            Asked {
+                frame: b"\0\0\0\x1c\0\0\0\x01\0\0\0\x03\0\0\0\x0d\0\0\0\x06\0\0\0\0\0\0\0\x01\0\0\0\0",
+                answer: Answer::Got,
+                reply: b"\0\0\0\x0c\0\0\0\x02\0\0\0\x03\0\0\0\0",
+            },
+        ],
+        out: b"",
+        err: b"",
+        status: 0,
+    },
+    Case {
+        words: &["membership", "-nameo", "kent", "staff"],
+        asks: &[
+            Asked {
+                frame: b"\0\0\0\x18\0\0\0\x01\0\0\0\x01\0\0\0\x03\0\0\0\x01\0\0\0\x04kent",
+                answer: Answer::Got,
+                reply: b"\0\0\0\x14\0\0\0\x02\0\0\0\x01\0\0\0\0\0\0\0\x01\0\0\0\x03",
+            },
+            Asked {
+                frame: b"\0\0\0\x10\0\0\0\x01\0\0\0\x02\0\0\0\x0b\0\0\0\x03",
+                answer: Answer::Got,
+                reply: b"\0\0\0,\0\0\0\x02\0\0\0\x02\0\0\0\0\0\x02\0\0\0\0\0\x03\xff\xff\xff4\0\0\x7f\xfe\0\0\0\x14\0\0\0\0\0\0\0\x04kent",
+            },
+            Asked {
+                frame: b"\0\0\0\x10\0\0\0\x01\0\0\0\x03\0\0\0\x0f\0\0\0\x03",
+                answer: Answer::Got,
+                reply: b"\0\0\0\x10\0\0\0\x02\0\0\0\x03\0\0\0\0\0\0\0\0",
+            },
+            Asked {
+                frame: b"\0\0\0\x1c\0\0\0\x01\0\0\0\x04\0\0\0\x03\0\0\0\x01\0\0\0\x05staff\0\0\0",
+                answer: Answer::Got,
+                reply: b"\0\0\0\x14\0\0\0\x02\0\0\0\x04\0\0\0\0\0\0\0\x01\xff\xff\xff-",
+            },
+            Asked {
+                frame: b"\0\0\0\x10\0\0\0\x01\0\0\0\x05\0\0\0\x0b\xff\xff\xff-",
+                answer: Answer::Got,
+                reply: b"\0\0\00\0\0\0\x02\0\0\0\x05\0\0\0\0\0\x02\x02\0\xff\xff\xff-\xff\xff\xff4\0\0\x7f\xfe\0\0\0\0\0\0\0\x03\0\0\0\x05staff\0\0\0",
+            },
+            Asked {
+                frame: b"\0\0\0\x10\0\0\0\x01\0\0\0\x06\0\0\0\x0f\xff\xff\xff-",
+                answer: Answer::Got,
+                reply: b"\0\0\0\x1c\0\0\0\x02\0\0\0\x06\0\0\0\0\0\0\0\x03\0\0\0\x01\0\0\0\x02\0\0\0\x04",
+            },
+            Asked {
+                frame: b"\0\0\0\x1c\0\0\0\x01\0\0\0\x07\0\0\0\x04\0\0\0\x03\0\0\0\x01\0\0\0\x02\0\0\0\x04",
+                answer: Answer::Got,
+                reply: b"\0\0\00\0\0\0\x02\0\0\0\x07\0\0\0\0\0\0\0\x03\0\0\0\x05smith\0\0\0\0\0\0\x05jones\0\0\0\0\0\0\x02u1\0\0",
+            },
+        ],
+        out: b"Groups kent (id: 3) is a member of:\nMembers of staff (id: -211) are:\n  smith\n  jones\n  u1\n",
+        err: b"",
+        status: 0,
+    },
+    Case {
+        words: &["membership", "jones"],
+        asks: &[
+            Asked {
+                frame: b"\0\0\0\x1c\0\0\0\x01\0\0\0\x01\0\0\0\x03\0\0\0\x01\0\0\0\x05jones\0\0\0",
+                answer: Answer::Got,
+                reply: b"\0\0\0\x14\0\0\0\x02\0\0\0\x01\0\0\0\0\0\0\0\x01\0\0\0\x02",
+            },
+            Asked {
+                frame: b"\0\0\0\x10\0\0\0\x01\0\0\0\x02\0\0\0\x0b\0\0\0\x02",
+                answer: Answer::Got,
+                reply: b"\0\0\00\0\0\0\x02\0\0\0\x02\0\0\0\0\0\x02\0\0\0\0\0\x02\xff\xff\xff4\0\0\x7f\xfe\0\0\0\x14\0\0\0\x02\0\0\0\x05jones\0\0\0",
+            },
+            Asked {
+                frame: b"\0\0\0\x10\0\0\0\x01\0\0\0\x03\0\0\0\x0f\0\0\0\x02",
+                answer: Answer::Got,
+                reply: b"\0\0\0\x18\0\0\0\x02\0\0\0\x03\0\0\0\0\0\0\0\x02\xff\xff\xff-\xff\xff\xff2",
+            },
+            Asked {
+                frame: b"\0\0\0\x18\0\0\0\x01\0\0\0\x04\0\0\0\x04\0\0\0\x02\xff\xff\xff-\xff\xff\xff2",
+                answer: Answer::Got,
+                reply: b"\0\0\0,\0\0\0\x02\0\0\0\x04\0\0\0\0\0\0\0\x02\0\0\0\x05staff\0\0\0\0\0\0\nsmith:pals\0\0",
+            },
+        ],
+        out: b"Groups jones (id: 2) is a member of:\n  staff\n  smith:pals\n",
+        err: b"",
+        status: 0,
+    },
+    Case {
+        words: &["examine", "smith:a", "-localauth"],
+        asks: &[
+            Asked {
+                frame: b"\0\0\0\x1c\0\0\0\x01\0\0\0\x01\0\0\0\x03\0\0\0\x01\0\0\0\x07smith:a\0",
+                answer: Answer::Got,
+                reply: b"\0\0\0\x14\0\0\0\x02\0\0\0\x01\0\0\0\0\0\0\0\x01\xff\xff\xff1",
+            },
+            Asked {
+                frame: b"\0\0\0\x10\0\0\0\x01\0\0\0\x02\0\0\0\x0b\xff\xff\xff1",
+                answer: Answer::Got,
+                reply: b"\0\0\00\0\0\0\x02\0\0\0\x02\0\0\0\0\0\x02\x02\0\xff\xff\xff1\0\0\0\x01\0\0\x7f\xfe\0\0\0\0\0\0\0\0\0\0\0\x07smith:a\0",
+            },
+            Asked {
+                frame: b"\0\0\0\x18\0\0\0\x01\0\0\0\x03\0\0\0\x04\0\0\0\x02\0\0\0\x01\0\0\x7f\xfe",
+                answer: Answer::Got,
+                reply: b"\0\0\0,\0\0\0\x02\0\0\0\x03\0\0\0\0\0\0\0\x02\0\0\0\x05smith\0\0\0\0\0\0\x09anonymous\0\0\0",
+            },
+        ],
+        out: b"Name: smith:a, id: -207, owner: smith, creator: anonymous,\n  membership: 0, flags: S-M--, group quota: 0.\n",
+        err: b"",
+        status: 0,
+    },
+    Case {
+        words: &["listowned", "smith", "u1:g"],
+        asks: &[
+            Asked {
+                frame: b"\0\0\0\x1c\0\0\0\x01\0\0\0\x01\0\0\0\x03\0\0\0\x01\0\0\0\x05smith\0\0\0",
+                answer: Answer::Got,
+                reply: b"\0\0\0\x14\0\0\0\x02\0\0\0\x01\0\0\0\0\0\0\0\x01\0\0\0\x01",
+            },
+            Asked {
+                frame: b"\0\0\0\x10\0\0\0\x01\0\0\0\x02\0\0\0\x0b\0\0\0\x01",
+                answer: Answer::Got,
+                reply: b"\0\0\00\0\0\0\x02\0\0\0\x02\0\0\0\0\0\x02\0\0\0\0\0\x01\xff\xff\xff4\0\0\x7f\xfe\0\0\0\x14\0\0\0\x02\0\0\0\x05smith\0\0\0",
+            },
+            Asked {
+                frame: b"\0\0\0\x10\0\0\0\x01\0\0\0\x03\0\0\0\x11\0\0\0\x01",
+                answer: Answer::Got,
+                reply: b"\0\0\0\x18\0\0\0\x02\0\0\0\x03\0\0\0\0\0\0\0\x02\xff\xff\xff1\xff\xff\xff2",
+            },
+            Asked {
+                frame: b"\0\0\0\x18\0\0\0\x01\0\0\0\x04\0\0\0\x04\0\0\0\x02\xff\xff\xff1\xff\xff\xff2",
+                answer: Answer::Got,
+                reply: b"\0\0\0,\0\0\0\x02\0\0\0\x04\0\0\0\0\0\0\0\x02\0\0\0\x07smith:a\0\0\0\0\nsmith:pals\0\0",
+            },
+            Asked {
+                frame: b"\0\0\0\x18\0\0\0\x01\0\0\0\x05\0\0\0\x03\0\0\0\x01\0\0\0\x04u1:g",
+                answer: Answer::Got,
+                reply: b"\0\0\0\x14\0\0\0\x02\0\0\0\x05\0\0\0\0\0\0\0\x01\0\0\x7f\xfe",
+            },
+        ],
+        out: b"Groups owned by smith (id: 1) are:\n  smith:a\n  smith:pals\n",
+        err: b"pts: refused 267268\n",
+        status: 1,
+    },
+    Case {
+        words: &["listentries", "-group"],
+        asks: &[Asked {
+            frame: b"\0\0\0\x14\0\0\0\x01\0\0\0\x01\0\0\0\x0c\0\0\0\x02\x80\0\0\0",
+            answer: Answer::Got,
+            reply: b"\0\0\x01\xd0\0\0\0\x02\0\0\0\x01\0\0\0\0\0\0\0\x0b\0\x02\x02\0\xff\xff\xff-\xff\xff\xff4\0\0\x7f\xfe\0\0\0\0\0\0\0\x03\0\0\0\x05staff\0\0\0\0\x02\x02\0\xff\xff\xff.\xff\xff\xff4\0\0\x7f\xfe\0\0\0\0\0\0\0\0\0\0\0\x04free\0\x02\x02\0\xff\xff\xff/\0\0\0\x03\0\0\x7f\xfe\0\0\0\0\0\0\0\0\0\0\0\x06kent:c\0\0\0\x02\x02\0\xff\xff\xff0\0\0\0\x02\0\0\x7f\xfe\0\0\0\0\0\0\0\0\0\0\0\x07jones:b\0\0\x02\x02\0\xff\xff\xff1\0\0\0\x01\0\0\x7f\xfe\0\0\0\0\0\0\0\0\0\0\0\x07smith:a\0\0\x02\x02\0\xff\xff\xff2\0\0\0\x01\0\0\x7f\xfe\0\0\0\0\0\0\0\x03\0\0\0\nsmith:pals\0\0\0\x02\x02\0\xff\xff\xff3\xff\xff\xff4\xff\xff\xff4\0\0\0\0\0\0\0\0\0\0\0\x0dsystem:backup\0\0\0\0\x02\x02\0\xff\xff\xff4\xff\xff\xff4\xff\xff\xff4\0\0\0\0\0\0\0\0\0\0\0\x15system:administrators\0\0\0\0\x02\x02\0\xff\xff\xff5\xff\xff\xff4\xff\xff\xff4\0\0\0\0\0\0\0\0\0\0\0\x11system:ptsviewers\0\0\0\0\x02\x02\0\xff\xff\xff\x9a\xff\xff\xff4\xff\xff\xff4\0\0\0\0\0\0\0\0\0\0\0\x0fsystem:authuser\0\0\x02\x02\0\xff\xff\xff\x9b\xff\xff\xff4\xff\xff\xff4\0\0\0\0\0\0\0\0\0\0\0\x0esystem:anyuser\0\0",
+        }],
+        out: b"Name                          ID  Owner Creator\nstaff                       -211   -204   32766\nfree                        -210   -204   32766\nkent:c                      -209      3   32766\njones:b                     -208      2   32766\nsmith:a                     -207      1   32766\nsmith:pals                  -206      1   32766\nsystem:backup               -205   -204    -204\nsystem:administrators       -204   -204    -204\nsystem:ptsviewers           -203   -204    -204\nsystem:authuser             -102   -204    -204\nsystem:anyuser              -101   -204    -204\n",
+        err: b"",
+        status: 0,
+    },
+    Case {
+        words: &["listentries"],
+        asks: &[Asked {
+            frame: b"\0\0\0\x14\0\0\0\x01\0\0\0\x01\0\0\0\x0c\0\0\0\x01\x80\0\0\0",
+            answer: Answer::Got,
+            reply: b"\0\0\0\xfc\0\0\0\x02\0\0\0\x01\0\0\0\0\0\0\0\x07\0\x02\0\0\0\0\0\x01\xff\xff\xff4\0\0\x7f\xfe\0\0\0\x14\0\0\0\x02\0\0\0\x03a.b\0\0\x02\0\0\0\0\0\x02\xff\xff\xff4\0\0\x7f\xfe\0\0\0\0\0\0\0\x02\0\0\0\x05jones\0\0\0\0\x02\0\0\0\0\0\x03\xff\xff\xff4\0\0\x7f\xfe\0\0\0\x14\0\0\0\0\0\0\0\x04kent\0\x02\0\0\0\0\0\x04\xff\xff\xff4\0\0\x7f\xfe\0\0\0\x14\0\0\0\x02\0\0\0\x02u1\0\0\0\x02\0\0\0\0\0\x05\xff\xff\xff4\0\0\x7f\xfe\0\0\0\x14\0\0\0\0\0\0\0\x02u2\0\0\0\x02\0\0\0\0\0\x06\0\0\0\x01\0\0\x7f\xfe\0\0\0\x14\0\0\0\0\0\0\0\x02u3\0\0\0\x02\0\0\0\0\x7f\xfe\xff\xff\xff4\xff\xff\xff4\0\0\0\0\0\0\0\0\0\0\0\x09anonymous\0\0\0",
+        }],
+        out: b"Name                          ID  Owner Creator\na.b                            1   -204   32766\njones                          2   -204   32766\nkent                           3   -204   32766\nu1                             4   -204   32766\nu2                             5   -204   32766\nu3                             6      1   32766\nanonymous                  32766   -204    -204\n",
+        err: b"",
+        status: 0,
+    },
+    Case {
+        words: &["listmax"],
+        asks: &[Asked {
+            frame: b"\0\0\0\x0c\0\0\0\x01\0\0\0\x01\0\0\0\x09",
+            answer: Answer::Got,
+            reply: b"\0\0\0\x14\0\0\0\x02\0\0\0\x01\0\0\0\0\0\0\0\x06\xff\xff\xff-",
+        }],
+        out: b"Max user id is 6 and max group id is -211.\n",
+        err: b"",
+        status: 0,
+    },
+    Case {
+        words: &["setmax", "-group", "-300", "-user", "5"],
+        asks: &[
+            Asked {
+                frame: b"\0\0\0\x14\0\0\0\x01\0\0\0\x01\0\0\0\n\xff\xff\xfe\xd4\0\0\0\x01",
+                answer: Answer::Got,
+                reply: b"\0\0\0\x0c\0\0\0\x02\0\0\0\x01\0\0\0\0",
+            },
+            Asked {
+                frame: b"\0\0\0\x14\0\0\0\x01\0\0\0\x02\0\0\0\n\0\0\0\x05\0\0\0\0",
+                answer: Answer::Got,
+                reply: b"\0\0\0\x0c\0\0\0\x02\0\0\0\x02\0\0\0\0",
+            },
+        ],
+        out: b"",
+        err: b"",
+        status: 0,
+    },
+    Case {
+        words: &["setfields", "-access", "SOmar", "-nameorid", "free", "free"],
+        asks: &[
+            Asked {
+                frame: b"\0\0\0\x18\0\0\0\x01\0\0\0\x01\0\0\0\x03\0\0\0\x01\0\0\0\x04free",
+                answer: Answer::Got,
+                reply: b"\0\0\0\x14\0\0\0\x02\0\0\0\x01\0\0\0\0\0\0\0\x01\xff\xff\xff.",
+            },
+            Asked {
+                frame: b"\0\0\0\x1c\0\0\0\x01\0\0\0\x02\0\0\0\x0e\xff\xff\xff.\0\0\0\x01\0\x02!\x11\0\0\0\0",
+                answer: Answer::Got,
+                reply: b"\0\0\0\x0c\0\0\0\x02\0\0\0\x02\0\0\0\0",
+            },
+            Asked {
+                frame: b"\0\0\0\x18\0\0\0\x01\0\0\0\x03\0\0\0\x03\0\0\0\x01\0\0\0\x04free",
+                answer: Answer::Got,
+                reply: b"\0\0\0\x14\0\0\0\x02\0\0\0\x03\0\0\0\0\0\0\0\x01\xff\xff\xff.",
+            },
+            Asked {
+                frame: b"\0\0\0\x1c\0\0\0\x01\0\0\0\x04\0\0\0\x0e\xff\xff\xff.\0\0\0\x01\0\x02!\x11\0\0\0\0",
+                answer: Answer::Got,
+                reply: b"\0\0\0\x0c\0\0\0\x02\0\0\0\x04\0\0\0\0",
+            },
+        ],
+        out: b"",
+        err: b"",
+        status: 0,
+    },
+    Case {
+        words: &["setfields", "smith:a", "-groupquota", "20"],
+        asks: &[
+            Asked {
+                frame: b"\0\0\0\x1c\0\0\0\x01\0\0\0\x01\0\0\0\x03\0\0\0\x01\0\0\0\x07smith:a\0",
+                answer: Answer::Got,
+                reply: b"\0\0\0\x14\0\0\0\x02\0\0\0\x01\0\0\0\0\0\0\0\x01\xff\xff\xff1",
+            },
+            Asked {
+                frame: b"\0\0\0\x1c\0\0\0\x01\0\0\0\x02\0\0\0\x0e\xff\xff\xff1\0\0\0\x02\0\0\0\0\0\0\0\x14",
+                answer: Answer::Got,
+                reply: b"\0\0\0\x0c\0\0\0\x02\0\0\0\x02\0\0\0\0",
+            },
+        ],
+        out: b"",
+        err: b"",
+        status: 0,
+    },
+    Case {
+        words: &["createuser", "u1:g", "smith:pals", "5", "-i", "9", "9"],
+        asks: &[Asked {
+            frame: b"\0\0\0\x1c\0\0\0\x01\0\0\0\x01\0\0\0\x02\0\0\0\x04u1:g\0\0\0\x09\0\0\0\0",
+            answer: Answer::Got,
+            reply: b"\0\0\0\x0c\0\0\0\x02\0\0\0\x01\0\0\0\x07",
+        }],
+        out: b"",
+        err: b"pts: outcome unknown\n",
+        status: 6,
+    },
+    Case {
+        words: &["membership", "-nameorid", "system:authuser"],
+        asks: &[Asked {
+            frame: b"\0\0\0$\0\0\0\x01\0\0\0\x01\0\0\0\x03\0\0\0\x01\0\0\0\x0fsystem:authuser\0",
+            answer: Answer::NoAnswer,
+            reply: b"",
+        }],
+        out: b"",
+        err: b"pts: no server\n",
+        status: 3,
+    },
+    Case {
+        words: &[
+            "createuser",
+            "-name",
+            "u1:g",
+            "xxxxxxxxxxxxxxxxxxxxxxxxxxxxxxxxxxxxxxxxxxxxxxxxxxxxxxxxxxxxxxx",
+        ],
+        asks: &[Asked {
+            frame: b"\0\0\0\x1c\0\0\0\x01\0\0\0\x01\0\0\0\x01\0\0\0\x04u1:g\0\0\0\0\0\0\0\0",
+            answer: Answer::Got,
+            reply: b"\0\0\0\x04\0\0\0\x03",
+        }],
+        out: b"",
+        err: b"pts: outcome unknown\n",
+        status: 6,
+    },
+    Case {
+        words: &["createuser", "smith", "a.b"],
+        asks: &[Asked {
+            frame: b"\0\0\0 \0\0\0\x01\0\0\0\x01\0\0\0\x01\0\0\0\x05smith\0\0\0\0\0\0\0\0\0\0\0",
+            answer: Answer::Got,
+            reply: b"\0\0\0\x0c\0\0\0\x02\0\0\0\x01\0\0\0\x06",
+        }],
+        out: b"",
+        err: b"pts: refused malformed\n",
+        status: 1,
+    },
+    Case {
+        words: &["del", "-nameorid", "smith", "system:anyuser", "-206"],
+        asks: &[Asked {
+            frame: b"\0\0\0\x1c\0\0\0\x01\0\0\0\x01\0\0\0\x03\0\0\0\x01\0\0\0\x05smith\0\0\0",
+            answer: Answer::Got,
+            reply: b"\0\0\0\x0c\0\0\0\x02\0\0\0\x01\0\0\0\x08",
+        }],
+        out: b"",
+        err: b"pts: no server\n",
+        status: 3,
+    },
 ];
 
 #[test]
@@ -156,6 +491,10 @@ fn pages_that_are_none(rt: HostRuntime) -> Result<(), Fail> {
     let mut pages = Vec::new(alloc);
     pages.push(page_frame(alloc, 1, 1, 100)?)?;
     pages.push(page_frame(alloc, 2, 100, 1)?)?;
-    assert_eq!(rt; list_pages(alloc, pages)?, (0, 3), "a page begins at an id of the one before");
+    assert_eq!(rt;
+        list_pages(alloc, pages)?,
+        (0, 3),
+        "a page begins at an id of the one before"
+    );
     Ok(())
 }

@@ -35,7 +35,10 @@ fn named_line<'a>(
     ensures { IfOk result (λ text. text ≡ named_line before.now name.now id behind.now) }
 {
     let id = signed_text(alloc, id)?;
-    joined(alloc, &[before, name, b" (id: ", id.as_bytes(), behind, b"\n"])
+    joined(
+        alloc,
+        &[before, name, b" (id: ", id.as_bytes(), behind, b"\n"],
+    )
 }
 
 /// The line before the members of a group, or before the groups of a user.
@@ -76,11 +79,7 @@ fn name_line(alloc: Global, name: &[u8]) -> Result<Bytes, NoMemory>
 }
 
 /// An entry with the names of its owner and of who made it, in this order.
-pub(crate) fn entry_text(
-    alloc: Global,
-    entry: &PtEntry,
-    names: &Names,
-) -> Result<Bytes, NoMemory>
+pub(crate) fn entry_text(alloc: Global, entry: &PtEntry, names: &Names) -> Result<Bytes, NoMemory>
     ensures { IfOk result (λ text. text ≡ entry_text entry.now names.now) }
 {
     let title = title_line(alloc, entry, name_at(names, 0), name_at(names, 1))?;
