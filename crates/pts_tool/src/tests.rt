@@ -60,33 +60,40 @@ fn run_case(rt: &impl Abort, alloc: Global, case: &Case) -> Result<(), Fail> {
 /// Commands of users and groups over one server, which was empty at first (worked by hand from the formats).
 const CASES: &[Case] = &[
     Case {
-        words: &["createuser", "123", "-id", "100"],
-        asks: &[Asked {
-            frame: b"\0\0\0\x1c\0\0\0\x01\0\0\0\x01\0\0\0\x02\0\0\0\x03123\0\0\0\0d\0\0\0\0",
-            answer: Answer::Got,
-            reply: b"\0\0\0\x0c\0\0\0\x02\0\0\0\x01\0\0\0\0",
-        }],
-        out: b"User 123 has id 100\n",
-        err: b"",
-        status: 0,
-    },
-    Case {
-        words: &["createuser", "007", "Smith"],
+        words: &["createuser", "smith", "jones", "-id", "9"],
         asks: &[
             Asked {
-                frame: b"\0\0\0\x1c\0\0\0\x01\0\0\0\x01\0\0\0\x01\0\0\0\x03007\0\0\0\0\0\0\0\0\0",
+                frame: b"\0\0\0 \0\0\0\x01\0\0\0\x01\0\0\0\x02\0\0\0\x05smith\0\0\0\0\0\0\x09\0\0\0\0",
                 answer: Answer::Got,
-                reply: b"\0\0\0\x10\0\0\0\x02\0\0\0\x01\0\0\0\0\0\0\0\x07",
+                reply: b"\0\0\0\x0c\0\0\0\x02\0\0\0\x01\0\0\0\0",
             },
             Asked {
-                frame: b"\0\0\0 \0\0\0\x01\0\0\0\x02\0\0\0\x01\0\0\0\x05Smith\0\0\0\0\0\0\0\0\0\0\0",
+                frame: b"\0\0\0 \0\0\0\x01\0\0\0\x02\0\0\0\x01\0\0\0\x05jones\0\0\0\0\0\0\0\0\0\0\0",
                 answer: Answer::Got,
                 reply: b"\0\0\0\x10\0\0\0\x02\0\0\0\x02\0\0\0\x01\0\x04\x14\0",
             },
         ],
-        out: b"User 007 has id 7\n",
+        out: b"User smith has id 9\n",
         err: b"pts: refused 267264\n",
         status: 1,
+    },
+    Case {
+        words: &["creategroup", "smith:a", "-owner", "smith"],
+        asks: &[
+            Asked {
+                frame: b"\0\0\0\x1c\0\0\0\x01\0\0\0\x01\0\0\0\x03\0\0\0\x01\0\0\0\x05smith\0\0\0",
+                answer: Answer::Got,
+                reply: b"\0\0\0\x14\0\0\0\x02\0\0\0\x01\0\0\0\0\0\0\0\x01\0\0\0\x01",
+            },
+            Asked {
+                frame: b"\0\0\0 \0\0\0\x01\0\0\0\x02\0\0\0\x01\0\0\0\x07smith:a\0\0\0\0\x02\0\0\0\x01",
+                answer: Answer::Got,
+                reply: b"\0\0\0\x10\0\0\0\x02\0\0\0\x02\0\0\0\0\xff\xff\xff1",
+            },
+        ],
+        out: b"group smith:a has id -207\n",
+        err: b"",
+        status: 0,
     },
     Case {
         words: &["rename", "smith", "a.b"],
@@ -107,101 +114,7 @@ const CASES: &[Case] = &[
         status: 0,
     },
     Case {
-        words: &["chown", "-name", "u3", "-owner", "smith"],
-        asks: &[
-            Asked {
-                frame: b"\0\0\0\x18\0\0\0\x01\0\0\0\x01\0\0\0\x03\0\0\0\x01\0\0\0\x02u3\0\0",
-                answer: Answer::Got,
-                reply: b"\0\0\0\x14\0\0\0\x02\0\0\0\x01\0\0\0\0\0\0\0\x01\0\0\0\x06",
-            },
-            Asked {
-                frame: b"\0\0\0\x1c\0\0\0\x01\0\0\0\x02\0\0\0\x03\0\0\0\x01\0\0\0\x05smith\0\0\0",
-                answer: Answer::Got,
-                reply: b"\0\0\0\x14\0\0\0\x02\0\0\0\x02\0\0\0\0\0\0\0\x01\0\0\0\x01",
-            },
-            Asked {
-                frame: b"\0\0\0\x1c\0\0\0\x01\0\0\0\x03\0\0\0\x0d\0\0\0\x06\0\0\0\0\0\0\0\x01\0\0\0\0",
-                answer: Answer::Got,
-                reply: b"\0\0\0\x0c\0\0\0\x02\0\0\0\x03\0\0\0\0",
-            },
-        ],
-        out: b"",
-        err: b"",
-        status: 0,
-    },
-    Case {
-        words: &["membership", "-nameo", "kent", "staff"],
-        asks: &[
-            Asked {
-                frame: b"\0\0\0\x18\0\0\0\x01\0\0\0\x01\0\0\0\x03\0\0\0\x01\0\0\0\x04kent",
-                answer: Answer::Got,
-                reply: b"\0\0\0\x14\0\0\0\x02\0\0\0\x01\0\0\0\0\0\0\0\x01\0\0\0\x03",
-            },
-            Asked {
-                frame: b"\0\0\0\x10\0\0\0\x01\0\0\0\x02\0\0\0\x0b\0\0\0\x03",
-                answer: Answer::Got,
-                reply: b"\0\0\0,\0\0\0\x02\0\0\0\x02\0\0\0\0\0\x02\0\0\0\0\0\x03\xff\xff\xff4\0\0\x7f\xfe\0\0\0\x14\0\0\0\0\0\0\0\x04kent",
-            },
-            Asked {
-                frame: b"\0\0\0\x10\0\0\0\x01\0\0\0\x03\0\0\0\x0f\0\0\0\x03",
-                answer: Answer::Got,
-                reply: b"\0\0\0\x10\0\0\0\x02\0\0\0\x03\0\0\0\0\0\0\0\0",
-            },
-            Asked {
-                frame: b"\0\0\0\x1c\0\0\0\x01\0\0\0\x04\0\0\0\x03\0\0\0\x01\0\0\0\x05staff\0\0\0",
-                answer: Answer::Got,
-                reply: b"\0\0\0\x14\0\0\0\x02\0\0\0\x04\0\0\0\0\0\0\0\x01\xff\xff\xff-",
-            },
-            Asked {
-                frame: b"\0\0\0\x10\0\0\0\x01\0\0\0\x05\0\0\0\x0b\xff\xff\xff-",
-                answer: Answer::Got,
-                reply: b"\0\0\00\0\0\0\x02\0\0\0\x05\0\0\0\0\0\x02\x02\0\xff\xff\xff-\xff\xff\xff4\0\0\x7f\xfe\0\0\0\0\0\0\0\x03\0\0\0\x05staff\0\0\0",
-            },
-            Asked {
-                frame: b"\0\0\0\x10\0\0\0\x01\0\0\0\x06\0\0\0\x0f\xff\xff\xff-",
-                answer: Answer::Got,
-                reply: b"\0\0\0\x1c\0\0\0\x02\0\0\0\x06\0\0\0\0\0\0\0\x03\0\0\0\x01\0\0\0\x02\0\0\0\x04",
-            },
-            Asked {
-                frame: b"\0\0\0\x1c\0\0\0\x01\0\0\0\x07\0\0\0\x04\0\0\0\x03\0\0\0\x01\0\0\0\x02\0\0\0\x04",
-                answer: Answer::Got,
-                reply: b"\0\0\00\0\0\0\x02\0\0\0\x07\0\0\0\0\0\0\0\x03\0\0\0\x05smith\0\0\0\0\0\0\x05jones\0\0\0\0\0\0\x02u1\0\0",
-            },
-        ],
-        out: b"Groups kent (id: 3) is a member of:\nMembers of staff (id: -211) are:\n  smith\n  jones\n  u1\n",
-        err: b"",
-        status: 0,
-    },
-    Case {
-        words: &["membership", "jones"],
-        asks: &[
-            Asked {
-                frame: b"\0\0\0\x1c\0\0\0\x01\0\0\0\x01\0\0\0\x03\0\0\0\x01\0\0\0\x05jones\0\0\0",
-                answer: Answer::Got,
-                reply: b"\0\0\0\x14\0\0\0\x02\0\0\0\x01\0\0\0\0\0\0\0\x01\0\0\0\x02",
-            },
-            Asked {
-                frame: b"\0\0\0\x10\0\0\0\x01\0\0\0\x02\0\0\0\x0b\0\0\0\x02",
-                answer: Answer::Got,
-                reply: b"\0\0\00\0\0\0\x02\0\0\0\x02\0\0\0\0\0\x02\0\0\0\0\0\x02\xff\xff\xff4\0\0\x7f\xfe\0\0\0\x14\0\0\0\x02\0\0\0\x05jones\0\0\0",
-            },
-            Asked {
-                frame: b"\0\0\0\x10\0\0\0\x01\0\0\0\x03\0\0\0\x0f\0\0\0\x02",
-                answer: Answer::Got,
-                reply: b"\0\0\0\x18\0\0\0\x02\0\0\0\x03\0\0\0\0\0\0\0\x02\xff\xff\xff-\xff\xff\xff2",
-            },
-            Asked {
-                frame: b"\0\0\0\x18\0\0\0\x01\0\0\0\x04\0\0\0\x04\0\0\0\x02\xff\xff\xff-\xff\xff\xff2",
-                answer: Answer::Got,
-                reply: b"\0\0\0,\0\0\0\x02\0\0\0\x04\0\0\0\0\0\0\0\x02\0\0\0\x05staff\0\0\0\0\0\0\nsmith:pals\0\0",
-            },
-        ],
-        out: b"Groups jones (id: 2) is a member of:\n  staff\n  smith:pals\n",
-        err: b"",
-        status: 0,
-    },
-    Case {
-        words: &["examine", "smith:a", "-localauth"],
+        words: &["chown", "smith:a", "-205"],
         asks: &[
             Asked {
                 frame: b"\0\0\0\x1c\0\0\0\x01\0\0\0\x01\0\0\0\x03\0\0\0\x01\0\0\0\x07smith:a\0",
@@ -209,72 +122,121 @@ const CASES: &[Case] = &[
                 reply: b"\0\0\0\x14\0\0\0\x02\0\0\0\x01\0\0\0\0\0\0\0\x01\xff\xff\xff1",
             },
             Asked {
-                frame: b"\0\0\0\x10\0\0\0\x01\0\0\0\x02\0\0\0\x0b\xff\xff\xff1",
+                frame: b"\0\0\0\x1c\0\0\0\x01\0\0\0\x02\0\0\0\x0d\xff\xff\xff1\0\0\0\0\xff\xff\xff3\0\0\0\0",
                 answer: Answer::Got,
-                reply: b"\0\0\00\0\0\0\x02\0\0\0\x02\0\0\0\0\0\x02\x02\0\xff\xff\xff1\0\0\0\x01\0\0\x7f\xfe\0\0\0\0\0\0\0\0\0\0\0\x07smith:a\0",
-            },
-            Asked {
-                frame: b"\0\0\0\x18\0\0\0\x01\0\0\0\x03\0\0\0\x04\0\0\0\x02\0\0\0\x01\0\0\x7f\xfe",
-                answer: Answer::Got,
-                reply: b"\0\0\0,\0\0\0\x02\0\0\0\x03\0\0\0\0\0\0\0\x02\0\0\0\x05smith\0\0\0\0\0\0\x09anonymous\0\0\0",
+                reply: b"\0\0\0\x0c\0\0\0\x02\0\0\0\x02\0\0\0\0",
             },
         ],
-        out: b"Name: smith:a, id: -207, owner: smith, creator: anonymous,\n  membership: 0, flags: S-M--, group quota: 0.\n",
+        out: b"",
         err: b"",
         status: 0,
     },
     Case {
-        words: &["listowned", "smith", "u1:g"],
+        words: &["adduser", "1", "-group", "staff"],
         asks: &[
             Asked {
-                frame: b"\0\0\0\x1c\0\0\0\x01\0\0\0\x01\0\0\0\x03\0\0\0\x01\0\0\0\x05smith\0\0\0",
+                frame: b"\0\0\0\x1c\0\0\0\x01\0\0\0\x01\0\0\0\x03\0\0\0\x01\0\0\0\x05staff\0\0\0",
                 answer: Answer::Got,
-                reply: b"\0\0\0\x14\0\0\0\x02\0\0\0\x01\0\0\0\0\0\0\0\x01\0\0\0\x01",
+                reply: b"\0\0\0\x14\0\0\0\x02\0\0\0\x01\0\0\0\0\0\0\0\x01\xff\xff\xff-",
             },
             Asked {
-                frame: b"\0\0\0\x10\0\0\0\x01\0\0\0\x02\0\0\0\x0b\0\0\0\x01",
+                frame: b"\0\0\0\x14\0\0\0\x01\0\0\0\x02\0\0\0\x06\0\0\0\x01\xff\xff\xff-",
                 answer: Answer::Got,
-                reply: b"\0\0\00\0\0\0\x02\0\0\0\x02\0\0\0\0\0\x02\0\0\0\0\0\x01\xff\xff\xff4\0\0\x7f\xfe\0\0\0\x14\0\0\0\x02\0\0\0\x05smith\0\0\0",
-            },
-            Asked {
-                frame: b"\0\0\0\x10\0\0\0\x01\0\0\0\x03\0\0\0\x11\0\0\0\x01",
-                answer: Answer::Got,
-                reply: b"\0\0\0\x18\0\0\0\x02\0\0\0\x03\0\0\0\0\0\0\0\x02\xff\xff\xff1\xff\xff\xff2",
-            },
-            Asked {
-                frame: b"\0\0\0\x18\0\0\0\x01\0\0\0\x04\0\0\0\x04\0\0\0\x02\xff\xff\xff1\xff\xff\xff2",
-                answer: Answer::Got,
-                reply: b"\0\0\0,\0\0\0\x02\0\0\0\x04\0\0\0\0\0\0\0\x02\0\0\0\x07smith:a\0\0\0\0\nsmith:pals\0\0",
-            },
-            Asked {
-                frame: b"\0\0\0\x18\0\0\0\x01\0\0\0\x05\0\0\0\x03\0\0\0\x01\0\0\0\x04u1:g",
-                answer: Answer::Got,
-                reply: b"\0\0\0\x14\0\0\0\x02\0\0\0\x05\0\0\0\0\0\0\0\x01\0\0\x7f\xfe",
+                reply: b"\0\0\0\x0c\0\0\0\x02\0\0\0\x02\0\0\0\0",
             },
         ],
-        out: b"Groups owned by smith (id: 1) are:\n  smith:a\n  smith:pals\n",
+        out: b"",
+        err: b"",
+        status: 0,
+    },
+    Case {
+        words: &["removeuser", "jones", "-group", "-208"],
+        asks: &[Asked {
+            frame: b"\0\0\0\x1c\0\0\0\x01\0\0\0\x01\0\0\0\x03\0\0\0\x01\0\0\0\x05jones\0\0\0",
+            answer: Answer::Got,
+            reply: b"\0\0\0\x14\0\0\0\x02\0\0\0\x01\0\0\0\0\0\0\0\x01\0\0\x7f\xfe",
+        }],
+        out: b"",
         err: b"pts: refused 267268\n",
         status: 1,
     },
     Case {
-        words: &["listentries", "-group"],
-        asks: &[Asked {
-            frame: b"\0\0\0\x14\0\0\0\x01\0\0\0\x01\0\0\0\x0c\0\0\0\x02\x80\0\0\0",
-            answer: Answer::Got,
-            reply: b"\0\0\x01\xd0\0\0\0\x02\0\0\0\x01\0\0\0\0\0\0\0\x0b\0\x02\x02\0\xff\xff\xff-\xff\xff\xff4\0\0\x7f\xfe\0\0\0\0\0\0\0\x03\0\0\0\x05staff\0\0\0\0\x02\x02\0\xff\xff\xff.\xff\xff\xff4\0\0\x7f\xfe\0\0\0\0\0\0\0\0\0\0\0\x04free\0\x02\x02\0\xff\xff\xff/\0\0\0\x03\0\0\x7f\xfe\0\0\0\0\0\0\0\0\0\0\0\x06kent:c\0\0\0\x02\x02\0\xff\xff\xff0\0\0\0\x02\0\0\x7f\xfe\0\0\0\0\0\0\0\0\0\0\0\x07jones:b\0\0\x02\x02\0\xff\xff\xff1\0\0\0\x01\0\0\x7f\xfe\0\0\0\0\0\0\0\0\0\0\0\x07smith:a\0\0\x02\x02\0\xff\xff\xff2\0\0\0\x01\0\0\x7f\xfe\0\0\0\0\0\0\0\x03\0\0\0\nsmith:pals\0\0\0\x02\x02\0\xff\xff\xff3\xff\xff\xff4\xff\xff\xff4\0\0\0\0\0\0\0\0\0\0\0\x0dsystem:backup\0\0\0\0\x02\x02\0\xff\xff\xff4\xff\xff\xff4\xff\xff\xff4\0\0\0\0\0\0\0\0\0\0\0\x15system:administrators\0\0\0\0\x02\x02\0\xff\xff\xff5\xff\xff\xff4\xff\xff\xff4\0\0\0\0\0\0\0\0\0\0\0\x11system:ptsviewers\0\0\0\0\x02\x02\0\xff\xff\xff\x9a\xff\xff\xff4\xff\xff\xff4\0\0\0\0\0\0\0\0\0\0\0\x0fsystem:authuser\0\0\x02\x02\0\xff\xff\xff\x9b\xff\xff\xff4\xff\xff\xff4\0\0\0\0\0\0\0\0\0\0\0\x0esystem:anyuser\0\0",
-        }],
-        out: b"Name                          ID  Owner Creator\nstaff                       -211   -204   32766\nfree                        -210   -204   32766\nkent:c                      -209      3   32766\njones:b                     -208      2   32766\nsmith:a                     -207      1   32766\nsmith:pals                  -206      1   32766\nsystem:backup               -205   -204    -204\nsystem:administrators       -204   -204    -204\nsystem:ptsviewers           -203   -204    -204\nsystem:authuser             -102   -204    -204\nsystem:anyuser              -101   -204    -204\n",
+        words: &["membership", "-211", "3"],
+        asks: &[
+            Asked {
+                frame: b"\0\0\0\x10\0\0\0\x01\0\0\0\x01\0\0\0\x0b\xff\xff\xff-",
+                answer: Answer::Got,
+                reply: b"\0\0\00\0\0\0\x02\0\0\0\x01\0\0\0\0\0\x02\x02\0\xff\xff\xff-\xff\xff\xff4\0\0\x7f\xfe\0\0\0\0\0\0\0\x01\0\0\0\x05staff\0\0\0",
+            },
+            Asked {
+                frame: b"\0\0\0\x10\0\0\0\x01\0\0\0\x02\0\0\0\x0f\xff\xff\xff-",
+                answer: Answer::Got,
+                reply: b"\0\0\0\x14\0\0\0\x02\0\0\0\x02\0\0\0\0\0\0\0\x01\0\0\0\x03",
+            },
+            Asked {
+                frame: b"\0\0\0\x14\0\0\0\x01\0\0\0\x03\0\0\0\x04\0\0\0\x01\0\0\0\x03",
+                answer: Answer::Got,
+                reply: b"\0\0\0\x18\0\0\0\x02\0\0\0\x03\0\0\0\0\0\0\0\x01\0\0\0\x04kent",
+            },
+            Asked {
+                frame: b"\0\0\0\x10\0\0\0\x01\0\0\0\x04\0\0\0\x0b\0\0\0\x03",
+                answer: Answer::Got,
+                reply: b"\0\0\0,\0\0\0\x02\0\0\0\x04\0\0\0\0\0\x02\0\0\0\0\0\x03\xff\xff\xff4\0\0\x7f\xfe\0\0\0\x14\0\0\0\0\0\0\0\x04kent",
+            },
+            Asked {
+                frame: b"\0\0\0\x10\0\0\0\x01\0\0\0\x05\0\0\0\x0f\0\0\0\x03",
+                answer: Answer::Got,
+                reply: b"\0\0\0\x10\0\0\0\x02\0\0\0\x05\0\0\0\0\0\0\0\0",
+            },
+        ],
+        out: b"Members of staff (id: -211) are:\n  kent\nGroups kent (id: 3) is a member of:\n",
         err: b"",
         status: 0,
     },
     Case {
-        words: &["listentries"],
+        words: &["examine", "32766"],
+        asks: &[
+            Asked {
+                frame: b"\0\0\0\x10\0\0\0\x01\0\0\0\x01\0\0\0\x0b\0\0\x7f\xfe",
+                answer: Answer::Got,
+                reply: b"\0\0\04\0\0\0\x02\0\0\0\x01\0\0\0\0\0\x01\x22!\0\0\x7f\xfe\xff\xff\xff4\xff\xff\xff4\0\0\0\0\0\0\0\0\0\0\0\x09anonymous\0\0\0",
+            },
+            Asked {
+                frame: b"\0\0\0\x18\0\0\0\x01\0\0\0\x02\0\0\0\x04\0\0\0\x02\xff\xff\xff4\xff\xff\xff4",
+                answer: Answer::Got,
+                reply: b"\0\0\0 \0\0\0\x02\0\0\0\x02\0\0\0\0\0\0\0\x02\0\0\0\x01a\0\0\0\0\0\0\x01b\0\0\0",
+            },
+        ],
+        out: b"Name: anonymous, id: 32766, owner: a, creator: b,\n  membership: 0, flags: sOMAr, group quota: 0.\n",
+        err: b"",
+        status: 0,
+    },
+    Case {
+        words: &["listowned", "0"],
+        asks: &[
+            Asked {
+                frame: b"\0\0\0\x10\0\0\0\x01\0\0\0\x01\0\0\0\x11\0\0\0\0",
+                answer: Answer::Got,
+                reply: b"\0\0\0\x14\0\0\0\x02\0\0\0\x01\0\0\0\0\0\0\0\x01\xff\xff\xff/",
+            },
+            Asked {
+                frame: b"\0\0\0\x14\0\0\0\x01\0\0\0\x02\0\0\0\x04\0\0\0\x01\xff\xff\xff/",
+                answer: Answer::Got,
+                reply: b"\0\0\0\x1c\0\0\0\x02\0\0\0\x02\0\0\0\0\0\0\0\x01\0\0\0\x06kent:c\0\0",
+            },
+        ],
+        out: b"Groups owned by 0 (id: 0) are:\n  kent:c\n",
+        err: b"",
+        status: 0,
+    },
+    Case {
+        words: &["listentries", "-groups"],
         asks: &[Asked {
-            frame: b"\0\0\0\x14\0\0\0\x01\0\0\0\x01\0\0\0\x0c\0\0\0\x01\x80\0\0\0",
+            frame: b"\0\0\0\x14\0\0\0\x01\0\0\0\x01\0\0\0\x0c\0\0\0\x02\x80\0\0\0",
             answer: Answer::Got,
-            reply: b"\0\0\0\xfc\0\0\0\x02\0\0\0\x01\0\0\0\0\0\0\0\x07\0\x02\0\0\0\0\0\x01\xff\xff\xff4\0\0\x7f\xfe\0\0\0\x14\0\0\0\x02\0\0\0\x03a.b\0\0\x02\0\0\0\0\0\x02\xff\xff\xff4\0\0\x7f\xfe\0\0\0\0\0\0\0\x02\0\0\0\x05jones\0\0\0\0\x02\0\0\0\0\0\x03\xff\xff\xff4\0\0\x7f\xfe\0\0\0\x14\0\0\0\0\0\0\0\x04kent\0\x02\0\0\0\0\0\x04\xff\xff\xff4\0\0\x7f\xfe\0\0\0\x14\0\0\0\x02\0\0\0\x02u1\0\0\0\x02\0\0\0\0\0\x05\xff\xff\xff4\0\0\x7f\xfe\0\0\0\x14\0\0\0\0\0\0\0\x02u2\0\0\0\x02\0\0\0\0\0\x06\0\0\0\x01\0\0\x7f\xfe\0\0\0\x14\0\0\0\0\0\0\0\x02u3\0\0\0\x02\0\0\0\0\x7f\xfe\xff\xff\xff4\xff\xff\xff4\0\0\0\0\0\0\0\0\0\0\0\x09anonymous\0\0\0",
+            reply: b"\0\0\04\0\0\0\x02\0\0\0\x01\0\0\0\0\0\0\0\x01\0\x02\x02\0\xff\xff\xff-\xff\xff\xff4\0\0\x7f\xfe\0\0\0\0\0\0\0\x03\0\0\0\x05staff\0\0\0",
         }],
-        out: b"Name                          ID  Owner Creator\na.b                            1   -204   32766\njones                          2   -204   32766\nkent                           3   -204   32766\nu1                             4   -204   32766\nu2                             5   -204   32766\nu3                             6      1   32766\nanonymous                  32766   -204    -204\n",
+        out: b"Name                          ID  Owner Creator\nstaff                       -211   -204   32766\n",
         err: b"",
         status: 0,
     },
@@ -290,7 +252,7 @@ const CASES: &[Case] = &[
         status: 0,
     },
     Case {
-        words: &["setmax", "-group", "-300", "-user", "5"],
+        words: &["setmax", "-user", "5", "-group", "-300"],
         asks: &[
             Asked {
                 frame: b"\0\0\0\x14\0\0\0\x01\0\0\0\x01\0\0\0\n\xff\xff\xfe\xd4\0\0\0\x01",
@@ -308,106 +270,40 @@ const CASES: &[Case] = &[
         status: 0,
     },
     Case {
-        words: &["setfields", "-access", "SOmar", "-nameorid", "free", "free"],
-        asks: &[
-            Asked {
-                frame: b"\0\0\0\x18\0\0\0\x01\0\0\0\x01\0\0\0\x03\0\0\0\x01\0\0\0\x04free",
-                answer: Answer::Got,
-                reply: b"\0\0\0\x14\0\0\0\x02\0\0\0\x01\0\0\0\0\0\0\0\x01\xff\xff\xff.",
-            },
-            Asked {
-                frame: b"\0\0\0\x1c\0\0\0\x01\0\0\0\x02\0\0\0\x0e\xff\xff\xff.\0\0\0\x01\0\x02!\x11\0\0\0\0",
-                answer: Answer::Got,
-                reply: b"\0\0\0\x0c\0\0\0\x02\0\0\0\x02\0\0\0\0",
-            },
-            Asked {
-                frame: b"\0\0\0\x18\0\0\0\x01\0\0\0\x03\0\0\0\x03\0\0\0\x01\0\0\0\x04free",
-                answer: Answer::Got,
-                reply: b"\0\0\0\x14\0\0\0\x02\0\0\0\x03\0\0\0\0\0\0\0\x01\xff\xff\xff.",
-            },
-            Asked {
-                frame: b"\0\0\0\x1c\0\0\0\x01\0\0\0\x04\0\0\0\x0e\xff\xff\xff.\0\0\0\x01\0\x02!\x11\0\0\0\0",
-                answer: Answer::Got,
-                reply: b"\0\0\0\x0c\0\0\0\x02\0\0\0\x04\0\0\0\0",
-            },
-        ],
-        out: b"",
-        err: b"",
-        status: 0,
-    },
-    Case {
-        words: &["setfields", "smith:a", "-groupquota", "20"],
-        asks: &[
-            Asked {
-                frame: b"\0\0\0\x1c\0\0\0\x01\0\0\0\x01\0\0\0\x03\0\0\0\x01\0\0\0\x07smith:a\0",
-                answer: Answer::Got,
-                reply: b"\0\0\0\x14\0\0\0\x02\0\0\0\x01\0\0\0\0\0\0\0\x01\xff\xff\xff1",
-            },
-            Asked {
-                frame: b"\0\0\0\x1c\0\0\0\x01\0\0\0\x02\0\0\0\x0e\xff\xff\xff1\0\0\0\x02\0\0\0\0\0\0\0\x14",
-                answer: Answer::Got,
-                reply: b"\0\0\0\x0c\0\0\0\x02\0\0\0\x02\0\0\0\0",
-            },
-        ],
-        out: b"",
-        err: b"",
-        status: 0,
-    },
-    Case {
-        words: &["createuser", "u1:g", "smith:pals", "5", "-i", "9", "9"],
+        words: &["setfields", "-210", "-access", "SOmar", "-groupquota", "7"],
         asks: &[Asked {
-            frame: b"\0\0\0\x1c\0\0\0\x01\0\0\0\x01\0\0\0\x02\0\0\0\x04u1:g\0\0\0\x09\0\0\0\0",
+            frame: b"\0\0\0\x1c\0\0\0\x01\0\0\0\x01\0\0\0\x0e\xff\xff\xff.\0\0\0\x03\0\x02!\x11\0\0\0\x07",
             answer: Answer::Got,
-            reply: b"\0\0\0\x0c\0\0\0\x02\0\0\0\x01\0\0\0\x07",
+            reply: b"\0\0\0\x0c\0\0\0\x02\0\0\0\x01\0\0\0\0",
         }],
+        out: b"",
+        err: b"",
+        status: 0,
+    },
+    Case {
+        words: &["delete", "1", "2"],
+        asks: &[
+            Asked {
+                frame: b"\0\0\0\x10\0\0\0\x01\0\0\0\x01\0\0\0\x05\0\0\0\x01",
+                answer: Answer::Got,
+                reply: b"\0\0\0\x0c\0\0\0\x02\0\0\0\x01\0\0\0\0",
+            },
+            Asked {
+                frame: b"\0\0\0\x10\0\0\0\x01\0\0\0\x02\0\0\0\x05\0\0\0\x02",
+                answer: Answer::Got,
+                reply: b"\0\0\0\x0c\0\0\0\x02\0\0\0\x02\0\0\0\x07",
+            },
+        ],
         out: b"",
         err: b"pts: outcome unknown\n",
         status: 6,
     },
     Case {
-        words: &["membership", "-nameorid", "system:authuser"],
+        words: &["listmax"],
         asks: &[Asked {
-            frame: b"\0\0\0$\0\0\0\x01\0\0\0\x01\0\0\0\x03\0\0\0\x01\0\0\0\x0fsystem:authuser\0",
+            frame: b"\0\0\0\x0c\0\0\0\x01\0\0\0\x01\0\0\0\x09",
             answer: Answer::NoAnswer,
             reply: b"",
-        }],
-        out: b"",
-        err: b"pts: no server\n",
-        status: 3,
-    },
-    Case {
-        words: &[
-            "createuser",
-            "-name",
-            "u1:g",
-            "xxxxxxxxxxxxxxxxxxxxxxxxxxxxxxxxxxxxxxxxxxxxxxxxxxxxxxxxxxxxxxx",
-        ],
-        asks: &[Asked {
-            frame: b"\0\0\0\x1c\0\0\0\x01\0\0\0\x01\0\0\0\x01\0\0\0\x04u1:g\0\0\0\0\0\0\0\0",
-            answer: Answer::Got,
-            reply: b"\0\0\0\x04\0\0\0\x03",
-        }],
-        out: b"",
-        err: b"pts: outcome unknown\n",
-        status: 6,
-    },
-    Case {
-        words: &["createuser", "smith", "a.b"],
-        asks: &[Asked {
-            frame: b"\0\0\0 \0\0\0\x01\0\0\0\x01\0\0\0\x01\0\0\0\x05smith\0\0\0\0\0\0\0\0\0\0\0",
-            answer: Answer::Got,
-            reply: b"\0\0\0\x0c\0\0\0\x02\0\0\0\x01\0\0\0\x06",
-        }],
-        out: b"",
-        err: b"pts: refused malformed\n",
-        status: 1,
-    },
-    Case {
-        words: &["del", "-nameorid", "smith", "system:anyuser", "-206"],
-        asks: &[Asked {
-            frame: b"\0\0\0\x1c\0\0\0\x01\0\0\0\x01\0\0\0\x03\0\0\0\x01\0\0\0\x05smith\0\0\0",
-            answer: Answer::Got,
-            reply: b"\0\0\0\x0c\0\0\0\x02\0\0\0\x01\0\0\0\x08",
         }],
         out: b"",
         err: b"pts: no server\n",
