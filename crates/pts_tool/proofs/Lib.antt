@@ -1,0 +1,7 @@
+pub mod Asked
+pub mod Hosts
+pub mod Named
+pub mod Paged
+pub mod Spelling
+pub mod Translated
+pub mod Worked
