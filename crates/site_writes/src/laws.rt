@@ -4,10 +4,10 @@ ghost use Rattle.site_writes.specs.Rules.{OfEachSite, IsFreeWithout, WriteIsInFl
 /// The writes of a site are the write in flight and the line of its server, and each call that changes the ones makes of the
 /// server with the others what the rule does.
 pub fn law_calls_are_steps()
-    ensures free { OfEachSite IsFreeWithout }
-    ensures begins { OfEachSite WriteIsInFlight }
-    ensures ends { OfEachSite WriteIsOver }
-    ensures waits { OfEachSite CallWaits }
-    ensures first { OfEachSite FirstHasItsTurn }
-    ensures dropped { OfEachSite AllAreDropped }
+    ensures is_free { OfEachSite IsFreeWithout }
+    ensures begin { OfEachSite WriteIsInFlight }
+    ensures end { OfEachSite WriteIsOver }
+    ensures wait { OfEachSite CallWaits }
+    ensures next { OfEachSite FirstHasItsTurn }
+    ensures emptied { OfEachSite AllAreDropped }
 {}
