@@ -1,0 +1,117 @@
+//! What is found of pairs and owners.
+ghost use Rattle.std.specs.Prelude.{◌≡◌, ◌<◌, ◌^◌, true, IsSome, IfOk, IfErr, IfSome, IsErrOf};
+ghost use Rattle.db_blocks.specs.Ends.{OnlyLooks};
+ghost use Rattle.prdb_entries.specs.RecordEnds.{HasCause};
+ghost use Rattle.prdb_entries.specs.Records.{Holds};
+ghost use Rattle.prdb_entries.specs.Registry.{Registry};
+ghost use Rattle.prdb_members.specs.Ends.{HasCauseWhere};
+ghost use Rattle.prdb_members.specs.Layout.{HoldsPairs};
+ghost use Rattle.prdb_members.specs.Lists.{IsListOf};
+ghost use Rattle.prdb_members.specs.Members.{Members, IsInList, IsOwned, are_paired};
+
+use crate::id_lists::IdList;
+use crate::listed::{find_entry, read_list};
+use db_image::{Draft, ImageRead, RecordFault};
+use prdb_entries::next_id;
+use std::alloc::Global;
+
+/// The id of `system:anyuser`, in which each user is.
+const ANY_USER: i32 = -101;
+
+/// The id of `system:authuser`, in which each user is but `anonymous`.
+const SIGNED_IN: i32 = -102;
+
+/// The id of `anonymous`.
+const ANONYMOUS: i32 = 32766;
+
+/// The groups of a user or the members of a group, which is there.
+pub fn elements<I: ImageRead>(
+    alloc: Global,
+    d: &mut Draft<I>,
+    id: i32,
+) -> Result<IdList, RecordFault>
+    requires { d.old.len < 2 ^ 31 }
+    ensures found { IfOk result (λ ids. IfSome d.old.bytes (λ image. (r : Registry) (m : Members) → HoldsPairs image r m
+        → IsSome (r.entry id) → IsListOf (λ other. are_paired m id other ≡ true) ids)) }
+    ensures fault { IfErr result (HasCauseWhere (λ r m. IsSome (r.entry id)) d.old.bytes) }
+    ensures frame { OnlyLooks I.ImageRead d.old d.new (IsErrOf result RecordFault.DiskFault) }
+{
+    if d.len() == 0 {
+        return Ok(IdList::new(alloc));
+    }
+    let Some(found) = find_entry(d, id)? else {
+        return Err(RecordFault::BadRecord { at: d.len() });
+    };
+    Ok(read_list(alloc, d, id, &found)?.ids)
+}
+
+/// Whether a pair is there.
+pub fn has_pair<I: ImageRead>(
+    alloc: Global,
+    d: &mut Draft<I>,
+    member: i32,
+    group: i32,
+) -> Result<bool, RecordFault>
+    requires { d.old.len < 2 ^ 31 }
+    ensures found { IfOk result (λ there. IfSome d.old.bytes (λ image. (r : Registry) (m : Members) → HoldsPairs image r m
+        → there ≡ m.has member group)) }
+    ensures fault { IfErr result (HasCauseWhere (λ r m. Unit {0}) d.old.bytes) }
+    ensures frame { OnlyLooks I.ImageRead d.old d.new (IsErrOf result RecordFault.DiskFault) }
+{
+    if member < 0 {
+        return Ok(false);
+    }
+    let Some(found) = find_entry(d, member)? else {
+        return Ok(false);
+    };
+    Ok(read_list(alloc, d, member, &found)?.ids.contains(group))
+}
+
+/// The groups that an id owns; those without owner where it is 0.
+pub fn owned<I: ImageRead>(
+    alloc: Global,
+    d: &mut Draft<I>,
+    id: i32,
+) -> Result<IdList, RecordFault>
+    requires { d.old.len < 2 ^ 31 }
+    ensures found { IfOk result (λ ids. IfSome d.old.bytes (λ image. (r : Registry) → Holds image r → IsListOf (IsOwned r id) ids)) }
+    ensures fault { IfErr result (HasCause d.old.bytes Holds) }
+    ensures frame { OnlyLooks I.ImageRead d.old d.new (IsErrOf result RecordFault.DiskFault) }
+{
+    let mut ids = IdList::new(alloc);
+    let mut after = i32::MIN;
+    while let Some(e) = next_id(alloc, d, after)? {
+        if e.id >= 0 || e.id <= after {
+            break;
+        }
+        if e.owner == id {
+            ids.push(e.id)?;
+        }
+        after = e.id;
+    }
+    Ok(ids)
+}
+
+/// The list of ids under which an entry acts, which is there: for a user its own, its groups, and the groups in which each user is; for
+/// a group its own.
+pub fn cps<I: ImageRead>(
+    alloc: Global,
+    d: &mut Draft<I>,
+    id: i32,
+) -> Result<IdList, RecordFault>
+    requires { d.old.len < 2 ^ 31 }
+    ensures found { IfOk result (λ ids. IfSome d.old.bytes (λ image. (r : Registry) (m : Members) → HoldsPairs image r m
+        → IsSome (r.entry id) → IsListOf (IsInList m id) ids)) }
+    ensures fault { IfErr result (HasCauseWhere (λ r m. IsSome (r.entry id)) d.old.bytes) }
+    ensures frame { OnlyLooks I.ImageRead d.old d.new (IsErrOf result RecordFault.DiskFault) }
+{
+    if id < 0 {
+        return Ok(IdList::new(alloc).with(alloc, id)?);
+    }
+    let groups = elements(alloc, d, id)?;
+    let mut ids = groups.with(alloc, ANY_USER)?;
+    if id != ANONYMOUS {
+        ids = ids.with(alloc, SIGNED_IN)?;
+    }
+    Ok(ids.with(alloc, id)?)
+}

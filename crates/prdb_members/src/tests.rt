@@ -1,0 +1,1 @@
+//! Pairs over images in memory.
