@@ -1,3 +1,4 @@
+pub mod Found
 pub mod Blocks
 pub mod Members
 pub mod Lists

@@ -1,5 +1,5 @@
 -- Ascending lists of ids.
-use Rattle.std.specs.Prelude.{ℕ, ℤ, ◌<◌, ◌<ℤ◌, List, length, slice_index_or}
+use Rattle.std.specs.Prelude.{ℕ, ℤ, ◌<◌, ◌≤◌, ◌<ℤ◌, ◌≤ℤ◌, List, length, slice_index_or}
 use Rattle.std.specs.List.{Contains}
 
 -- each id is below those behind it
@@ -14,4 +14,6 @@ pub record IsListOf (holds : ℤ → Type 0) (ids : List ℤ) : Type 0 where
 
 -- so many first ids are below one, and none behind them is
 pub record IsRank (ids : List ℤ) (id : ℤ) (rank : ℕ) : Type 0 where
+  pub most : rank ≤ length ids
   pub within : (i : ℕ) (d : ℤ) → i < rank → slice_index_or ids i d <ℤ id
+  pub behind : (d : ℤ) → rank < length ids → id ≤ℤ slice_index_or ids rank d

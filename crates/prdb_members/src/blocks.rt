@@ -4,7 +4,7 @@ ghost use Rattle.std.specs.List.{range_with_len};
 ghost use Rattle.std.specs.Ordering.{int_eq};
 ghost use Rattle.db_blocks.specs.Blocks.{IsFirst, block_place};
 ghost use Rattle.prdb_entries.specs.Records.{kind_of, signed_at};
-ghost use Rattle.prdb_members.specs.Blocks.{ids_in};
+ghost use Rattle.prdb_members.specs.Blocks.{ids_in, is_more_of};
 ghost use Rattle.prdb_members.specs.Lists.{IsAscending};
 
 use crate::id_lists::IdList;
@@ -52,7 +52,7 @@ fn signed_at(bytes: &[u8], at: usize) -> i32
 
 /// Whether a block is a continuation of an entry.
 pub(crate) fn is_more_of(block: &Block, entry: i32) -> bool
-    ensures { result ≡ (kind_of block.now == MORE && int_eq (signed_at block.now MORE_ENTRY_AT) entry) }
+    ensures { result ≡ is_more_of entry block.now }
 {
     kind_of(block) == MORE && signed_at(block, MORE_ENTRY_AT) == entry
 }

@@ -10,7 +10,7 @@ ghost use Rattle.prdb_members.specs.Lists.{IsListOf};
 ghost use Rattle.prdb_members.specs.Members.{Members, IsInList, IsOwned, are_paired};
 
 use crate::id_lists::IdList;
-use crate::listed::{find_entry, read_list};
+use crate::listed::find_list;
 use db_image::{Draft, ImageRead, RecordFault};
 use prdb_entries::next_id;
 use std::alloc::Global;
@@ -39,10 +39,10 @@ pub fn elements<I: ImageRead>(
     if d.len() == 0 {
         return Ok(IdList::new(alloc));
     }
-    let Some(found) = find_entry(d, id)? else {
-        return Err(RecordFault::BadRecord { at: d.len() });
-    };
-    Ok(read_list(alloc, d, id, &found)?.ids)
+    match find_list(alloc, d, id)? {
+        Some(listed) => Ok(listed.ids),
+        None => Err(RecordFault::BadRecord { at: d.len() }),
+    }
 }
 
 /// Whether a pair is there.
@@ -58,13 +58,13 @@ pub fn has_pair<I: ImageRead>(
     ensures fault { IfErr result (HasCauseWhere (λ r m. Unit {0}) d.old.bytes) }
     ensures frame { OnlyLooks I.ImageRead d.old d.new (IsErrOf result RecordFault.DiskFault) }
 {
-    if member < 0 {
+    if d.len() == 0 || member < 0 {
         return Ok(false);
     }
-    let Some(found) = find_entry(d, member)? else {
-        return Ok(false);
-    };
-    Ok(read_list(alloc, d, member, &found)?.ids.contains(group))
+    match find_list(alloc, d, member)? {
+        Some(listed) => Ok(listed.ids.contains(group)),
+        None => Ok(false),
+    }
 }
 
 /// The groups that an id owns; those without owner where it is 0.
@@ -81,7 +81,10 @@ pub fn owned<I: ImageRead>(
     let mut ids = IdList::new(alloc);
     let mut after = i32::MIN;
     while let Some(e) = next_id(alloc, d, after)? {
-        if e.id >= 0 || e.id <= after {
+        if e.id <= after {
+            return Err(RecordFault::BadRecord { at: d.len() });
+        }
+        if e.id >= 0 {
             break;
         }
         if e.owner == id {
@@ -109,9 +112,9 @@ pub fn cps<I: ImageRead>(
         return Ok(IdList::new(alloc).with(alloc, id)?);
     }
     let groups = elements(alloc, d, id)?;
-    let mut ids = groups.with(alloc, ANY_USER)?;
-    if id != ANONYMOUS {
-        ids = ids.with(alloc, SIGNED_IN)?;
+    let ids = groups.with(alloc, ANY_USER)?.with(alloc, id)?;
+    if id == ANONYMOUS {
+        return Ok(ids);
     }
-    Ok(ids.with(alloc, id)?)
+    Ok(ids.with(alloc, SIGNED_IN)?)
 }

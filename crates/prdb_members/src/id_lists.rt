@@ -71,48 +71,36 @@ impl IdList {
         ensures pushed { OnOk result (self.new ≡ self.old ++ id ∷ []) }
         ensures same { OnErr result (self.new ≡ self.old) }
     {
-        self.ids.push(id)
+        self.ids.push(id)?;
+        Ok(())
     }
 
     /// How many ids of the list are below one.
     fn rank(&self, id: i32) -> usize
         ensures { IsRank self.now id result }
     {
-        for (i, x) in self.ids.as_slice().iter().enumerate() {
+        let ids = self.ids.as_slice();
+        for (i, x) in ids.iter().enumerate() {
             if *x >= id {
                 return i;
             }
         }
-        self.ids.len()
+        ids.len()
     }
 
     /// The same list with an id in its place, which may be there already.
     pub(crate) fn with(&self, alloc: Global, id: i32) -> Result<IdList, AllocError>
-        ensures { IfOk result (λ after. (x : ℤ) → Contains after x ↔ ((x ≡ id) ⊎ Contains self.now x)) }
+        ensures members { IfOk result (λ after. (x : ℤ) → Contains after x ↔ ((x ≡ id) ⊎ Contains self.now x)) }
+        ensures ascending { IfOk result (λ after. IsAscending after) }
     {
-        let rank = self.rank(id);
-        let ids = self.ids.as_slice();
-        let mut after = Vec::with_capacity(alloc, ids.len())?;
-        after.extend_from_slice(&ids[..rank])?;
-        after.push(id)?;
-        let behind = &ids[rank..];
-        match behind {
-            [first, rest @ ..] if *first == id => after.extend_from_slice(rest)?,
-            _ => after.extend_from_slice(behind)?,
+        let there = self.contains(id);
+        let (below, behind) = self.ids.as_slice().split_at(self.rank(id));
+        let mut ids = Vec::new(alloc);
+        ids.extend_from_slice(below)?;
+        if !there {
+            ids.push(id)?;
         }
-        Ok(IdList { ids: after })
-    }
-
-    /// The same list without an id.
-    pub(crate) fn without(&self, alloc: Global, id: i32) -> Result<IdList, AllocError>
-        ensures { IfOk result (λ after. (x : ℤ) → Contains after x ↔ ((x ≢ id) × Contains self.now x)) }
-    {
-        let mut after = IdList::new(alloc);
-        for x in self.ids.as_slice() {
-            if *x != id {
-                after.push(*x)?;
-            }
-        }
-        Ok(after)
+        ids.extend_from_slice(behind)?;
+        Ok(IdList { ids })
     }
 }
