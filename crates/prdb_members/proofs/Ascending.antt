@@ -4,8 +4,11 @@ use Rattle.std.specs.Prelude.{◌<ℤ◌, ◌≤ℤ◌, ◌⊎◌}
 use Rattle.std.specs.List.{All, Contains}
 use Rattle.std.proofs.lemmas.Bool.{cases_lt, cases_eq}
 use Rattle.std.proofs.lemmas.Int.{ints}
-use Rattle.std.proofs.lemmas.List.{length-append, get_or_append_left, get_or-append_right, get_or-append-add, get_or_default, take-append-drop}
+use Rattle.std.proofs.lemmas.List.{length-append, get_or_append_left, get_or-append_right, get_or-append-add, get_or_default, take-append-drop, length-take-le}
 use Rattle.std.proofs.lemmas.List.Elements.{Contains-append_left, Contains-append_right, Contains-append_cases}
+use Rattle.std.specs.Prelude.{IsTrue, int_lt}
+use Rattle.std.specs.Int.{w32}
+use Rattle.std.proofs.Common.{SFits}
 use Rattle.prdb_members.specs.Lists.{IsAscending, IsRank}
 
 lt_same : (a b x y : ℤ) → x ≡ a → y ≡ b → a <ℤ b → x <ℤ y
@@ -127,3 +130,84 @@ with_ascending below behind id cut above =
     ascending_join (below ++ id ∷ []) behind
     (ascending_join below (id ∷ []) front (ascending_one id) (apart_one below id cut.less)) tail
     (apart_join below (id ∷ []) behind (ascending_apart below behind cut.ascending) above)
+
+-- ---- whether an id is above all
+
+lt_from : (a b : ℤ) → IsTrue (int_lt a b) → a <ℤ b
+lt_from a b e = grind (arith, ints)
+
+lt_to : (a b : ℤ) → a <ℤ b → IsTrue (int_lt a b)
+lt_to a b h = grind (arith, ints)
+
+pub below_answer : (self ids : List ℤ) (id last : ℤ) → ids ≡ self → IsAscending ids → 1 ≤ length ids → last ≡ get_or ids (length ids - 1) (pos 0)
+    → (IsTrue (int_lt last id) → All (λ x. x <ℤ id) self) × (All (λ x. x <ℤ id) self → IsTrue (int_lt last id))
+below_answer self ids id last same is some at = (
+  λ less. subst (λ (l : List ℤ). All (λ x. x <ℤ id) l) same (below_last ids id is some (lt_same _ _ _ _ (sym at) refl (lt_from last id less))),
+  λ all.
+      let below : All (λ x. x <ℤ id) ids = subst (λ (l : List ℤ). All (λ x. x <ℤ id) l) (sym same) all in
+      lt_to last id (lt_same _ _ _ _ at refl (below (length ids - 1) (pos 0) (omega arith))),
+)
+
+-- ---- the list with an id in its place
+
+-- the same list, where the id is there
+pub joined_same : (ids below behind : List ℤ) (rank : ℕ) → below ≡ take rank ids → behind ≡ drop rank ids → below ++ behind ≡ ids
+joined_same ids below behind rank front back = ap (λ (l : List ℤ). l ++ behind) front ∙ ap (λ (l : List ℤ). take rank ids ++ l) back ∙ take-append-drop rank ids
+
+pub cut_of : (ids below behind : List ℤ) (id : ℤ) (rank : ℕ) → IsAscending ids → IsRank ids id rank → below ≡ take rank ids → behind ≡ drop rank ids
+    → IsCut below behind id
+cut_of ids below behind id rank is at front back =
+    cut_at ids below behind id rank is at (sym (joined_same ids below behind rank front back)) (ap length front ∙ length-take-le rank ids at.most)
+
+-- the id is not among those behind, where it is not there
+other_first : (ids below behind : List ℤ) (id : ℤ) → below ++ behind ≡ ids → ¬ Contains ids id → (d : ℤ) → 0 < length behind → get_or behind 0 d ≢ id
+other_first ids below behind id same not d some is =
+    not (subst (λ (l : List ℤ). Contains l id) same (Contains-append_right below behind id (0, some, get_or_default behind 0 id d some ∙ is)))
+
+pub is_ascending_with : (ids below behind made : List ℤ) (id : ℤ) (rank : ℕ) → IsAscending ids → IsRank ids id rank → below ≡ take rank ids → behind ≡ drop rank ids
+    → ¬ Contains ids id → made ≡ below ++ id ∷ [] → IsAscending (made ++ behind)
+is_ascending_with ids below behind made id rank is at front back not made_is =
+    let cut = cut_of ids below behind id rank is at front back in
+    subst (λ (l : List ℤ). IsAscending (l ++ behind)) (sym made_is)
+    (with_ascending below behind id cut (above_first below behind id cut (other_first ids below behind id (joined_same ids below behind rank front back) not)))
+
+unfoldable pub IsWith : (ids : List ℤ) → ℤ → List ℤ → Type 0
+IsWith ids id after = (x : ℤ) → (Contains after x → (x ≡ id) ⊎ Contains ids x) × ((x ≡ id) ⊎ Contains ids x → Contains after x)
+
+one_is : (id x : ℤ) → Contains (id ∷ []) x → x ≡ id
+one_is id x (zero, below, is) = sym is
+one_is id x (suc k, below, is) = absurd (omega arith)
+
+pub members_with : (ids below behind made : List ℤ) (id : ℤ) (rank : ℕ) → below ≡ take rank ids → behind ≡ drop rank ids → made ≡ below ++ id ∷ []
+    → IsWith ids id (made ++ behind)
+unfolding IsWith
+members_with ids below behind made id rank front back made_is =
+    let same = joined_same ids below behind rank front back in
+    subst (λ (l : List ℤ). (x : ℤ) → (Contains (l ++ behind) x → (x ≡ id) ⊎ Contains ids x) × ((x ≡ id) ⊎ Contains ids x → Contains (l ++ behind) x)) (sym made_is)
+    (λ x. (
+      λ there. elim (Contains-append_cases (below ++ id ∷ []) behind x there) [
+        | inl front_has ↦ elim (Contains-append_cases below (id ∷ []) x front_has) [
+          | inl has ↦ inr (subst (λ (l : List ℤ). Contains l x) same (Contains-append_left below behind x has))
+          | inr one ↦ inl (one_is id x one)
+        ]
+        | inr has ↦ inr (subst (λ (l : List ℤ). Contains l x) same (Contains-append_right below behind x has))
+      ],
+      λ either. elim either [
+        | inl is ↦ Contains-append_left (below ++ id ∷ []) behind x (Contains-append_right below (id ∷ []) x (0, omega arith, sym is))
+        | inr has ↦ elim (Contains-append_cases below behind x (subst (λ (l : List ℤ). Contains l x) (sym same) has)) [
+          | inl before ↦ Contains-append_left (below ++ id ∷ []) behind x (Contains-append_left below (id ∷ []) x before)
+          | inr after ↦ Contains-append_right (below ++ id ∷ []) behind x after
+        ]
+      ],
+    ))
+
+pub members_same : (ids below behind : List ℤ) (id : ℤ) (rank : ℕ) → below ≡ take rank ids → behind ≡ drop rank ids → Contains ids id
+    → IsWith ids id (below ++ behind)
+unfolding IsWith
+members_same ids below behind id rank front back there =
+    let same = joined_same ids below behind rank front back in
+    subst (λ (l : List ℤ). (x : ℤ) → (Contains l x → (x ≡ id) ⊎ Contains ids x) × ((x ≡ id) ⊎ Contains ids x → Contains l x)) (sym same)
+    (λ x. (λ has. inr has, λ either. elim either [ | inl is ↦ subst (λ (v : ℤ). Contains ids v) (sym is) there | inr has ↦ has ]))
+
+pub is_ascending_same : (ids below behind : List ℤ) (rank : ℕ) → IsAscending ids → below ≡ take rank ids → behind ≡ drop rank ids → IsAscending (below ++ behind)
+is_ascending_same ids below behind rank is front back = subst IsAscending (sym (joined_same ids below behind rank front back)) is

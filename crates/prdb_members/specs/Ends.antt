@@ -6,6 +6,10 @@ use Rattle.prdb_entries.specs.Registry.{Registry}
 use Rattle.prdb_members.specs.Layout.{HoldsPairs}
 use Rattle.prdb_members.specs.Members.{Members}
 
--- a bad record is answered only where the image holds no state in which the call may be made
-abbrev pub HasCauseWhere : (Registry → Members → Type 0) → Option (List ℕ) → RecordFault → Type 0
-HasCauseWhere may held fault = HasCause held (λ image. (r : Registry) × (m : Members) × HoldsPairs image r m × may r m) fault
+-- the bytes hold a registry and a set of pairs
+abbrev pub HoldsSome : List ℕ → Type 0
+HoldsSome image = (r : Registry) × (m : Members) × HoldsPairs image r m
+
+-- a bad record is answered only where the image holds none
+abbrev pub HasItsCause : Option (List ℕ) → RecordFault → Type 0
+HasItsCause held fault = HasCause held HoldsSome fault

@@ -1,10 +1,10 @@
 //! What is found of pairs and owners.
-ghost use Rattle.std.specs.Prelude.{◌≡◌, ◌<◌, ◌^◌, true, IsSome, IfOk, IfErr, IfSome, IsErrOf};
+ghost use Rattle.std.specs.Prelude.{◌≡◌, ◌<◌, ◌^◌, true, IfOk, IfErr, IfSome, IsErrOf};
 ghost use Rattle.db_blocks.specs.Ends.{OnlyLooks};
 ghost use Rattle.prdb_entries.specs.RecordEnds.{HasCause};
 ghost use Rattle.prdb_entries.specs.Records.{Holds};
 ghost use Rattle.prdb_entries.specs.Registry.{Registry};
-ghost use Rattle.prdb_members.specs.Ends.{HasCauseWhere};
+ghost use Rattle.prdb_members.specs.Ends.{HasItsCause};
 ghost use Rattle.prdb_members.specs.Layout.{HoldsPairs};
 ghost use Rattle.prdb_members.specs.Lists.{IsListOf};
 ghost use Rattle.prdb_members.specs.Members.{Members, IsInList, IsOwned, are_paired};
@@ -24,7 +24,7 @@ const SIGNED_IN: i32 = -102;
 /// The id of `anonymous`.
 const ANONYMOUS: i32 = 32766;
 
-/// The groups of a user or the members of a group, which is there.
+/// The groups of a user or the members of a group; none of an id that is no entry's.
 pub fn elements<I: ImageRead>(
     alloc: Global,
     d: &mut Draft<I>,
@@ -32,17 +32,14 @@ pub fn elements<I: ImageRead>(
 ) -> Result<IdList, RecordFault>
     requires { d.old.len < 2 ^ 31 }
     ensures found { IfOk result (λ ids. IfSome d.old.bytes (λ image. (r : Registry) (m : Members) → HoldsPairs image r m
-        → IsSome (r.entry id) → IsListOf (λ other. are_paired m id other ≡ true) ids)) }
-    ensures fault { IfErr result (HasCauseWhere (λ r m. IsSome (r.entry id)) d.old.bytes) }
+        → IsListOf (λ other. are_paired m id other ≡ true) ids)) }
+    ensures fault { IfErr result (HasItsCause d.old.bytes) }
     ensures frame { OnlyLooks I.ImageRead d.old d.new (IsErrOf result RecordFault.DiskFault) }
 {
-    if d.len() == 0 {
+    let Some(listed) = find_list(alloc, d, id)? else {
         return Ok(IdList::new(alloc));
-    }
-    match find_list(alloc, d, id)? {
-        Some(listed) => Ok(listed.ids),
-        None => Err(RecordFault::BadRecord { at: d.len() }),
-    }
+    };
+    Ok(listed.ids)
 }
 
 /// Whether a pair is there.
@@ -55,16 +52,17 @@ pub fn has_pair<I: ImageRead>(
     requires { d.old.len < 2 ^ 31 }
     ensures found { IfOk result (λ there. IfSome d.old.bytes (λ image. (r : Registry) (m : Members) → HoldsPairs image r m
         → there ≡ m.has member group)) }
-    ensures fault { IfErr result (HasCauseWhere (λ r m. Unit {0}) d.old.bytes) }
+    ensures fault { IfErr result (HasItsCause d.old.bytes) }
     ensures frame { OnlyLooks I.ImageRead d.old d.new (IsErrOf result RecordFault.DiskFault) }
 {
-    if d.len() == 0 || member < 0 {
+    if member < 0 {
         return Ok(false);
     }
-    match find_list(alloc, d, member)? {
-        Some(listed) => Ok(listed.ids.contains(group)),
-        None => Ok(false),
-    }
+    let Some(listed) = find_list(alloc, d, member)? else {
+        return Ok(false);
+    };
+    let there = listed.ids.contains(group);
+    Ok(there)
 }
 
 /// The groups that an id owns; those without owner where it is 0.
@@ -95,7 +93,7 @@ pub fn owned<I: ImageRead>(
     Ok(ids)
 }
 
-/// The list of ids under which an entry acts, which is there: for a user its own, its groups, and the groups in which each user is; for
+/// The list of ids under which an entry acts: for a user its own, its groups, and the groups in which each user is; for
 /// a group its own.
 pub fn cps<I: ImageRead>(
     alloc: Global,
@@ -104,17 +102,21 @@ pub fn cps<I: ImageRead>(
 ) -> Result<IdList, RecordFault>
     requires { d.old.len < 2 ^ 31 }
     ensures found { IfOk result (λ ids. IfSome d.old.bytes (λ image. (r : Registry) (m : Members) → HoldsPairs image r m
-        → IsSome (r.entry id) → IsListOf (IsInList m id) ids)) }
-    ensures fault { IfErr result (HasCauseWhere (λ r m. IsSome (r.entry id)) d.old.bytes) }
+        → IsListOf (IsInList m id) ids)) }
+    ensures fault { IfErr result (HasItsCause d.old.bytes) }
     ensures frame { OnlyLooks I.ImageRead d.old d.new (IsErrOf result RecordFault.DiskFault) }
 {
     if id < 0 {
-        return Ok(IdList::new(alloc).with(alloc, id)?);
+        let none = IdList::new(alloc);
+        let own = none.with(alloc, id)?;
+        return Ok(own);
     }
     let groups = elements(alloc, d, id)?;
-    let ids = groups.with(alloc, ANY_USER)?.with(alloc, id)?;
+    let in_all = groups.with(alloc, ANY_USER)?;
+    let ids = in_all.with(alloc, id)?;
     if id == ANONYMOUS {
         return Ok(ids);
     }
-    Ok(ids.with(alloc, SIGNED_IN)?)
+    let whole = ids.with(alloc, SIGNED_IN)?;
+    Ok(whole)
 }

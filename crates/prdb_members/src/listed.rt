@@ -4,7 +4,7 @@ ghost use Rattle.db_blocks.specs.Blocks.{IsWhole, block_in, block_place};
 ghost use Rattle.db_blocks.specs.Ends.{HasCause, OnlyLooks};
 ghost use Rattle.prdb_entries.specs.Registry.{Registry};
 ghost use Rattle.prdb_members.specs.Blocks.{IsMore};
-ghost use Rattle.prdb_members.specs.Ends.{HasCauseWhere};
+ghost use Rattle.prdb_members.specs.Ends.{HasItsCause};
 ghost use Rattle.prdb_members.specs.Found.{IsFound};
 ghost use Rattle.prdb_members.specs.Layout.{HoldsPairs, IsListed, PairList};
 ghost use Rattle.prdb_members.specs.Members.{Members};
@@ -85,26 +85,30 @@ fn read_list<I: ImageRead>(
         if !read_ids(&mut ids, &block, MORE_IDS_AT, here)? {
             return Err(RecordFault::BadRecord { at });
         }
+        let next = word_at(&block, NEXT_AT);
         left -= here;
-        link = word_at(&block, NEXT_AT);
+        link = next;
     }
     Ok(Listed { ids, more })
 }
 
-/// The pairs of an id, in a draft that is not empty; none where no entry has the id.
+/// The pairs of an id; none where the draft is empty or no entry has the id.
 pub(crate) fn find_list<I: ImageRead>(
     alloc: Global,
     d: &mut Draft<I>,
     id: i32,
 ) -> Result<Option<Listed>, RecordFault>
-    requires len { d.old.len < 2 ^ 31 }
-    requires some { 0 < d.old.len }
-    ensures found { IfOk result (λ found. IfSome d.old.bytes (λ image. (r : Registry) (m : Members) → HoldsPairs image r m → IsFound r m id found)) }
-    ensures fault { IfErr result (HasCauseWhere (λ r m. Unit {0}) d.old.bytes) }
+    requires { d.old.len < 2 ^ 31 }
+    ensures found { IfOk result (λ found. IfSome d.old.bytes (λ image. (r : Registry) (m : Members) → HoldsPairs image r m → IsFound m id found)) }
+    ensures fault { IfErr result (HasItsCause d.old.bytes) }
     ensures frame { OnlyLooks I.ImageRead d.old d.new (IsErrOf result RecordFault.DiskFault) }
 {
-    match scan(d, HEAD_LEN as u32, &Sought::Entry(id))? {
-        Some(found) => Ok(Some(read_list(alloc, d, id, &found)?)),
-        None => Ok(None),
+    if d.len() == 0 {
+        return Ok(None);
     }
+    let Some(found) = scan(d, HEAD_LEN as u32, &Sought::Entry(id))? else {
+        return Ok(None);
+    };
+    let listed = read_list(alloc, d, id, &found)?;
+    Ok(Some(listed))
 }

@@ -1,4 +1,4 @@
-use Rattle.prdb_members.proofs.Owned.{OwnedSoFar, left_above}
+use Rattle.prdb_members.proofs.OwnedSeen.{OwnedSoFar, left_above}
 use Rattle.prdb_members.proofs.finds.owned.Given as goal
 
 abbrev pub invariant-loop-ids : goal.invariant-loop-ids
