@@ -1,6 +1,6 @@
 -- The list that is read of an id's entry is that of its pairs.
-use Rattle.std.proofs.Common.{◌≡◌, ◌≢◌, ℕ, ℤ, zero, suc, ◌+◌, ◌<◌, ◌≤◌, true, false, Bool, ◌&&◌, ◌||◌, List, [], ◌∷◌, length, take, drop, Option, Some, None, IfSome, IsSome, Result, Ok, Err, IfOk, IfErr, refl, sym, ap, subst, ◌∙◌, ⊎_elim, inl, inr, arith}
-use Rattle.std.specs.Prelude.{◌<ℤ◌, FitsSigned, pos}
+use Rattle.std.proofs.Common.{◌≡◌, ◌≢◌, ℕ, ℤ, zero, suc, ◌+◌, ◌<◌, ◌≤◌, true, false, Bool, List, [], ◌∷◌, length, take, drop, Option, Some, None, IfSome, IsSome, Result, Ok, Err, IfOk, IfErr, refl, sym, ap, subst, ◌∙◌, ⊎_elim, inl, inr, arith}
+use Rattle.std.specs.Prelude.{◌<ℤ◌, ◌||◌, FitsSigned, pos}
 use Rattle.std.specs.Int.{w32}
 use Rattle.std.specs.List.{Contains}
 use Rattle.std.proofs.lemmas.Bool.{and_from, eq-eqb, cases_Bool}
@@ -54,7 +54,10 @@ there_at image r id f holds some is =
     let kind : kind_of (block_in image f.number) ≡ 1 = ap kind_of (sym block) ∙ parts.0 in
     let same : (entry_in (block_in image f.number)).id ≡ id = ap (λ (b : List ℕ). (entry_in b).id) (sym block) ∙ parts.1 in
     let at : r.entry id ≡ Some (entry_in (block_in image f.number)) = ap r.entry (sym same) ∙ laid.there f.number is.0 kind in
-    subst (λ (o : Option PrEntry). IsSome o) (sym at) tt
+    subst (λ (o : Option PrEntry). IsSome o) (sym at) refl
+
+is_not : (o : Option PrEntry) → o ≡ None → IsSome o → ⊥
+is_not o none there = let no : IsSome {T = PrEntry} None = subst (λ (v : Option PrEntry). IsSome v) none there in absurd cc
 
 option_cases : {X P : Type 0} (o : Option X) → (o ≡ None → P) → ((x : X) → o ≡ Some x → P) → P
 option_cases None none some = none refl
@@ -88,8 +91,8 @@ none_or false b p q = q
 pub none_paired : (image : List ℕ) (r : Registry) (m : Members) (id : ℤ) → HoldsPairs image r m → r.entry id ≡ None → (other : ℤ) → are_paired m id other ≡ false
 none_paired image r m id h none other =
     none_or (m.has id other) (m.has other id)
-    (⊎_elim (λ (yes : m.has id other ≡ true). absurd (subst (λ (o : Option PrEntry). IsSome o) none (h.valid id other yes).2)) (λ (no : m.has id other ≡ false). no) (cases_Bool (m.has id other)))
-    (⊎_elim (λ (yes : m.has other id ≡ true). absurd (subst (λ (o : Option PrEntry). IsSome o) none (h.valid other id yes).3)) (λ (no : m.has other id ≡ false). no) (cases_Bool (m.has other id)))
+    (⊎_elim (λ (yes : m.has id other ≡ true). absurd (is_not (r.entry id) none (h.valid id other yes).2)) (λ (no : m.has id other ≡ false). no) (cases_Bool (m.has id other)))
+    (⊎_elim (λ (yes : m.has other id ≡ true). absurd (is_not (r.entry id) none (h.valid other id yes).3)) (λ (no : m.has other id ≡ false). no) (cases_Bool (m.has other id)))
 
 pub found_some : (bytes : Option (List ℕ)) (len : ℕ) (id : ℤ) (f : Found) (l : Listed) → IfSome bytes (λ image. length image ≡ len) → 0 < len
     → IfSome bytes (λ image. IsFirst 2112 (has_id id) image (Some f))
@@ -152,15 +155,15 @@ list_none r m h id there =
     let laid : IsLaidOut (layout initial_state) r = subst (λ (i : List ℕ). IsLaidOut i r) whole_none h.holds.laid in
     let are : AreLists (layout initial_state) r h.lists = subst (λ (i : List ℕ). AreLists i r h.lists) whole_none h.are in
     option_cases (r.entry id)
-    (λ none. absurd (subst (λ (o : Option PrEntry). IsSome o) none there))
+    (λ none. absurd (is_not (r.entry id) none there))
     (λ e at.
     let o = laid.only id e at in
     let six : o.0 < 6 = omega (arith, o.1, length-initial) in
     let same : (entry_in (block_in (layout initial_state) o.0)).id ≡ id = ap (λ (y : PrEntry). y.id) o.3 ∙ h.holds.valid.ids id e at in
     let listed : IsListed (layout initial_state) id (block_in (layout initial_state) o.0) (h.lists id) =
     subst (λ (x : ℤ). IsListed (layout initial_state) x (block_in (layout initial_state) o.0) (h.lists x)) same (are.listed o.0 o.1 o.2) in
-    let count : word_at (block_in (layout initial_state) o.0) 24 ≡ length (h.lists id).ids = count_of _ (length (h.lists id).ids) (link_to (h.lists id).more) listed.front listed.few in
-    let zero_count : word_at (block_in (layout initial_state) o.0) 24 ≡ 0 = count_of _ 0 0 (front_zero o.0 six) (omega arith) in
+    let count : word_at (block_in (layout initial_state) o.0) 24 ≡ length (h.lists id).ids = count_of (block_in (layout initial_state) o.0) (length (h.lists id).ids) (link_to (h.lists id).more) listed.front listed.few in
+    let zero_count : word_at (block_in (layout initial_state) o.0) 24 ≡ 0 = count_of (block_in (layout initial_state) o.0) 0 0 (front_zero o.0 six) (omega arith) in
     none_left (h.lists id).ids (omega (arith, count, zero_count)))
 
 nothing : (xs : List ℤ) (x : ℤ) → xs ≡ [] → Contains xs x → ⊥
@@ -222,8 +225,8 @@ has_of_none (Some image) a b there is found = λ r m h.
 
 -- of a user the list has the groups alone
 or_first : (a b : Bool) → (a || b) ≡ true → b ≡ false → a ≡ true
-or_first true b e no = refl
-or_first false b e no = absurd cc
+or_first true b e fails = refl
+or_first false b e fails = absurd cc
 
 has_of : (image : List ℕ) (r : Registry) (m : Members) (a b : ℤ) (ids : List ℤ) → HoldsPairs image r m → (a <ℤ pos 0 → ⊥) → IsListOf (λ other. are_paired m a other ≡ true) ids
     → (Contains ids b → m.has a b ≡ true) × (m.has a b ≡ true → Contains ids b)

@@ -38,8 +38,11 @@ some_of : {X : Type 0} (o : Option X) (P : X → Type 0) → IsSomeAnd o P → (
 some_of None P is = absurd is
 some_of (Some x) P is = (x, refl, is)
 
-is_some : {X : Type 0} (o : Option X) (x : X) → o ≡ Some x → IsSome o
-is_some o x e = subst (λ (v : Option _). IsSome v) (sym e) tt
+is_there : (o : Option PrEntry) (x : PrEntry) → o ≡ Some x → IsSome o
+is_there o x e = subst (λ (v : Option PrEntry). IsSome v) (sym e) refl
+
+is_not : (o : Option PrEntry) → o ≡ None → IsSome o → ⊥
+is_not o none there = let no : IsSome {T = PrEntry} None = subst (λ (v : Option PrEntry). IsSome v) none there in absurd cc
 
 low_id : (x : ℤ) → IsId x → x ≤ℤ negsuc 2147483647 → ⊥
 low_id (pos n) is low = omega (arith, ints, low)
@@ -63,8 +66,8 @@ seen_taken r owner ids after e next group same s = record {
   all = λ x owned most. by_lt_z after x
       (λ above.
       let there = some_of (r.entry x) (λ y. y.owner ≡ owner) owned.1 in
-      let least : e.id ≤ℤ x = next.2 x above (is_some (r.entry x) there.0 there.1) in
-      let is : e.id ≡ x = grind (arith, ints) in
+      let least : e.id ≤ℤ x = next.2 x above (is_there (r.entry x) there.0 there.1) in
+      let is : e.id ≡ x = omega (arith, ints) in
       subst (Contains (ids ++ e.id ∷ [])) is (Contains-push ids e.id))
       (λ before. Contains-append_left ids (e.id ∷ []) x (s.all x owned before));
 }
@@ -76,8 +79,8 @@ seen_left r owner ids after e next other s = record {
   all = λ x owned most. by_lt_z after x
       (λ above.
       let there = some_of (r.entry x) (λ y. y.owner ≡ owner) owned.1 in
-      let least : e.id ≤ℤ x = next.2 x above (is_some (r.entry x) there.0 there.1) in
-      let is : x ≡ e.id = grind (arith, ints) in
+      let least : e.id ≤ℤ x = next.2 x above (is_there (r.entry x) there.0 there.1) in
+      let is : x ≡ e.id = omega (arith, ints) in
       let entry : Some there.0 ≡ Some e = sym there.1 ∙ ap r.entry is ∙ next.0 in
       let own : there.0.owner ≡ owner = there.2 in
       let both : there.0 ≡ e = cc in
@@ -92,7 +95,7 @@ seen_all r owner ids after none rises s = record {
   ascending = rises;
   each = s.each;
   all = λ x owned. by_lt_z after x
-      (λ above. let there = some_of (r.entry x) (λ y. y.owner ≡ owner) owned.1 in absurd (none x owned.0 above (is_some (r.entry x) there.0 there.1)))
+      (λ above. let there = some_of (r.entry x) (λ y. y.owner ≡ owner) owned.1 in absurd (none x owned.0 above (is_there (r.entry x) there.0 there.1)))
       (λ before. s.all x owned before);
 }
 
@@ -177,8 +180,7 @@ IsPast (Some e) = pos 0 ≤ℤ e.id
 
 past_in : (r : Registry) (after : ℤ) (found : Option PrEntry) → IsNext r after found → IsPast found → (x : ℤ) → x <ℤ pos 0 → after <ℤ x → IsSome (r.entry x) → ⊥
 past_in r after None next past x group above there =
-    let none : r.entry x ≡ None = next x above in
-    subst (λ (o : Option PrEntry). IsSome o) none there
+    is_not (r.entry x) (next x above) there
 past_in r after (Some e) next past x group above there =
     let least : e.id ≤ℤ x = next.2 x above there in
     let high : pos 0 ≤ℤ e.id = past in

@@ -1,15 +1,15 @@
 //! Pairs over images in memory.
-ghost use Rattle.std.specs.Prelude.{◌<◌, ◌^◌, ◌∷◌, IfOk, length};
+ghost use Rattle.std.specs.Prelude.{◌<◌, ◌^◌, IfOk, length};
 ghost use Rattle.prdb_entries.specs.RecordEnds.{seen};
 ghost use Rattle.prdb_entries.specs.Registry.{IsRecord};
 
 use crate::{cps, elements, has_pair, owned};
-use db_image::{Draft, ImageRead, RecordFault, VecImage};
+use db_image::{Draft, ImageRead, VecImage};
 use prdb_entries::{PrEntry, insert, is_user_name};
 use std::alloc::Global;
 use std::process::Abort;
 use std::test::Fail;
-use ubik_types::{Bytes, NoMemory, bytes_of};
+use ubik_types::{NoMemory, bytes_of};
 
 const HEAD: u32 = 2112;
 
@@ -40,7 +40,12 @@ fn user(rt: &impl Abort, alloc: Global, id: i32, name: &[u8]) -> Result<PrEntry,
 }
 
 /// Words at a position of a draft.
-fn put_words(rt: &impl Abort, draft: &mut Draft<VecImage>, at: u32, words: &[i32]) -> Result<(), Fail> {
+fn put_words(
+    rt: &impl Abort,
+    draft: &mut Draft<VecImage>,
+    at: u32,
+    words: &[i32],
+) -> Result<(), Fail> {
     let mut place = at;
     for word in words {
         assert!(rt; place < 1_000_000);
@@ -64,6 +69,7 @@ fn three_groups(rt: &impl Abort, alloc: Global) -> Result<Draft<VecImage>, Fail>
         (3, &[1]),
         (4, &[1]),
     ] {
+        assert!(rt; block < 10 && ids.len() < 10);
         let at = HEAD + BLOCK * block;
         put_words(rt, &mut draft, at + 24, &[ids.len() as i32, 0])?;
         put_words(rt, &mut draft, at + 112, ids)?;
