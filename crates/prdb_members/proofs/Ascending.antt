@@ -207,7 +207,7 @@ unfolding IsWith
 members_same ids below behind id rank front back there =
     let same = joined_same ids below behind rank front back in
     subst (λ (l : List ℤ). (x : ℤ) → (Contains l x → (x ≡ id) ⊎ Contains ids x) × ((x ≡ id) ⊎ Contains ids x → Contains l x)) (sym same)
-    (λ x. (λ has. inr has, λ either. elim either [ | inl is ↦ subst (λ (v : ℤ). Contains ids v) (sym is) there | inr has ↦ has ]))
+    (λ x. (λ has. inr has, λ either. elim either [ inl is ↦ subst (λ (v : ℤ). Contains ids v) (sym is) there | inr has ↦ has ]))
 
 pub is_ascending_same : (ids below behind : List ℤ) (rank : ℕ) → IsAscending ids → below ≡ take rank ids → behind ≡ drop rank ids → IsAscending (below ++ behind)
 is_ascending_same ids below behind rank is front back = subst IsAscending (sym (joined_same ids below behind rank front back)) is

@@ -194,8 +194,8 @@ more_so : (bytes : Option (List ℕ)) (block read : List ℕ) (entry : ℤ) (ids
 more_so None block read entry ids new_ids more new_more left link count here new_left new_link told short rest at some len i m n k = tt
 more_so (Some image) block read entry ids new_ids more new_more left link count here new_left new_link told short rest at some len i m n k =
     λ l is.
-        let next = next_read image read entry l ids more left link count here (rest l is) is.ascending is.fits some told (omega (arith, told, short)) at len in
-        rw (i, m, n, k) next.rest
+    let next = next_read image read entry l ids more left link count here (rest l is) is.ascending is.fits some told (omega (arith, told, short)) at len in
+    rw (i, m, n, k) next.rest
 
 pub read_more : {I : Type 0} (g : Ghosts I) (first now next : Drafted I) (entry : ℤ) (block read : List ℕ) (ids new_ids : List ℤ) (more new_more : List ℕ)
     (count left link here new_left new_link : ℕ) (failed : Type 0) → ReadSoFar g first now entry block ids more count left link → OnlyLooks g now next failed

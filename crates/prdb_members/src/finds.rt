@@ -66,11 +66,7 @@ pub fn has_pair<I: ImageRead>(
 }
 
 /// The groups that an id owns; those without owner where it is 0.
-pub fn owned<I: ImageRead>(
-    alloc: Global,
-    d: &mut Draft<I>,
-    id: i32,
-) -> Result<IdList, RecordFault>
+pub fn owned<I: ImageRead>(alloc: Global, d: &mut Draft<I>, id: i32) -> Result<IdList, RecordFault>
     requires { d.old.len < 2 ^ 31 }
     ensures found { IfOk result (λ ids. IfSome d.old.bytes (λ image. (r : Registry) → Holds image r → IsListOf (IsOwned r id) ids)) }
     ensures fault { IfErr result (HasCause d.old.bytes Holds) }
@@ -95,11 +91,7 @@ pub fn owned<I: ImageRead>(
 
 /// The list of ids under which an entry acts: for a user its own, its groups, and the groups in which each user is; for
 /// a group its own.
-pub fn cps<I: ImageRead>(
-    alloc: Global,
-    d: &mut Draft<I>,
-    id: i32,
-) -> Result<IdList, RecordFault>
+pub fn cps<I: ImageRead>(alloc: Global, d: &mut Draft<I>, id: i32) -> Result<IdList, RecordFault>
     requires { d.old.len < 2 ^ 31 }
     ensures found { IfOk result (λ ids. IfSome d.old.bytes (λ image. (r : Registry) (m : Members) → HoldsPairs image r m
         → IsListOf (IsInList m id) ids)) }

@@ -118,7 +118,11 @@ fn pairs_and_owners_are_found(rt: HostRuntime) -> Result<(), Fail> {
         assert!(rt; draft.len() < 10_000);
         assert_eq!(rt; has_pair(rt.alloc(), &mut draft, member, group)?, there);
     }
-    for (id, ids) in [(-204, [-205, -204, -203, -102, -101].as_slice()), (0, &[]), (1, &[])] {
+    for (id, ids) in [
+        (-204, [-205, -204, -203, -102, -101].as_slice()),
+        (0, &[]),
+        (1, &[]),
+    ] {
         assert!(rt; draft.len() < 10_000);
         assert_eq!(rt; owned(rt.alloc(), &mut draft, id)?.as_slice(), ids);
     }
@@ -129,7 +133,11 @@ fn pairs_and_owners_are_found(rt: HostRuntime) -> Result<(), Fail> {
 fn the_empty_image_has_no_pairs(rt: HostRuntime) -> Result<(), Fail> {
     let mut draft = draft_of(rt.alloc(), &[])?;
     assert!(rt; draft.len() == 0);
-    assert!(rt; elements(rt.alloc(), &mut draft, -204)?.as_slice().is_empty());
+    assert!(rt;
+        elements(rt.alloc(), &mut draft, -204)?
+            .as_slice()
+            .is_empty()
+    );
     assert!(rt; draft.len() == 0);
     assert!(rt; !has_pair(rt.alloc(), &mut draft, 32_766, -204)?);
     assert!(rt; draft.len() == 0);
