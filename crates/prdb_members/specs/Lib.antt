@@ -1,0 +1,7 @@
+pub mod Found
+pub mod Blocks
+pub mod Members
+pub mod Lists
+pub mod Layout
+pub mod Ends
+pub mod Sought
