@@ -1,0 +1,10 @@
+//! The calls of the protection database that touch no pair, over a draft.
+#![tactic(auto)]
+
+mod finds;
+mod looks;
+mod names;
+mod rules;
+
+pub use looks::{id_to_name, list_max, name_to_id};
+pub use rules::{BAD_ARGUMENT, BAD_NAME, ID_EXISTS, NAME_EXISTS, NO_ENTRY, NO_IDS};
