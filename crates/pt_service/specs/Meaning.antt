@@ -216,19 +216,21 @@ id_behind group n = if group then negsuc n else pos (n + 1)
 unfoldable pub ids_behind : (group : Bool) → (passed : ℕ) → List ℤ
 ids_behind group passed = map (id_behind group) (range_with_len passed (2147483647 - passed))
 
--- the first unused id behind the maximum
-unfoldable pub next_id : Registry → (group : Bool) → Option ℤ
-next_id r group = find (λ id. is_none (r.entry id)) (ids_behind group (unsigned_abs (maximum r group)))
+-- the first unused one of them
+unfoldable pub first_unused : Registry → (group : Bool) → (passed : ℕ) → Option ℤ
+first_unused r group passed = find (λ id. is_none (r.entry id)) (ids_behind group passed)
 
--- the id of an entry that comes in becomes the maximum where it is past it
-abbrev pub is_past : Registry → ℤ → Bool
-is_past r id = if is_group id then int_lt id r.max_group else int_lt r.max_user id
+-- the id that a new entry gets, behind the maximum
+abbrev pub next_id : Registry → (group : Bool) → Option ℤ
+next_id r group = first_unused r group (unsigned_abs (maximum r group))
 
-abbrev pub raised : Registry → ℤ → ℤ × ℤ
-raised r id = if is_past r id then (if is_group id then (r.max_user, id) else (id, r.max_group)) else (r.max_user, r.max_group)
+-- the maxima with an id that comes in: it becomes the one that it is past
+abbrev pub raised : (user group : ℤ) → (id : ℤ) → ℤ × ℤ
+raised user group id =
+    if is_group id then (user, if int_lt id group then id else group) else (if int_lt user id then id else user, group)
 
 abbrev pub enters : Registry → PrEntry → Change
-enters r e = Enter e (raised r e.id).0 (raised r e.id).1
+enters r e = let maxima = raised r.max_user r.max_group e.id in Enter e maxima.0 maxima.1
 
 -- newentry, once its name and its owner are good
 abbrev pub with_next : Registry → (group : Bool) → (name : List ℕ) → (owner : ℤ) → Option ℤ → Verdict
@@ -300,7 +302,8 @@ state_after (Refit e) s = with_registry (with_entry e s.registry) s
 state_after (Leave id) s = without id s
 state_after (Turn e name owner id) s =
     let after = with_turned e name owner id s in
-    with_registry (with_maxima (raised s.registry id).0 (raised s.registry id).1 after.registry) after
+    let maxima = raised s.registry.max_user s.registry.max_group id in
+    with_registry (with_maxima maxima.0 maxima.1 after.registry) after
 state_after (Join user group) s = with_pair user group true s
 state_after (Part user group) s = with_pair user group false s
 

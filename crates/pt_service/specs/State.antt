@@ -26,8 +26,8 @@ is_id false (negsuc n) = false
 
 -- a pair is of a user and a group that are there
 pub record IsPair (r : Registry) (user group : ℤ) : Type 0 where
-  pub user : IsSome (r.entry user)
-  pub group : IsSome (r.entry group)
+  pub user_there : IsSome (r.entry user)
+  pub group_there : IsSome (r.entry group)
   pub of_user : is_group user ≡ false
   pub of_group : is_group group ≡ true
 

@@ -1,6 +1,6 @@
 //! The entries of the database as calls look for them, over a draft. Each that is found is one that a database may hold, whatever the
 //! image holds.
-ghost use Rattle.std.specs.Prelude.{◌≡◌, ◌<◌, ◌^◌, ◌<ℤ◌, false, IfSome, IfOk, IfErr, IsErrOf};
+ghost use Rattle.std.specs.Prelude.{◌≡◌, ◌<◌, ◌^◌, ◌<ℤ◌, false, IfSome, IsSomeAnd, IfOk, IfErr, IsErrOf};
 ghost use Rattle.std.specs.Option.{option_map};
 ghost use Rattle.prdb_entries.specs.RecordEnds.{HasCause, OnlyLooks, seen};
 ghost use Rattle.prdb_entries.specs.Records.{Holds};
@@ -45,7 +45,7 @@ fn fitting(found: Option<PrEntry>, at: u32) -> Result<Option<PrEntry>, RecordFau
     ensures same { IfOk result (λ e. e ≡ found) }
     ensures good { IfOk result IsGood }
     ensures fault { IfErr result (λ fault. fault ≡ RecordFault.BadRecord at) }
-    ensures unfit { IfErr result (λ fault. IfSome found (λ e. entry_fits (seen e) ≡ false)) }
+    ensures unfit { IfErr result (λ fault. IsSomeAnd found (λ e. entry_fits (seen e) ≡ false)) }
 {
     match found {
         Some(e) => {
@@ -98,7 +98,7 @@ fn above(found: Option<PrEntry>, after: i32, at: u32) -> Result<Option<PrEntry>,
     ensures same { IfOk result (λ e. e ≡ found) }
     ensures above { IfOk result (λ e. IfSome e (λ f. after <ℤ f.id)) }
     ensures fault { IfErr result (λ fault. fault ≡ RecordFault.BadRecord at) }
-    ensures not_above { IfErr result (λ fault. IfSome found (λ e. ¬ (after <ℤ e.id))) }
+    ensures not_above { IfErr result (λ fault. IsSomeAnd found (λ e. ¬ (after <ℤ e.id))) }
 {
     match found {
         Some(e) => {
