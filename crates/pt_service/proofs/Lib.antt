@@ -1,0 +1,10 @@
+pub mod Comes
+pub mod Done
+pub mod Entered
+pub mod Entries
+pub mod GroupNames
+pub mod Lengths
+pub mod Named
+pub mod Owners
+pub mod Refitted
+pub mod Unused

@@ -1,5 +1,5 @@
 //! The calls that make an entry, with the next id or with a given one, over a draft: what is decided, and then what is changed.
-ghost use Rattle.std.specs.Prelude.{◌≡◌, ◌<◌, ◌≤◌, ◌^◌, ◌==◌, IfSome, IfOk, IfErr, OnOk, IsErrOf, is_none, true, unsigned_abs};
+ghost use Rattle.std.specs.Prelude.{◌≡◌, ◌<◌, ◌≤◌, ◌^◌, ◌==◌, IfSome, IfOk, IfErr, OnOk, IsErrOf, is_none, true, if◌then◌else◌};
 ghost use Rattle.std.specs.Option.{option_map};
 ghost use Rattle.prdb_entries.specs.RecordEnds.{Becomes, HasCause, OnlyDrafts, OnlyLooks, seen};
 ghost use Rattle.prdb_entries.specs.Records.{Holds, after_insert, after_set_maxima};
@@ -115,6 +115,13 @@ fn raised(user: i32, group: i32, id: i32) -> (i32, i32)
     }
 }
 
+/// The maximum of groups, or of users.
+fn maximum_of(group: bool, user: i32, least: i32) -> i32
+    ensures { result ≡ (if group then least else user) }
+{
+    if group { least } else { user }
+}
+
 /// Adds an entry, and sets the maxima.
 fn enter<I: ImageRead>(
     alloc: Global,
@@ -158,7 +165,7 @@ pub fn new_entry<I: ImageRead>(
         Err(rule) => return Ok(CallEnd::Rule(rule)),
     };
     let (max_user, max_group) = maxima(alloc, d)?;
-    let maximum = if group { max_group } else { max_user };
+    let maximum = maximum_of(group, max_user, max_group);
     let Some(id) = first_unused(alloc, d, group, maximum.unsigned_abs())? else {
         return Ok(CallEnd::Rule(NO_IDS));
     };

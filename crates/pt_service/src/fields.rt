@@ -1,5 +1,5 @@
 //! The calls that set the maxima, and the flags and the quota of an entry, over a draft.
-ghost use Rattle.std.specs.Prelude.{◌≡◌, ◌≤◌, Some, IsTrue, IfOk, IfErr, OnOk, IsErrOf};
+ghost use Rattle.std.specs.Prelude.{◌≡◌, ◌≤◌, Some, IsTrue, IfOk, IfErr, OnOk, IsErrOf, if◌then◌else◌};
 ghost use Rattle.prdb_entries.specs.RecordEnds.{Becomes, HasCause, OnlyDrafts, seen};
 ghost use Rattle.prdb_entries.specs.Records.{Holds, after_replace};
 ghost use Rattle.pt_calls.specs.Standing.{IsDecided};
@@ -22,6 +22,13 @@ fn is_maximum(group: bool, id: i32) -> bool
     if group { is_id(true, id) } else { !is_group(id) }
 }
 
+/// The maxima with another one of groups, or of users.
+fn with_maximum(user: i32, least: i32, group: bool, id: i32) -> (i32, i32)
+    ensures { result ≡ (if group then (user, id) else (id, least)) }
+{
+    if group { (user, id) } else { (id, least) }
+}
+
 /// Sets the maximum id of groups, or of users.
 pub fn set_max<I: ImageRead>(
     alloc: Global,
@@ -41,8 +48,7 @@ pub fn set_max<I: ImageRead>(
     }
     let (max_user, max_group) = maxima(alloc, d)?;
     let end = tell(alloc, &PtAnswer::Done)?;
-    let user = if group { max_user } else { id };
-    let least = if group { id } else { max_group };
+    let (user, least) = with_maximum(max_user, max_group, group, id);
     set_maxima(alloc, d, user, least)?;
     Ok(end)
 }

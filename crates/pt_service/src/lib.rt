@@ -13,3 +13,6 @@ pub use entering::{new_entry, new_entry_of_id};
 pub use fields::{set_fields, set_max};
 pub use looks::{id_to_name, list_max, name_to_id};
 pub use rules::{BAD_ARGUMENT, BAD_NAME, ID_EXISTS, NAME_EXISTS, NO_ENTRY, NO_IDS};
+
+#[cfg(test)]
+mod tests;

@@ -101,6 +101,7 @@ pub fn name_to_id<I: ImageRead>(
 }
 
 /// The digits of an id.
+#[tactic(auto, using(crate::proofs::Lengths::digits_len))]
 fn digits_of(alloc: Global, id: i32) -> Result<Bytes, NoMemory>
     ensures value { IfOk result (λ text. text ≡ signed_decimal id) }
     ensures len { IfOk result (λ text. length text ≤ 63) }
