@@ -18,7 +18,6 @@ use Rattle.pt_service.specs.Names.{is_name_of}
 use Rattle.pt_service.specs.State.{is_group, is_id}
 use Rattle.pt_service.specs.Told.{Told}
 use Rattle.pt_service.proofs.GroupNames.{group_form}
-use Rattle.std.specs.Prelude.{◌<ℤ◌}
 
 fits_by : (id : ℤ) (name : List ℕ) → IsId id → is_name_for id name ≡ true → (is_id (is_group id) id && is_name_of (is_group id) name) ≡ true
 fits_by (pos n) name id is = and_from (ltb 0 n) (is_name_of false name) (lt-ltb 0 n id.0) is
@@ -119,11 +118,3 @@ pub unfit_next : (bytes : Option (List ℕ)) (found : Option CodeEntry) (after :
     → IsSomeAnd found (λ e. entry_fits (seen e) ≡ false)
     → IfSome bytes (λ image. (r : Registry) → Holds image r → IsNext r after (option_map seen found)) → HasCause bytes Holds f
 unfit_next bytes found after at f is bad there = subst (HasCause bytes Holds) (sym is) (unfit bytes found at bad (told_next bytes found after there))
-
--- nor is one that was found above an id and is not above it
-pub low_next : (bytes : Option (List ℕ)) (found : Option CodeEntry) (after : ℤ) (at : ℕ) (f : RecordFault) → f ≡ fault.BadRecord at
-    → IsSomeAnd found (λ e. ¬ (after <ℤ e.id))
-    → IfSome bytes (λ image. (r : Registry) → Holds image r → IsNext r after (option_map seen found)) → HasCause bytes Holds f
-low_next None found after at f is low there = subst (HasCause None Holds) (sym is) tt
-low_next (Some image) None after at f is low there = absurd low
-low_next (Some image) (Some e) after at f is low there = subst (HasCause (Some image) Holds) (sym is) (λ r holds. low (there r holds).1)

@@ -2,6 +2,7 @@ pub mod Comes
 pub mod Done
 pub mod Entered
 pub mod Entries
+pub mod Frames
 pub mod GroupNames
 pub mod Lengths
 pub mod Named

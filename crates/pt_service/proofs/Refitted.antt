@@ -1,5 +1,5 @@
 -- Maxima and fields that are set.
-use Rattle.std.proofs.Common.{◌≡◌, ◌≢◌, ℕ, ℤ, pos, negsuc, ◌<◌, ◌≤◌, Bool, true, false, not, cond, ltb, List, length, get_or, Option, Some, None, IsSome, IsSomeAnd, IfSome, refl, sym, ap, subst, ◌∙◌, ⊎_elim, inl, inr, arith}
+use Rattle.std.proofs.Common.{◌≡◌, ◌≢◌, ℕ, ℤ, pos, negsuc, ◌<◌, ◌≤◌, Bool, true, false, not, cond, ltb, List, length, get_or, Option, Some, None, Result, Ok, Err, IsSome, IsSomeAnd, IfSome, IfErr, refl, sym, ap, subst, ◌∙◌, ⊎_elim, inl, inr, arith}
 use Rattle.std.specs.Prelude.{◌≤ℤ◌, ◌⊎◌, FitsSigned, option_and_then}
 use Rattle.std.specs.Int.{w32}
 use Rattle.std.specs.List.{All}
@@ -151,3 +151,8 @@ cause_of_fields (Some image) mid id mask flags quota e new (BadRecord at) same t
     let none = subst (λ (b : Option (List ℕ)). HasCause b (λ i s. Holds i s × Refits s new) (BadRecord at)) same cause in
     let own : id ≡ e.id = sym (holds.valid.ids id e (sym (there r holds))) in
     none r (holds, subst (λ (x : PrEntry). Refits r x) (sym so) (e.flags, e.quota, ap r.entry (sym own) ∙ sym (there r holds)))
+
+pub refit_err : {T : Type 0} (res : Result T RecordFault) (bytes : Option (List ℕ)) (e : PrEntry)
+    → IfErr res (HasCause bytes (λ image r. Holds image r × MayReplace e.id e r)) → IfErr res (HasCause bytes (λ image r. Holds image r × Refits r e))
+refit_err (Ok x) bytes e cause = tt
+refit_err (Err f) bytes e cause = cause_of_refit bytes e e.id f refl cause

@@ -1,9 +1,10 @@
-use Rattle.std.proofs.Common.{rules, refl}
+use Rattle.std.proofs.Common.{rules}
 use Rattle.std.specs.Prelude.{FitsSigned}
 use Rattle.std.specs.Int.{w32}
 use Rattle.std.proofs.lemmas.Int.{to_z-of_z}
 use Rattle.prdb_entries.specs.RecordEnds.{seen}
 use Rattle.pt_service.proofs.Entries.{record_is}
+use Rattle.pt_service.proofs.Refitted.{refit_err}
 use Rattle.pt_service.proofs.fields.put.Goals as goal
 
 pub replace-requires-clause-entry : goal.replace-requires-clause-entry
@@ -11,4 +12,7 @@ replace-requires-clause-entry g c =
     record_is (seen c.args.e.now) (search rules) (search rules) (search rules) (search rules) (search rules) c.requires.fits
 
 pub returns-clause-fault : goal.returns-clause-fault
-returns-clause-fault g c = let h = c.replace.ensures.fault in ?
+returns-clause-fault g c =
+    let fits : FitsSigned w32 c.args.e.now.id = search rules in
+    let fault = c.replace.ensures.fault in
+    refit_err c.replace.result c.args.d.now.bytes (seen c.args.e.now) (simp to_z-of_z at fault)
