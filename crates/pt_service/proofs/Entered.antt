@@ -25,7 +25,7 @@ use Rattle.pt_service.specs.Standing.{image_after}
 use Rattle.pt_service.specs.State.{is_group, is_id}
 use Rattle.pt_service.specs.Told.{Told}
 use Rattle.pt_service.proofs.Done.{told_both, told_map}
-use Rattle.pt_service.proofs.Owners.{for_is, front_is, owner_is}
+use Rattle.pt_service.proofs.Ownership.{for_is, front_is, owner_is}
 use Rattle.pt_service.proofs.Refitted.{some_with}
 
 -- ---- ids and maxima

@@ -6,6 +6,6 @@ pub mod Frames
 pub mod GroupNames
 pub mod Lengths
 pub mod Named
-pub mod Owners
+pub mod Ownership
 pub mod Refitted
 pub mod Unused

@@ -2,7 +2,7 @@ use Rattle.std.proofs.Common.{Some, None, Ok, sym, ap, ◌∙◌, refl, rules}
 use Rattle.std.specs.Prelude.{FitsSigned}
 use Rattle.std.specs.Int.{w32}
 use Rattle.std.proofs.lemmas.Int.{to_z-of_z}
-use Rattle.pt_service.proofs.Owners.{front_found, front_system}
+use Rattle.pt_service.proofs.Ownership.{front_found, front_system}
 use Rattle.pt_service.proofs.owners.owner_by_front.Goals as goal
 
 pub returns-then-is_system-clause-found : goal.returns-then-is_system-clause-found

@@ -2,7 +2,7 @@ use Rattle.std.proofs.Common.{sym, ◌∙◌, rules}
 use Rattle.std.specs.Prelude.{FitsSigned}
 use Rattle.std.specs.Int.{w32}
 use Rattle.std.proofs.lemmas.Int.{to_z-of_z}
-use Rattle.pt_service.proofs.Owners.{for_bad_name, for_barred, for_owned, for_taken}
+use Rattle.pt_service.proofs.Ownership.{for_bad_name, for_barred, for_owned, for_taken}
 use Rattle.pt_service.proofs.owners.owner_for.Goals as goal
 
 pub returns-then-not-is_name_of-clause-found : goal.returns-then-not-is_name_of-clause-found
