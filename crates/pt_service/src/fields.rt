@@ -48,8 +48,8 @@ pub fn set_max<I: ImageRead>(
     }
     let (max_user, max_group) = maxima(alloc, d)?;
     let end = tell(alloc, &PtAnswer::Done)?;
-    let (user, least) = with_maximum(max_user, max_group, group, id);
-    set_maxima(alloc, d, user, least)?;
+    let next = with_maximum(max_user, max_group, group, id);
+    set_maxima(alloc, d, next.0, next.1)?;
     Ok(end)
 }
 
