@@ -1,4 +1,3 @@
-pub mod Entering
 pub mod Fitting
 pub mod Meaning
 pub mod Names

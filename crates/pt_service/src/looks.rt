@@ -22,7 +22,7 @@ use std::alloc::Global;
 use ubik_types::{Bytes, NoMemory};
 
 /// The id of the entry `anonymous`, to which a name is translated that is no entry's.
-pub(crate) const ANONYMOUS: i32 = 32766;
+const ANONYMOUS: i32 = 32766;
 
 /// Tells an answer.
 pub(crate) fn tell(alloc: Global, answer: &PtAnswer) -> Result<CallEnd, NoMemory>

@@ -1,19 +1,7 @@
 //! The rules by which calls are refused (ptserver's names, PR..; the numbers are own).
 
-/// An entry has the name.
-pub const NAME_EXISTS: u32 = 267_264;
-
-/// Another entry has the id.
-pub const ID_EXISTS: u32 = 267_265;
-
-/// No id is left.
-pub const NO_IDS: u32 = 267_266;
-
 /// No entry has the id.
 pub const NO_ENTRY: u32 = 267_268;
-
-/// No entry may have the name.
-pub const BAD_NAME: u32 = 267_272;
 
 /// A value is one that no entry has.
 pub const BAD_ARGUMENT: u32 = 267_273;
