@@ -1,6 +1,10 @@
 -- Names that ids are translated to, one after the other.
-use Rattle.std.proofs.Common.{◌≡◌, ℕ, ℤ, ◌+◌, ◌<◌, ◌≤◌, List, [], ◌∷◌, ◌++◌, length, map, take, get_or, add-one, Option, Some, None, refl, sym, ap, subst, ◌∙◌, arith}
+use Rattle.std.proofs.Common.{◌≡◌, ℕ, ℤ, zero, suc, ◌+◌, ◌<◌, ◌≤◌, List, [], ◌∷◌, ◌++◌, length, map, take, get_or, add-one, Option, Some, None, refl, sym, ap, subst, ◌∙◌, arith}
+use mir.Syntax.{w32}
+use mir.Val.{of_z, to_z}
+use Rattle.std.specs.Prelude.{FitsSigned}
 use Rattle.std.specs.List.{AllByRecursion}
+use Rattle.std.proofs.lemmas.Int.{to_z-of_z}
 use Rattle.std.proofs.Math.Seq.{take-suc}
 use Rattle.std.proofs.lemmas.List.{length-append, map_push, take_all}
 use Rattle.db_image.specs.Draft.{Drafted}
@@ -40,10 +44,10 @@ lens_push : (names : List (List ℕ)) (name : List ℕ) → AllByRecursion (λ n
 lens_push [] name all here = (here, tt)
 lens_push (n ∷ names) name all here = (all.0, lens_push names name all.1 here)
 
-pub named_more : {I : Type 0} (g : Ghosts I) (old now next : Drafted I) (ids : List ℤ) (id : ℤ) (names later : List (List ℕ)) (name : List ℕ) (done : ℕ) (failed : Type 0)
-    → done < length ids → id ≡ get_or ids done id → later ≡ names ++ name ∷ [] → Named g old now ids names done → OnlyLooks g now next failed
-    → Told now.bytes (λ r. name ≡ name_of r id) → length name ≤ 63 → Named g old next ids later (done + 1)
-named_more g old now next ids id names later name done failed below is pushed so looks found short =
+pub named_more : {I : Type 0} (g : Ghosts I) (old now next : Drafted I) (ids : List ℤ) (names later : List (List ℕ)) (name : List ℕ) (done : ℕ) (failed : Type 0)
+    → OnlyLooks g now next failed → (id : ℤ) → Told now.bytes (λ r. name ≡ name_of r id) → id ≡ get_or ids done id → done < length ids
+    → later ≡ names ++ name ∷ [] → Named g old now ids names done → length name ≤ 63 → Named g old next ids later (done + 1)
+named_more g old now next ids names later name done failed looks id found is below pushed so short =
     subst (λ (l : List (List ℕ)). Named g old next ids l (done + 1)) (sym pushed) (record {
       frame = looks_then g old now next ⊥ ⊥ so.frame (looks_so g now next failed ⊥ looks (λ h. absurd h));
       are = told_both old.bytes (λ r. name ≡ name_of r id) (λ r. names ≡ map (name_of r) (take done ids))
@@ -52,6 +56,16 @@ named_more g old now next ids id names later name done failed below is pushed so
       lens = lens_push names name so.lens short;
       count = omega (arith, length-append names (name ∷ []), so.count);
     })
+
+same_default : (xs : List ℤ) (n : ℕ) (d e : ℤ) → n < length xs → get_or xs n d ≡ get_or xs n e
+same_default [] n d e below = absurd (omega arith)
+same_default (x ∷ xs) zero d e below = refl
+same_default (x ∷ xs) (suc n) d e below = same_default xs n d e (omega arith)
+
+-- an id of a list, as it is passed on
+pub passed_id : (ids : List ℤ) (n : ℕ) (d : ℤ) → n < length ids → FitsSigned w32 (get_or ids n d)
+    → to_z w32 (of_z w32 (get_or ids n d)) ≡ get_or ids n (to_z w32 (of_z w32 (get_or ids n d)))
+passed_id ids n d below fits = to_z-of_z w32 (get_or ids n d) fits ∙ same_default ids n d (to_z w32 (of_z w32 (get_or ids n d))) below
 
 pub named_all : {I : Type 0} (g : Ghosts I) (old now : Drafted I) (ids : List ℤ) (names result : List (List ℕ)) (done : ℕ) → length ids ≤ done → result ≡ names
     → Named g old now ids names done → Told old.bytes (λ r. result ≡ map (name_of r) ids)

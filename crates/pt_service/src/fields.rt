@@ -102,15 +102,15 @@ fn with_fields(mut e: PrEntry, mask: u32, flags: u32, quota: i32) -> PrEntry
 }
 
 /// Gives an entry of the database other fields.
-fn put<I: ImageRead>(alloc: Global, d: &mut Draft<I>, e: &PrEntry) -> Result<(), RecordFault>
+fn put<I: ImageRead>(alloc: Global, d: &mut Draft<I>, e: PrEntry) -> Result<(), RecordFault>
     requires len { d.old.len ≤ 16777216 }
-    requires fits { IsTrue (entry_fits (seen e.now)) }
-    ensures bytes { OnOk result (Becomes (after_replace e.now.id (seen e.now)) d.old d.new) }
+    requires fits { IsTrue (entry_fits (seen e)) }
+    ensures bytes { OnOk result (Becomes (after_replace e.id (seen e)) d.old d.new) }
     ensures longer { d.old.len ≤ d.new.len }
-    ensures fault { IfErr result (HasCause d.old.bytes (λ image r. Holds image r × Refits r (seen e.now))) }
+    ensures fault { IfErr result (HasCause d.old.bytes (λ image r. Holds image r × Refits r (seen e))) }
     ensures frame { OnlyDrafts I.ImageRead d.old d.new (IsErrOf result RecordFault.DiskFault) }
 {
-    replace(alloc, d, e.id, e)
+    replace(alloc, d, e.id, &e)
 }
 
 /// Sets the fields of the entry of an id that a mask names: 1 the flags, 2 the quota.
@@ -137,6 +137,6 @@ pub fn set_fields<I: ImageRead>(
     }
     let end = tell(alloc, &PtAnswer::Done)?;
     let e = with_fields(e, mask, flags, quota);
-    put(alloc, d, &e)?;
+    put(alloc, d, e)?;
     Ok(end)
 }

@@ -1,4 +1,4 @@
-use Rattle.std.proofs.Common.{rules}
+use Rattle.std.proofs.Common.{arith, rules}
 use Rattle.std.specs.Prelude.{FitsSigned}
 use Rattle.std.specs.Int.{w32}
 use Rattle.std.proofs.lemmas.Int.{to_z-of_z}
@@ -9,10 +9,14 @@ use Rattle.pt_service.proofs.fields.put.Goals as goal
 
 pub replace-requires-clause-entry : goal.replace-requires-clause-entry
 replace-requires-clause-entry g c =
-    record_is (seen c.args.e.now) (search rules) (search rules) (search rules) (search rules) (search rules) c.requires.fits
+    let id : FitsSigned w32 c.args.e.id = search rules in
+    let owner : FitsSigned w32 c.args.e.owner = search rules in
+    let creator : FitsSigned w32 c.args.e.creator = search rules in
+    let quota : FitsSigned w32 c.args.e.quota = search rules in
+    record_is (seen c.args.e) (omega arith) id owner creator quota c.requires.fits
 
 pub returns-clause-fault : goal.returns-clause-fault
 returns-clause-fault g c =
-    let fits : FitsSigned w32 c.args.e.now.id = search rules in
+    let fits : FitsSigned w32 c.args.e.id = search rules in
     let fault = c.replace.ensures.fault in
-    refit_err c.replace.result c.args.d.now.bytes (seen c.args.e.now) (simp to_z-of_z at fault)
+    refit_err c.replace.result c.args.d.now.bytes (seen c.args.e) (simp to_z-of_z at fault)

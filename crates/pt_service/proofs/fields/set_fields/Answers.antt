@@ -9,8 +9,7 @@ use Rattle.pt_service.specs.Fitting.{entry_fits}
 use Rattle.pt_service.specs.Meaning.{Refit, fields_set, of_entry}
 use Rattle.pt_service.proofs.Done.{changed, refused}
 use Rattle.pt_service.proofs.Refitted.{cause_of_fields, fields_left, fields_made, fields_refused}
-use Rattle.prdb_entries.proofs.Scanned.{drafts_after}
-use Rattle.pt_service.proofs.Frames.{looked}
+use Rattle.pt_service.proofs.Frames.{drafted, looked}
 use Rattle.pt_service.proofs.fields.set_fields.Goals as goal
 
 pub returns-then-are_bad_fields-clause-meant : goal.returns-then-are_bad_fields-clause-meant
@@ -57,13 +56,13 @@ returns-in_err-put-clause-fault g c =
     (seen c.with_fields-e.result) c.in_err-put.field-0.0 c.entry_of_id.ensures.frame.same.bytes (simp to_z-of_z at found) (simp to_z-of_z at so) c.in_err-put.ensures.fault)
 
 pub returns-then-are_bad_fields-clause-frame : goal.returns-then-are_bad_fields-clause-frame
-returns-then-are_bad_fields-clause-frame g c = looked g.I.ImageRead c.args.d.now c.entry_of_id.new.d _ _ c.in_ok-e.ensures.frame (λ h. absurd h)
+returns-then-are_bad_fields-clause-frame g c = looked g.I.ImageRead c.args.d.now c.entry_of_id.new.d _ _ c.in_ok-e.ensures.frame (λ h. absurd cc)
 
 pub returns-in_err-put-clause-frame : goal.returns-in_err-put-clause-frame
 returns-in_err-put-clause-frame g c =
     let p = err_from_is_err_and c.from_residual-in_err-put.result c.from_residual-in_err-put.ensures.1 in
-    rw (p.1, p.2) (drafts_after g.I.ImageRead c.args.d.now c.entry_of_id.new.d c.put.new.d _ _ c.in_ok-e.ensures.frame c.in_err-put.ensures.frame)
+    rw (p.1, p.2) (drafted g.I.ImageRead c.args.d.now c.entry_of_id.new.d c.put.new.d _ _ _ c.in_ok-e.ensures.frame c.in_err-put.ensures.frame (λ h. cc))
 
 pub returns-clause-frame : goal.returns-clause-frame
 returns-clause-frame g c =
-    drafts_after g.I.ImageRead c.args.d.now c.entry_of_id.new.d c.put.new.d _ _ c.in_ok-e.ensures.frame c.in_ok-put.ensures.frame
+    drafted g.I.ImageRead c.args.d.now c.entry_of_id.new.d c.put.new.d _ _ _ c.in_ok-e.ensures.frame c.in_ok-put.ensures.frame (λ h. absurd cc)

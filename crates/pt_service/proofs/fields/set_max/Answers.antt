@@ -4,10 +4,10 @@ use Rattle.std.specs.Int.{w32}
 use Rattle.std.proofs.lemmas.Int.{to_z-of_z}
 use Rattle.std.proofs.lemmas.Result.{err_from_is_err_and}
 use Rattle.prdb_entries.specs.Registry.{Registry}
-use Rattle.prdb_entries.proofs.Scanned.{drafts_after}
 use Rattle.pt_calls.specs.declared.answers.PtAnswer.TheVariants as answer
 use Rattle.pt_service.specs.Meaning.{Maxima, maximum_set}
 use Rattle.pt_service.proofs.Done.{changed}
+use Rattle.pt_service.proofs.Frames.{drafted}
 use Rattle.pt_service.proofs.Refitted.{are_maxima, max_set, maxima_left}
 use Rattle.pt_service.proofs.fields.set_max.Goals as goal
 
@@ -26,7 +26,7 @@ set_maxima-requires-clause-maxima g c =
 pub returns-in_err-set_maxima-clause-frame : goal.returns-in_err-set_maxima-clause-frame
 returns-in_err-set_maxima-clause-frame g c =
     let p = err_from_is_err_and c.from_residual-in_err-set_maxima.result c.from_residual-in_err-set_maxima.ensures.1 in
-    rw (p.1, p.2) (drafts_after g.I.ImageRead c.args.d.now c.maxima.new.d c.set_maxima.new.d _ _ c.in_ok-max_user.ensures.frame c.in_err-set_maxima.ensures.frame)
+    rw (p.1, p.2) (drafted g.I.ImageRead c.args.d.now c.maxima.new.d c.set_maxima.new.d _ _ _ c.in_ok-max_user.ensures.frame c.in_err-set_maxima.ensures.frame (λ h. cc))
 
 pub returns-clause-meant : goal.returns-clause-meant
 returns-clause-meant g c =

@@ -1,5 +1,6 @@
-use Rattle.std.proofs.Common.{◌≡◌, ◌+◌, Bool, true, not, ◌&&◌, take, drop, sym, ap, ◌∙◌, arith}
+use Rattle.std.proofs.Common.{◌≡◌, ℕ, ◌+◌, ◌-◌, ◌≤◌, Bool, true, List, length, not, ◌&&◌, take, drop, sym, ap, ◌∙◌, arith}
 use Rattle.std.specs.Str.{bytes_eq}
+use Rattle.std.proofs.lemmas.List.{length-drop, take_all}
 use Rattle.prdb_entries.specs.Registry.{is_text}
 use Rattle.pt_service.specs.Names.{system}
 use Rattle.pt_service.proofs.GroupNames.{with_colon, without_colon}
@@ -11,8 +12,9 @@ returns-then-is_text c =
     let at = c.in-Some.at in
     let form = with_colon c.args.name.now c.in-Some.at (sym c.colon.ensures ∙ c.in-Some.is) (omega arith) in
     let first : is_text (take c.in-Some.at c.args.name.now) ≡ true = grind (arith, c.is_text.ensures, c.if-is_text.true) in
-    let last : c.is_text-then-is_text.result ≡ is_text (drop (c.in-Some.at + 1) c.args.name.now) = grind (arith, c.is_text-then-is_text.ensures) in
-    last ∙ sym (form ∙ ap (λ (b : Bool). b && is_text (drop (at + 1) name)) first)
+    let len : length (drop (c.in-Some.at + 1) c.args.name.now) ≤ length c.args.name.now - (c.in-Some.at + 1) = omega (arith, length-drop (c.in-Some.at + 1) c.args.name.now) in
+    c.is_text-then-is_text.ensures ∙ ap (λ (t : List ℕ). is_text t) (take_all (length name - (at + 1)) (drop (at + 1) name) len)
+    ∙ sym (form ∙ ap (λ (b : Bool). b && is_text (drop (at + 1) name)) first)
 
 pub returns-then-is_text-2 : goal.returns-then-is_text-2
 returns-then-is_text-2 c =
