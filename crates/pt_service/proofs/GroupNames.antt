@@ -114,8 +114,7 @@ bytes_by : (name : List ℕ) (small any : Bool) → leb (length name) 63 ≡ sma
 bytes_by name false any is_small is_any form = absurd cc
 bytes_by name true any is_small is_any form =
     let p = and_parts (is_text (front_of name)) (cond any (is_text (behind_colon name)) (not (bytes_eq name (codes "system")))) form in
-    let at = position_or_len is_colon name in
-    (
+    let at = position_or_len is_colon name in (
       leb-true (length name) 63 is_small,
       elim (cases_lt at (length name)) [
         | inl below ↦

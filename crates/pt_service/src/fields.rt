@@ -19,7 +19,11 @@ use std::alloc::Global;
 fn is_maximum(group: bool, id: i32) -> bool
     ensures { result ≡ is_maximum group id }
 {
-    if group { is_id(true, id) } else { !is_group(id) }
+    if group {
+        is_id(true, id)
+    } else {
+        !is_group(id)
+    }
 }
 
 /// The maxima with another one of groups, or of users.

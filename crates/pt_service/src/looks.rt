@@ -111,11 +111,7 @@ fn digits_of(alloc: Global, id: i32) -> Result<Bytes, NoMemory>
 }
 
 /// The name of the entry of an id, and where it is no entry's its digits.
-fn name_of<I: ImageRead>(
-    alloc: Global,
-    d: &mut Draft<I>,
-    id: i32,
-) -> Result<Bytes, RecordFault>
+fn name_of<I: ImageRead>(alloc: Global, d: &mut Draft<I>, id: i32) -> Result<Bytes, RecordFault>
     requires { d.old.len < 2 ^ 31 }
     ensures found { IfOk result (λ name. Told d.old.bytes (λ r. name ≡ name_of r id)) }
     ensures len { IfOk result (λ name. length name ≤ 63) }

@@ -1,7 +1,5 @@
 //! Calls over an image in memory, from the empty one on.
-use crate::{
-    id_to_name, list_max, name_to_id, set_fields, set_max,
-};
+use crate::{id_to_name, list_max, name_to_id, set_fields, set_max};
 use db_image::{CallEnd, Draft, ImageRead, VecImage};
 use prdb_entries::{draft_over, find_id};
 use std::alloc::Global;
@@ -50,7 +48,10 @@ fn maxima_are_set(rt: HostRuntime) -> Result<(), Fail> {
     assert!(rt; d.len() == 3264);
     assert_eq!(rt; rule(&set_max(alloc, &mut d, -2, true)?), 0);
     assert!(rt; d.len() < 10_000);
-    assert_eq!(rt; done(&list_max(alloc, &mut d)?), [0, 0, 0, 9, 0xff, 0xff, 0xff, 0xfe].as_slice());
+    assert_eq!(rt;
+        done(&list_max(alloc, &mut d)?),
+        [0, 0, 0, 9, 0xff, 0xff, 0xff, 0xfe].as_slice()
+    );
     Ok(())
 }
 
@@ -78,7 +79,10 @@ fn fields_are_set(rt: HostRuntime) -> Result<(), Fail> {
     let mut d = empty(alloc)?;
     for (id, mask, flags, quota, number) in FIELDS {
         assert!(rt; d.len() < 10_000);
-        assert_eq!(rt; rule(&set_fields(alloc, &mut d, id, mask, flags, quota)?), number);
+        assert_eq!(rt;
+            rule(&set_fields(alloc, &mut d, id, mask, flags, quota)?),
+            number
+        );
     }
     assert!(rt; d.len() < 10_000);
     let anonymous = find_id(alloc, &mut d, 32_766)?.ok_or("no entry")?;
@@ -107,7 +111,10 @@ fn names_and_ids_are_translated(rt: HostRuntime) -> Result<(), Fail> {
     assert!(rt; names.len() <= 5000);
     assert_eq!(rt;
         done(&name_to_id(alloc, &mut d, &names)?),
-        [0, 0, 0, 3, 0xff, 0xff, 0xff, 0x33, 0, 0, 0x7f, 0xfe, 0, 0, 0x7f, 0xfe].as_slice()
+        [
+            0, 0, 0, 3, 0xff, 0xff, 0xff, 0x33, 0, 0, 0x7f, 0xfe, 0, 0, 0x7f, 0xfe
+        ]
+        .as_slice()
     );
     assert!(rt; d.len() < 10_000);
     assert_eq!(rt;
