@@ -1,0 +1,164 @@
+//! The calls that look for entries one by one, and for the maxima, over a draft.
+ghost use Rattle.std.specs.Prelude.{◌≡◌, ◌<◌, ◌≤◌, ◌^◌, IfSome, IfOk, IfErr, IsErrOf, length, map};
+ghost use Rattle.std.specs.Fmt.{signed_decimal};
+ghost use Rattle.std.specs.List.{AllByRecursion};
+ghost use Rattle.db_image.specs.Ends.{end_of};
+ghost use Rattle.prdb_entries.specs.RecordEnds.{HasCause, OnlyLooks};
+ghost use Rattle.prdb_entries.specs.Records.{Holds};
+ghost use Rattle.pt_calls.specs.Answers.{AnswerHasSpelling, answer_spelling};
+ghost use Rattle.pt_calls.specs.Meaning.{id_or_anonymous};
+ghost use Rattle.pt_calls.specs.Standing.{IsDecided};
+ghost use Rattle.pt_calls.specs.declared.answers.PtAnswer.TheVariants as answer;
+ghost use Rattle.pt_calls.specs.declared.limits.TheConstants.{MAX_LIST};
+ghost use Rattle.pt_service.specs.Meaning.{Answers, name_of, reply_by};
+ghost use Rattle.pt_service.specs.Told.{IsMeant, Told};
+
+use crate::finds::{entry_of_id, entry_of_name};
+use crate::names::lowered;
+use db_image::{CallEnd, Draft, ImageRead, RecordFault};
+use prdb_entries::maxima;
+use pt_calls::{Ids, Items, Names, PtAnswer, spell_answer};
+use std::alloc::Global;
+use ubik_types::{Bytes, NoMemory};
+
+/// The id of the entry `anonymous`, to which a name is translated that is no entry's.
+const ANONYMOUS: i32 = 32766;
+
+/// Tells an answer.
+pub(crate) fn tell(alloc: Global, answer: &PtAnswer) -> Result<CallEnd, NoMemory>
+    requires spelled { AnswerHasSpelling answer.now }
+    requires short { length (answer_spelling answer.now) ≤ 1048576 }
+    ensures told { IfOk result (λ end. end ≡ end_of (reply_by (Answers answer.now))) }
+    ensures short { IfOk result IsDecided }
+{
+    let bytes = spell_answer(alloc, answer)?;
+    Ok(CallEnd::Done(bytes))
+}
+
+/// Tells the maxima.
+pub fn list_max<I: ImageRead>(alloc: Global, d: &mut Draft<I>) -> Result<CallEnd, RecordFault>
+    requires { d.old.len < 2 ^ 31 }
+    ensures meant { IfOk result (λ end. IsMeant d.old.bytes (λ r. Answers (answer.Maxima r.max_user r.max_group)) end d.new.bytes) }
+    ensures short { IfOk result IsDecided }
+    ensures fault { IfErr result (HasCause d.old.bytes Holds) }
+    ensures frame { OnlyLooks I.ImageRead d.old d.new (IsErrOf result RecordFault.DiskFault) }
+{
+    let (user, group) = maxima(alloc, d)?;
+    let end = tell(alloc, &PtAnswer::Maxima { user, group })?;
+    Ok(end)
+}
+
+/// The id that a name is translated to.
+fn id_of<I: ImageRead>(alloc: Global, d: &mut Draft<I>, name: &[u8]) -> Result<i32, RecordFault>
+    requires { d.old.len < 2 ^ 31 }
+    ensures found { IfOk result (λ id. Told d.old.bytes (λ r. id ≡ id_or_anonymous r name.now)) }
+    ensures fault { IfErr result (HasCause d.old.bytes Holds) }
+    ensures frame { OnlyLooks I.ImageRead d.old d.new (IsErrOf result RecordFault.DiskFault) }
+{
+    let name = lowered(alloc, name)?;
+    match entry_of_name(alloc, d, &name)? {
+        Some(entry) => Ok(entry.id),
+        None => Ok(ANONYMOUS),
+    }
+}
+
+/// The ids that names are translated to, in their order.
+fn ids_of<I: ImageRead>(
+    alloc: Global,
+    d: &mut Draft<I>,
+    names: &[Bytes],
+) -> Result<Ids, RecordFault>
+    requires { d.old.len < 2 ^ 31 }
+    ensures found { IfOk result (λ ids. Told d.old.bytes (λ r. ids ≡ map (id_or_anonymous r) names.now)) }
+    ensures count { IfOk result (λ ids. length ids ≡ length names.now) }
+    ensures fault { IfErr result (HasCause d.old.bytes Holds) }
+    ensures frame { OnlyLooks I.ImageRead d.old d.new (IsErrOf result RecordFault.DiskFault) }
+{
+    let mut ids = Vec::new(alloc);
+    for name in names {
+        let id = id_of(alloc, d, name.as_slice())?;
+        ids.push(id)?;
+    }
+    Ok(Items::new(ids))
+}
+
+/// Translates names to ids, 32766 for one that no entry has.
+pub fn name_to_id<I: ImageRead>(
+    alloc: Global,
+    d: &mut Draft<I>,
+    names: &[Bytes],
+) -> Result<CallEnd, RecordFault>
+    requires len { d.old.len < 2 ^ 31 }
+    requires count { length names.now ≤ MAX_LIST }
+    ensures meant { IfOk result (λ end. IsMeant d.old.bytes (λ r. Answers (answer.Ids (map (id_or_anonymous r) names.now))) end d.new.bytes) }
+    ensures short { IfOk result IsDecided }
+    ensures fault { IfErr result (HasCause d.old.bytes Holds) }
+    ensures frame { OnlyLooks I.ImageRead d.old d.new (IsErrOf result RecordFault.DiskFault) }
+{
+    let ids = ids_of(alloc, d, names)?;
+    let end = tell(alloc, &PtAnswer::Ids(ids))?;
+    Ok(end)
+}
+
+/// The digits of an id.
+#[tactic(auto, using(crate::proofs::Lengths::digits_len))]
+fn digits_of(alloc: Global, id: i32) -> Result<Bytes, NoMemory>
+    ensures value { IfOk result (λ text. text ≡ signed_decimal id) }
+    ensures len { IfOk result (λ text. length text ≤ 63) }
+{
+    let text = format!(in alloc; "{id}")?;
+    Ok(Bytes::new(text.into_bytes()))
+}
+
+/// The name of the entry of an id, and where it is no entry's its digits.
+fn name_of<I: ImageRead>(alloc: Global, d: &mut Draft<I>, id: i32) -> Result<Bytes, RecordFault>
+    requires { d.old.len < 2 ^ 31 }
+    ensures found { IfOk result (λ name. Told d.old.bytes (λ r. name ≡ name_of r id)) }
+    ensures len { IfOk result (λ name. length name ≤ 63) }
+    ensures fault { IfErr result (HasCause d.old.bytes Holds) }
+    ensures frame { OnlyLooks I.ImageRead d.old d.new (IsErrOf result RecordFault.DiskFault) }
+{
+    match entry_of_id(alloc, d, id)? {
+        Some(entry) => Ok(entry.name),
+        None => Ok(digits_of(alloc, id)?),
+    }
+}
+
+/// The names that ids are translated to, in their order.
+fn names_of<I: ImageRead>(
+    alloc: Global,
+    d: &mut Draft<I>,
+    ids: &[i32],
+) -> Result<Names, RecordFault>
+    requires { d.old.len < 2 ^ 31 }
+    ensures found { IfOk result (λ names. Told d.old.bytes (λ r. names ≡ map (name_of r) ids.now)) }
+    ensures lens { IfOk result (AllByRecursion (λ name. length name ≤ 63)) }
+    ensures count { IfOk result (λ names. length names ≡ length ids.now) }
+    ensures fault { IfErr result (HasCause d.old.bytes Holds) }
+    ensures frame { OnlyLooks I.ImageRead d.old d.new (IsErrOf result RecordFault.DiskFault) }
+{
+    let mut names = Vec::new(alloc);
+    for id in ids {
+        let name = name_of(alloc, d, *id)?;
+        names.push(name)?;
+    }
+    Ok(Items::new(names))
+}
+
+/// Translates ids to names, the digits of one that no entry has.
+pub fn id_to_name<I: ImageRead>(
+    alloc: Global,
+    d: &mut Draft<I>,
+    ids: &[i32],
+) -> Result<CallEnd, RecordFault>
+    requires len { d.old.len < 2 ^ 31 }
+    requires count { length ids.now ≤ MAX_LIST }
+    ensures meant { IfOk result (λ end. IsMeant d.old.bytes (λ r. Answers (answer.Names (map (name_of r) ids.now))) end d.new.bytes) }
+    ensures short { IfOk result IsDecided }
+    ensures fault { IfErr result (HasCause d.old.bytes Holds) }
+    ensures frame { OnlyLooks I.ImageRead d.old d.new (IsErrOf result RecordFault.DiskFault) }
+{
+    let names = names_of(alloc, d, ids)?;
+    let end = tell(alloc, &PtAnswer::Names(names))?;
+    Ok(end)
+}
