@@ -151,11 +151,11 @@ fn put_numbers(out: &mut XdrWriter, words: &[&str]) -> Result<(), Fail> {
 /// A name, and numbers.
 fn put_entry(out: &mut XdrWriter, words: &[&str]) -> Result<(), Fail> {
     match words {
-        [] => Err("a name".into()),
-        [name, numbers @ ..] => {
+        [name, numbers @ ..] if name.len() <= 64 => {
             out.put_bytes(name.as_bytes())?;
             put_numbers(out, numbers)
         }
+        _ => Err("a name".into()),
     }
 }
 
