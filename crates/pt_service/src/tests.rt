@@ -44,6 +44,7 @@ fn maxima_are_set(rt: HostRuntime) -> Result<(), Fail> {
         // No byte is changed.
         assert!(rt; d.len() == 0);
     }
+    assert!(rt; d.len() < 10_000);
     assert_eq!(rt; rule(&set_max(alloc, &mut d, 9, false)?), 0);
     assert!(rt; d.len() == 3264);
     assert_eq!(rt; rule(&set_max(alloc, &mut d, -2, true)?), 0);
