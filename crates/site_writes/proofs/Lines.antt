@@ -1,21 +1,24 @@
--- The line of calls: its ids and their bytes side by side.
-use Rattle.std.proofs.Common.{◌≡◌, ℕ, suc, List, [], ◌∷◌, ◌++◌, length, Result, Ok, Err, IsOk, OnOk, refl, ap, arith}
+-- The line of calls, and the ids in it.
+use Rattle.std.proofs.Common.{◌≡◌, ℕ, suc, List, [], ◌∷◌, ◌++◌, length, map, drop, Result, Ok, Err, IsOk, OnOk, refl, sym, ap, ◌∙◌}
 use Rattle.cell_model.specs.Node.{Waiting}
-use Rattle.site_writes.specs.SiteView.{calls_of}
+
+ids_long : (waiting : List Waiting) → length (map (λ (w : Waiting). w.id) waiting) ≡ length waiting
+ids_long [] = refl
+ids_long (w ∷ waiting) = ap suc (ids_long waiting)
 
 -- as many calls wait as there are ids
-pub length-calls_of : (ids : List ℕ) (calls : List (List ℕ)) → length ids ≡ length calls → length (calls_of ids calls) ≡ length ids
-length-calls_of [] calls same = refl
-length-calls_of (id ∷ ids) [] same = absurd (omega arith)
-length-calls_of (id ∷ ids) (call ∷ calls) same = ap suc (length-calls_of ids calls (omega arith))
+pub as_many : (line : List ℕ) (waiting : List Waiting) → line ≡ map (λ (w : Waiting). w.id) waiting → length waiting ≡ length line
+as_many line waiting is = sym (ap length is ∙ ids_long waiting)
 
 -- one more call at the end
-pub calls_of-push : (ids : List ℕ) (calls : List (List ℕ)) (id : ℕ) (call : List ℕ) → length ids ≡ length calls → calls_of (ids ++ id ∷ []) (calls ++ call ∷ []) ≡ calls_of ids calls ++ record { id = id; call = call } ∷ []
-calls_of-push [] [] id call same = refl
-calls_of-push [] (other ∷ calls) id call same = absurd (omega arith)
-calls_of-push (first ∷ ids) [] id call same = absurd (omega arith)
-calls_of-push (first ∷ ids) (its ∷ calls) id call same =
-    ap (λ (waiting : List Waiting). record { id = first; call = its } ∷ waiting) (calls_of-push ids calls id call (omega arith))
+pub ids_push : (waiting : List Waiting) (w : Waiting) → map (λ (v : Waiting). v.id) (waiting ++ w ∷ []) ≡ map (λ (v : Waiting). v.id) waiting ++ w.id ∷ []
+ids_push [] w = refl
+ids_push (first ∷ waiting) w = ap (λ (line : List ℕ). first.id ∷ line) (ids_push waiting w)
+
+-- the first call less
+pub ids_drop : (waiting : List Waiting) → drop 1 (map (λ (v : Waiting). v.id) waiting) ≡ map (λ (v : Waiting). v.id) (drop 1 waiting)
+ids_drop [] = refl
+ids_drop (first ∷ waiting) = refl
 
 -- what is so where a result is Ok, and it is
 pub on_ok : {T E P : Type 0} (r : Result T E) → IsOk r → OnOk r P → P

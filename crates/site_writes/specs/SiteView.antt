@@ -1,5 +1,5 @@
 -- How what the code keeps stands for the writes of a sync site.
-use Rattle.std.specs.Prelude.{◌≡◌, ℕ, true, Option, Some, None, List, [], ◌∷◌, IfSome, length}
+use Rattle.std.specs.Prelude.{◌≡◌, ℕ, true, Option, Some, None, List, [], ◌∷◌, IfSome, map}
 use Rattle.lock_table.specs.declared.ranges.HeldRange.{HeldRange}
 use Rattle.lock_table.specs.declared.tables.TheConstants.{MAX_WAITING}
 use Rattle.lock_table.specs.Ranges.{held_range}
@@ -8,14 +8,8 @@ use Rattle.site_writes.specs.declared.sites.SiteWrites.TheInside.{Inside}
 use Rattle.site_writes.specs.OwnWrite.{OwnRecord}
 use Rattle.site_writes.specs.Site.{SiteRecord}
 
--- the calls of these ids, in their order
-abbrev pub calls_of : List ℕ → List (List ℕ) → List Waiting
-calls_of [] calls = []
-calls_of (id ∷ ids) [] = []
-calls_of (id ∷ ids) (call ∷ calls) = record { id = id; call = call } ∷ calls_of ids calls
-
 abbrev pub site_of : Inside → SiteRecord
-site_of s = record { held = s.held; own = s.own; waiting = calls_of s.table.line s.calls.items }
+site_of s = record { held = s.held; own = s.own; waiting = s.calls.items }
 
 -- the whole database, held for writing
 abbrev pub whole : ℕ → HeldRange
@@ -31,5 +25,5 @@ ranges_of None None = []
 pub record IsInOrder (s : Inside) : Type 0 where
   pub place : s.table.held ≡ ranges_of s.held s.own
   pub one : IfSome s.own (λ _. s.held ≡ None)
-  pub line : length s.table.line ≡ length s.calls.items
+  pub line : s.table.line ≡ map (λ (w : Waiting). w.id) s.calls.items
   pub room : s.calls.capacity ≡ MAX_WAITING

@@ -1,5 +1,7 @@
 //! The writes of a sync site.
 ghost use Rattle.std.specs.Prelude.{◌≡◌, ◌≤◌, ◌<◌, ◌↔◌, IsTrue, IsSome, IfOk, IsErrAnd, IsOkUnless, OnOk, OnErr, length, slice_get, option_copied};
+ghost use Rattle.std.specs.Option.{option_map};
+ghost use Rattle.cell_model.specs.Node.{Waiting};
 ghost use Rattle.site_writes.specs.Site.{no_writes, with_place, without_place, with_flight, without_flight, with_waiting, without_first, LineIsFull};
 
 use crate::own_writes::OwnWrite;
@@ -53,7 +55,7 @@ impl Model for Asked {
 #[derive(Drop)]
 pub struct SiteWrites {
     table: LockTable,
-    calls: HeapCircularBuffer<Bytes>,
+    calls: HeapCircularBuffer<Asked>,
     held: Option<u32>,
     own: Option<OwnWrite>,
 }
@@ -155,7 +157,7 @@ impl SiteWrites {
         let call = bytes_of(*self.calls.allocator(), call)?;
         // Both lines have the same room.
         let _ = self.table.wait(id, holder);
-        let _ = self.calls.try_push_back(call);
+        let _ = self.calls.try_push_back(Asked { id, call });
         Ok(())
     }
 
@@ -164,9 +166,15 @@ impl SiteWrites {
         ensures value { result ≡ slice_get self.old.waiting 0 }
         ensures after { self.new ≡ without_first self.old }
     {
-        let id = self.table.next()?;
-        let call = self.calls.pop_front()?;
-        Some(Asked { id, call })
+        let _ = self.table.next();
+        self.calls.pop_front()
+    }
+
+    /// The id of the call that waits at a place of the line, counted from 0; none behind its end.
+    pub fn waits_at(&self, place: usize) -> Option<u32>
+        ensures { result ≡ option_map (λ (w : Waiting). w.id) (slice_get self.now.waiting place) }
+    {
+        self.calls.get(place).map(|asked| asked.id)
     }
 
     /// How many calls wait.

@@ -1,7 +1,8 @@
 -- The write that another server began.
 use Rattle.std.specs.Option.{ForSome}
-use Rattle.std.proofs.Common.{◌≡◌, ◌≢◌, ◌⊎◌, ◌∙◌, ⊎_elim, Bool, true, false, cond, Option, Some, None, List, [], length, ℕ, Result, Ok, Err, refl, sym, ap, subst, arith}
+use Rattle.std.proofs.Common.{◌≡◌, ◌≢◌, ◌⊎◌, ◌∙◌, ◌++◌, ⊎_elim, Bool, true, false, cond, Option, Some, None, List, [], length, ℕ, Result, Ok, Err, refl, sym, ap, subst, arith}
 use Rattle.std.proofs.lemmas.Bool.Decides.{nat_tests}
+use Rattle.std.proofs.lemmas.List.{append-nil}
 use Rattle.std.specs.Prelude.{◌&&◌, is_none, nat_le, OnOk, OnErr}
 use Rattle.disk_base.specs.declared.disks.Disk.{Ghosts}
 use Rattle.ubik_types.specs.declared.images.Change.{Change}
@@ -19,17 +20,33 @@ use Rattle.cell_model.specs.Node.{KeptWrite, Server}
 use Rattle.cell_model.specs.Receiver.{answers_version_kept, begin_received, commit_received, committed_by, empty_write, is_sending, kept_with, put_piece_received, whole_changes, whole_write, write_taken}
 use Rattle.cell_model.specs.Step.{Member, Stepped, followed, quiet}
 use Rattle.ubik_node.specs.Keeping.{IsKeptOver}
-use Rattle.ubik_node.specs.Node.{Ends, Held}
+use Rattle.ubik_store.proofs.Telling.{ok_map}
+use Rattle.ubik_node.specs.Node.{Ends, Held, IsMade}
 use Rattle.ubik_node.specs.State.{ShowsBehind}
 use Rattle.ubik_write.specs.Pending.{with_piece_at}
 
 -- ---- rules that show nothing
 
-pub quiet_ends : {D : Type 0} (g : Ghosts D) {knows : Type 0} {t : Stepped} {n m : Held D} {r : Result (Unit {0}) StoreFault} (out : List Output) → out ≡ [] → Ends g knows t [] [] n m r → Ends g knows t [] out n m r
-quiet_ends g {knows} {t} {n} {m} {r} out none ends = subst (λ (o : List Output). Ends g knows t [] o n m r) (sym none) ends
+pub quiet_ends : {D : Type 0} (g : Ghosts D) {knows : Type 0} {t : Stepped} {n m : Held D} {r : Result (Unit {0}) StoreFault} (out : List Output) → Ends g knows t [] [] n m r → Ends g knows t out out n m r
+quiet_ends g {knows} {t} {n} {m} {r} out ends = record {
+  made = λ known.
+      ok_map r (IsMade g t [] [] n m) (IsMade g t out out n m) (ends.made known)
+      (λ made. record { server = made.server; outputs = sym (append-nil out) ∙ ap (λ (o : List Output). out ++ o) made.outputs; disk = made.disk });
+  failed = ends.failed;
+  short = ends.short;
+  state = ends.state;
+  keeps = ends.keeps;
+  stored = ends.stored;
+  halts = ends.halts;
+  told = ends.told;
+  calls = ends.calls;
+  halted = ends.halted;
+  last = ends.last;
+  member = ends.member;
+}
 
-pub quietly : (t : Stepped) (s : Server) (out : List Output) → t ≡ quiet s → out ≡ [] → ShowsBehind t s [] out
-quietly t s out is none = subst (λ (x : Stepped). ShowsBehind x s [] out) (sym is) (record { server = refl; calls = refl; outputs = none })
+pub quietly : (t : Stepped) (s : Server) (out : List Output) → t ≡ quiet s → ShowsBehind t s out out
+quietly t s out is = subst (λ (x : Stepped). ShowsBehind x s out out) (sym is) (record { server = refl; calls = refl; outputs = sym (append-nil out) })
 
 -- ---- the rules
 

@@ -137,7 +137,8 @@ module _ {D : Type 0} (g : Ghosts D) where
               (fails_after g n.store.disk s.disk later.disk reads went (durable_in n.server) (made ∷ [])
               (fails_one g s later (durable_in n.server) changes v image made (sound.ready (stays.failed ∙ was.failed ∙ up)) ((stored_read n s was up sound stays reads went).image up) ((stored_read n s was up sound stays reads went).version up) leads same cuts count durably));
           short = λ other. absurd (other refl);
-          state = refl;
+          state = λ other. refl;
+          keeps = λ failed. refl;
           stored = λ fine. absurd (fine refl);
           halts = λ _. record { sound = sound_later; failed = ends.failed };
           told = λ fine. absurd (fine refl);

@@ -13,7 +13,7 @@ use Rattle.ubik_store.proofs.Applied.{calls_as, calls_of}
 use Rattle.ubik_store.proofs.Telling.{ok_map}
 use Rattle.cell_model.specs.declared.events.Output.{Output}
 use Rattle.cell_model.specs.Durable.{Made}
-use Rattle.cell_model.specs.Node.{Server}
+use Rattle.cell_model.specs.Node.{Server, halted_from}
 use Rattle.cell_model.specs.Step.{Shown, Stepped, outputs_of}
 use Rattle.ubik_node.specs.declared.state.State.{State}
 use Rattle.ubik_node.specs.Disk.{Serves}
@@ -90,6 +90,7 @@ module _ {D : Type 0} (g : Ghosts D) where
       failed = λ failed. absurd (no_fault failed);
       short = tt;
       state = tt;
+      keeps = λ failed. absurd (no_fault failed);
       stored = λ _. stored;
       halts = λ failed. absurd (no_fault failed);
       told = λ _. told;
@@ -118,7 +119,8 @@ module _ {D : Type 0} (g : Ghosts D) where
       made = λ _. tt;
       failed = λ failed. fails_reads g n.store (durable_in n.server) (ready_in n was up) (was.image up) (was.version up) reads t.calls;
       short = λ other. (⊎_elim (λ is. absurd (other is)) (λ is. is) cause, reads_as (λ failed. other (to failed)) (λ none. absurd none) reads);
-      state = same;
+      state = λ other. same;
+      keeps = λ failed. ap halted_from same;
       stored = λ fine. stored (λ is. fine (ap Err is));
       halts = λ failed. halts (fault_is e failed);
       told = λ fine. told_still reads (λ failed. fine (ap Err (to failed)));
@@ -156,6 +158,7 @@ module _ {D : Type 0} (g : Ghosts D) where
     failed = ends.failed;
     short = ends.short;
     state = ends.state;
+    keeps = ends.keeps;
     stored = ends.stored;
     halts = ends.halts;
     told = ends.told;
@@ -181,6 +184,7 @@ module _ {D : Type 0} (g : Ghosts D) where
     failed = ends.failed;
     short = ends.short;
     state = ends.state;
+    keeps = ends.keeps;
     stored = ends.stored;
     halts = ends.halts;
     told = ends.told;

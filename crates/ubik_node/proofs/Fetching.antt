@@ -33,7 +33,7 @@ use Rattle.ubik_node.specs.Held.{held_image}
 use Rattle.ubik_node.specs.declared.state.State.{State}
 use Rattle.ubik_node.specs.Receiving.{fetched, front_taken}
 use Rattle.ubik_node.specs.Recovering.{IsOfCell}
-use Rattle.ubik_node.specs.State.{server_of, server_with}
+use Rattle.ubik_node.specs.State.{announced, server_of, server_with}
 use Rattle.ubik_node.proofs.Received.{held_text, piece_end}
 use Rattle.ubik_node.proofs.Relabelled.{sends_as}
 
@@ -123,7 +123,7 @@ waits_at s best image poll x next is =
     ap (λ (text : Option ReceivedText). record (with_database s best image) { phase = Relabel poll; received = text }) (cond_none (is_fetch s.phase) None refl)
     ∙ ap (λ (y : Server). record y { phase = Relabel poll; received = None }) is
     ∙ ap (λ (text : Option ReceivedText). record (server_of x) { phase = Relabel poll; received = text })
-    (sym (cond_none (is_fetch (phase_record x.version (adopted next x.recovery))) _
+    (sym (cond_none (is_fetch (phase_record (announced x) (adopted next x.recovery))) _
     (cond_none (recovery.is_fetch x.recovery.phase) _ (cond_none (recovery.is_fetch next.phase) x.recovery.text none))))
 
 -- the recovery of a server that relabels after a fetch
@@ -276,21 +276,19 @@ pub first_of : (text piece : List ℕ) (n : ℕ) → n ≡ min 8192 (length text
 first_of text piece n is cut = cut ∙ ap (λ (k : ℕ). take k text) is ∙ take_min 8192 text ∙ ap (take 8192) (sym (drop_zero text))
 
 -- a packet of a server that has stayed where it was, to a host
-pub sent_from : (m place : Member) (host : Host) {first last : List Output} {b : Body} (c : Body) → last ≡ first ++ outputs_of (sends_to place host b) → place ≡ m → first ≡ [] → b ≡ c → last ≡ [] ++ outputs_of (sends_to m host c)
-sent_from m place host {first} {last} {b} c sent here empty same =
+pub sent_from : (m place : Member) (host : Host) (first : List Output) {last : List Output} {b : Body} (c : Body) → last ≡ first ++ outputs_of (sends_to place host b) → place ≡ m → b ≡ c → last ≡ first ++ outputs_of (sends_to m host c)
+sent_from m place host first {last} {b} c sent here same =
     sent
-    ∙ ap (λ (o : List Output). o ++ outputs_of (sends_to place host b)) empty
-    ∙ ap (λ (k : Member). outputs_of (sends_to k host b)) here
-    ∙ ap (λ (x : Body). outputs_of (sends_to m host x)) same
+    ∙ ap (λ (k : Member). first ++ outputs_of (sends_to k host b)) here
+    ∙ ap (λ (x : Body). first ++ outputs_of (sends_to m host x)) same
 
 -- the piece that is asked for next
-pub asks_next : (m place : Member) (q r : RecoveryRecord) {first last : List Output} {next end : ℕ}
-    → last ≡ first ++ outputs_of (sends_to place (host_at place.hosts (host_of q)) (body.GetPiece q.poll (best_of q) next)) → first ≡ [] → place ≡ m → q ≡ r → next ≡ end
-    → last ≡ [] ++ outputs_of (sends_to m (host_at m.hosts (host_of r)) (body.GetPiece r.poll (best_of r) end))
-asks_next m place q r {first} {last} {next} {end} sent empty here held same =
-    let asks : Member → RecoveryRecord → ℕ → List Output = λ k y n. outputs_of (sends_to k (host_at k.hosts (host_of y)) (body.GetPiece y.poll (best_of y) n)) in
+pub asks_next : (m place : Member) (q r : RecoveryRecord) (first : List Output) {last : List Output} {next end : ℕ}
+    → last ≡ first ++ outputs_of (sends_to place (host_at place.hosts (host_of q)) (body.GetPiece q.poll (best_of q) next)) → place ≡ m → q ≡ r → next ≡ end
+    → last ≡ first ++ outputs_of (sends_to m (host_at m.hosts (host_of r)) (body.GetPiece r.poll (best_of r) end))
+asks_next m place q r first {last} {next} {end} sent here held same =
+    let asks : Member → RecoveryRecord → ℕ → List Output = λ k y n. first ++ outputs_of (sends_to k (host_at k.hosts (host_of y)) (body.GetPiece y.poll (best_of y) n)) in
     sent
-    ∙ ap (λ (o : List Output). o ++ asks place q next) empty
     ∙ ap (λ (k : Member). asks k q next) here
     ∙ ap (λ (y : RecoveryRecord). asks m y next) held
     ∙ ap (asks m r) same

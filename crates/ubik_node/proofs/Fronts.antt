@@ -1,5 +1,5 @@
 -- The text that a piece goes on with, given out and taken in again; and how rules end about which that is done.
-use Rattle.std.proofs.Common.{◌≡◌, ◌≤◌, ◌++◌, ◌∙◌, ⊎_elim, ℕ, Bool, true, false, cond, List, Option, Some, None, length, take, Result, Ok, Err, OnOk, OnErr, refl, sym, ap, subst, arith, length-take}
+use Rattle.std.proofs.Common.{◌≡◌, ◌≢◌, ◌≤◌, ◌++◌, ◌∙◌, ⊎_elim, ℕ, Bool, true, false, cond, List, Option, Some, None, length, take, Result, Ok, Err, OnOk, OnErr, refl, sym, ap, subst, arith, length-take}
 use Rattle.std.specs.Prelude.{◌==◌}
 use Rattle.std.specs.Result.{is_err}
 use Rattle.std.proofs.lemmas.Bool.{false≢true}
@@ -10,10 +10,10 @@ use Rattle.ubik_types.specs.declared.phases.Phase.TheVariants as phase
 use Rattle.ubik_types.specs.declared.versions.Version.{Version}
 use Rattle.ubik_types.specs.Phase.{PhaseRecord}
 use Rattle.ubik_store.specs.declared.faults.StoreFault.{StoreFault}
-use Rattle.ubik_store.specs.declared.faults.StoreFault.TheVariants.{NoMemory}
+use Rattle.ubik_store.specs.declared.faults.StoreFault.TheVariants.{DiskFault, NoMemory}
 use Rattle.cell_model.specs.declared.events.Output.{Output}
 use Rattle.cell_model.specs.Durable.{Durable, Made}
-use Rattle.cell_model.specs.Node.{Server, ReceivedText}
+use Rattle.cell_model.specs.Node.{Server, ReceivedText, halted_from}
 use Rattle.cell_model.specs.Recovery.{installed, text_with}
 use Rattle.cell_model.specs.Step.{Member, Stepped, outputs_of}
 use Rattle.ubik_recovery.specs.declared.texts.TextSource.{TextSource}
@@ -24,8 +24,8 @@ use Rattle.ubik_node.specs.declared.state.State.{State}
 use Rattle.ubik_node.specs.Disk.{FailsIn, Serves}
 use Rattle.ubik_node.specs.Node.{Ends, Held, IsKept, durable_in}
 use Rattle.ubik_node.specs.Receiving.{front_back, front_taken}
-use Rattle.ubik_node.specs.State.{server_of, server_with}
-use Rattle.ubik_node.proofs.Endings.{kept_with, short_ends}
+use Rattle.ubik_node.specs.State.{announced, server_of, server_with}
+use Rattle.ubik_node.proofs.Endings.{fault_is, kept_with, ok_not, short_ends}
 use Rattle.ubik_node.proofs.Received.{front_of}
 
 same_phase : (v : Version) (r : RecoveryRecord) (text : Option ReceivedText) → phase_record v (with_text r text) ≡ phase_record v r
@@ -52,10 +52,25 @@ front_restored may source at bytes front st x y takes server is = by (at == 0) r
     by true first = server ∙ ap (λ (b : Bool). server_with st (cond b st.recovery (with_text st.recovery None))) first
     by false later =
         let text : st.recovery.text ≡ Some (text_of source front) = front_of may source at bytes st.recovery.text y later takes ∙ ap (λ (xs : List ℕ). Some (text_of source xs)) (sym is) in
-        text_put x.version x.recovery (server_of x) (Some (text_of source front))
+        text_put (announced x) x.recovery (server_of x) (Some (text_of source front))
         ∙ ap (λ (s : Server). record s { received = Some (text_of source front) }) (server ∙ ap (λ (b : Bool). server_with st (cond b st.recovery (with_text st.recovery None))) later)
-        ∙ sym (text_put st.version (with_text st.recovery None) (server_of st) (Some (text_of source front)))
-        ∙ ap (λ (t : Option ReceivedText). recovering st.version (with_text st.recovery t) (server_of st)) (sym text)
+        ∙ sym (text_put (announced st) (with_text st.recovery None) (server_of st) (Some (text_of source front)))
+        ∙ ap (λ (t : Option ReceivedText). recovering (announced st) (with_text st.recovery t) (server_of st)) (sym text)
+
+-- a halted server keeps the same, whether the front is given out or not
+pub back_kept : (source : TextSource) (at : ℕ) (front : List ℕ) (x : State) → halted_from (server_with x (front_back source at front x.recovery)) ≡ halted_from (server_of x)
+back_kept source at front x = by (at == 0)
+  where
+    by : (b : Bool) → halted_from (server_with x (cond b x.recovery (with_text x.recovery (Some (text_of source front))))) ≡ halted_from (server_of x)
+    by true = refl
+    by false = ap halted_from (text_put (announced x) x.recovery (server_of x) (Some (text_of source front)))
+
+pub taken_kept : (at : ℕ) (x : State) → halted_from (server_with x (front_taken at x.recovery)) ≡ halted_from (server_of x)
+taken_kept at x = by (at == 0)
+  where
+    by : (b : Bool) → halted_from (server_with x (cond b x.recovery (with_text x.recovery None))) ≡ halted_from (server_of x)
+    by true = refl
+    by false = ap halted_from (text_put (announced x) x.recovery (server_of x) None)
 
 pub next_within : (at : ℕ) (text : Option ReceivedText) → IsNext at text → at ≤ length (received_bytes text)
 next_within at text next = ⊎_elim (λ first. omega (arith, first)) (λ goes. omega (arith, goes)) next
@@ -88,6 +103,7 @@ module _ {D : Type 0} (g : Ghosts D) {knows : Type 0} {t : Stepped} {before afte
       failed = λ failed. subst (λ (d : Durable). FailsIn g d n.store.disk m.store.disk t.calls) durable (ends.failed failed);
       short = ends.short;
       state = tt;
+      keeps = λ failed. absurd (ok_not tt failed);
       stored = ends.stored;
       halts = ends.halts;
       told = ends.told;
@@ -98,16 +114,19 @@ module _ {D : Type 0} (g : Ghosts D) {knows : Type 0} {t : Stepped} {before afte
     }
 
     -- or was not, and then the server comes back
-    pub failed_from : (server : Server) (member : Member) (e : StoreFault) → server ≡ n.server → member ≡ n.member → Ends g knows t before after (record n { server = mid; member = place }) m (Err e)
+    pub failed_from : (server : Server) (member : Member) (e : StoreFault) → (e ≢ DiskFault → server ≡ n.server) → (e ≡ DiskFault → halted_from server ≡ halted_from n.server) → member ≡ n.member → Ends g knows t before after (record n { server = mid; member = place }) m (Err e)
         → Ends g knows t before after n (record m { server = server; member = member }) (Err e)
-    failed_from server member e same here ends = record {
+    failed_from server member e same keeps here ends = record {
       made = λ known. tt;
       failed = λ failed. subst (λ (d : Durable). FailsIn g d n.store.disk m.store.disk t.calls) durable (ends.failed failed);
       short = ends.short;
       state = same;
+      keeps = λ failed. keeps (fault_is e failed);
       stored = λ fine.
-          kept_with g m server (ends.stored fine) (ap (λ (s : Server). s.version) same ∙ sym (ap (λ (d : Durable). d.version) durable) ∙ sym (ap (λ (s : Server). s.version) ends.state))
-          (ap (λ (s : Server). s.image) same ∙ sym (ap (λ (d : Durable). d.image) durable) ∙ sym (ap (λ (s : Server). s.image) ends.state));
+          let back = ends.state (λ is. fine (ap Err is)) in
+          let there = same (λ is. fine (ap Err is)) in
+          kept_with g m server (ends.stored fine) (ap (λ (s : Server). s.version) there ∙ sym (ap (λ (d : Durable). d.version) durable) ∙ sym (ap (λ (s : Server). s.version) back))
+          (ap (λ (s : Server). s.image) there ∙ sym (ap (λ (d : Durable). d.image) durable) ∙ sym (ap (λ (s : Server). s.image) back));
       halts = ends.halts;
       told = ends.told;
       calls = ends.calls;
@@ -124,6 +143,7 @@ module _ {D : Type 0} (g : Ghosts D) {knows : Type 0} {t u : Stepped} {before af
     failed = λ failed. subst (λ (calls : List Made). FailsIn g (durable_in n.server) n.store.disk m.store.disk calls) (sym same) (ends.failed failed);
     short = ends.short;
     state = ends.state;
+    keeps = ends.keeps;
     stored = ends.stored;
     halts = ends.halts;
     told = ends.told;
@@ -144,6 +164,7 @@ module _ {D : Type 0} (g : Ghosts D) {knows : Type 0} {t u : Stepped} {before af
     failed = λ failed. subst (λ (calls : List Made). FailsIn g (durable_in n.server) n.store.disk m.store.disk calls) (sym same) (ends.failed failed);
     short = ends.short;
     state = tt;
+    keeps = λ failed. absurd (ok_not tt failed);
     stored = λ fine. kept_with g m server (ends.stored fine) version image;
     halts = ends.halts;
     told = ends.told;

@@ -13,6 +13,7 @@ pub mod Fronts
 pub mod Gapless
 pub mod HeldImages
 pub mod Images
+pub mod Lapsed
 pub mod Lending
 pub mod Logging
 pub mod Made

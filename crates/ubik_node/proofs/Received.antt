@@ -26,7 +26,7 @@ use Rattle.ubik_node.specs.declared.state.State.{State}
 use Rattle.ubik_node.specs.Held.{held_image}
 use Rattle.ubik_node.specs.Receiving.{front_back, front_taken}
 use Rattle.ubik_node.specs.Spreading.{IsSpreading}
-use Rattle.ubik_node.specs.State.{server_of, server_with}
+use Rattle.ubik_node.specs.State.{announced, server_of, server_with}
 
 not_true : (b : Bool) → (IsTrue b ↔ ⊥) → false ≡ b
 not_true true says = absurd (says.0 refl)
@@ -158,7 +158,7 @@ front_returns may source at bytes items st mid x takes server recovery front =
     ∙ ap (λ (xs : List ℕ). server_with mid (front_back source at xs (front_taken at st.recovery))) front
     ∙ ap (λ (s : Server). recovering s.version (front_back source at (take at (received_bytes st.recovery.text)) (front_taken at st.recovery)) s) server ∙ by (at == 0) refl
   where
-    by : (b : Bool) → (at == 0) ≡ b → recovering st.version (front_back source at (take at (received_bytes st.recovery.text)) (front_taken at st.recovery)) (server_with st (front_taken at st.recovery)) ≡ server_of st
+    by : (b : Bool) → (at == 0) ≡ b → recovering (announced st) (front_back source at (take at (received_bytes st.recovery.text)) (front_taken at st.recovery)) (server_with st (front_taken at st.recovery)) ≡ server_of st
     by true first = rw first refl
     by false later =
         rw later (ap (λ (text : Option ReceivedText). server_with st (with_text st.recovery text)) (sym (front_of may source at bytes st.recovery.text x later takes)))

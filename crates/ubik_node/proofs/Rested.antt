@@ -1,29 +1,91 @@
 -- A step after the lapse.
-use Rattle.std.proofs.Common.{◌≡◌, ℕ, Bool, Option, Some, None, List, ap}
+use Rattle.std.proofs.Common.{◌≡◌, ℕ, zero, suc, Bool, true, false, cond, Option, Some, None, List, [], ◌∷◌, ◌++◌, drop, replicate, refl, sym, ap, ◌∙◌}
+use Rattle.std.specs.Prelude.{count_by}
+use Rattle.ubik_types.specs.declared.phases.Phase.{Phase}
+use Rattle.ubik_types.specs.declared.phases.Phase.TheVariants as phase
+use Rattle.ubik_types.specs.declared.versions.Version.{Version}
+use Rattle.ubik_types.specs.Phase.{phase_of}
 use Rattle.db_image.specs.Database.{Database}
 use Rattle.cell_model.specs.declared.events.NodeEvent.{NodeEvent}
+use Rattle.cell_model.specs.Durable.{Made}
 use Rattle.cell_model.specs.Lapse.{lapsed}
-use Rattle.cell_model.specs.Node.{ReceivedText, Server}
+use Rattle.cell_model.specs.Node.{HaltedServer, ReceivedText, Server, halted_from}
 use Rattle.cell_model.specs.NodeRule.{step_of, handled}
-use Rattle.cell_model.specs.Step.{Member, Stepped, followed, quiet, short_after}
-use Rattle.ubik_recovery.specs.Record.{RecoveryRecord, phase_record, restored}
+use Rattle.cell_model.specs.Step.{Member, Shown, Stepped, followed, is_reply, short_after}
+use Rattle.ubik_recovery.specs.Record.{RecoveryRecord, is_fetch, phase_record, record_in, restored, with_text}
+use Rattle.ubik_node.specs.declared.lapse.Dropped.{Dropped}
 use Rattle.ubik_node.specs.declared.state.State.{State}
-use Rattle.ubik_node.specs.Recovering.{restored_over}
-use Rattle.ubik_node.specs.State.{server_of, server_with}
+use Rattle.ubik_node.specs.Lapsing.{returned}
+use Rattle.ubik_node.specs.State.{server_of}
+use Rattle.ubik_node.specs.Writing.{announced_of, flight_of, own_of, waiting_of}
 
--- a step is what the event makes of the server that the lapse leaves
-pub step_rests : (db : Database) (m : Member) (s after : Server) (now : ℕ) (e : NodeEvent) (short : List Bool) → lapsed m s now ≡ quiet after → step_of db m s now e short ≡ handled db m after now e short
+-- the choices of a step whose lapse shows this: its refusals found memory, and then those of the rule
+abbrev pub short_behind : List Shown → List Bool → List Bool
+short_behind shown short = replicate (count_by (λ (one : Shown). is_reply one.output) shown) false ++ short
+
+drop_none : (short : List Bool) → drop 0 short ≡ short
+drop_none [] = refl
+drop_none (first ∷ short) = refl
+
+drop_past : (n : ℕ) (short : List Bool) → drop n (replicate n false ++ short) ≡ short
+drop_past zero short = drop_none short
+drop_past (suc n) short = drop_past n short
+
+-- a step shows what the lapse shows, and then is what the event makes of the server that the lapse leaves
+pub step_comes : (db : Database) (m : Member) (s mid : Server) (now : ℕ) (e : NodeEvent) (short : List Bool) → (lapsed m s now).server ≡ mid → (lapsed m s now).calls ≡ []
+    → (let u = handled db m mid now e short in
+    step_of db m s now e (short_behind (lapsed m s now).shown short) ≡ record { server = u.server; calls = u.calls; shown = (lapsed m s now).shown ++ u.shown })
 unfolding step_of
-step_rests db m s after now e short is = ap (λ (t : Stepped). followed t (λ then. handled db m then now e (short_after t.shown short))) is
+step_comes db m s mid now e short server calls =
+    let t = lapsed m s now in
+    let at : Server → List Bool → List Made → Stepped = λ x choices before.
+    record { server = (handled db m x now e choices).server; calls = before ++ (handled db m x now e choices).calls; shown = t.shown ++ (handled db m x now e choices).shown } in
+    ap (λ (choices : List Bool). at t.server choices t.calls) (drop_past (count_by (λ (one : Shown). is_reply one.output) t.shown) short)
+    ∙ ap (λ (x : Server). at x short t.calls) server
+    ∙ ap (λ (before : List Made). at mid short before) calls
 
 -- what is given out comes back over what the server received since
 abbrev left_over : RecoveryRecord → Option ReceivedText → RecoveryRecord
 left_over given text = restored given (record given { text = text })
 
-abbrev back_over : RecoveryRecord → Server → Server
-back_over given s = record s { phase = phase_record s.version (left_over given s.received); received = (left_over given s.received).text }
+abbrev back_over : Dropped → Server → Server
+back_over d s =
+    record s {
+      phase = phase_record (announced_of s.version (own_of d.writes)) (left_over d.recovery s.received);
+      received = (left_over d.recovery s.received).text;
+      flight = flight_of d.writes;
+      waiting = waiting_of d.writes;
+    }
+
+restored_phase : (given left : RecoveryRecord) → (restored given left).phase ≡ given.phase
+restored_phase given left = by (is_fetch given.phase)
+  where
+    by : (b : Bool) → (cond b given (with_text given left.text)).phase ≡ given.phase
+    by true = refl
+    by false = refl
+
+phase_is : (v : Version) (r : RecoveryRecord) → phase_of (phase_record v r) ≡ r.phase
+phase_is v r = by r.phase
+  where
+    by : (p : Phase) → phase_of (record_in p v r) ≡ p
+    by phase.None = refl
+    by phase.Poll = refl
+    by phase.Fetch = refl
+    by phase.Relabel = refl
+    by phase.Send = refl
+    by phase.Ready = refl
+
+abbrev in_phase : HaltedServer → Phase → HaltedServer
+in_phase h p = record h { phase = p }
+
+-- a state of which a halted server would keep the same goes back to one of which it would keep the same
+pub back_keeps : (given : Option Dropped) (x y : State) → halted_from (server_of x) ≡ halted_from (server_of y) → halted_from (returned given x) ≡ halted_from (returned given y)
+back_keeps None x y same = same
+back_keeps (Some d) x y same =
+    let at = λ (z : State). phase_is (announced_of z.version (own_of d.writes)) (restored d.recovery z.recovery) ∙ restored_phase d.recovery z.recovery in
+    ap (in_phase (halted_from (server_of x))) (at x) ∙ ap (λ (h : HaltedServer). in_phase h d.recovery.phase) same ∙ sym (ap (in_phase (halted_from (server_of y))) (at y))
 
 -- a state that stands for the same server goes back to the same one
-pub back_same : (given : Option RecoveryRecord) (x y : State) → server_of x ≡ server_of y → server_with x (restored_over given x.recovery) ≡ server_with y (restored_over given y.recovery)
+pub back_same : (given : Option Dropped) (x y : State) → server_of x ≡ server_of y → returned given x ≡ returned given y
 back_same None x y same = same
-back_same (Some given) x y same = ap (back_over given) same
+back_same (Some d) x y same = ap (back_over d) same

@@ -1,7 +1,8 @@
 -- Where a call is served.
 use Rattle.std.proofs.Common.{◌≡◌, ℕ, Bool, true, false, cond, List, Some, refl}
 use Rattle.db_image.specs.Database.{Database}
-use Rattle.cell_model.specs.Asks.{allows_reads, asked_as, read}
+use Rattle.cell_model.specs.Asks.{allows_reads, asked_as, read, write_asked}
+use Rattle.cell_model.specs.Writes.{announced_image}
 use Rattle.cell_model.specs.Step.{Member, Announced_image, Beacon_image, Stepped, is_ready, leased, told_version}
 use Rattle.ubik_node.specs.declared.state.State.{State}
 use Rattle.ubik_node.specs.State.{server_of}
@@ -13,9 +14,17 @@ by_beacon : (b w a : Bool) (x y z u : Stepped) → b ≡ false → w ≡ false �
 by_beacon b w a x y z u held reads allowed = rw (held, reads, allowed) refl
 
 pub reads_announced : (db : Database) (m : Member) (st : State) (now id : ℕ) (call : List ℕ) (short w : Bool) → leased m (server_of st) now ≡ true → is_ready (server_of st).phase ≡ true → w ≡ false
-    → asked_as db m (server_of st) now id call short (Some w) ≡ read db (server_of st) now id call st.image (Announced_image (told_version (server_of st).phase st.version)) short
+    → asked_as db m (server_of st) now id call short (Some w) ≡ read db (server_of st) now id call (announced_image (server_of st)) (Announced_image (told_version (server_of st).phase st.version)) short
 reads_announced db m st now id call short w held ready reads = by_lease _ _ _ _ _ _ _ held ready reads
 
 pub reads_own : (db : Database) (m : Member) (st : State) (now id : ℕ) (call : List ℕ) (short w : Bool) → leased m (server_of st) now ≡ false → w ≡ false → allows_reads st.version now (server_of st).beacon ≡ true
     → asked_as db m (server_of st) now id call short (Some w) ≡ read db (server_of st) now id call st.image (Beacon_image st.version) short
 reads_own db m st now id call short w held reads allowed = by_beacon _ _ _ _ _ _ _ held reads allowed
+
+by_turn : (b r w : Bool) (x y z u : Stepped) → b ≡ true → r ≡ true → w ≡ true → cond b (cond r (cond w x y) z) u ≡ x
+by_turn b r w x y z u held ready writes = rw (held, ready, writes) refl
+
+-- a call that writes waits, or has its turn
+pub waits_or_writes : (db : Database) (m : Member) (st : State) (now id : ℕ) (call : List ℕ) (short w : Bool) → leased m (server_of st) now ≡ true → is_ready (server_of st).phase ≡ true → w ≡ true
+    → asked_as db m (server_of st) now id call short (Some w) ≡ write_asked db m (server_of st) now id call short (server_of st).flight
+waits_or_writes db m st now id call short w held ready writes = by_turn _ _ _ _ _ _ _ held ready writes

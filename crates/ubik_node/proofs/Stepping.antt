@@ -30,7 +30,7 @@ use Rattle.ubik_node.specs.Disk.{FailsIn, Serves}
 use Rattle.ubik_node.specs.Node.{IsMeantIn, Makes, Needs, NeedsFiles, Steps, durable_in}
 use Rattle.ubik_node.specs.Beacons.{alone}
 use Rattle.ubik_node.specs.Serving.{Answers, Reads, Writes}
-use Rattle.ubik_node.specs.State.{Shows, member_of, server_of}
+use Rattle.ubik_node.specs.State.{ShowsBehind, member_of, server_of}
 use Rattle.ubik_node.specs.Verdict.{Leads}
 use Rattle.ubik_node.proofs.Alone.{is_alone}
 use Rattle.ubik_node.proofs.Rested.{step_rests}
@@ -53,7 +53,7 @@ led_at t s after out put made Did is same leads did =
       disk = subst Did (sym leads.calls) did;
     }
 
-shown : (t : Stepped) (after : model.Server) (out : List Output) (Did : List Made → Type 0) → Shows t after out → Did [] → Makes t (model.Up after) out Did
+shown : (t : Stepped) (after : model.Server) (out : List Output) (Did : List Made → Type 0) → ShowsBehind t after [] out → Did [] → Makes t (model.Up after) out Did
 shown t after out Did shows none =
     record {
       server = ap model.Up (sym shows.server);
@@ -70,7 +70,7 @@ rested db st mid now e short after out Did rests member made =
     subst T (sym (step_rests db (member_of st) (server_of st) (server_of mid) now e short rests)) (subst P member made)
 
 pub beacon_step : (db : Database) (st mid : State) (last : model.Server) (now : ℕ) (out : List Output) (Did : List Made → Type 0) → Did [] → lapsed (member_of st) (server_of st) now ≡ quiet (server_of mid)
-    → member_of mid ≡ member_of st → Shows (beacon_turn (member_of mid) (server_of mid) now) last out
+    → member_of mid ≡ member_of st → ShowsBehind (beacon_turn (member_of mid) (server_of mid) now) last [] out
     → Makes (step_of db (member_of st) (server_of st) now event.BeaconTurn []) (model.Up last) out Did
 beacon_step db st mid last now out Did none rests member shows =
     rested db st mid now event.BeaconTurn [] (model.Up last) out Did rests member (shown (beacon_turn (member_of mid) (server_of mid) now) last out Did shows none)

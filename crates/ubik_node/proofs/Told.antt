@@ -17,9 +17,9 @@ use Rattle.cell_model.specs.Step.{Member, outputs_of, quiet, sends_to, showing}
 use Rattle.ubik_recovery.specs.Record.{RecoveryRecord, best_of, host_of, phase_record, polled_of, record_in, spread_of}
 use Rattle.ubik_node.specs.Spreading.{IsSpreading, answer_heard}
 
-pub sent_as : (m : Member) (host : Host) (first last : List Output) (b c : Body) → last ≡ first ++ outputs_of (sends_to m host b) → first ≡ [] → b ≡ c → last ≡ [] ++ outputs_of (sends_to m host c)
-sent_as m host first last b c sent empty same =
-    sent ∙ ap (λ (o : List Output). o ++ outputs_of (sends_to m host b)) empty ∙ ap (λ (x : Body). outputs_of (sends_to m host x)) same
+pub sent_as : (m : Member) (host : Host) (first last : List Output) (b c : Body) → last ≡ first ++ outputs_of (sends_to m host b) → b ≡ c → last ≡ first ++ outputs_of (sends_to m host c)
+sent_as m host first last b c sent same =
+    sent ∙ ap (λ (x : Body). first ++ outputs_of (sends_to m host x)) same
 
 module _ (m : Member) (s : Server) (host : Host) where
   pub piece_not : (poll : ℕ) (version : Version) (at : ℕ) → (version_eq s.version version && (at == 0 || nat_lt at (length s.image))) ≡ false

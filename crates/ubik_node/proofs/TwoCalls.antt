@@ -220,6 +220,7 @@ module _ {D : Type 0} (g : Ghosts D) (n : Held D) (was : IsKept g n) (up : n.hal
             (leaves_one g n.store mid (durable_in n.server) changes v image first (was.image up) (was.version up) leads same cuts durably) durably.few);
         short = one.short;
         state = one.state;
+        keeps = one.keeps;
         stored = one.stored;
         halts = one.halts;
         told = one.told;
@@ -286,7 +287,8 @@ module _ {D : Type 0} (g : Ghosts D) (n : Held D) (was : IsKept g n) (up : n.hal
           (subst (λ (e : Durable). FailsIn g e mid.disk later.disk (second ∷ [])) (sym same)
           (fails_one g mid later (durable v image) [] w image second ready there done.version refl next (λ _. tt) none durably_too)));
       short = λ other. absurd (other refl);
-      state = refl;
+      state = λ other. refl;
+      keeps = λ failed. refl;
       stored = λ fine. absurd (fine refl);
       halts = λ _. record { sound = sound_later; failed = ends.failed };
       told = λ fine. absurd (fine refl);

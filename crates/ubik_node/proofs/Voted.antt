@@ -10,10 +10,6 @@ use Rattle.cell_model.specs.NodeRule.{place_of, received_packet, received_from}
 use Rattle.cell_model.specs.Node as model
 use Rattle.cell_model.specs.Step.{Member, Stepped, quiet}
 use Rattle.ubik_node.specs.Node.{Ends, Held, NeedsFiles}
-use Rattle.ubik_node.specs.State.{Shows, ShowsBehind}
-
-pub behind : (t : Stepped) (after : model.Server) (out : List Output) → Shows t after out → ShowsBehind t after [] out
-behind t after out shows = record { server = shows.server; calls = shows.calls; outputs = shows.outputs }
 
 module _ {D : Type 0} (g : Ghosts D) (db : Database) (m : Member) (s : model.Server) (now : ℕ) (p : Packet) (short : List Bool) (tells : Type 0) {before after : List Output} {n k : Held D} {r : Result (Unit {0}) StoreFault} where
   -- a packet of a server of the cell, of this kind

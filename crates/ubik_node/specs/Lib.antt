@@ -7,6 +7,7 @@ pub mod Disk
 pub mod Evaluation
 pub mod Held
 pub mod Keeping
+pub mod Lapsing
 pub mod Node
 pub mod Receiving
 pub mod Recovering
@@ -16,3 +17,4 @@ pub mod State
 pub mod Steady
 pub mod StoreImages
 pub mod Verdict
+pub mod Writing

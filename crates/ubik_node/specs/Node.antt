@@ -20,6 +20,7 @@ use Rattle.cell_model.specs.Durable.{Durable, Made, durable}
 use Rattle.cell_model.specs.Node as model
 use Rattle.cell_model.specs.NodeRule.{step_of, refusals}
 use Rattle.cell_model.specs.Step.{Member, Stepped, cell_size, outputs_of}
+use Rattle.cell_model.specs.Writes.{announced_image}
 use Rattle.ubik_node.specs.declared.nodes.Node.{Node}
 use Rattle.ubik_node.specs.declared.nodes.StepEnd.{StepEnd}
 use Rattle.ubik_node.specs.declared.nodes.StepEnd.TheVariants.{Done, Halted, NoMemory}
@@ -97,23 +98,29 @@ Steps g db m NoMemory event now _ after outputs old new = ⊥
 abbrev pub IsMeantIn : Standing → Option Files → (image : List ℕ) → Type 0
 IsMeantIn d files image = IsSome files × (s : d.State) × d.StandsFor image s
 
--- a packet that may be answered from the image, or changes it, needs a disk that tells its files
-abbrev pub NeedsFiles : Body → Type 0 → Type 0
-NeedsFiles (body.Beacon start claim ready version) tells = Unit {0}
-NeedsFiles (body.Vote start granted) tells = Unit {0}
-NeedsFiles (body.GetVersion poll) tells = Unit {0}
-NeedsFiles (body.SetVersion poll old new) tells = Unit {0}
-NeedsFiles (body.VersionKept version) tells = Unit {0}
-NeedsFiles (body.Begin old new pieces len) tells = Unit {0}
-NeedsFiles (body.PutPiece new number bytes) tells = Unit {0}
-NeedsFiles (body.Abort new) tells = Unit {0}
-NeedsFiles _ tells = tells
+-- so of the image before the write in flight too
+abbrev pub AreMeantIn : Standing → Option Files → model.Server → Type 0
+AreMeantIn d files s = IsMeantIn d files s.image × IsMeantIn d files (announced_image s)
 
--- What an event needs to be handled as the rules have it. A call at a server that is up needs its image, and what is sent of an image to
+-- A packet that may be answered from the image, or changes it, needs a disk that tells its files. One that may make a holder needs more: calls
+-- that wait may then have their turns, for which the image has to stand for a state.
+abbrev pub NeedsFiles : Body → (tells meant : Type 0) → Type 0
+NeedsFiles (body.Beacon start claim ready version) tells meant = Unit {0}
+NeedsFiles (body.Vote start granted) tells meant = Unit {0}
+NeedsFiles (body.GetVersion poll) tells meant = Unit {0}
+NeedsFiles (body.SetVersion poll old new) tells meant = Unit {0}
+NeedsFiles (body.VersionKept version) tells meant = meant
+NeedsFiles (body.VersionIs poll version) tells meant = meant
+NeedsFiles (body.Begin old new pieces len) tells meant = Unit {0}
+NeedsFiles (body.PutPiece new number bytes) tells meant = Unit {0}
+NeedsFiles (body.Abort new) tells meant = Unit {0}
+NeedsFiles _ tells meant = tells
+
+-- What an event needs to be handled as the rules have it. A call at a server that is up needs its image and the announced one, and what is sent of an image to
 -- another server, or taken over, needs a disk that tells its files.
 abbrev pub Needs : Standing → Member → model.Node → NodeEvent → Option Files → Type 0
-Needs d m (model.Up s) (events.Ask id call) files = IsMeantIn d files s.image
-Needs d m (model.Up s) (events.Packet p) files = NeedsFiles p.body (IsSome files)
+Needs d m (model.Up s) (events.Ask id call) files = AreMeantIn d files s
+Needs d m (model.Up s) (events.Packet p) files = NeedsFiles p.body (IsSome files) (IsMeantIn d files s.image)
 Needs d m (model.Up s) events.RecoverTurn files = 1 < cell_size m → IsSome files
 Needs d m before event files = Unit {0}
 
@@ -149,12 +156,14 @@ pub record IsMade {D : Type 0} (g : Ghosts D) (t : Stepped) (before after : List
   pub disk : Serves g (durable_in old.server) old.store.disk new.store.disk t.calls
 
 -- How a rule ended at a node that is not halted. It was made, as far as the disk tells what that needs; or the disk failed in it; or memory
--- ran out, and nothing changed. Where it was not made the server is as before, and what was put out counts for nothing.
+-- ran out, and nothing changed. Where the disk failed the server keeps what a halted one tells. Where a rule was not made, what was put out
+-- counts for nothing.
 pub record Ends {D : Type 0} (g : Ghosts D) (knows : Type 0) (t : Stepped) (before after : List Output) (old new : Held D) (r : Result (Unit {0}) StoreFault) : Type 0 where
   pub made : knows → OnOk r (IsMade g t before after old new)
   pub failed : IsErrOf r fault.DiskFault → FailsIn g (durable_in old.server) old.store.disk new.store.disk t.calls
   pub short : IfErr r (λ why. why ≢ fault.DiskFault → (why ≡ fault.NoMemory) × OnlyReads g old.store.disk new.store.disk ⊥)
-  pub state : OnErr r (new.server ≡ old.server)
+  pub state : IfErr r (λ why. why ≢ fault.DiskFault → new.server ≡ old.server)
+  pub keeps : IsErrOf r fault.DiskFault → model.halted_from new.server ≡ model.halted_from old.server
   pub stored : ¬ IsErrOf r fault.DiskFault → IsKept g new
   pub halts : IsErrOf r fault.DiskFault → HasFailedStore g new.store
   pub told : ¬ IsErrOf r fault.DiskFault → IsSome (g.files old.store.disk) → IsSome (g.files new.store.disk)
@@ -163,8 +172,14 @@ pub record Ends {D : Type 0} (g : Ghosts D) (knows : Type 0) (t : Stepped) (befo
   pub last : new.last ≡ old.last
   pub member : new.member ≡ old.member
 
--- How a step is closed by the end of its rule. Where the rule was not made the server is the one before the step, and nothing is put out.
-abbrev pub Closes : {D : Type 0} → Result (Unit {0}) StoreFault → (back : model.Server) → (old new : Held D) → (before after : List Output) → StepEnd → Type 0
-Closes (Ok done) back old new before after end = (end ≡ Done) × (new ≡ old) × (after ≡ before)
-Closes (Err fault.DiskFault) back old new before after end = (end ≡ Halted) × (new ≡ record old { server = back; halted = true }) × (after ≡ [])
-Closes (Err _) back old new before after end = (end ≡ NoMemory) × (new ≡ record old { server = back }) × (after ≡ [])
+-- how a rule ended, whichever of its replies were for want of memory
+abbrev pub EndsSo : {D : Type 0} → Ghosts D → (knows : Type 0) → (List Bool → Stepped) → (before after : List Output) → (old new : Held D) → Result (Unit {0}) StoreFault → Type 0
+EndsSo g knows t before after old new r = (short : List Bool) × Ends g knows (t short) before after old new r
+
+-- How a step is closed by the end of its rule. Where the rule was not made, what the lapse gave out comes back, and nothing is put out.
+abbrev pub Closes : {D : Type 0} → Result (Unit {0}) StoreFault → NodeEvent → (back : model.Server) → (old new : Held D) → (before after : List Output) → StepEnd → Type 0
+Closes (Ok done) event back old new before after end = (end ≡ Done) × (new ≡ old) × (after ≡ before)
+Closes (Err fault.DiskFault) event back old new before after end =
+    (end ≡ Halted) × ((s : model.Server) × (new ≡ record old { server = s; halted = true }) × (model.halted_from s ≡ model.halted_from back))
+    × (after ≡ outputs_of (refusals event))
+Closes (Err _) event back old new before after end = (end ≡ NoMemory) × (new ≡ record old { server = back }) × (after ≡ [])

@@ -1,42 +1,46 @@
 -- What becomes of a call.
-use Rattle.std.specs.Prelude.{◌≡◌, ℕ, Bool, List, [], ◌∷◌}
-use Rattle.ubik_types.specs.declared.hosts.Host.{Host}
+use Rattle.std.specs.Prelude.{◌≡◌, ℕ, Bool, List, [], ◌∷◌, IfSome, Result, Ok, Err}
+use Rattle.disk_base.specs.declared.disks.Disk.{Ghosts}
 use Rattle.ubik_calls.specs.declared.replies.Reply.{Reply}
+use Rattle.ubik_calls.specs.declared.replies.Reply.TheVariants as reply
+use Rattle.ubik_store.specs.declared.faults.StoreFault.{StoreFault}
 use Rattle.db_image.specs.Database.{Database}
+use Rattle.db_image.specs.Standing.{Standing}
 use Rattle.cell_model.specs.declared.events.Output.{Output}
 use Rattle.cell_model.specs.declared.events.Output.TheVariants as output
-use Rattle.cell_model.specs.Asks.{asked, read}
-use Rattle.cell_model.specs.Durable.{Made}
+use Rattle.cell_model.specs.Asks.{put_into_line, read, read_reply}
 use Rattle.cell_model.specs.Node.{Server}
-use Rattle.cell_model.specs.Node as model
-use Rattle.cell_model.specs.Step.{Member, Basis, Stepped, showing, refusing}
-use Rattle.cell_model.specs.Writes.{write_turn}
+use Rattle.cell_model.specs.Step.{Basis, Evaluation, Member, Stepped, is_short, refusing, showing}
+use Rattle.cell_model.specs.Writes.{announced_image, write_turn}
+use Rattle.ubik_node.specs.declared.evaluations.Evaluation as code
 use Rattle.ubik_node.specs.declared.serving.Turn.{Turn}
 use Rattle.ubik_node.specs.declared.serving.Turn.TheVariants as turn
-use Rattle.ubik_node.specs.Node.{Makes}
-use Rattle.ubik_node.specs.Beacons.{alone}
-use Rattle.ubik_node.specs.Verdict.{Leads}
+use Rattle.ubik_node.specs.Node.{Ends, Held, IsMeantIn}
 
 -- what a call leads to
 abbrev pub TurnsTo : Database → Member → Server → ℕ → ℕ → List ℕ → Bool → Turn → Stepped → Type 0
 TurnsTo db m s now id call short (turn.Refuse r) t = t ≡ showing s (refusing id r ∷ [])
-TurnsTo db m s now id call short turn.Read t = (basis : Basis) × (t ≡ read db s now id call s.image basis short)
+TurnsTo db m s now id call short turn.Read t = (basis : Basis) × (t ≡ read db s now id call (announced_image s) basis short)
+TurnsTo db m s now id call short turn.ReadOwn t = (basis : Basis) × (t ≡ read db s now id call s.image basis short)
+TurnsTo db m s now id call short turn.Wait t = IfSome s.flight (λ f. t ≡ put_into_line s id call short f)
 TurnsTo db m s now id call short turn.Write t = t ≡ write_turn db m s now id call short
 
+abbrev pub IsWait : Turn → Type 0
+IsWait turn.Wait = Unit {0}
+IsWait _ = ⊥
+
 abbrev pub IsWrite : Turn → Type 0
-IsWrite (turn.Refuse r) = ⊥
-IsWrite turn.Read = ⊥
 IsWrite turn.Write = Unit {0}
+IsWrite _ = ⊥
 
--- A call at a server was made, or it found no memory. Which is free.
-abbrev pub Answers : Database → Member → Server → ℕ → ℕ → List ℕ → model.Node → List Output → (List Made → Type 0) → Type 0
-Answers db m s now id call after out Did = (short : Bool) × Makes (asked db m s now id call short) after out Did
+-- a call that reads an image was answered, or found no memory; or the disk failed in it
+abbrev pub ReadsFrom : {D : Type 0} → Ghosts D → Standing → (old new : Held D) → (image : List ℕ) → (now id : ℕ) → List ℕ → (before after : List Output)
+    → Result (Unit {0}) StoreFault → Type 0
+ReadsFrom g d old new image now id call before after r =
+    (short : List Bool) × ((basis : Basis) → Ends g (IsMeantIn d (g.files old.store.disk) image) (read d.database old.server now id call image basis (is_short short))
+    before after old new r)
 
--- the reply to a call that reads the own image
-abbrev pub Reads : Database → Server → ℕ → List ℕ → Reply → Type 0
-Reads db s now call r =
-    (short : Bool) × ((id : ℕ) (basis : Basis) → Leads (read db s now id call s.image basis short) s (output.Reply id r ∷ []) [])
-
--- a writing call at a server that is alone in its cell was made, or it found no memory
-abbrev pub Writes : Database → Host → Server → ℕ → ℕ → List ℕ → model.Node → List Output → (List Made → Type 0) → Type 0
-Writes db h s now id call after out Did = (short : Bool) × Makes (write_turn db (alone h) s now id call short) after out Did
+-- the reply to a call that reads, given what the database made of it
+abbrev pub IsReadReply : Result code.Evaluation StoreFault → Reply → Type 0
+IsReadReply (Ok made) r = (id : ℕ) (e : Evaluation) → (read_reply id e made.reply).output ≡ output.Reply id r
+IsReadReply (Err why) r = r ≡ reply.NoMemory

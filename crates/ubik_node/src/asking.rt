@@ -1,14 +1,16 @@
-//! Calls that a server is asked: they are read, written or refused.
-ghost use Rattle.std.specs.Prelude.{◌≡◌, ◌≢◌, ◌↔◌, ◌<◌, ℕ, List, [], ◌∷◌, length, IfErr, IsErrOf, IsSome, OnOk, OnErr, Some, true, false};
-ghost use Rattle.ubik_types.specs.declared.hosts.Host.{Host};
-ghost use Rattle.disk_base.specs.Runs.{OnlyReads};
-ghost use Rattle.cell_model.specs.Node as model;
+//! Calls that a server is asked: they are read, written, put into the line of those that wait, or refused.
+ghost use Rattle.std.specs.Prelude.{◌≡◌, ◌<◌, ◌≤◌, ◌+◌, ◌++◌, ◌∷◌, ◌⊎◌, ◌↔◌, ℕ, List, None, [], false, true, length, take, IsErrOf, IsOk, IsSome, OnErr, OnOk};
+ghost use Rattle.ubik_types.specs.declared.versions.TheConstants.{MAX_COUNTER};
 ghost use Rattle.cell_model.specs.declared.events.Output.TheVariants as outputs;
+ghost use Rattle.ubik_node.specs.Recovering.{IsServing};
+ghost use Rattle.ubik_node.specs.Serving.{IsReadReply};
+ghost use Rattle.ubik_calls.specs.declared.replies.Reply.{Reply};
+ghost use Rattle.ubik_node.specs.Writing.{own_of, waiting_of};
 
 use crate::database::commit_all;
-use crate::evaluations::evaluate;
+use crate::evaluations::{Evaluation, evaluate, evaluate_before};
 use crate::held_images::HeldImage;
-use crate::nodes::{Node, StepEnd};
+use crate::nodes::Node;
 use crate::outputs::Outputs;
 use crate::serving::{Turn, reply_of, turn_of};
 use crate::steady_disks::SteadyDisk;
@@ -17,140 +19,152 @@ use cell_model::Output;
 use db_image::DraftService;
 use ubik_calls::Reply;
 use ubik_store::StoreFault;
-use ubik_types::{Bytes, Changes, MAX_COUNTER, Phase, Version};
+use ubik_types::{Bytes, Changes, Version};
 
 impl<D: SteadyDisk, V: DraftService> Node<D, V> {
     ghost use Rattle.cell_model.specs.Asks.{asked};
-    ghost use Rattle.cell_model.specs.Durable.{Made, Transaction};
-    ghost use Rattle.cell_model.specs.Writes.{write_turn, next_version, own_commit};
-    ghost use Rattle.ubik_node.specs.Beacons.{alone};
-    ghost use Rattle.ubik_node.specs.Disk.{FailsIn, Serves};
-    ghost use Rattle.ubik_node.specs.Verdict.{IsWritten, committed};
-    ghost use Rattle.ubik_node.specs.Serving.{Answers, Reads, Writes};
-    ghost use Rattle.ubik_node.specs.Recovering.{IsServing};
-    ghost use Rattle.ubik_node.specs.Node.{Calls, CallsSo, IsMeantIn, IsStored, IsStoredBut, durable_in, node_of, own_member, up_server};
+    ghost use Rattle.cell_model.specs.Step.{is_short};
+    ghost use Rattle.cell_model.specs.Writes.{announced_image, is_free, next_version, write_turn, written_in};
+    ghost use Rattle.ubik_node.specs.Node.{AreMeantIn, Ends, EndsSo, held, IsMeantIn, IsStored, own_member, up_server};
+    ghost use Rattle.ubik_node.specs.Serving.{ReadsFrom};
+    ghost use Rattle.ubik_node.specs.Verdict.{IsWritten};
 
-    /// A call at a server that is not halted, after the lapse.
-    pub(crate) fn ask(&mut self, now: u32, id: u32, call: &[u8], out: &mut Outputs) -> StepEnd
-        requires built { V.standing.database.writes call.now ≡ Some true → IsServing self.old.state.recovery → length self.old.state.cell ≡ 1 }
+    /// A call at a server that is not halted, after the lapse. Want of memory is a reply to it.
+    pub(crate) fn ask(
+        &mut self,
+        now: u32,
+        id: u32,
+        call: &[u8],
+        out: &mut Outputs,
+    ) -> Result<(), StoreFault>
         requires not_halted { self.old.halted ≡ false }
-        requires empty { out.old ≡ [] }
         requires stored { IsStored D.Disk self.old }
-        ensures done { result ≡ StepEnd.Done → IsMeantIn V.standing (D.files self.old.store.disk) self.old.state.image
-            → Answers V.standing.database (own_member self.old) (up_server self.old) now id call.now
-            (node_of self.new) out.new (Serves D.Disk (durable_in (up_server self.old)) self.old.store.disk self.new.store.disk) }
-        ensures halted { result ≡ StepEnd.Halted → (self.new.halted ≡ true) × (self.new.state ≡ self.old.state)
-            × (out.new ≡ outputs.Reply id Reply.DiskFault ∷ []) }
-        ensures left { result ≡ StepEnd.Halted → IsMeantIn V.standing (D.files self.old.store.disk) self.old.state.image
-            → FailsIn D.Disk (durable_in (up_server self.old)) self.old.store.disk self.new.store.disk
-            (asked V.standing.database (own_member self.old) (up_server self.old) now id call.now false).calls }
-        ensures memory { result ≢ StepEnd.NoMemory }
-        ensures halts { (result ≡ StepEnd.Halted) ↔ (self.new.halted ≡ true) }
-        ensures member { own_member self.new ≡ own_member self.old }
-        ensures stored { IsStored D.Disk self.new }
-        ensures told { result ≢ StepEnd.Halted → IsSome (D.files self.old.store.disk) → IsSome (D.files self.new.store.disk) }
-        ensures calls { Calls D.Disk self.old self.new result }
-        ensures last { self.new.last ≡ self.old.last }
+        requires few { length out.old ≤ 100 }
+        ensures ends { EndsSo D.Disk (AreMeantIn V.standing (D.files self.old.store.disk) (up_server self.old))
+            (λ short. asked V.standing.database (own_member self.old) (up_server self.old) now id call.now (is_short short))
+            out.old out.new (held self.old) (held self.new) result }
+        ensures memory { IsErrOf result StoreFault.DiskFault ⊎ IsOk result }
     {
         let Some(writes) = V::writes(call) else {
-            return put_reply(out, id, Reply::Malformed);
+            put_reply(out, id, Reply::Malformed);
+            return Ok(());
         };
         match turn_of(&self.state, now, writes) {
-            Turn::Refuse(reply) => put_reply(out, id, reply),
+            Turn::Refuse(reply) => {
+                put_reply(out, id, reply);
+                Ok(())
+            }
             Turn::Read => self.read(now, id, call, out),
-            Turn::Write => self.write(now, id, call, out),
+            Turn::ReadOwn => self.read_own(now, id, call, out),
+            Turn::Wait => {
+                self.state.put_in_line(id, call, out);
+                Ok(())
+            }
+            Turn::Write => self.write_turn(now, id, call, out),
         }
+    }
+
+    /// Replies to a call that reads the announced image: during a write in flight the one before it.
+    fn read(&mut self, now: u32, id: u32, call: &[u8], out: &mut Outputs) -> Result<(), StoreFault>
+        requires not_halted { self.old.halted ≡ false }
+        requires stored { IsStored D.Disk self.old }
+        requires few { length out.old ≤ 100 }
+        ensures ends { ReadsFrom D.Disk V.standing (held self.old) (held self.new) (announced_image (up_server self.old)) now id call.now out.old out.new result }
+        ensures memory { IsErrOf result StoreFault.DiskFault ⊎ IsOk result }
+    {
+        let Some(write) = self.state.in_flight() else {
+            return self.read_own(now, id, call, out);
+        };
+        let made = evaluate_before::<D, V>(self.alloc, &mut self.store, write.flight(), now, call);
+        answer_read(id, made, out)
     }
 
     /// Replies to a call that reads the own image.
-    fn read(&mut self, now: u32, id: u32, call: &[u8], out: &mut Outputs) -> StepEnd
+    fn read_own(
+        &mut self,
+        now: u32,
+        id: u32,
+        call: &[u8],
+        out: &mut Outputs,
+    ) -> Result<(), StoreFault>
         requires not_halted { self.old.halted ≡ false }
-        requires empty { out.old ≡ [] }
         requires stored { IsStored D.Disk self.old }
-        ensures done { result ≡ StepEnd.Done → (node_of self.new ≡ model.Up (up_server self.old))
-            × Serves D.Disk (durable_in (up_server self.old)) self.old.store.disk self.new.store.disk [] }
-        ensures replied { result ≡ StepEnd.Done → IsMeantIn V.standing (D.files self.old.store.disk) self.old.state.image
-            → (reply : Reply) × (out.new ≡ outputs.Reply id reply ∷ []) × Reads V.standing.database (up_server self.old) now call.now reply }
-        ensures halted { result ≡ StepEnd.Halted → (self.new.halted ≡ true) × (self.new.state ≡ self.old.state)
-            × (out.new ≡ outputs.Reply id Reply.DiskFault ∷ []) }
-        ensures left { result ≡ StepEnd.Halted → (calls : List Made) → FailsIn D.Disk (durable_in (up_server self.old))
-            self.old.store.disk self.new.store.disk calls }
-        ensures memory { result ≢ StepEnd.NoMemory }
-        ensures halts { (result ≡ StepEnd.Halted) ↔ (self.new.halted ≡ true) }
-        ensures member { own_member self.new ≡ own_member self.old }
-        ensures stored { IsStored D.Disk self.new }
-        ensures told { result ≢ StepEnd.Halted → IsSome (D.files self.old.store.disk) → IsSome (D.files self.new.store.disk) }
-        ensures calls { Calls D.Disk self.old self.new result }
-        ensures last { self.new.last ≡ self.old.last }
+        requires few { length out.old ≤ 100 }
+        ensures ends { ReadsFrom D.Disk V.standing (held self.old) (held self.new) self.old.state.image now id call.now out.old out.new result }
+        ensures memory { IsErrOf result StoreFault.DiskFault ⊎ IsOk result }
     {
-        match evaluate::<D, V>(self.alloc, &mut self.store, now, call) {
-            Ok(made) => put_reply(out, id, reply_of(made.reply)),
-            Err(fault) => self.end_short(id, fault, out),
+        let made = evaluate::<D, V>(self.alloc, &mut self.store, now, call);
+        answer_read(id, made, out)
+    }
+
+    /// The turn of a writing call, where no write is in flight. Want of memory is a reply to it, and then all is as before.
+    pub(crate) fn write_turn(
+        &mut self,
+        now: u32,
+        id: u32,
+        call: &[u8],
+        out: &mut Outputs,
+    ) -> Result<(), StoreFault>
+        requires not_halted { self.old.halted ≡ false }
+        requires stored { IsStored D.Disk self.old }
+        requires serving { IsServing self.old.state.recovery }
+        requires free { own_of self.old.state.writes ≡ None }
+        requires few { length out.old + length (waiting_of self.old.state.writes) ≤ 180 }
+        ensures ends { EndsSo D.Disk (IsMeantIn V.standing (D.files self.old.store.disk) self.old.state.image)
+            (λ short. write_turn V.standing.database (own_member self.old) (up_server self.old) now id call.now (is_short short))
+            out.old out.new (held self.old) (held self.new) result }
+        ensures line { length (waiting_of self.new.state.writes) ≤ length (waiting_of self.old.state.writes) }
+        ensures few { 1 < length self.old.state.cell → is_free (up_server self.new) ≡ true → length out.new ≤ length out.old + 1 }
+        ensures memory { IsErrOf result StoreFault.DiskFault ⊎ IsOk result }
+    {
+        let before = out.len();
+        match self.make_write(now, id, call, out) {
+            Ok(()) => Ok(()),
+            Err(StoreFault::DiskFault) => Err(StoreFault::DiskFault),
+            Err(_) => {
+                out.cut(before);
+                put_reply(out, id, Reply::NoMemory);
+                Ok(())
+            }
         }
     }
 
-    /// The turn of a writing call at a server that serves, which is alone in its cell.
-    fn write(&mut self, now: u32, id: u32, call: &[u8], out: &mut Outputs) -> StepEnd
+    /// A writing call at its turn is evaluated, and then replied to or made. Where memory runs out all is as before, but that some packets may
+    /// stand behind the other outputs.
+    fn make_write(
+        &mut self,
+        now: u32,
+        id: u32,
+        call: &[u8],
+        out: &mut Outputs,
+    ) -> Result<(), StoreFault>
         requires not_halted { self.old.halted ≡ false }
-        requires empty { out.old ≡ [] }
-        requires serving { IsServing self.old.state.recovery }
-        requires alone { length self.old.state.cell ≡ 1 }
         requires stored { IsStored D.Disk self.old }
-        ensures done { result ≡ StepEnd.Done → IsMeantIn V.standing (D.files self.old.store.disk) self.old.state.image
-            → (h : Host) → Writes V.standing.database h (up_server self.old) now id call.now
-            (node_of self.new) out.new (Serves D.Disk (durable_in (up_server self.old)) self.old.store.disk self.new.store.disk) }
-        ensures halted { result ≡ StepEnd.Halted → (self.new.halted ≡ true) × (self.new.state ≡ self.old.state)
-            × (out.new ≡ outputs.Reply id Reply.DiskFault ∷ []) }
-        ensures left { result ≡ StepEnd.Halted → IsMeantIn V.standing (D.files self.old.store.disk) self.old.state.image
-            → (h : Host) → FailsIn D.Disk (durable_in (up_server self.old)) self.old.store.disk self.new.store.disk
-            (write_turn V.standing.database (alone h) (up_server self.old) now id call.now false).calls }
-        ensures memory { result ≢ StepEnd.NoMemory }
-        ensures halts { (result ≡ StepEnd.Halted) ↔ (self.new.halted ≡ true) }
-        ensures member { own_member self.new ≡ own_member self.old }
-        ensures stored { IsStored D.Disk self.new }
-        ensures told { result ≢ StepEnd.Halted → IsSome (D.files self.old.store.disk) → IsSome (D.files self.new.store.disk) }
-        ensures calls { Calls D.Disk self.old self.new result }
-        ensures last { self.new.last ≡ self.old.last }
+        requires serving { IsServing self.old.state.recovery }
+        requires free { own_of self.old.state.writes ≡ None }
+        requires few { length out.old + length (waiting_of self.old.state.writes) ≤ 180 }
+        ensures ends { Ends D.Disk (IsMeantIn V.standing (D.files self.old.store.disk) self.old.state.image)
+            (write_turn V.standing.database (own_member self.old) (up_server self.old) now id call.now false)
+            out.old out.new (held self.old) (held self.new) result }
+        ensures front { OnErr result (take (length out.old) out.new ≡ out.old) }
+        ensures line { length (waiting_of self.new.state.writes) ≤ length (waiting_of self.old.state.writes) }
     {
-        let made = match evaluate::<D, V>(self.alloc, &mut self.store, now, call) {
-            Ok(made) => made,
-            Err(fault) => return self.end_short(id, fault, out),
-        };
+        let made = evaluate::<D, V>(self.alloc, &mut self.store, now, call)?;
         match verdict_of::<V>(&self.state, made) {
             Verdict::Reply(reply) => put_reply(out, id, reply),
-            Verdict::NewPoll => {
-                let reply = self.state.no_quorum(now, Phase::Poll);
-                self.state.begin_poll(now);
-                put_reply(out, id, reply)
+            Verdict::NewPoll => self.state.last_counter(now, id, out),
+            Verdict::Commit { answer, changes } => {
+                if self.state.cell.len() == 1 {
+                    self.commit(id, answer, &changes, out)?;
+                } else {
+                    self.begin_write(now, id, call, answer, &changes, out)?;
+                }
             }
-            Verdict::Commit { answer, changes } => match self.commit(id, answer, &changes, out) {
-                Ok(()) => StepEnd::Done,
-                Err(fault) => self.end_short(id, fault, out),
-            },
         }
+        Ok(())
     }
 
-    /// Ends a call that was not made: a fault of the disk halts the server, and any other one is want of memory.
-    fn end_short(&mut self, id: u32, fault: StoreFault, out: &mut Outputs) -> StepEnd
-        requires empty { out.old ≡ [] }
-        ensures halted { fault ≡ StoreFault.DiskFault → (result ≡ StepEnd.Halted) × (self.new.halted ≡ true)
-            × (out.new ≡ outputs.Reply id Reply.DiskFault ∷ []) }
-        ensures no_memory { fault ≢ StoreFault.DiskFault → (result ≡ StepEnd.Done) × (self.new.halted ≡ self.old.halted)
-            × (out.new ≡ outputs.Reply id Reply.NoMemory ∷ []) }
-        ensures halts { self.old.halted ≡ false → (result ≡ StepEnd.Halted) ↔ (self.new.halted ≡ true) }
-        ensures same { (self.new.state ≡ self.old.state) × (self.new.store ≡ self.old.store) × (self.new.last ≡ self.old.last) }
-    {
-        match fault {
-            StoreFault::DiskFault => {
-                self.halted = true;
-                let _ = put_reply(out, id, Reply::DiskFault);
-                StepEnd::Halted
-            }
-            _ => put_reply(out, id, Reply::NoMemory),
-        }
-    }
-
-    /// Commits changes under the next counter, announces it, and answers the call.
+    /// Commits changes under the next counter, announces it, and answers the call: a server that is alone in its cell is a majority.
     fn commit(
         &mut self,
         id: u32,
@@ -159,49 +173,64 @@ impl<D: SteadyDisk, V: DraftService> Node<D, V> {
         out: &mut Outputs,
     ) -> Result<(), StoreFault>
         requires not_halted { self.old.halted ≡ false }
-        requires empty { out.old ≡ [] }
+        requires stored { IsStored D.Disk self.old }
+        requires serving { IsServing self.old.state.recovery }
+        requires free { own_of self.old.state.writes ≡ None }
         requires counter { self.old.state.version.counter < MAX_COUNTER }
         requires alone { length self.old.state.cell ≡ 1 }
-        requires stored { IsStored D.Disk self.old }
-        ensures made { OnOk result (IsSome (D.files self.old.store.disk) → (image : List ℕ) → IsWritten self.old.state.image image changes.now
-            → node_of self.new ≡ model.Up (committed (up_server self.old) self.old.state.recovery image)) }
-        ensures put { OnOk result (out.new ≡ outputs.Announce (next_version self.old.state.version) ∷ outputs.Reply id (Reply.Ok answer) ∷ []) }
-        ensures served { OnOk result ((t : Transaction) (image : List ℕ) → IsWritten self.old.state.image image changes.now
-            → Serves D.Disk (durable_in (up_server self.old)) self.old.store.disk self.new.store.disk
-            (own_commit (next_version self.old.state.version) changes.now image t ∷ [])) }
-        ensures stored { ¬ IsErrOf result StoreFault.DiskFault → IsStored D.Disk self.new }
-        ensures failed { IsErrOf result StoreFault.DiskFault → IsStoredBut D.Disk self.new }
-        ensures left { IsErrOf result StoreFault.DiskFault → (t : Transaction) (image : List ℕ) → IsWritten self.old.state.image image changes.now
-            → FailsIn D.Disk (durable_in (up_server self.old)) self.old.store.disk self.new.store.disk
-            (own_commit (next_version self.old.state.version) changes.now image t ∷ []) }
-        ensures member { own_member self.new ≡ own_member self.old }
-        ensures halted { self.new.halted ≡ self.old.halted }
-        ensures same { OnErr result ((self.new.state ≡ self.old.state) × (self.new.halted ≡ self.old.halted) × (out.new ≡ [])) }
-        ensures no_memory { IfErr result (λ fault. fault ≢ StoreFault.DiskFault → OnlyReads D.Disk self.old.store.disk self.new.store.disk ⊥) }
-        ensures told { ¬ IsErrOf result StoreFault.DiskFault → IsSome (D.files self.old.store.disk) → IsSome (D.files self.new.store.disk) }
-        ensures calls { CallsSo D.Disk self.old.store.disk self.new.store.disk (IsErrOf result StoreFault.DiskFault) }
-        ensures last { self.new.last ≡ self.old.last }
+        requires few { length out.old ≤ 180 }
+        ensures ends { (now : ℕ) (call image : List ℕ) → IsWritten self.old.state.image image changes.now
+            → Ends D.Disk (IsSome (D.files self.old.store.disk))
+            (written_in (own_member self.old) (up_server self.old) now id call answer image changes.now (up_server self.old).phase)
+            out.old out.new (held self.old) (held self.new) result }
+        ensures front { OnErr result (take (length out.old) out.new ≡ out.old) }
+        ensures line { length (waiting_of self.new.state.writes) ≤ length (waiting_of self.old.state.writes) }
     {
-        let next = Version {
-            epoch: self.state.version.epoch,
-            counter: self.state.version.counter + 1,
-        };
+        let next = self.next_version();
         commit_all(&mut self.store, changes.as_slice(), next)?;
         let image = HeldImage::of(&self.store);
         self.state.take_commit(next, image);
         out.put(Output::Announce { version: next });
-        let reply = Reply::Ok(answer);
-        out.put(Output::Reply { id, reply });
+        put_reply(out, id, Reply::Ok(answer));
         Ok(())
+    }
+
+    /// The version under the next counter.
+    pub(crate) fn next_version(&self) -> Version
+        requires { self.now.state.version.counter < MAX_COUNTER }
+        ensures { result ≡ next_version self.now.state.version }
+    {
+        Version {
+            epoch: self.state.version.epoch,
+            counter: self.state.version.counter + 1,
+        }
     }
 }
 
-/// Puts a reply out, which ends a step.
-fn put_reply(out: &mut Outputs, id: u32, reply: Reply) -> StepEnd
-    requires { out.old ≡ [] }
-    ensures done { result ≡ StepEnd.Done }
-    ensures out { out.new ≡ outputs.Reply id reply ∷ [] }
+/// Replies to a call that reads, given what the database made of it. A fault of the disk is handed on.
+fn answer_read(
+    id: u32,
+    made: Result<Evaluation, StoreFault>,
+    out: &mut Outputs,
+) -> Result<(), StoreFault>
+    requires few { length out.old ≤ 100 }
+    ensures fault { IsErrOf result StoreFault.DiskFault ↔ IsErrOf made StoreFault.DiskFault }
+    ensures memory { IsErrOf result StoreFault.DiskFault ⊎ IsOk result }
+    ensures out { OnErr result (out.new ≡ out.old) }
+    ensures replied { OnOk result ((reply : Reply) × (out.new ≡ out.old ++ outputs.Reply id reply ∷ []) × IsReadReply made reply) }
+{
+    match made {
+        Ok(made) => put_reply(out, id, reply_of(made.reply)),
+        Err(StoreFault::DiskFault) => return Err(StoreFault::DiskFault),
+        Err(_) => put_reply(out, id, Reply::NoMemory),
+    }
+    Ok(())
+}
+
+/// Puts a reply out.
+fn put_reply(out: &mut Outputs, id: u32, reply: Reply)
+    requires { length out.old < 200 }
+    ensures { out.new ≡ out.old ++ outputs.Reply id reply ∷ [] }
 {
     out.put(Output::Reply { id, reply });
-    StepEnd::Done
 }

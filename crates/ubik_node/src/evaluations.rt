@@ -1,16 +1,20 @@
-//! What a database makes of a call over the image of a store.
-ghost use Rattle.std.specs.Prelude.{◌≡◌, ◌<◌, ◌⊎◌, false, IfOk, IfErr, IfSome, IsErrOf};
+//! What a database makes of a call over the image of a store, or over the one before the write in flight.
+ghost use Rattle.std.specs.Prelude.{◌≡◌, ◌<◌, ◌≤◌, ◌⊎◌, false, IfOk, IfErr, IfSome, IsErrOf};
+ghost use Rattle.std.specs.Option.{option_map};
 ghost use Rattle.disk_base.specs.Runs.{OnlyReads};
+ghost use Rattle.db_image.specs.Images as images;
+ghost use Rattle.ubik_write.specs.Undo.{image_before};
 ghost use Rattle.ubik_store.specs.DurableCall.{HasFailed};
 ghost use Rattle.ubik_store.specs.Store.{IsSound, StaysAsItWas, image_in};
 ghost use Rattle.ubik_node.specs.Evaluation.{IsMadeOf};
 
 use crate::steady_disks::SteadyDisk;
 use crate::store_images::StoreImage;
-use db_image::{CallEnd, CallReply, DraftService};
+use db_image::{CallEnd, CallReply, DraftService, ImageRead};
 use std::alloc::Global;
 use ubik_store::{Store, StoreFault};
-use ubik_types::Changes;
+use ubik_types::{Changes, NoMemory};
+use ubik_write::{BeforeImage, Flight};
 
 /// What a database makes of a call: its reply, the changes that lead to the image after it, and the length of the image before it.
 #[derive(Drop)]
@@ -20,8 +24,40 @@ pub struct Evaluation {
     pub len: u32,
 }
 
-/// Makes a call at a moment over the image of a store, of which it reads what it needs. Nothing is changed there. A read that fails is a
-/// fault of the disk, whatever the database makes of it.
+/// Makes a call at a moment over an image, of which it reads what it needs, and gives the image back. Nothing is changed there. Whether a read
+/// has failed, the image tells.
+fn evaluate_over<I: ImageRead, V: DraftService>(
+    alloc: Global,
+    image: I,
+    now: u32,
+    call: &[u8],
+) -> (I, Result<Evaluation, NoMemory>)
+    requires { I.size image ≤ 16777216 }
+    ensures made { IfOk result.1 (IsMadeOf V.standing (I.held image) now call.now) }
+    ensures len { IfOk result.1 (λ made. made.len ≡ I.size image) }
+    ensures block { 0 < V.standing.database.block }
+    ensures reads { images.OnlyReads I.ImageRead image result.0 ⊥ }
+{
+    let len = image.len();
+    let mut draft = V::draft(alloc, image);
+    let end = V::call(alloc, &mut draft, now, call);
+    let (image, changes) = draft.finish();
+    let reply = match end {
+        CallEnd::Done(answer) => CallReply::Done(answer),
+        CallEnd::Rule(number) => CallReply::Rule(number),
+        CallEnd::Malformed => CallReply::Malformed,
+        CallEnd::BadRecord { at } => CallReply::BadRecord { at },
+        CallEnd::DiskFault | CallEnd::NoMemory => return (image, Err(NoMemory)),
+    };
+    let made = changes.map(|changes| Evaluation {
+        reply,
+        changes,
+        len,
+    });
+    (image, made)
+}
+
+/// Makes a call at a moment over the image of a store. A read that fails is a fault of the disk, whatever the database makes of it.
 pub fn evaluate<D: SteadyDisk, V: DraftService>(
     alloc: Global,
     store: &mut Store<D>,
@@ -39,28 +75,50 @@ pub fn evaluate<D: SteadyDisk, V: DraftService>(
     ensures fault { IfErr result (λ fault. (fault ≡ StoreFault.DiskFault) ⊎ (fault ≡ StoreFault.NoMemory)) }
     ensures disk { OnlyReads D.Disk store.old.disk store.new.disk (IsErrOf result StoreFault.DiskFault) }
 {
-    let len = store.len();
-    let mut draft = V::draft(alloc, StoreImage { store, faults: 0 });
-    let end = V::call(alloc, &mut draft, now, call);
-    let (image, changes) = draft.finish();
+    let (image, made) = evaluate_over::<StoreImage<D>, V>(
+        alloc,
+        StoreImage { store, faults: 0 },
+        now,
+        call,
+    );
     let StoreImage { store, faults } = image;
     // From here on the store is known again.
     let _store = store;
     if faults > 0 {
         return Err(StoreFault::DiskFault);
     }
-    let changes = changes?;
-    let reply = match end {
-        CallEnd::Done(answer) => CallReply::Done(answer),
-        CallEnd::Rule(number) => CallReply::Rule(number),
-        CallEnd::Malformed => CallReply::Malformed,
-        CallEnd::BadRecord { at } => CallReply::BadRecord { at },
-        // No read has failed.
-        CallEnd::DiskFault | CallEnd::NoMemory => return Err(StoreFault::NoMemory),
+    Ok(made?)
+}
+
+/// Makes a call at a moment over the image before the write in flight. Else as `evaluate`.
+pub fn evaluate_before<D: SteadyDisk, V: DraftService>(
+    alloc: Global,
+    store: &mut Store<D>,
+    flight: &Flight,
+    now: u32,
+    call: &[u8],
+) -> Result<Evaluation, StoreFault>
+    requires sound { IsSound D.Disk store.old }
+    requires fresh { store.old.failed ≡ false }
+    requires fits { flight.now.old_len ≤ 16777216 }
+    ensures made { IfOk result (IsMadeOf V.standing (option_map (image_before flight.now.undo flight.now.old_len) (image_in (D.files store.old.disk))) now call.now) }
+    ensures sound { IsSound D.Disk store.new }
+    ensures same { ¬ IsErrOf result StoreFault.DiskFault → StaysAsItWas store.old store.new }
+    ensures failed { IsErrOf result StoreFault.DiskFault → HasFailed store.old store.new }
+    ensures fault { IfErr result (λ fault. (fault ≡ StoreFault.DiskFault) ⊎ (fault ≡ StoreFault.NoMemory)) }
+    ensures disk { OnlyReads D.Disk store.old.disk store.new.disk (IsErrOf result StoreFault.DiskFault) }
+{
+    let before = BeforeImage {
+        image: StoreImage { store, faults: 0 },
+        flight,
     };
-    Ok(Evaluation {
-        reply,
-        changes,
-        len,
-    })
+    let (before, made) = evaluate_over::<BeforeImage<StoreImage<D>>, V>(alloc, before, now, call);
+    let BeforeImage { image, flight: _ } = before;
+    let StoreImage { store, faults } = image;
+    // From here on the store is known again.
+    let _store = store;
+    if faults > 0 {
+        return Err(StoreFault::DiskFault);
+    }
+    Ok(made?)
 }

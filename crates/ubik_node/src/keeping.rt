@@ -1,5 +1,5 @@
 //! The writes that another server began: they are kept until their commit comes. All memory is taken before the disk is changed.
-ghost use Rattle.std.specs.Prelude.{◌≡◌, ◌<◌, [], length, true, false, None, Some, IsSome, OnOk, OnErr};
+ghost use Rattle.std.specs.Prelude.{◌≡◌, ◌≤◌, ◌<◌, [], length, true, false, None, Some, IsSome, OnOk, OnErr};
 ghost use Rattle.ubik_types.specs.Logged.{too_large};
 ghost use Rattle.ubik_types.specs.Version.{IsVersion, version_lt};
 ghost use Rattle.cell_model.specs.Receiver.{abort_received, begin_received, committed_by, commit_received, kept_with, put_piece_received, whole_write};
@@ -130,9 +130,9 @@ impl<D: SteadyDisk, V: DraftService> Node<D, V> {
     ) -> Result<(), StoreFault>
         requires not_halted { self.old.halted ≡ false }
         requires stored { IsStored D.Disk self.old }
-        requires empty { out.old ≡ [] }
+        requires few { length out.old ≤ 100 }
         ensures { Ends D.Disk (IsSome (D.files self.old.store.disk))
-            (commit_received (own_member self.old) (up_server self.old) host old new) [] out.new (held self.old) (held self.new) result }
+            (commit_received (own_member self.old) (up_server self.old) host old new) out.old out.new (held self.old) (held self.new) result }
     {
         let own = self.state.version;
         let spreads = self.state.is_spreading();

@@ -1,15 +1,18 @@
 //! One server of a cell: its database on a disk, its votes and its phase, and one step of it at a time. A
 //! step takes a moment and an event, and leaves what it puts out in a list; it has no clock and no thread.
 //!
-//! Votes and recovery are built for every cell, and so is what a server keeps of another one's writes; its own writes for a cell of one.
+//! It is built whole: votes, recovery, and writes over a majority, in cells of 1 to 20 servers.
 #![tactic(auto)]
 
 mod asking;
 mod beacons;
 mod database;
 mod evaluations;
+mod flights;
 mod held_images;
 mod keeping;
+mod lapse;
+mod lines;
 mod nodes;
 mod outputs;
 mod pieces;
@@ -40,3 +43,5 @@ mod stop_tests;
 mod tests;
 #[cfg(test)]
 mod transfer_tests;
+#[cfg(test)]
+mod write_tests;

@@ -1,18 +1,17 @@
 //! A server of a cell, one step at a time.
-ghost use Rattle.std.specs.Prelude.{◌≡◌, ◌≢◌, ◌↔◌, IsTrue, ◌+◌, ◌<◌, ◌≤◌, ℕ, Bool, List, [], length, Ok, Err, IfOk, IfErr, IfSome, IsOk, IsSome, OnErr, MatchResult, None, true, false};
+ghost use Rattle.std.specs.Prelude.{◌≡◌, IsErrOf, ◌⊎◌, ◌≢◌, ◌↔◌, IsTrue, ◌+◌, ◌<◌, ◌≤◌, ℕ, Bool, List, [], length, Ok, Err, IfOk, IfErr, IfSome, IsOk, IsSome, OnErr, MatchResult, None, true, false};
 ghost use Rattle.ubik_types.specs.declared.hosts.Host.{Host};
 ghost use Rattle.ubik_types.specs.Moment.{IsMoment};
 ghost use Rattle.disk_base.specs.Crash.{IsSettled};
 ghost use Rattle.disk_base.specs.Stops.{IsStopped};
 ghost use Rattle.cell_model.specs.Node as model;
-ghost use Rattle.cell_model.specs.NodeRule.{place_of, received_packet, refusals};
+ghost use Rattle.cell_model.specs.NodeRule.{handled, place_of, received_packet, refusals};
 ghost use Rattle.cell_model.specs.Step.{outputs_of, cell_size};
-ghost use Rattle.db_image.specs.Database.{Database};
 ghost use Rattle.ubik_node.specs.Built.{BodyTakesNoMemory, IsBuilt, IsBuiltBody, TakesNoMemory};
-ghost use Rattle.ubik_node.specs.State.{server_with};
-ghost use Rattle.ubik_node.specs.Recovering.{IsOfCell, restored_over};
+ghost use Rattle.ubik_node.specs.Recovering.{IsOfCell};
 
 use crate::held_images::HeldImage;
+use crate::lapse::Dropped;
 use crate::outputs::Outputs;
 use crate::state::State;
 use crate::steady_disks::SteadyDisk;
@@ -71,7 +70,8 @@ impl<D: SteadyDisk, V: DraftService> Node<D, V> {
     ghost use Rattle.ubik_store.specs.Opening.{IsOpening, OpensIn, RefusesFiles};
     ghost use Rattle.cell_model.specs.Durable.{Durable};
     ghost use Rattle.ubik_node.specs.Disk.{StandsAs};
-    ghost use Rattle.ubik_node.specs.Node.{Calls, Closes, Ends, held, IsStored, Needs, NeedsFiles, Steps, last_after, node_of, own_member, up_server};
+    ghost use Rattle.ubik_node.specs.Lapsing.{IsDroppedOf, returned};
+    ghost use Rattle.ubik_node.specs.Node.{Calls, Closes, EndsSo, held, IsMeantIn, IsStored, Needs, NeedsFiles, Steps, last_after, node_of, own_member, up_server};
 
     /// Opens a server over its disk, on which nothing is pending, at a moment in seconds: the server at a place of the cell. An
     /// empty disk is an empty database of version 0.0. A refusal is that of the store, and hands the disk back as the store left it.
@@ -111,6 +111,7 @@ impl<D: SteadyDisk, V: DraftService> Node<D, V> {
             beacon: None,
             recovery: Recovery::in_cell(alloc, servers),
             pending: None,
+            writes: None,
         };
         Ok(Node {
             alloc,
@@ -129,7 +130,7 @@ impl<D: SteadyDisk, V: DraftService> Node<D, V> {
     pub fn step(&mut self, now: u32, event: NodeEvent, out: &mut Outputs) -> StepEnd
         requires moment { IsMoment now }
         requires order { self.old.last ≤ now }
-        requires built { IsBuilt V.standing.database (own_member self.old) (node_of self.old) event }
+        requires built { IsBuilt event }
         requires empty { out.old ≡ [] }
         requires stored { IsStored D.Disk self.old }
         ensures step { Needs V.standing (own_member self.old) (node_of self.old) event (D.files self.old.store.disk)
@@ -242,7 +243,7 @@ impl<D: SteadyDisk, V: DraftService> Node<D, V> {
     fn step_up(&mut self, now: u32, event: &NodeEvent, out: &mut Outputs) -> StepEnd
         requires moment { IsMoment now }
         requires not_halted { self.old.halted ≡ false }
-        requires built { IsBuilt V.standing.database (own_member self.old) (node_of self.old) event.now }
+        requires built { IsBuilt event.now }
         requires empty { out.old ≡ [] }
         requires stored { IsStored D.Disk self.old }
         ensures step { Needs V.standing (own_member self.old) (node_of self.old) event.now (D.files self.old.store.disk)
@@ -256,29 +257,30 @@ impl<D: SteadyDisk, V: DraftService> Node<D, V> {
         ensures calls { Calls D.Disk self.old self.new result }
         ensures last { self.new.last ≡ self.old.last }
     {
-        let given = self.state.lapse(now);
+        let given = self.state.lapse(now, out);
+        let end = self.handle(now, event, out);
+        self.end(end, given, event, out)
+    }
+
+    /// What an event makes of a server that is not halted, after the lapse.
+    fn handle(&mut self, now: u32, event: &NodeEvent, out: &mut Outputs) -> Result<(), StoreFault>
+        requires moment { IsMoment now }
+        requires not_halted { self.old.halted ≡ false }
+        requires built { IsBuilt event.now }
+        requires few { length out.old ≤ 100 }
+        requires stored { IsStored D.Disk self.old }
+        ensures ends { EndsSo D.Disk (Needs V.standing (own_member self.old) (model.Up (up_server self.old)) event.now (D.files self.old.store.disk))
+            (λ short. handled V.standing.database (own_member self.old) (up_server self.old) now event.now short) out.old out.new (held self.old) (held self.new) result }
+        ensures memory { TakesNoMemory event.now → IsErrOf result StoreFault.DiskFault ⊎ IsOk result }
+    {
         match event {
-            NodeEvent::Packet(packet) => {
-                let end = self.receive(now, packet, out);
-                self.end(end, given, out)
-            }
+            NodeEvent::Packet(packet) => self.receive(now, packet, out),
             NodeEvent::BeaconTurn => {
                 self.state.beacon_turn(now, out);
-                StepEnd::Done
+                Ok(())
             }
-            NodeEvent::RecoverTurn => {
-                let end = self.recover(now, out);
-                self.end(end, given, out)
-            }
-            NodeEvent::Ask { id, call } => {
-                let end = self.ask(now, *id, call.as_slice(), out);
-                if end != StepEnd::Halted {
-                    return end;
-                }
-                // A halted server tells what it was before the step.
-                self.state.restore(given);
-                end
-            }
+            NodeEvent::RecoverTurn => self.recover(now, out),
+            NodeEvent::Ask { id, call } => self.ask(now, *id, call.as_slice(), out),
         }
     }
 
@@ -286,24 +288,29 @@ impl<D: SteadyDisk, V: DraftService> Node<D, V> {
     fn end(
         &mut self,
         end: Result<(), StoreFault>,
-        given: Option<Recovery>,
+        given: Option<Dropped>,
+        event: &NodeEvent,
         out: &mut Outputs,
     ) -> StepEnd
-        requires given { IfSome given (IsOfCell (length self.old.state.cell)) }
-        ensures { Closes end (server_with self.old.state (restored_over given self.old.state.recovery)) (held self.old) (held self.new) out.old out.new result }
+        requires given { IfSome given (λ dropped. IsOfCell (length self.old.state.cell) dropped.recovery) }
+        requires dropped { IfErr end (λ why. why ≢ StoreFault.DiskFault → IfSome given (IsDroppedOf (length self.old.state.cell) self.old.state.image)) }
+        ensures { Closes end event.now (returned given self.old.state) (held self.old) (held self.new) out.old out.new result }
     {
         let fault = match end {
             Ok(()) => return StepEnd::Done,
             Err(fault) => fault,
         };
-        self.state.restore(given);
         out.clear();
         match fault {
             StoreFault::DiskFault => {
+                self.state.restore_phase(given);
                 self.halted = true;
-                StepEnd::Halted
+                refuse(event, out)
             }
-            _ => StepEnd::NoMemory,
+            _ => {
+                self.state.restore(given);
+                StepEnd::NoMemory
+            }
         }
     }
 
@@ -312,12 +319,12 @@ impl<D: SteadyDisk, V: DraftService> Node<D, V> {
         requires moment { IsMoment now }
         requires not_halted { self.old.halted ≡ false }
         requires kind { IsBuiltBody packet.now.body }
-        requires empty { out.old ≡ [] }
+        requires few { length out.old ≤ 100 }
         requires stored { IsStored D.Disk self.old }
-        ensures ends { (db : Database) (short : List Bool) → Ends D.Disk (NeedsFiles packet.now.body (IsSome (D.files self.old.store.disk)))
-            (received_packet db (own_member self.old) (up_server self.old) now packet.now short (place_of self.old.state.cell packet.now.from))
-            [] out.new (held self.old) (held self.new) result }
-        ensures memory { BodyTakesNoMemory packet.now.body → IsOk result }
+        ensures ends { EndsSo D.Disk (NeedsFiles packet.now.body (IsSome (D.files self.old.store.disk)) (IsMeantIn V.standing (D.files self.old.store.disk) self.old.state.image))
+            (λ short. received_packet V.standing.database (own_member self.old) (up_server self.old) now packet.now short (place_of self.old.state.cell packet.now.from))
+            out.old out.new (held self.old) (held self.new) result }
+        ensures memory { BodyTakesNoMemory packet.now.body → IsErrOf result StoreFault.DiskFault ⊎ IsOk result }
     {
         let host = packet.from;
         let Some(from) = self.state.cell.index(host) else {
@@ -352,10 +359,7 @@ impl<D: SteadyDisk, V: DraftService> Node<D, V> {
                 self.state.send(host, told, out);
                 Ok(())
             }
-            Body::VersionKept { version } => {
-                self.state.hear_kept(from, *version, out);
-                Ok(())
-            }
+            Body::VersionKept { version } => self.hear_kept(now, from, *version, out),
             Body::VersionIs { poll, version } => self.hear_version(
                 now, from, host, *poll, *version, out,
             ),

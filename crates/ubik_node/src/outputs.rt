@@ -1,5 +1,5 @@
 //! The list that a step leaves.
-ghost use Rattle.std.specs.Prelude.{◌≡◌, ◌<◌, ◌++◌, ◌∷◌, [], length, IfOk, IsNone, option_to_list};
+ghost use Rattle.std.specs.Prelude.{◌≡◌, ◌<◌, ◌++◌, ◌∷◌, [], length, take, IfOk, IsNone, OnOk, OnErr, option_to_list};
 
 use cell_model::Output;
 use std::alloc::Global;
@@ -7,11 +7,11 @@ use std::collections::VecDeque;
 use std::marker::Model;
 use ubik_types::NoMemory;
 
-/// For how many outputs of one step there is room.
+/// For how many outputs of one step there is room from the start: all but the packets of a write.
 const PLACES: usize = 200;
 
 /// What a step put out, in order. Contracts see the list. It has room for the outputs of a step from the
-/// start, so that putting one out takes no memory.
+/// start, so that putting one out takes no memory; only the packets of a write can be more.
 #[derive(Drop)]
 pub struct Outputs {
     list: VecDeque<Output>,
@@ -46,11 +46,25 @@ impl Outputs {
         self.list.pop_front()
     }
 
+    /// How many outputs there are.
+    pub(crate) fn len(&self) -> usize
+        ensures { result ≡ length self.now }
+    {
+        self.list.len()
+    }
+
     /// Takes all outputs back.
     pub(crate) fn clear(&mut self)
         ensures { self.new ≡ [] }
     {
         self.list.truncate(0);
+    }
+
+    /// Takes all outputs but the first so many back.
+    pub(crate) fn cut(&mut self, len: usize)
+        ensures { self.new ≡ take len self.old }
+    {
+        self.list.truncate(len);
     }
 
     /// Adds an output at the end of fewer than 200.
@@ -59,5 +73,14 @@ impl Outputs {
         ensures { self.new ≡ self.old ++ output ∷ [] }
     {
         let _ = self.list.push_back(output);
+    }
+
+    /// Adds an output at the end of any number. For want of memory the list is as before.
+    pub(crate) fn push(&mut self, output: Output) -> Result<(), NoMemory>
+        ensures ok { OnOk result (self.new ≡ self.old ++ output ∷ []) }
+        ensures err { OnErr result (self.new ≡ self.old) }
+    {
+        self.list.push_back(output)?;
+        Ok(())
     }
 }

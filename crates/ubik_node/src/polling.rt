@@ -1,12 +1,13 @@
 //! Polls: the servers are asked for their versions, and the best one is fetched. What changes no disk.
-ghost use Rattle.std.specs.Prelude.{◌≡◌, ◌≤◌, ◌<◌, ◌+◌, ◌++◌, ℕ, length, false};
+ghost use Rattle.std.specs.Prelude.{◌≡◌, ◌≤◌, ◌<◌, ◌+◌, ◌++◌, ℕ, None, length, false};
 ghost use Rattle.ubik_types.specs.Quorum.{marked};
 ghost use Rattle.cell_model.specs.Polls.{is_marked, polling};
 ghost use Rattle.cell_model.specs.Recovery.{asks_versions, fetched_from};
 ghost use Rattle.cell_model.specs.Step.{host_at, outputs_of, sends_to, with_phase};
 ghost use Rattle.ubik_recovery.specs.Record.{adopted, best_of, host_of, is_fetch, polled_of};
 ghost use Rattle.ubik_types.specs.Phase as phases;
-ghost use Rattle.ubik_node.specs.Recovering.{IsOfCell};
+ghost use Rattle.ubik_node.specs.Recovering.{IsOfCell, IsServing};
+ghost use Rattle.ubik_node.specs.Writing.{own_of};
 
 use crate::outputs::Outputs;
 use crate::state::State;
@@ -16,7 +17,7 @@ use ubik_recovery::Recovery;
 use ubik_types::{Host, MAXSERVERS, Marks, Phase};
 
 /// Whether a server is in a set.
-fn is_in(set: &Marks, k: usize) -> bool
+pub fn is_in(set: &Marks, k: usize) -> bool
     requires { k < MAXSERVERS }
     ensures { (n : ℕ) → k < n → result ≡ is_marked (marked n set.now.set) k }
 {
@@ -53,7 +54,8 @@ impl State {
 
     /// Takes a recovery over that has gone on.
     pub fn adopt(&mut self, next: Recovery)
-        requires { IsOfCell (length self.old.cell) next }
+        requires resting { ¬ IsServing self.old.recovery }
+        requires of_cell { IsOfCell (length self.old.cell) next }
         ensures after { server_of self.new ≡ server_with self.old (adopted next self.old.recovery) }
         ensures kept { Keeps self.old self.new }
     {
@@ -62,6 +64,7 @@ impl State {
 
     /// A poll has found a better version than the own one: it is asked for.
     pub fn fetch_best(&mut self, next: Recovery, out: &mut Outputs)
+        requires resting { ¬ IsServing self.old.recovery }
         requires few { length out.old ≤ 180 }
         requires phase { next.phase ≡ Phase.Poll }
         requires of_cell { IsOfCell (length self.old.cell) next }
@@ -92,6 +95,7 @@ impl State {
 
     /// A relabelling waits for a later moment.
     pub fn wait(&mut self, next: Recovery)
+        requires resting { ¬ IsServing self.old.recovery }
         requires of_cell { IsOfCell (length self.old.cell) next }
         requires phase { is_fetch next.phase ≡ false }
         ensures after { server_of self.new ≡ with_phase (server_with self.old (adopted next self.old.recovery)) (phases.Relabel (polled_of next)) }
@@ -104,6 +108,7 @@ impl State {
 
     /// A new poll begins, and sends nothing.
     pub fn begin_poll(&mut self, now: u32)
+        requires { own_of self.old.writes ≡ None }
         ensures after { server_of self.new ≡ polling (member_of self.old) (server_of self.old) now }
         ensures kept { Keeps self.old self.new }
     {

@@ -113,10 +113,10 @@ impl<D: SteadyDisk, V: DraftService> Node<D, V> {
     ) -> Result<(), StoreFault>
         requires not_halted { self.old.halted ≡ false }
         requires stored { IsStored D.Disk self.old }
-        requires empty { out.old ≡ [] }
+        requires few { length out.old ≤ 100 }
         requires version { IsVersion new }
         ensures { Ends D.Disk (Unit {0})
-            (set_version_received (own_member self.old) (up_server self.old) host poll old new) [] out.new (held self.old) (held self.new) result }
+            (set_version_received (own_member self.old) (up_server self.old) host poll old new) out.old out.new (held self.old) (held self.new) result }
     {
         let own = self.state.version;
         let spreads = self.state.is_spreading();
@@ -154,11 +154,11 @@ impl<D: SteadyDisk, V: DraftService> Node<D, V> {
     ) -> Result<(), StoreFault>
         requires not_halted { self.old.halted ≡ false }
         requires stored { IsStored D.Disk self.old }
-        requires empty { out.old ≡ [] }
+        requires few { length out.old ≤ 100 }
         requires version { IsVersion source.version }
         ensures { Ends D.Disk (IsSome (D.files self.old.store.disk))
             (send_piece_received (own_member self.old) (up_server self.old) host source.server poll source.version source.total offset bytes.now)
-            [] out.new (held self.old) (held self.new) result }
+            out.old out.new (held self.old) (held self.new) result }
     {
         let own = self.state.version;
         let version = source.version;
@@ -265,10 +265,10 @@ impl<D: SteadyDisk, V: DraftService> Node<D, V> {
         requires moment { IsMoment now }
         requires not_halted { self.old.halted ≡ false }
         requires stored { IsStored D.Disk self.old }
-        requires empty { out.old ≡ [] }
+        requires few { length out.old ≤ 100 }
         ensures { Ends D.Disk (IsSome (D.files self.old.store.disk))
             (piece_received (own_member self.old) (up_server self.old) now source.server poll source.version source.total offset bytes.now (up_server self.old).phase)
-            [] out.new (held self.old) (held self.new) result }
+            out.old out.new (held self.old) (held self.new) result }
     {
         let fetches = self.state.is_fetching();
         let asked = self.state.is_asked(poll, &source);
@@ -308,7 +308,7 @@ impl<D: SteadyDisk, V: DraftService> Node<D, V> {
         requires moment { IsMoment now }
         requires not_halted { self.old.halted ≡ false }
         requires stored { IsStored D.Disk self.old }
-        requires empty { out.old ≡ [] }
+        requires few { length out.old ≤ 100 }
         requires phase { self.old.state.recovery.phase ≡ Phase.Fetch }
         requires takes { (may_begin : Bool) × (text_with may_begin source.server source.version source.total offset bytes.now self.old.state.recovery.text
             ≡ Some (with_piece source offset bytes.now self.old.state.recovery.text)) }
@@ -318,7 +318,7 @@ impl<D: SteadyDisk, V: DraftService> Node<D, V> {
         ensures { Ends D.Disk (IsSome (D.files self.old.store.disk))
             (fetched (own_member self.old) (up_server self.old) now (polled_of self.old.state.recovery) (best_of self.old.state.recovery)
             (with_piece source offset bytes.now self.old.state.recovery.text).bytes)
-            [] out.new (held self.old) (held self.new) result }
+            out.old out.new (held self.old) (held self.new) result }
     {
         let mut text = self.state.take_front(self.alloc, offset);
         let short = extended(&mut text, bytes).is_err();
@@ -340,12 +340,12 @@ impl<D: SteadyDisk, V: DraftService> Node<D, V> {
         requires moment { IsMoment now }
         requires not_halted { self.old.halted ≡ false }
         requires stored { IsStored D.Disk self.old }
-        requires empty { out.old ≡ [] }
+        requires few { length out.old ≤ 100 }
         requires phase { self.old.state.recovery.phase ≡ Phase.Fetch }
         requires fits { length text.now ≤ MAX_IMAGE }
         ensures { Ends D.Disk (IsSome (D.files self.old.store.disk))
             (fetched (own_member self.old) (up_server self.old) now (polled_of self.old.state.recovery) (best_of self.old.state.recovery) text.now)
-            [] out.new (held self.old) (held self.new) result }
+            out.old out.new (held self.old) (held self.new) result }
     {
         let (best, _) = self.state.recovery.best();
         let mut next = self.state.recovery.marks();
@@ -376,7 +376,7 @@ impl<D: SteadyDisk, V: DraftService> Node<D, V> {
         requires resting { ¬ IsServing self.old.state.recovery }
         requires not_halted { self.old.halted ≡ false }
         requires stored { IsStored D.Disk self.old }
-        requires empty { out.old ≡ [] }
+        requires few { length out.old ≤ 100 }
         requires fits { length text.now ≤ MAX_IMAGE }
         requires of_cell { IsOfCell (length self.old.state.cell) next }
         requires version { IsVersion best }
@@ -384,7 +384,7 @@ impl<D: SteadyDisk, V: DraftService> Node<D, V> {
         requires past { best.epoch < now }
         ensures { Ends D.Disk (IsSome (D.files self.old.store.disk))
             (followed (installed (up_server self.old) best text.now) (λ after. relabelled (own_member self.old) after (polled_of next) now))
-            [] out.new (held self.old) (held self.new) result }
+            out.old out.new (held self.old) (held self.new) result }
     {
         let new = Version {
             epoch: now,

@@ -6,7 +6,7 @@ ghost use Rattle.ubik_types.specs.Moment.{IsMoment};
 ghost use Rattle.cell_model.specs.Recovery.{polled, poll_asked, poll_begun, recovery_turn, relabelled};
 ghost use Rattle.ubik_recovery.specs.Record.{adopted, is_fetch, polled_of};
 ghost use Rattle.ubik_node.specs.State.{server_with};
-ghost use Rattle.ubik_node.specs.Recovering.{IsOfCell};
+ghost use Rattle.ubik_node.specs.Recovering.{IsOfCell, IsServing};
 
 use crate::nodes::Node;
 use crate::outputs::Outputs;
@@ -23,10 +23,11 @@ impl<D: SteadyDisk, V: DraftService> Node<D, V> {
 
     /// The database gets the first version of this moment, for the poll of a recovery.
     fn relabel(&mut self, next: Recovery, now: u32, out: &mut Outputs) -> Result<(), StoreFault>
+        requires resting { ¬ IsServing self.old.state.recovery }
         requires moment { IsMoment now }
         requires not_halted { self.old.halted ≡ false }
         requires stored { IsStored D.Disk self.old }
-        requires few { length out.old ≤ 100 }
+        requires few { length out.old ≤ 120 }
         requires of_cell { IsOfCell (length self.old.state.cell) next }
         requires past { self.old.state.version.epoch < now }
         ensures { Ends D.Disk (Knows D.Disk self.old)
@@ -59,10 +60,11 @@ impl<D: SteadyDisk, V: DraftService> Node<D, V> {
         now: u32,
         out: &mut Outputs,
     ) -> Result<(), StoreFault>
+        requires resting { ¬ IsServing self.old.state.recovery }
         requires moment { IsMoment now }
         requires not_halted { self.old.halted ≡ false }
         requires stored { IsStored D.Disk self.old }
-        requires few { length out.old ≤ 100 }
+        requires few { length out.old ≤ 120 }
         requires of_cell { IsOfCell (length self.old.state.cell) next }
         requires phase { is_fetch next.phase ≡ false }
         ensures { Ends D.Disk (Knows D.Disk self.old)
@@ -84,10 +86,11 @@ impl<D: SteadyDisk, V: DraftService> Node<D, V> {
         now: u32,
         out: &mut Outputs,
     ) -> Result<(), StoreFault>
+        requires resting { ¬ IsServing self.old.state.recovery }
         requires moment { IsMoment now }
         requires not_halted { self.old.halted ≡ false }
         requires stored { IsStored D.Disk self.old }
-        requires few { length out.old ≤ 100 }
+        requires few { length out.old ≤ 120 }
         requires of_cell { IsOfCell (length self.old.state.cell) next }
         requires phase { next.phase ≡ Phase.Poll }
         ensures { Ends D.Disk (Knows D.Disk self.old)
@@ -109,15 +112,16 @@ impl<D: SteadyDisk, V: DraftService> Node<D, V> {
 
     /// Each server that has not answered the poll of a recovery is asked, and the poll goes on.
     fn poll_asked(&mut self, next: Recovery, now: u32, out: &mut Outputs) -> Result<(), StoreFault>
+        requires resting { ¬ IsServing self.old.state.recovery }
         requires moment { IsMoment now }
         requires not_halted { self.old.halted ≡ false }
         requires stored { IsStored D.Disk self.old }
-        requires empty { out.old ≡ [] }
+        requires few { length out.old ≤ 100 }
         requires of_cell { IsOfCell (length self.old.state.cell) next }
         requires phase { next.phase ≡ Phase.Poll }
         ensures { Ends D.Disk (Knows D.Disk self.old)
             (poll_asked (own_member self.old) (server_with self.old.state (adopted next self.old.state.recovery)) (polled_of next) now)
-            [] out.new (held self.old) (held self.new) result }
+            out.old out.new (held self.old) (held self.new) result }
     {
         self.state.ask_versions(&next.answered(), next.poll(), out);
         self.polled(next, now, out)
@@ -125,11 +129,12 @@ impl<D: SteadyDisk, V: DraftService> Node<D, V> {
 
     /// A poll begins, and the others are asked.
     fn begin_poll(&mut self, now: u32, out: &mut Outputs) -> Result<(), StoreFault>
+        requires resting { ¬ IsServing self.old.state.recovery }
         requires moment { IsMoment now }
         requires not_halted { self.old.halted ≡ false }
         requires stored { IsStored D.Disk self.old }
-        requires empty { out.old ≡ [] }
-        ensures { Ends D.Disk (Knows D.Disk self.old) (poll_begun (own_member self.old) (up_server self.old) now) [] out.new (held self.old) (held self.new) result }
+        requires few { length out.old ≤ 100 }
+        ensures { Ends D.Disk (Knows D.Disk self.old) (poll_begun (own_member self.old) (up_server self.old) now) out.old out.new (held self.old) (held self.new) result }
     {
         let mut next = self.state.recovery.marks();
         next.begin(now, self.state.me, self.state.version);
@@ -141,8 +146,8 @@ impl<D: SteadyDisk, V: DraftService> Node<D, V> {
         requires moment { IsMoment now }
         requires not_halted { self.old.halted ≡ false }
         requires stored { IsStored D.Disk self.old }
-        requires empty { out.old ≡ [] }
-        ensures { Ends D.Disk (Knows D.Disk self.old) (recovery_turn (own_member self.old) (up_server self.old) now) [] out.new (held self.old) (held self.new) result }
+        requires few { length out.old ≤ 100 }
+        ensures { Ends D.Disk (Knows D.Disk self.old) (recovery_turn (own_member self.old) (up_server self.old) now) out.old out.new (held self.old) (held self.new) result }
     {
         let leased = self.state.votes.in_lease(now);
         let over = self.poll_is_over(now);
@@ -164,7 +169,7 @@ impl<D: SteadyDisk, V: DraftService> Node<D, V> {
                 self.relabelled(next, now, out)
             }
             Phase::Send | Phase::Ready => {
-                self.state.spread_again(now, out);
+                self.state.spread_again(self.alloc, out)?;
                 Ok(())
             }
         }

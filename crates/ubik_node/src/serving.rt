@@ -1,27 +1,32 @@
 //! Where a call is served, and what its client is told else.
-ghost use Rattle.std.specs.Prelude.{◌≡◌, ℕ, Bool, List, Some, IsTrue};
+ghost use Rattle.std.specs.Prelude.{◌≡◌, ℕ, Bool, List, None, Some, IsSome};
 ghost use Rattle.ubik_types.specs.Votes.{sync_heard};
 ghost use Rattle.db_image.specs.Database.{Database};
 ghost use Rattle.cell_model.specs.Asks.{asked_as, allows_reads, not_served, read_reply};
 ghost use Rattle.cell_model.specs.Step.{Evaluation};
 ghost use Rattle.cell_model.specs.declared.events.Output.TheVariants as outputs;
-ghost use Rattle.ubik_node.specs.Serving.{TurnsTo, IsWrite};
+ghost use Rattle.ubik_node.specs.Serving.{TurnsTo, IsWait, IsWrite};
 ghost use Rattle.ubik_node.specs.Beacons.{beacon_of};
 ghost use Rattle.ubik_node.specs.State.{server_of, member_of};
 ghost use Rattle.ubik_node.specs.Recovering.{IsServing};
+ghost use Rattle.ubik_node.specs.Writing.{own_of};
 
 use crate::state::State;
 use db_image::CallReply;
 use ubik_calls::Reply;
-use ubik_types::{Phase, SMALLTIME};
+use ubik_types::{Applied, Phase, SMALLTIME};
 
 /// What a call leads to.
 #[derive(Drop)]
 pub enum Turn {
     /// It is not evaluated.
     Refuse(Reply),
-    /// It reads the own image.
+    /// It reads the announced image.
     Read,
+    /// It reads the own image, which a ready beacon of another server allows.
+    ReadOwn,
+    /// It waits for the write in flight.
+    Wait,
     /// It has its turn to write.
     Write,
 }
@@ -32,14 +37,16 @@ pub fn turn_of(state: &State, now: u32, writes: bool) -> Turn
         TurnsTo db (member_of state.now) (server_of state.now) now id call short result
         (asked_as db (member_of state.now) (server_of state.now) now id call short (Some writes)) }
     ensures serving { IsWrite result → IsServing state.now.recovery }
-    ensures writes { IsWrite result → IsTrue writes }
+    ensures writing { IsWait result → IsSome (own_of state.now.writes) }
+    ensures free { IsWrite result → own_of state.now.writes ≡ None }
 {
     let leased = state.votes.in_lease(now);
     match state.recovery.phase() {
+        Phase::Ready if leased && writes && state.is_writing() => Turn::Wait,
         Phase::Ready if leased && writes => Turn::Write,
         Phase::Ready if leased => Turn::Read,
-        phase if leased => Turn::Refuse(state.no_quorum(now, phase)),
-        _ if !writes && allows_reads(state, now) => Turn::Read,
+        phase if leased => Turn::Refuse(state.no_quorum(now, phase, Applied::No)),
+        _ if !writes && allows_reads(state, now) => Turn::ReadOwn,
         _ => Turn::Refuse(not_served(state, now)),
     }
 }
@@ -63,7 +70,7 @@ fn not_served(state: &State, now: u32) -> Reply
             host: state.cell.host(server),
             heard,
         },
-        _ => state.no_quorum(now, state.recovery.phase()),
+        _ => state.no_quorum(now, state.recovery.phase(), Applied::No),
     }
 }
 

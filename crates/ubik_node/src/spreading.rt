@@ -1,15 +1,13 @@
 //! Send and Ready: the database goes to the other servers, and those that have it are counted. What changes no disk.
-ghost use Rattle.std.specs.Prelude.{◌≡◌, ◌≤◌, ◌<◌, ◌+◌, ◌++◌, ℕ, Bool, List, length, IfOk, OnOk};
-ghost use Rattle.db_image.specs.Database.{Database};
+ghost use Rattle.std.specs.Prelude.{◌≡◌, ◌≤◌, ◌<◌, ◌+◌, ◌++◌, ℕ, List, length, IfOk, OnOk, OnErr};
 ghost use Rattle.cell_model.specs.Polls.{entry_at, only_holder};
-ghost use Rattle.cell_model.specs.Recovery.{holder_added, recovered};
+ghost use Rattle.cell_model.specs.Recovery.{held_by, recovered};
 ghost use Rattle.cell_model.specs.Step.{outputs_of, sends_to_each, with_database, with_phase};
-ghost use Rattle.cell_model.specs.Writes.{settled};
 ghost use Rattle.ubik_recovery.specs.Record.{polled_of};
 ghost use Rattle.ubik_types.specs.Phase as phases;
 ghost use Rattle.ubik_node.specs.Spreading.{IsSpreading, given_bodies};
 ghost use Rattle.ubik_types.specs.Version.{IsVersion};
-ghost use Rattle.ubik_node.specs.Recovering.{IsOfCell};
+ghost use Rattle.ubik_node.specs.Recovering.{IsOfCell, IsServing};
 
 use crate::outputs::Outputs;
 use crate::state::State;
@@ -17,7 +15,7 @@ use cell_model::Output;
 use std::alloc::Global;
 use ubik_calls::Body;
 use ubik_recovery::Recovery;
-use ubik_types::{Bytes, NoMemory, Phase, Version, bytes_of, majority};
+use ubik_types::{Bytes, NoMemory, Phase, Version, bytes_of};
 
 /// A database that goes to the other servers for a poll: the version before its relabelling and the one after it, how long the image is,
 /// and its first piece.
@@ -66,7 +64,7 @@ impl State {
         given: &Given,
         out: &mut Outputs,
     ) -> Result<(), NoMemory>
-        requires few { length out.old ≤ 100 }
+        requires few { length out.old ≤ 120 }
         ensures given { OnOk result (out.new ≡ out.old ++ outputs_of (sends_to_each (member_of self.now) (λ k. given_bodies given.now (entry_at next.now.answers k)))) }
         ensures few { OnOk result (length out.new ≤ length out.old + 20) }
     {
@@ -84,6 +82,7 @@ impl State {
 
     /// The database was relabelled for the poll of a recovery: only this server has it. The write that was begun is dropped.
     pub fn begin_sending(&mut self, next: Recovery, new: Version)
+        requires resting { ¬ IsServing self.old.recovery }
         requires of_cell { IsOfCell (length self.old.cell) next }
         requires version { IsVersion new }
         ensures after { server_of self.new ≡ with_phase (with_database (server_of self.old) new self.old.image)
@@ -101,42 +100,31 @@ impl State {
         self.version = new;
     }
 
-    /// What a majority of holders leads to: a database that was sent is announced, and calls are served.
-    pub fn settle(&mut self, out: &mut Outputs)
-        requires few { length out.old ≤ 180 }
-        ensures shows { ShowsBehind (settled (member_of self.old) (server_of self.old)) (server_of self.new) out.old out.new }
-        ensures kept { Keeps self.old self.new }
-    {
-        if self.recovery.phase() != Phase::Send || !majority(&self.cell, &self.recovery.holders()) {
-            return;
-        }
-        self.recovery.set_phase(Phase::Ready, self.me);
-        out.put(Output::Announce {
-            version: self.version,
-        });
-    }
-
     /// A server has the own version.
-    pub fn add_holder(&mut self, from: usize, out: &mut Outputs)
+    pub fn count_holder(&mut self, from: usize)
         requires from { from < length self.old.cell }
-        requires few { length out.old ≤ 180 }
         requires phase { IsSpreading self.old.recovery.phase }
-        ensures shows { (db : Database) (now : ℕ) (short : List Bool)
-            → ShowsBehind (holder_added db (member_of self.old) (server_of self.old) now from short) (server_of self.new) out.old out.new }
+        ensures after { server_of self.new ≡ with_phase (server_of self.old) (held_by (server_of self.old).phase from) }
         ensures kept { Keeps self.old self.new }
     {
         self.recovery.hold(from);
-        self.settle(out);
     }
 
-    /// The recovery turn in Send and Ready: each server that is no holder is asked for its version.
-    pub fn spread_again(&mut self, now: u32, out: &mut Outputs)
+    /// The recovery turn in Send and Ready: the packets of the write in flight go again to each server that is no holder, or else each of them is
+    /// asked for its version. For want of memory some were sent.
+    pub fn spread_again(&mut self, alloc: Global, out: &mut Outputs) -> Result<(), NoMemory>
         requires few { length out.old ≤ 100 }
         requires phase { IsSpreading self.old.recovery.phase }
-        ensures shows { ShowsBehind (recovered (member_of self.old) (server_of self.old) now (server_of self.old).phase) (server_of self.new) out.old out.new }
+        ensures shows { OnOk result ((now : ℕ)
+            → ShowsBehind (recovered (member_of self.old) (server_of self.old) now (server_of self.old).phase) (server_of self.new) out.old out.new) }
+        ensures err { OnErr result (self.new ≡ self.old) }
         ensures kept { Keeps self.old self.new }
     {
+        if let Some(write) = self.in_flight() {
+            return self.spread_write(alloc, write.flight(), &self.recovery.holders(), out);
+        }
         self.ask_versions(&self.recovery.holders(), self.recovery.poll(), out);
         self.settle(out);
+        Ok(())
     }
 }

@@ -1,20 +1,22 @@
-//! What a server keeps between two steps, apart from its disk; and how each step begins.
+//! What a server keeps between two steps, apart from its disk.
 ghost use Rattle.std.specs.Option.{ForSome};
-ghost use Rattle.std.specs.Prelude.{◌≡◌, ◌≤◌, ◌<◌, ◌+◌, ◌++◌, length, None, IfSome};
+ghost use Rattle.std.specs.Prelude.{◌≡◌, ◌≤◌, ◌<◌, ◌+◌, ◌++◌, length, None, IfSome, IsSome, is_some, option_copied};
 ghost use Rattle.ubik_types.specs.Version.{IsVersion};
 ghost use Rattle.ubik_types.specs.declared.limits.TheConstants.{MAX_IMAGE};
 ghost use Rattle.ubik_types.specs.declared.versions.TheConstants.{MAX_COUNTER};
-ghost use Rattle.cell_model.specs.Lapse.{lapsed, no_quorum};
-ghost use Rattle.cell_model.specs.Step.{outputs_of, packet_to, quiet, sends_to, with_database};
+ghost use Rattle.cell_model.specs.Lapse.{no_quorum};
+ghost use Rattle.cell_model.specs.Step.{outputs_of, packet_to, sends_to, with_database};
 ghost use Rattle.ubik_recovery.specs.Record.{held_alone, with_text};
 ghost use Rattle.ubik_recovery.specs.Rules.{recovering};
 ghost use Rattle.ubik_node.specs.Keeping.{IsKeptOver};
 ghost use Rattle.ubik_node.specs.Recovering.{IsOfCell, IsServing};
+ghost use Rattle.ubik_node.specs.Writing.{AreOfCell, announced_of, own_of};
 
 use crate::beacons::ReadyBeacon;
 use crate::held_images::HeldImage;
 use crate::outputs::Outputs;
 use cell_model::Output;
+use site_writes::{OwnWrite, SiteWrites};
 use ubik_calls::{Body, Packet, Reply};
 use ubik_recovery::Recovery;
 use ubik_types::{Applied, Cell, Host, Phase, Version};
@@ -22,7 +24,7 @@ use ubik_votes::Votes;
 use ubik_write::Pending;
 
 /// A server that is up: its cell and its place in it, its version and image, its votes, the ready beacon that
-/// it keeps, its recovery, and the write that another server began.
+/// it keeps, its recovery, the write that another server began, and its own writes: none before its first one, and after a lapse.
 #[derive(Drop)]
 pub struct State {
     pub cell: Cell,
@@ -33,6 +35,7 @@ pub struct State {
     pub beacon: Option<ReadyBeacon>,
     pub recovery: Recovery,
     pub pending: Option<Pending>,
+    pub writes: Option<SiteWrites>,
     ghost few: { length cell ≤ 20 },
     ghost place: { me < length cell },
     ghost voters: { votes.servers ≡ length cell },
@@ -42,46 +45,49 @@ pub struct State {
     ghost image_fits: { length image ≤ MAX_IMAGE },
     ghost of_cell: { IsOfCell (length cell) recovery },
     ghost begun: { ForSome pending (IsKeptOver version) },
+    ghost serving: { IsSome (own_of writes) → IsServing recovery },
+    ghost written: { AreOfCell (length cell) image writes },
 }
 
 impl State {
-    ghost use Rattle.ubik_node.specs.State.{server_of, server_with, member_of, Keeps};
-    ghost use Rattle.ubik_node.specs.Recovering.{restored_over};
+    ghost use Rattle.ubik_node.specs.State.{server_of, member_of};
 
-    /// Lapse: where the lease is over no phase is held. What was held is given out.
-    pub fn lapse(&mut self, now: u32) -> Option<Recovery>
-        ensures rests { lapsed (member_of self.old) (server_of self.old) now ≡ quiet (server_of self.new) }
-        ensures kept { Keeps self.old self.new }
-        ensures given { IfSome result (IsOfCell (length self.new.cell)) }
-        ensures serving { IsServing self.new.recovery → self.new ≡ self.old }
-        ensures back { server_of self.old ≡ server_with self.new (restored_over result self.new.recovery) }
-    {
-        if self.votes.in_lease(now) {
-            return None;
-        }
-        Some(self.recovery.lapse())
-    }
-
-    /// What the lapse gave out comes back, where the step is not made.
-    pub fn restore(&mut self, given: Option<Recovery>)
-        requires given { IfSome given (IsOfCell (length self.old.cell)) }
-        ensures back { server_of self.new ≡ server_with self.old (restored_over given self.old.recovery) }
-        ensures kept { Keeps self.old self.new }
-    {
-        if let Some(recovery) = given {
-            self.recovery.restore(recovery);
-        }
-    }
-
-    /// The refusal of a server behind which no quorum stands, with its phase.
-    pub fn no_quorum(&self, now: u32, phase: Phase) -> Reply
-        ensures { result ≡ no_quorum (member_of self.now) (server_of self.now) now phase Applied.No }
+    /// The refusal of a server behind which no quorum stands, with its phase, and whether the call may have been made.
+    pub fn no_quorum(&self, now: u32, phase: Phase, applied: Applied) -> Reply
+        ensures { result ≡ no_quorum (member_of self.now) (server_of self.now) now phase applied }
     {
         Reply::NoQuorum {
             now,
             until: self.votes.lease_until(),
             phase,
-            applied: Applied::No,
+            applied,
+        }
+    }
+
+    /// The write in flight.
+    pub fn in_flight(&self) -> Option<&OwnWrite>
+        ensures { option_copied result ≡ own_of self.now.writes }
+    {
+        match &self.writes {
+            Some(writes) => writes.in_flight(),
+            None => None,
+        }
+    }
+
+    /// Whether a write is in flight.
+    pub fn is_writing(&self) -> bool
+        ensures { result ≡ is_some (own_of self.now.writes) }
+    {
+        self.in_flight().is_some()
+    }
+
+    /// The version that is announced: during a write in flight the one before it.
+    pub fn announced(&self) -> Version
+        ensures { result ≡ announced_of self.now.version (own_of self.now.writes) }
+    {
+        match self.in_flight() {
+            Some(write) => write.versions().0,
+            None => self.version,
         }
     }
 
@@ -113,6 +119,7 @@ impl State {
     /// A commit that a majority has at once, since this server is alone: only it has the version.
     pub fn take_commit(&mut self, version: Version, image: HeldImage)
         requires alone { length self.old.cell ≡ 1 }
+        requires free { own_of self.old.writes ≡ None }
         requires version { IsVersion version }
         requires fits { length image ≤ MAX_IMAGE }
         ensures after { server_of self.new ≡ recovering version (with_text (held_alone self.old.recovery 0) None) (with_database (server_of self.old) version image) }

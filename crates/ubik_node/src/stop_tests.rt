@@ -97,7 +97,7 @@ fn goes_well<D: SteadyDisk>(
     now: u32,
     event: NodeEvent,
 ) -> Result<(bool, Outputs), Fail>
-    requires built { IsBuilt appending.database (own_member node.old) (node_of node.old) event }
+    requires built { IsBuilt event }
     requires stored { IsStored D.Disk node.old }
     ensures member { own_member node.new ≡ own_member node.old }
     ensures stored { IsStored D.Disk node.new }

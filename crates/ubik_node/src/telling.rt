@@ -1,13 +1,13 @@
 //! What a server tells of its database, and what it hears of those of others.
-ghost use Rattle.std.specs.Prelude.{◌≡◌, ◌≤◌, ◌<◌, ◌↔◌, ◌==◌, ◌&&◌, ◌||◌, not, nat_lt, ℕ, Bool, List, [], length, false, None, IsSome, IsTrue};
+ghost use Rattle.std.specs.Prelude.{◌≡◌, ◌≤◌, ◌<◌, ◌↔◌, ◌⊎◌, ◌==◌, ◌&&◌, ◌||◌, not, nat_lt, length, false, IsErrOf, IsOk, IsSome, IsTrue};
 ghost use Rattle.ubik_types.specs.Moment.{IsMoment};
 ghost use Rattle.ubik_types.specs.Version.{IsVersion, version_eq};
 ghost use Rattle.cell_model.specs.Receiver.{get_piece_received};
-ghost use Rattle.cell_model.specs.Recovery.{fetch_refused, lacking_sent, piece_kept_received, sent_piece, told_to_spread, version_is_received, version_kept_received};
+ghost use Rattle.cell_model.specs.Recovery.{fetch_refused, holder_added, lacking_sent, piece_kept_received, sent_piece, told_to_spread, version_is_received, version_kept_received};
 ghost use Rattle.cell_model.specs.Step.{quiet, sends_to, showing};
 ghost use Rattle.ubik_recovery.specs.Record.{best_of, host_of, polled_of, spread_of};
+ghost use Rattle.ubik_node.specs.Recovering.{IsServing};
 ghost use Rattle.ubik_node.specs.Spreading.{IsSpreading, answer_heard};
-ghost use Rattle.db_image.specs.Database.{Database};
 
 use crate::nodes::Node;
 use crate::outputs::Outputs;
@@ -20,7 +20,7 @@ use ubik_store::StoreFault;
 use ubik_types::{Host, Phase, Version};
 
 impl State {
-    ghost use Rattle.ubik_node.specs.State.{server_of, member_of, Keeps, ShowsBehind};
+    ghost use Rattle.ubik_node.specs.State.{server_of, member_of, Keeps};
 
     /// Whether the own database goes to the others, and those that have it are counted.
     pub fn is_spreading(&self) -> bool
@@ -60,6 +60,7 @@ impl State {
 
     /// Version told in a fetch: where the server that is asked has another one a new poll begins.
     fn hear_fetched(&mut self, now: u32, from: usize, version: Version)
+        requires { ¬ IsServing self.old.recovery }
         ensures server { (fetch_refused (member_of self.old) (server_of self.old) now (host_of self.old.recovery) (best_of self.old.recovery) from version)
             ≡ quiet (server_of self.new) }
         ensures kept { Keeps self.old self.new }
@@ -69,34 +70,59 @@ impl State {
             self.begin_poll(now);
         }
     }
-
-    /// A server of the cell says that its database is the one of this version.
-    pub fn hear_kept(&mut self, from: usize, version: Version, out: &mut Outputs)
-        requires from { from < length self.old.cell }
-        requires empty { out.old ≡ [] }
-        ensures shows { (db : Database) (now : ℕ) (short : List Bool)
-            → ShowsBehind (version_kept_received db (member_of self.old) (server_of self.old) now from version short (server_of self.old).phase)
-            (server_of self.new) [] out.new }
-        ensures kept { Keeps self.old self.new }
-    {
-        if self.is_spreading() && version == self.version {
-            self.add_holder(from, out);
-        }
-    }
 }
 
 impl<D: SteadyDisk, V: DraftService> Node<D, V> {
-    ghost use Rattle.ubik_node.specs.Node.{Ends, held, IsStored, Knows, own_member, up_server};
+    ghost use Rattle.ubik_node.specs.Node.{Ends, EndsSo, held, IsMeantIn, IsStored, Knows, own_member, up_server};
+
+    /// A server of the cell says that its database is the one of this version.
+    pub(crate) fn hear_kept(
+        &mut self,
+        now: u32,
+        from: usize,
+        version: Version,
+        out: &mut Outputs,
+    ) -> Result<(), StoreFault>
+        requires not_halted { self.old.halted ≡ false }
+        requires stored { IsStored D.Disk self.old }
+        requires few { length out.old ≤ 100 }
+        requires from { from < length self.old.state.cell }
+        ensures ends { EndsSo D.Disk (IsMeantIn V.standing (D.files self.old.store.disk) self.old.state.image)
+            (λ short. version_kept_received V.standing.database (own_member self.old) (up_server self.old) now from version short (up_server self.old).phase)
+            out.old out.new (held self.old) (held self.new) result }
+        ensures memory { IsErrOf result StoreFault.DiskFault ⊎ IsOk result }
+    {
+        if self.state.is_spreading() && version == self.state.version {
+            return self.add_holder(now, from, out);
+        }
+        Ok(())
+    }
+
+    /// A server has the own version.
+    fn add_holder(&mut self, now: u32, from: usize, out: &mut Outputs) -> Result<(), StoreFault>
+        requires not_halted { self.old.halted ≡ false }
+        requires stored { IsStored D.Disk self.old }
+        requires few { length out.old ≤ 100 }
+        requires from { from < length self.old.state.cell }
+        requires phase { IsSpreading self.old.state.recovery.phase }
+        ensures ends { EndsSo D.Disk (IsMeantIn V.standing (D.files self.old.store.disk) self.old.state.image)
+            (λ short. holder_added V.standing.database (own_member self.old) (up_server self.old) now from short)
+            out.old out.new (held self.old) (held self.new) result }
+        ensures memory { IsErrOf result StoreFault.DiskFault ⊎ IsOk result }
+    {
+        self.state.count_holder(from);
+        self.settle_with_turns(now, out)
+    }
 
     /// The piece from a place on of the own image goes to a host.
     fn send_piece(&mut self, host: Host, at: u32, out: &mut Outputs) -> Result<(), StoreFault>
         requires not_halted { self.old.halted ≡ false }
         requires stored { IsStored D.Disk self.old }
-        requires empty { out.old ≡ [] }
+        requires few { length out.old ≤ 100 }
         requires within { at ≤ length self.old.state.image }
         ensures { Ends D.Disk (IsSome (D.files self.old.store.disk))
             (showing (up_server self.old) (sends_to (own_member self.old) host (sent_piece (up_server self.old) self.old.state.recovery.poll at)))
-            [] out.new (held self.old) (held self.new) result }
+            out.old out.new (held self.old) (held self.new) result }
     {
         let bytes = read_piece(self.alloc, &mut self.store, at)?;
         let piece = Body::SendPiece {
@@ -121,10 +147,10 @@ impl<D: SteadyDisk, V: DraftService> Node<D, V> {
     ) -> Result<(), StoreFault>
         requires not_halted { self.old.halted ≡ false }
         requires stored { IsStored D.Disk self.old }
-        requires empty { out.old ≡ [] }
+        requires few { length out.old ≤ 100 }
         ensures { Ends D.Disk (IsSome (D.files self.old.store.disk))
             (get_piece_received (own_member self.old) (up_server self.old) host poll version offset)
-            [] out.new (held self.old) (held self.new) result }
+            out.old out.new (held self.old) (held self.new) result }
     {
         let total = self.state.image.len();
         let has = self.state.has_piece(version, offset);
@@ -156,14 +182,18 @@ impl<D: SteadyDisk, V: DraftService> Node<D, V> {
     ) -> Result<(), StoreFault>
         requires not_halted { self.old.halted ≡ false }
         requires stored { IsStored D.Disk self.old }
-        requires empty { out.old ≡ [] }
+        requires few { length out.old ≤ 100 }
         ensures { Ends D.Disk (IsSome (D.files self.old.store.disk))
             (piece_kept_received (own_member self.old) (up_server self.old) host version next (up_server self.old).phase)
-            [] out.new (held self.old) (held self.new) result }
+            out.old out.new (held self.old) (held self.new) result }
     {
         let spreads = self.state.is_spreading();
+        let writes = self.state.is_writing();
         let goes_on = self.state.goes_on(version, next);
         if !spreads {
+            return Ok(());
+        }
+        if writes {
             return Ok(());
         }
         if goes_on {
@@ -172,7 +202,7 @@ impl<D: SteadyDisk, V: DraftService> Node<D, V> {
         Ok(())
     }
 
-    /// A server with another version than the own one is sent what it lacks.
+    /// A server with another version than the own one is sent what it lacks, unless a write is in flight.
     fn send_lacking(
         &mut self,
         host: Host,
@@ -181,12 +211,16 @@ impl<D: SteadyDisk, V: DraftService> Node<D, V> {
     ) -> Result<(), StoreFault>
         requires not_halted { self.old.halted ≡ false }
         requires stored { IsStored D.Disk self.old }
-        requires empty { out.old ≡ [] }
+        requires few { length out.old ≤ 100 }
         ensures { Ends D.Disk (IsSome (D.files self.old.store.disk))
-            (lacking_sent (own_member self.old) (up_server self.old) host (polled_of self.old.state.recovery) (spread_of self.old.state.recovery) version None)
-            [] out.new (held self.old) (held self.new) result }
+            (lacking_sent (own_member self.old) (up_server self.old) host (polled_of self.old.state.recovery) (spread_of self.old.state.recovery) version (up_server self.old).flight)
+            out.old out.new (held self.old) (held self.new) result }
     {
+        let writes = self.state.is_writing();
         let has_old = self.state.is_before(version);
+        if writes {
+            return Ok(());
+        }
         if !has_old {
             return self.send_piece(host, 0, out);
         }
@@ -212,12 +246,12 @@ impl<D: SteadyDisk, V: DraftService> Node<D, V> {
         requires moment { IsMoment now }
         requires not_halted { self.old.halted ≡ false }
         requires stored { IsStored D.Disk self.old }
-        requires empty { out.old ≡ [] }
+        requires few { length out.old ≤ 100 }
         requires from { from < length self.old.state.cell }
         requires version { IsVersion version }
-        ensures { (db : Database) (short : List Bool) → Ends D.Disk (IsSome (D.files self.old.store.disk))
-            (version_is_received db (own_member self.old) (up_server self.old) now host from poll version short (up_server self.old).phase)
-            [] out.new (held self.old) (held self.new) result }
+        ensures { EndsSo D.Disk (IsMeantIn V.standing (D.files self.old.store.disk) self.old.state.image)
+            (λ short. version_is_received V.standing.database (own_member self.old) (up_server self.old) now host from poll version short (up_server self.old).phase)
+            out.old out.new (held self.old) (held self.new) result }
     {
         match self.state.recovery.phase() {
             Phase::Poll => self.hear_answer(now, from, poll, version, out),
@@ -225,7 +259,7 @@ impl<D: SteadyDisk, V: DraftService> Node<D, V> {
                 self.state.hear_fetched(now, from, version);
                 Ok(())
             }
-            Phase::Send | Phase::Ready => self.hear_told(from, host, poll, version, out),
+            Phase::Send | Phase::Ready => self.hear_told(now, from, host, poll, version, out),
             Phase::None | Phase::Relabel => Ok(()),
         }
     }
@@ -242,13 +276,13 @@ impl<D: SteadyDisk, V: DraftService> Node<D, V> {
         requires moment { IsMoment now }
         requires not_halted { self.old.halted ≡ false }
         requires stored { IsStored D.Disk self.old }
-        requires empty { out.old ≡ [] }
+        requires few { length out.old ≤ 100 }
         requires from { from < length self.old.state.cell }
         requires version { IsVersion version }
         requires phase { self.old.state.recovery.phase ≡ Phase.Poll }
         ensures { Ends D.Disk (Knows D.Disk self.old)
             (answer_heard (own_member self.old) (up_server self.old) now (polled_of self.old.state.recovery) from poll version)
-            [] out.new (held self.old) (held self.new) result }
+            out.old out.new (held self.old) (held self.new) result }
     {
         let counts = poll == self.state.recovery.poll();
         if !counts {
@@ -263,6 +297,7 @@ impl<D: SteadyDisk, V: DraftService> Node<D, V> {
     /// lacks.
     fn hear_told(
         &mut self,
+        now: u32,
         from: usize,
         host: Host,
         poll: u32,
@@ -271,13 +306,13 @@ impl<D: SteadyDisk, V: DraftService> Node<D, V> {
     ) -> Result<(), StoreFault>
         requires not_halted { self.old.halted ≡ false }
         requires stored { IsStored D.Disk self.old }
-        requires empty { out.old ≡ [] }
+        requires few { length out.old ≤ 100 }
         requires from { from < length self.old.state.cell }
         requires phase { IsSpreading self.old.state.recovery.phase }
-        ensures { (db : Database) (now : ℕ) (short : List Bool) → Ends D.Disk (IsSome (D.files self.old.store.disk))
-            (told_to_spread db (own_member self.old) (up_server self.old) now host from (polled_of self.old.state.recovery) (spread_of self.old.state.recovery)
-            poll version short)
-            [] out.new (held self.old) (held self.new) result }
+        ensures { EndsSo D.Disk (IsMeantIn V.standing (D.files self.old.store.disk) self.old.state.image)
+            (λ short. told_to_spread V.standing.database (own_member self.old) (up_server self.old) now host from (polled_of self.old.state.recovery)
+            (spread_of self.old.state.recovery) poll version short)
+            out.old out.new (held self.old) (held self.new) result }
     {
         let counts = poll == self.state.recovery.poll();
         let same = version == self.state.version;
@@ -287,7 +322,6 @@ impl<D: SteadyDisk, V: DraftService> Node<D, V> {
         if !same {
             return self.send_lacking(host, version, out);
         }
-        self.state.add_holder(from, out);
-        Ok(())
+        self.add_holder(now, from, out)
     }
 }

@@ -181,7 +181,7 @@ pub(crate) fn ended<D: SteadyDisk>(
     now: u32,
     event: NodeEvent,
 ) -> Result<(StepEnd, Outputs), Fail>
-    requires built { IsBuilt appending.database (own_member node.old) (node_of node.old) event }
+    requires built { IsBuilt event }
     requires stored { IsStored D.Disk node.old }
     ensures member { own_member node.new ≡ own_member node.old }
     ensures stored { IsStored D.Disk node.new }
@@ -201,7 +201,7 @@ pub(crate) fn step<D: SteadyDisk>(
     event: NodeEvent,
     wanted: StepEnd,
 ) -> Result<Outputs, Fail>
-    requires built { IsBuilt appending.database (own_member node.old) (node_of node.old) event }
+    requires built { IsBuilt event }
     requires stored { IsStored D.Disk node.old }
     ensures member { own_member node.new ≡ own_member node.old }
     ensures stored { IsStored D.Disk node.new }
@@ -360,7 +360,6 @@ pub(crate) fn ask<D: SteadyDisk>(
     asked: (u32, u32, &[u8]),
     wanted: StepEnd,
 ) -> Result<Outputs, Fail>
-    requires built { appending.database.writes asked.2.now ≡ Some true → cell_size (own_member node.old) ≡ 1 }
     requires stored { IsStored D.Disk node.old }
     ensures member { own_member node.new ≡ own_member node.old }
     ensures stored { IsStored D.Disk node.new }

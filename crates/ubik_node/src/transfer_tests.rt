@@ -257,7 +257,7 @@ fn turn<D: SteadyDisk>(
     now: u32,
     event: NodeEvent,
 ) -> Result<(), Fail>
-    requires built { IsBuilt appending.database (own_member pair.old.first) (node_of pair.old.first) event }
+    requires built { IsBuilt event }
     requires first { IsStored D.Disk pair.old.first }
     requires second { IsStored D.Disk pair.old.second }
     ensures first { IsStored D.Disk pair.new.first }

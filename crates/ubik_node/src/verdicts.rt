@@ -1,11 +1,9 @@
-//! What becomes of a writing call at a server that is alone in its cell, once the database has evaluated it.
+//! What becomes of a writing call at its turn, once the database has evaluated it.
 ghost use Rattle.std.specs.Prelude.{◌≡◌, ℕ, List, ◌<◌, ◌≤◌, length};
-ghost use Rattle.ubik_types.specs.declared.hosts.Host.{Host};
 ghost use Rattle.db_image.specs.Database.{changes_of};
+ghost use Rattle.cell_model.specs.Step.{Member};
 ghost use Rattle.cell_model.specs.Writes.{turned, written};
-ghost use Rattle.ubik_node.specs.Beacons.{alone};
 ghost use Rattle.ubik_node.specs.State.{server_of};
-ghost use Rattle.ubik_node.specs.Recovering.{IsServing};
 ghost use Rattle.ubik_node.specs.Verdict.{CanBeMade, Judges};
 
 use crate::evaluations::Evaluation;
@@ -28,14 +26,12 @@ pub enum Verdict {
 
 /// The verdict on what the database made of a call over the image.
 pub fn verdict_of<V: DraftService>(state: &State, made: Evaluation) -> Verdict
-    requires serving { IsServing state.now.recovery }
-    requires alone { length state.now.cell ≡ 1 }
     requires len { made.len ≡ length state.now.image }
     requires block { 0 < V.standing.database.block }
     ensures judged { (image : List ℕ) → length state.now.image ≤ length image
-        → made.changes ≡ changes_of V.standing.database state.now.image image → (h : Host) (now id : ℕ) (call : List ℕ)
-        → Judges h (server_of state.now) state.now.recovery now id call image result
-        (turned V.standing.database (alone h) (server_of state.now) now id call image made.reply) }
+        → made.changes ≡ changes_of V.standing.database state.now.image image → (m : Member) (now id : ℕ) (call : List ℕ)
+        → Judges m (server_of state.now) now id call image result
+        (turned V.standing.database m (server_of state.now) now id call image made.reply) }
     ensures can { CanBeMade (server_of state.now) result }
 {
     let Evaluation {
@@ -56,14 +52,12 @@ fn verdict_of_write<V: DraftService>(
     answer: Bytes,
     changes: Changes,
 ) -> Verdict
-    requires serving { IsServing state.now.recovery }
-    requires alone { length state.now.cell ≡ 1 }
     requires len { len ≡ length state.now.image }
     requires block { 0 < V.standing.database.block }
     ensures judged { (image : List ℕ) → length state.now.image ≤ length image
-        → changes ≡ changes_of V.standing.database state.now.image image → (h : Host) (now id : ℕ) (call : List ℕ)
-        → Judges h (server_of state.now) state.now.recovery now id call image result
-        (written V.standing.database (alone h) (server_of state.now) now id call answer image) }
+        → changes ≡ changes_of V.standing.database state.now.image image → (m : Member) (now id : ℕ) (call : List ℕ)
+        → Judges m (server_of state.now) now id call image result
+        (written V.standing.database m (server_of state.now) now id call answer image) }
     ensures can { CanBeMade (server_of state.now) result }
 {
     if let Some(bytes) = too_large(len as usize, &changes) {

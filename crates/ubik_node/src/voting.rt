@@ -1,7 +1,7 @@
 //! The rules of votes, and what a server tells of its version: they change what it keeps, and its disk is not touched.
-ghost use Rattle.std.specs.Prelude.{◌≡◌, ◌<◌, [], length};
+ghost use Rattle.std.specs.Prelude.{◌≡◌, ◌<◌, ◌≤◌, ◌++◌, length};
 ghost use Rattle.ubik_types.specs.Moment.{IsMoment};
-ghost use Rattle.cell_model.specs.Step.{outputs_of, sends_to_all};
+ghost use Rattle.cell_model.specs.Step.{outputs_of, quiet, sends_to_all};
 ghost use Rattle.cell_model.specs.Voting.{own_beacon, beacon_turn, beacon_received, vote_received};
 
 use crate::beacons::{ReadyBeacon, kept_beacon};
@@ -21,13 +21,13 @@ pub struct Heard {
 }
 
 impl State {
-    ghost use Rattle.ubik_node.specs.State.{server_of, member_of, Keeps, Shows};
+    ghost use Rattle.ubik_node.specs.State.{server_of, member_of, Keeps, ShowsBehind};
 
     /// Beacon turn: where a beacon is due it is taken, and goes to each other server.
     pub fn beacon_turn(&mut self, now: u32, out: &mut Outputs)
         requires moment { IsMoment now }
-        requires empty { out.old ≡ [] }
-        ensures shows { Shows (beacon_turn (member_of self.old) (server_of self.old) now) (server_of self.new) out.new }
+        requires few { length out.old ≤ 100 }
+        ensures shows { ShowsBehind (beacon_turn (member_of self.old) (server_of self.old) now) (server_of self.new) out.old out.new }
         ensures kept { Keeps self.old self.new }
     {
         if !self.votes.beacon_due(now) {
@@ -48,9 +48,9 @@ impl State {
         out: &mut Outputs,
     )
         requires from { from < length self.old.cell }
-        requires empty { out.old ≡ [] }
-        ensures shows { Shows (beacon_received (member_of self.old) (server_of self.old) now host from heard.start heard.claim heard.ready heard.version)
-            (server_of self.new) out.new }
+        requires few { length out.old ≤ 100 }
+        ensures shows { ShowsBehind (beacon_received (member_of self.old) (server_of self.old) now host from heard.start heard.claim heard.ready heard.version)
+            (server_of self.new) out.old out.new }
         ensures kept { Keeps self.old self.new }
     {
         let beacon = ReadyBeacon {
@@ -70,7 +70,7 @@ impl State {
     /// A vote of a server of the cell, for the beacon of that start.
     pub fn hear_vote(&mut self, from: usize, start: u32, yes: bool)
         requires { from < length self.old.cell }
-        ensures shows { Shows (vote_received (member_of self.old) (server_of self.old) from start yes) (server_of self.new) [] }
+        ensures server { vote_received (member_of self.old) (server_of self.old) from start yes ≡ quiet (server_of self.new) }
         ensures kept { Keeps self.old self.new }
     {
         self.votes.on_vote(from, start, yes);
@@ -80,18 +80,24 @@ impl State {
     fn own_beacon(&self, now: u32, claim: bool) -> Body
         ensures { result ≡ own_beacon (server_of self.now) now claim }
     {
+        let ready = claim && self.recovery.phase() == Phase::Ready;
+        let version = if ready {
+            self.announced()
+        } else {
+            self.version
+        };
         Body::Beacon {
             start: now,
             claim,
-            ready: claim && self.recovery.phase() == Phase::Ready,
-            version: self.version,
+            ready,
+            version,
         }
     }
 
     /// Sends its beacon to each other server, in their order.
     fn send_beacons(&self, now: u32, claim: bool, out: &mut Outputs)
-        requires { out.old ≡ [] }
-        ensures { out.new ≡ outputs_of (sends_to_all (member_of self.now) (own_beacon (server_of self.now) now claim)) }
+        requires { length out.old ≤ 100 }
+        ensures { out.new ≡ out.old ++ outputs_of (sends_to_all (member_of self.now) (own_beacon (server_of self.now) now claim)) }
     {
         for k in 0..self.cell.len() {
             if k != self.me {

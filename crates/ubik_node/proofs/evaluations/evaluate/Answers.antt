@@ -1,26 +1,19 @@
-use Rattle.std.proofs.Common.{◌≡◌, ◌∙◌, IfErr, refl, rules, arith}
+use Rattle.std.proofs.Common.{◌≡◌, IfErr, refl, rules, arith}
 use Rattle.ubik_store.specs.declared.faults.StoreFault.TheVariants.{NoMemory}
 use Rattle.ubik_node.proofs.Lending.{lent_reads, made_in, no_disk_fault}
 use Rattle.ubik_node.proofs.evaluations.evaluate.Goals as goal
 
 pub returns-then-faults-gt0-clause-disk : goal.returns-then-faults-gt0-clause-disk
 returns-then-faults-gt0-clause-disk g c =
-    lent_reads g.D.Disk _ c.draft-draft.result.image c.call-end.new.image.image c.finish-image.result.0 _ c.draft-draft.ensures.image
-    c.requires.fresh c.call-end.ensures.reads.came c.finish-image.ensures.image (search rules) (λ _. search rules) (λ _. search rules)
+    lent_reads g.D.Disk _ _ c.evaluate_over-image.result.0 c.evaluate_over-image.result.0 _ refl
+    c.requires.fresh c.evaluate_over-image.ensures.reads.came refl (search rules) (λ _. search rules) (λ _. search rules)
 
-pub returns-in_err-changes-clause-disk : goal.returns-in_err-changes-clause-disk
-returns-in_err-changes-clause-disk g c =
-    lent_reads g.D.Disk _ c.draft-draft.result.image c.call-end.new.image.image (record { store = c.image.inside.store; faults = c.image.inside.faults }) _ c.draft-draft.ensures.image
-    c.requires.fresh c.call-end.ensures.reads.came (c.image.view_is ∙ c.finish-image.ensures.image) (search rules)
+pub returns-in_err-made-clause-disk : goal.returns-in_err-made-clause-disk
+returns-in_err-made-clause-disk g c =
+    lent_reads g.D.Disk _ _ c.evaluate_over-image.result.0 (record { store = c.image.inside.store; faults = c.image.inside.faults }) _ refl
+    c.requires.fresh c.evaluate_over-image.ensures.reads.came c.image.view_is (search rules)
     (λ failed. let some = c.image.invariant.failed.0 failed in absurd (omega (arith, some, c.if-faults-gt0.false)))
     (λ failed. let memory : IfErr c.from_residual.result (λ fault. fault ≡ NoMemory) = search rules in absurd (no_disk_fault c.from_residual.result memory failed))
-
-pub returns-in-DiskFault-clause-disk : goal.returns-in-DiskFault-clause-disk
-returns-in-DiskFault-clause-disk g c =
-    lent_reads g.D.Disk _ c.draft-draft.result.image c.call-end.new.image.image (record { store = c.image.inside.store; faults = c.image.inside.faults }) _ c.draft-draft.ensures.image
-    c.requires.fresh c.call-end.ensures.reads.came (c.image.view_is ∙ c.finish-image.ensures.image) (search rules)
-    (λ failed. let some = c.image.invariant.failed.0 failed in absurd (omega (arith, some, c.if-faults-gt0.false)))
-    (λ failed. absurd (no_disk_fault _ refl failed))
 
 pub returns-clause-made : goal.returns-clause-made
 returns-clause-made g c =
@@ -29,7 +22,7 @@ returns-clause-made g c =
 
 pub returns-clause-disk : goal.returns-clause-disk
 returns-clause-disk g c =
-    lent_reads g.D.Disk _ c.draft-draft.result.image c.call-end.new.image.image (record { store = c.image.inside.store; faults = c.image.inside.faults }) _ c.draft-draft.ensures.image
-    c.requires.fresh c.call-end.ensures.reads.came (c.image.view_is ∙ c.finish-image.ensures.image) (search rules)
+    lent_reads g.D.Disk _ _ c.evaluate_over-image.result.0 (record { store = c.image.inside.store; faults = c.image.inside.faults }) _ refl
+    c.requires.fresh c.evaluate_over-image.ensures.reads.came c.image.view_is (search rules)
     (λ failed. let some = c.image.invariant.failed.0 failed in absurd (omega (arith, some, c.if-faults-gt0.false)))
     (λ failed. absurd (no_disk_fault _ tt failed))

@@ -6,6 +6,7 @@ use Rattle.ubik_types.specs.Logged.{logged, too_large}
 use Rattle.db_image.specs.Database.{changes_of}
 use Rattle.db_image.proofs.Laid.{changes_lead}
 use Rattle.ubik_store.specs.Gaps.{CutsNoPut}
+use Rattle.ubik_node.specs.State.{server_of}
 use Rattle.ubik_node.proofs.Committing.{commits, polls_again}
 use Rattle.ubik_node.proofs.Gapless.{kept_between, uncut_between}
 use Rattle.ubik_node.proofs.Images.{image_within}
@@ -15,7 +16,7 @@ filled : (n : ℕ) → eqb n 0 ≡ false → 0 < n
 filled n some = grind (arith, nat_tests)
 
 pub returns-else-state-eq-MAX_COUNTER-clause-judged : goal.returns-else-state-eq-MAX_COUNTER-clause-judged
-returns-else-state-eq-MAX_COUNTER-clause-judged g c = λ image grows made h now id call.
+returns-else-state-eq-MAX_COUNTER-clause-judged g c = λ image grows made m now id call.
     let db = g.V.DraftService.standing.database in
     let old = c.args.state.now.image in
     let same : changes_of db old image ≡ c.args.changes = sym made in
@@ -30,14 +31,14 @@ returns-else-state-eq-MAX_COUNTER-clause-judged g c = λ image grows made h now 
         fits = image_within db.head db.block old image c.requires.block c.args.state.now.image_fits (ap (λ (x : List Change). too_large 0 (length old) x) same ∙ fits);
         puts = subst CutsNoPut same (uncut_between old image db.head db.block);
       },
-      commits db h c.args.state.now now id call c.args.answer image c.requires.serving (c.args.state.now.of_cell.servers ∙ c.requires.alone) c.args.changes same fits some (ne_eqb _ _ apart),
+      commits db m (server_of c.args.state.now) now id call c.args.answer image c.args.changes same fits some (ne_eqb _ _ apart),
     )
 
 pub returns-then-state-eq-MAX_COUNTER-clause-judged : goal.returns-then-state-eq-MAX_COUNTER-clause-judged
-returns-then-state-eq-MAX_COUNTER-clause-judged g c = λ image grows made h now id call.
+returns-then-state-eq-MAX_COUNTER-clause-judged g c = λ image grows made m now id call.
     let db = g.V.DraftService.standing.database in
     let same : changes_of db c.args.state.now.image image ≡ c.args.changes = sym made in
     let fits : too_large 0 (length c.args.state.now.image) c.args.changes ≡ None = rw c.requires.len at (sym c.too_large.ensures ∙ c.in_default.is) in
     let empty : eqb (length c.as_slice.result.now) 0 ≡ false = sym c.is_empty.ensures ∙ c.if-is_empty.false in
     let some : 0 < length c.args.changes = filled _ (ap (λ (x : List Change). eqb (length x) 0) (sym c.as_slice.ensures) ∙ empty) in
-    polls_again db h c.args.state.now now id call c.args.answer image c.requires.serving (c.args.state.now.of_cell.servers ∙ c.requires.alone) c.args.changes same fits some (eq-eqb _ _ c.if-state-eq-MAX_COUNTER.true)
+    polls_again db m (server_of c.args.state.now) now id call c.args.answer image c.args.changes same fits some (eq-eqb _ _ c.if-state-eq-MAX_COUNTER.true)

@@ -3,7 +3,7 @@ use Rattle.ubik_recovery.specs.Record.{RecoveryRecord, adopted, poll_begun, poll
 use Rattle.cell_model.specs.Recovery.{poll_asked}
 use Rattle.ubik_node.specs.Node.{Ends, Knows, held}
 use Rattle.ubik_node.specs.Recovering.{IsOfCell}
-use Rattle.ubik_node.specs.State.{member_of, server_of, server_with}
+use Rattle.ubik_node.specs.State.{announced, member_of, server_of, server_with}
 use Rattle.ubik_node.proofs.Endings.{same_ends}
 use Rattle.ubik_node.proofs.Polled.{of_begun, of_marks}
 use Rattle.ubik_node.proofs.Turning.{begun_asked}
@@ -23,8 +23,8 @@ returns g c =
     let st = n.state in
     let begun = poll_begun (with_text st.recovery None) c.args.now st.me st.version in
     let next : c.begin.new.self ≡ begun = c.begin.ensures ∙ ap (λ (r : RecoveryRecord). poll_begun r c.args.now st.me st.version) c.marks-next.ensures in
-    same_ends g.D.Disk (begun_asked (member_of st) (server_of st) st.version st.recovery c.args.now (sym st.of_cell.servers))
-    (subst (λ (r : RecoveryRecord). Ends g.D.Disk (Knows g.D.Disk n) (poll_asked (member_of st) (server_with st (adopted r st.recovery)) (polled_of r) c.args.now) [] c.poll_asked.new.out (held n) (held c.poll_asked.new.self) c.poll_asked.result) next c.poll_asked.ensures)
+    same_ends g.D.Disk (begun_asked (member_of st) (server_of st) (announced st) st.recovery c.args.now (sym st.of_cell.servers))
+    (subst (λ (r : RecoveryRecord). Ends g.D.Disk (Knows g.D.Disk n) (poll_asked (member_of st) (server_with st (adopted r st.recovery)) (polled_of r) c.args.now) c.args.out.now c.poll_asked.new.out (held n) (held c.poll_asked.new.self) c.poll_asked.result) next c.poll_asked.ensures)
 
 pub begin-requires : goal.begin-requires
 begin-requires g c = omega (arith, c.args.self.now.state.place, c.args.self.now.state.few)
@@ -38,8 +38,11 @@ poll_asked-requires-clause-not_halted g c = c.requires.not_halted
 pub poll_asked-requires-clause-stored : goal.poll_asked-requires-clause-stored
 poll_asked-requires-clause-stored g c = c.requires.stored
 
-pub poll_asked-requires-clause-empty : goal.poll_asked-requires-clause-empty
-poll_asked-requires-clause-empty g c = c.requires.empty
+pub poll_asked-requires-clause-few : goal.poll_asked-requires-clause-few
+poll_asked-requires-clause-few g c = c.requires.few
 
 pub poll_asked-requires-clause-phase : goal.poll_asked-requires-clause-phase
 poll_asked-requires-clause-phase g c = ap (λ (r : RecoveryRecord). r.phase) c.begin.ensures
+
+pub poll_asked-requires-clause-resting : goal.poll_asked-requires-clause-resting
+poll_asked-requires-clause-resting g c = c.requires.resting

@@ -5,7 +5,7 @@ use Rattle.ubik_calls.specs.declared.packets.TheConstants.{MAX_PIECES}
 use Rattle.cell_model.specs.Node.{KeptWrite}
 use Rattle.ubik_node.specs.Keeping.{IsKeptOver}
 use Rattle.ubik_node.specs.Node.{held}
-use Rattle.ubik_node.specs.State.{server_of}
+use Rattle.ubik_node.specs.State.{announced, server_of}
 use Rattle.ubik_node.proofs.Begun.{begin_ignored, begin_kept, begin_long, begin_other, newer_than}
 use Rattle.ubik_node.proofs.Endings.{rests_ends, same_ends, shown_ends}
 use Rattle.ubik_node.proofs.Received.{sending_is}
@@ -16,7 +16,7 @@ returns-then-spreads g c =
     let n = c.args.self.now in
     let st = n.state in
     let some : c.is_spreading-spreads.result ≡ true = search rules in
-    let sends = sending_is c.is_spreading-spreads.result st.version st.recovery c.is_spreading-spreads.ensures ∙ some in
+    let sends = sending_is c.is_spreading-spreads.result (announced st) st.recovery c.is_spreading-spreads.ensures ∙ some in
     same_ends g.D.Disk (begin_ignored (server_of st) c.args.old c.args.new c.args.pieces c.args.len sends)
     (rests_ends g.D.Disk (held n) c.requires.stored c.requires.not_halted (record { server = refl; calls = refl; outputs = refl }))
 
@@ -25,7 +25,7 @@ returns-then-not-follows g c =
     let n = c.args.self.now in
     let st = n.state in
     let none : c.is_spreading-spreads.result ≡ false = search rules in
-    let rests = sending_is c.is_spreading-spreads.result st.version st.recovery c.is_spreading-spreads.ensures ∙ none in
+    let rests = sending_is c.is_spreading-spreads.result (announced st) st.recovery c.is_spreading-spreads.ensures ∙ none in
     let other : c.may_become-follows.result ≡ false = search rules in
     same_ends g.D.Disk (begin_other (server_of st) c.args.old c.args.new c.args.pieces c.args.len rests (sym c.may_become-follows.ensures ∙ other))
     (rests_ends g.D.Disk (held n) c.requires.stored c.requires.not_halted (record { server = refl; calls = refl; outputs = refl }))
@@ -35,7 +35,7 @@ returns-then-pieces-gt-MAX_PIECES g c =
     let n = c.args.self.now in
     let st = n.state in
     let none : c.is_spreading-spreads.result ≡ false = search rules in
-    let rests = sending_is c.is_spreading-spreads.result st.version st.recovery c.is_spreading-spreads.ensures ∙ none in
+    let rests = sending_is c.is_spreading-spreads.result (announced st) st.recovery c.is_spreading-spreads.ensures ∙ none in
     let long : nat_le c.args.pieces MAX_PIECES ≡ false = grind (arith, nat_tests) in
     same_ends g.D.Disk (begin_long (server_of st) c.args.old c.args.new c.args.pieces c.args.len rests long)
     (rests_ends g.D.Disk (held n) c.requires.stored c.requires.not_halted (record { server = refl; calls = refl; outputs = refl }))
@@ -53,7 +53,7 @@ returns g c =
     let st = n.state in
     let last = c.keep_write.new.self in
     let none : c.is_spreading-spreads.result ≡ false = search rules in
-    let rests = sending_is c.is_spreading-spreads.result st.version st.recovery c.is_spreading-spreads.ensures ∙ none in
+    let rests = sending_is c.is_spreading-spreads.result (announced st) st.recovery c.is_spreading-spreads.ensures ∙ none in
     let follows : c.may_become-follows.result ≡ true = search rules in
     let few : nat_le c.args.pieces MAX_PIECES ≡ true = grind (arith, nat_tests) in
     same_ends g.D.Disk (begin_kept (server_of st) c.args.old c.args.new c.args.pieces c.args.len rests (sym c.may_become-follows.ensures ∙ follows) few)

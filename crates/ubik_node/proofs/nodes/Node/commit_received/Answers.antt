@@ -1,4 +1,5 @@
 use Rattle.std.proofs.Common.{◌≡◌, ◌∙◌, ◌++◌, true, false, length, refl, rules, sym, ap, arith}
+use Rattle.std.proofs.lemmas.List.{append-nil}
 use Rattle.std.specs.Prelude.{is_none}
 use Rattle.std.proofs.lemmas.Bool.{false≢true}
 use Rattle.ubik_types.specs.Logged.{too_large}
@@ -7,7 +8,7 @@ use Rattle.ubik_calls.specs.declared.packets.Body.TheVariants as body
 use Rattle.cell_model.specs.Receiver.{committed_by}
 use Rattle.cell_model.specs.Step.{Member, outputs_of, sends_to}
 use Rattle.ubik_node.specs.Node.{held}
-use Rattle.ubik_node.specs.State.{member_of, server_of}
+use Rattle.ubik_node.specs.State.{announced, member_of, server_of}
 use Rattle.ubik_node.proofs.Begun.{commit_had, commit_ignored, commit_large, commit_missing, commit_other, commit_taken, whole_over}
 use Rattle.ubik_node.proofs.Endings.{handed_ends, rests_ends, same_ends, short_ends}
 use Rattle.ubik_node.proofs.Fronts.{fails_so, goes_on}
@@ -20,22 +21,22 @@ returns-then-spreads g c =
     let n = c.args.self.now in
     let st = n.state in
     let some : c.is_spreading-spreads.result ≡ true = search rules in
-    let sends = sending_is c.is_spreading-spreads.result st.version st.recovery c.is_spreading-spreads.ensures ∙ some in
+    let sends = sending_is c.is_spreading-spreads.result (announced st) st.recovery c.is_spreading-spreads.ensures ∙ some in
     same_ends g.D.Disk (commit_ignored (member_of st) (server_of st) c.args.host c.args.old c.args.new sends)
-    (rests_ends g.D.Disk (held n) c.requires.stored c.requires.not_halted (record { server = refl; calls = refl; outputs = c.requires.empty }))
+    (rests_ends g.D.Disk (held n) c.requires.stored c.requires.not_halted (record { server = refl; calls = refl; outputs = sym (append-nil c.args.out.now) }))
 
 pub returns-then-has : goal.returns-then-has
 returns-then-has g c =
     let n = c.args.self.now in
     let st = n.state in
     let none : c.is_spreading-spreads.result ≡ false = search rules in
-    let rests = sending_is c.is_spreading-spreads.result st.version st.recovery c.is_spreading-spreads.ensures ∙ none in
+    let rests = sending_is c.is_spreading-spreads.result (announced st) st.recovery c.is_spreading-spreads.ensures ∙ none in
     let has : version_eq st.version c.args.new ≡ true = search rules in
     same_ends g.D.Disk (commit_had (member_of st) (server_of st) c.args.host c.args.old c.args.new rests has)
     (rests_ends g.D.Disk (held n) c.requires.stored c.requires.not_halted (record {
       server = refl;
       calls = refl;
-      outputs = sent_as (member_of st) c.args.host c.args.out.now c.send.new.out (body.VersionKept st.version) (body.VersionKept st.version) c.send.ensures.sent c.requires.empty refl;
+      outputs = sent_as (member_of st) c.args.host c.args.out.now c.send.new.out (body.VersionKept st.version) (body.VersionKept st.version) c.send.ensures.sent refl;
     }))
 
 pub returns-then-not-lacks : goal.returns-then-not-lacks
@@ -43,22 +44,22 @@ returns-then-not-lacks g c =
     let n = c.args.self.now in
     let st = n.state in
     let none : c.is_spreading-spreads.result ≡ false = search rules in
-    let rests = sending_is c.is_spreading-spreads.result st.version st.recovery c.is_spreading-spreads.ensures ∙ none in
+    let rests = sending_is c.is_spreading-spreads.result (announced st) st.recovery c.is_spreading-spreads.ensures ∙ none in
     let has : version_eq st.version c.args.new ≡ false = search rules in
     let other : version_eq st.version c.args.old ≡ false = search rules in
     same_ends g.D.Disk (commit_other (member_of st) (server_of st) c.args.host c.args.old c.args.new rests has other)
-    (rests_ends g.D.Disk (held n) c.requires.stored c.requires.not_halted (record { server = refl; calls = refl; outputs = c.requires.empty }))
+    (rests_ends g.D.Disk (held n) c.requires.stored c.requires.not_halted (record { server = refl; calls = refl; outputs = sym (append-nil c.args.out.now) }))
 
 pub returns-in-Missing : goal.returns-in-Missing
 returns-in-Missing g c =
     let n = c.args.self.now in
     let st = n.state in
     let none : c.is_spreading-spreads.result ≡ false = search rules in
-    let rests = sending_is c.is_spreading-spreads.result st.version st.recovery c.is_spreading-spreads.ensures ∙ none in
+    let rests = sending_is c.is_spreading-spreads.result (announced st) st.recovery c.is_spreading-spreads.ensures ∙ none in
     let has : version_eq st.version c.args.new ≡ false = search rules in
     let same : version_eq st.version c.args.old ≡ true = search rules in
     same_ends g.D.Disk (commit_missing (member_of st) (server_of st) c.args.host c.args.old c.args.new rests has same c.in-Missing.ensures)
-    (rests_ends g.D.Disk (held n) c.requires.stored c.requires.not_halted (record { server = refl; calls = refl; outputs = c.requires.empty }))
+    (rests_ends g.D.Disk (held n) c.requires.stored c.requires.not_halted (record { server = refl; calls = refl; outputs = sym (append-nil c.args.out.now) }))
 
 pub returns-in-NoMemory : goal.returns-in-NoMemory
 returns-in-NoMemory g c = short_ends g.D.Disk (held c.args.self.now) c.requires.stored c.requires.not_halted
@@ -68,19 +69,19 @@ returns-then-large g c =
     let n = c.args.self.now in
     let st = n.state in
     let none : c.is_spreading-spreads.result ≡ false = search rules in
-    let rests = sending_is c.is_spreading-spreads.result st.version st.recovery c.is_spreading-spreads.ensures ∙ none in
+    let rests = sending_is c.is_spreading-spreads.result (announced st) st.recovery c.is_spreading-spreads.ensures ∙ none in
     let has : version_eq st.version c.args.new ≡ false = search rules in
     let same : version_eq st.version c.args.old ≡ true = search rules in
     let large : is_none (too_large 0 (length st.image) c.in-Whole.changes) ≡ false = search rules in
     same_ends g.D.Disk (commit_large (member_of st) (server_of st) c.args.host c.args.old c.args.new rests has same c.in-Whole.changes c.in-Whole.ensures large)
-    (rests_ends g.D.Disk (held n) c.requires.stored c.requires.not_halted (record { server = refl; calls = refl; outputs = c.requires.empty }))
+    (rests_ends g.D.Disk (held n) c.requires.stored c.requires.not_halted (record { server = refl; calls = refl; outputs = sym (append-nil c.args.out.now) }))
 
 pub returns-in_err-take_write : goal.returns-in_err-take_write
 returns-in_err-take_write g c =
     let n = c.args.self.now in
     let st = n.state in
     let none : c.is_spreading-spreads.result ≡ false = search rules in
-    let rests = sending_is c.is_spreading-spreads.result st.version st.recovery c.is_spreading-spreads.ensures ∙ none in
+    let rests = sending_is c.is_spreading-spreads.result (announced st) st.recovery c.is_spreading-spreads.ensures ∙ none in
     let has : version_eq st.version c.args.new ≡ false = search rules in
     let same : version_eq st.version c.args.old ≡ true = search rules in
     let fits : is_none (too_large 0 (length st.image) c.in-Whole.changes) ≡ true = search rules in
@@ -96,7 +97,7 @@ returns g c =
     let x = c.take_write.new.self.state in
     let kept = body.VersionKept c.args.new in
     let none : c.is_spreading-spreads.result ≡ false = search rules in
-    let rests = sending_is c.is_spreading-spreads.result st.version st.recovery c.is_spreading-spreads.ensures ∙ none in
+    let rests = sending_is c.is_spreading-spreads.result (announced st) st.recovery c.is_spreading-spreads.ensures ∙ none in
     let has : version_eq st.version c.args.new ≡ false = search rules in
     let same : version_eq st.version c.args.old ≡ true = search rules in
     let fits : is_none (too_large 0 (length st.image) c.in-Whole.changes) ≡ true = search rules in
@@ -105,7 +106,7 @@ returns g c =
     (λ server. (
       server,
       sent_as m c.args.host c.args.out.now c.send-2.new.out kept kept
-          (c.send-2.ensures.sent ∙ ap (λ (k : Member). c.args.out.now ++ outputs_of (sends_to k c.args.host kept)) c.in_ok-take_write.ensures.member) c.requires.empty refl,
+          (c.send-2.ensures.sent ∙ ap (λ (k : Member). c.args.out.now ++ outputs_of (sends_to k c.args.host kept)) c.in_ok-take_write.ensures.member) refl,
     ))
     c.in_ok-take_write.ensures)
 
@@ -123,7 +124,7 @@ take_write-requires-clause-newer g c =
     let st = c.args.self.now.state in (whole_over st.version c.args.new st.pending c.in-Whole.changes st.begun c.in-Whole.ensures).1
 
 pub send-requires : goal.send-requires
-send-requires g c = omega (arith, ap length c.requires.empty)
+send-requires g c = omega (arith, c.requires.few)
 
 pub send-requires-2 : goal.send-requires-2
-send-requires-2 g c = omega (arith, ap length c.requires.empty)
+send-requires-2 g c = omega (arith, c.requires.few)

@@ -1,15 +1,16 @@
-use Rattle.std.proofs.Common.{◌≡◌, ◌+◌, ◌∙◌, ◌++◌, ℕ, true, false, List, length, take, sym, ap, subst, arith, length-take}
+use Rattle.std.proofs.Common.{Err, ◌≡◌, ◌+◌, ◌∙◌, ◌++◌, ℕ, true, false, List, length, take, sym, ap, subst, arith, length-take}
 use Rattle.std.specs.Result.{is_err}
 use Rattle.std.proofs.lemmas.List.{take-take}
 use Rattle.ubik_types.specs.declared.versions.Version.{Version}
 use Rattle.ubik_recovery.specs.Record.{RecoveryRecord}
 use Rattle.ubik_recovery.specs.Text.{received_bytes, with_piece}
 use Rattle.cell_model.specs.Durable.{durable}
+use Rattle.cell_model.specs.Node.{halted_from}
 use Rattle.ubik_node.specs.Node.{IsStoredAs, durable_in, held}
-use Rattle.ubik_node.specs.State.{member_of, server_of}
+use Rattle.ubik_node.specs.State.{announced, member_of, server_of}
 use Rattle.ubik_node.proofs.Endings.{same_ends}
 use Rattle.ubik_node.proofs.Fetching.{fetched_front, front_phase}
-use Rattle.ubik_node.proofs.Fronts.{failed_from, front_cut, front_image, front_restored, made_from, next_within, on_err, on_fine, short_back}
+use Rattle.ubik_node.proofs.Fronts.{back_kept, taken_kept, failed_from, front_cut, front_image, front_restored, made_from, next_within, on_err, on_fine, short_back}
 use Rattle.ubik_node.proofs.Received.{piece_end}
 use Rattle.ubik_node.proofs.nodes.Node.fetch_last.Goals as goal
 
@@ -64,7 +65,7 @@ returns-in-Ok g c =
     let same : durable_in (server_of mid) ≡ durable_in (server_of st) = ap (λ (v : Version). durable v mid.image) kept.version ∙ ap (durable st.version) kept.image in
     made_from g.D.Disk (held n) (server_of mid) (member_of mid) same kept.member (held c.fetched.new.self)
     (same_ends g.D.Disk
-    (fetched_front (member_of st) (member_of mid) (server_of st) (server_of mid) c.args.now at (with_piece c.args.source at c.args.bytes.now st.recovery.text).bytes c.deref.result.now st.version st.recovery mid.recovery c.requires.phase
+    (fetched_front (member_of st) (member_of mid) (server_of st) (server_of mid) c.args.now at (with_piece c.args.source at c.args.bytes.now st.recovery.text).bytes c.deref.result.now (announced st) st.recovery mid.recovery c.requires.phase
     c.take_front-text.ensures.after c.take_front-text.ensures.recovery kept.member (c.deref.ensures.value ∙ whole)) c.in-Ok.ensures)
 
 pub put_front-requires-in-Err : goal.put_front-requires-in-Err
@@ -87,10 +88,11 @@ returns-in-Err g c =
     let front : take at items ≡ take at xs = ap (take at) whole ∙ front_cut at xs c.args.bytes.now (next_within at st.recovery.text c.requires.next) in
     let same : durable_in (server_of mid) ≡ durable_in (server_of st) = ap (λ (v : Version). durable v mid.image) kept.version ∙ ap (durable st.version) kept.image in
     failed_from g.D.Disk (held n) (server_of mid) (member_of mid) same kept.member (held c.fetched.new.self) (server_of last) (member_of last) c.in-Err.fault
-    (c.put_front-in-Err.ensures.after ∙ front_restored c.requires.takes.0 c.args.source at c.args.bytes.now (take at items) st late _ c.requires.takes.1 (c.in-Err.ensures.state ∙ c.take_front-text.ensures.after) front)
+    (λ other. c.put_front-in-Err.ensures.after ∙ front_restored c.requires.takes.0 c.args.source at c.args.bytes.now (take at items) st late _ c.requires.takes.1 (c.in-Err.ensures.state other ∙ c.take_front-text.ensures.after) front)
+    (λ is. ap halted_from c.put_front-in-Err.ensures.after ∙ back_kept c.args.source at (take at items) late ∙ c.in-Err.ensures.keeps (ap Err is) ∙ ap halted_from c.take_front-text.ensures.after ∙ taken_kept at st)
     (c.put_front-in-Err.ensures.kept.member ∙ c.in-Err.ensures.member ∙ kept.member)
     (same_ends g.D.Disk
-    (fetched_front (member_of st) (member_of mid) (server_of st) (server_of mid) c.args.now at (with_piece c.args.source at c.args.bytes.now st.recovery.text).bytes c.deref.result.now st.version st.recovery mid.recovery c.requires.phase
+    (fetched_front (member_of st) (member_of mid) (server_of st) (server_of mid) c.args.now at (with_piece c.args.source at c.args.bytes.now st.recovery.text).bytes c.deref.result.now (announced st) st.recovery mid.recovery c.requires.phase
     c.take_front-text.ensures.after c.take_front-text.ensures.recovery kept.member (c.deref.ensures.value ∙ whole)) c.in-Err.ensures)
 
 pub take_front-text-requires : goal.take_front-text-requires
@@ -102,5 +104,5 @@ fetched-requires-clause-moment g c = c.requires.moment
 pub fetched-requires-clause-not_halted : goal.fetched-requires-clause-not_halted
 fetched-requires-clause-not_halted g c = c.requires.not_halted
 
-pub fetched-requires-clause-empty : goal.fetched-requires-clause-empty
-fetched-requires-clause-empty g c = c.requires.empty
+pub fetched-requires-clause-few : goal.fetched-requires-clause-few
+fetched-requires-clause-few g c = c.requires.few

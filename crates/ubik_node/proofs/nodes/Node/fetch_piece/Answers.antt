@@ -1,10 +1,11 @@
 use Rattle.std.proofs.Common.{◌≡◌, ◌≢◌, ◌+◌, ◌∙◌, true, false, Some, length, refl, sym, ap, rules, arith, eq-eqb, ne_eqb}
+use Rattle.std.proofs.lemmas.List.{append-nil}
 use Rattle.std.proofs.lemmas.Bool.{false≢true}
 use Rattle.ubik_recovery.specs.Record.{with_text}
 use Rattle.ubik_recovery.specs.Text.{with_piece}
 use Rattle.ubik_node.specs.declared.state.State.{State}
 use Rattle.ubik_node.specs.Node.{held}
-use Rattle.ubik_node.specs.State.{member_of, server_of}
+use Rattle.ubik_node.specs.State.{announced, member_of, server_of}
 use Rattle.ubik_node.proofs.Endings.{handed_ends, rests_ends, same_ends, shown_ends}
 use Rattle.ubik_node.proofs.Fetching.{asked_goes, asked_text, asks_next, fits_of, piece_ends, piece_goes, piece_ignored, piece_unasked, piece_unfetched, whole_at}
 use Rattle.ubik_node.proofs.Fronts.{short_back, text_put}
@@ -16,9 +17,9 @@ returns-then-not-fetches g c =
     let n = c.args.self.now in
     let st = n.state in
     let none : c.is_fetching-fetches.result ≡ false = search rules in
-    same_ends g.D.Disk (piece_unfetched (member_of st) (server_of st) c.args.now c.args.source.server c.args.poll c.args.source.version c.args.source.total c.args.offset c.args.bytes.now st.version st.recovery
+    same_ends g.D.Disk (piece_unfetched (member_of st) (server_of st) c.args.now c.args.source.server c.args.poll c.args.source.version c.args.source.total c.args.offset c.args.bytes.now (announced st) st.recovery
     (λ is. false≢true (sym none ∙ c.is_fetching-fetches.ensures.1 is)))
-    (rests_ends g.D.Disk (held n) c.requires.stored c.requires.not_halted (record { server = refl; calls = refl; outputs = c.requires.empty }))
+    (rests_ends g.D.Disk (held n) c.requires.stored c.requires.not_halted (record { server = refl; calls = refl; outputs = sym (append-nil c.args.out.now) }))
 
 pub returns-then-not-asked : goal.returns-then-not-asked
 returns-then-not-asked g c =
@@ -26,9 +27,9 @@ returns-then-not-asked g c =
     let st = n.state in
     let some : c.is_fetching-fetches.result ≡ true = search rules in
     let none : c.is_asked-asked.result ≡ false = search rules in
-    same_ends g.D.Disk (piece_unasked (member_of st) (server_of st) c.args.now c.args.source.server c.args.poll c.args.source.version c.args.source.total c.args.offset c.args.bytes.now st.version st.recovery
+    same_ends g.D.Disk (piece_unasked (member_of st) (server_of st) c.args.now c.args.source.server c.args.poll c.args.source.version c.args.source.total c.args.offset c.args.bytes.now (announced st) st.recovery
     (c.is_fetching-fetches.ensures.0 some) (sym c.is_asked-asked.ensures ∙ none))
-    (rests_ends g.D.Disk (held n) c.requires.stored c.requires.not_halted (record { server = refl; calls = refl; outputs = c.requires.empty }))
+    (rests_ends g.D.Disk (held n) c.requires.stored c.requires.not_halted (record { server = refl; calls = refl; outputs = sym (append-nil c.args.out.now) }))
 
 pub returns-then-not-takes : goal.returns-then-not-takes
 returns-then-not-takes g c =
@@ -38,10 +39,10 @@ returns-then-not-takes g c =
     let some : c.is_fetching-fetches.result ≡ true = search rules in
     let asked : c.is_asked-asked.result ≡ true = search rules in
     let none : c.takes_piece-takes.result ≡ false = search rules in
-    same_ends g.D.Disk (piece_ignored (member_of st) (server_of st) c.args.now source.server c.args.poll source.version source.total c.args.offset c.args.bytes.now st.version st.recovery
+    same_ends g.D.Disk (piece_ignored (member_of st) (server_of st) c.args.now source.server c.args.poll source.version source.total c.args.offset c.args.bytes.now (announced st) st.recovery
     (c.is_fetching-fetches.ensures.0 some) (sym c.is_asked-asked.ensures ∙ asked)
     (asked_text c.has_no_byte-may_begin.result source.server source.version source.total c.args.offset c.args.bytes.now st.recovery.text c.has_no_byte-may_begin.ensures (sym c.takes_piece-takes.ensures.rule ∙ none)))
-    (rests_ends g.D.Disk (held n) c.requires.stored c.requires.not_halted (record { server = refl; calls = refl; outputs = c.requires.empty }))
+    (rests_ends g.D.Disk (held n) c.requires.stored c.requires.not_halted (record { server = refl; calls = refl; outputs = sym (append-nil c.args.out.now) }))
 
 pub fetch_last-requires-clause-takes : goal.fetch_last-requires-clause-takes
 fetch_last-requires-clause-takes g c =
@@ -72,7 +73,7 @@ returns-then-whole g c =
     let takes : c.takes_piece-takes.result ≡ true = search rules in
     let ends : at + length bytes ≡ source.total = omega arith in
     let text = with_piece source at bytes st.recovery.text in
-    same_ends g.D.Disk (piece_ends (member_of st) (server_of st) c.args.now source.server c.args.poll source.version source.total at bytes st.version st.recovery (c.is_fetching-fetches.ensures.0 some)
+    same_ends g.D.Disk (piece_ends (member_of st) (server_of st) c.args.now source.server c.args.poll source.version source.total at bytes (announced st) st.recovery (c.is_fetching-fetches.ensures.0 some)
     (sym c.is_asked-asked.ensures ∙ asked) text
     (asked_goes c.has_no_byte-may_begin.result source.server source.version source.total at bytes st.recovery.text text c.has_no_byte-may_begin.ensures (c.takes_piece-takes.ensures.text takes))
     (whole_at source at bytes st.recovery.text true (c.takes_piece-takes.ensures.next takes) (eq-eqb _ _ ends)))
@@ -100,14 +101,14 @@ returns g c =
     let takes : c.takes_piece-takes.result ≡ true = search rules in
     let goes : at + length bytes ≢ source.total = omega arith in
     let text = with_piece source at bytes r.text in
-    same_ends g.D.Disk (piece_goes m (server_of st) c.args.now source.server c.args.poll source.version source.total at bytes st.version r (c.is_fetching-fetches.ensures.0 some)
+    same_ends g.D.Disk (piece_goes m (server_of st) c.args.now source.server c.args.poll source.version source.total at bytes (announced st) r (c.is_fetching-fetches.ensures.0 some)
     (sym c.is_asked-asked.ensures ∙ asked) text (asked_goes c.has_no_byte-may_begin.result source.server source.version source.total at bytes r.text text c.has_no_byte-may_begin.ensures (c.takes_piece-takes.ensures.text takes))
     (whole_at source at bytes r.text false (c.takes_piece-takes.ensures.next takes) (ne_eqb _ _ goes)))
     (shown_ends g.D.Disk (held n) st x c.requires.stored c.requires.not_halted refl refl c.keep_piece.ensures.kept (record {
-      server = sym (c.in_ok-keep_piece.ensures.after ∙ text_put st.version r (server_of st) (Some text));
+      server = sym (c.in_ok-keep_piece.ensures.after ∙ text_put (announced st) r (server_of st) (Some text));
       calls = refl;
       outputs =
-          asks_next m (member_of x) x.recovery (with_text r (Some text)) c.ask_piece.ensures c.requires.empty c.keep_piece.ensures.kept.member c.in_ok-keep_piece.ensures.recovery
+          asks_next m (member_of x) x.recovery (with_text r (Some text)) c.args.out.now c.ask_piece.ensures c.keep_piece.ensures.kept.member c.in_ok-keep_piece.ensures.recovery
           (sym (piece_end source at bytes r.text (c.takes_piece-takes.ensures.next takes)));
     }))
 
@@ -120,8 +121,8 @@ fetch_last-requires-clause-not_halted g c = c.requires.not_halted
 pub fetch_last-requires-clause-stored : goal.fetch_last-requires-clause-stored
 fetch_last-requires-clause-stored g c = c.requires.stored
 
-pub fetch_last-requires-clause-empty : goal.fetch_last-requires-clause-empty
-fetch_last-requires-clause-empty g c = c.requires.empty
+pub fetch_last-requires-clause-few : goal.fetch_last-requires-clause-few
+fetch_last-requires-clause-few g c = c.requires.few
 
 pub fetch_last-requires-clause-phase : goal.fetch_last-requires-clause-phase
 fetch_last-requires-clause-phase g c =
@@ -144,7 +145,7 @@ keep_piece-requires-clause-within g c =
     c.takes_piece-takes.ensures.within some
 
 pub ask_piece-requires : goal.ask_piece-requires
-ask_piece-requires g c = record { few = omega (arith, ap length c.requires.empty) }
+ask_piece-requires g c = record { few = omega (arith, c.requires.few) }
 
 pub overflow_cast-next : goal.overflow_cast-next
 overflow_cast-next g c =

@@ -1,4 +1,5 @@
 use Rattle.std.proofs.Common.{◌≡◌, ◌∙◌, true, false, nat_lt, List, [], IsSome, None, length, Ok, Err, refl, sym, ap, subst, rules, arith}
+use Rattle.std.proofs.lemmas.List.{append-nil}
 use Rattle.cell_model.specs.declared.events.Output.{Output}
 use Rattle.cell_model.specs.Recovery.{installed, relabelled}
 use Rattle.cell_model.specs.Step.{Member, followed, with_phase}
@@ -10,7 +11,7 @@ use Rattle.ubik_types.specs.Version.{IsVersion, version_lt}
 use Rattle.ubik_recovery.specs.Record.{RecoveryRecord, adopted, best_of, in_phase, is_fetch, polled_of, with_text}
 use Rattle.ubik_node.specs.Node.{Ends, Knows, held}
 use Rattle.ubik_node.specs.Recovering.{IsOfCell}
-use Rattle.ubik_node.specs.State.{member_of, server_of, server_with}
+use Rattle.ubik_node.specs.State.{announced, member_of, server_of, server_with}
 use Rattle.ubik_node.proofs.Endings.{handed_ends, known_ends, same_ends}
 use Rattle.ubik_node.proofs.Fetching.{fetched_new, fetched_relabels, fetched_waits, of_relabelling, waits_at}
 use Rattle.ubik_node.proofs.Fronts.{fails_so, goes_on}
@@ -36,10 +37,9 @@ returns-then-not-better g c =
     let less : version_lt st.version c.best.result.0 ≡ false = search rules in
     let older : version_lt st.version (best_of st.recovery) ≡ false = ap (version_lt st.version) (sym c.best.ensures.version) ∙ less in
     known_ends g.D.Disk (λ told more. told)
-    (same_ends g.D.Disk (fetched_relabels m (server_of st) c.args.now st.me c.args.text.now st.version st.recovery c.requires.phase older)
-    (subst (λ (o : List Output). Ends g.D.Disk (Knows g.D.Disk n) (relabelled m (server_with st (adopted next st.recovery)) (polled_of next) c.args.now) o c.relabelled.new.out (held n) (held c.relabelled.new.self) c.relabelled.result) c.requires.empty
+    (same_ends g.D.Disk (fetched_relabels m (server_of st) c.args.now st.me c.args.text.now (announced st) st.recovery c.requires.phase older)
     (subst (λ (r : RecoveryRecord). Ends g.D.Disk (Knows g.D.Disk n) (relabelled m (server_with st (adopted r st.recovery)) (polled_of r) c.args.now) c.args.out.now c.relabelled.new.out (held n) (held c.relabelled.new.self) c.relabelled.result) is
-    c.relabelled.ensures)))
+    c.relabelled.ensures))
 
 pub install_and_relabel-requires-clause-resting : goal.install_and_relabel-requires-clause-resting
 install_and_relabel-requires-clause-resting g c = λ serves. let not = sym c.requires.phase ∙ serves in absurd cc
@@ -68,7 +68,7 @@ returns-then-past g c =
     same_ends g.D.Disk
     (fetched_new m (server_of st) c.args.now (polled_of st.recovery) (best_of st.recovery) c.args.text.now newer
     ∙ ap (λ (v : Version). followed (installed (server_of st) v c.args.text.now) (λ after. relabelled m after (polled_of st.recovery) c.args.now)) (sym c.best.ensures.version))
-    (subst (λ (r : RecoveryRecord). Ends g.D.Disk (IsSome (g.D.Disk.files n.store.disk)) (followed (installed (server_of st) c.best.result.0 c.args.text.now) (λ after. relabelled m after (polled_of r) c.args.now)) [] call.new.out (held n) (held call.new.self) call.result) is
+    (subst (λ (r : RecoveryRecord). Ends g.D.Disk (IsSome (g.D.Disk.files n.store.disk)) (followed (installed (server_of st) c.best.result.0 c.args.text.now) (λ after. relabelled m after (polled_of r) c.args.now)) c.args.out.now call.new.out (held n) (held call.new.self) call.result) is
     call.ensures)
 
 pub install-requires-clause-resting : goal.install-requires-clause-resting
@@ -122,7 +122,7 @@ returns g c =
     (λ server. (
       waits_at (server_of st) best text (polled_of st.recovery) mid.state next server
           ∙ sym (c.wait.ensures.after ∙ ap (λ (poll : Polled). with_phase (server_with mid.state (adopted next mid.state.recovery)) (Relabel poll)) same),
-      c.requires.empty,
+      sym (append-nil c.args.out.now),
     ))
     (subst (λ (v : Version). Ends g.D.Disk (IsSome (g.D.Disk.files n.store.disk)) (installed (server_of st) v text) [] [] (held n) (held mid) (Ok tt)) c.best.ensures.version c.in_ok-install.ensures))
 
@@ -139,7 +139,7 @@ pub relabelled-requires-clause-stored : goal.relabelled-requires-clause-stored
 relabelled-requires-clause-stored g c = c.requires.stored
 
 pub relabelled-requires-clause-few : goal.relabelled-requires-clause-few
-relabelled-requires-clause-few g c = omega (arith, ap length c.requires.empty)
+relabelled-requires-clause-few g c = omega (arith, c.requires.few)
 
 pub install_and_relabel-requires-clause-moment : goal.install_and_relabel-requires-clause-moment
 install_and_relabel-requires-clause-moment g c = c.requires.moment
@@ -150,8 +150,8 @@ install_and_relabel-requires-clause-not_halted g c = c.requires.not_halted
 pub install_and_relabel-requires-clause-stored : goal.install_and_relabel-requires-clause-stored
 install_and_relabel-requires-clause-stored g c = c.requires.stored
 
-pub install_and_relabel-requires-clause-empty : goal.install_and_relabel-requires-clause-empty
-install_and_relabel-requires-clause-empty g c = c.requires.empty
+pub install_and_relabel-requires-clause-few : goal.install_and_relabel-requires-clause-few
+install_and_relabel-requires-clause-few g c = c.requires.few
 
 pub install_and_relabel-requires-clause-fits : goal.install_and_relabel-requires-clause-fits
 install_and_relabel-requires-clause-fits g c = c.requires.fits
@@ -176,3 +176,6 @@ install-requires-clause-newer g c = search rules
 
 pub same-next : goal.same-next
 same-next g c = search rules
+
+pub relabelled-requires-clause-resting : goal.relabelled-requires-clause-resting
+relabelled-requires-clause-resting g c = λ serves. let not = sym c.requires.phase ∙ serves in absurd cc

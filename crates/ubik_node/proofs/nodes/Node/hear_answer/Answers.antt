@@ -1,12 +1,13 @@
 use Rattle.std.proofs.Common.{◌≡◌, ◌==◌, ◌∙◌, Bool, None, length, true, false, cond, refl, sym, ap, subst, rules, arith}
+use Rattle.std.proofs.lemmas.List.{append-nil}
 use Rattle.cell_model.specs.Polls.{with_answer}
 use Rattle.cell_model.specs.Recovery.{polled}
 use Rattle.cell_model.specs.Step.{Stepped, quiet}
 use Rattle.ubik_recovery.specs.Record.{RecoveryRecord, adopted, answered_by, polled_of, with_text}
 use Rattle.ubik_node.specs.Node.{Ends, Knows, held}
 use Rattle.ubik_node.specs.Recovering.{IsOfCell}
-use Rattle.ubik_node.specs.State.{member_of, server_of, server_with}
-use Rattle.ubik_node.proofs.Endings.{empty_ends, rests_ends, same_ends}
+use Rattle.ubik_node.specs.State.{announced, member_of, server_of, server_with}
+use Rattle.ubik_node.proofs.Endings.{rests_ends, same_ends}
 use Rattle.ubik_node.proofs.Polled.{of_answered, of_marks}
 use Rattle.ubik_node.proofs.Turning.{answer_polled}
 use Rattle.ubik_node.proofs.nodes.Node.hear_answer.Goals as goal
@@ -27,7 +28,7 @@ pub polled-requires-clause-stored : goal.polled-requires-clause-stored
 polled-requires-clause-stored g c = c.requires.stored
 
 pub polled-requires-clause-few : goal.polled-requires-clause-few
-polled-requires-clause-few g c = omega (arith, ap length c.requires.empty)
+polled-requires-clause-few g c = omega (arith, c.requires.few)
 
 pub polled-requires-clause-phase : goal.polled-requires-clause-phase
 polled-requires-clause-phase g c = ap (λ (r : RecoveryRecord). r.phase) (c.answer.ensures ∙ ap (λ (r : RecoveryRecord). answered_by r c.args.from c.args.version) c.marks-next.ensures) ∙ c.requires.phase
@@ -45,7 +46,7 @@ returns-then-not-counts g c =
     let s = server_of st in
     let off : (c.args.poll == st.recovery.poll) ≡ false = search rules in
     same_ends g.D.Disk (counted (c.args.poll == st.recovery.poll) false (polled (member_of st) s (with_answer (polled_of st.recovery) c.args.from c.args.version) c.args.now) (quiet s) off)
-    (rests_ends g.D.Disk (held n) c.requires.stored c.requires.not_halted (record { server = refl; calls = refl; outputs = c.requires.empty }))
+    (rests_ends g.D.Disk (held n) c.requires.stored c.requires.not_halted (record { server = refl; calls = refl; outputs = sym (append-nil c.args.out.now) }))
 
 pub returns : goal.returns
 returns g c =
@@ -57,6 +58,8 @@ returns g c =
     let next = c.answer.ensures ∙ ap (λ (x : RecoveryRecord). answered_by x c.args.from c.args.version) c.marks-next.ensures in
     let counts : (c.args.poll == r.poll) ≡ true = search rules in
     same_ends g.D.Disk
-    (counted (c.args.poll == r.poll) true (polled m s (with_answer (polled_of r) c.args.from c.args.version) c.args.now) (quiet s) counts ∙ answer_polled m s st.version r c.args.from c.args.now c.args.version c.requires.phase)
-    (empty_ends g.D.Disk c.requires.empty
-    (subst (λ (x : RecoveryRecord). Ends g.D.Disk (Knows g.D.Disk n) (polled m (server_with st (adopted x r)) (polled_of x) c.args.now) c.args.out.now c.polled.new.out (held n) (held c.polled.new.self) c.polled.result) next c.polled.ensures))
+    (counted (c.args.poll == r.poll) true (polled m s (with_answer (polled_of r) c.args.from c.args.version) c.args.now) (quiet s) counts ∙ answer_polled m s (announced st) r c.args.from c.args.now c.args.version c.requires.phase)
+    (subst (λ (x : RecoveryRecord). Ends g.D.Disk (Knows g.D.Disk n) (polled m (server_with st (adopted x r)) (polled_of x) c.args.now) c.args.out.now c.polled.new.out (held n) (held c.polled.new.self) c.polled.result) next c.polled.ensures)
+
+pub polled-requires-clause-resting : goal.polled-requires-clause-resting
+polled-requires-clause-resting g c = λ serves. let not = c.requires.phase in absurd cc

@@ -1,6 +1,7 @@
 use Rattle.std.proofs.Common.{◌∙◌, refl, rules, sym}
+use Rattle.std.proofs.lemmas.List.{append-nil}
 use Rattle.ubik_node.specs.Node.{held}
-use Rattle.ubik_node.specs.State.{member_of, server_of}
+use Rattle.ubik_node.specs.State.{announced, member_of, server_of}
 use Rattle.ubik_node.proofs.Endings.{known_ends, rests_ends, same_ends, shown_ends}
 use Rattle.ubik_node.proofs.Told.{heard_fetch, heard_none, heard_poll, heard_spread}
 use Rattle.ubik_node.proofs.nodes.Node.hear_version.Goals as goal
@@ -9,27 +10,27 @@ pub returns-in-Poll : goal.returns-in-Poll
 returns-in-Poll g c = λ db short.
     let st = c.args.self.now.state in
     known_ends g.D.Disk (λ told more. told)
-    (same_ends g.D.Disk (heard_poll (member_of st) (server_of st) c.args.host c.args.version st.version st.recovery db c.args.now c.args.from short c.args.poll (sym c.phase.ensures ∙ c.in-Poll.is)) c.hear_answer.ensures)
+    (same_ends g.D.Disk (heard_poll (member_of st) (server_of st) c.args.host c.args.version (announced st) st.recovery db c.args.now c.args.from short c.args.poll (sym c.phase.ensures ∙ c.in-Poll.is)) c.hear_answer.ensures)
 
 pub returns-in-Fetch : goal.returns-in-Fetch
 returns-in-Fetch g c = λ db short.
     let n = c.args.self.now in
     let st = n.state in
     same_ends g.D.Disk
-    (heard_fetch (member_of st) (server_of st) c.args.host c.args.version st.version st.recovery db c.args.now c.args.from short c.args.poll (sym c.phase.ensures ∙ c.in-Fetch.is) ∙ c.hear_fetched.ensures.server)
-    (shown_ends g.D.Disk (held n) st c.hear_fetched.new.self c.requires.stored c.requires.not_halted refl refl c.hear_fetched.ensures.kept (record { server = refl; calls = refl; outputs = c.requires.empty }))
+    (heard_fetch (member_of st) (server_of st) c.args.host c.args.version (announced st) st.recovery db c.args.now c.args.from short c.args.poll (sym c.phase.ensures ∙ c.in-Fetch.is) ∙ c.hear_fetched.ensures.server)
+    (shown_ends g.D.Disk (held n) st c.hear_fetched.new.self c.requires.stored c.requires.not_halted refl refl c.hear_fetched.ensures.kept (record { server = refl; calls = refl; outputs = sym (append-nil c.args.out.now) }))
 
 pub returns-in-Send : goal.returns-in-Send
 returns-in-Send g c = λ db short.
     let st = c.args.self.now.state in
-    same_ends g.D.Disk (heard_spread (member_of st) (server_of st) c.args.host c.args.version st.version st.recovery db c.args.now c.args.from short c.args.poll (search rules)) (c.hear_told.ensures db c.args.now short)
+    same_ends g.D.Disk (heard_spread (member_of st) (server_of st) c.args.host c.args.version (announced st) st.recovery db c.args.now c.args.from short c.args.poll (search rules)) (c.hear_told.ensures db c.args.now short)
 
 pub returns-in-None : goal.returns-in-None
 returns-in-None g c = λ db short.
     let n = c.args.self.now in
     let st = n.state in
-    same_ends g.D.Disk (heard_none (member_of st) (server_of st) c.args.host c.args.version st.version st.recovery db c.args.now c.args.from short c.args.poll (search rules))
-    (rests_ends g.D.Disk (held n) c.requires.stored c.requires.not_halted (record { server = refl; calls = refl; outputs = c.requires.empty }))
+    same_ends g.D.Disk (heard_none (member_of st) (server_of st) c.args.host c.args.version (announced st) st.recovery db c.args.now c.args.from short c.args.poll (search rules))
+    (rests_ends g.D.Disk (held n) c.requires.stored c.requires.not_halted (record { server = refl; calls = refl; outputs = sym (append-nil c.args.out.now) }))
 
 pub hear_answer-requires-clause-moment : goal.hear_answer-requires-clause-moment
 hear_answer-requires-clause-moment g c = c.requires.moment
@@ -40,8 +41,8 @@ hear_answer-requires-clause-not_halted g c = c.requires.not_halted
 pub hear_answer-requires-clause-stored : goal.hear_answer-requires-clause-stored
 hear_answer-requires-clause-stored g c = c.requires.stored
 
-pub hear_answer-requires-clause-empty : goal.hear_answer-requires-clause-empty
-hear_answer-requires-clause-empty g c = c.requires.empty
+pub hear_answer-requires-clause-few : goal.hear_answer-requires-clause-few
+hear_answer-requires-clause-few g c = c.requires.few
 
 pub hear_answer-requires-clause-from : goal.hear_answer-requires-clause-from
 hear_answer-requires-clause-from g c = c.requires.from
@@ -58,8 +59,8 @@ hear_told-requires-clause-not_halted g c = c.requires.not_halted
 pub hear_told-requires-clause-stored : goal.hear_told-requires-clause-stored
 hear_told-requires-clause-stored g c = c.requires.stored
 
-pub hear_told-requires-clause-empty : goal.hear_told-requires-clause-empty
-hear_told-requires-clause-empty g c = c.requires.empty
+pub hear_told-requires-clause-few : goal.hear_told-requires-clause-few
+hear_told-requires-clause-few g c = c.requires.few
 
 pub hear_told-requires-clause-from : goal.hear_told-requires-clause-from
 hear_told-requires-clause-from g c = c.requires.from

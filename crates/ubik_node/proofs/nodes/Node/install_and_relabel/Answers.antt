@@ -117,12 +117,11 @@ returns g c =
     (subst (λ (x : Member). ShowsBehind (settled x (server_of sending)) (server_of last) c.give.new.out c.settle.new.out) place c.settle.ensures.shows) in (
       shows.server,
       relabel_outputs m poll best after c.poll.result (length text) c.in_ok-bytes_of.field-0 c.args.out.now c.give.new.out c.settle.new.out (settled m after).shown st.place c.poll.ensures refl
-          (λ more. first_of text c.in_ok-bytes_of.field-0 c.min.result (omega (arith, c.min.ensures)) c.in_ok-bytes_of.ensures) c.in_ok-give.ensures.given shows.outputs
-          ∙ ap (λ (o : List Output). o ++ outputs_of (sends_to_each m (λ k. spread_answer after poll best (entry_at poll.answers k)) ++ (settled m after).shown)) c.requires.empty,
+          (λ more. first_of text c.in_ok-bytes_of.field-0 c.min.result (omega (arith, c.min.ensures)) c.in_ok-bytes_of.ensures) c.in_ok-give.ensures.given shows.outputs,
     )))
 
 pub give-requires : goal.give-requires
-give-requires g c = record { few = omega (arith, ap length c.requires.empty) }
+give-requires g c = record { few = omega (arith, c.requires.few) }
 
 pub install-requires-clause-sound : goal.install-requires-clause-sound
 install-requires-clause-sound g c = c.requires.stored.sound
@@ -155,7 +154,7 @@ pub begin_sending-requires-clause-version : goal.begin_sending-requires-clause-v
 begin_sending-requires-clause-version g c = record { epoch = omega (arith, c.requires.moment.fits); counter = omega arith }
 
 pub settle-requires : goal.settle-requires
-settle-requires g c = record { few = omega (arith, c.in_ok-give.ensures.few, ap length c.requires.empty) }
+settle-requires g c = record { few = omega (arith, c.in_ok-give.ensures.few, c.requires.few) }
 
 pub slice_bounds-first-end : goal.slice_bounds-first-end
 slice_bounds-first-end g c = omega (arith, length-take c.min.result c.args.text.now, c.min.ensures)

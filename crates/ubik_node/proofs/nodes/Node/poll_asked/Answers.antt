@@ -16,10 +16,9 @@ returns g c =
     let next = c.args.next in
     let m = member_of st in
     let poll = polled_of next in
-    let asked = outputs_of (asks_versions m poll.number (is_marked (marked (length st.cell) c.answered.result.set))) in
     behind_ends g.D.Disk (asks_versions m poll.number (has_answered poll)) c.polled.result
-    (c.ask_versions.ensures.asked ∙ ap (λ (p : ℕ). c.args.out.now ++ outputs_of (asks_versions m p (is_marked (marked (length st.cell) c.answered.result.set)))) c.poll.ensures ∙ ap (λ (o : List Output). o ++ asked) c.requires.empty
-    ∙ ap (λ (shown : List Shown). outputs_of shown) (asks_answered m poll (length st.cell) next.servers c.answered.result.set c.answered.ensures c.requires.of_cell.servers)) c.polled.ensures
+    (c.ask_versions.ensures.asked ∙ ap (λ (p : ℕ). c.args.out.now ++ outputs_of (asks_versions m p (is_marked (marked (length st.cell) c.answered.result.set)))) c.poll.ensures
+    ∙ ap (λ (shown : List Shown). c.args.out.now ++ outputs_of shown) (asks_answered m poll (length st.cell) next.servers c.answered.result.set c.answered.ensures c.requires.of_cell.servers)) c.polled.ensures
 
 pub polled-requires-clause-moment : goal.polled-requires-clause-moment
 polled-requires-clause-moment g c = c.requires.moment
@@ -31,7 +30,7 @@ pub polled-requires-clause-stored : goal.polled-requires-clause-stored
 polled-requires-clause-stored g c = c.requires.stored
 
 pub polled-requires-clause-few : goal.polled-requires-clause-few
-polled-requires-clause-few g c = omega (arith, c.ask_versions.ensures.few, ap length c.requires.empty)
+polled-requires-clause-few g c = omega (arith, c.ask_versions.ensures.few, c.requires.few)
 
 pub polled-requires-clause-of_cell : goal.polled-requires-clause-of_cell
 polled-requires-clause-of_cell g c = c.requires.of_cell
@@ -40,4 +39,7 @@ pub polled-requires-clause-phase : goal.polled-requires-clause-phase
 polled-requires-clause-phase g c = c.requires.phase
 
 pub ask_versions-requires : goal.ask_versions-requires
-ask_versions-requires g c = omega (arith, ap length c.requires.empty)
+ask_versions-requires g c = omega (arith, c.requires.few)
+
+pub polled-requires-clause-resting : goal.polled-requires-clause-resting
+polled-requires-clause-resting g c = c.requires.resting

@@ -3,7 +3,7 @@ use Rattle.std.proofs.lemmas.List.{append-nil}
 use Rattle.ubik_types.specs.Version.{version_lt}
 use Rattle.ubik_recovery.specs.Record.{adopted, best_of}
 use Rattle.ubik_node.specs.Node.{held}
-use Rattle.ubik_node.specs.State.{member_of, server_of}
+use Rattle.ubik_node.specs.State.{announced, member_of, server_of}
 use Rattle.ubik_node.proofs.Endings.{same_ends, shown_ends}
 use Rattle.ubik_node.proofs.Turning.{known_is, polled_fetches, polled_relabels, polled_rests}
 use Rattle.ubik_recovery.specs.Record.{is_fetch}
@@ -15,7 +15,7 @@ returns-then-not-known g c =
     let st = n.state in
     let none : c.majority-known.result ≡ false = c.if-not-known.true in
     let few = known_is c.majority-known.result (length st.cell) c.args.next.servers c.answered.result.set c.args.next.answers c.majority-known.ensures c.answered.ensures c.requires.of_cell.servers ∙ none in
-    same_ends g.D.Disk (polled_rests (member_of st) (server_of st) st.version (adopted c.args.next st.recovery) c.args.now c.requires.phase few)
+    same_ends g.D.Disk (polled_rests (member_of st) (server_of st) (announced st) (adopted c.args.next st.recovery) c.args.now c.requires.phase few)
     (shown_ends g.D.Disk (held n) st c.adopt.new.self c.requires.stored c.requires.not_halted refl refl c.adopt.ensures.kept (record { server = sym c.adopt.ensures.after; calls = refl; outputs = sym (append-nil c.args.out.now) }))
 
 pub returns-then-better : goal.returns-then-better
@@ -25,7 +25,7 @@ returns-then-better g c =
     let some : c.majority-known.result ≡ true = c.if-not-known.false in
     let most = known_is c.majority-known.result (length st.cell) c.args.next.servers c.answered.result.set c.args.next.answers c.majority-known.ensures c.answered.ensures c.requires.of_cell.servers ∙ some in
     let better : version_lt st.version (best_of c.args.next) ≡ true = search rules in
-    same_ends g.D.Disk (polled_fetches (member_of st) (server_of st) st.version (adopted c.args.next st.recovery) c.args.now most better)
+    same_ends g.D.Disk (polled_fetches (member_of st) (server_of st) (announced st) (adopted c.args.next st.recovery) c.args.now most better)
     (shown_ends g.D.Disk (held n) st c.fetch_best.new.self c.requires.stored c.requires.not_halted refl refl c.fetch_best.ensures.kept c.fetch_best.ensures.shows)
 
 pub returns : goal.returns
@@ -34,7 +34,7 @@ returns g c =
     let some : c.majority-known.result ≡ true = c.if-not-known.false in
     let most = known_is c.majority-known.result (length st.cell) c.args.next.servers c.answered.result.set c.args.next.answers c.majority-known.ensures c.answered.ensures c.requires.of_cell.servers ∙ some in
     let better : version_lt st.version (best_of c.args.next) ≡ false = search rules in
-    same_ends g.D.Disk (polled_relabels (member_of st) (server_of st) st.version (adopted c.args.next st.recovery) c.args.now most better) c.relabelled.ensures
+    same_ends g.D.Disk (polled_relabels (member_of st) (server_of st) (announced st) (adopted c.args.next st.recovery) c.args.now most better) c.relabelled.ensures
 
 pub relabelled-requires-clause-moment : goal.relabelled-requires-clause-moment
 relabelled-requires-clause-moment g c = c.requires.moment
@@ -63,5 +63,14 @@ fetch_best-requires-clause-phase g c = c.requires.phase
 pub fetch_best-requires-clause-of_cell : goal.fetch_best-requires-clause-of_cell
 fetch_best-requires-clause-of_cell g c = c.requires.of_cell
 
-pub adopt-requires : goal.adopt-requires
-adopt-requires g c = c.requires.of_cell
+pub adopt-requires-clause-of_cell : goal.adopt-requires-clause-of_cell
+adopt-requires-clause-of_cell g c = c.requires.of_cell
+
+pub relabelled-requires-clause-resting : goal.relabelled-requires-clause-resting
+relabelled-requires-clause-resting g c = c.requires.resting
+
+pub fetch_best-requires-clause-resting : goal.fetch_best-requires-clause-resting
+fetch_best-requires-clause-resting g c = c.requires.resting
+
+pub adopt-requires-clause-resting : goal.adopt-requires-clause-resting
+adopt-requires-clause-resting g c = c.requires.resting

@@ -1,7 +1,7 @@
 use Rattle.std.proofs.Common.{◌≡◌, ◌∙◌, true, false, refl, rules, sym, ap}
 use Rattle.ubik_node.specs.declared.state.State.{State}
 use Rattle.ubik_node.specs.Node.{held}
-use Rattle.ubik_node.specs.State.{member_of, server_of}
+use Rattle.ubik_node.specs.State.{announced, member_of, server_of}
 use Rattle.ubik_node.proofs.Begun.{put_ignored, put_taken}
 use Rattle.ubik_node.proofs.Endings.{handed_ends, rests_ends, same_ends, shown_ends}
 use Rattle.ubik_node.proofs.Fronts.{short_back}
@@ -13,7 +13,7 @@ returns-then-spreads g c =
     let n = c.args.self.now in
     let st = n.state in
     let some : c.is_spreading-spreads.result ≡ true = search rules in
-    let sends = sending_is c.is_spreading-spreads.result st.version st.recovery c.is_spreading-spreads.ensures ∙ some in
+    let sends = sending_is c.is_spreading-spreads.result (announced st) st.recovery c.is_spreading-spreads.ensures ∙ some in
     same_ends g.D.Disk (put_ignored (server_of st) c.args.new c.args.number c.args.bytes.now sends)
     (rests_ends g.D.Disk (held n) c.requires.stored c.requires.not_halted (record { server = refl; calls = refl; outputs = refl }))
 
@@ -29,6 +29,6 @@ returns g c =
     let n = c.args.self.now in
     let st = n.state in
     let none : c.is_spreading-spreads.result ≡ false = search rules in
-    let rests = sending_is c.is_spreading-spreads.result st.version st.recovery c.is_spreading-spreads.ensures ∙ none in
+    let rests = sending_is c.is_spreading-spreads.result (announced st) st.recovery c.is_spreading-spreads.ensures ∙ none in
     same_ends g.D.Disk (put_taken (server_of st) c.args.new c.args.number c.args.bytes.now rests)
     (shown_ends g.D.Disk (held n) st c.keep_write_piece.new.self c.requires.stored c.requires.not_halted refl refl c.keep_write_piece.ensures.kept (record { server = sym c.in_ok-keep_write_piece.ensures.after; calls = refl; outputs = refl }))

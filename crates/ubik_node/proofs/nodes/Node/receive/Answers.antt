@@ -1,7 +1,9 @@
-use Rattle.std.proofs.Common.{◌≡◌, ◌<◌, ◌∙◌, ℕ, Some, List, length, slice_get, refl, sym, ap, subst, arith}
+use Rattle.std.proofs.Common.{◌≡◌, ◌<◌, ◌∙◌, ℕ, Bool, Some, List, length, slice_get, refl, sym, ap, subst, arith}
+use Rattle.std.proofs.lemmas.List.{append-nil}
 use Rattle.std.proofs.lemmas.Option.{slice_get_within}
 use Rattle.ubik_types.specs.declared.hosts.Host.{Host}
 use Rattle.ubik_calls.specs.declared.packets.Body.TheVariants as body
+use Rattle.cell_model.specs.Step.{Stepped}
 use Rattle.ubik_node.specs.Built.{BodyTakesNoMemory, IsBuiltBody}
 use Rattle.ubik_node.specs.Node.{held}
 use Rattle.ubik_node.specs.State.{member_of, server_of}
@@ -9,7 +11,7 @@ use Rattle.ubik_node.proofs.Endings.{rests_ends, shown_ends}
 use Rattle.ubik_node.proofs.Begun.{quiet_ends, quietly}
 use Rattle.ubik_node.proofs.Places.{placed}
 use Rattle.ubik_node.proofs.Told.{sent_as}
-use Rattle.ubik_node.proofs.Voted.{behind, ignored_ends, placed_ends}
+use Rattle.ubik_node.proofs.Voted.{ignored_ends, placed_ends}
 use Rattle.ubik_node.proofs.nodes.Node.receive.Goals as goal
 
 inside : (hosts : List Host) (k : ℕ) (host : Host) → slice_get hosts k ≡ Some host → k < length hosts
@@ -19,19 +21,19 @@ pub returns-in_default-clause-ends : goal.returns-in_default-clause-ends
 returns-in_default-clause-ends g c = λ db short.
     let n = c.args.self.now in
     ignored_ends g.D.Disk db (member_of n.state) (server_of n.state) c.args.now c.args.packet.now short _ (placed _ _ _ c.index.ensures.found c.index.ensures.only ∙ c.in_default.is)
-    (rests_ends g.D.Disk (held n) c.requires.stored c.requires.not_halted (record { server = refl; calls = refl; outputs = c.requires.empty }))
+    (rests_ends g.D.Disk (held n) c.requires.stored c.requires.not_halted (record { server = refl; calls = refl; outputs = sym (append-nil c.args.out.now) }))
 
 pub returns-in-Beacon-clause-ends : goal.returns-in-Beacon-clause-ends
 returns-in-Beacon-clause-ends g c = λ db short.
     let n = c.args.self.now in
     placed_ends g.D.Disk db (member_of n.state) (server_of n.state) c.args.now c.args.packet.now short _ c.in-Some.from (body.Beacon c.in-Beacon.start c.in-Beacon.claim c.in-Beacon.ready c.in-Beacon.version) (placed _ _ _ c.index.ensures.found c.index.ensures.only ∙ c.in-Some.is) c.in-Beacon.is
-    (shown_ends g.D.Disk (held n) n.state c.hear_beacon.new.self c.requires.stored c.requires.not_halted refl refl c.hear_beacon.ensures.kept (behind _ _ _ c.hear_beacon.ensures.shows))
+    (shown_ends g.D.Disk (held n) n.state c.hear_beacon.new.self c.requires.stored c.requires.not_halted refl refl c.hear_beacon.ensures.kept c.hear_beacon.ensures.shows)
 
 pub returns-in-Vote-clause-ends : goal.returns-in-Vote-clause-ends
 returns-in-Vote-clause-ends g c = λ db short.
     let n = c.args.self.now in
     placed_ends g.D.Disk db (member_of n.state) (server_of n.state) c.args.now c.args.packet.now short _ c.in-Some.from (body.Vote c.in-Vote.start c.in-Vote.yes) (placed _ _ _ c.index.ensures.found c.index.ensures.only ∙ c.in-Some.is) c.in-Vote.is
-    (shown_ends g.D.Disk (held n) n.state c.hear_vote.new.self c.requires.stored c.requires.not_halted refl refl c.hear_vote.ensures.kept (record { server = c.hear_vote.ensures.shows.server; calls = c.hear_vote.ensures.shows.calls; outputs = c.requires.empty }))
+    (shown_ends g.D.Disk (held n) n.state c.hear_vote.new.self c.requires.stored c.requires.not_halted refl refl c.hear_vote.ensures.kept (record { server = ap (λ (t : Stepped). t.server) c.hear_vote.ensures.server; calls = ap (λ (t : Stepped). t.calls) c.hear_vote.ensures.server; outputs = sym (append-nil c.args.out.now) }))
 
 pub returns-in-GetVersion-clause-ends : goal.returns-in-GetVersion-clause-ends
 returns-in-GetVersion-clause-ends g c = λ db short.
@@ -41,7 +43,7 @@ returns-in-GetVersion-clause-ends g c = λ db short.
       server = refl;
       calls = refl;
       outputs =
-          sent_as (member_of n.state) c.args.packet.now.from c.args.out.now c.send.new.out (body.VersionIs c.in-GetVersion.poll n.state.version) (body.VersionIs c.in-GetVersion.poll n.state.version) c.send.ensures.sent c.requires.empty
+          sent_as (member_of n.state) c.args.packet.now.from c.args.out.now c.send.new.out (body.VersionIs c.in-GetVersion.poll n.state.version) (body.VersionIs c.in-GetVersion.poll n.state.version) c.send.ensures.sent
           refl;
     }))
 
@@ -108,14 +110,14 @@ returns-in-SendPiece-clause-memory g c = λ takes. absurd (subst BodyTakesNoMemo
 pub hear_beacon-requires-clause-from : goal.hear_beacon-requires-clause-from
 hear_beacon-requires-clause-from g c = inside c.args.self.now.state.cell c.in-Some.from c.args.packet.now.from c.in-Some.ensures.found
 
-pub hear_beacon-requires-clause-empty : goal.hear_beacon-requires-clause-empty
-hear_beacon-requires-clause-empty g c = c.requires.empty
+pub hear_beacon-requires-clause-few : goal.hear_beacon-requires-clause-few
+hear_beacon-requires-clause-few g c = c.requires.few
 
 pub hear_kept-requires-clause-from : goal.hear_kept-requires-clause-from
 hear_kept-requires-clause-from g c = inside c.args.self.now.state.cell c.in-Some.from c.args.packet.now.from c.in-Some.ensures.found
 
-pub hear_kept-requires-clause-empty : goal.hear_kept-requires-clause-empty
-hear_kept-requires-clause-empty g c = c.requires.empty
+pub hear_kept-requires-clause-few : goal.hear_kept-requires-clause-few
+hear_kept-requires-clause-few g c = c.requires.few
 
 pub hear_version-requires-clause-moment : goal.hear_version-requires-clause-moment
 hear_version-requires-clause-moment g c = c.requires.moment
@@ -126,8 +128,8 @@ hear_version-requires-clause-not_halted g c = c.requires.not_halted
 pub hear_version-requires-clause-stored : goal.hear_version-requires-clause-stored
 hear_version-requires-clause-stored g c = c.requires.stored
 
-pub hear_version-requires-clause-empty : goal.hear_version-requires-clause-empty
-hear_version-requires-clause-empty g c = c.requires.empty
+pub hear_version-requires-clause-few : goal.hear_version-requires-clause-few
+hear_version-requires-clause-few g c = c.requires.few
 
 pub hear_version-requires-clause-from : goal.hear_version-requires-clause-from
 hear_version-requires-clause-from g c = inside c.args.self.now.state.cell c.in-Some.from c.args.packet.now.from c.in-Some.ensures.found
@@ -141,8 +143,8 @@ tell_piece-requires-clause-not_halted g c = c.requires.not_halted
 pub tell_piece-requires-clause-stored : goal.tell_piece-requires-clause-stored
 tell_piece-requires-clause-stored g c = c.requires.stored
 
-pub tell_piece-requires-clause-empty : goal.tell_piece-requires-clause-empty
-tell_piece-requires-clause-empty g c = c.requires.empty
+pub tell_piece-requires-clause-few : goal.tell_piece-requires-clause-few
+tell_piece-requires-clause-few g c = c.requires.few
 
 pub send_next-requires-clause-not_halted : goal.send_next-requires-clause-not_halted
 send_next-requires-clause-not_halted g c = c.requires.not_halted
@@ -150,8 +152,8 @@ send_next-requires-clause-not_halted g c = c.requires.not_halted
 pub send_next-requires-clause-stored : goal.send_next-requires-clause-stored
 send_next-requires-clause-stored g c = c.requires.stored
 
-pub send_next-requires-clause-empty : goal.send_next-requires-clause-empty
-send_next-requires-clause-empty g c = c.requires.empty
+pub send_next-requires-clause-few : goal.send_next-requires-clause-few
+send_next-requires-clause-few g c = c.requires.few
 
 pub set_version-requires-clause-not_halted : goal.set_version-requires-clause-not_halted
 set_version-requires-clause-not_halted g c = c.requires.not_halted
@@ -159,8 +161,8 @@ set_version-requires-clause-not_halted g c = c.requires.not_halted
 pub set_version-requires-clause-stored : goal.set_version-requires-clause-stored
 set_version-requires-clause-stored g c = c.requires.stored
 
-pub set_version-requires-clause-empty : goal.set_version-requires-clause-empty
-set_version-requires-clause-empty g c = c.requires.empty
+pub set_version-requires-clause-few : goal.set_version-requires-clause-few
+set_version-requires-clause-few g c = c.requires.few
 
 pub set_version-requires-clause-version : goal.set_version-requires-clause-version
 set_version-requires-clause-version g c = subst IsBuiltBody c.in-SetVersion.is c.requires.kind
@@ -174,8 +176,8 @@ fetch_piece-requires-clause-not_halted g c = c.requires.not_halted
 pub fetch_piece-requires-clause-stored : goal.fetch_piece-requires-clause-stored
 fetch_piece-requires-clause-stored g c = c.requires.stored
 
-pub fetch_piece-requires-clause-empty : goal.fetch_piece-requires-clause-empty
-fetch_piece-requires-clause-empty g c = c.requires.empty
+pub fetch_piece-requires-clause-few : goal.fetch_piece-requires-clause-few
+fetch_piece-requires-clause-few g c = c.requires.few
 
 pub take_piece-requires-clause-not_halted : goal.take_piece-requires-clause-not_halted
 take_piece-requires-clause-not_halted g c = c.requires.not_halted
@@ -183,8 +185,8 @@ take_piece-requires-clause-not_halted g c = c.requires.not_halted
 pub take_piece-requires-clause-stored : goal.take_piece-requires-clause-stored
 take_piece-requires-clause-stored g c = c.requires.stored
 
-pub take_piece-requires-clause-empty : goal.take_piece-requires-clause-empty
-take_piece-requires-clause-empty g c = c.requires.empty
+pub take_piece-requires-clause-few : goal.take_piece-requires-clause-few
+take_piece-requires-clause-few g c = c.requires.few
 
 pub take_piece-requires-clause-version : goal.take_piece-requires-clause-version
 take_piece-requires-clause-version g c = subst IsBuiltBody c.in-SendPiece.is c.requires.kind
@@ -193,7 +195,7 @@ pub hear_vote-requires : goal.hear_vote-requires
 hear_vote-requires g c = inside c.args.self.now.state.cell c.in-Some.from c.args.packet.now.from c.in-Some.ensures.found
 
 pub send-requires : goal.send-requires
-send-requires g c = omega (arith, ap length c.requires.empty)
+send-requires g c = omega (arith, c.requires.few)
 
 pub returns-in-Beacon-clause-memory : goal.returns-in-Beacon-clause-memory
 returns-in-Beacon-clause-memory g c = λ takes. refl
@@ -214,13 +216,13 @@ pub returns-in-Begin-clause-ends : goal.returns-in-Begin-clause-ends
 returns-in-Begin-clause-ends g c = λ db short.
     let n = c.args.self.now in
     placed_ends g.D.Disk db (member_of n.state) (server_of n.state) c.args.now c.args.packet.now short _ c.in-Some.from (body.Begin c.in-Begin.old c.in-Begin.new c.in-Begin.pieces c.in-Begin.len) (placed _ _ _ c.index.ensures.found c.index.ensures.only ∙ c.in-Some.is) c.in-Begin.is
-    (quiet_ends g.D.Disk c.args.out.now c.requires.empty c.begin_received.ensures)
+    (quiet_ends g.D.Disk c.args.out.now c.begin_received.ensures)
 
 pub returns-in-PutPiece-clause-ends : goal.returns-in-PutPiece-clause-ends
 returns-in-PutPiece-clause-ends g c = λ db short.
     let n = c.args.self.now in
     placed_ends g.D.Disk db (member_of n.state) (server_of n.state) c.args.now c.args.packet.now short _ c.in-Some.from (body.PutPiece c.in-PutPiece.new c.in-PutPiece.number c.as_slice-in-PutPiece.result.now) (placed _ _ _ c.index.ensures.found c.index.ensures.only ∙ c.in-Some.is) (c.in-PutPiece.is ∙ ap (λ (bytes : List ℕ). body.PutPiece c.in-PutPiece.new c.in-PutPiece.number bytes) (sym c.as_slice-in-PutPiece.ensures))
-    (quiet_ends g.D.Disk c.args.out.now c.requires.empty c.put_piece_received.ensures)
+    (quiet_ends g.D.Disk c.args.out.now c.put_piece_received.ensures)
 
 pub returns-in-Commit-clause-ends : goal.returns-in-Commit-clause-ends
 returns-in-Commit-clause-ends g c = λ db short.
@@ -232,7 +234,7 @@ pub returns-in-Abort-clause-ends : goal.returns-in-Abort-clause-ends
 returns-in-Abort-clause-ends g c = λ db short.
     let n = c.args.self.now in
     placed_ends g.D.Disk db (member_of n.state) (server_of n.state) c.args.now c.args.packet.now short _ c.in-Some.from (body.Abort c.in-Abort.new) (placed _ _ _ c.index.ensures.found c.index.ensures.only ∙ c.in-Some.is) c.in-Abort.is
-    (shown_ends g.D.Disk (held n) n.state c.abort_received.new.self c.requires.stored c.requires.not_halted refl refl c.abort_received.ensures.kept (quietly _ _ c.args.out.now c.abort_received.ensures.rests c.requires.empty))
+    (shown_ends g.D.Disk (held n) n.state c.abort_received.new.self c.requires.stored c.requires.not_halted refl refl c.abort_received.ensures.kept (quietly _ _ c.args.out.now c.abort_received.ensures.rests))
 
 pub returns-in-Begin-clause-memory : goal.returns-in-Begin-clause-memory
 returns-in-Begin-clause-memory g c = λ takes. absurd (subst BodyTakesNoMemory c.in-Begin.is takes)
@@ -267,5 +269,5 @@ commit_received-requires-clause-not_halted g c = c.requires.not_halted
 pub commit_received-requires-clause-stored : goal.commit_received-requires-clause-stored
 commit_received-requires-clause-stored g c = c.requires.stored
 
-pub commit_received-requires-clause-empty : goal.commit_received-requires-clause-empty
-commit_received-requires-clause-empty g c = c.requires.empty
+pub commit_received-requires-clause-few : goal.commit_received-requires-clause-few
+commit_received-requires-clause-few g c = c.requires.few

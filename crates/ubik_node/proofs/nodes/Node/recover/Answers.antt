@@ -1,12 +1,13 @@
 use Rattle.std.proofs.Common.{◌≡◌, ◌≤◌, ◌∙◌, ℕ, List, true, false, length, refl, rules, sym, ap, subst, arith}
+use Rattle.std.proofs.lemmas.List.{append-nil}
 use Rattle.ubik_types.specs.declared.phases.Phase.TheVariants as phase
 use Rattle.cell_model.specs.Recovery.{poll_asked, recovered, relabelled}
 use Rattle.ubik_recovery.specs.Record.{RecoveryRecord, adopted, is_fetch, polled_of}
 use Rattle.ubik_node.specs.Node.{held}
 use Rattle.ubik_node.specs.Recovering.{IsOfCell}
-use Rattle.ubik_node.specs.State.{ShowsBehind, member_of, server_of, server_with}
+use Rattle.ubik_node.specs.State.{announced, ShowsBehind, member_of, server_of, server_with}
 use Rattle.ubik_node.proofs.Alone.{leased_here}
-use Rattle.ubik_node.proofs.Endings.{empty_ends, rests_ends, same_ends}
+use Rattle.ubik_node.proofs.Endings.{rests_ends, same_ends}
 use Rattle.ubik_node.proofs.Polled.{of_marks}
 use Rattle.ubik_node.proofs.Turning.{marks_back, turn_begins, turn_fetch_over, turn_in, turn_rests}
 use Rattle.ubik_calls.specs.declared.packets.Body.TheVariants as body
@@ -23,15 +24,15 @@ pub returns-in-None : goal.returns-in-None
 returns-in-None g c =
     let st = c.args.self.now.state in
     same_ends g.D.Disk
-    (turn_begins (member_of st) (server_of st) c.args.now st.version st.recovery (sym c.phase.ensures ∙ c.in-None.is) (leased_here st c.args.now true st.voters (sym c.in_lease-leased.ensures ∙ c.if-leased.true))) c.begin_poll.ensures
+    (turn_begins (member_of st) (server_of st) c.args.now (announced st) st.recovery (sym c.phase.ensures ∙ c.in-None.is) (leased_here st c.args.now true st.voters (sym c.in_lease-leased.ensures ∙ c.if-leased.true))) c.begin_poll.ensures
 
 pub returns-in-None-2 : goal.returns-in-None-2
 returns-in-None-2 g c =
     let n = c.args.self.now in
     let st = n.state in
     same_ends g.D.Disk
-    (turn_rests (member_of st) (server_of st) c.args.now st.version st.recovery (sym c.phase.ensures ∙ c.in-None-2.is) (leased_here st c.args.now false st.voters (sym c.in_lease-leased.ensures ∙ c.if-leased.false)))
-    (rests_ends g.D.Disk (held n) c.requires.stored c.requires.not_halted (record { server = refl; calls = refl; outputs = c.requires.empty }))
+    (turn_rests (member_of st) (server_of st) c.args.now (announced st) st.recovery (sym c.phase.ensures ∙ c.in-None-2.is) (leased_here st c.args.now false st.voters (sym c.in_lease-leased.ensures ∙ c.if-leased.false)))
+    (rests_ends g.D.Disk (held n) c.requires.stored c.requires.not_halted (record { server = refl; calls = refl; outputs = sym (append-nil c.args.out.now) }))
 
 pub returns-in-Poll : goal.returns-in-Poll
 returns-in-Poll g c =
@@ -42,13 +43,13 @@ returns-in-Poll g c =
     let same : poll_asked m (server_with st (adopted c.marks-next.result r)) (polled_of c.marks-next.result) c.args.now ≡ poll_asked m (server_of st) (polled_of r) c.args.now =
     ap (λ (x : RecoveryRecord). poll_asked m (server_with st (adopted x r)) (polled_of x) c.args.now) c.marks-next.ensures
     ∙ ap (λ (x : RecoveryRecord). poll_asked m (server_with st x) (polled_of r) c.args.now) (marks_back r (ap is_fetch is)) in
-    same_ends g.D.Disk (turn_in m (server_of st) c.args.now st.version r phase.Poll is ∙ sym same) c.poll_asked.ensures
+    same_ends g.D.Disk (turn_in m (server_of st) c.args.now (announced st) r phase.Poll is ∙ sym same) c.poll_asked.ensures
 
 pub returns-in-Fetch : goal.returns-in-Fetch
 returns-in-Fetch g c =
     let st = c.args.self.now.state in
     same_ends g.D.Disk
-    (turn_fetch_over (member_of st) (server_of st) c.args.now st.version st.recovery (sym c.phase.ensures ∙ c.in-Fetch.is) (sym c.poll_is_over-over.ensures ∙ c.if-over.true)) c.begin_poll-in-Fetch.ensures
+    (turn_fetch_over (member_of st) (server_of st) c.args.now (announced st) st.recovery (sym c.phase.ensures ∙ c.in-Fetch.is) (sym c.poll_is_over-over.ensures ∙ c.if-over.true)) c.begin_poll-in-Fetch.ensures
 
 pub returns-in-Relabel : goal.returns-in-Relabel
 returns-in-Relabel g c =
@@ -60,7 +61,7 @@ returns-in-Relabel g c =
     let same : relabelled m (server_with st (adopted next.result r)) (polled_of next.result) c.args.now ≡ relabelled m (server_of st) (polled_of r) c.args.now =
     ap (λ (x : RecoveryRecord). relabelled m (server_with st (adopted x r)) (polled_of x) c.args.now) next.ensures
     ∙ ap (λ (x : RecoveryRecord). relabelled m (server_with st x) (polled_of r) c.args.now) (marks_back r (ap is_fetch is)) in
-    same_ends g.D.Disk (turn_in m (server_of st) c.args.now st.version r phase.Relabel is ∙ sym same) (empty_ends g.D.Disk c.requires.empty c.relabelled.ensures)
+    same_ends g.D.Disk (turn_in m (server_of st) c.args.now (announced st) r phase.Relabel is ∙ sym same) c.relabelled.ensures
 
 pub poll_asked-requires-clause-of_cell : goal.poll_asked-requires-clause-of_cell
 poll_asked-requires-clause-of_cell g c =
@@ -79,8 +80,8 @@ begin_poll-requires-clause-not_halted g c = c.requires.not_halted
 pub begin_poll-requires-clause-stored : goal.begin_poll-requires-clause-stored
 begin_poll-requires-clause-stored g c = c.requires.stored
 
-pub begin_poll-requires-clause-empty : goal.begin_poll-requires-clause-empty
-begin_poll-requires-clause-empty g c = c.requires.empty
+pub begin_poll-requires-clause-few : goal.begin_poll-requires-clause-few
+begin_poll-requires-clause-few g c = c.requires.few
 
 pub begin_poll-requires-in-Fetch-clause-moment : goal.begin_poll-requires-in-Fetch-clause-moment
 begin_poll-requires-in-Fetch-clause-moment g c = c.requires.moment
@@ -91,8 +92,8 @@ begin_poll-requires-in-Fetch-clause-not_halted g c = c.requires.not_halted
 pub begin_poll-requires-in-Fetch-clause-stored : goal.begin_poll-requires-in-Fetch-clause-stored
 begin_poll-requires-in-Fetch-clause-stored g c = c.requires.stored
 
-pub begin_poll-requires-in-Fetch-clause-empty : goal.begin_poll-requires-in-Fetch-clause-empty
-begin_poll-requires-in-Fetch-clause-empty g c = c.requires.empty
+pub begin_poll-requires-in-Fetch-clause-few : goal.begin_poll-requires-in-Fetch-clause-few
+begin_poll-requires-in-Fetch-clause-few g c = c.requires.few
 
 pub poll_asked-requires-clause-moment : goal.poll_asked-requires-clause-moment
 poll_asked-requires-clause-moment g c = c.requires.moment
@@ -103,8 +104,8 @@ poll_asked-requires-clause-not_halted g c = c.requires.not_halted
 pub poll_asked-requires-clause-stored : goal.poll_asked-requires-clause-stored
 poll_asked-requires-clause-stored g c = c.requires.stored
 
-pub poll_asked-requires-clause-empty : goal.poll_asked-requires-clause-empty
-poll_asked-requires-clause-empty g c = c.requires.empty
+pub poll_asked-requires-clause-few : goal.poll_asked-requires-clause-few
+poll_asked-requires-clause-few g c = c.requires.few
 
 pub poll_asked-requires-clause-phase : goal.poll_asked-requires-clause-phase
 poll_asked-requires-clause-phase g c = ap (λ (r : RecoveryRecord). r.phase) c.marks-next.ensures ∙ sym c.phase.ensures ∙ c.in-Poll.is
@@ -119,16 +120,16 @@ pub relabelled-requires-clause-stored : goal.relabelled-requires-clause-stored
 relabelled-requires-clause-stored g c = c.requires.stored
 
 pub relabelled-requires-clause-few : goal.relabelled-requires-clause-few
-relabelled-requires-clause-few g c = omega (arith, ap length c.requires.empty)
+relabelled-requires-clause-few g c = omega (arith, c.requires.few)
 
 pub relabelled-requires-clause-phase : goal.relabelled-requires-clause-phase
 relabelled-requires-clause-phase g c = ap (λ (r : RecoveryRecord). is_fetch r.phase) c.marks-next-in-Relabel.ensures ∙ ap is_fetch (sym c.phase.ensures ∙ c.in-Relabel.is)
 
 pub ask_piece-requires : goal.ask_piece-requires
-ask_piece-requires g c = omega (arith, ap length c.requires.empty)
+ask_piece-requires g c = omega (arith, c.requires.few)
 
 pub spread_again-requires-clause-few : goal.spread_again-requires-clause-few
-spread_again-requires-clause-few g c = omega (arith, ap length c.requires.empty)
+spread_again-requires-clause-few g c = omega (arith, c.requires.few)
 
 pub overflow_cast-offset : goal.overflow_cast-offset
 overflow_cast-offset g c =
@@ -142,12 +143,12 @@ returns-in-Fetch-2 g c =
     let m = member_of st in
     let r = st.recovery in
     let long = length c.received.result.now in
-    same_ends g.D.Disk (turn_fetches m (server_of st) c.args.now st.version r (sym c.phase.ensures ∙ c.in-Fetch-2.is) (sym c.poll_is_over-over.ensures ∙ c.if-over.false))
+    same_ends g.D.Disk (turn_fetches m (server_of st) c.args.now (announced st) r (sym c.phase.ensures ∙ c.in-Fetch-2.is) (sym c.poll_is_over-over.ensures ∙ c.if-over.false))
     (rests_ends g.D.Disk (held n) c.requires.stored c.requires.not_halted (record {
       server = refl;
       calls = refl;
       outputs =
-          sent_as m (host_at st.cell (host_of r)) c.args.out.now c.ask_piece.new.out (body.GetPiece r.poll (best_of r) long) (body.GetPiece r.poll (best_of r) (bytes_received r.text)) c.ask_piece.ensures c.requires.empty
+          sent_as m (host_at st.cell (host_of r)) c.args.out.now c.ask_piece.new.out (body.GetPiece r.poll (best_of r) long) (body.GetPiece r.poll (best_of r) (bytes_received r.text)) c.ask_piece.ensures
           (ap (λ (k : ℕ). body.GetPiece r.poll (best_of r) k) (ap length c.received.ensures ∙ received_long r.text));
     }))
 
@@ -158,4 +159,16 @@ pub returns-in-Send : goal.returns-in-Send
 returns-in-Send g c =
     let n = c.args.self.now in
     shown_ends g.D.Disk (held n) n.state c.spread_again.new.self c.requires.stored c.requires.not_halted refl refl c.spread_again.ensures.kept
-    (subst (λ (o : List Output). ShowsBehind (recovered (member_of n.state) (server_of n.state) c.args.now (server_of n.state).phase) (server_of c.spread_again.new.self) o c.spread_again.new.out) c.requires.empty c.spread_again.ensures.shows)
+    c.spread_again.ensures.shows
+
+pub begin_poll-requires-clause-resting : goal.begin_poll-requires-clause-resting
+begin_poll-requires-clause-resting g c = λ serves. let not = c.phase.ensures in let none = c.in-None.is in absurd cc
+
+pub begin_poll-requires-in-Fetch-clause-resting : goal.begin_poll-requires-in-Fetch-clause-resting
+begin_poll-requires-in-Fetch-clause-resting g c = λ serves. let not = c.phase.ensures in let fetch = c.in-Fetch.is in absurd cc
+
+pub poll_asked-requires-clause-resting : goal.poll_asked-requires-clause-resting
+poll_asked-requires-clause-resting g c = λ serves. let not = c.phase.ensures in let poll = c.in-Poll.is in absurd cc
+
+pub relabelled-requires-clause-resting : goal.relabelled-requires-clause-resting
+relabelled-requires-clause-resting g c = λ serves. let not = c.phase.ensures in let waits = c.in-Relabel.is in absurd cc

@@ -16,7 +16,7 @@ use Rattle.cell_model.specs.Recovery.{first_of_epoch, own_relabelling, relabelle
 use Rattle.cell_model.specs.Step.{Member}
 use Rattle.cell_model.specs.Writes.{settled}
 use Rattle.ubik_node.specs.Node.{held}
-use Rattle.ubik_node.specs.State.{ShowsBehind, member_of, server_of, server_with}
+use Rattle.ubik_node.specs.State.{announced, ShowsBehind, member_of, server_of, server_with}
 use Rattle.ubik_node.proofs.Calling.{call_failed, call_made, short_ends_read, stored_read, unread_ends}
 use Rattle.ubik_node.proofs.Durables.{IsThere, image_then}
 use Rattle.ubik_node.proofs.Endings.{handed_ends, ok_not, same_ends}
@@ -51,7 +51,7 @@ returns-in_err-relabel g c =
     let went = λ (failed : _). false≢true (ap is_err failed) in
     let stays = c.in_ok-piece.ensures.same went in
     let s = server_with st (adopted c.args.next st.recovery) in
-    let step = relabelling_comes m (server_of st) st.version (adopted c.args.next st.recovery) c.args.now (later_than st.version.epoch c.args.now c.requires.past) in
+    let step = relabelling_comes m (server_of st) (announced st) (adopted c.args.next st.recovery) c.args.now (later_than st.version.epoch c.args.now c.requires.past) in
     handed_ends g.D.Disk c.from_residual-in_err-relabel.result c.in_err-relabel.field-0.0 c.from_residual-in_err-relabel.ensures.1
     (same_ends g.D.Disk step
     (call_failed g.D.Disk (held n) c.requires.stored c.requires.not_halted c.first_piece.new.store c.in_ok-piece.ensures.disk went c.in_ok-piece.ensures.sound stays c.relabel.new.self c.relabel.ensures.sound [] v st.image (own_relabelling v)
@@ -69,7 +69,7 @@ returns g c =
     let went = λ (failed : _). false≢true (ap is_err failed) in
     let stays = c.in_ok-piece.ensures.same went in
     let s = server_with st (adopted c.args.next st.recovery) in
-    let step = relabelling_comes m (server_of st) st.version (adopted c.args.next st.recovery) c.args.now (later_than st.version.epoch c.args.now c.requires.past) in
+    let step = relabelling_comes m (server_of st) (announced st) (adopted c.args.next st.recovery) c.args.now (later_than st.version.epoch c.args.now c.requires.past) in
     let done = c.in_ok-relabel.ensures.ended in
     let later = c.relabel.new.self in
     let before = c.begin_sending.new.self in
@@ -122,3 +122,6 @@ begin_sending-requires-clause-version g c = record { epoch = omega (arith, c.req
 
 pub settle-requires : goal.settle-requires
 settle-requires g c = record { few = omega (arith, c.in_ok-give.ensures.few, c.requires.few) }
+
+pub begin_sending-requires-clause-resting : goal.begin_sending-requires-clause-resting
+begin_sending-requires-clause-resting g c = c.requires.resting

@@ -2,7 +2,7 @@ use Rattle.std.proofs.Common.{◌≡◌, false, nat_lt, refl, rules, sym}
 use Rattle.std.proofs.lemmas.List.{append-nil}
 use Rattle.ubik_recovery.specs.Record.{adopted}
 use Rattle.ubik_node.specs.Node.{held}
-use Rattle.ubik_node.specs.State.{member_of, server_of}
+use Rattle.ubik_node.specs.State.{announced, member_of, server_of}
 use Rattle.ubik_node.proofs.Endings.{same_ends, shown_ends}
 use Rattle.ubik_node.proofs.Turning.{relabelling_waits}
 use Rattle.ubik_node.proofs.nodes.Node.relabelled.Goals as goal
@@ -15,7 +15,7 @@ returns g c =
     let n = c.args.self.now in
     let st = n.state in
     let early : nat_lt st.version.epoch c.args.now ≡ false = search rules in
-    same_ends g.D.Disk (relabelling_waits (member_of st) (server_of st) st.version (adopted c.args.next st.recovery) c.args.now early)
+    same_ends g.D.Disk (relabelling_waits (member_of st) (server_of st) (announced st) (adopted c.args.next st.recovery) c.args.now early)
     (shown_ends g.D.Disk (held n) st c.wait.new.self c.requires.stored c.requires.not_halted refl refl c.wait.ensures.kept (record { server = sym c.wait.ensures.after; calls = refl; outputs = sym (append-nil c.args.out.now) }))
 
 pub relabel-requires-clause-moment : goal.relabel-requires-clause-moment
@@ -41,3 +41,9 @@ wait-requires-clause-of_cell g c = c.requires.of_cell
 
 pub wait-requires-clause-phase : goal.wait-requires-clause-phase
 wait-requires-clause-phase g c = c.requires.phase
+
+pub relabel-requires-clause-resting : goal.relabel-requires-clause-resting
+relabel-requires-clause-resting g c = c.requires.resting
+
+pub wait-requires-clause-resting : goal.wait-requires-clause-resting
+wait-requires-clause-resting g c = c.requires.resting

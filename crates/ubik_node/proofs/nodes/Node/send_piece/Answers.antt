@@ -31,7 +31,7 @@ returns g c =
     (stored_read g.D.Disk (held n) s c.requires.stored c.requires.not_halted c.in_ok-bytes.ensures.sound (c.in_ok-bytes.ensures.same went) c.in_ok-bytes.ensures.disk went) refl
     (λ told. (
       refl,
-      sent_as (member_of st) c.args.host c.args.out.now c.send.new.out (body.SendPiece c.poll.result st.version c.len.result c.args.at bytes) (sent_piece (server_of st) st.recovery.poll c.args.at) c.send.ensures.sent c.requires.empty
+      sent_as (member_of st) c.args.host c.args.out.now c.send.new.out (body.SendPiece c.poll.result st.version c.len.result c.args.at bytes) (sent_piece (server_of st) st.recovery.poll c.args.at) c.send.ensures.sent
           (ap (λ (p : ℕ). body.SendPiece p st.version c.len.result c.args.at bytes) c.poll.ensures
           ∙ ap (λ (k : ℕ). body.SendPiece st.recovery.poll st.version k c.args.at bytes) c.len.ensures
           ∙ ap (λ (xs : List ℕ). body.SendPiece st.recovery.poll st.version (length st.image) c.args.at xs)
@@ -45,4 +45,4 @@ pub read_piece-requires-clause-fresh : goal.read_piece-requires-clause-fresh
 read_piece-requires-clause-fresh g c = c.requires.stored.failed ∙ c.requires.not_halted
 
 pub send-requires : goal.send-requires
-send-requires g c = omega (arith, ap length c.requires.empty)
+send-requires g c = omega (arith, c.requires.few)

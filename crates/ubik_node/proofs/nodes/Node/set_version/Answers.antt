@@ -1,4 +1,5 @@
 use Rattle.std.proofs.Common.{◌≡◌, ◌∙◌, ◌++◌, ◌&&◌, [], true, false, length, refl, rules, sym, ap, arith}
+use Rattle.std.proofs.lemmas.List.{append-nil}
 use Rattle.std.proofs.lemmas.Bool.{false≢true}
 use Rattle.std.proofs.lemmas.Bool.Decides.{nat_tests}
 use Rattle.ubik_types.specs.declared.versions.Version.{Version}
@@ -11,7 +12,7 @@ use Rattle.cell_model.specs.Step.{Member, outputs_of, sends_to}
 use Rattle.ubik_store.specs.DurableCall.{IsNeverLong}
 use Rattle.ubik_store.specs.Store.{image_in}
 use Rattle.ubik_node.specs.Node.{held}
-use Rattle.ubik_node.specs.State.{member_of, server_of}
+use Rattle.ubik_node.specs.State.{announced, member_of, server_of}
 use Rattle.ubik_node.proofs.Calling.{call_failed, call_made}
 use Rattle.ubik_node.proofs.Durables.{image_then}
 use Rattle.ubik_node.proofs.Endings.{handed_ends, ok_not, reads_none, rests_ends, same_ends}
@@ -23,34 +24,34 @@ pub returns-then-spreads : goal.returns-then-spreads
 returns-then-spreads g c =
     let n = c.args.self.now in
     let st = n.state in
-    let sends = sending_is c.is_spreading-spreads.result st.version st.recovery c.is_spreading-spreads.ensures ∙ c.if-spreads.true in
+    let sends = sending_is c.is_spreading-spreads.result (announced st) st.recovery c.is_spreading-spreads.ensures ∙ c.if-spreads.true in
     same_ends g.D.Disk (set_ignored (member_of st) (server_of st) c.args.host c.args.poll c.args.old c.args.new sends)
-    (rests_ends g.D.Disk (held n) c.requires.stored c.requires.not_halted (record { server = refl; calls = refl; outputs = c.requires.empty }))
+    (rests_ends g.D.Disk (held n) c.requires.stored c.requires.not_halted (record { server = refl; calls = refl; outputs = sym (append-nil c.args.out.now) }))
 
 pub returns-then-has : goal.returns-then-has
 returns-then-has g c =
     let n = c.args.self.now in
     let st = n.state in
-    let rests = sending_is c.is_spreading-spreads.result st.version st.recovery c.is_spreading-spreads.ensures ∙ c.if-spreads.false in
+    let rests = sending_is c.is_spreading-spreads.result (announced st) st.recovery c.is_spreading-spreads.ensures ∙ c.if-spreads.false in
     let has : version_eq st.version c.args.new ≡ true = search rules in
     same_ends g.D.Disk (set_had (member_of st) (server_of st) c.args.host c.args.poll c.args.old c.args.new rests has)
     (rests_ends g.D.Disk (held n) c.requires.stored c.requires.not_halted (record {
       server = refl;
       calls = refl;
-      outputs = sent_as (member_of st) c.args.host c.args.out.now c.send.new.out (body.VersionKept st.version) (body.VersionKept st.version) c.send.ensures.sent c.requires.empty refl;
+      outputs = sent_as (member_of st) c.args.host c.args.out.now c.send.new.out (body.VersionKept st.version) (body.VersionKept st.version) c.send.ensures.sent refl;
     }))
 
 pub returns-then-not-lacks : goal.returns-then-not-lacks
 returns-then-not-lacks g c =
     let n = c.args.self.now in
     let st = n.state in
-    let rests = sending_is c.is_spreading-spreads.result st.version st.recovery c.is_spreading-spreads.ensures ∙ c.if-spreads.false in
+    let rests = sending_is c.is_spreading-spreads.result (announced st) st.recovery c.is_spreading-spreads.ensures ∙ c.if-spreads.false in
     let has : version_eq st.version c.args.new ≡ false = search rules in
     same_ends g.D.Disk (set_refused (member_of st) (server_of st) c.args.host c.args.poll c.args.old c.args.new rests has (sym c.may_become-lacks.ensures ∙ c.if-not-lacks.true))
     (rests_ends g.D.Disk (held n) c.requires.stored c.requires.not_halted (record {
       server = refl;
       calls = refl;
-      outputs = sent_as (member_of st) c.args.host c.args.out.now c.send-then-not-lacks.new.out (body.VersionIs c.args.poll st.version) (body.VersionIs c.args.poll st.version) c.send-then-not-lacks.ensures.sent c.requires.empty refl;
+      outputs = sent_as (member_of st) c.args.host c.args.out.now c.send-then-not-lacks.new.out (body.VersionIs c.args.poll st.version) (body.VersionIs c.args.poll st.version) c.send-then-not-lacks.ensures.sent refl;
     }))
 
 newer_than : (own old new : Version) → (version_eq own old && version_lt old new) ≡ true → version_lt own new ≡ true
@@ -63,7 +64,7 @@ pub returns-in_err-relabel : goal.returns-in_err-relabel
 returns-in_err-relabel g c =
     let n = c.args.self.now in
     let st = n.state in
-    let rests = sending_is c.is_spreading-spreads.result st.version st.recovery c.is_spreading-spreads.ensures ∙ c.if-spreads.false in
+    let rests = sending_is c.is_spreading-spreads.result (announced st) st.recovery c.is_spreading-spreads.ensures ∙ c.if-spreads.false in
     let has : version_eq st.version c.args.new ≡ false = search rules in
     let lacks = sym c.may_become-lacks.ensures ∙ c.if-not-lacks.false in
     handed_ends g.D.Disk c.from_residual.result c.in_err-relabel.field-0.0 c.from_residual.ensures.1
@@ -83,7 +84,7 @@ returns g c =
     let later = c.relabel.new.self in
     let last = c.relabel-2.new.self in
     let done = c.in_ok-relabel.ensures.ended in
-    let rests = sending_is c.is_spreading-spreads.result st.version st.recovery c.is_spreading-spreads.ensures ∙ c.if-spreads.false in
+    let rests = sending_is c.is_spreading-spreads.result (announced st) st.recovery c.is_spreading-spreads.ensures ∙ c.if-spreads.false in
     let has : version_eq st.version c.args.new ≡ false = search rules in
     let lacks = sym c.may_become-lacks.ensures ∙ c.if-not-lacks.false in
     same_ends g.D.Disk (set_made (member_of st) (server_of st) c.args.host c.args.poll c.args.old c.args.new rests has lacks)
@@ -94,7 +95,7 @@ returns g c =
     (λ told. (
       sym c.relabel-2.ensures.after,
       sent_as (member_of st) c.args.host c.args.out.now c.send-2.new.out (body.VersionKept c.args.new) (body.VersionKept c.args.new)
-          (c.send-2.ensures.sent ∙ ap (λ (m : Member). c.args.out.now ++ outputs_of (sends_to m c.args.host (body.VersionKept c.args.new))) c.relabel-2.ensures.place) c.requires.empty refl,
+          (c.send-2.ensures.sent ∙ ap (λ (m : Member). c.args.out.now ++ outputs_of (sends_to m c.args.host (body.VersionKept c.args.new))) c.relabel-2.ensures.place) refl,
     )))
 
 pub relabel-requires-clause-sound : goal.relabel-requires-clause-sound
@@ -107,10 +108,10 @@ pub relabel-requires-2-clause-version : goal.relabel-requires-2-clause-version
 relabel-requires-2-clause-version g c = c.requires.version
 
 pub send-requires : goal.send-requires
-send-requires g c = omega (arith, ap length c.requires.empty)
+send-requires g c = omega (arith, c.requires.few)
 
 pub send-requires-then-not-lacks : goal.send-requires-then-not-lacks
-send-requires-then-not-lacks g c = omega (arith, ap length c.requires.empty)
+send-requires-then-not-lacks g c = omega (arith, c.requires.few)
 
 pub send-requires-2 : goal.send-requires-2
-send-requires-2 g c = omega (arith, ap length c.requires.empty)
+send-requires-2 g c = omega (arith, c.requires.few)

@@ -1,4 +1,5 @@
 use Rattle.std.proofs.Common.{◌≡◌, ◌≢◌, ◌+◌, ◌∙◌, ◌++◌, ℕ, true, false, Some, length, refl, sym, ap, rules, arith, eq-eqb, ne_eqb}
+use Rattle.std.proofs.lemmas.List.{append-nil}
 use Rattle.std.proofs.lemmas.Bool.{false≢true}
 use Rattle.ubik_types.specs.Version.{version_eq, version_lt}
 use Rattle.cell_model.specs.Receiver.{is_sending}
@@ -8,7 +9,7 @@ use Rattle.ubik_calls.specs.declared.packets.Body.TheVariants as body
 use Rattle.ubik_recovery.specs.Text.{with_piece}
 use Rattle.ubik_node.specs.declared.state.State.{State}
 use Rattle.ubik_node.specs.Node.{held}
-use Rattle.ubik_node.specs.State.{member_of, server_of}
+use Rattle.ubik_node.specs.State.{announced, member_of, server_of}
 use Rattle.ubik_node.proofs.Endings.{handed_ends, rests_ends, same_ends, shown_ends}
 use Rattle.ubik_node.proofs.Fetching.{sent_from, busy_is, fetching_is, fits_of, newer_from, none_of, whole_at}
 use Rattle.ubik_node.proofs.Fronts.{fails_so, goes_on, short_back, text_put}
@@ -22,9 +23,9 @@ returns-then-spreads g c =
     let st = n.state in
     let s = server_of st in
     let some : c.is_spreading-spreads.result ≡ true = search rules in
-    let sends = sending_is c.is_spreading-spreads.result st.version st.recovery c.is_spreading-spreads.ensures ∙ some in
+    let sends = sending_is c.is_spreading-spreads.result (announced st) st.recovery c.is_spreading-spreads.ensures ∙ some in
     same_ends g.D.Disk (send_ignored (member_of st) s c.args.host c.args.poll c.args.source.server c.args.source.version c.args.source.total c.args.offset c.args.bytes.now (busy_is (is_sending s.phase) (is_fetch s.phase) true _ sends refl))
-    (rests_ends g.D.Disk (held n) c.requires.stored c.requires.not_halted (record { server = refl; calls = refl; outputs = c.requires.empty }))
+    (rests_ends g.D.Disk (held n) c.requires.stored c.requires.not_halted (record { server = refl; calls = refl; outputs = sym (append-nil c.args.out.now) }))
 
 pub returns-then-fetches : goal.returns-then-fetches
 returns-then-fetches g c =
@@ -33,10 +34,10 @@ returns-then-fetches g c =
     let s = server_of st in
     let none : c.is_spreading-spreads.result ≡ false = search rules in
     let some : c.is_fetching-fetches.result ≡ true = search rules in
-    let sends = sending_is c.is_spreading-spreads.result st.version st.recovery c.is_spreading-spreads.ensures ∙ none in
-    let fetches = fetching_is c.is_fetching-fetches.result st.version st.recovery c.is_fetching-fetches.ensures ∙ some in
+    let sends = sending_is c.is_spreading-spreads.result (announced st) st.recovery c.is_spreading-spreads.ensures ∙ none in
+    let fetches = fetching_is c.is_fetching-fetches.result (announced st) st.recovery c.is_fetching-fetches.ensures ∙ some in
     same_ends g.D.Disk (send_ignored (member_of st) s c.args.host c.args.poll c.args.source.server c.args.source.version c.args.source.total c.args.offset c.args.bytes.now (busy_is (is_sending s.phase) (is_fetch s.phase) false true sends fetches))
-    (rests_ends g.D.Disk (held n) c.requires.stored c.requires.not_halted (record { server = refl; calls = refl; outputs = c.requires.empty }))
+    (rests_ends g.D.Disk (held n) c.requires.stored c.requires.not_halted (record { server = refl; calls = refl; outputs = sym (append-nil c.args.out.now) }))
 
 pub returns-then-has : goal.returns-then-has
 returns-then-has g c =
@@ -46,13 +47,13 @@ returns-then-has g c =
     let none : c.is_spreading-spreads.result ≡ false = search rules in
     let rests : c.is_fetching-fetches.result ≡ false = search rules in
     let has : version_eq st.version c.args.source.version ≡ true = search rules in
-    let busy = busy_is (is_sending s.phase) (is_fetch s.phase) false false (sending_is c.is_spreading-spreads.result st.version st.recovery c.is_spreading-spreads.ensures ∙ none)
-    (fetching_is c.is_fetching-fetches.result st.version st.recovery c.is_fetching-fetches.ensures ∙ rests) in
+    let busy = busy_is (is_sending s.phase) (is_fetch s.phase) false false (sending_is c.is_spreading-spreads.result (announced st) st.recovery c.is_spreading-spreads.ensures ∙ none)
+    (fetching_is c.is_fetching-fetches.result (announced st) st.recovery c.is_fetching-fetches.ensures ∙ rests) in
     same_ends g.D.Disk (send_had (member_of st) s c.args.host c.args.poll c.args.source.server c.args.source.version c.args.source.total c.args.offset c.args.bytes.now busy has)
     (rests_ends g.D.Disk (held n) c.requires.stored c.requires.not_halted (record {
       server = refl;
       calls = refl;
-      outputs = sent_as (member_of st) c.args.host c.args.out.now c.send.new.out (body.VersionKept st.version) (body.VersionKept st.version) c.send.ensures.sent c.requires.empty refl;
+      outputs = sent_as (member_of st) c.args.host c.args.out.now c.send.new.out (body.VersionKept st.version) (body.VersionKept st.version) c.send.ensures.sent refl;
     }))
 
 pub returns-then-late : goal.returns-then-late
@@ -64,13 +65,13 @@ returns-then-late g c =
     let rests : c.is_fetching-fetches.result ≡ false = search rules in
     let has : version_eq st.version c.args.source.version ≡ false = search rules in
     let late : version_lt c.args.source.version st.version ≡ true = search rules in
-    let busy = busy_is (is_sending s.phase) (is_fetch s.phase) false false (sending_is c.is_spreading-spreads.result st.version st.recovery c.is_spreading-spreads.ensures ∙ none)
-    (fetching_is c.is_fetching-fetches.result st.version st.recovery c.is_fetching-fetches.ensures ∙ rests) in
+    let busy = busy_is (is_sending s.phase) (is_fetch s.phase) false false (sending_is c.is_spreading-spreads.result (announced st) st.recovery c.is_spreading-spreads.ensures ∙ none)
+    (fetching_is c.is_fetching-fetches.result (announced st) st.recovery c.is_fetching-fetches.ensures ∙ rests) in
     same_ends g.D.Disk (send_late (member_of st) s c.args.host c.args.poll c.args.source.server c.args.source.version c.args.source.total c.args.offset c.args.bytes.now busy has late)
     (rests_ends g.D.Disk (held n) c.requires.stored c.requires.not_halted (record {
       server = refl;
       calls = refl;
-      outputs = sent_as (member_of st) c.args.host c.args.out.now c.send-then-late.new.out (body.VersionIs c.args.poll st.version) (body.VersionIs c.args.poll st.version) c.send-then-late.ensures.sent c.requires.empty refl;
+      outputs = sent_as (member_of st) c.args.host c.args.out.now c.send-then-late.new.out (body.VersionIs c.args.poll st.version) (body.VersionIs c.args.poll st.version) c.send-then-late.ensures.sent refl;
     }))
 
 pub returns-then-not-takes : goal.returns-then-not-takes
@@ -84,12 +85,12 @@ returns-then-not-takes g c =
     let has : version_eq st.version source.version ≡ false = search rules in
     let late : version_lt source.version st.version ≡ false = search rules in
     let takes : c.takes_piece-takes.result ≡ false = search rules in
-    let busy = busy_is (is_sending s.phase) (is_fetch s.phase) false false (sending_is c.is_spreading-spreads.result st.version st.recovery c.is_spreading-spreads.ensures ∙ none)
-    (fetching_is c.is_fetching-fetches.result st.version st.recovery c.is_fetching-fetches.ensures ∙ rests) in
+    let busy = busy_is (is_sending s.phase) (is_fetch s.phase) false false (sending_is c.is_spreading-spreads.result (announced st) st.recovery c.is_spreading-spreads.ensures ∙ none)
+    (fetching_is c.is_fetching-fetches.result (announced st) st.recovery c.is_fetching-fetches.ensures ∙ rests) in
     same_ends g.D.Disk
     (send_goes (member_of st) s c.args.host c.args.poll source.server source.version source.total c.args.offset c.args.bytes.now busy has late
     ∙ text_ignored (member_of st) s c.args.host c.args.poll _ (none_of (text_with true source.server source.version source.total c.args.offset c.args.bytes.now st.recovery.text) (sym c.takes_piece-takes.ensures.rule ∙ takes)))
-    (rests_ends g.D.Disk (held n) c.requires.stored c.requires.not_halted (record { server = refl; calls = refl; outputs = c.requires.empty }))
+    (rests_ends g.D.Disk (held n) c.requires.stored c.requires.not_halted (record { server = refl; calls = refl; outputs = sym (append-nil c.args.out.now) }))
 
 pub take_last-requires-clause-resting : goal.take_last-requires-clause-resting
 take_last-requires-clause-resting g c = λ serves.
@@ -134,8 +135,8 @@ returns-in_err-take_last g c =
     let late : version_lt source.version st.version ≡ false = search rules in
     let takes : c.takes_piece-takes.result ≡ true = search rules in
     let ends : at + length bytes ≡ source.total = omega arith in
-    let busy = busy_is (is_sending s.phase) (is_fetch s.phase) false false (sending_is c.is_spreading-spreads.result st.version st.recovery c.is_spreading-spreads.ensures ∙ none)
-    (fetching_is c.is_fetching-fetches.result st.version st.recovery c.is_fetching-fetches.ensures ∙ rests) in
+    let busy = busy_is (is_sending s.phase) (is_fetch s.phase) false false (sending_is c.is_spreading-spreads.result (announced st) st.recovery c.is_spreading-spreads.ensures ∙ none)
+    (fetching_is c.is_fetching-fetches.result (announced st) st.recovery c.is_fetching-fetches.ensures ∙ rests) in
     let text = with_piece source at bytes st.recovery.text in
     handed_ends g.D.Disk c.from_residual.result c.in_err-take_last.field-0.0 c.from_residual.ensures.1
     (same_ends g.D.Disk
@@ -159,8 +160,8 @@ returns-then-whole g c =
     let late : version_lt source.version st.version ≡ false = search rules in
     let takes : c.takes_piece-takes.result ≡ true = search rules in
     let ends : at + length bytes ≡ source.total = omega arith in
-    let busy = busy_is (is_sending s.phase) (is_fetch s.phase) false false (sending_is c.is_spreading-spreads.result st.version st.recovery c.is_spreading-spreads.ensures ∙ none)
-    (fetching_is c.is_fetching-fetches.result st.version st.recovery c.is_fetching-fetches.ensures ∙ rests) in
+    let busy = busy_is (is_sending s.phase) (is_fetch s.phase) false false (sending_is c.is_spreading-spreads.result (announced st) st.recovery c.is_spreading-spreads.ensures ∙ none)
+    (fetching_is c.is_fetching-fetches.result (announced st) st.recovery c.is_fetching-fetches.ensures ∙ rests) in
     let text = with_piece source at bytes st.recovery.text in
     let kept = body.VersionKept source.version in
     same_ends g.D.Disk
@@ -170,7 +171,7 @@ returns-then-whole g c =
     (λ server. (
       server,
       sent_as m c.args.host c.args.out.now c.send-then-whole.new.out kept kept
-          (c.send-then-whole.ensures.sent ∙ ap (λ (k : Member). c.args.out.now ++ outputs_of (sends_to k c.args.host kept)) c.in_ok-take_last.ensures.member) c.requires.empty refl,
+          (c.send-then-whole.ensures.sent ∙ ap (λ (k : Member). c.args.out.now ++ outputs_of (sends_to k c.args.host kept)) c.in_ok-take_last.ensures.member) refl,
     ))
     c.in_ok-take_last.ensures)
 
@@ -197,32 +198,32 @@ returns g c =
     let late : version_lt source.version st.version ≡ false = search rules in
     let takes : c.takes_piece-takes.result ≡ true = search rules in
     let goes : at + length bytes ≢ source.total = omega arith in
-    let busy = busy_is (is_sending s.phase) (is_fetch s.phase) false false (sending_is c.is_spreading-spreads.result st.version st.recovery c.is_spreading-spreads.ensures ∙ none)
-    (fetching_is c.is_fetching-fetches.result st.version st.recovery c.is_fetching-fetches.ensures ∙ rests) in
+    let busy = busy_is (is_sending s.phase) (is_fetch s.phase) false false (sending_is c.is_spreading-spreads.result (announced st) st.recovery c.is_spreading-spreads.ensures ∙ none)
+    (fetching_is c.is_fetching-fetches.result (announced st) st.recovery c.is_fetching-fetches.ensures ∙ rests) in
     let text = with_piece source at bytes st.recovery.text in
     let next = c.takes_piece-takes.ensures.next takes in
     same_ends g.D.Disk
     (send_goes m s c.args.host c.args.poll source.server source.version source.total at bytes busy has late
     ∙ text_goes m s c.args.host c.args.poll _ text (c.takes_piece-takes.ensures.text takes) (whole_at source at bytes st.recovery.text false next (ne_eqb _ _ goes)))
     (shown_ends g.D.Disk (held n) st x c.requires.stored c.requires.not_halted refl refl c.keep_piece.ensures.kept (record {
-      server = sym (c.in_ok-keep_piece.ensures.after ∙ text_put st.version st.recovery s (Some text));
+      server = sym (c.in_ok-keep_piece.ensures.after ∙ text_put (announced st) st.recovery s (Some text));
       calls = refl;
       outputs =
-          sent_from m (member_of x) c.args.host (body.PieceKept c.args.poll source.version (length text.bytes)) c.send-2.ensures.sent c.keep_piece.ensures.kept.member c.requires.empty
+          sent_from m (member_of x) c.args.host c.args.out.now (body.PieceKept c.args.poll source.version (length text.bytes)) c.send-2.ensures.sent c.keep_piece.ensures.kept.member
           (ap (λ (k : ℕ). body.PieceKept c.args.poll source.version k) (sym (piece_end source at bytes st.recovery.text next)));
     }))
 
 pub send-requires : goal.send-requires
-send-requires g c = omega (arith, ap length c.requires.empty)
+send-requires g c = omega (arith, c.requires.few)
 
 pub send-requires-then-late : goal.send-requires-then-late
-send-requires-then-late g c = omega (arith, ap length c.requires.empty)
+send-requires-then-late g c = omega (arith, c.requires.few)
 
 pub send-requires-then-whole : goal.send-requires-then-whole
-send-requires-then-whole g c = omega (arith, ap length c.requires.empty)
+send-requires-then-whole g c = omega (arith, c.requires.few)
 
 pub send-requires-2 : goal.send-requires-2
-send-requires-2 g c = omega (arith, ap length c.requires.empty)
+send-requires-2 g c = omega (arith, c.requires.few)
 
 pub take_last-requires-clause-not_halted : goal.take_last-requires-clause-not_halted
 take_last-requires-clause-not_halted g c = c.requires.not_halted

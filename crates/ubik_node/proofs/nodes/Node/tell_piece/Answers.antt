@@ -22,7 +22,7 @@ returns-then-not-has g c =
     (rests_ends g.D.Disk (held n) c.requires.stored c.requires.not_halted (record {
       server = refl;
       calls = refl;
-      outputs = sent_as (member_of st) c.args.host c.args.out.now c.send.new.out (body.VersionIs c.args.poll st.version) (body.VersionIs c.args.poll st.version) c.send.ensures.sent c.requires.empty refl;
+      outputs = sent_as (member_of st) c.args.host c.args.out.now c.send.new.out (body.VersionIs c.args.poll st.version) (body.VersionIs c.args.poll st.version) c.send.ensures.sent refl;
     }))
 
 pub returns-in_err-bytes : goal.returns-in_err-bytes
@@ -44,7 +44,7 @@ returns g c =
     (λ told. (
       refl,
       sent_as (member_of st) c.args.host c.args.out.now c.send-2.new.out (body.Piece c.args.poll c.args.version c.len-total.result c.args.offset bytes) (body.Piece c.args.poll c.args.version (length st.image) c.args.offset (piece_from st.image c.args.offset))
-          c.send-2.ensures.sent c.requires.empty
+          c.send-2.ensures.sent
           (ap (λ (k : ℕ). body.Piece c.args.poll c.args.version k c.args.offset bytes) c.len-total.ensures
           ∙ ap (λ (xs : List ℕ). body.Piece c.args.poll c.args.version (length st.image) c.args.offset xs)
           (piece_known (g.D.Disk.files n.store.disk) bytes st.image c.args.offset told c.in_ok-bytes.ensures.piece (c.requires.stored.image c.requires.not_halted))),
@@ -57,10 +57,10 @@ pub read_piece-requires-clause-fresh : goal.read_piece-requires-clause-fresh
 read_piece-requires-clause-fresh g c = c.requires.stored.failed ∙ c.requires.not_halted
 
 pub send-requires : goal.send-requires
-send-requires g c = omega (arith, ap length c.requires.empty)
+send-requires g c = omega (arith, c.requires.few)
 
 pub send-requires-2 : goal.send-requires-2
-send-requires-2 g c = omega (arith, ap length c.requires.empty)
+send-requires-2 g c = omega (arith, c.requires.few)
 
 inside : (own v : Version) (at len long : ℕ) → len ≡ long → (version_eq own v && (at == 0 || nat_lt at long)) ≡ true → at ≤ len
 inside own v at len long same is = grind (arith, nat_tests)

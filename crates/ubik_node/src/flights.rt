@@ -1,0 +1,296 @@
+//! The own write of a sync site: it is committed here first, goes to each other server, and is over once a majority has it.
+ghost use Rattle.std.specs.Prelude.{◌≡◌, ◌≤◌, ◌<◌, ◌+◌, ◌++◌, ◌⊎◌, if◌then◌else◌, ℕ, None, [], length, take, false, IfOk, IfErr, IfSome, IsErrOf, IsSome, List, OnErr, OnOk};
+ghost use Rattle.ubik_types.specs.declared.limits.TheConstants.{MAX_IMAGE};
+ghost use Rattle.ubik_types.specs.declared.versions.TheConstants.{MAX_COUNTER};
+ghost use Rattle.ubik_types.specs.Quorum.{marked};
+ghost use Rattle.ubik_types.specs.Version.{IsVersion};
+ghost use Rattle.disk_base.specs.Runs.{OnlyReads};
+ghost use Rattle.xdr_base.specs.ChangeText.{text_of};
+ghost use Rattle.cell_model.specs.Polls.{is_marked};
+ghost use Rattle.cell_model.specs.Step.{outputs_of, sends_to_each, with_database};
+ghost use Rattle.cell_model.specs.Writes.{settled, write_bodies};
+ghost use Rattle.site_writes.specs.OwnWrite.{own_write};
+ghost use Rattle.ubik_recovery.specs.Record.{held_alone, polled_of, spread_of};
+ghost use Rattle.ubik_store.specs.DurableCall.{HasFailed};
+ghost use Rattle.ubik_store.specs.Store.{IsSound, StaysAsItWas, image_in};
+ghost use Rattle.ubik_write.specs.Flight.{IsFlightOf, Undoes};
+ghost use Rattle.ubik_write.specs.Undo.{image_before};
+ghost use Rattle.ubik_node.specs.Recovering.{IsServing};
+ghost use Rattle.ubik_node.specs.Writing.{own_of, waiting_of};
+
+use crate::database::commit_all;
+use crate::held_images::HeldImage;
+use crate::nodes::Node;
+use crate::outputs::Outputs;
+use crate::polling::is_in;
+use crate::state::State;
+use crate::steady_disks::SteadyDisk;
+use crate::store_images::StoreImage;
+use cell_model::Output;
+use db_image::DraftService;
+use ghost_values::{Ghost, Says};
+use site_writes::{OwnWrite, SiteWrites};
+use std::alloc::Global;
+use ubik_calls::{Body, Reply};
+use ubik_store::{Store, StoreFault};
+use ubik_types::{
+    Bytes, Changes, Host, MAXSERVERS, Marks, NoMemory, Phase, Version, bytes_of, majority,
+};
+use ubik_write::{Flight, FlightFault, text_len};
+
+/// The flight of changes that are to be made to the image of a store, of which it reads what they overwrite.
+pub fn flight_over<D: SteadyDisk>(
+    alloc: Global,
+    store: &mut Store<D>,
+    id: u32,
+    old: Version,
+    new: Version,
+    now: u32,
+    changes: &Changes,
+) -> Result<Flight, StoreFault>
+    requires sound { IsSound D.Disk store.old }
+    requires fresh { store.old.failed ≡ false }
+    ensures flight { IfOk result (λ f. IsFlightOf id old new now changes.now f) }
+    ensures undo { IfOk result (λ f. IfSome (image_in (D.files store.old.disk)) (λ bytes. Undoes f bytes changes.now)) }
+    ensures sound { IsSound D.Disk store.new }
+    ensures same { ¬ IsErrOf result StoreFault.DiskFault → StaysAsItWas store.old store.new }
+    ensures failed { IsErrOf result StoreFault.DiskFault → HasFailed store.old store.new }
+    ensures fault { IfErr result (λ fault. (fault ≡ StoreFault.DiskFault) ⊎ (fault ≡ StoreFault.NoMemory)) }
+    ensures disk { OnlyReads D.Disk store.old.disk store.new.disk (IsErrOf result StoreFault.DiskFault) }
+{
+    // No memory holds a text of 4 GiB and its packets.
+    if text_len(changes) > u64::from(u32::MAX) {
+        return Err(StoreFault::NoMemory);
+    }
+    let mut image = StoreImage { store, faults: 0 };
+    let made = Flight::make(alloc, id, old, new, now, changes, &mut image);
+    let StoreImage { store, faults } = image;
+    // From here on the store is known again.
+    let _store = store;
+    if faults > 0 {
+        return Err(StoreFault::DiskFault);
+    }
+    match made {
+        Ok(flight) => Ok(flight),
+        // No read has failed.
+        Err(FlightFault::DiskFault | FlightFault::NoMemory) => Err(StoreFault::NoMemory),
+    }
+}
+
+/// A write through which the image before it is seen: what is kept of it, and the image after it.
+#[derive(Drop)]
+struct Undone<'a> {
+    flight: &'a Flight,
+    image: &'a HeldImage,
+}
+
+struct BytesBefore;
+
+impl<'a> Says<Undone<'a>, Bytes> for BytesBefore {
+    ghost use Rattle.ubik_write.specs.Undo.{image_before};
+
+    ghost says = { λ u. image_before u.flight.now.undo u.flight.now.old_len u.image.now };
+}
+
+/// The own write of a flight, with its answer, over the image after it. Contracts see its call, its changes, and the image before it.
+pub fn own_write(
+    flight: Flight,
+    answer: Bytes,
+    call: &[u8],
+    changes: &Changes,
+    image: &HeldImage,
+) -> OwnWrite
+    requires text { flight.text ≡ text_of changes.now }
+    ensures { result ≡ own_write flight answer call.now (image_before flight.undo flight.old_len image.now) changes.now }
+{
+    let old_image = Ghost::of::<Undone, BytesBefore>(&Undone {
+        flight: &flight,
+        image,
+    });
+    OwnWrite::new(flight, answer, call, changes, old_image)
+}
+
+impl State {
+    ghost use Rattle.ubik_node.specs.State.{server_of, member_of, Keeps, ShowsBehind};
+    ghost use Rattle.ubik_node.specs.Writing.{HasPlace, IsUndoneOf, announced_of, flight_of, flight_packets, write_begun, write_over};
+
+    /// Takes the place of a write for a call, so that it can begin without memory. One that was taken for a write that did not begin is free again.
+    pub fn hold_place(&mut self, alloc: Global, id: u32) -> Result<(), NoMemory>
+        requires free { own_of self.old.writes ≡ None }
+        ensures server { server_of self.new ≡ server_of self.old }
+        ensures kept { Keeps self.old self.new }
+        ensures held { OnOk result (HasPlace id self.new.writes) }
+    {
+        if self.writes.is_none() {
+            self.writes = Some(SiteWrites::make(alloc)?);
+        }
+        let Some(writes) = &mut self.writes else {
+            return Ok(());
+        };
+        writes.release();
+        writes.hold(id)
+    }
+
+    /// Sends the packets of a write to a host: its beginning, its pieces in their order, its commit. For want of memory some were sent.
+    fn send_write(
+        &self,
+        alloc: Global,
+        flight: &Flight,
+        to: Host,
+        out: &mut Outputs,
+    ) -> Result<(), NoMemory>
+        ensures sent { OnOk result (out.new ≡ out.old ++ outputs_of (flight_packets (member_of self.now) to flight.now)) }
+        ensures front { take (length out.old) out.new ≡ out.old }
+        ensures len { length out.old ≤ length out.new }
+    {
+        let (_, old, new, _) = flight.ids();
+        let pieces = flight.pieces();
+        let len = flight.text_len();
+        let begin = Body::Begin {
+            old,
+            new,
+            pieces,
+            len,
+        };
+        out.push(Output::Send(self.packet_to(to, begin)))?;
+        for number in 0..pieces {
+            let bytes = bytes_of(alloc, flight.piece(number))?;
+            let piece = Body::PutPiece { new, number, bytes };
+            out.push(Output::Send(self.packet_to(to, piece)))?;
+        }
+        out.push(Output::Send(self.packet_to(to, Body::Commit { old, new })))
+    }
+
+    /// Sends the packets of a write to each other server that is not in a set. For want of memory some were sent.
+    pub fn spread_write(
+        &self,
+        alloc: Global,
+        flight: &Flight,
+        but: &Marks,
+        out: &mut Outputs,
+    ) -> Result<(), NoMemory>
+        ensures sent { OnOk result (out.new ≡ out.old ++ outputs_of (sends_to_each (member_of self.now)
+            (λ k. if is_marked (marked (length self.now.cell) but.now.set) k then [] else write_bodies flight.now.old_version flight.now.new_version flight.now.text))) }
+        ensures front { take (length out.old) out.new ≡ out.old }
+    {
+        for k in 0..self.cell.len() {
+            if k != self.me && !is_in(but, k) {
+                self.send_write(alloc, flight, self.cell.host(k), out)?;
+            }
+        }
+        Ok(())
+    }
+
+    /// A write was committed here: only this server has it, and the version before it stays the announced one.
+    pub fn begin_flight(&mut self, version: Version, image: HeldImage, write: OwnWrite)
+        requires serving { IsServing self.old.recovery }
+        requires free { own_of self.old.writes ≡ None }
+        requires others { 1 < length self.old.cell }
+        requires place { HasPlace write.flight.id self.old.writes }
+        requires undone { IsUndoneOf image write }
+        requires version { IsVersion version }
+        requires fits { length image ≤ MAX_IMAGE }
+        ensures after { server_of self.new ≡ write_begun write (held_alone self.old.recovery self.old.me) (with_database (server_of self.old) version image) }
+        ensures place { member_of self.new ≡ member_of self.old }
+        ensures image { self.new.image ≡ image }
+        ensures version { self.new.version ≡ version }
+    {
+        self.recovery.drop_text();
+        self.pending = None;
+        self.recovery.hold_alone(self.me);
+        self.version = version;
+        self.image = image;
+        if let Some(writes) = &mut self.writes {
+            writes.begin(write);
+        }
+    }
+
+    /// What a majority of holders leads to: a database that was sent is announced, and calls are served; a write in flight is over.
+    pub fn settle(&mut self, out: &mut Outputs)
+        requires few { length out.old ≤ 180 }
+        ensures shows { ShowsBehind (settled (member_of self.old) (server_of self.old)) (server_of self.new) out.old out.new }
+        ensures few { length out.new ≤ length out.old + 2 }
+        ensures kept { Keeps self.old self.new }
+    {
+        if !majority(&self.cell, &self.recovery.holders()) {
+            return;
+        }
+        match self.recovery.phase() {
+            Phase::Send => {
+                self.recovery.set_phase(Phase::Ready, self.me);
+                out.put(Output::Announce {
+                    version: self.version,
+                });
+            }
+            Phase::Ready => self.end_write(out),
+            _ => {}
+        }
+    }
+
+    /// The write in flight, if one is, is over: its version is announced, and then its call is answered.
+    fn end_write(&mut self, out: &mut Outputs)
+        requires few { length out.old ≤ 180 }
+        requires serving { IsServing self.old.recovery }
+        ensures shows { ShowsBehind (write_over (server_of self.old) (polled_of self.old.recovery) (spread_of self.old.recovery)
+            (announced_of self.old.version (own_of self.old.writes)) (flight_of self.old.writes)) (server_of self.new) out.old out.new }
+        ensures few { length out.new ≤ length out.old + 2 }
+        ensures kept { Keeps self.old self.new }
+    {
+        let Some(writes) = &mut self.writes else {
+            return;
+        };
+        let Some(write) = writes.end() else {
+            return;
+        };
+        let version = self.version;
+        out.put(Output::Announce { version });
+        let id = write.id();
+        let reply = Reply::Ok(write.into_answer());
+        out.put(Output::Reply { id, reply });
+    }
+}
+
+impl<D: SteadyDisk, V: DraftService> Node<D, V> {
+    ghost use Rattle.cell_model.specs.Writes.{written_in};
+    ghost use Rattle.ubik_node.specs.Node.{Ends, held, IsStored, own_member, up_server};
+    ghost use Rattle.ubik_node.specs.Verdict.{IsWritten};
+
+    /// Commits changes under the next counter, and sends them to the other servers: they are in flight until a majority has them. All memory is
+    /// taken before the commit, so the packets are made before it.
+    pub(crate) fn begin_write(
+        &mut self,
+        now: u32,
+        id: u32,
+        call: &[u8],
+        answer: Bytes,
+        changes: &Changes,
+        out: &mut Outputs,
+    ) -> Result<(), StoreFault>
+        requires not_halted { self.old.halted ≡ false }
+        requires stored { IsStored D.Disk self.old }
+        requires serving { IsServing self.old.state.recovery }
+        requires free { own_of self.old.state.writes ≡ None }
+        requires counter { self.old.state.version.counter < MAX_COUNTER }
+        requires others { 1 < length self.old.state.cell }
+        ensures ends { (image : List ℕ) → IsWritten self.old.state.image image changes.now
+            → Ends D.Disk (IsSome (D.files self.old.store.disk))
+            (written_in (own_member self.old) (up_server self.old) now id call.now answer image changes.now (up_server self.old).phase)
+            out.old out.new (held self.old) (held self.new) result }
+        ensures front { OnErr result (take (length out.old) out.new ≡ out.old) }
+        ensures line { length (waiting_of self.new.state.writes) ≤ length (waiting_of self.old.state.writes) }
+    {
+        let old = self.state.version;
+        let next = self.next_version();
+        let flight = flight_over(self.alloc, &mut self.store, id, old, next, now, changes)?;
+        self.state.hold_place(self.alloc, id)?;
+        let nobody = Marks {
+            set: [false; MAXSERVERS],
+        };
+        self.state.spread_write(self.alloc, &flight, &nobody, out)?;
+        commit_all(&mut self.store, changes.as_slice(), next)?;
+        let image = HeldImage::of(&self.store);
+        let write = own_write(flight, answer, call, changes, &image);
+        self.state.begin_flight(next, image, write);
+        Ok(())
+    }
+}
