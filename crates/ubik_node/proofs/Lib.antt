@@ -6,6 +6,7 @@ pub mod Calling
 pub mod Closing
 pub mod Committing
 pub mod Cut
+pub mod Dropping
 pub mod Durables
 pub mod Endings
 pub mod Fetching
