@@ -59,9 +59,9 @@ abbrev pub HasPlace : ℕ → Option SiteRecord → Type 0
 HasPlace id None = ⊥
 HasPlace id (Some site) = site.held ≡ Some id
 
--- the packets of a write to a host
-abbrev pub flight_packets : Member → Host → FlightRecord → List Shown
-flight_packets m host f = map (λ (body : Body). sent (packet_to m host body)) (write_bodies f.old_version f.new_version f.text)
+-- the packets of a write that leads to a version, to a host
+abbrev pub flight_packets : Member → Host → Version → FlightRecord → List Shown
+flight_packets m host new f = map (λ (body : Body). sent (packet_to m host body)) (write_bodies f.old_version new f.text)
 
 -- the server in which a write has begun: with this recovery, and without a text
 abbrev pub write_begun : OwnRecord → RecoveryRecord → Server → Server

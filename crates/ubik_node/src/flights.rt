@@ -131,19 +131,21 @@ impl State {
         writes.hold(id)
     }
 
-    /// Sends the packets of a write to a host: its beginning, its pieces in their order, its commit. For want of memory some were sent.
+    /// Sends the packets of a write that leads to a version to a host: its beginning, its pieces in their order, its commit. For want of memory
+    /// some were sent.
     fn send_write(
         &self,
         alloc: Global,
         flight: &Flight,
+        new: Version,
         to: Host,
         out: &mut Outputs,
     ) -> Result<(), NoMemory>
-        ensures sent { OnOk result (out.new ≡ out.old ++ outputs_of (flight_packets (member_of self.now) to flight.now)) }
+        ensures sent { OnOk result (out.new ≡ out.old ++ outputs_of (flight_packets (member_of self.now) to new flight.now)) }
         ensures front { take (length out.old) out.new ≡ out.old }
         ensures len { length out.old ≤ length out.new }
     {
-        let (_, old, new, _) = flight.ids();
+        let (_, old, _, _) = flight.ids();
         let pieces = flight.pieces();
         let len = flight.text_len();
         let begin = Body::Begin {
@@ -161,21 +163,22 @@ impl State {
         out.push(Output::Send(self.packet_to(to, Body::Commit { old, new })))
     }
 
-    /// Sends the packets of a write to each other server that is not in a set. For want of memory some were sent.
+    /// Sends the packets of a write that leads to a version to each other server that is not in a set. For want of memory some were sent.
     pub fn spread_write(
         &self,
         alloc: Global,
         flight: &Flight,
+        new: Version,
         but: &Marks,
         out: &mut Outputs,
     ) -> Result<(), NoMemory>
         ensures sent { OnOk result (out.new ≡ out.old ++ outputs_of (sends_to_each (member_of self.now)
-            (λ k. if is_marked (marked (length self.now.cell) but.now.set) k then [] else write_bodies flight.now.old_version flight.now.new_version flight.now.text))) }
+            (λ k. if is_marked (marked (length self.now.cell) but.now.set) k then [] else write_bodies flight.now.old_version new flight.now.text))) }
         ensures front { take (length out.old) out.new ≡ out.old }
     {
         for k in 0..self.cell.len() {
             if k != self.me && !is_in(but, k) {
-                self.send_write(alloc, flight, self.cell.host(k), out)?;
+                self.send_write(alloc, flight, new, self.cell.host(k), out)?;
             }
         }
         Ok(())
@@ -286,7 +289,8 @@ impl<D: SteadyDisk, V: DraftService> Node<D, V> {
         let nobody = Marks {
             set: [false; MAXSERVERS],
         };
-        self.state.spread_write(self.alloc, &flight, &nobody, out)?;
+        self.state
+            .spread_write(self.alloc, &flight, next, &nobody, out)?;
         commit_all(&mut self.store, changes.as_slice(), next)?;
         let image = HeldImage::of(&self.store);
         let write = own_write(flight, answer, call, changes, &image);

@@ -121,7 +121,8 @@ impl State {
         ensures kept { Keeps self.old self.new }
     {
         if let Some(write) = self.in_flight() {
-            return self.spread_write(alloc, write.flight(), &self.recovery.holders(), out);
+            let holders = self.recovery.holders();
+            return self.spread_write(alloc, write.flight(), self.version, &holders, out);
         }
         self.ask_versions(&self.recovery.holders(), self.recovery.poll(), out);
         self.settle(out);
