@@ -9,6 +9,7 @@ pub mod Cut
 pub mod Durables
 pub mod Endings
 pub mod Fetching
+pub mod Flights
 pub mod Fronts
 pub mod Gapless
 pub mod HeldImages
@@ -32,3 +33,4 @@ pub mod Told
 pub mod Turning
 pub mod TwoCalls
 pub mod Voted
+pub mod Writes
