@@ -56,7 +56,7 @@ module _ {D : Type 0} (g : Ghosts D) (db : Database) (m : Member) (s : model.Ser
         ap model.Halted (closed.1.2 ∙ keeps refl),
         refl,
         choices,
-        subst (λ (u : Stepped). FailsIn g (durable_in s) first.store.disk mid.store.disk u.calls) (sym step) (subst (λ (d : Durable). FailsIn g d first.store.disk mid.store.disk t.calls) kept (ends.failed refl)),
+        subst (λ (u : Stepped). FailsIn g (durable_in s) first.store.disk mid.store.disk u.calls) (sym step) (subst (λ (d : Durable). FailsIn g d first.store.disk mid.store.disk t.calls) kept (ends.failed known refl)),
       )))
   closed_step (Err fault.NoMemory) ends known returns keeps closed = unmade g db m s e now first mid last after back end closed (up_at mid.halted back (ends.halted ∙ up) ∙ ap model.Up (returns (λ is. absurd cc))) (ends.short (λ is. absurd cc)).1
   closed_step (Err (fault.BadLabel len head)) ends known returns keeps closed = unmade g db m s e now first mid last after back end closed (up_at mid.halted back (ends.halted ∙ up) ∙ ap model.Up (returns (λ is. absurd cc))) (ends.short (λ is. absurd cc)).1

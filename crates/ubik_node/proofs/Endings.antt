@@ -92,7 +92,7 @@ module _ {D : Type 0} (g : Ghosts D) where
     pub made_ends : CallsSo g n.store.disk m.store.disk ⊥ → IsKept g m → (IsSome (g.files n.store.disk) → IsSome (g.files m.store.disk)) → (knows → IsMade g t before after n m) → Ends g knows t before after n m (Ok tt)
     made_ends run stored told made = record {
       made = made;
-      failed = λ failed. absurd (no_fault failed);
+      failed = λ known failed. absurd (no_fault failed);
       short = tt;
       state = tt;
       keeps = λ failed. absurd (no_fault failed);
@@ -122,7 +122,7 @@ module _ {D : Type 0} (g : Ghosts D) where
         → (e ≢ DiskFault → IsKept g m) → (e ≡ DiskFault → HasFailedStore g m.store) → m.server ≡ n.server → Ends g knows t before after n m (Err e)
     failed_ends e cause was up reads to from stored halts same = record {
       made = λ _. tt;
-      failed = λ failed. fails_reads g n.store (durable_in n.server) (ready_in n was up) (was.image up) (was.version up) reads t.calls;
+      failed = λ known failed. fails_reads g n.store (durable_in n.server) (ready_in n was up) (was.image up) (was.version up) reads t.calls;
       short = λ other. (⊎_elim (λ is. absurd (other is)) (λ is. is) cause, reads_as (λ failed. other (to failed)) (λ none. absurd none) reads);
       state = λ other. same;
       keeps = λ failed. ap halted_from same;
@@ -160,7 +160,7 @@ module _ {D : Type 0} (g : Ghosts D) where
   pub known_ends : {knows less : Type 0} {t : Stepped} {before after : List Output} {n m : Held D} {r : Result (Unit {0}) StoreFault} → (less → knows) → Ends g knows t before after n m r → Ends g less t before after n m r
   known_ends so ends = record {
     made = λ known. ends.made (so known);
-    failed = ends.failed;
+    failed = λ known. ends.failed (so known);
     short = ends.short;
     state = ends.state;
     keeps = ends.keeps;
