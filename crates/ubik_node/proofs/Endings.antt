@@ -215,7 +215,7 @@ module _ {D : Type 0} (g : Ghosts D) where
     made = λ known.
         ok_map r (IsMade g t before after (record n { server = s; member = place }) m) (IsMade g t before after n m) (ends.made known) (λ made.
         record { server = made.server; outputs = made.outputs; disk = subst (λ (d : Durable). Serves g d n.store.disk m.store.disk t.calls) same made.disk });
-    failed = λ failed. subst (λ (d : Durable). FailsIn g d n.store.disk m.store.disk t.calls) same (ends.failed failed);
+    failed = λ known failed. subst (λ (d : Durable). FailsIn g d n.store.disk m.store.disk t.calls) same (ends.failed known failed);
     short = ends.short;
     state = never_short r (m.server ≡ n.server) fine;
     keeps = λ failed. ends.keeps failed ∙ keeps;

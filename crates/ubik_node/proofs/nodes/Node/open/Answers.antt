@@ -81,5 +81,6 @@ invariant_of-state g c =
       of_cell = subst (λ (r : RecoveryRecord). IsOfCell (length c.args.cell) r) (sym (c.in_cell.ensures ∙ ap no_recovery c.len-servers.ensures.len)) (of_none (length c.args.cell));
       begun = λ w is. absurd cc;
       serving = λ writes. absurd (false≢true writes);
+      line = λ rests. refl;
       written = record { others = λ writes. absurd (false≢true writes); undone = λ w is. absurd cc; room = omega arith; alone = λ one. refl };
     }
