@@ -27,7 +27,6 @@ pub mod Relabelled
 pub mod Rested
 pub mod Sending
 pub mod Served
-pub mod Serves
 pub mod Spread
 pub mod Stepping
 pub mod Told
