@@ -1,4 +1,5 @@
 pub mod AfterReads
+pub mod Again
 pub mod Alone
 pub mod Appended
 pub mod Begun
