@@ -18,6 +18,7 @@ pub mod HeldImages
 pub mod Images
 pub mod Lapsed
 pub mod Lending
+pub mod Lining
 pub mod Logging
 pub mod Made
 pub mod Places
