@@ -20,6 +20,7 @@ pub mod Made
 pub mod Places
 pub mod Polled
 pub mod Putting
+pub mod Reading
 pub mod Received
 pub mod Relabelled
 pub mod Rested
