@@ -9,6 +9,7 @@ pub mod Cut
 pub mod Durables
 pub mod Endings
 pub mod Fetching
+pub mod Flights
 pub mod Fronts
 pub mod Gapless
 pub mod HeldImages
@@ -33,3 +34,4 @@ pub mod Told
 pub mod Turning
 pub mod TwoCalls
 pub mod Voted
+pub mod Writes

@@ -5,7 +5,7 @@ ghost use Rattle.cell_model.specs.Node.{halted_from};
 ghost use Rattle.cell_model.specs.Step.{outputs_of, sends_to_all};
 ghost use Rattle.ubik_recovery.specs.Record.{given_out, in_phase};
 ghost use Rattle.ubik_node.specs.Recovering.{IsOfCell, IsServing};
-ghost use Rattle.ubik_node.specs.Writing.{is_late, own_of};
+ghost use Rattle.ubik_node.specs.Writing.{is_late, own_of, waiting_of};
 
 use crate::outputs::Outputs;
 use crate::state::State;
@@ -21,6 +21,7 @@ pub struct Dropped {
     pub recovery: Recovery,
     pub writes: Option<SiteWrites>,
     ghost serving: { IsSome (own_of writes) → IsServing recovery },
+    ghost line: { ¬ IsServing recovery → waiting_of writes ≡ [] },
 }
 
 impl State {
