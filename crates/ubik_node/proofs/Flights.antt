@@ -20,7 +20,7 @@ packets-append : (m : Member) (host : Host) (first later : List Body) → packet
 packets-append m host [] later = refl
 packets-append m host (b ∷ first) later = ap (λ (rest : List Output). Send (packet_to m host b) ∷ rest) (packets-append m host first later)
 
-shown-append : (first later : List Shown) → outputs_of (first ++ later) ≡ outputs_of first ++ outputs_of later
+pub shown-append : (first later : List Shown) → outputs_of (first ++ later) ≡ outputs_of first ++ outputs_of later
 shown-append [] later = refl
 shown-append (one ∷ first) later = ap (λ (rest : List Output). one.output ∷ rest) (shown-append first later)
 

@@ -6,6 +6,7 @@ pub mod Calling
 pub mod Closing
 pub mod Committing
 pub mod Cut
+pub mod Dropping
 pub mod Durables
 pub mod Endings
 pub mod Fetching
@@ -27,7 +28,6 @@ pub mod Relabelled
 pub mod Rested
 pub mod Sending
 pub mod Served
-pub mod Serves
 pub mod Spread
 pub mod Stepping
 pub mod Told

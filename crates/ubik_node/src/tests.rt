@@ -388,7 +388,7 @@ pub(crate) fn is_answer(output: &Option<Output>, wanted: u32, answer: &[u8]) -> 
     }
 }
 
-fn is_elsewhere(output: &Option<Output>, wanted: u32, heard: (Host, u32)) -> bool {
+pub(crate) fn is_elsewhere(output: &Option<Output>, wanted: u32, heard: (Host, u32)) -> bool {
     match output {
         Some(
             Output::Reply {
