@@ -28,6 +28,7 @@ pub mod Relabelled
 pub mod Rested
 pub mod Sending
 pub mod Served
+pub mod Settling
 pub mod Spread
 pub mod Stepping
 pub mod Told
