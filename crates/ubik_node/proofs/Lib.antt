@@ -33,6 +33,7 @@ pub mod Spread
 pub mod Stepping
 pub mod Told
 pub mod Turning
+pub mod Turns
 pub mod TwoCalls
 pub mod Voted
 pub mod Writes
