@@ -1,4 +1,5 @@
 pub mod AfterReads
+pub mod Again
 pub mod Alone
 pub mod Appended
 pub mod Begun
@@ -17,6 +18,7 @@ pub mod HeldImages
 pub mod Images
 pub mod Lapsed
 pub mod Lending
+pub mod Lining
 pub mod Logging
 pub mod Made
 pub mod Places

@@ -1,20 +1,27 @@
 -- The own writes of a server.
 use Rattle.std.proofs.Common.{◌≡◌, ℕ, ◌+◌, ◌<◌, ◌≤◌, Bool, true, false, Option, Some, None, is_some, option_map, IsSome, List, [], ◌∷◌, ◌++◌, length, drop, get_or, slice_get, refl, sym, ap, subst, ◌∙◌, append_assoc, arith}
 use Rattle.std.proofs.lemmas.List.{append-nil, drop_all}
-use Rattle.std.proofs.lemmas.Option.{get_or_from_slice_get, slice_get-get_or}
+use Rattle.std.proofs.lemmas.Option.{get_or_from_slice_get, slice_get-get_or, slice_get_within}
 use Rattle.std.proofs.Math.Seq.{drop-cons}
 use Rattle.std.proofs.Common.{add-one}
+use Rattle.ubik_types.specs.declared.phases.Applied.{Applied}
+use Rattle.ubik_types.specs.declared.phases.Applied.TheVariants as applied
+use Rattle.ubik_types.specs.declared.phases.Phase.{Phase}
+use Rattle.ubik_types.specs.declared.phases.Phase.TheVariants as phase
 use Rattle.ubik_types.specs.declared.versions.Version.{Version}
 use Rattle.ubik_calls.specs.declared.replies.Reply.{Reply}
 use Rattle.cell_model.specs.declared.events.Output.{Output}
 use Rattle.cell_model.specs.declared.events.Output.TheVariants as output
-use Rattle.cell_model.specs.Lapse.{waiting_refused}
-use Rattle.cell_model.specs.Node.{Flight, Waiting}
-use Rattle.cell_model.specs.Step.{outputs_of}
+use Rattle.cell_model.specs.Lapse.{no_quorum, waiting_refused}
+use Rattle.cell_model.specs.Node.{Flight, Server, Waiting}
+use Rattle.cell_model.specs.Polls.{polling}
+use Rattle.cell_model.specs.Step.{Member, outputs_of}
+use Rattle.cell_model.specs.Writes.{last_counter}
 use Rattle.site_writes.specs.OwnWrite.{OwnRecord}
 use Rattle.site_writes.specs.Site.{SiteRecord, with_flight}
 use Rattle.ubik_recovery.specs.Record.{RecoveryRecord}
 use Rattle.ubik_node.specs.Recovering.{IsServing}
+use Rattle.ubik_node.specs.State.{ShowsBehind}
 use Rattle.ubik_node.specs.Writing.{AreOfCell, IsUndoneOf, announced_of, flight_of, own_of, waiting_of}
 
 -- no write is in flight where no calls are served
@@ -111,3 +118,35 @@ line_none (w ∷ waiting) is = absurd cc
 pub line_first : (waiting : List Waiting) (w : Waiting) → Some w ≡ slice_get waiting 0 → waiting ≡ w ∷ drop 1 waiting
 line_first [] w is = absurd cc
 line_first (first ∷ waiting) w is = let same : w ≡ first = cc in ap (λ (x : Waiting). x ∷ waiting) (sym same)
+
+drop_none : (waiting : List Waiting) → drop 0 waiting ≡ waiting
+drop_none [] = refl
+drop_none (w ∷ waiting) = refl
+
+-- the first one that waits has its refusal
+pub turn_refused : (waiting later : List Waiting) (w : Waiting) (r q : Reply) (out all : List Output) → Some w ≡ slice_get waiting 0 → later ≡ drop 1 waiting → q ≡ r
+    → out ++ refused_from waiting 0 r ≡ all → (out ++ output.Reply w.id q ∷ []) ++ refused_from later 0 r ≡ all
+turn_refused waiting later w r q out all first others same rest =
+    let there : slice_get waiting 0 ≡ Some w = sym first in
+    let inside : 0 < length waiting = slice_get_within waiting 0 w there in
+    ap (λ (x : Reply). (out ++ output.Reply w.id x ∷ []) ++ refused_from later 0 r) same
+    ∙ ap (λ (those : List Waiting). (out ++ output.Reply w.id r ∷ []) ++ outputs_of (waiting_refused those r)) (drop_none later ∙ others)
+    ∙ one_refused waiting 0 w.id r out all inside (ap (option_map (λ (x : Waiting). x.id)) there) rest
+
+-- the refusal of a server, where another one has the same cell and starts
+pub same_refusal : (m n : Member) (s t : Server) (now : ℕ) (p : Phase) (a : Applied) → m ≡ n → s.starts ≡ t.starts → no_quorum m s now p a ≡ no_quorum n t now p a
+same_refusal m n s t now p a place starts =
+    ap (λ (x : Member). no_quorum x s now p a) place ∙ ap (λ (x : List (Option ℕ)). no_quorum n (record s { starts = x }) now p a) starts
+
+-- neither the call nor one that waits is served
+pub counter_over : (m : Member) (s mid after : Server) (now id : ℕ) (old out : List Output) → mid ≡ record s { waiting = [] } → after ≡ polling m mid now
+    → out ≡ (old ++ output.Reply id (no_quorum m s now phase.Poll applied.No) ∷ []) ++ refused_from s.waiting 0 (no_quorum m s now phase.Poll applied.No) → ShowsBehind (last_counter m s now id) after old out
+counter_over m s mid after now id old out drained polls shown =
+    let r : Reply = no_quorum m s now phase.Poll applied.No in
+    record {
+      server = sym (polls ∙ ap (λ (x : Server). polling m x now) drained);
+      calls = refl;
+      outputs =
+          shown ∙ append_assoc old (output.Reply id r ∷ []) (refused_from s.waiting 0 r)
+          ∙ ap (λ (those : List Waiting). old ++ output.Reply id r ∷ outputs_of (waiting_refused those r)) (drop_none s.waiting);
+    }
