@@ -11,7 +11,7 @@ pub mod Dropping
 pub mod Durables
 pub mod Endings
 pub mod Fetching
-pub mod Flights
+pub mod WritePackets
 pub mod Fronts
 pub mod Gapless
 pub mod HeldImages
