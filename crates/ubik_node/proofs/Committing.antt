@@ -1,5 +1,6 @@
 -- What a writing call leads to at its turn.
-use Rattle.std.proofs.Common.{◌≡◌, ◌<◌, ◌≤◌, ◌+◌, ◌/◌, ℕ, zero, suc, Bool, true, false, cond, eqb, Option, Some, None, List, [], ◌∷◌, ◌++◌, length, replicate, take, refl, sym, ap, subst, ◌∙◌, append_assoc, arith}
+use Rattle.std.proofs.Common.{◌≡◌, ◌<◌, ◌≤◌, ◌+◌, ◌/◌, ℕ, zero, suc, Bool, true, false, cond, eqb, Option, Some, None, IfSome, IsSome, List, [], ◌∷◌, ◌++◌, length, replicate, take, refl, sym, ap, subst, ◌∙◌, append_assoc, arith}
+use Rattle.std.proofs.lemmas.Bool.{false≢true}
 use Rattle.std.proofs.lemmas.Bool.Decides.{nat_tests}
 use Rattle.std.proofs.lemmas.List.{append-nil}
 use Rattle.std.proofs.lemmas.List.Sums.{sum_by-cons}
@@ -25,12 +26,16 @@ use Rattle.cell_model.specs.Node.{Flight, Server}
 use Rattle.cell_model.specs.Polls.{is_marked, only_at, only_holder}
 use Rattle.cell_model.specs.Step.{Evaluation, Member, cell_size, outputs_of, sends_to_each, told_version, with_database}
 use Rattle.cell_model.specs.Writes.{answered_on, flight_of, last_counter, next_version, own_commit, turned, write_bodies, written, written_in, written_within}
-use Rattle.site_writes.specs.OwnWrite.{OwnRecord}
+use Rattle.site_writes.specs.OwnWrite.{OwnRecord, own_write}
 use Rattle.ubik_recovery.specs.Record.{RecoveryRecord, held_alone, polled_of, record_in, with_text}
 use Rattle.ubik_recovery.specs.Rules.{recovering}
+use Rattle.ubik_write.specs.Flight.{FlightRecord, IsFlightOf, Undoes}
+use Rattle.disk_base.specs.Files.{Files}
+use Rattle.ubik_store.specs.Store.{image_in}
 use Rattle.ubik_node.specs.Beacons.{alone}
 use Rattle.ubik_node.specs.Verdict.{Leads}
 use Rattle.ubik_node.specs.Writing.{write_begun}
+use Rattle.ubik_node.proofs.Durables.{IsThere}
 use Rattle.ubik_node.proofs.Relabelled.{sends_same}
 
 module _ (db : Database) (m : Member) (s : Server) (now id : ℕ) (call : List ℕ) where
@@ -141,21 +146,21 @@ module _ (s : Server) (v : Version) (r : RecoveryRecord) (now id : ℕ) (call an
       by phase.Send is = absurd cc
       by phase.Ready is = record { server = ap (λ (n : ℕ). last n None) (sym one) ∙ ap (λ (f : Option Flight). last r.servers f) (sym free); outputs = refl; calls = refl }
 
-  pub written_alone : (m : Member) (only : (h : Host) × (m ≡ alone h)) → s.flight ≡ None → r.servers ≡ 1
-      → Leads (written_in m (recovering v r s) now id call answer image changes (recovering v r s).phase)
-      (recovering (next_version s.version) (with_text (held_alone r 0) None) (with_database (recovering v r s) (next_version s.version) image))
-      (output.Announce (next_version s.version) ∷ output.Reply id (reply.Ok answer) ∷ []) (own_commit (next_version s.version) changes image (record { moment = now; call = call }) ∷ [])
-  written_alone m only free one =
-      subst (λ (k : Member). Leads (written_in k (recovering v r s) now id call answer image changes (recovering v r s).phase)
-      (recovering (next_version s.version) (with_text (held_alone r 0) None) (with_database (recovering v r s) (next_version s.version) image))
-      (output.Announce (next_version s.version) ∷ output.Reply id (reply.Ok answer) ∷ []) (own_commit (next_version s.version) changes image (record { moment = now; call = call }) ∷ [])) (sym only.1) (alone_written only.0 free one)
+  pub written_alone : (m : Member) (only : (h : Host) × (m ≡ alone h)) (next : Version) → next ≡ next_version s.version → s.flight ≡ None → r.servers ≡ 1
+      → Leads (written_in m (recovering v r s) now id call answer image changes (recovering v r s).phase) (recovering next (with_text (held_alone r 0) None) (with_database (recovering v r s) next image))
+      (output.Announce next ∷ output.Reply id (reply.Ok answer) ∷ []) (own_commit next changes image (record { moment = now; call = call }) ∷ [])
+  written_alone m only next is free one =
+      let P : Member → Version → Type 0 = λ k w.
+      Leads (written_in k (recovering v r s) now id call answer image changes (recovering v r s).phase) (recovering w (with_text (held_alone r 0) None) (with_database (recovering v r s) w image))
+      (output.Announce w ∷ output.Reply id (reply.Ok answer) ∷ []) (own_commit w changes image (record { moment = now; call = call }) ∷ []) in
+      subst (λ (w : Version). P m w) (sym is) (subst (λ (k : Member). P k (next_version s.version)) (sym only.1) (alone_written only.0 free one))
 
   -- of one with others
-  pub written_begun : (m : Member) (write : OwnRecord) → cell_size m ≡ r.servers → 1 < cell_size m → write.kept.old_version ≡ s.version → write.flight ≡ flight_of s now id call answer changes
+  begun_written : (m : Member) (write : OwnRecord) → cell_size m ≡ r.servers → 1 < cell_size m → write.kept.old_version ≡ s.version → write.flight ≡ flight_of s now id call answer changes
       → Leads (written_in m (recovering v r s) now id call answer image changes (recovering v r s).phase)
       (write_begun write (held_alone r m.me) (with_database (recovering v r s) (next_version s.version) image))
       (outputs_of (sends_to_each m (λ k. write_bodies s.version (next_version s.version) (text_of changes)))) (own_commit (next_version s.version) changes image (record { moment = now; call = call }) ∷ [])
-  written_begun m write same more old flight = by r.phase serves
+  begun_written m write same more old flight = by r.phase serves
     where
       few : is_majority (cell_size m) (only_holder m) ≡ false
       few = one_is_few (cell_size m) m.me more
@@ -184,3 +189,24 @@ module _ (s : Server) (v : Version) (r : RecoveryRecord) (now id : ℕ) (call an
         outputs = ap outputs_of (append-nil (sends_to_each m (λ k. write_bodies s.version (next_version s.version) (text_of changes))));
         calls = refl;
       })
+
+  pub written_begun : (m : Member) (write : OwnRecord) (next : Version) → next ≡ next_version s.version → cell_size m ≡ r.servers → 1 < cell_size m → write.kept.old_version ≡ s.version → write.flight ≡ flight_of s now id call answer changes
+      → Leads (written_in m (recovering v r s) now id call answer image changes (recovering v r s).phase) (write_begun write (held_alone r m.me) (with_database (recovering v r s) next image))
+      (outputs_of (sends_to_each m (λ k. write_bodies s.version next (text_of changes)))) (own_commit next changes image (record { moment = now; call = call }) ∷ [])
+  written_begun m write next is same more old flight =
+      let P : Version → Type 0 = λ w.
+      Leads (written_in m (recovering v r s) now id call answer image changes (recovering v r s).phase) (write_begun write (held_alone r m.me) (with_database (recovering v r s) w image))
+      (outputs_of (sends_to_each m (λ k. write_bodies s.version w (text_of changes)))) (own_commit w changes image (record { moment = now; call = call }) ∷ []) in
+      subst P (sym is) (begun_written m write same more old flight)
+
+-- the write in flight as the rules have it
+pub flown : (write : OwnRecord) (f : FlightRecord) (s : Server) (id now : ℕ) (a b : Version) (call answer old : List ℕ) (changes : List Change) → write ≡ own_write f answer call old changes → IsFlightOf id a b now changes f → old ≡ s.image
+    → write.flight ≡ flight_of s now id call answer changes
+flown write f s id now a b call answer old changes is of same =
+    let at : ℕ → ℕ → List ℕ → Flight = λ i began bytes. record { id = i; began = began; call = call; answer = answer; old_image = bytes; changes = changes } in
+    ap (λ (w : OwnRecord). w.flight) is ∙ ap (λ (i : ℕ). at i f.began old) of.call ∙ ap (λ (began : ℕ). at id began old) of.began ∙ ap (λ (bytes : List ℕ). at id now bytes) same
+
+-- what is kept of a write leads back to the image that was known
+pub undone_here : (files : Option Files) (f : FlightRecord) (image : List ℕ) (changes : List Change) → IsSome files → IsThere image (image_in files) → IfSome (image_in files) (λ bytes. Undoes f bytes changes) → Undoes f image changes
+undone_here None f image changes tells there undoes = absurd (false≢true tells)
+undone_here (Some fs) f image changes tells there undoes = subst (λ (bytes : List ℕ). Undoes f bytes changes) there undoes
