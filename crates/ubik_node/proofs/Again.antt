@@ -16,7 +16,7 @@ use Rattle.cell_model.specs.Writes.{settled, settled_in, write_bodies}
 use Rattle.ubik_recovery.specs.Record.{RecoveryRecord, phase_record, polled_of, record_in, spread_of}
 use Rattle.ubik_node.specs.Spreading.{IsSpreading}
 use Rattle.ubik_node.specs.State.{ShowsBehind}
-use Rattle.ubik_node.proofs.Flights.{shown-append}
+use Rattle.ubik_node.proofs.WritePackets.{shown-append}
 
 module _ (m : Member) (s : Server) (now : ℕ) (v : Version) (r : RecoveryRecord) where
   -- the packets of the write in flight go again

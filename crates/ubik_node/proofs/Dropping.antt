@@ -21,7 +21,7 @@ use Rattle.ubik_node.specs.Lapsing.{returned}
 use Rattle.ubik_node.specs.Recovering.{IsOfCell, IsServing}
 use Rattle.ubik_node.specs.State.{ShowsBehind, member_of, server_of}
 use Rattle.ubik_node.specs.Writing.{announced_of, flight_of, is_late, own_of, waiting_of}
-use Rattle.ubik_node.proofs.Flights.{shown-append}
+use Rattle.ubik_node.proofs.WritePackets.{shown-append}
 
 -- a server with this recovery and these writes
 abbrev with_all : RecoveryRecord → Option SiteRecord → Server → Server

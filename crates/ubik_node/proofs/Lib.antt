@@ -11,7 +11,7 @@ pub mod Dropping
 pub mod Durables
 pub mod Endings
 pub mod Fetching
-pub mod Flights
+pub mod WritePackets
 pub mod Fronts
 pub mod Gapless
 pub mod HeldImages
@@ -24,6 +24,7 @@ pub mod Made
 pub mod Places
 pub mod Polled
 pub mod Putting
+pub mod Reading
 pub mod Received
 pub mod Relabelled
 pub mod Rested
@@ -34,6 +35,7 @@ pub mod Spread
 pub mod Stepping
 pub mod Told
 pub mod Turning
+pub mod Turns
 pub mod TwoCalls
 pub mod Voted
 pub mod Writes

@@ -121,6 +121,7 @@ impl State {
         requires free { own_of self.old.writes ≡ None }
         ensures server { server_of self.new ≡ server_of self.old }
         ensures kept { Keeps self.old self.new }
+        ensures recovery { self.new.recovery ≡ self.old.recovery }
         ensures held { OnOk result (HasPlace id self.new.writes) }
     {
         if self.writes.is_none() {

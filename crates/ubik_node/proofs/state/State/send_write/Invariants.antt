@@ -4,7 +4,7 @@ use Rattle.cell_model.specs.declared.events.Output.TheVariants.{Send}
 use Rattle.cell_model.specs.Pieces.{piece_count}
 use Rattle.cell_model.specs.Step.{packet_to}
 use Rattle.ubik_node.specs.State.{member_of}
-use Rattle.ubik_node.proofs.Flights.{pieces_left}
+use Rattle.ubik_node.proofs.WritePackets.{pieces_left}
 use Rattle.ubik_node.proofs.state.State.send_write.Given as goal
 
 abbrev pub invariant-loop-number : goal.invariant-loop-number
