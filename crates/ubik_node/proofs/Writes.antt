@@ -19,7 +19,7 @@ use Rattle.cell_model.specs.Step.{Member, outputs_of}
 use Rattle.cell_model.specs.Writes.{last_counter}
 use Rattle.site_writes.specs.OwnWrite.{OwnRecord}
 use Rattle.lock_table.specs.declared.tables.TheConstants.{MAX_WAITING}
-use Rattle.site_writes.specs.Site.{LineIsFull, SiteRecord, with_flight, with_place, with_waiting, without_first, without_place}
+use Rattle.site_writes.specs.Site.{LineIsFull, SiteRecord, no_writes, with_flight, with_place, with_waiting, without_first, without_place}
 use Rattle.site_writes.specs.declared.sites.WaitFault.{WaitFault}
 use Rattle.ubik_types.specs.declared.memory.NoMemory.{NoMemory}
 use Rattle.ubik_recovery.specs.Record.{RecoveryRecord}
@@ -61,6 +61,14 @@ written_free n image other writes free are = record {
 -- no writes
 pub written_none : (n : ℕ) (image : List ℕ) → AreOfCell n image None
 written_none n image = record {
+  others = λ is. absurd cc;
+  undone = λ write is. absurd cc;
+  room = omega arith;
+  alone = λ one. refl;
+}
+
+pub written_empty : (n : ℕ) (image : List ℕ) → AreOfCell n image (Some no_writes)
+written_empty n image = record {
   others = λ is. absurd cc;
   undone = λ write is. absurd cc;
   room = omega arith;
