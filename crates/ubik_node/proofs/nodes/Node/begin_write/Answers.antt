@@ -133,7 +133,7 @@ returns-clause-ends g c = λ image.
           ∙ ap (λ (k : Member). c.args.out.now ++ outputs_of (sends_to_each k (λ j. cond (is_marked (marked (length k.hosts) c.nobody.set) j) [] (write_bodies flight.old_version v flight.text)))) c.hold_place.ensures.kept.member
           ∙ ap (λ (shown : List Shown). c.args.out.now ++ outputs_of shown) (spread_to_each m (length st.cell) 20 c.nobody.set flight.old_version st.version v flight.text (text_of given) refl of.old_version of.text)
           ∙ ap (λ (o : List Output). c.args.out.now ++ o) (sym (leads known).outputs),
-    )))
+    ))
 
 pub commit_all-requires-clause-none : goal.commit_all-requires-clause-none
 commit_all-requires-clause-none g c =

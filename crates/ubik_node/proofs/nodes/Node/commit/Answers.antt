@@ -76,7 +76,7 @@ returns-clause-ends g c = λ now call image.
       leads.server ∙ sym (c.take_commit.ensures.after ∙ ap (λ (bytes : List ℕ). recovering v (with_text (held_alone st.recovery 0) None) (with_database (server_of st) v bytes)) here),
       c.put_reply.ensures ∙ ap (λ (o : List Output). o ++ output.Reply c.args.id (reply.Ok c.args.answer) ∷ []) c.put.ensures
           ∙ append_assoc c.args.out.now (output.Announce v ∷ []) (output.Reply c.args.id (reply.Ok c.args.answer) ∷ []) ∙ ap (λ (o : List Output). c.args.out.now ++ o) (sym leads.outputs),
-    )))
+    ))
 
 pub commit_all-requires-clause-none : goal.commit_all-requires-clause-none
 commit_all-requires-clause-none g c = c.requires.stored.none_begun c.requires.not_halted
