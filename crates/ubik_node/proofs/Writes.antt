@@ -1,5 +1,5 @@
 -- The own writes of a server.
-use Rattle.std.proofs.Common.{◌≡◌, ℕ, ◌+◌, ◌<◌, ◌≤◌, Bool, true, false, Option, Some, None, is_some, option_map, IsSome, List, [], ◌∷◌, ◌++◌, length, drop, get_or, slice_get, refl, sym, ap, subst, ◌∙◌, append_assoc, arith}
+use Rattle.std.proofs.Common.{◌≡◌, ℕ, suc, ◌+◌, ◌<◌, ◌≤◌, Bool, true, false, Option, Some, None, is_some, option_map, IsSome, List, [], ◌∷◌, ◌++◌, length, drop, get_or, slice_get, refl, sym, ap, subst, ◌∙◌, append_assoc, arith}
 use Rattle.std.proofs.lemmas.List.{append-nil, drop_all}
 use Rattle.std.proofs.lemmas.Option.{get_or_from_slice_get, slice_get-get_or, slice_get_within}
 use Rattle.std.proofs.Math.Seq.{drop-cons}
@@ -80,7 +80,8 @@ refused_from waiting k r = outputs_of (waiting_refused (drop k waiting) r)
 refused-cons : (waiting : List Waiting) (k : ℕ) (w : Waiting) (r : Reply) → k < length waiting → slice_get waiting k ≡ Some w → refused_from waiting k r ≡ output.Reply w.id r ∷ refused_from waiting (k + 1) r
 refused-cons waiting k w r inside at =
     let same = get_or_from_slice_get waiting k w w at in
-    ap (λ (those : List Waiting). outputs_of (waiting_refused those r)) (rw add-one (drop-cons waiting k w inside ∙ ap (λ (x : Waiting). x ∷ drop (k + 1) waiting) same))
+    let parted : drop k waiting ≡ w ∷ drop (k + 1) waiting = rw add-one (drop-cons waiting k w inside ∙ ap (λ (x : Waiting). x ∷ drop (suc k) waiting) same) in
+    ap (λ (those : List Waiting). outputs_of (waiting_refused those r)) parted
 
 -- the one at a place is refused
 pub one_refused : (waiting : List Waiting) (k id : ℕ) (r : Reply) (out all : List Output) → k < length waiting → option_map (λ (w : Waiting). w.id) (slice_get waiting k) ≡ Some id

@@ -503,9 +503,11 @@ fn a_write_of_61_seconds_is_given_up(rt: HostRuntime) -> Result<(), Fail> {
     three.reads(&rt, alloc, (2089, 9), b"abc")
 }
 
-/// The calls of the disk of host 1 up to a second write, and in it.
-const BEFORE: u64 = 40;
-const WRITE: u64 = 20;
+/// The calls of the disk of host 1 up to its second write.
+const BEFORE: u64 = 36;
+
+/// The calls of that write: reads of the image and of what it overwrites, and a commit of one put.
+const WRITE: u64 = 18;
 
 /// A second write over a disk of host 1 on which the call of this number fails: whether it was committed, or else halted the server.
 fn second_write(rt: &impl Abort, alloc: Global, failing: u64) -> Result<bool, Fail> {
@@ -527,11 +529,11 @@ fn second_write(rt: &impl Abort, alloc: Global, failing: u64) -> Result<bool, Fa
 #[test]
 fn a_disk_that_fails_in_a_write_sends_nothing(rt: HostRuntime) -> Result<(), Fail> {
     let alloc = rt.alloc();
-    for number in BEFORE..BEFORE + WRITE {
-        let committed = second_write(&rt, alloc, number)?;
+    for number in 1..=WRITE {
+        let committed = second_write(&rt, alloc, BEFORE + number)?;
         assert!(rt; !committed, "call {number}");
     }
-    let committed = second_write(&rt, alloc, BEFORE + WRITE)?;
+    let committed = second_write(&rt, alloc, BEFORE + WRITE + 1)?;
     assert!(rt; committed);
     Ok(())
 }
