@@ -73,7 +73,7 @@ write_put m host old new text out last is =
     ap (λ (xs : List Output). xs ++ end) is
     ∙ append_assoc (out ++ first) middle end
     ∙ append_assoc out first (middle ++ end)
-    ∙ ap (λ (xs : List Output). out ++ first ++ xs) (sym (packets-append m host (put_pieces new text 0 (piece_count text)) (body.Commit old new ∷ [])))
+    ∙ ap (λ (xs : List Output). out ++ (first ++ xs)) (sym (packets-append m host (put_pieces new text 0 (piece_count text)) (body.Commit old new ∷ [])))
 
 -- what stood at the front still stands there
 pub front_stays : (first out more : List Output) → length first ≤ length out → take (length first) out ≡ first → take (length first) (out ++ more) ≡ first

@@ -1,5 +1,5 @@
 -- The own writes of a server.
-use Rattle.std.proofs.Common.{◌≡◌, ℕ, suc, ◌+◌, ◌<◌, ◌≤◌, Bool, true, false, Option, Some, None, is_some, option_map, IsSome, List, [], ◌∷◌, ◌++◌, length, drop, get_or, slice_get, refl, sym, ap, subst, ◌∙◌, append_assoc, arith}
+use Rattle.std.proofs.Common.{◌≡◌, ℕ, suc, ◌+◌, ◌<◌, ◌≤◌, Bool, true, false, Option, Some, None, is_some, option_map, IsSome, List, [], ◌∷◌, ◌++◌, length, drop, get_or, slice_get, refl, sym, ap, subst, ◌∙◌, append_assoc, arith, length-append, length-drop, Result, Ok, Err, OnOk, OnErr, IsErrAnd}
 use Rattle.std.proofs.lemmas.List.{append-nil, drop_all}
 use Rattle.std.proofs.lemmas.Option.{get_or_from_slice_get, slice_get-get_or, slice_get_within}
 use Rattle.std.proofs.Math.Seq.{drop-cons}
@@ -18,7 +18,10 @@ use Rattle.cell_model.specs.Polls.{polling}
 use Rattle.cell_model.specs.Step.{Member, outputs_of}
 use Rattle.cell_model.specs.Writes.{last_counter}
 use Rattle.site_writes.specs.OwnWrite.{OwnRecord}
-use Rattle.site_writes.specs.Site.{SiteRecord, with_flight}
+use Rattle.lock_table.specs.declared.tables.TheConstants.{MAX_WAITING}
+use Rattle.site_writes.specs.Site.{LineIsFull, SiteRecord, with_flight, with_place, with_waiting, without_first, without_place}
+use Rattle.site_writes.specs.declared.sites.WaitFault.{WaitFault}
+use Rattle.ubik_types.specs.declared.memory.NoMemory.{NoMemory}
 use Rattle.ubik_recovery.specs.Record.{RecoveryRecord}
 use Rattle.ubik_node.specs.Recovering.{IsServing}
 use Rattle.ubik_node.specs.State.{ShowsBehind}
@@ -72,6 +75,43 @@ written_begun n image other site write others undone are = record {
   room = are.room;
   alone = λ one. absurd (omega arith);
 }
+
+-- the first one that waits was taken
+pub written_next : (n : ℕ) (image : List ℕ) (site : SiteRecord) → AreOfCell n image (Some site) → AreOfCell n image (Some (without_first site))
+written_next n image site are = record {
+  others = are.others;
+  undone = are.undone;
+  room = omega (arith, length-drop 1 site.waiting, are.room);
+  alone = λ one. ap (drop 1) (are.alone one);
+}
+
+-- a call waits, where the line had room for it
+pub written_waits : (r : Result (Unit {0}) WaitFault) (n id : ℕ) (call image : List ℕ) (site new : SiteRecord) → IsSome site.own → OnOk r (new ≡ with_waiting site id call) → OnErr r (new ≡ site)
+    → (MAX_WAITING ≤ length site.waiting → IsErrAnd r (LineIsFull site)) → AreOfCell n image (Some site) → AreOfCell n image (Some new)
+written_waits (Ok done) n id call image site new some ok err full are =
+    let room : ¬ (MAX_WAITING ≤ length site.waiting) = full in
+    subst (λ (s : SiteRecord). AreOfCell n image (Some s)) (sym ok) (record {
+      others = are.others;
+      undone = are.undone;
+      room = omega (arith, length-append site.waiting (record { id = id; call = call } ∷ []), room);
+      alone = λ one. let others : 1 < n = are.others some in absurd (omega arith);
+    })
+written_waits (Err why) n id call image site new some ok err full are = subst (λ (s : SiteRecord). AreOfCell n image (Some s)) (sym err) are
+
+-- a place is taken, or not
+pub written_held : (r : Result (Unit {0}) NoMemory) (n id : ℕ) (image : List ℕ) (site mid new : SiteRecord) → mid ≡ without_place site → OnOk r (new ≡ with_place mid id) → OnErr r (new ≡ mid) → AreOfCell n image (Some site) → AreOfCell n image (Some new)
+written_held (Ok done) n id image site mid new released ok err are =
+    subst (λ (s : SiteRecord). AreOfCell n image (Some s)) (sym (ok ∙ ap (λ (x : SiteRecord). with_place x id) released)) (record { others = are.others; undone = are.undone; room = are.room; alone = are.alone })
+written_held (Err why) n id image site mid new released ok err are =
+    subst (λ (s : SiteRecord). AreOfCell n image (Some s)) (sym (err ∙ released)) (record { others = are.others; undone = are.undone; room = are.room; alone = are.alone })
+
+pub line_held : (r : Result (Unit {0}) NoMemory) (id : ℕ) (site mid new : SiteRecord) → mid ≡ without_place site → OnOk r (new ≡ with_place mid id) → OnErr r (new ≡ mid) → new.waiting ≡ site.waiting
+line_held (Ok done) id site mid new released ok err = ap (λ (x : SiteRecord). x.waiting) ok ∙ ap (λ (x : SiteRecord). x.waiting) released
+line_held (Err why) id site mid new released ok err = ap (λ (x : SiteRecord). x.waiting) err ∙ ap (λ (x : SiteRecord). x.waiting) released
+
+pub none_in_flight : (own : Option OwnRecord) → is_some own ≡ false → option_map (λ (write : OwnRecord). write.flight) own ≡ None
+none_in_flight None is = refl
+none_in_flight (Some write) is = absurd cc
 
 -- what is put out for those that wait from a place on
 abbrev pub refused_from : List Waiting → ℕ → Reply → List Output

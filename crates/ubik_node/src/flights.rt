@@ -124,14 +124,14 @@ impl State {
         ensures recovery { self.new.recovery ≡ self.old.recovery }
         ensures held { OnOk result (HasPlace id self.new.writes) }
     {
-        if self.writes.is_none() {
-            self.writes = Some(SiteWrites::make(alloc)?);
-        }
-        let Some(writes) = &mut self.writes else {
-            return Ok(());
+        let mut writes = match self.writes.take() {
+            Some(writes) => writes,
+            None => SiteWrites::make(alloc)?,
         };
         writes.release();
-        writes.hold(id)
+        let held = writes.hold(id);
+        self.writes = Some(writes);
+        held
     }
 
     /// Sends the packets of a write that leads to a version to a host: its beginning, its pieces in their order, its commit. For want of memory
