@@ -1,8 +1,9 @@
 -- The turns of those that wait.
 use Rattle.std.proofs.Common.{◌≡◌, ◌≢◌, ◌++◌, ◌⊎◌, inl, inr, ⊎_elim, ℕ, zero, suc, ◌+◌, ◌<◌, ◌≤◌, Bool, true, false, cond, eqb, Option, Some, None, List, [], ◌∷◌, length, drop, take, replicate, IfErr, IfSome, IsErrOf, IsOk, IsSome, Result, Ok, Err, refl, sym, ap, subst, ◌∙◌, append_assoc, arith}
-use Rattle.std.specs.Prelude.{OnOk, count_by}
+use Rattle.std.specs.Option.{option_map}
+use Rattle.std.specs.Prelude.{OnErr, OnOk, count_by}
 use Rattle.std.proofs.lemmas.Bool.{false≢true}
-use Rattle.std.proofs.lemmas.List.{append-nil, map-append}
+use Rattle.std.proofs.lemmas.List.{append-nil, map-append, take_all}
 use Rattle.ubik_types.specs.declared.images.Change.{Change}
 use Rattle.ubik_types.specs.Logged.{too_large}
 use Rattle.ubik_types.specs.Phase.{PhaseRecord, Polled, Spread, NoPhase, Poll, Fetch, Relabel, Send, Ready, phase_of}
@@ -26,6 +27,7 @@ use Rattle.cell_model.specs.Node.{Flight, Server, Waiting, halted_from}
 use Rattle.cell_model.specs.Polls.{only_holder}
 use Rattle.cell_model.specs.Step.{Member, Shown, Stepped, announcing, cell_size, followed, is_ready, is_reply, is_short, outputs_of, quiet, short_after, showing, with_phase}
 use Rattle.cell_model.specs.Writes.{ended_write, flight_settled, is_free, is_free_in, last_counter, next_turns, own_write_begun, settled, settled_in, settled_with_turns, turned, write_turn, written, written_changes, written_in, written_within}
+use Rattle.site_writes.specs.OwnWrite.{OwnRecord}
 use Rattle.ubik_node.specs.Disk.{FailsIn, Serves, StandsAs, StandsBetween, StandsWithin, calls_made, has_label}
 use Rattle.ubik_node.specs.Node.{Ends, EndsSo, Held, IsKept, IsMade, IsMeantIn, durable_in}
 use Rattle.ubik_node.specs.Serving.{IsRepliedTo}
@@ -34,6 +36,21 @@ use Rattle.ubik_node.specs.Writing.{without_first}
 use Rattle.ubik_node.proofs.Calling.{after_reads, known_so}
 use Rattle.ubik_node.proofs.Committing.{one_is_few}
 use Rattle.ubik_node.proofs.Endings.{fault_is, same_ends}
+
+-- no write can begin where one is in flight
+pub writes_busy : (p : PhaseRecord) (own : Option OwnRecord) → IsSome own → is_free_in p (option_map (λ (write : OwnRecord). write.flight) own) ≡ false
+writes_busy p None some = absurd (false≢true some)
+writes_busy NoPhase (Some write) some = refl
+writes_busy (Poll poll) (Some write) some = refl
+writes_busy (Fetch poll best host) (Some write) some = refl
+writes_busy (Relabel poll) (Some write) some = refl
+writes_busy (Send poll spread) (Some write) some = refl
+writes_busy (Ready poll spread announced) (Some write) some = refl
+
+-- what was put out before is all that was put out
+pub front_whole : (r : Result (Unit {0}) StoreFault) (out : List Output) → OnErr r (take (length out) out ≡ out)
+front_whole (Ok done) out = tt
+front_whole (Err why) out = take_all (length out) out (omega arith)
 
 -- how many replies these are
 abbrev pub replies : List Shown → ℕ

@@ -153,17 +153,22 @@ impl<D: SteadyDisk, V: DraftService> Node<D, V> {
     {
         let made = evaluate::<D, V>(self.alloc, &mut self.store, now, call)?;
         match verdict_of::<V>(&self.state, made) {
-            Verdict::Reply(reply) => put_reply(out, id, reply),
-            Verdict::NewPoll => self.state.last_counter(now, id, out),
+            Verdict::Reply(reply) => {
+                put_reply(out, id, reply);
+                Ok(())
+            }
+            Verdict::NewPoll => {
+                self.state.last_counter(now, id, out);
+                Ok(())
+            }
             Verdict::Commit { answer, changes } => {
                 if self.state.cell.len() == 1 {
-                    self.commit(id, answer, &changes, out)?;
+                    self.commit(id, answer, &changes, out)
                 } else {
-                    self.begin_write(now, id, call, answer, &changes, out)?;
+                    self.begin_write(now, id, call, answer, &changes, out)
                 }
             }
         }
-        Ok(())
     }
 
     /// Commits changes under the next counter, announces it, and answers the call: a server that is alone in its cell is a majority.
