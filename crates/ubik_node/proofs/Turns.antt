@@ -1,5 +1,5 @@
 -- The turns of those that wait.
-use Rattle.std.proofs.Common.{◌≡◌, ◌≢◌, ◌++◌, ◌⊎◌, inl, inr, ⊎_elim, ℕ, zero, suc, ◌+◌, ◌<◌, ◌≤◌, Bool, true, false, cond, eqb, Option, Some, None, List, [], ◌∷◌, length, drop, take, replicate, IfErr, IfSome, IsErrOf, IsOk, IsSome, Result, Ok, Err, refl, sym, ap, subst, ◌∙◌, append_assoc, arith}
+use Rattle.std.proofs.Common.{◌≡◌, ◌≢◌, ◌++◌, ◌⊎◌, inl, inr, ⊎_elim, ℕ, zero, suc, ◌+◌, ◌<◌, ◌≤◌, Bool, true, false, cond, eqb, Option, Some, None, List, [], ◌∷◌, length, drop, take, replicate, IfErr, IfSome, IsErrAnd, IsErrOf, IsOk, IsSome, Result, Ok, Err, refl, sym, ap, subst, ◌∙◌, append_assoc, arith}
 use Rattle.std.specs.Option.{option_map}
 use Rattle.std.specs.Prelude.{OnErr, OnOk, count_by}
 use Rattle.std.proofs.lemmas.Bool.{false≢true}
@@ -33,7 +33,7 @@ use Rattle.ubik_node.specs.Node.{Ends, EndsSo, Held, IsKept, IsMade, IsMeantIn, 
 use Rattle.ubik_node.specs.Serving.{IsRepliedTo}
 use Rattle.ubik_node.specs.State.{ShowsBehind}
 use Rattle.ubik_node.specs.Writing.{without_first}
-use Rattle.ubik_node.proofs.Calling.{after_reads, known_so}
+use Rattle.ubik_node.proofs.Calling.{after_reads, ended, known_so}
 use Rattle.ubik_node.proofs.Committing.{one_is_few}
 use Rattle.ubik_node.proofs.Endings.{fault_is, same_ends}
 
@@ -363,3 +363,28 @@ module _ (m : Member) (s : Server) where
       by (Relabel poll) = refl
       by (Send poll spread) = by_majority poll spread (is_majority (cell_size m) spread.holders)
       by (Ready poll spread announced) = ended_line poll spread announced s.flight
+
+-- so does one at which nobody waits, or one whose disk does not fail
+pub settled_halts : (m : Member) (s mid : Server) → (settled m s).server ≡ mid → (is_ready s.phase ≡ false → halted_from mid ≡ halted_from s) → halted_from mid ≡ halted_from s
+settled_halts m s mid is rests = by (is_ready s.phase) refl
+  where
+    by : (b : Bool) → is_ready s.phase ≡ b → halted_from mid ≡ halted_from s
+    by true ready = sym (ap halted_from is) ∙ settled_keeps m s ready
+    by false ready = rests ready
+
+-- ---- the line
+
+-- where somebody waits there are others
+pub several : (n me : ℕ) (w : Waiting) (waiting rest : List Waiting) → me < n → (n ≡ 1 → waiting ≡ []) → waiting ≡ w ∷ rest → 1 < n
+several zero me w waiting rest inside alone line = omega (arith, inside)
+several (suc zero) me w waiting rest inside alone line = let none : waiting ≡ [] = alone refl in absurd cc
+several (suc (suc n)) me w waiting rest inside alone line = omega arith
+
+-- an error that is handed on
+pub handed_fine : (r : Result (Unit {0}) StoreFault) (e : StoreFault) → IsErrAnd r (λ x. x ≡ e) → IsErrOf (ended e) DiskFault ⊎ IsOk (ended e) → IsErrOf r DiskFault ⊎ IsOk r
+handed_fine (Ok done) e is fine = absurd is
+handed_fine (Err why) e is fine = ⊎_elim (λ failed. inl (ap ended is ∙ failed)) (λ ok. absurd (false≢true ok)) fine
+
+pub handed_not : {P : Type 0} (r : Result (Unit {0}) StoreFault) (e : StoreFault) → IsErrAnd r (λ x. x ≡ e) → IsOk r → P
+handed_not (Ok done) e is ok = absurd is
+handed_not (Err why) e is ok = absurd (false≢true ok)
