@@ -1,5 +1,5 @@
 -- The turns of those that wait.
-use Rattle.std.proofs.Common.{◌≡◌, ◌≢◌, ◌++◌, ◌⊎◌, inl, inr, ⊎_elim, ℕ, zero, suc, ◌+◌, ◌<◌, ◌≤◌, Bool, true, false, cond, eqb, Option, Some, None, List, [], ◌∷◌, length, drop, take, replicate, IfErr, IfSome, IsErrAnd, IsErrOf, IsOk, IsSome, Result, Ok, Err, refl, sym, ap, subst, ◌∙◌, append_assoc, arith}
+use Rattle.std.proofs.Common.{◌≡◌, ◌≢◌, ◌++◌, ◌⊎◌, inl, inr, ⊎_elim, ℕ, zero, suc, ◌+◌, ◌<◌, ◌≤◌, Bool, true, false, cond, eqb, Option, Some, None, List, [], ◌∷◌, length, drop, take, replicate, slice_get, IfErr, IfSome, IsErrAnd, IsErrOf, IsOk, IsSome, Result, Ok, Err, refl, sym, ap, subst, ◌∙◌, append_assoc, arith}
 use Rattle.std.specs.Option.{option_map}
 use Rattle.std.specs.Prelude.{OnErr, OnOk, count_by}
 use Rattle.std.proofs.lemmas.Bool.{false≢true}
@@ -373,6 +373,18 @@ settled_halts m s mid is rests = by (is_ready s.phase) refl
     by false ready = rests ready
 
 -- ---- the line
+
+pub line_none : (waiting : List Waiting) → None ≡ slice_get waiting 0 → waiting ≡ []
+line_none [] is = refl
+line_none (w ∷ waiting) is = absurd cc
+
+drop_zero : (waiting : List Waiting) → drop 0 waiting ≡ waiting
+drop_zero [] = refl
+drop_zero (w ∷ waiting) = refl
+
+pub line_first : (waiting : List Waiting) (w : Waiting) → Some w ≡ slice_get waiting 0 → waiting ≡ w ∷ drop 1 waiting
+line_first [] w is = absurd cc
+line_first (first ∷ waiting) w is = let same : w ≡ first = cc in ap (λ (x : Waiting). x ∷ waiting) (sym same) ∙ ap (λ (rest : List Waiting). w ∷ rest) (sym (drop_zero waiting))
 
 -- where somebody waits there are others
 pub several : (n me : ℕ) (w : Waiting) (waiting rest : List Waiting) → me < n → (n ≡ 1 → waiting ≡ []) → waiting ≡ w ∷ rest → 1 < n
