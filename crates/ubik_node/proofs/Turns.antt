@@ -212,16 +212,20 @@ module _ (db : Database) (m : Member) (s : Server) (now : ℕ) (w : Waiting) (wa
       ∙ ap (λ (x : Server). at x short turn.calls) same
       ∙ ap (λ (made : List Made). at (with_line s waiting) short made) calls
 
+named : (db : Database) (now : ℕ) (w : Waiting) (b : Bool) (m place : Member) (s t : Server) → place ≡ m → s ≡ t → write_turn db m t now w.id w.call b ≡ write_turn db place s now w.id w.call b
+named db now w b m place s t at is = ap (λ (k : Member). write_turn db k t now w.id w.call b) (sym at) ∙ ap (λ (x : Server). write_turn db place x now w.id w.call b) (sym is)
+
+-- a fault that is one of the disk
+pub named_fault : {D : Type 0} (g : Ghosts D) {knows : Type 0} {t : Stepped} {before after : List Output} {n m : Held D} (e : StoreFault) → e ≡ DiskFault → Ends g knows t before after n m (Err e) → Ends g knows t before after n m (Err DiskFault)
+named_fault g {knows} {t} {before} {after} {n} {m} e is ends = subst (λ (x : StoreFault). Ends g knows t before after n m (Err x)) is ends
+
 module _ {D : Type 0} (g : Ghosts D) {knows : Type 0} (db : Database) (now : ℕ) (w : Waiting) (waiting : List Waiting) (b : Bool) (before after : List Output) (n : Held D) (free : is_free n.server ≡ true) (others : 1 < cell_size n.member)
     (line : n.server.waiting ≡ w ∷ waiting) (s : Server) (place : Member) (is : s ≡ with_line n.server waiting) (at : place ≡ n.member) where
-  named : write_turn db n.member (with_line n.server waiting) now w.id w.call b ≡ write_turn db place s now w.id w.call b
-  named = ap (λ (k : Member). write_turn db k (with_line n.server waiting) now w.id w.call b) (sym at) ∙ ap (λ (x : Server). write_turn db place x now w.id w.call b) (sym is)
-
   -- a turn after which no write can begin, or in which the disk failed
   pub turn_over : (last : Held D) (r : Result (Unit {0}) StoreFault) → IsErrOf r DiskFault ⊎ IsOk r → (IsOk r → is_free last.server ≡ false) → Ends g knows (write_turn db place s now w.id w.call b) before after (record n { server = s; member = place }) last r
       → Ends g knows (next_turns db n.member now n.server.waiting n.server (b ∷ [])) before after n last r
   turn_over last r fine busy ends =
-      by r fine busy (went_on g n s place last r (ap durable_in is) (λ failed. ap halted_from is) at fine (same_ends g named ends))
+      by r fine busy (went_on g n s place last r (ap durable_in is) (λ failed. ap halted_from is) at fine (same_ends g (named db now w b n.member place s (with_line n.server waiting) at is) ends))
     where
       by : (r : Result (Unit {0}) StoreFault) → IsErrOf r DiskFault ⊎ IsOk r → (IsOk r → is_free last.server ≡ false) → Ends g knows (turn db n.member n.server now w waiting b free line) before after n last r
           → Ends g knows (next_turns db n.member now n.server.waiting n.server (b ∷ [])) before after n last r
@@ -265,7 +269,7 @@ module _ {D : Type 0} (g : Ghosts D) {knows : Type 0} (db : Database) (now : ℕ
       (after_reads g (record n { server = s; member = place }) mid.store last r replied.reads (λ none. none) (subst (λ (h : Held D). Ends g more u between after h last r) mid_is later)) in
       let goes : knows → (between ≡ before ++ outputs_of t.shown) × (next_turns db n.member now n.server.waiting n.server (b ∷ short) ≡ stepped u.server u.calls (t.shown ++ u.shown)) = λ known.
       (let made = ends.made known in
-      let first = same_ends g named ends in
+      let first = same_ends g (named db now w b n.member place s (with_line n.server waiting) at is) ends in
       let shown = (first.made known).outputs in
       let server = (first.made known).server in
       let rests : (t.server ≡ with_line n.server waiting) × (t.calls ≡ []) × (replies t.shown ≡ 1) =
@@ -378,13 +382,9 @@ pub line_none : (waiting : List Waiting) → None ≡ slice_get waiting 0 → wa
 line_none [] is = refl
 line_none (w ∷ waiting) is = absurd cc
 
-drop_zero : (waiting : List Waiting) → drop 0 waiting ≡ waiting
-drop_zero [] = refl
-drop_zero (w ∷ waiting) = refl
-
 pub line_first : (waiting : List Waiting) (w : Waiting) → Some w ≡ slice_get waiting 0 → waiting ≡ w ∷ drop 1 waiting
 line_first [] w is = absurd cc
-line_first (first ∷ waiting) w is = let same : w ≡ first = cc in ap (λ (x : Waiting). x ∷ waiting) (sym same) ∙ ap (λ (rest : List Waiting). w ∷ rest) (sym (drop_zero waiting))
+line_first (first ∷ waiting) w is = let same : w ≡ first = cc in ap (λ (x : Waiting). x ∷ waiting) (sym same)
 
 -- where somebody waits there are others
 pub several : (n me : ℕ) (w : Waiting) (waiting rest : List Waiting) → me < n → (n ≡ 1 → waiting ≡ []) → waiting ≡ w ∷ rest → 1 < n
