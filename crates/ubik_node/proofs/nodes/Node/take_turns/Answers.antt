@@ -32,7 +32,7 @@ loop-self-preserved g c =
     let n = c.loop-self.self in
     let st = n.state in
     let inv = c.loop-self.invariant in
-    let free : is_free (server_of st) ≡ true = FREE in
+    let free : is_free (server_of st) ≡ true = sym c.is_free.ensures ∙ c.loop-self-test.true in
     let now = c.next_asked.new.self in
     let w : Waiting = record { id = c.asked.inside.id; call = c.asked.inside.call } in
     let rest = drop 1 (waiting_of st.writes) in
@@ -70,7 +70,7 @@ loop-self-smaller g c =
     let n = c.loop-self.self in
     let st = n.state in
     let inv = c.loop-self.invariant in
-    let free : is_free (server_of st) ≡ true = FREE in
+    let free : is_free (server_of st) ≡ true = sym c.is_free.ensures ∙ c.loop-self-test.true in
     let now = c.next_asked.new.self in
     let w : Waiting = record { id = c.asked.inside.id; call = c.asked.inside.call } in
     let rest = drop 1 (waiting_of st.writes) in
@@ -89,7 +89,7 @@ returns-in_err-write_turn-clause-ends g c =
     let n = c.loop-self.self in
     let st = n.state in
     let inv = c.loop-self.invariant in
-    let free : is_free (server_of st) ≡ true = FREE in
+    let free : is_free (server_of st) ≡ true = sym c.is_free.ensures ∙ c.loop-self-test.true in
     let now = c.next_asked.new.self in
     let w : Waiting = record { id = c.asked.inside.id; call = c.asked.inside.call } in
     let rest = drop 1 (waiting_of st.writes) in
