@@ -119,10 +119,13 @@ impl<D: SteadyDisk, V: DraftService> Node<D, V> {
         ensures memory { IsErrOf result StoreFault.DiskFault ⊎ IsOk result }
     {
         let before = out.len();
-        match self.make_write(now, id, call, out) {
-            Ok(()) => Ok(()),
-            Err(StoreFault::DiskFault) => Err(StoreFault::DiskFault),
-            Err(_) => {
+        let fault = match self.make_write(now, id, call, out) {
+            Ok(()) => return Ok(()),
+            Err(fault) => fault,
+        };
+        match fault {
+            StoreFault::DiskFault => Err(StoreFault::DiskFault),
+            _ => {
                 out.cut(before);
                 put_reply(out, id, Reply::NoMemory);
                 Ok(())

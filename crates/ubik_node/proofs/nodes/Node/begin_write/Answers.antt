@@ -1,4 +1,4 @@
-use Rattle.std.proofs.Common.{◌≡◌, ◌∙◌, ◌++◌, ℕ, cond, List, [], None, Err, IsErrOf, IsSome, length, refl, sym, ap, subst}
+use Rattle.std.proofs.Common.{◌≡◌, ◌∙◌, ◌++◌, ℕ, cond, false, replicate, List, [], None, Err, IsErrOf, IsSome, length, refl, sym, ap, subst, arith}
 use Rattle.std.specs.Result.{is_err}
 use Rattle.std.proofs.lemmas.Bool.{false≢true}
 use Rattle.ubik_types.specs.declared.images.Change.{Change}
@@ -129,8 +129,8 @@ returns-clause-ends g c = λ image.
           ∙ ap (λ (s : Server). write_begun write (held_alone st.recovery m.me) (with_database s v c.of-image.result)) c.hold_place.ensures.server
           ∙ ap (λ (bytes : List ℕ). write_begun write (held_alone st.recovery m.me) (with_database (server_of st) v bytes)) (here known)),
       c.in_ok-spread_write.ensures.sent
-          ∙ ap (λ (k : Member). c.args.out.now ++ outputs_of (sends_to_each k (λ j. cond (is_marked (marked (length k.hosts) c.nobody.set) j) [] (write_bodies flight.old_version v flight.text)))) c.hold_place.ensures.kept.member
-          ∙ ap (λ (shown : List Shown). c.args.out.now ++ outputs_of shown) (spread_to_each m (length st.cell) 20 c.nobody.set flight.old_version st.version v flight.text (text_of given) refl of.old_version of.text)
+          ∙ ap (λ (k : Member). c.args.out.now ++ outputs_of (sends_to_each k (λ j. cond (is_marked (marked (length k.hosts) (replicate 20 false)) j) [] (write_bodies flight.old_version v flight.text)))) c.hold_place.ensures.kept.member
+          ∙ ap (λ (shown : List Shown). c.args.out.now ++ outputs_of shown) (spread_to_each m (length st.cell) 20 (replicate 20 false) flight.old_version st.version v flight.text (text_of given) refl of.old_version of.text)
           ∙ ap (λ (o : List Output). c.args.out.now ++ o) (sym (leads known).outputs),
     ))
 
@@ -138,3 +138,8 @@ pub commit_all-requires-clause-none : goal.commit_all-requires-clause-none
 commit_all-requires-clause-none g c =
     let went = λ (failed : _). false≢true (ap is_err failed) in
     (stored_read g.D.Disk (held c.args.self.now) c.flight_over.new.store c.requires.stored c.requires.not_halted c.in_ok-flight.ensures.sound (c.in_ok-flight.ensures.same went) c.in_ok-flight.ensures.disk went).none_begun c.requires.not_halted
+
+pub begin_flight-requires-clause-fits : goal.begin_flight-requires-clause-fits
+begin_flight-requires-clause-fits g c =
+    let later = c.commit_all.new.store in
+    omega (arith, c.commit_all.ensures.sound.len, ap length c.of-image.ensures, held_length g.D.Disk later (c.commit_all.ensures.sound.ready c.in_ok-commit_all.ensures.done.failed))

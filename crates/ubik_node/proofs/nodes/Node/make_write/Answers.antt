@@ -1,4 +1,4 @@
-use Rattle.std.proofs.Common.{◌≡◌, ◌++◌, ◌∙◌, List, ℕ, [], ◌∷◌, false, length, IsSome, refl, sym, ap, length-append, arith}
+use Rattle.std.proofs.Common.{◌≡◌, ◌++◌, ◌∙◌, List, ℕ, [], ◌∷◌, true, false, length, IsSome, refl, sym, ap, length-append, arith}
 use Rattle.std.specs.Result.{is_err}
 use Rattle.std.proofs.lemmas.Bool.{false≢true}
 use Rattle.cell_model.specs.declared.events.Output.{Output}
@@ -101,8 +101,8 @@ returns-then-len-eq1-clause-ends g c =
 pub returns-then-len-eq1-clause-rests : goal.returns-then-len-eq1-clause-rests
 returns-then-len-eq1-clause-rests g c = λ more. absurd (omega (arith, more, c.if-len-eq1.true))
 
-pub returns-else-len-eq1-clause-ends : goal.returns-else-len-eq1-clause-ends
-returns-else-len-eq1-clause-ends g c =
+pub returns-clause-ends : goal.returns-clause-ends
+returns-clause-ends g c =
     let n = c.args.self.now in
     let st = n.state in
     let d = g.V.DraftService.standing in
@@ -115,8 +115,8 @@ returns-else-len-eq1-clause-ends g c =
     after_reads g.D.Disk (held n) c.evaluate.new.store (held c.begin_write.new.self) c.begin_write.result reads went
     (known_so g.D.Disk c.begin_write.result (λ (meant : IsMeantIn d files st.image). ((told_still g.D.Disk reads went meant.0, (judged meant).0), (judged meant).1)) (c.begin_write.ensures.ends image))
 
-pub returns-else-len-eq1-clause-rests : goal.returns-else-len-eq1-clause-rests
-returns-else-len-eq1-clause-rests g c = λ more.
+pub returns-clause-rests : goal.returns-clause-rests
+returns-clause-rests g c = λ more.
     let n = c.args.self.now in
     let last = c.begin_write.new.self in
     ok_map c.begin_write.result (IsSome (own_of last.state.writes)) (is_free (up_server last) ≡ true → IsRepliedTo g.D.Disk c.args.out.now c.begin_write.new.out (held n) (held last)) c.begin_write.ensures.writing
