@@ -49,7 +49,7 @@ loop-self-preserved g c =
     let several_now : 1 < length now.cell = omega (arith, others, ap (λ (k : Member). length k.hosts) kept.member) in
     record {
       not_halted = ends.halted ∙ inv.not_halted;
-      stored = ends.stored (λ failed. ok_not c.in_ok-write_turn.field-0 (sym c.in_ok-write_turn.was ∙ failed));
+      stored = ends.stored (λ failed. ok_not c.in_ok-write_turn.field-0 failed);
       few = λ ready.
           let replied = made.rests several_now ready in
           omega (arith, inv.few free, replied.few, c.write_turn.ensures.line, ap length line, ap (λ (s : Server). length s.waiting) c.next_asked.ensures.after);
