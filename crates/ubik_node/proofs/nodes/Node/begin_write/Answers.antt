@@ -124,10 +124,10 @@ returns-clause-ends g c = λ image.
     (λ known. (
       (leads known).server
           ∙ sym (c.begin_flight.ensures.after
-              ∙ ap (λ (r : RecoveryRecord). write_begun write (held_alone r mid.me) (with_database (server_of mid) v c.of-image.result)) c.hold_place.ensures.recovery
-              ∙ ap (λ (k : Member). write_begun write (held_alone st.recovery k.me) (with_database (server_of mid) v c.of-image.result)) c.hold_place.ensures.kept.member
-              ∙ ap (λ (s : Server). write_begun write (held_alone st.recovery m.me) (with_database s v c.of-image.result)) c.hold_place.ensures.server
-              ∙ ap (λ (bytes : List ℕ). write_begun write (held_alone st.recovery m.me) (with_database (server_of st) v bytes)) (here known)),
+          ∙ ap (λ (r : RecoveryRecord). write_begun write (held_alone r mid.me) (with_database (server_of mid) v c.of-image.result)) c.hold_place.ensures.recovery
+          ∙ ap (λ (k : Member). write_begun write (held_alone st.recovery k.me) (with_database (server_of mid) v c.of-image.result)) c.hold_place.ensures.kept.member
+          ∙ ap (λ (s : Server). write_begun write (held_alone st.recovery m.me) (with_database s v c.of-image.result)) c.hold_place.ensures.server
+          ∙ ap (λ (bytes : List ℕ). write_begun write (held_alone st.recovery m.me) (with_database (server_of st) v bytes)) (here known)),
       c.in_ok-spread_write.ensures.sent
           ∙ ap (λ (k : Member). c.args.out.now ++ outputs_of (sends_to_each k (λ j. cond (is_marked (marked (length k.hosts) (replicate 20 false)) j) [] (write_bodies flight.old_version v flight.text)))) c.hold_place.ensures.kept.member
           ∙ ap (λ (shown : List Shown). c.args.out.now ++ outputs_of shown) (spread_to_each m (length st.cell) 20 (replicate 20 false) flight.old_version st.version v flight.text (text_of given) refl of.old_version of.text)

@@ -31,11 +31,13 @@ returns-clause-ends g c =
     let keeps : IsErrOf r DiskFault → halted_from (server_of mid) ≡ halted_from s = λ failed.
     settled_halts m s (server_of mid) shows.server (λ rests.
     let waiting = ap (λ (x : Server). x.waiting) (sym shows.server) ∙ settled_line m s ∙ st.line (λ serves. false≢true (sym rests ∙ ready_phase (announced st) st.recovery serves)) in
-    absurd (false≢true (sym (ap is_ok failed) ∙ c.take_turns.ensures.nobody waiting))) in
-    (replicate (replies (settled m s).shown) false ++ turns.0, same_ends g.D.Disk (settled_comes d.database m s (server_of mid) c.args.now turns.0 shows.server shows.calls) (behind_ends g.D.Disk (settled m s).shown r shows.outputs
-        (went_on g.D.Disk (held n) (server_of mid) (member_of mid) (held c.take_turns.new.self) r same keeps kept.member c.take_turns.ensures.memory
-        (known_ends g.D.Disk (λ (meant : IsMeantIn d files st.image). subst (λ (image : List ℕ). IsMeantIn d files image) (sym kept.image) meant)
-        (same_ends g.D.Disk (ap (λ (k : Member). next_turns d.database k c.args.now (server_of mid).waiting (server_of mid) turns.0) (sym kept.member)) turns.1)))))
+    absurd (false≢true (sym (ap is_ok failed) ∙ c.take_turns.ensures.nobody waiting))) in (
+      replicate (replies (settled m s).shown) false ++ turns.0,
+      same_ends g.D.Disk (settled_comes d.database m s (server_of mid) c.args.now turns.0 shows.server shows.calls) (behind_ends g.D.Disk (settled m s).shown r shows.outputs
+          (went_on g.D.Disk (held n) (server_of mid) (member_of mid) (held c.take_turns.new.self) r same keeps kept.member c.take_turns.ensures.memory
+          (known_ends g.D.Disk (λ (meant : IsMeantIn d files st.image). subst (λ (image : List ℕ). IsMeantIn d files image) (sym kept.image) meant)
+          (same_ends g.D.Disk (ap (λ (k : Member). next_turns d.database k c.args.now (server_of mid).waiting (server_of mid) turns.0) (sym kept.member)) turns.1)))),
+    )
 
 pub take_turns-requires-clause-stored : goal.take_turns-requires-clause-stored
 take_turns-requires-clause-stored g c = kept_with g.D.Disk (held c.args.self.now) (server_of c.settle.new.self) c.requires.stored c.settle.ensures.kept.version c.settle.ensures.kept.image

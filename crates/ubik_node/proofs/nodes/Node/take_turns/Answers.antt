@@ -21,8 +21,11 @@ loop-self-init g c =
       few = λ free. omega (arith, c.requires.few, st.written.room);
       nobody = λ none. none;
       goes = λ free after new r fine ends. ends;
-      over = λ busy. ([], same_ends g.D.Disk (turns_rest g.V.DraftService.standing.database (member_of st) c.args.now (waiting_of st.writes) (server_of st) [] busy)
-          (rests_ends g.D.Disk (held n) c.requires.stored c.requires.not_halted (record { server = refl; calls = refl; outputs = sym (append-nil c.args.out.now) })));
+      over = λ busy. (
+        [],
+        same_ends g.D.Disk (turns_rest g.V.DraftService.standing.database (member_of st) c.args.now (waiting_of st.writes) (server_of st) [] busy)
+            (rests_ends g.D.Disk (held n) c.requires.stored c.requires.not_halted (record { server = refl; calls = refl; outputs = sym (append-nil c.args.out.now) })),
+      );
     }
 
 pub loop-self-preserved : goal.loop-self-preserved
@@ -56,10 +59,13 @@ loop-self-preserved g c =
       nobody = λ none. let nobody : waiting_of st.writes ≡ [] = inv.nobody none in absurd cc;
       goes = λ ready after new r fine later.
           let replied = made.rests several_now ready in
-          inv.goes free after new r fine (b ∷ later.0, turn_goes g.D.Disk d.database c.args.now w rest b c.loop-self.out after (held n) free others line (server_of now) (member_of now) c.next_asked.ensures.after kept.member (held last) new out later.0 r fine ready
-              (λ (meant : IsMeantIn d files st.image).
-              subst (λ (those : Option Files). IsMeantIn d those last.state.image) (sym (replied.reads.files (λ none. none))) (subst (λ (image : List ℕ). IsMeantIn d files image) (sym (ap (λ (s : Server). s.image) replied.server ∙ kept.image)) meant))
-              ends replied later.1);
+          inv.goes free after new r fine (
+            b ∷ later.0,
+            turn_goes g.D.Disk d.database c.args.now w rest b c.loop-self.out after (held n) free others line (server_of now) (member_of now) c.next_asked.ensures.after kept.member (held last) new out later.0 r fine ready
+                (λ (meant : IsMeantIn d files st.image).
+                subst (λ (those : Option Files). IsMeantIn d those last.state.image) (sym (replied.reads.files (λ none. none))) (subst (λ (image : List ℕ). IsMeantIn d files image) (sym (ap (λ (s : Server). s.image) replied.server ∙ kept.image)) meant))
+                ends replied later.1,
+          );
       over = λ busy. inv.goes free out (held last) (Ok tt) (inr refl) (b ∷ [], turn_over g.D.Disk d.database c.args.now w rest b c.loop-self.out out (held n) free others line (server_of now) (member_of now) c.next_asked.ensures.after kept.member (held last) (Ok tt) (inr refl) (λ ok. busy) ends);
     }
 
@@ -128,8 +134,11 @@ returns-in_default-clause-ends g c =
     let now = c.next_asked.new.self in
     let kept = c.next_asked.ensures.kept in
     let none = line_none (waiting_of st.writes) (sym c.in_default.is ∙ c.next_asked.ensures.first) in
-    inv.goes free c.loop-self.out (held (record n { state = now })) (Ok tt) (inr refl) ([], shown_ends g.D.Disk (held n) st now inv.stored inv.not_halted refl refl kept
-        (nobody_left g.V.DraftService.standing.database (member_of st) c.args.now (server_of st) (server_of now) [] c.loop-self.out none c.next_asked.ensures.after))
+    inv.goes free c.loop-self.out (held (record n { state = now })) (Ok tt) (inr refl) (
+      [],
+      shown_ends g.D.Disk (held n) st now inv.stored inv.not_halted refl refl kept
+          (nobody_left g.V.DraftService.standing.database (member_of st) c.args.now (server_of st) (server_of now) [] c.loop-self.out none c.next_asked.ensures.after),
+    )
 
 pub returns-clause-ends : goal.returns-clause-ends
 returns-clause-ends g c = c.loop-self.invariant.over (sym c.is_free.ensures ∙ c.loop-self-test.false)

@@ -17,11 +17,13 @@ returns-in_default-clause-ends g c =
     let last = c.make_write.new.self in
     let ends = c.in-Err.ensures.ends in
     let other : c.in-Err.fault ≢ DiskFault = c.in_default.not-DiskFault in
-    let short = ends.short other in
-    (true ∷ [], read_ends g.D.Disk (held n) (held last) ends.halted ends.last ends.member c.requires.stored c.requires.not_halted short.1 (λ none. none) (ends.stored (λ is. other (fault_is c.in-Err.fault is))) refl (λ meant. (
-          sym (ends.state other),
-          c.put_reply.ensures ∙ ap (λ (o : List Output). o ++ output.Reply c.args.id reply.NoMemory ∷ []) (c.cut.ensures ∙ ap (λ (k : ℕ). take k c.make_write.new.out) c.len-before.ensures ∙ c.in-Err.ensures.front),
-        )))
+    let short = ends.short other in (
+      true ∷ [],
+      read_ends g.D.Disk (held n) (held last) ends.halted ends.last ends.member c.requires.stored c.requires.not_halted short.1 (λ none. none) (ends.stored (λ is. other (fault_is c.in-Err.fault is))) refl (λ meant. (
+        sym (ends.state other),
+        c.put_reply.ensures ∙ ap (λ (o : List Output). o ++ output.Reply c.args.id reply.NoMemory ∷ []) (c.cut.ensures ∙ ap (λ (k : ℕ). take k c.make_write.new.out) c.len-before.ensures ∙ c.in-Err.ensures.front),
+      )),
+    )
 
 pub returns-in_default-clause-rests : goal.returns-in_default-clause-rests
 returns-in_default-clause-rests g c = λ more free.
