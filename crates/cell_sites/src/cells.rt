@@ -26,7 +26,7 @@ use disk_base::StopDisk;
 use script_laws::law_cells_go_on;
 use std::alloc::Global;
 use ubik_node::{Outputs, SteadyDisk};
-use ubik_types::{Host, NoMemory};
+use ubik_types::{Bytes, Host, NoMemory};
 
 /// The host of the first server of a cell, 10.0.0.1. The others follow it.
 const FIRST_HOST: u32 = 167_772_161;
@@ -40,6 +40,8 @@ pub struct OpenCell<D: SteadyDisk + StopDisk, V: DraftWords> {
     pub sites: Vec<Site<D, V>>,
     pub packets: Packets,
     pub outputs: Outputs,
+    /// The calls that were asked, in their order. The id of a call is its place, counted from 1.
+    pub calls: Vec<Bytes>,
 }
 
 impl<D: SteadyDisk + StopDisk, V: DraftWords> OpenCell<D, V> {
@@ -64,6 +66,7 @@ impl<D: SteadyDisk + StopDisk, V: DraftWords> OpenCell<D, V> {
             sites,
             packets,
             outputs,
+            calls: Vec::new(alloc),
         })
     }
 

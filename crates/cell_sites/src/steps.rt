@@ -27,13 +27,12 @@ use crate::faults::LineFault;
 use crate::sites::Server;
 use crate::telling::tell_outputs;
 use cell_runs::{Mark, tell_mark};
-use cell_script::Why;
 use db_image::DraftWords;
 use disk_base::StopDisk;
 use recovery_laws::{law_images_stand, law_memory_is_told, law_recovery_spreads};
 use script_laws::law_cells_go_on;
 use ubik_node::{Node, NodeEvent, Outputs, SteadyDisk, StepEnd};
-use ubik_types::{Bytes, Phase, bytes_of};
+use ubik_types::{Bytes, NoMemory, bytes_of};
 
 impl<D: SteadyDisk + StopDisk, V: DraftWords> OpenCell<D, V> {
     /// A beacon turn of a server, which is counted from 1.
@@ -62,7 +61,7 @@ impl<D: SteadyDisk + StopDisk, V: DraftWords> OpenCell<D, V> {
     {
         law_cells_go_on();
         let k = self.place_up(server)?;
-        self.step(k, NodeEvent::BeaconTurn, &[], text)
+        self.step(k, NodeEvent::BeaconTurn, text)
     }
 
     /// A recovery turn of a server.
@@ -91,7 +90,7 @@ impl<D: SteadyDisk + StopDisk, V: DraftWords> OpenCell<D, V> {
     {
         law_cells_go_on();
         let k = self.place_up(server)?;
-        self.step(k, NodeEvent::RecoverTurn, &[], text)
+        self.step(k, NodeEvent::RecoverTurn, text)
     }
 
     /// A call at a server, under an id that no call had before.
@@ -126,35 +125,22 @@ impl<D: SteadyDisk + StopDisk, V: DraftWords> OpenCell<D, V> {
     {
         law_cells_go_on();
         let k = self.place_up(server)?;
-        let bytes = call.as_slice();
-        if self.is_later_write(k, bytes) {
-            return Err(LineFault::Refused(Why::Unbuilt));
-        }
-        let asked = bytes_of(self.alloc, bytes)?;
-        self.step(k, NodeEvent::Ask { id, call: asked }, bytes, text)
+        let asked = bytes_of(self.alloc, call.as_slice())?;
+        self.keep(call)?;
+        self.step(k, NodeEvent::Ask { id, call: asked }, text)
     }
 
-    /// Whether a call at the server of a place is not built yet: it writes, and the server serves calls in a cell of several servers.
-    fn is_later_write(&self, k: usize, call: &[u8]) -> bool
-        requires up { IsUpAt self.now k }
-        ensures { (c : Cell) → cell_size_of c ≡ length self.now.sites.items → AreSitesOf self.now.sites.items c.run.world.sites →
-            result ≡ is_later_write V.standing.database c (k + 1) call.now }
-    {
-        let Server::Up(node) = &self.sites[k].server else {
-            unreachable!();
-        };
-        let several = self.sites.len() > 1;
-        let serves = serves_calls(node);
-        let writes = does_write(V::writes(call));
-        several && serves && writes
+    /// Keeps a call, which may be answered long after.
+    fn keep(&mut self, call: Bytes) -> Result<(), NoMemory> {
+        self.calls.push(call)?;
+        Ok(())
     }
 
-    /// A step of a server that is up, at its clock; `call` is what the event asks, if it asks something.
+    /// A step of a server that is up, at its clock.
     pub(crate) fn step(
         &mut self,
         k: usize,
         event: NodeEvent,
-        call: &[u8],
         text: &mut String,
     ) -> Result<(), LineFault>
         requires sound { (bounds : Bounds) × IsSound D.Disk V.standing.database bounds self.old }
@@ -187,8 +173,8 @@ impl<D: SteadyDisk + StopDisk, V: DraftWords> OpenCell<D, V> {
         law_memory_is_told();
         match self.step_site(k, event) {
             SiteEnd::NoMemory => Err(LineFault::NoMemory),
-            SiteEnd::Made => self.tell_step(k, false, call, text),
-            SiteEnd::Halts => self.tell_step(k, true, call, text),
+            SiteEnd::Made => self.tell_step(k, false, text),
+            SiteEnd::Halts => self.tell_step(k, true, text),
             SiteEnd::Stops => {
                 let server = k as u32;
                 Ok(tell_mark(text, Mark::Stops { server })?)
@@ -201,7 +187,6 @@ impl<D: SteadyDisk + StopDisk, V: DraftWords> OpenCell<D, V> {
         &mut self,
         k: usize,
         halts: bool,
-        call: &[u8],
         text: &mut String,
     ) -> Result<(), LineFault>
         requires place { k < 20 }
@@ -226,7 +211,7 @@ impl<D: SteadyDisk + StopDisk, V: DraftWords> OpenCell<D, V> {
             text,
             &self.hosts,
             server,
-            call,
+            &self.calls,
             &mut self.outputs,
             &mut self.packets,
         )?;
@@ -266,23 +251,6 @@ impl<D: SteadyDisk + StopDisk, V: DraftWords> OpenCell<D, V> {
             unreachable!();
         };
         step_node(node, clock, event, &mut self.outputs)
-    }
-}
-
-/// Whether a server serves calls, as its last step left it.
-fn serves_calls<D: SteadyDisk + StopDisk, V: DraftWords>(node: &Node<D, V>) -> bool
-    ensures { result ≡ (not node.now.halted && is_ready (up_server node.now).phase) }
-{
-    !node.halted() && node.phase() == Phase::Ready
-}
-
-/// Whether a call writes, where it is one.
-fn does_write(writes: Option<bool>) -> bool
-    ensures { result ≡ does_write writes }
-{
-    match writes {
-        None => false,
-        Some(writes) => writes,
     }
 }
 

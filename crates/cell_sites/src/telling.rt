@@ -18,7 +18,7 @@ use cell_runs::tell_output;
 use db_image::DraftWords;
 use ubik_calls::Reply;
 use ubik_node::Outputs;
-use ubik_types::{Host, NoMemory};
+use ubik_types::{Bytes, Host, NoMemory};
 
 /// Tells what a server puts out, where `call` is the call that was asked of it, if one was; packets are sent. Where a packet passes a
 /// limit, what stands before it was told. A call that found no memory is want of memory.
@@ -26,7 +26,7 @@ pub fn tell_outputs<V: DraftWords>(
     text: &mut String,
     hosts: &[Host],
     server: u32,
-    call: &[u8],
+    calls: &[Bytes],
     out: &mut Outputs,
     packets: &mut Packets,
 ) -> Result<(), LineFault>
@@ -45,7 +45,7 @@ pub fn tell_outputs<V: DraftWords>(
     ensures emptied { OnOk result (out.new ≡ []) }
 {
     while let Some(output) = out.take() {
-        tell_one::<V>(text, hosts, server, call, output, packets)?;
+        tell_one::<V>(text, hosts, server, calls, output, packets)?;
     }
     Ok(())
 }
@@ -55,7 +55,7 @@ fn tell_one<V: DraftWords>(
     text: &mut String,
     hosts: &[Host],
     server: u32,
-    call: &[u8],
+    calls: &[Bytes],
     output: Output,
     packets: &mut Packets,
 ) -> Result<(), LineFault>
@@ -74,9 +74,19 @@ fn tell_one<V: DraftWords>(
 {
     may_be_told(&output, packets)?;
     let number = packets.count() + 1;
+    let call = call_of(calls, &output);
     tell_output::<V>(text, hosts, server, number, &output, call)?;
     send(output, packets)?;
     Ok(())
+}
+
+/// The call that an output answers; no bytes where it is no reply.
+fn call_of<'a>(calls: &'a [Bytes], output: &Output) -> &'a [u8]
+{
+    match output {
+        Output::Reply { id, .. } => calls[*id as usize - 1].as_slice(),
+        Output::Send(_) | Output::Announce { .. } => &[],
+    }
 }
 
 /// Whether an output may be told: its packet passes no limit, and its call found memory.
