@@ -8,11 +8,9 @@ ghost use Rattle.std.specs.Prelude.{◌≡◌, ◌≤◌, IfOk, IfSome, IsTrue, 
 ghost use Rattle.disk_base.specs.Crash.{IsSettled};
 ghost use Rattle.disk_base.specs.Files.{no_files};
 ghost use Rattle.ubik_node.specs.Built.{IsBuilt};
-ghost use Rattle.cell_model.specs.Step.{cell_size};
-ghost use Rattle.ubik_node.specs.Node.{IsStored, node_of, own_member};
+ghost use Rattle.ubik_node.specs.Node.{IsStored, own_member};
 ghost use Rattle.page_file.specs.declared.label.TheConstants.{MAX_DATABASE_LEN};
 ghost use Rattle.node_bench.specs.Answers.{is_answer, answers};
-ghost use Rattle.pt_calls.specs.Standing.{pt_standing};
 
 mod transfers;
 
@@ -75,7 +73,7 @@ fn step<D: SteadyDisk>(
     node: &mut Server<D>,
     event: NodeEvent,
 ) -> Result<Option<Outputs>, NoMemory>
-    requires built { IsBuilt pt_standing.database (own_member node.old) (node_of node.old) event }
+    requires built { IsBuilt event }
     requires stored { IsStored D.Disk node.old }
     ensures member { own_member node.new ≡ own_member node.old }
     ensures stored { IsStored D.Disk node.new }
@@ -92,7 +90,6 @@ fn step<D: SteadyDisk>(
 fn started<D: SteadyDisk + Drop>(alloc: Global, disk: D) -> Result<Option<Server<D>>, NoMemory>
     requires settled { IsSettled (D.files disk) (D.may_leave disk) }
     ensures stored { IfOk result (λ started. IfSome started (IsStored D.Disk)) }
-    ensures alone { IfOk result (λ started. IfSome started (λ node. cell_size (own_member node) ≡ 1)) }
 {
     let Ok(cell) = Cell::new(alloc, &[Host(1)]) else {
         return Ok(None);
@@ -145,9 +142,7 @@ fn ask<D: SteadyDisk>(
     call: Bytes,
 ) -> Result<Option<Outputs>, NoMemory>
     requires stored { IsStored D.Disk node.old }
-    requires alone { cell_size (own_member node.old) ≡ 1 }
     ensures stored { IsStored D.Disk node.new }
-    ensures alone { cell_size (own_member node.new) ≡ 1 }
 {
     step(alloc, node, NodeEvent::Ask { id, call })
 }
@@ -160,7 +155,6 @@ fn asked_often<D: SteadyDisk>(
     times: u32,
 ) -> Result<u32, NoMemory>
     requires stored { IsStored D.Disk node.old }
-    requires alone { cell_size (own_member node.old) ≡ 1 }
     ensures few { IfOk result (λ done. done ≤ times) }
 {
     let mut done = 0;

@@ -1,9 +1,8 @@
 //! Two servers over disks in memory: the first is elected and sends its database to the second.
 ghost use Rattle.std.specs.Prelude.{◌≡◌, IfOk, IfSome, IsTrue};
 ghost use Rattle.disk_base.specs.Crash.{IsSettled};
-ghost use Rattle.pt_calls.specs.Standing.{pt_standing};
 ghost use Rattle.ubik_node.specs.Built.{IsBuilt, IsBuiltBody};
-ghost use Rattle.ubik_node.specs.Node.{IsStored, node_of, own_member};
+ghost use Rattle.ubik_node.specs.Node.{IsStored};
 ghost use Rattle.ubik_types.specs.Version.{IsVersion};
 
 use crate::{MOMENT, OPENED, Server, step};
@@ -76,7 +75,7 @@ fn turn<D: SteadyDisk>(
     pair: &mut Pair<D>,
     event: NodeEvent,
 ) -> Result<bool, NoMemory>
-    requires built { IsBuilt pt_standing.database (own_member pair.old.first) (node_of pair.old.first) event }
+    requires built { IsBuilt event }
     requires first { IsStored D.Disk pair.old.first }
     requires second { IsStored D.Disk pair.old.second }
     ensures first { IsStored D.Disk pair.new.first }

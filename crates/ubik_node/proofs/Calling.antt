@@ -1,6 +1,7 @@
 -- How rules end that make one durable call, after reads.
 use Rattle.std.proofs.Common.{◌≡◌, ◌≢◌, ◌+◌, ◌++◌, ◌⊎◌, inr, IfErr, ℕ, true, false, List, [], ◌∷◌, Option, Some, None, IsSome, length, Result, Ok, Err, IsErrOf, refl, sym, ap, subst, ◌∙◌, arith}
 use Rattle.std.specs.Option.{option_map}
+use Rattle.std.specs.Prelude.{OnOk}
 use Rattle.std.proofs.lemmas.Bool.{false≢true}
 use Rattle.ubik_types.specs.declared.images.Change.{Change}
 use Rattle.ubik_types.specs.declared.versions.Version.{Version}
@@ -19,15 +20,16 @@ use Rattle.ubik_store.specs.DurableCall.{Commits, EndsAs, HasFailed, IsDurable, 
 use Rattle.ubik_store.specs.Gaps.{CutsNoPut}
 use Rattle.ubik_store.specs.Store.{IsSound, StaysAsItWas, changes_begun, image_in}
 use Rattle.ubik_store.proofs.Applied.{calls_as, calls_joined, calls_of}
+use Rattle.ubik_store.proofs.Telling.{ok_map}
 use Rattle.cell_model.specs.declared.events.Output.{Output}
 use Rattle.cell_model.specs.Node.{Server}
 use Rattle.cell_model.specs.Durable.{Made, change_count, durable, durable_after}
 use Rattle.cell_model.specs.Step.{Member, Stepped, outputs_of}
 use Rattle.ubik_node.specs.Disk.{FailsIn, Serves, TakenCutsNoPut}
-use Rattle.ubik_node.specs.Node.{Ends, Held, IsKept, durable_in}
+use Rattle.ubik_node.specs.Node.{Ends, Held, IsKept, IsMade, durable_in}
 use Rattle.ubik_node.proofs.AfterReads.{fails_after, serves_after}
-use Rattle.ubik_node.proofs.Durables.{IsThere, fails_one, serves_one}
-use Rattle.ubik_node.proofs.Endings.{failed_ends, made_ends, not_short, told_still}
+use Rattle.ubik_node.proofs.Durables.{IsThere, fails_one, serves_one, serves_reads}
+use Rattle.ubik_node.proofs.Endings.{failed_ends, made_ends, not_short, reads_so, ready_in, told_still}
 
 begun_none : (begun : Option Transaction) → changes_begun begun ≡ None → begun ≡ None
 begun_none None is = refl
@@ -49,6 +51,14 @@ pub told_by : (change : List ℕ → List ℕ) (before after : Option Files) →
 told_by change None after is told = absurd (false≢true told)
 told_by change (Some fs) None is told = absurd cc
 told_by change (Some fs) (Some gs) is told = refl
+
+-- what one durable call makes of a server, and that a step makes just that one
+pub record IsOneCall (old : Server) (changes : List Change) (v : Version) (image : List ℕ) (made : Made) (t : Stepped) : Type 0 where
+  pub leads : effect old.image changes ≡ image
+  pub same : durable_after (durable_in old) made.call ≡ durable v image
+  pub cuts : TakenCutsNoPut made.reason made.call → CutsNoPut changes
+  pub count : change_count made.call ≡ length changes
+  pub calls : t.calls ≡ made ∷ []
 
 module _ {D : Type 0} (g : Ghosts D) where
   -- a store that was read is that of the node
@@ -90,12 +100,11 @@ module _ {D : Type 0} (g : Ghosts D) where
   refused long v s later NoMemory ends other newer fits = (refl, ends.1)
 
   module _ {knows : Type 0} {t : Stepped} {before after : List Output} (n : Held D) (was : IsKept g n) (up : n.halted ≡ false) (s : Store D) {F : Type 0} (reads : OnlyReads g n.store.disk s.disk F) (went : ¬ F) (sound : IsSound g s)
-      (stays : StaysAsItWas n.store s) (later : Store D) (sound_later : IsSound g later) (changes : List Change) (v : Version) (image : List ℕ) (made : Made) (leads : effect n.server.image changes ≡ image)
-      (same : durable_after (durable_in n.server) made.call ≡ durable v image) (cuts : TakenCutsNoPut made.reason made.call → CutsNoPut changes) (count : change_count made.call ≡ length changes) (calls : t.calls ≡ made ∷ []) where
-    pub call_made : {G : Type 0} (server : Server) (place : Member) → place ≡ n.member → Commits g changes v s later → IsDurable g changes v s later G → ¬ G → server.version ≡ v → length server.image ≡ later.len
+      (stays : StaysAsItWas n.store s) (later : Store D) (sound_later : IsSound g later) (changes : List Change) (v : Version) (image : List ℕ) (made : Made) (one : knows → IsOneCall n.server changes v image made t) where
+    pub known_call_made : {G : Type 0} (server : Server) (place : Member) → place ≡ n.member → Commits g changes v s later → IsDurable g changes v s later G → ¬ G → server.version ≡ v → length server.image ≡ later.len
         → IsThere server.image (image_in (g.files later.disk)) → (knows → (t.server ≡ server) × (after ≡ before ++ outputs_of t.shown))
         → Ends g knows t before after n (record n { store = later; server = server; member = place }) (Ok tt)
-    call_made server place member done durably fine version len there shows =
+    known_call_made server place member done durably fine version len there shows =
         made_ends g n (record n { store = later; server = server; member = place }) refl refl member
         (0 + (14 + length changes), calls_as (omega arith) (λ failed. fine failed) (λ none. absurd none) (calls_joined (calls_of (reads_change_none {f = Database} reads)) went durably.calls))
         (record {
@@ -109,18 +118,19 @@ module _ {D : Type 0} (g : Ghosts D) where
         (λ told. told_by (λ bytes. effect bytes changes) (g.files s.disk) (g.files later.disk) done.image (told_still g reads went told))
         (λ known.
         let shown = shows known in
+        let is = one known in
         record {
           server = shown.0;
           outputs = shown.1;
           disk =
-              subst (λ (made : List Made). Serves g (durable_in n.server) n.store.disk later.disk made) (sym calls)
+              subst (λ (made : List Made). Serves g (durable_in n.server) n.store.disk later.disk made) (sym is.calls)
               (serves_after g n.store.disk s.disk later.disk reads went (durable_in n.server) (made ∷ [])
-              (serves_one g s later (durable_in n.server) changes v image made ((stored_read n s was up sound stays reads went).image up) ((stored_read n s was up sound stays reads went).version up) leads same cuts count done.steps durably));
+              (serves_one g s later (durable_in n.server) changes v image made ((stored_read n s was up sound stays reads went).image up) ((stored_read n s was up sound stays reads went).version up) is.leads is.same is.cuts is.count done.steps durably));
         })
 
-    pub call_failed : (long : ℕ → Type 0) (e : StoreFault) → EndsAs g long v s later e → version_lt s.version v ≡ true → ((bytes : ℕ) → long bytes → ⊥) → IsDurable g changes v s later (IsErrOf (ended e) DiskFault)
+    pub known_call_failed : (long : ℕ → Type 0) (e : StoreFault) → EndsAs g long v s later e → version_lt s.version v ≡ true → ((bytes : ℕ) → long bytes → ⊥) → IsDurable g changes v s later (IsErrOf (ended e) DiskFault)
         → Ends g knows t before after n (record n { store = later }) (Err e)
-    call_failed long e ends newer fits durably = by e ends durably
+    known_call_failed long e ends newer fits durably = by e ends durably
       where
         by_refusal : (e : StoreFault) → e ≢ DiskFault → EndsAs g long v s later e → Ends g knows t before after n (record n { store = later }) (Err e)
         by_refusal e other ends =
@@ -132,10 +142,11 @@ module _ {D : Type 0} (g : Ghosts D) where
         by : (e : StoreFault) → EndsAs g long v s later e → IsDurable g changes v s later (IsErrOf (ended e) DiskFault) → Ends g knows t before after n (record n { store = later }) (Err e)
         by DiskFault ends durably = record {
           made = λ _. tt;
-          failed = λ _.
-              subst (λ (made : List Made). FailsIn g (durable_in n.server) n.store.disk later.disk made) (sym calls)
+          failed = λ known _.
+              let is = one known in
+              subst (λ (made : List Made). FailsIn g (durable_in n.server) n.store.disk later.disk made) (sym is.calls)
               (fails_after g n.store.disk s.disk later.disk reads went (durable_in n.server) (made ∷ [])
-              (fails_one g s later (durable_in n.server) changes v image made (sound.ready (stays.failed ∙ was.failed ∙ up)) ((stored_read n s was up sound stays reads went).image up) ((stored_read n s was up sound stays reads went).version up) leads same cuts count durably));
+              (fails_one g s later (durable_in n.server) changes v image made (sound.ready (stays.failed ∙ was.failed ∙ up)) ((stored_read n s was up sound stays reads went).image up) ((stored_read n s was up sound stays reads went).version up) is.leads is.same is.cuts is.count durably));
           short = λ other. absurd (other refl);
           state = λ other. refl;
           keeps = λ failed. refl;
@@ -151,3 +162,76 @@ module _ {D : Type 0} (g : Ghosts D) where
         by (TooLarge bytes) ends durably = by_refusal (TooLarge bytes) (λ is. absurd cc) ends
         by (NotNewer own given) ends durably = by_refusal (NotNewer own given) (λ is. absurd cc) ends
         by NoMemory ends durably = by_refusal NoMemory (λ is. absurd cc) ends
+
+  -- the same where that is so whatever the disk tells
+  module _ {knows : Type 0} {t : Stepped} {before after : List Output} (n : Held D) (was : IsKept g n) (up : n.halted ≡ false) (s : Store D) {F : Type 0} (reads : OnlyReads g n.store.disk s.disk F) (went : ¬ F) (sound : IsSound g s)
+      (stays : StaysAsItWas n.store s) (later : Store D) (sound_later : IsSound g later) (changes : List Change) (v : Version) (image : List ℕ) (made : Made) (leads : effect n.server.image changes ≡ image)
+      (same : durable_after (durable_in n.server) made.call ≡ durable v image) (cuts : TakenCutsNoPut made.reason made.call → CutsNoPut changes) (count : change_count made.call ≡ length changes) (calls : t.calls ≡ made ∷ []) where
+    pub call_made : {G : Type 0} (server : Server) (place : Member) → place ≡ n.member → Commits g changes v s later → IsDurable g changes v s later G → ¬ G → server.version ≡ v → length server.image ≡ later.len
+        → IsThere server.image (image_in (g.files later.disk)) → (knows → (t.server ≡ server) × (after ≡ before ++ outputs_of t.shown))
+        → Ends g knows t before after n (record n { store = later; server = server; member = place }) (Ok tt)
+    call_made = known_call_made n was up s reads went sound stays later sound_later changes v image made (λ _. record { leads = leads; same = same; cuts = cuts; count = count; calls = calls })
+
+    pub call_failed : (long : ℕ → Type 0) (e : StoreFault) → EndsAs g long v s later e → version_lt s.version v ≡ true → ((bytes : ℕ) → long bytes → ⊥) → IsDurable g changes v s later (IsErrOf (ended e) DiskFault)
+        → Ends g knows t before after n (record n { store = later }) (Err e)
+    call_failed = known_call_failed n was up s reads went sound stays later sound_later changes v image made (λ _. record { leads = leads; same = same; cuts = cuts; count = count; calls = calls })
+
+  -- a rule without a durable call, after reads
+  pub known_read_ends : {knows : Type 0} {t : Stepped} {before after : List Output} (n m : Held D) → m.halted ≡ n.halted → m.last ≡ n.last → m.member ≡ n.member → {F : Type 0} → IsKept g n → n.halted ≡ false → OnlyReads g n.store.disk m.store.disk F → ¬ F → IsKept g m
+      → (knows → (t.calls ≡ []) × (t.server ≡ m.server) × (after ≡ before ++ outputs_of t.shown)) → Ends g knows t before after n m (Ok tt)
+  known_read_ends n m halted last member was up reads went stored shows =
+      made_ends g n m halted last member (reads_so g reads went (λ failed. absurd failed)) stored (told_still g reads went) (λ known.
+      let shown = shows known in
+      record {
+        server = shown.1;
+        outputs = shown.2;
+        disk = subst (λ (calls : List Made). Serves g (durable_in n.server) n.store.disk m.store.disk calls) (sym shown.0) (serves_reads g n.store (durable_in n.server) (ready_in g n was up) (was.image up) (was.version up) reads);
+      })
+
+  -- a rule after reads
+  pub after_reads : {knows : Type 0} {t : Stepped} {before after : List Output} (n : Held D) (s : Store D) (m : Held D) (r : Result (Unit {0}) StoreFault) {F : Type 0} → OnlyReads g n.store.disk s.disk F → ¬ F
+      → Ends g knows t before after (record n { store = s }) m r → Ends g knows t before after n m r
+  after_reads {knows} {t} {before} {after} n s m r reads went ends = record {
+    made = λ known.
+        ok_map r (IsMade g t before after (record n { store = s }) m) (IsMade g t before after n m) (ends.made known)
+        (λ made. record { server = made.server; outputs = made.outputs; disk = serves_after g n.store.disk s.disk m.store.disk reads went (durable_in n.server) t.calls made.disk });
+    failed = λ known failed. fails_after g n.store.disk s.disk m.store.disk reads went (durable_in n.server) t.calls (ends.failed known failed);
+    short = err_joined r (λ e short. (short.0, reads_joined reads went short.1)) ends.short;
+    state = ends.state;
+    keeps = ends.keeps;
+    stored = ends.stored;
+    halts = ends.halts;
+    told = λ fine there. ends.told fine (told_still g reads went there);
+    calls = (0 + ends.calls.0, calls_joined (calls_of (reads_change_none {f = Database} reads)) went ends.calls.1);
+    halted = ends.halted;
+    last = ends.last;
+    member = ends.member;
+  }
+    where
+      err_joined : (r : Result (Unit {0}) StoreFault) → ((e : StoreFault) → (e ≡ NoMemory) × OnlyReads g s.disk m.store.disk ⊥ → (e ≡ NoMemory) × OnlyReads g n.store.disk m.store.disk ⊥)
+          → IfErr r (λ why. why ≢ DiskFault → (why ≡ NoMemory) × OnlyReads g s.disk m.store.disk ⊥) → IfErr r (λ why. why ≢ DiskFault → (why ≡ NoMemory) × OnlyReads g n.store.disk m.store.disk ⊥)
+      err_joined (Ok x) so short = tt
+      err_joined (Err e) so short = λ other. so e (short other)
+
+  -- what is a rule where more is known
+  pub known_so : {knows less : Type 0} {t u : Stepped} {before after : List Output} {n m : Held D} (r : Result (Unit {0}) StoreFault) → (less → knows × (t ≡ u)) → Ends g knows u before after n m r → Ends g less t before after n m r
+  known_so {knows} {less} {t} {u} {before} {after} {n} {m} r so ends = record {
+    made = λ known. let is = so known in subst (λ (x : Stepped). OnOk r (IsMade g x before after n m)) (sym is.1) (ends.made is.0);
+    failed = λ known failed. let is = so known in subst (λ (x : Stepped). FailsIn g (durable_in n.server) n.store.disk m.store.disk x.calls) (sym is.1) (ends.failed is.0 failed);
+    short = ends.short;
+    state = ends.state;
+    keeps = ends.keeps;
+    stored = ends.stored;
+    halts = ends.halts;
+    told = ends.told;
+    calls = ends.calls;
+    halted = ends.halted;
+    last = ends.last;
+    member = ends.member;
+  }
+
+  -- a rule whose server and place are named otherwise
+  pub held_as : {knows : Type 0} {t : Stepped} {before after : List Output} {n m : Held D} {r : Result (Unit {0}) StoreFault} (server : Server) (place : Member) → server ≡ m.server → place ≡ m.member → Ends g knows t before after n m r
+      → Ends g knows t before after n (record m { server = server; member = place }) r
+  held_as {knows} {t} {before} {after} {n} {m} {r} server place is at ends =
+      subst (λ (s : Server). Ends g knows t before after n (record m { server = s; member = place }) r) (sym is) (subst (λ (p : Member). Ends g knows t before after n (record m { member = p }) r) (sym at) ends)

@@ -1,9 +1,11 @@
 -- A step, from the end of its rule.
-use Rattle.std.proofs.Common.{◌≡◌, ◌≢◌, ◌↔◌, ℕ, Bool, true, false, cond, List, [], IsSome, Result, Ok, Err, IfErr, IsErrOf, IsOk, refl, sym, ap, subst, ◌∙◌, arith}
+use Rattle.std.proofs.Common.{◌≡◌, ◌≢◌, ◌↔◌, ◌⊎◌, ⊎_elim, ℕ, Bool, true, false, cond, Option, Some, None, List, [], IfSome, IsSome, Result, Ok, Err, IfErr, IsErrOf, IsOk, refl, sym, ap, subst, ◌∙◌, arith}
 use Rattle.std.proofs.lemmas.Bool.{false≢true}
 use Rattle.disk_base.specs.declared.disks.Disk.{Ghosts}
+use Rattle.disk_base.specs.Files.{Files}
 use Rattle.disk_base.specs.Runs.{OnlyReads}
 use Rattle.db_image.specs.Database.{Database}
+use Rattle.db_image.specs.Standing.{Standing}
 use Rattle.ubik_store.specs.declared.faults.StoreFault.{StoreFault}
 use Rattle.ubik_store.specs.declared.faults.StoreFault.TheVariants as fault
 use Rattle.ubik_store.proofs.Applied.{calls_as}
@@ -11,14 +13,14 @@ use Rattle.cell_model.specs.declared.events.NodeEvent.{NodeEvent}
 use Rattle.cell_model.specs.declared.events.Output.{Output}
 use Rattle.cell_model.specs.Durable.{Durable}
 use Rattle.cell_model.specs.Node as model
-use Rattle.cell_model.specs.NodeRule.{refusals, step_of}
+use Rattle.cell_model.specs.NodeRule.{handled, refusals, step_of}
 use Rattle.cell_model.specs.Step.{Member, Stepped, outputs_of}
 use Rattle.ubik_node.specs.declared.nodes.StepEnd.{StepEnd}
 use Rattle.ubik_node.specs.declared.nodes.StepEnd.TheVariants.{Done, Halted, NoMemory}
 use Rattle.ubik_node.specs.Disk.{FailsIn, Serves}
 use Rattle.ubik_node.proofs.Calling.{ended}
 use Rattle.ubik_node.proofs.Endings.{fault_is}
-use Rattle.ubik_node.specs.Node.{CallsSo, Closes, Ends, Held, IsKept, IsStoredAs, Makes, Steps, durable_in}
+use Rattle.ubik_node.specs.Node.{CallsSo, Closes, Ends, EndsSo, Held, IsKept, IsStoredAs, Makes, Needs, Steps, durable_in}
 
 -- the abstract server
 abbrev pub node_at : {D : Type 0} → Held D → model.Node
@@ -54,7 +56,7 @@ module _ {D : Type 0} (g : Ghosts D) (db : Database) (m : Member) (s : model.Ser
         ap model.Halted (closed.1.2 ∙ keeps refl),
         refl,
         choices,
-        subst (λ (u : Stepped). FailsIn g (durable_in s) first.store.disk mid.store.disk u.calls) (sym step) (subst (λ (d : Durable). FailsIn g d first.store.disk mid.store.disk t.calls) kept (ends.failed refl)),
+        subst (λ (u : Stepped). FailsIn g (durable_in s) first.store.disk mid.store.disk u.calls) (sym step) (subst (λ (d : Durable). FailsIn g d first.store.disk mid.store.disk t.calls) kept (ends.failed known refl)),
       )))
   closed_step (Err fault.NoMemory) ends known returns keeps closed = unmade g db m s e now first mid last after back end closed (up_at mid.halted back (ends.halted ∙ up) ∙ ap model.Up (returns (λ is. absurd cc))) (ends.short (λ is. absurd cc)).1
   closed_step (Err (fault.BadLabel len head)) ends known returns keeps closed = unmade g db m s e now first mid last after back end closed (up_at mid.halted back (ends.halted ∙ up) ∙ ap model.Up (returns (λ is. absurd cc))) (ends.short (λ is. absurd cc)).1
@@ -85,9 +87,9 @@ module _ {D : Type 0} (g : Ghosts D) (first mid last : Held D) (after : List Out
       subst (λ (h : Held D). CallsSo g first.store.disk h.store.disk ((end ≡ Halted) × (first.halted ≡ false))) (sym closed.1)
       (run.0, calls_as (omega arith) (λ is. absurd (other (fault_is why is))) (λ is. let halted = is.0 in let ended = closed.0 in absurd cc) run.1)
 
-module _ {D : Type 0} (g : Ghosts D) {t : Stepped} {knows : Type 0} (e : NodeEvent) (first mid last : Held D) (before after : List Output) (back : model.Server) (end : StepEnd) (up : first.halted ≡ false) where
+module _ {D : Type 0} (g : Ghosts D) {t : Stepped} {knows : Type 0} {start : List Output} (e : NodeEvent) (first mid last : Held D) (before after : List Output) (back : model.Server) (end : StepEnd) (up : first.halted ≡ false) where
   -- the store after it
-  pub closed_stored : (r : Result (Unit {0}) StoreFault) → Ends g knows t [] before first mid r → IfErr r (λ why. why ≢ fault.DiskFault → durable_in back ≡ durable_in first.server) → Closes r e back mid last before after end → IsKept g last
+  pub closed_stored : (r : Result (Unit {0}) StoreFault) → Ends g knows t start before first mid r → IfErr r (λ why. why ≢ fault.DiskFault → durable_in back ≡ durable_in first.server) → Closes r e back mid last before after end → IsKept g last
   closed_stored (Ok tt) ends same closed = subst (λ (h : Held D). IsKept g h) (sym closed.1) (ends.stored (λ is. absurd cc))
   closed_stored (Err fault.DiskFault) ends same closed =
       let failed = ends.halts refl in
@@ -104,7 +106,7 @@ module _ {D : Type 0} (g : Ghosts D) {t : Stepped} {knows : Type 0} (e : NodeEve
   closed_stored (Err (fault.TooLarge bytes)) ends same closed = still_stored g first mid last after back end closed (ends.stored (λ is. absurd cc)) (same (λ is. absurd cc) ∙ ap durable_in (sym (ends.state (λ is. absurd cc))))
   closed_stored (Err (fault.NotNewer own given)) ends same closed = still_stored g first mid last after back end closed (ends.stored (λ is. absurd cc)) (same (λ is. absurd cc) ∙ ap durable_in (sym (ends.state (λ is. absurd cc))))
 
-  pub closed_told : (r : Result (Unit {0}) StoreFault) → Ends g knows t [] before first mid r → Closes r e back mid last before after end → end ≢ Halted → IsSome (g.files first.store.disk) → IsSome (g.files last.store.disk)
+  pub closed_told : (r : Result (Unit {0}) StoreFault) → Ends g knows t start before first mid r → Closes r e back mid last before after end → end ≢ Halted → IsSome (g.files first.store.disk) → IsSome (g.files last.store.disk)
   closed_told (Ok tt) ends closed went told = subst (λ (h : Held D). IsSome (g.files h.store.disk)) (sym closed.1) (ends.told (λ is. absurd cc) told)
   closed_told (Err fault.DiskFault) ends closed went told = absurd (went closed.0)
   closed_told (Err fault.NoMemory) ends closed went told = subst (λ (h : Held D). IsSome (g.files h.store.disk)) (sym closed.1) (ends.told (λ is. absurd cc) told)
@@ -112,7 +114,7 @@ module _ {D : Type 0} (g : Ghosts D) {t : Stepped} {knows : Type 0} (e : NodeEve
   closed_told (Err (fault.TooLarge bytes)) ends closed went told = subst (λ (h : Held D). IsSome (g.files h.store.disk)) (sym closed.1) (ends.told (λ is. absurd cc) told)
   closed_told (Err (fault.NotNewer own given)) ends closed went told = subst (λ (h : Held D). IsSome (g.files h.store.disk)) (sym closed.1) (ends.told (λ is. absurd cc) told)
 
-  pub closed_calls : (r : Result (Unit {0}) StoreFault) → Ends g knows t [] before first mid r → Closes r e back mid last before after end → CallsSo g first.store.disk last.store.disk ((end ≡ Halted) × (first.halted ≡ false))
+  pub closed_calls : (r : Result (Unit {0}) StoreFault) → Ends g knows t start before first mid r → Closes r e back mid last before after end → CallsSo g first.store.disk last.store.disk ((end ≡ Halted) × (first.halted ≡ false))
   closed_calls (Ok tt) ends closed = subst (λ (h : Held D). CallsSo g first.store.disk h.store.disk ((end ≡ Halted) × (first.halted ≡ false))) (sym closed.1)
       (ends.calls.0, calls_as (omega arith) (λ is. absurd cc) (λ is. let halted = is.0 in let done = closed.0 in absurd cc) ends.calls.1)
   closed_calls (Err fault.DiskFault) ends closed = subst (λ (h : Held D). CallsSo g first.store.disk h.store.disk ((end ≡ Halted) × (first.halted ≡ false))) (sym closed.1.1)
@@ -123,7 +125,7 @@ module _ {D : Type 0} (g : Ghosts D) {t : Stepped} {knows : Type 0} (e : NodeEve
   closed_calls (Err (fault.NotNewer own given)) ends closed = still_calls g first mid last after back end closed (fault.NotNewer own given) (λ is. absurd cc) ends.calls
 
   -- whether it is halted
-  pub closed_halts : (r : Result (Unit {0}) StoreFault) → Ends g knows t [] before first mid r → Closes r e back mid last before after end → (end ≡ Halted) ↔ (last.halted ≡ true)
+  pub closed_halts : (r : Result (Unit {0}) StoreFault) → Ends g knows t start before first mid r → Closes r e back mid last before after end → (end ≡ Halted) ↔ (last.halted ≡ true)
   closed_halts (Ok tt) ends closed = halts_not end last.halted (done_not end closed.0) (ap (λ (h : Held D). h.halted) closed.1 ∙ ends.halted ∙ up)
   closed_halts (Err fault.DiskFault) ends closed = halts_so end last.halted closed.0 (ap (λ (h : Held D). h.halted) closed.1.1)
   closed_halts (Err fault.NoMemory) ends closed = halts_not end last.halted (ends_not end closed.0) (ap (λ (h : Held D). h.halted) closed.1 ∙ ends.halted ∙ up)
@@ -132,7 +134,7 @@ module _ {D : Type 0} (g : Ghosts D) {t : Stepped} {knows : Type 0} (e : NodeEve
   closed_halts (Err (fault.NotNewer own given)) ends closed = halts_not end last.halted (ends_not end closed.0) (ap (λ (h : Held D). h.halted) closed.1 ∙ ends.halted ∙ up)
 
   -- its place, and its last moment
-  pub closed_place : (r : Result (Unit {0}) StoreFault) → Ends g knows t [] before first mid r → Closes r e back mid last before after end → (last.member ≡ first.member) × (last.last ≡ first.last)
+  pub closed_place : (r : Result (Unit {0}) StoreFault) → Ends g knows t start before first mid r → Closes r e back mid last before after end → (last.member ≡ first.member) × (last.last ≡ first.last)
   closed_place (Ok tt) ends closed = (ap (λ (h : Held D). h.member) closed.1 ∙ ends.member, ap (λ (h : Held D). h.last) closed.1 ∙ ends.last)
   closed_place (Err fault.DiskFault) ends closed = (ap (λ (h : Held D). h.member) closed.1.1 ∙ ends.member, ap (λ (h : Held D). h.last) closed.1.1 ∙ ends.last)
   closed_place (Err fault.NoMemory) ends closed = (ap (λ (h : Held D). h.member) closed.1 ∙ ends.member, ap (λ (h : Held D). h.last) closed.1 ∙ ends.last)
@@ -141,9 +143,13 @@ module _ {D : Type 0} (g : Ghosts D) {t : Stepped} {knows : Type 0} (e : NodeEve
   closed_place (Err (fault.NotNewer own given)) ends closed = (ap (λ (h : Held D). h.member) closed.1 ∙ ends.member, ap (λ (h : Held D). h.last) closed.1 ∙ ends.last)
 
 module _ {D : Type 0} (e : NodeEvent) (mid last : Held D) (before after : List Output) (back : model.Server) (end : StepEnd) where
-  pub closed_memory : (r : Result (Unit {0}) StoreFault) → IsOk r → Closes r e back mid last before after end → end ≢ NoMemory
+  pub closed_memory : (r : Result (Unit {0}) StoreFault) → IsErrOf r fault.DiskFault ⊎ IsOk r → Closes r e back mid last before after end → end ≢ NoMemory
   closed_memory (Ok x) fine closed short = let done = closed.0 in absurd cc
-  closed_memory (Err why) fine closed short = absurd cc
+  closed_memory (Err fault.DiskFault) fine closed short = let halted = closed.0 in absurd cc
+  closed_memory (Err fault.NoMemory) fine closed short = ⊎_elim (λ is. absurd cc) (λ is. absurd cc) fine
+  closed_memory (Err (fault.BadLabel len head)) fine closed short = ⊎_elim (λ is. absurd cc) (λ is. absurd cc) fine
+  closed_memory (Err (fault.TooLarge bytes)) fine closed short = ⊎_elim (λ is. absurd cc) (λ is. absurd cc) fine
+  closed_memory (Err (fault.NotNewer own given)) fine closed short = ⊎_elim (λ is. absurd cc) (λ is. absurd cc) fine
 
 pub err_map : {A : Type 0} (r : Result A StoreFault) (P Q : Type 0) → IfErr r (λ why. why ≢ fault.DiskFault → P) → (P → Q) → IfErr r (λ why. why ≢ fault.DiskFault → Q)
 err_map (Ok x) P Q so also = tt
@@ -167,3 +173,12 @@ module _ {D : Type 0} (r : Result (Unit {0}) StoreFault) (e : NodeEvent) (back :
       by (fault.TooLarge bytes) other = (refl, same, out)
       by (fault.NotNewer own given) other = (refl, same, out)
       by fault.NoMemory other = (refl, same, out)
+
+pub some_map : {A : Type 0} (o : Option A) (P Q : A → Type 0) → ((x : A) → P x → Q x) → IfSome o P → IfSome o Q
+some_map None P Q to is = tt
+some_map (Some x) P Q to is = to x is
+
+-- what an event makes of a server, by the event that it is
+module _ {D : Type 0} (g : Ghosts D) (d : Standing) (m : Member) (s : model.Server) (now : ℕ) (e f : NodeEvent) (files : Option Files) {before after : List Output} {n k : Held D} {r : Result (Unit {0}) StoreFault} where
+  pub event_ends : e ≡ f → EndsSo g (Needs d m (model.Up s) f files) (λ short. handled d.database m s now f short) before after n k r → EndsSo g (Needs d m (model.Up s) e files) (λ short. handled d.database m s now e short) before after n k r
+  event_ends is ends = subst (λ (x : NodeEvent). EndsSo g (Needs d m (model.Up s) x files) (λ short. handled d.database m s now x short) before after n k r) (sym is) ends

@@ -1,5 +1,5 @@
 -- How rules end.
-use Rattle.std.proofs.Common.{◌≡◌, ◌≢◌, ◌++◌, ◌⊎◌, ⊎_elim, inr, ℕ, List, [], false, Option, IsSome, length, Result, Ok, Err, IsErrAnd, refl, sym, ap, subst, ◌∙◌, append_assoc, arith}
+use Rattle.std.proofs.Common.{◌≡◌, ◌≢◌, ◌++◌, ◌⊎◌, ⊎_elim, inr, ℕ, List, [], false, Option, IsSome, length, Result, Ok, Err, IfErr, IsErrAnd, IsErrOf, IsOk, refl, sym, ap, subst, ◌∙◌, append_assoc, arith}
 use Rattle.std.proofs.lemmas.List.{map-append}
 use Rattle.disk_base.specs.declared.disks.Disk.{Ghosts}
 use Rattle.disk_base.specs.declared.disks.FileNo.TheVariants.{Database}
@@ -12,11 +12,11 @@ use Rattle.ubik_store.specs.Store.{IsReady, image_in}
 use Rattle.ubik_store.proofs.Applied.{calls_as, calls_of}
 use Rattle.ubik_store.proofs.Telling.{ok_map}
 use Rattle.cell_model.specs.declared.events.Output.{Output}
-use Rattle.cell_model.specs.Durable.{Made}
+use Rattle.cell_model.specs.Durable.{Durable, Made}
 use Rattle.cell_model.specs.Node.{Server, halted_from}
-use Rattle.cell_model.specs.Step.{Shown, Stepped, outputs_of}
+use Rattle.cell_model.specs.Step.{Member, Shown, Stepped, outputs_of}
 use Rattle.ubik_node.specs.declared.state.State.{State}
-use Rattle.ubik_node.specs.Disk.{Serves}
+use Rattle.ubik_node.specs.Disk.{FailsIn, Serves}
 use Rattle.ubik_node.specs.Node.{CallsSo, Ends, HasFailedStore, Held, IsKept, IsMade, durable_in}
 use Rattle.ubik_node.specs.State.{Keeps, ShowsBehind, member_of, server_of}
 use Rattle.ubik_node.proofs.Durables.{IsThere, fails_reads, serves_reads}
@@ -29,6 +29,11 @@ fault_is e is = cc
 
 pub ok_not : {A : Type 0} (x : A) → ◌≡◌ {A = Result A StoreFault} (Ok x) (Err DiskFault) → ⊥
 ok_not x is = cc
+
+-- a rule that never ends for want of memory
+pub never_short : (r : Result (Unit {0}) StoreFault) (P : Type 0) → IsErrOf r DiskFault ⊎ IsOk r → IfErr r (λ why. why ≢ DiskFault → P)
+never_short (Ok x) P fine = tt
+never_short (Err e) P fine = λ other. absurd (⊎_elim (λ is. other (fault_is e is)) (λ is. absurd cc) fine)
 
 pub not_short : NoMemory ≡ DiskFault → ⊥
 not_short is = cc
@@ -87,7 +92,7 @@ module _ {D : Type 0} (g : Ghosts D) where
     pub made_ends : CallsSo g n.store.disk m.store.disk ⊥ → IsKept g m → (IsSome (g.files n.store.disk) → IsSome (g.files m.store.disk)) → (knows → IsMade g t before after n m) → Ends g knows t before after n m (Ok tt)
     made_ends run stored told made = record {
       made = made;
-      failed = λ failed. absurd (no_fault failed);
+      failed = λ known failed. absurd (no_fault failed);
       short = tt;
       state = tt;
       keeps = λ failed. absurd (no_fault failed);
@@ -117,7 +122,7 @@ module _ {D : Type 0} (g : Ghosts D) where
         → (e ≢ DiskFault → IsKept g m) → (e ≡ DiskFault → HasFailedStore g m.store) → m.server ≡ n.server → Ends g knows t before after n m (Err e)
     failed_ends e cause was up reads to from stored halts same = record {
       made = λ _. tt;
-      failed = λ failed. fails_reads g n.store (durable_in n.server) (ready_in n was up) (was.image up) (was.version up) reads t.calls;
+      failed = λ known failed. fails_reads g n.store (durable_in n.server) (ready_in n was up) (was.image up) (was.version up) reads t.calls;
       short = λ other. (⊎_elim (λ is. absurd (other is)) (λ is. is) cause, reads_as (λ failed. other (to failed)) (λ none. absurd none) reads);
       state = λ other. same;
       keeps = λ failed. ap halted_from same;
@@ -155,7 +160,7 @@ module _ {D : Type 0} (g : Ghosts D) where
   pub known_ends : {knows less : Type 0} {t : Stepped} {before after : List Output} {n m : Held D} {r : Result (Unit {0}) StoreFault} → (less → knows) → Ends g knows t before after n m r → Ends g less t before after n m r
   known_ends so ends = record {
     made = λ known. ends.made (so known);
-    failed = ends.failed;
+    failed = λ known. ends.failed (so known);
     short = ends.short;
     state = ends.state;
     keeps = ends.keeps;
@@ -202,3 +207,23 @@ module _ {D : Type 0} (g : Ghosts D) where
   -- one that nothing stood before
   pub empty_ends : {knows : Type 0} {t : Stepped} {before after : List Output} {n m : Held D} {r : Result (Unit {0}) StoreFault} → before ≡ [] → Ends g knows t before after n m r → Ends g knows t [] after n m r
   empty_ends {knows} {t} {before} {after} {n} {m} {r} empty ends = subst (λ (o : List Output). Ends g knows t o after n m r) empty ends
+
+  -- a rule that began with a change of the server, of which a halted one would keep the same and whose database is the same; it does not end for want of memory
+  pub begun_ends : {knows : Type 0} {t : Stepped} {before after : List Output} (n : Held D) (s : Server) (place : Member) {m : Held D} (r : Result (Unit {0}) StoreFault) → durable_in s ≡ durable_in n.server → halted_from s ≡ halted_from n.server
+      → place ≡ n.member → IsErrOf r DiskFault ⊎ IsOk r → Ends g knows t before after (record n { server = s; member = place }) m r → Ends g knows t before after n m r
+  begun_ends {knows} {t} {before} {after} n s place {m} r same keeps member fine ends = record {
+    made = λ known.
+        ok_map r (IsMade g t before after (record n { server = s; member = place }) m) (IsMade g t before after n m) (ends.made known) (λ made.
+        record { server = made.server; outputs = made.outputs; disk = subst (λ (d : Durable). Serves g d n.store.disk m.store.disk t.calls) same made.disk });
+    failed = λ known failed. subst (λ (d : Durable). FailsIn g d n.store.disk m.store.disk t.calls) same (ends.failed known failed);
+    short = ends.short;
+    state = never_short r (m.server ≡ n.server) fine;
+    keeps = λ failed. ends.keeps failed ∙ keeps;
+    stored = ends.stored;
+    halts = ends.halts;
+    told = ends.told;
+    calls = ends.calls;
+    halted = ends.halted;
+    last = ends.last;
+    member = ends.member ∙ member;
+  }

@@ -100,7 +100,7 @@ module _ {D : Type 0} (g : Ghosts D) {knows : Type 0} {t : Stepped} {before afte
       made = λ known.
           let one = ends.made known in
           record { server = one.server; outputs = one.outputs; disk = subst (λ (d : Durable). Serves g d n.store.disk m.store.disk t.calls) durable one.disk };
-      failed = λ failed. subst (λ (d : Durable). FailsIn g d n.store.disk m.store.disk t.calls) durable (ends.failed failed);
+      failed = λ known failed. subst (λ (d : Durable). FailsIn g d n.store.disk m.store.disk t.calls) durable (ends.failed known failed);
       short = ends.short;
       state = tt;
       keeps = λ failed. absurd (ok_not tt failed);
@@ -118,7 +118,7 @@ module _ {D : Type 0} (g : Ghosts D) {knows : Type 0} {t : Stepped} {before afte
         → Ends g knows t before after n (record m { server = server; member = member }) (Err e)
     failed_from server member e same keeps here ends = record {
       made = λ known. tt;
-      failed = λ failed. subst (λ (d : Durable). FailsIn g d n.store.disk m.store.disk t.calls) durable (ends.failed failed);
+      failed = λ known failed. subst (λ (d : Durable). FailsIn g d n.store.disk m.store.disk t.calls) durable (ends.failed known failed);
       short = ends.short;
       state = same;
       keeps = λ failed. keeps (fault_is e failed);
@@ -140,7 +140,7 @@ module _ {D : Type 0} (g : Ghosts D) {knows : Type 0} {t u : Stepped} {before af
   pub fails_so : (e : StoreFault) → Ends g knows t before after n m (Err e) → Ends g knows u first final n m (Err e)
   fails_so e ends = record {
     made = λ known. tt;
-    failed = λ failed. subst (λ (calls : List Made). FailsIn g (durable_in n.server) n.store.disk m.store.disk calls) (sym same) (ends.failed failed);
+    failed = λ known failed. subst (λ (calls : List Made). FailsIn g (durable_in n.server) n.store.disk m.store.disk calls) (sym same) (ends.failed known failed);
     short = ends.short;
     state = ends.state;
     keeps = ends.keeps;
@@ -161,7 +161,7 @@ module _ {D : Type 0} (g : Ghosts D) {knows : Type 0} {t u : Stepped} {before af
         let one = ends.made known in
         let shown = shows one.server in
         record { server = shown.0; outputs = shown.1; disk = subst (λ (calls : List Made). Serves g (durable_in n.server) n.store.disk m.store.disk calls) (sym same) one.disk };
-    failed = λ failed. subst (λ (calls : List Made). FailsIn g (durable_in n.server) n.store.disk m.store.disk calls) (sym same) (ends.failed failed);
+    failed = λ known failed. subst (λ (calls : List Made). FailsIn g (durable_in n.server) n.store.disk m.store.disk calls) (sym same) (ends.failed known failed);
     short = ends.short;
     state = tt;
     keeps = λ failed. absurd (ok_not tt failed);

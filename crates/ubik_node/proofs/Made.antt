@@ -1,11 +1,11 @@
 -- What the database makes of a call where the disk tells the image, and the image stands for a state.
 use Rattle.std.proofs.Common.{◌≡◌, ◌≤◌, ℕ, false, List, length, Option, Some, None, subst}
 use Rattle.std.proofs.lemmas.Bool.{false≢true}
-use Rattle.ubik_types.specs.declared.hosts.Host.{Host}
 use Rattle.disk_base.specs.Files.{Files}
 use Rattle.db_image.specs.declared.services.CallReply.{CallReply}
 use Rattle.db_image.specs.Database.{changes_of}
 use Rattle.db_image.specs.Standing.{Standing}
+use Rattle.cell_model.specs.Step.{Member}
 use Rattle.cell_model.specs.Writes.{turned, write_turn}
 use Rattle.ubik_store.specs.Store.{image_in}
 use Rattle.ubik_node.specs.declared.evaluations.Evaluation.{Evaluation}
@@ -13,7 +13,6 @@ use Rattle.ubik_node.specs.declared.state.State.{State}
 use Rattle.ubik_node.specs.declared.verdicts.Verdict.{Verdict}
 use Rattle.ubik_node.specs.Evaluation.{IsMadeOf, IsOutcome}
 use Rattle.ubik_node.specs.Node.{IsMeantIn}
-use Rattle.ubik_node.specs.Beacons.{alone}
 use Rattle.ubik_node.specs.State.{server_of}
 use Rattle.ubik_node.specs.Verdict.{Judges}
 use Rattle.ubik_node.proofs.Durables.{IsThere}
@@ -25,13 +24,22 @@ made_here d (Some fs) image now call e meant there made =
     subst (λ (bytes : List ℕ). (s : d.State) → d.StandsFor bytes s → IsOutcome d bytes (d.database.call bytes now call) e) there made meant.1 meant.2
 
 -- the step that a verdict on it comes to
-pub judged_turn : (d : Standing) (h : Host) (st : State) (now id : ℕ) (call : List ℕ) (e : Evaluation) (v : Verdict)
+pub judged_turn : (d : Standing) (m : Member) (st : State) (now id : ℕ) (call : List ℕ) (e : Evaluation) (v : Verdict)
     → length st.image ≤ length (d.database.call st.image now call).image
-    → ((image : List ℕ) → length st.image ≤ length image → e.changes ≡ changes_of d.database st.image image → (h : Host) (now id : ℕ) (call : List ℕ)
-    → Judges h (server_of st) st.recovery now id call image v (turned d.database (alone h) (server_of st) now id call image e.reply))
+    → ((image : List ℕ) → length st.image ≤ length image → e.changes ≡ changes_of d.database st.image image → (m : Member) (now id : ℕ) (call : List ℕ)
+    → Judges m (server_of st) now id call image v (turned d.database m (server_of st) now id call image e.reply))
     → IsOutcome d st.image (d.database.call st.image now call) e
-    → Judges h (server_of st) st.recovery now id call (d.database.call st.image now call).image v (write_turn d.database (alone h) (server_of st) now id call false)
-judged_turn d h st now id call e v grows judged outcome =
+    → Judges m (server_of st) now id call (d.database.call st.image now call).image v (write_turn d.database m (server_of st) now id call false)
+judged_turn d m st now id call e v grows judged outcome =
     let image : List ℕ = (d.database.call st.image now call).image in
-    subst (λ (r : CallReply). Judges h (server_of st) st.recovery now id call image v (turned d.database (alone h) (server_of st) now id call image r)) outcome.reply
-    (judged image grows outcome.changes h now id call)
+    subst (λ (r : CallReply). Judges m (server_of st) now id call image v (turned d.database m (server_of st) now id call image r)) outcome.reply
+    (judged image grows outcome.changes m now id call)
+
+-- so where the disk tells the image, and the image stands for a state
+pub judged_here : (d : Standing) (m : Member) (st : State) (files : Option Files) (now id : ℕ) (call : List ℕ) (e : Evaluation) (v : Verdict)
+    → length st.image ≤ length (d.database.call st.image now call).image
+    → ((image : List ℕ) → length st.image ≤ length image → e.changes ≡ changes_of d.database st.image image → (m : Member) (now id : ℕ) (call : List ℕ)
+    → Judges m (server_of st) now id call image v (turned d.database m (server_of st) now id call image e.reply))
+    → IsMadeOf d (image_in files) now call e → IsThere st.image (image_in files) → IsMeantIn d files st.image
+    → Judges m (server_of st) now id call (d.database.call st.image now call).image v (write_turn d.database m (server_of st) now id call false)
+judged_here d m st files now id call e v grows judged made there meant = judged_turn d m st now id call e v grows judged (made_here d files st.image now call e meant there made)

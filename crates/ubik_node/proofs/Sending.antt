@@ -8,7 +8,7 @@ use Rattle.cell_model.specs.declared.events.Output.{Output}
 use Rattle.cell_model.specs.declared.events.Output.TheVariants.{Send}
 use Rattle.cell_model.specs.Step.{Member, outputs_of, packet_to, sends_from}
 
-parted : (hosts : List Host) (k : ℕ) (host : Host) → k < length hosts → slice_get hosts k ≡ Some host → drop k hosts ≡ host ∷ drop (k + 1) hosts
+pub parted : (hosts : List Host) (k : ℕ) (host : Host) → k < length hosts → slice_get hosts k ≡ Some host → drop k hosts ≡ host ∷ drop (k + 1) hosts
 parted hosts k host inside at = let same = get_or_from_slice_get hosts k host host at in rw add-one (drop-cons hosts k host inside ∙ ap (λ (x : Host). x ∷ drop (suc k) hosts) same)
 
 -- what is put out from a place on, the same packet to each

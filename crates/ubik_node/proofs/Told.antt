@@ -1,5 +1,6 @@
 -- What a server tells of its database, and hears of those of others.
-use Rattle.std.proofs.Common.{◌≡◌, ◌++◌, ◌==◌, ◌&&◌, ◌||◌, ◌⊎◌, inl, inr, ℕ, Bool, true, false, nat_lt, Option, None, List, [], length, refl, ap, ◌∙◌}
+use Rattle.std.proofs.Common.{◌≡◌, ◌++◌, ◌==◌, ◌&&◌, ◌||◌, ◌⊎◌, inl, inr, ℕ, Bool, true, false, nat_lt, Option, Some, None, is_some, List, [], length, refl, ap, ◌∙◌}
+use Rattle.std.specs.Option.{option_map}
 use Rattle.ubik_types.specs.declared.hosts.Host.{Host}
 use Rattle.ubik_types.specs.declared.phases.Phase.{Phase}
 use Rattle.ubik_types.specs.declared.phases.Phase.TheVariants as phase
@@ -14,6 +15,7 @@ use Rattle.cell_model.specs.Pieces.{piece_from}
 use Rattle.cell_model.specs.Receiver.{answers_version_is, get_piece_received}
 use Rattle.cell_model.specs.Recovery.{fetch_refused, holder_added, lacking_sent, next_sent, piece_kept_received, sent_piece, told_to_spread, version_is_received}
 use Rattle.cell_model.specs.Step.{Member, outputs_of, quiet, sends_to, showing}
+use Rattle.site_writes.specs.OwnWrite.{OwnRecord}
 use Rattle.ubik_recovery.specs.Record.{RecoveryRecord, best_of, host_of, phase_record, polled_of, record_in, spread_of}
 use Rattle.ubik_node.specs.Spreading.{IsSpreading, answer_heard}
 
@@ -65,6 +67,29 @@ module _ (m : Member) (s : Server) (host : Host) where
         by_phase phase.Send is = ap (λ (f : Option Flight). next_sent m s host (polled_of r) version next f) none ∙ rw goes refl
         by_phase phase.Ready is = ap (λ (f : Option Flight). next_sent m s host (polled_of r) version next f) none ∙ rw goes refl
 
+    -- while a write is in flight nothing is sent
+    pub next_held : (next : ℕ) → is_some s.flight ≡ true → piece_kept_received m s host version next (phase_record v r) ≡ quiet s
+    next_held next writes = by_phase r.phase
+      where
+        by_flight : (f : Option Flight) → is_some f ≡ true → next_sent m s host (polled_of r) version next f ≡ quiet s
+        by_flight None is = absurd cc
+        by_flight (Some f) is = refl
+
+        by_phase : (p : Phase) → piece_kept_received m s host version next (record_in p v r) ≡ quiet s
+        by_phase phase.None = refl
+        by_phase phase.Poll = refl
+        by_phase phase.Fetch = refl
+        by_phase phase.Relabel = refl
+        by_phase phase.Send = by_flight s.flight writes
+        by_phase phase.Ready = by_flight s.flight writes
+
+    pub lacks_held : (f : Option Flight) → is_some f ≡ true → lacking_sent m s host (polled_of r) (spread_of r) version f ≡ quiet s
+    lacks_held None is = absurd cc
+    lacks_held (Some f) is = refl
+
+    pub lacks_free : (f : Option Flight) → f ≡ None → lacking_sent m s host (polled_of r) (spread_of r) version f ≡ lacking_sent m s host (polled_of r) (spread_of r) version None
+    lacks_free f none = ap (lacking_sent m s host (polled_of r) (spread_of r) version) none
+
     pub lacks_version : (s.version.counter == 1 && version_eq version r.old_version) ≡ true
         → lacking_sent m s host (polled_of r) (spread_of r) version None ≡ showing s (sends_to m host (body.SetVersion r.poll r.old_version s.version))
     lacks_version is = rw is refl
@@ -79,9 +104,9 @@ module _ (m : Member) (s : Server) (host : Host) where
       pub told_same : (number : ℕ) → (number == r.poll) ≡ true → version_eq version s.version ≡ true → told_to_spread db m s now host k (polled_of r) (spread_of r) number version short ≡ holder_added db m s now k short
       told_same number counts is = rw (counts, is) refl
 
-      pub told_other : (number : ℕ) → (number == r.poll) ≡ true → version_eq version s.version ≡ false → s.flight ≡ None
-          → told_to_spread db m s now host k (polled_of r) (spread_of r) number version short ≡ lacking_sent m s host (polled_of r) (spread_of r) version None
-      told_other number counts is none = rw (counts, is) (ap (λ (f : Option Flight). lacking_sent m s host (polled_of r) (spread_of r) version f) none)
+      pub told_other : (number : ℕ) → (number == r.poll) ≡ true → version_eq version s.version ≡ false
+          → told_to_spread db m s now host k (polled_of r) (spread_of r) number version short ≡ lacking_sent m s host (polled_of r) (spread_of r) version s.flight
+      told_other number counts is = rw (counts, is) refl
 
       -- version told, by the phase
       pub heard_poll : (number : ℕ) → r.phase ≡ phase.Poll → version_is_received db m s now host k number version short (phase_record v r) ≡ answer_heard m s now (polled_of r) k number version
@@ -104,3 +129,12 @@ module _ (m : Member) (s : Server) (host : Host) where
       pub heard_none : (number : ℕ) → (r.phase ≡ phase.None) ⊎ (r.phase ≡ phase.Relabel) → version_is_received db m s now host k number version short (phase_record v r) ≡ quiet s
       heard_none number (inl is) = ap (λ (p : Phase). version_is_received db m s now host k number version short (record_in p v r)) is
       heard_none number (inr is) = ap (λ (p : Phase). version_is_received db m s now host k number version short (record_in p v r)) is
+
+-- whether a write is in flight, as the rules have it
+pub flight_none : (b : Bool) (own : Option OwnRecord) → b ≡ is_some own → b ≡ false → option_map (λ (write : OwnRecord). write.flight) own ≡ None
+flight_none b None is off = refl
+flight_none b (Some write) is off = absurd cc
+
+pub flight_some : (b : Bool) (own : Option OwnRecord) → b ≡ is_some own → b ≡ true → is_some (option_map (λ (write : OwnRecord). write.flight) own) ≡ true
+flight_some b None is on = absurd cc
+flight_some b (Some write) is on = refl

@@ -214,7 +214,7 @@ module _ {D : Type 0} (g : Ghosts D) (n : Held D) (was : IsKept g n) (up : n.hal
       call_failed g n was up n.store (reads_none g n.store.disk) (λ none. none) was.sound (record { version = refl; len = refl; begun = refl; failed = refl }) mid sound changes v image first leads same cuts count refl long e ends newer fits durably in
       record {
         made = λ _. tt;
-        failed = λ _.
+        failed = λ known _.
             subst (λ (all : List Made). FailsIn g (durable_in n.server) n.store.disk mid.disk all) (sym calls)
             (fails_first g n.store.disk mid.disk (durable_in n.server) first second n.store mid changes refl refl (was.sound.ready (was.failed ∙ up)) count
             (leaves_one g n.store mid (durable_in n.server) changes v image first (was.image up) (was.version up) leads same cuts durably) durably.few);
@@ -281,7 +281,7 @@ module _ {D : Type 0} (g : Ghosts D) (n : Held D) (was : IsKept g n) (up : n.hal
         → Ends g knows t before after n (record n { store = later }) (Err e)
     second_failed calls DiskFault ends some newer durably_too = record {
       made = λ _. tt;
-      failed = λ _.
+      failed = λ known _.
           subst (λ (all : List Made). FailsIn g (durable_in n.server) n.store.disk later.disk all) (sym calls)
           (fails_second g n.store.disk mid.disk (durable_in n.server) first second later.disk tells label one durably.calls.advances
           (subst (λ (e : Durable). FailsIn g e mid.disk later.disk (second ∷ [])) (sym same)

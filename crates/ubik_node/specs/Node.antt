@@ -155,12 +155,12 @@ pub record IsMade {D : Type 0} (g : Ghosts D) (t : Stepped) (before after : List
   pub outputs : after ≡ before ++ outputs_of t.shown
   pub disk : Serves g (durable_in old.server) old.store.disk new.store.disk t.calls
 
--- How a rule ended at a node that is not halted. It was made, as far as the disk tells what that needs; or the disk failed in it; or memory
+-- How a rule ended at a node that is not halted. As far as the disk tells what that needs, it was made, or the disk failed in it; or memory
 -- ran out, and nothing changed. Where the disk failed the server keeps what a halted one tells. Where a rule was not made, what was put out
 -- counts for nothing.
 pub record Ends {D : Type 0} (g : Ghosts D) (knows : Type 0) (t : Stepped) (before after : List Output) (old new : Held D) (r : Result (Unit {0}) StoreFault) : Type 0 where
   pub made : knows → OnOk r (IsMade g t before after old new)
-  pub failed : IsErrOf r fault.DiskFault → FailsIn g (durable_in old.server) old.store.disk new.store.disk t.calls
+  pub failed : knows → IsErrOf r fault.DiskFault → FailsIn g (durable_in old.server) old.store.disk new.store.disk t.calls
   pub short : IfErr r (λ why. why ≢ fault.DiskFault → (why ≡ fault.NoMemory) × OnlyReads g old.store.disk new.store.disk ⊥)
   pub state : IfErr r (λ why. why ≢ fault.DiskFault → new.server ≡ old.server)
   pub keeps : IsErrOf r fault.DiskFault → model.halted_from new.server ≡ model.halted_from old.server

@@ -1,6 +1,7 @@
 -- What becomes of a call.
-use Rattle.std.specs.Prelude.{◌≡◌, ℕ, Bool, List, [], ◌∷◌, IfSome, Result, Ok, Err}
+use Rattle.std.specs.Prelude.{◌≡◌, ◌≤◌, ◌+◌, ℕ, Bool, List, [], ◌∷◌, length, IfSome, Result, Ok, Err}
 use Rattle.disk_base.specs.declared.disks.Disk.{Ghosts}
+use Rattle.disk_base.specs.Runs.{OnlyReads}
 use Rattle.ubik_calls.specs.declared.replies.Reply.{Reply}
 use Rattle.ubik_calls.specs.declared.replies.Reply.TheVariants as reply
 use Rattle.ubik_store.specs.declared.faults.StoreFault.{StoreFault}
@@ -39,6 +40,12 @@ abbrev pub ReadsFrom : {D : Type 0} → Ghosts D → Standing → (old new : Hel
 ReadsFrom g d old new image now id call before after r =
     (short : List Bool) × ((basis : Basis) → Ends g (IsMeantIn d (g.files old.store.disk) image) (read d.database old.server now id call image basis (is_short short))
     before after old new r)
+
+-- a call was only replied to, and nothing changed
+pub record IsRepliedTo {D : Type 0} (g : Ghosts D) (before after : List Output) (old new : Held D) : Type 0 where
+  pub server : new.server ≡ old.server
+  pub reads : OnlyReads g old.store.disk new.store.disk ⊥
+  pub few : length after ≤ length before + 1
 
 -- the reply to a call that reads, given what the database made of it
 abbrev pub IsReadReply : Result code.Evaluation StoreFault → Reply → Type 0

@@ -35,11 +35,11 @@ pub record IsWritten (old new : List ℕ) (changes : List Change) : Type 0 where
   pub fits : length new ≤ MAX_IMAGE
   pub puts : CutsNoPut changes
 
--- changes are to be made only where there is a next counter, whatever they lead to
+-- changes are to be made only where there is a next counter, and within the limits, whatever they lead to
 abbrev pub CanBeMade : Server → Verdict → Type 0
 CanBeMade s (verdict.Reply r) = Unit {0}
 CanBeMade s verdict.NewPoll = Unit {0}
-CanBeMade s (verdict.Commit answer changes) = s.version.counter < MAX_COUNTER
+CanBeMade s (verdict.Commit answer changes) = (s.version.counter < MAX_COUNTER) × (too_large 0 (length s.image) changes ≡ None)
 
 -- the step at a turn, given the verdict on its call, which leads to this image
 abbrev pub Judges : Member → Server → (now id : ℕ) → (call image : List ℕ) → Verdict → Stepped → Type 0

@@ -3,7 +3,7 @@ use Rattle.std.specs.Prelude.{◌≡◌, ℕ, ◌+◌, ◌<◌, ◌≤◌, nat_l
 use Rattle.lock_table.specs.declared.tables.TheConstants.{MAX_WAITING}
 use Rattle.std.specs.Option.{ForSome}
 use Rattle.ubik_types.specs.declared.hosts.Host.{Host}
-use Rattle.ubik_types.specs.declared.limits.TheConstants.{SMALLTIME}
+use Rattle.ubik_types.specs.declared.limits.TheConstants.{MAX_IMAGE, SMALLTIME}
 use Rattle.ubik_types.specs.declared.versions.Version.{Version}
 use Rattle.ubik_types.specs.Phase.{Polled, Spread}
 use Rattle.ubik_calls.specs.declared.packets.Body.{Body}
@@ -37,9 +37,10 @@ abbrev pub announced_of : Version → Option OwnRecord → Version
 announced_of own None = own
 announced_of own (Some write) = write.kept.old_version
 
--- the image before a write is what the bytes that are kept of it make of the image after it
-abbrev pub IsUndoneOf : List ℕ → OwnRecord → Type 0
-IsUndoneOf image write = write.flight.old_image ≡ image_before write.kept.undo write.kept.old_len image
+-- the image before a write is what the bytes that are kept of it make of the image after it, and is no longer than an image may be
+pub record IsUndoneOf (image : List ℕ) (write : OwnRecord) : Type 0 where
+  pub bytes : write.flight.old_image ≡ image_before write.kept.undo write.kept.old_len image
+  pub fits : write.kept.old_len ≤ MAX_IMAGE
 
 -- The writes of a server in a cell of so many, over this image. One that is in flight has others to go to, and those wait that find room; a
 -- server that is alone has every write at once.

@@ -1,6 +1,7 @@
 //! Calls that a server is asked: they are read, written, put into the line of those that wait, or refused.
 ghost use Rattle.std.specs.Prelude.{◌≡◌, ◌<◌, ◌≤◌, ◌+◌, ◌++◌, ◌∷◌, ◌⊎◌, ◌↔◌, ℕ, List, None, [], false, true, length, take, IsErrOf, IsOk, IsSome, OnErr, OnOk};
 ghost use Rattle.ubik_types.specs.declared.versions.TheConstants.{MAX_COUNTER};
+ghost use Rattle.ubik_types.specs.Logged.{too_large};
 ghost use Rattle.cell_model.specs.declared.events.Output.TheVariants as outputs;
 ghost use Rattle.ubik_node.specs.Recovering.{IsServing};
 ghost use Rattle.ubik_node.specs.Serving.{IsReadReply};
@@ -26,7 +27,7 @@ impl<D: SteadyDisk, V: DraftService> Node<D, V> {
     ghost use Rattle.cell_model.specs.Step.{is_short};
     ghost use Rattle.cell_model.specs.Writes.{announced_image, is_free, next_version, write_turn, written_in};
     ghost use Rattle.ubik_node.specs.Node.{AreMeantIn, Ends, EndsSo, held, IsMeantIn, IsStored, own_member, up_server};
-    ghost use Rattle.ubik_node.specs.Serving.{ReadsFrom};
+    ghost use Rattle.ubik_node.specs.Serving.{IsRepliedTo, ReadsFrom};
     ghost use Rattle.ubik_node.specs.Verdict.{IsWritten};
 
     /// A call at a server that is not halted, after the lapse. Want of memory is a reply to it.
@@ -114,7 +115,7 @@ impl<D: SteadyDisk, V: DraftService> Node<D, V> {
             (λ short. write_turn V.standing.database (own_member self.old) (up_server self.old) now id call.now (is_short short))
             out.old out.new (held self.old) (held self.new) result }
         ensures line { length (waiting_of self.new.state.writes) ≤ length (waiting_of self.old.state.writes) }
-        ensures few { 1 < length self.old.state.cell → is_free (up_server self.new) ≡ true → length out.new ≤ length out.old + 1 }
+        ensures rests { 1 < length self.old.state.cell → OnOk result (is_free (up_server self.new) ≡ true → IsRepliedTo D.Disk out.old out.new (held self.old) (held self.new)) }
         ensures memory { IsErrOf result StoreFault.DiskFault ⊎ IsOk result }
     {
         let before = out.len();
@@ -148,6 +149,7 @@ impl<D: SteadyDisk, V: DraftService> Node<D, V> {
             out.old out.new (held self.old) (held self.new) result }
         ensures front { OnErr result (take (length out.old) out.new ≡ out.old) }
         ensures line { length (waiting_of self.new.state.writes) ≤ length (waiting_of self.old.state.writes) }
+        ensures rests { 1 < length self.old.state.cell → OnOk result (is_free (up_server self.new) ≡ true → IsRepliedTo D.Disk out.old out.new (held self.old) (held self.new)) }
     {
         let made = evaluate::<D, V>(self.alloc, &mut self.store, now, call)?;
         match verdict_of::<V>(&self.state, made) {
@@ -178,9 +180,9 @@ impl<D: SteadyDisk, V: DraftService> Node<D, V> {
         requires free { own_of self.old.state.writes ≡ None }
         requires counter { self.old.state.version.counter < MAX_COUNTER }
         requires alone { length self.old.state.cell ≡ 1 }
+        requires within { too_large 0 (length self.old.state.image) changes.now ≡ None }
         requires few { length out.old ≤ 180 }
-        ensures ends { (now : ℕ) (call image : List ℕ) → IsWritten self.old.state.image image changes.now
-            → Ends D.Disk (IsSome (D.files self.old.store.disk))
+        ensures ends { (now : ℕ) (call image : List ℕ) → Ends D.Disk (IsSome (D.files self.old.store.disk) × IsWritten self.old.state.image image changes.now)
             (written_in (own_member self.old) (up_server self.old) now id call answer image changes.now (up_server self.old).phase)
             out.old out.new (held self.old) (held self.new) result }
         ensures front { OnErr result (take (length out.old) out.new ≡ out.old) }

@@ -2,6 +2,7 @@
 ghost use Rattle.std.specs.Prelude.{◌≡◌, ◌≤◌, ◌<◌, ◌+◌, ◌++◌, ◌⊎◌, if◌then◌else◌, ℕ, None, [], length, take, false, IfOk, IfErr, IfSome, IsErrOf, IsSome, List, OnErr, OnOk};
 ghost use Rattle.ubik_types.specs.declared.limits.TheConstants.{MAX_IMAGE};
 ghost use Rattle.ubik_types.specs.declared.versions.TheConstants.{MAX_COUNTER};
+ghost use Rattle.ubik_types.specs.Logged.{too_large};
 ghost use Rattle.ubik_types.specs.Quorum.{marked};
 ghost use Rattle.ubik_types.specs.Version.{IsVersion};
 ghost use Rattle.disk_base.specs.Runs.{OnlyReads};
@@ -52,6 +53,7 @@ pub fn flight_over<D: SteadyDisk>(
     requires fresh { store.old.failed ≡ false }
     ensures flight { IfOk result (λ f. IsFlightOf id old new now changes.now f) }
     ensures undo { IfOk result (λ f. IfSome (image_in (D.files store.old.disk)) (λ bytes. Undoes f bytes changes.now)) }
+    ensures len { IfOk result (λ f. f.old_len ≡ store.old.len) }
     ensures sound { IsSound D.Disk store.new }
     ensures same { ¬ IsErrOf result StoreFault.DiskFault → StaysAsItWas store.old store.new }
     ensures failed { IsErrOf result StoreFault.DiskFault → HasFailed store.old store.new }
@@ -119,6 +121,7 @@ impl State {
         requires free { own_of self.old.writes ≡ None }
         ensures server { server_of self.new ≡ server_of self.old }
         ensures kept { Keeps self.old self.new }
+        ensures recovery { self.new.recovery ≡ self.old.recovery }
         ensures held { OnOk result (HasPlace id self.new.writes) }
     {
         if self.writes.is_none() {
@@ -275,10 +278,11 @@ impl<D: SteadyDisk, V: DraftService> Node<D, V> {
         requires free { own_of self.old.state.writes ≡ None }
         requires counter { self.old.state.version.counter < MAX_COUNTER }
         requires others { 1 < length self.old.state.cell }
-        ensures ends { (image : List ℕ) → IsWritten self.old.state.image image changes.now
-            → Ends D.Disk (IsSome (D.files self.old.store.disk))
+        requires within { too_large 0 (length self.old.state.image) changes.now ≡ None }
+        ensures ends { (image : List ℕ) → Ends D.Disk (IsSome (D.files self.old.store.disk) × IsWritten self.old.state.image image changes.now)
             (written_in (own_member self.old) (up_server self.old) now id call.now answer image changes.now (up_server self.old).phase)
             out.old out.new (held self.old) (held self.new) result }
+        ensures writing { OnOk result (IsSome (own_of self.new.state.writes)) }
         ensures front { OnErr result (take (length out.old) out.new ≡ out.old) }
         ensures line { length (waiting_of self.new.state.writes) ≤ length (waiting_of self.old.state.writes) }
     {

@@ -1,11 +1,12 @@
 //! Lapse: how each step of a server that is not halted begins. What it drops is given out, and comes back where the step is not made.
 ghost use Rattle.std.specs.Prelude.{◌≡◌, ◌≤◌, ◌+◌, ◌++◌, [], length, None, IfSome, IsSome};
-ghost use Rattle.cell_model.specs.Lapse.{lapsed, writes_refused};
+ghost use Rattle.ubik_types.specs.Phase.{NoPhase};
+ghost use Rattle.cell_model.specs.Lapse.{lapsed, without_writes, writes_refused};
 ghost use Rattle.cell_model.specs.Node.{halted_from};
-ghost use Rattle.cell_model.specs.Step.{outputs_of, sends_to_all};
-ghost use Rattle.ubik_recovery.specs.Record.{given_out, in_phase};
+ghost use Rattle.cell_model.specs.Step.{outputs_of, sends_to_all, with_phase};
+ghost use Rattle.ubik_recovery.specs.Record.{given_out};
 ghost use Rattle.ubik_node.specs.Recovering.{IsOfCell, IsServing};
-ghost use Rattle.ubik_node.specs.Writing.{is_late, own_of};
+ghost use Rattle.ubik_node.specs.Writing.{is_late, own_of, waiting_of};
 
 use crate::outputs::Outputs;
 use crate::state::State;
@@ -21,6 +22,7 @@ pub struct Dropped {
     pub recovery: Recovery,
     pub writes: Option<SiteWrites>,
     ghost serving: { IsSome (own_of writes) → IsServing recovery },
+    ghost line: { ¬ IsServing recovery → waiting_of writes ≡ [] },
 }
 
 impl State {
@@ -94,7 +96,7 @@ impl State {
     fn give_out(&mut self) -> Dropped
         ensures recovery { result.recovery ≡ given_out self.old.recovery }
         ensures writes { result.writes ≡ self.old.writes }
-        ensures after { self.new.recovery ≡ in_phase self.old.recovery Phase.None 0 }
+        ensures after { server_of self.new ≡ with_phase (without_writes (server_of self.old)) NoPhase }
         ensures none { self.new.writes ≡ None }
         ensures kept { Keeps self.old self.new }
     {

@@ -1,5 +1,5 @@
 //! The line of those that wait for the write in flight, and their turns.
-ghost use Rattle.std.specs.Prelude.{◌≡◌, ◌≤◌, ◌<◌, ◌+◌, ◌⊎◌, Bool, None, length, false, IfSome, IsErrOf, IsOk, IsSome};
+ghost use Rattle.std.specs.Prelude.{◌≡◌, ◌≤◌, ◌<◌, ◌+◌, ◌⊎◌, Bool, None, [], length, false, IfSome, IsErrOf, IsOk, IsSome};
 ghost use Rattle.cell_model.specs.Asks.{put_into_line};
 ghost use Rattle.cell_model.specs.Writes.{is_free, last_counter, next_turns, settled_with_turns};
 ghost use Rattle.ubik_node.specs.Writing.{own_of, waiting_of};
@@ -107,6 +107,7 @@ impl<D: SteadyDisk, V: DraftService> Node<D, V> {
             (λ short. next_turns V.standing.database (own_member self.old) now (up_server self.old).waiting (up_server self.old) short)
             out.old out.new (held self.old) (held self.new) result }
         ensures memory { IsErrOf result StoreFault.DiskFault ⊎ IsOk result }
+        ensures nobody { waiting_of self.old.state.writes ≡ [] → IsOk result }
     {
         while self.state.is_free() {
             let Some(asked) = self.state.next_asked() else {

@@ -1,5 +1,5 @@
 //! The list that a step leaves.
-ghost use Rattle.std.specs.Prelude.{◌≡◌, ◌<◌, ◌++◌, ◌∷◌, [], length, take, IfOk, IsNone, OnOk, OnErr, option_to_list};
+ghost use Rattle.std.specs.Prelude.{◌≡◌, ◌<◌, ◌++◌, ◌∷◌, [], length, take, IfOk, IsNone, OnOk, OnErr, option_copied, option_to_list, slice_get};
 
 use cell_model::Output;
 use std::alloc::Global;
@@ -47,10 +47,17 @@ impl Outputs {
     }
 
     /// How many outputs there are.
-    pub(crate) fn len(&self) -> usize
+    pub fn len(&self) -> usize
         ensures { result ≡ length self.now }
     {
         self.list.len()
+    }
+
+    /// The output at a place, counted from 0; none behind the last.
+    pub fn get(&self, place: usize) -> Option<&Output>
+        ensures { option_copied result ≡ slice_get self.now place }
+    {
+        self.list.get(place)
     }
 
     /// Takes all outputs back.

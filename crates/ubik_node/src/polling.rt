@@ -1,5 +1,5 @@
 //! Polls: the servers are asked for their versions, and the best one is fetched. What changes no disk.
-ghost use Rattle.std.specs.Prelude.{◌≡◌, ◌≤◌, ◌<◌, ◌+◌, ◌++◌, ℕ, None, length, false};
+ghost use Rattle.std.specs.Prelude.{◌≡◌, ◌≤◌, ◌<◌, ◌+◌, ◌++◌, ℕ, None, [], length, false};
 ghost use Rattle.ubik_types.specs.Quorum.{marked};
 ghost use Rattle.cell_model.specs.Polls.{is_marked, polling};
 ghost use Rattle.cell_model.specs.Recovery.{asks_versions, fetched_from};
@@ -7,7 +7,7 @@ ghost use Rattle.cell_model.specs.Step.{host_at, outputs_of, sends_to, with_phas
 ghost use Rattle.ubik_recovery.specs.Record.{adopted, best_of, host_of, is_fetch, polled_of};
 ghost use Rattle.ubik_types.specs.Phase as phases;
 ghost use Rattle.ubik_node.specs.Recovering.{IsOfCell, IsServing};
-ghost use Rattle.ubik_node.specs.Writing.{own_of};
+ghost use Rattle.ubik_node.specs.Writing.{own_of, waiting_of};
 
 use crate::outputs::Outputs;
 use crate::state::State;
@@ -108,7 +108,8 @@ impl State {
 
     /// A new poll begins, and sends nothing.
     pub fn begin_poll(&mut self, now: u32)
-        requires { own_of self.old.writes ≡ None }
+        requires free { own_of self.old.writes ≡ None }
+        requires line { waiting_of self.old.writes ≡ [] }
         ensures after { server_of self.new ≡ polling (member_of self.old) (server_of self.old) now }
         ensures kept { Keeps self.old self.new }
     {

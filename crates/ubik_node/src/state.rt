@@ -1,6 +1,6 @@
 //! What a server keeps between two steps, apart from its disk.
 ghost use Rattle.std.specs.Option.{ForSome};
-ghost use Rattle.std.specs.Prelude.{◌≡◌, ◌≤◌, ◌<◌, ◌+◌, ◌++◌, length, None, IfSome, IsSome, is_some, option_copied};
+ghost use Rattle.std.specs.Prelude.{◌≡◌, ◌≤◌, ◌<◌, ◌+◌, ◌++◌, [], length, None, IfSome, IsSome, is_some, option_copied};
 ghost use Rattle.ubik_types.specs.Version.{IsVersion};
 ghost use Rattle.ubik_types.specs.declared.limits.TheConstants.{MAX_IMAGE};
 ghost use Rattle.ubik_types.specs.declared.versions.TheConstants.{MAX_COUNTER};
@@ -10,7 +10,7 @@ ghost use Rattle.ubik_recovery.specs.Record.{held_alone, with_text};
 ghost use Rattle.ubik_recovery.specs.Rules.{recovering};
 ghost use Rattle.ubik_node.specs.Keeping.{IsKeptOver};
 ghost use Rattle.ubik_node.specs.Recovering.{IsOfCell, IsServing};
-ghost use Rattle.ubik_node.specs.Writing.{AreOfCell, announced_of, own_of};
+ghost use Rattle.ubik_node.specs.Writing.{AreOfCell, announced_of, own_of, waiting_of};
 
 use crate::beacons::ReadyBeacon;
 use crate::held_images::HeldImage;
@@ -46,6 +46,7 @@ pub struct State {
     ghost of_cell: { IsOfCell (length cell) recovery },
     ghost begun: { ForSome pending (IsKeptOver version) },
     ghost serving: { IsSome (own_of writes) → IsServing recovery },
+    ghost line: { ¬ IsServing recovery → waiting_of writes ≡ [] },
     ghost written: { AreOfCell (length cell) image writes },
 }
 

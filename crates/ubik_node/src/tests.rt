@@ -6,8 +6,7 @@ ghost use Rattle.db_image.specs.Ends.{EndsBy, IsShort};
 ghost use Rattle.db_image.specs.Images.{IsOfImage, OnlyReads};
 ghost use Rattle.ubik_node.specs.Appending.{appended, appending};
 ghost use Rattle.ubik_node.specs.Built.{IsBuilt};
-ghost use Rattle.ubik_node.specs.Node.{IsStored, node_of, own_member, up_server};
-ghost use Rattle.ubik_types.specs.Phase.{phase_of};
+ghost use Rattle.ubik_node.specs.Node.{IsStored, own_member};
 
 use super::*;
 use db_image::{CallEnd, Draft, DraftService, ImageRead, RecordFault};
@@ -388,7 +387,7 @@ pub(crate) fn is_answer(output: &Option<Output>, wanted: u32, answer: &[u8]) -> 
     }
 }
 
-fn is_elsewhere(output: &Option<Output>, wanted: u32, heard: (Host, u32)) -> bool {
+pub(crate) fn is_elsewhere(output: &Option<Output>, wanted: u32, heard: (Host, u32)) -> bool {
     match output {
         Some(
             Output::Reply {
@@ -649,13 +648,6 @@ fn no_second_yes_within_75_seconds(rt: HostRuntime) -> Result<(), Fail> {
     Ok(())
 }
 
-/// Whether calls are served at a server.
-fn is_ready<D: SteadyDisk>(node: &Server<D>) -> bool
-    ensures { IsTrue result ↔ (phase_of (up_server node.now).phase ≡ Phase.Ready) }
-{
-    matches!(node.phase(), Phase::Ready)
-}
-
 /// A call that the server names the sync site for, which it heard at 1076.
 fn sends_on<D: SteadyDisk>(
     rt: &impl Abort,
@@ -666,18 +658,8 @@ fn sends_on<D: SteadyDisk>(
     requires stored { IsStored D.Disk node.old }
     ensures stored { IsStored D.Disk node.new }
 {
-    let (now, id, bytes) = asked;
-    let call = bytes_of(alloc, bytes)?;
-    let serves = is_ready(node);
-    assert!(rt; !serves);
-    let mut out = step(
-        rt,
-        alloc,
-        node,
-        now,
-        NodeEvent::Ask { id, call },
-        StepEnd::Done,
-    )?;
+    let (_, id, _) = asked;
+    let mut out = ask(rt, alloc, node, asked, StepEnd::Done)?;
     assert!(rt; is_elsewhere(&out.take(), id, (Host(1), 1076)), "call {id}");
     Ok(())
 }

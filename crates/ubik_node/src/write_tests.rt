@@ -5,14 +5,17 @@ ghost use Rattle.ubik_node.specs.Built.{IsBuilt};
 ghost use Rattle.ubik_node.specs.Node.{IsStored};
 
 use super::*;
-use crate::tests::{Server, ask, is_announcement, is_answer, revived, step, version};
+use crate::tests::{
+    Server, ask, ended, is_announcement, is_answer, is_disk_fault, is_elsewhere, revived, step,
+    version,
+};
 use crate::transfer_tests::comes;
 use disk_base::MemDisk;
 use std::alloc::Global;
 use std::collections::VecDeque;
 use std::process::Abort;
 use std::test::Fail;
-use ubik_types::{Applied, Cell, Host, Phase, Version};
+use ubik_types::{Applied, Cell, Host, Phase, Version, bytes_of};
 
 /// Three servers of a cell, hosts 1 to 3, of which host 1 is to be the sync site.
 #[derive(Drop)]
@@ -227,14 +230,15 @@ impl<D: SteadyDisk> Three<D> {
     }
 }
 
-/// A cell of three in which host 1 serves from 2026 on, under version 2026.1, and all have the empty image.
-fn elected(rt: &impl Abort, alloc: Global) -> Result<Three<MemDisk>, Fail>
+/// A cell of three in which host 1 serves from 2026 on, under version 2026.1, and all have the empty image. The calls of these numbers
+/// fail on the disk of host 1.
+fn elected_over(rt: &impl Abort, alloc: Global, failing: &[u64]) -> Result<Three<MemDisk>, Fail>
     ensures first { IfOk result (λ three. IsStored MemDisk.Disk three.first) }
     ensures second { IfOk result (λ three. IsStored MemDisk.Disk three.second) }
     ensures third { IfOk result (λ three. IsStored MemDisk.Disk three.third) }
 {
     let mut three = Three {
-        first: server(rt, alloc, revived(MemDisk::new(alloc, &[])?), 0)?,
+        first: server(rt, alloc, revived(MemDisk::new(alloc, failing)?), 0)?,
         second: server(rt, alloc, revived(MemDisk::new(alloc, &[])?), 1)?,
         third: server(rt, alloc, revived(MemDisk::new(alloc, &[])?), 2)?,
         way: VecDeque::new(alloc),
@@ -247,6 +251,24 @@ fn elected(rt: &impl Abort, alloc: Global) -> Result<Three<MemDisk>, Fail>
     assert!(rt; is_announcement(&three.told.pop_front(), version(2026, 1)));
     assert!(rt; three.told.is_empty());
     Ok(three)
+}
+
+/// So over disks on which no call fails.
+fn elected(rt: &impl Abort, alloc: Global) -> Result<Three<MemDisk>, Fail>
+    ensures first { IfOk result (λ three. IsStored MemDisk.Disk three.first) }
+    ensures second { IfOk result (λ three. IsStored MemDisk.Disk three.second) }
+    ensures third { IfOk result (λ three. IsStored MemDisk.Disk three.third) }
+{
+    elected_over(rt, alloc, &[])
+}
+
+/// A host tells host 1 that it has a version.
+fn has_kept(from: Host, version: Version) -> Packet {
+    Packet {
+        from,
+        to: Host(1),
+        body: Body::VersionKept { version },
+    }
 }
 
 /// The version that the beacon on the way to host 2 names, of a server that claims and is ready.
@@ -276,24 +298,17 @@ fn a_write_is_answered_once_a_second_server_has_it(rt: HostRuntime) -> Result<()
         (version(2026, 2), 3)
     );
     assert_eq!(rt; three.way.len(), 6);
-    // Meanwhile reads see the image before it, and beacons name its version.
+    // Meanwhile reads see the image before it, and a late word of the version before it does not count.
     three.reads(&rt, alloc, (2028, 8), b"")?;
+    three.arrives(&rt, alloc, 2028, has_kept(Host(3), version(2026, 1)))?;
+    assert!(rt; three.told.is_empty() && three.way.len() == 6);
     three.all_come(&rt, alloc, 2028, Lost::OfThird)?;
     assert!(rt; is_announcement(&three.told.pop_front(), version(2026, 2)));
     assert!(rt; is_answer(&three.told.pop_front(), 7, b""));
     three.reads(&rt, alloc, (2029, 9), b"abc")?;
     assert_eq!(rt; three.second.version(), version(2026, 2));
     assert_eq!(rt; three.third.version(), version(2026, 1));
-    // A late word of the version before does nothing; the third server is sent the image.
-    let late = Packet {
-        from: Host(3),
-        to: Host(1),
-        body: Body::VersionKept {
-            version: version(2026, 1),
-        },
-    };
-    three.arrives(&rt, alloc, 2030, late)?;
-    assert!(rt; three.told.is_empty() && three.way.is_empty());
+    // The third server is sent the image.
     three.turn(&rt, alloc, 2031, NodeEvent::RecoverTurn, Lost::Nothing)?;
     assert_eq!(rt;
         (three.third.version(), three.third.len()),
@@ -317,6 +332,49 @@ fn beacons_name_the_announced_version(rt: HostRuntime) -> Result<(), Fail> {
     three.at_first(&rt, alloc, 2056, NodeEvent::BeaconTurn)?;
     assert_eq!(rt; named(&rt, &three.way), version(2026, 2));
     Ok(())
+}
+
+/// What host 2 reads at a moment: these bytes, or where to ask, since host 1 claimed at another moment.
+fn second_reads(
+    rt: &impl Abort,
+    alloc: Global,
+    three: &mut Three<MemDisk>,
+    asked: (u32, u32),
+    wanted: Result<&[u8], u32>,
+) -> Result<(), Fail>
+    requires first { IsStored MemDisk.Disk three.old.first }
+    requires second { IsStored MemDisk.Disk three.old.second }
+    requires third { IsStored MemDisk.Disk three.old.third }
+    ensures first { IsStored MemDisk.Disk three.new.first }
+    ensures second { IsStored MemDisk.Disk three.new.second }
+    ensures third { IsStored MemDisk.Disk three.new.third }
+{
+    let (now, id) = asked;
+    let mut out = ask(rt, alloc, &mut three.second, (now, id, b""), StepEnd::Done)?;
+    let reply = out.take();
+    match wanted {
+        Ok(bytes) => {
+            assert!(rt; is_answer(&reply, id, bytes), "at {now}");
+        }
+        Err(heard) => {
+            assert!(rt; is_elsewhere(&reply, id, (Host(1), heard)), "at {now}");
+        }
+    }
+    Ok(())
+}
+
+#[test]
+fn another_server_reads_what_its_beacon_names(rt: HostRuntime) -> Result<(), Fail> {
+    let alloc = rt.alloc();
+    let mut three = elected(&rt, alloc)?;
+    three.turn(&rt, alloc, 2041, NodeEvent::BeaconTurn, Lost::Nothing)?;
+    second_reads(&rt, alloc, &mut three, (2042, 1), Ok(b""))?;
+    three.asks(&rt, alloc, (2043, 7, b"abc"))?;
+    three.all_come(&rt, alloc, 2043, Lost::Nothing)?;
+    // It has the write, and keeps a beacon that names the version before it.
+    second_reads(&rt, alloc, &mut three, (2044, 2), Err(2041))?;
+    three.turn(&rt, alloc, 2056, NodeEvent::BeaconTurn, Lost::Nothing)?;
+    second_reads(&rt, alloc, &mut three, (2057, 3), Ok(b"abc"))
 }
 
 /// So many bytes.
@@ -392,12 +450,12 @@ fn the_end_of_the_lease_drops_the_writes(rt: HostRuntime) -> Result<(), Fail> {
         three.asks(&rt, alloc, (2027, id, b"x"))?;
     }
     three.all_come(&rt, alloc, 2027, Lost::ButVotes)?;
-    // The lease is that of the votes at 2026.
-    three.turn(&rt, alloc, 2087, NodeEvent::RecoverTurn, Lost::Nothing)?;
+    // The lease is that of the votes at 2026: a majority that comes behind it is none.
+    three.arrives(&rt, alloc, 2087, has_kept(Host(2), version(2026, 2)))?;
     assert!(rt; is_refusal(&three.told.pop_front(), 1, Phase::None, Applied::Unknown));
     assert!(rt; is_refusal(&three.told.pop_front(), 2, Phase::None, Applied::No));
     assert!(rt; is_refusal(&three.told.pop_front(), 3, Phase::None, Applied::No));
-    assert!(rt; three.told.is_empty());
+    assert!(rt; three.told.is_empty() && three.way.is_empty());
     assert_eq!(rt;
         (three.first.phase(), three.first.version()),
         (Phase::None, version(2026, 2))
@@ -443,6 +501,41 @@ fn a_write_of_61_seconds_is_given_up(rt: HostRuntime) -> Result<(), Fail> {
     three.all_come(&rt, alloc, 2088, Lost::Nothing)?;
     assert!(rt; is_announcement(&three.told.pop_front(), version(2088, 1)));
     three.reads(&rt, alloc, (2089, 9), b"abc")
+}
+
+/// The calls of the disk of host 1 up to its second write.
+const BEFORE: u64 = 36;
+
+/// The calls of that write: reads of the image and of what it overwrites, and a commit of one put.
+const WRITE: u64 = 18;
+
+/// A second write over a disk of host 1 on which the call of this number fails: whether it was committed, or else halted the server.
+fn second_write(rt: &impl Abort, alloc: Global, failing: u64) -> Result<bool, Fail> {
+    let mut three = elected_over(rt, alloc, &[failing])?;
+    three.asks(rt, alloc, (2027, 7, b"abc"))?;
+    three.all_come(rt, alloc, 2027, Lost::Nothing)?;
+    let call = bytes_of(alloc, b"d")?;
+    let event = NodeEvent::Ask { id: 8, call };
+    let (end, mut out) = ended(rt, alloc, &mut three.first, 2028, event)?;
+    if end == StepEnd::Done {
+        return Ok(true);
+    }
+    assert_eq!(rt; end, StepEnd::Halted);
+    assert!(rt; is_disk_fault(&out.take(), 8));
+    assert!(rt; out.take().is_none());
+    Ok(false)
+}
+
+#[test]
+fn a_disk_that_fails_in_a_write_sends_nothing(rt: HostRuntime) -> Result<(), Fail> {
+    let alloc = rt.alloc();
+    for number in 1..=WRITE {
+        let committed = second_write(&rt, alloc, BEFORE + number)?;
+        assert!(rt; !committed, "call {number}");
+    }
+    let committed = second_write(&rt, alloc, BEFORE + WRITE + 1)?;
+    assert!(rt; committed);
+    Ok(())
 }
 
 #[test]

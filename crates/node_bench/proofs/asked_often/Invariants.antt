@@ -1,7 +1,6 @@
 use Rattle.std.proofs.Common.{◌≡◌, ◌≤◌}
-use Rattle.cell_model.specs.Step.{cell_size}
-use Rattle.ubik_node.specs.Node.{IsStored, own_member}
+use Rattle.ubik_node.specs.Node.{IsStored}
 use Rattle.node_bench.proofs.asked_often.Given as goal
 
 abbrev pub invariant-loop-id : goal.invariant-loop-id
-invariant-loop-id g l = (l.done ≤ l.id) × IsStored g.D.Disk l.node × (cell_size (own_member l.node) ≡ 1)
+invariant-loop-id g l = (l.done ≤ l.id) × IsStored g.D.Disk l.node

@@ -1,4 +1,4 @@
-use Rattle.std.proofs.Common.{◌∙◌, refl, rules, sym}
+use Rattle.std.proofs.Common.{◌∙◌, List, [], refl, rules, sym}
 use Rattle.std.proofs.lemmas.List.{append-nil}
 use Rattle.ubik_node.specs.Node.{held}
 use Rattle.ubik_node.specs.State.{announced, member_of, server_of}
@@ -7,30 +7,39 @@ use Rattle.ubik_node.proofs.Told.{heard_fetch, heard_none, heard_poll, heard_spr
 use Rattle.ubik_node.proofs.nodes.Node.hear_version.Goals as goal
 
 pub returns-in-Poll : goal.returns-in-Poll
-returns-in-Poll g c = λ db short.
-    let st = c.args.self.now.state in
-    known_ends g.D.Disk (λ told more. told)
-    (same_ends g.D.Disk (heard_poll (member_of st) (server_of st) c.args.host c.args.version (announced st) st.recovery db c.args.now c.args.from short c.args.poll (sym c.phase.ensures ∙ c.in-Poll.is)) c.hear_answer.ensures)
+returns-in-Poll g c =
+    let st = c.args.self.now.state in (
+      [],
+      known_ends g.D.Disk (λ meant more. meant.0)
+          (same_ends g.D.Disk (heard_poll (member_of st) (server_of st) c.args.host c.args.version (announced st) st.recovery g.V.DraftService.standing.database c.args.now c.args.from [] c.args.poll (sym c.phase.ensures ∙ c.in-Poll.is)) c.hear_answer.ensures),
+    )
 
 pub returns-in-Fetch : goal.returns-in-Fetch
-returns-in-Fetch g c = λ db short.
+returns-in-Fetch g c =
     let n = c.args.self.now in
-    let st = n.state in
-    same_ends g.D.Disk
-    (heard_fetch (member_of st) (server_of st) c.args.host c.args.version (announced st) st.recovery db c.args.now c.args.from short c.args.poll (sym c.phase.ensures ∙ c.in-Fetch.is) ∙ c.hear_fetched.ensures.server)
-    (shown_ends g.D.Disk (held n) st c.hear_fetched.new.self c.requires.stored c.requires.not_halted refl refl c.hear_fetched.ensures.kept (record { server = refl; calls = refl; outputs = sym (append-nil c.args.out.now) }))
+    let st = n.state in (
+      [],
+      same_ends g.D.Disk
+          (heard_fetch (member_of st) (server_of st) c.args.host c.args.version (announced st) st.recovery g.V.DraftService.standing.database c.args.now c.args.from [] c.args.poll (sym c.phase.ensures ∙ c.in-Fetch.is) ∙ c.hear_fetched.ensures.server)
+          (shown_ends g.D.Disk (held n) st c.hear_fetched.new.self c.requires.stored c.requires.not_halted refl refl c.hear_fetched.ensures.kept (record { server = refl; calls = refl; outputs = sym (append-nil c.args.out.now) })),
+    )
 
 pub returns-in-Send : goal.returns-in-Send
-returns-in-Send g c = λ db short.
+returns-in-Send g c =
     let st = c.args.self.now.state in
-    same_ends g.D.Disk (heard_spread (member_of st) (server_of st) c.args.host c.args.version (announced st) st.recovery db c.args.now c.args.from short c.args.poll (search rules)) (c.hear_told.ensures db c.args.now short)
+    let short = c.hear_told.ensures.0 in (
+      short,
+      same_ends g.D.Disk (heard_spread (member_of st) (server_of st) c.args.host c.args.version (announced st) st.recovery g.V.DraftService.standing.database c.args.now c.args.from short c.args.poll (search rules)) c.hear_told.ensures.1,
+    )
 
 pub returns-in-None : goal.returns-in-None
-returns-in-None g c = λ db short.
+returns-in-None g c =
     let n = c.args.self.now in
-    let st = n.state in
-    same_ends g.D.Disk (heard_none (member_of st) (server_of st) c.args.host c.args.version (announced st) st.recovery db c.args.now c.args.from short c.args.poll (search rules))
-    (rests_ends g.D.Disk (held n) c.requires.stored c.requires.not_halted (record { server = refl; calls = refl; outputs = sym (append-nil c.args.out.now) }))
+    let st = n.state in (
+      [],
+      same_ends g.D.Disk (heard_none (member_of st) (server_of st) c.args.host c.args.version (announced st) st.recovery g.V.DraftService.standing.database c.args.now c.args.from [] c.args.poll (search rules))
+          (rests_ends g.D.Disk (held n) c.requires.stored c.requires.not_halted (record { server = refl; calls = refl; outputs = sym (append-nil c.args.out.now) })),
+    )
 
 pub hear_answer-requires-clause-moment : goal.hear_answer-requires-clause-moment
 hear_answer-requires-clause-moment g c = c.requires.moment
@@ -67,3 +76,6 @@ hear_told-requires-clause-from g c = c.requires.from
 
 pub hear_told-requires-clause-phase : goal.hear_told-requires-clause-phase
 hear_told-requires-clause-phase g c = search rules
+
+pub hear_fetched-requires : goal.hear_fetched-requires
+hear_fetched-requires g c = λ serves. let not = c.phase.ensures in let fetch = c.in-Fetch.is in absurd cc

@@ -1,4 +1,5 @@
 use Rattle.std.proofs.Common.{◌≡◌, ◌≤◌, ◌∙◌, ℕ, List, [], length, Option, None, sym, ap, subst, arith}
+use Rattle.std.proofs.lemmas.Bool.{false≢true}
 use Rattle.ubik_types.specs.declared.limits.TheConstants.{MAX_IMAGE}
 use Rattle.ubik_types.specs.declared.versions.Version.{Version}
 use Rattle.ubik_votes.specs.Voter.{Voter}
@@ -79,4 +80,7 @@ invariant_of-state g c =
       image_fits = subst (λ (k : ℕ). k ≤ MAX_IMAGE) (sym (ap length c.of.ensures ∙ held_length g.D.Disk s (opened.sound.ready opened.fresh.1))) opened.sound.len;
       of_cell = subst (λ (r : RecoveryRecord). IsOfCell (length c.args.cell) r) (sym (c.in_cell.ensures ∙ ap no_recovery c.len-servers.ensures.len)) (of_none (length c.args.cell));
       begun = λ w is. absurd cc;
+      serving = λ writes. absurd (false≢true writes);
+      line = λ rests. refl;
+      written = record { others = λ writes. absurd (false≢true writes); undone = λ w is. absurd cc; room = omega arith; alone = λ one. refl };
     }

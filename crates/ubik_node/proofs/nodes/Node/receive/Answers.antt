@@ -1,4 +1,4 @@
-use Rattle.std.proofs.Common.{◌≡◌, ◌<◌, ◌∙◌, ℕ, Bool, Some, List, length, slice_get, refl, sym, ap, subst, arith}
+use Rattle.std.proofs.Common.{◌≡◌, ◌<◌, ◌∙◌, inr, ℕ, Bool, Some, List, [], length, slice_get, refl, sym, ap, subst, arith}
 use Rattle.std.proofs.lemmas.List.{append-nil}
 use Rattle.std.proofs.lemmas.Option.{slice_get_within}
 use Rattle.ubik_types.specs.declared.hosts.Host.{Host}
@@ -18,76 +18,120 @@ inside : (hosts : List Host) (k : ℕ) (host : Host) → slice_get hosts k ≡ S
 inside hosts k host there = slice_get_within hosts k host there
 
 pub returns-in_default-clause-ends : goal.returns-in_default-clause-ends
-returns-in_default-clause-ends g c = λ db short.
+returns-in_default-clause-ends g c =
     let n = c.args.self.now in
-    ignored_ends g.D.Disk db (member_of n.state) (server_of n.state) c.args.now c.args.packet.now short _ (placed _ _ _ c.index.ensures.found c.index.ensures.only ∙ c.in_default.is)
-    (rests_ends g.D.Disk (held n) c.requires.stored c.requires.not_halted (record { server = refl; calls = refl; outputs = sym (append-nil c.args.out.now) }))
+    let db = g.V.DraftService.standing.database in
+    (
+      [],
+      ignored_ends g.D.Disk db (member_of n.state) (server_of n.state) c.args.now c.args.packet.now [] _ _ (placed _ _ _ c.index.ensures.found c.index.ensures.only ∙ c.in_default.is)
+          (rests_ends g.D.Disk (held n) c.requires.stored c.requires.not_halted (record { server = refl; calls = refl; outputs = sym (append-nil c.args.out.now) })),
+    )
 
 pub returns-in-Beacon-clause-ends : goal.returns-in-Beacon-clause-ends
-returns-in-Beacon-clause-ends g c = λ db short.
+returns-in-Beacon-clause-ends g c =
     let n = c.args.self.now in
-    placed_ends g.D.Disk db (member_of n.state) (server_of n.state) c.args.now c.args.packet.now short _ c.in-Some.from (body.Beacon c.in-Beacon.start c.in-Beacon.claim c.in-Beacon.ready c.in-Beacon.version) (placed _ _ _ c.index.ensures.found c.index.ensures.only ∙ c.in-Some.is) c.in-Beacon.is
-    (shown_ends g.D.Disk (held n) n.state c.hear_beacon.new.self c.requires.stored c.requires.not_halted refl refl c.hear_beacon.ensures.kept c.hear_beacon.ensures.shows)
+    let db = g.V.DraftService.standing.database in
+    (
+      [],
+      placed_ends g.D.Disk db (member_of n.state) (server_of n.state) c.args.now c.args.packet.now [] _ _ c.in-Some.from (body.Beacon c.in-Beacon.start c.in-Beacon.claim c.in-Beacon.ready c.in-Beacon.version) (placed _ _ _ c.index.ensures.found c.index.ensures.only ∙ c.in-Some.is) c.in-Beacon.is
+          (shown_ends g.D.Disk (held n) n.state c.hear_beacon.new.self c.requires.stored c.requires.not_halted refl refl c.hear_beacon.ensures.kept c.hear_beacon.ensures.shows),
+    )
 
 pub returns-in-Vote-clause-ends : goal.returns-in-Vote-clause-ends
-returns-in-Vote-clause-ends g c = λ db short.
+returns-in-Vote-clause-ends g c =
     let n = c.args.self.now in
-    placed_ends g.D.Disk db (member_of n.state) (server_of n.state) c.args.now c.args.packet.now short _ c.in-Some.from (body.Vote c.in-Vote.start c.in-Vote.yes) (placed _ _ _ c.index.ensures.found c.index.ensures.only ∙ c.in-Some.is) c.in-Vote.is
-    (shown_ends g.D.Disk (held n) n.state c.hear_vote.new.self c.requires.stored c.requires.not_halted refl refl c.hear_vote.ensures.kept (record { server = ap (λ (t : Stepped). t.server) c.hear_vote.ensures.server; calls = ap (λ (t : Stepped). t.calls) c.hear_vote.ensures.server; outputs = sym (append-nil c.args.out.now) }))
+    let db = g.V.DraftService.standing.database in
+    (
+      [],
+      placed_ends g.D.Disk db (member_of n.state) (server_of n.state) c.args.now c.args.packet.now [] _ _ c.in-Some.from (body.Vote c.in-Vote.start c.in-Vote.yes) (placed _ _ _ c.index.ensures.found c.index.ensures.only ∙ c.in-Some.is) c.in-Vote.is
+          (shown_ends g.D.Disk (held n) n.state c.hear_vote.new.self c.requires.stored c.requires.not_halted refl refl c.hear_vote.ensures.kept (record { server = ap (λ (t : Stepped). t.server) c.hear_vote.ensures.server; calls = ap (λ (t : Stepped). t.calls) c.hear_vote.ensures.server; outputs = sym (append-nil c.args.out.now) })),
+    )
 
 pub returns-in-GetVersion-clause-ends : goal.returns-in-GetVersion-clause-ends
-returns-in-GetVersion-clause-ends g c = λ db short.
+returns-in-GetVersion-clause-ends g c =
     let n = c.args.self.now in
-    placed_ends g.D.Disk db (member_of n.state) (server_of n.state) c.args.now c.args.packet.now short _ c.in-Some.from (body.GetVersion c.in-GetVersion.poll) (placed _ _ _ c.index.ensures.found c.index.ensures.only ∙ c.in-Some.is) c.in-GetVersion.is
-    (rests_ends g.D.Disk (held n) c.requires.stored c.requires.not_halted (record {
-      server = refl;
-      calls = refl;
-      outputs =
-          sent_as (member_of n.state) c.args.packet.now.from c.args.out.now c.send.new.out (body.VersionIs c.in-GetVersion.poll n.state.version) (body.VersionIs c.in-GetVersion.poll n.state.version) c.send.ensures.sent
-          refl;
-    }))
+    let db = g.V.DraftService.standing.database in
+    (
+      [],
+      placed_ends g.D.Disk db (member_of n.state) (server_of n.state) c.args.now c.args.packet.now [] _ _ c.in-Some.from (body.GetVersion c.in-GetVersion.poll) (placed _ _ _ c.index.ensures.found c.index.ensures.only ∙ c.in-Some.is) c.in-GetVersion.is
+          (rests_ends g.D.Disk (held n) c.requires.stored c.requires.not_halted (record {
+            server = refl;
+            calls = refl;
+            outputs =
+                sent_as (member_of n.state) c.args.packet.now.from c.args.out.now c.send.new.out (body.VersionIs c.in-GetVersion.poll n.state.version) (body.VersionIs c.in-GetVersion.poll n.state.version) c.send.ensures.sent
+                refl;
+          })),
+    )
 
 pub returns-in-VersionKept-clause-ends : goal.returns-in-VersionKept-clause-ends
-returns-in-VersionKept-clause-ends g c = λ db short.
+returns-in-VersionKept-clause-ends g c =
     let n = c.args.self.now in
-    placed_ends g.D.Disk db (member_of n.state) (server_of n.state) c.args.now c.args.packet.now short _ c.in-Some.from (body.VersionKept c.in-VersionKept.version) (placed _ _ _ c.index.ensures.found c.index.ensures.only ∙ c.in-Some.is) c.in-VersionKept.is
-    (shown_ends g.D.Disk (held n) n.state c.hear_kept.new.self c.requires.stored c.requires.not_halted refl refl c.hear_kept.ensures.kept (c.hear_kept.ensures.shows db c.args.now short))
+    let db = g.V.DraftService.standing.database in
+    (
+      c.hear_kept.ensures.ends.0,
+      placed_ends g.D.Disk db (member_of n.state) (server_of n.state) c.args.now c.args.packet.now c.hear_kept.ensures.ends.0 _ _ c.in-Some.from (body.VersionKept c.in-VersionKept.version) (placed _ _ _ c.index.ensures.found c.index.ensures.only ∙ c.in-Some.is) c.in-VersionKept.is
+          c.hear_kept.ensures.ends.1,
+    )
 
 pub returns-in-VersionIs-clause-ends : goal.returns-in-VersionIs-clause-ends
-returns-in-VersionIs-clause-ends g c = λ db short.
+returns-in-VersionIs-clause-ends g c =
     let n = c.args.self.now in
-    placed_ends g.D.Disk db (member_of n.state) (server_of n.state) c.args.now c.args.packet.now short _ c.in-Some.from (body.VersionIs c.in-VersionIs.poll c.in-VersionIs.version) (placed _ _ _ c.index.ensures.found c.index.ensures.only ∙ c.in-Some.is) c.in-VersionIs.is
-    (c.hear_version.ensures db short)
+    let db = g.V.DraftService.standing.database in
+    (
+      c.hear_version.ensures.0,
+      placed_ends g.D.Disk db (member_of n.state) (server_of n.state) c.args.now c.args.packet.now c.hear_version.ensures.0 _ _ c.in-Some.from (body.VersionIs c.in-VersionIs.poll c.in-VersionIs.version) (placed _ _ _ c.index.ensures.found c.index.ensures.only ∙ c.in-Some.is) c.in-VersionIs.is
+          c.hear_version.ensures.1,
+    )
 
 pub returns-in-GetPiece-clause-ends : goal.returns-in-GetPiece-clause-ends
-returns-in-GetPiece-clause-ends g c = λ db short.
+returns-in-GetPiece-clause-ends g c =
     let n = c.args.self.now in
-    placed_ends g.D.Disk db (member_of n.state) (server_of n.state) c.args.now c.args.packet.now short _ c.in-Some.from (body.GetPiece c.in-GetPiece.poll c.in-GetPiece.version c.in-GetPiece.offset) (placed _ _ _ c.index.ensures.found c.index.ensures.only ∙ c.in-Some.is) c.in-GetPiece.is
-    c.tell_piece.ensures
+    let db = g.V.DraftService.standing.database in
+    (
+      [],
+      placed_ends g.D.Disk db (member_of n.state) (server_of n.state) c.args.now c.args.packet.now [] _ _ c.in-Some.from (body.GetPiece c.in-GetPiece.poll c.in-GetPiece.version c.in-GetPiece.offset) (placed _ _ _ c.index.ensures.found c.index.ensures.only ∙ c.in-Some.is) c.in-GetPiece.is
+          c.tell_piece.ensures,
+    )
 
 pub returns-in-PieceKept-clause-ends : goal.returns-in-PieceKept-clause-ends
-returns-in-PieceKept-clause-ends g c = λ db short.
+returns-in-PieceKept-clause-ends g c =
     let n = c.args.self.now in
-    placed_ends g.D.Disk db (member_of n.state) (server_of n.state) c.args.now c.args.packet.now short _ c.in-Some.from (body.PieceKept _ c.in-PieceKept.version c.in-PieceKept.next) (placed _ _ _ c.index.ensures.found c.index.ensures.only ∙ c.in-Some.is) c.in-PieceKept.is
-    c.send_next.ensures
+    let db = g.V.DraftService.standing.database in
+    (
+      [],
+      placed_ends g.D.Disk db (member_of n.state) (server_of n.state) c.args.now c.args.packet.now [] _ _ c.in-Some.from (body.PieceKept _ c.in-PieceKept.version c.in-PieceKept.next) (placed _ _ _ c.index.ensures.found c.index.ensures.only ∙ c.in-Some.is) c.in-PieceKept.is
+          c.send_next.ensures,
+    )
 
 pub returns-in-SetVersion-clause-ends : goal.returns-in-SetVersion-clause-ends
-returns-in-SetVersion-clause-ends g c = λ db short.
+returns-in-SetVersion-clause-ends g c =
     let n = c.args.self.now in
-    placed_ends g.D.Disk db (member_of n.state) (server_of n.state) c.args.now c.args.packet.now short _ c.in-Some.from (body.SetVersion c.in-SetVersion.poll c.in-SetVersion.old c.in-SetVersion.new) (placed _ _ _ c.index.ensures.found c.index.ensures.only ∙ c.in-Some.is) c.in-SetVersion.is
-    c.set_version.ensures
+    let db = g.V.DraftService.standing.database in
+    (
+      [],
+      placed_ends g.D.Disk db (member_of n.state) (server_of n.state) c.args.now c.args.packet.now [] _ _ c.in-Some.from (body.SetVersion c.in-SetVersion.poll c.in-SetVersion.old c.in-SetVersion.new) (placed _ _ _ c.index.ensures.found c.index.ensures.only ∙ c.in-Some.is) c.in-SetVersion.is
+          c.set_version.ensures,
+    )
 
 pub returns-in-Piece-clause-ends : goal.returns-in-Piece-clause-ends
-returns-in-Piece-clause-ends g c = λ db short.
+returns-in-Piece-clause-ends g c =
     let n = c.args.self.now in
-    placed_ends g.D.Disk db (member_of n.state) (server_of n.state) c.args.now c.args.packet.now short _ c.in-Some.from (body.Piece c.in-Piece.poll c.in-Piece.version c.in-Piece.total c.in-Piece.offset c.as_slice.result.now) (placed _ _ _ c.index.ensures.found c.index.ensures.only ∙ c.in-Some.is) (c.in-Piece.is ∙ ap (λ (bytes : List ℕ). body.Piece c.in-Piece.poll c.in-Piece.version c.in-Piece.total c.in-Piece.offset bytes) (sym c.as_slice.ensures))
-    c.fetch_piece.ensures
+    let db = g.V.DraftService.standing.database in
+    (
+      [],
+      placed_ends g.D.Disk db (member_of n.state) (server_of n.state) c.args.now c.args.packet.now [] _ _ c.in-Some.from (body.Piece c.in-Piece.poll c.in-Piece.version c.in-Piece.total c.in-Piece.offset c.as_slice.result.now) (placed _ _ _ c.index.ensures.found c.index.ensures.only ∙ c.in-Some.is) (c.in-Piece.is ∙ ap (λ (bytes : List ℕ). body.Piece c.in-Piece.poll c.in-Piece.version c.in-Piece.total c.in-Piece.offset bytes) (sym c.as_slice.ensures))
+          c.fetch_piece.ensures,
+    )
 
 pub returns-in-SendPiece-clause-ends : goal.returns-in-SendPiece-clause-ends
-returns-in-SendPiece-clause-ends g c = λ db short.
+returns-in-SendPiece-clause-ends g c =
     let n = c.args.self.now in
-    placed_ends g.D.Disk db (member_of n.state) (server_of n.state) c.args.now c.args.packet.now short _ c.in-Some.from (body.SendPiece c.in-SendPiece.poll c.in-SendPiece.version c.in-SendPiece.total c.in-SendPiece.offset c.as_slice-in-SendPiece.result.now) (placed _ _ _ c.index.ensures.found c.index.ensures.only ∙ c.in-Some.is) (c.in-SendPiece.is ∙ ap (λ (bytes : List ℕ). body.SendPiece c.in-SendPiece.poll c.in-SendPiece.version c.in-SendPiece.total c.in-SendPiece.offset bytes) (sym c.as_slice-in-SendPiece.ensures))
-    c.take_piece.ensures
+    let db = g.V.DraftService.standing.database in
+    (
+      [],
+      placed_ends g.D.Disk db (member_of n.state) (server_of n.state) c.args.now c.args.packet.now [] _ _ c.in-Some.from (body.SendPiece c.in-SendPiece.poll c.in-SendPiece.version c.in-SendPiece.total c.in-SendPiece.offset c.as_slice-in-SendPiece.result.now) (placed _ _ _ c.index.ensures.found c.index.ensures.only ∙ c.in-Some.is) (c.in-SendPiece.is ∙ ap (λ (bytes : List ℕ). body.SendPiece c.in-SendPiece.poll c.in-SendPiece.version c.in-SendPiece.total c.in-SendPiece.offset bytes) (sym c.as_slice-in-SendPiece.ensures))
+          c.take_piece.ensures,
+    )
 
 pub returns-in-VersionIs-clause-memory : goal.returns-in-VersionIs-clause-memory
 returns-in-VersionIs-clause-memory g c = λ takes. absurd (subst BodyTakesNoMemory c.in-VersionIs.is takes)
@@ -115,6 +159,12 @@ hear_beacon-requires-clause-few g c = c.requires.few
 
 pub hear_kept-requires-clause-from : goal.hear_kept-requires-clause-from
 hear_kept-requires-clause-from g c = inside c.args.self.now.state.cell c.in-Some.from c.args.packet.now.from c.in-Some.ensures.found
+
+pub hear_kept-requires-clause-not_halted : goal.hear_kept-requires-clause-not_halted
+hear_kept-requires-clause-not_halted g c = c.requires.not_halted
+
+pub hear_kept-requires-clause-stored : goal.hear_kept-requires-clause-stored
+hear_kept-requires-clause-stored g c = c.requires.stored
 
 pub hear_kept-requires-clause-few : goal.hear_kept-requires-clause-few
 hear_kept-requires-clause-few g c = c.requires.few
@@ -198,43 +248,59 @@ pub send-requires : goal.send-requires
 send-requires g c = omega (arith, c.requires.few)
 
 pub returns-in-Beacon-clause-memory : goal.returns-in-Beacon-clause-memory
-returns-in-Beacon-clause-memory g c = λ takes. refl
+returns-in-Beacon-clause-memory g c = λ takes. inr refl
 
 pub returns-in-Vote-clause-memory : goal.returns-in-Vote-clause-memory
-returns-in-Vote-clause-memory g c = λ takes. refl
+returns-in-Vote-clause-memory g c = λ takes. inr refl
 
 pub returns-in-GetVersion-clause-memory : goal.returns-in-GetVersion-clause-memory
-returns-in-GetVersion-clause-memory g c = λ takes. refl
+returns-in-GetVersion-clause-memory g c = λ takes. inr refl
 
 pub returns-in-VersionKept-clause-memory : goal.returns-in-VersionKept-clause-memory
-returns-in-VersionKept-clause-memory g c = λ takes. refl
+returns-in-VersionKept-clause-memory g c = λ takes. c.hear_kept.ensures.memory
 
 pub returns-in_default-clause-memory : goal.returns-in_default-clause-memory
-returns-in_default-clause-memory g c = λ takes. refl
+returns-in_default-clause-memory g c = λ takes. inr refl
 
 pub returns-in-Begin-clause-ends : goal.returns-in-Begin-clause-ends
-returns-in-Begin-clause-ends g c = λ db short.
+returns-in-Begin-clause-ends g c =
     let n = c.args.self.now in
-    placed_ends g.D.Disk db (member_of n.state) (server_of n.state) c.args.now c.args.packet.now short _ c.in-Some.from (body.Begin c.in-Begin.old c.in-Begin.new c.in-Begin.pieces c.in-Begin.len) (placed _ _ _ c.index.ensures.found c.index.ensures.only ∙ c.in-Some.is) c.in-Begin.is
-    (quiet_ends g.D.Disk c.args.out.now c.begin_received.ensures)
+    let db = g.V.DraftService.standing.database in
+    (
+      [],
+      placed_ends g.D.Disk db (member_of n.state) (server_of n.state) c.args.now c.args.packet.now [] _ _ c.in-Some.from (body.Begin c.in-Begin.old c.in-Begin.new c.in-Begin.pieces c.in-Begin.len) (placed _ _ _ c.index.ensures.found c.index.ensures.only ∙ c.in-Some.is) c.in-Begin.is
+          (quiet_ends g.D.Disk c.args.out.now c.begin_received.ensures),
+    )
 
 pub returns-in-PutPiece-clause-ends : goal.returns-in-PutPiece-clause-ends
-returns-in-PutPiece-clause-ends g c = λ db short.
+returns-in-PutPiece-clause-ends g c =
     let n = c.args.self.now in
-    placed_ends g.D.Disk db (member_of n.state) (server_of n.state) c.args.now c.args.packet.now short _ c.in-Some.from (body.PutPiece c.in-PutPiece.new c.in-PutPiece.number c.as_slice-in-PutPiece.result.now) (placed _ _ _ c.index.ensures.found c.index.ensures.only ∙ c.in-Some.is) (c.in-PutPiece.is ∙ ap (λ (bytes : List ℕ). body.PutPiece c.in-PutPiece.new c.in-PutPiece.number bytes) (sym c.as_slice-in-PutPiece.ensures))
-    (quiet_ends g.D.Disk c.args.out.now c.put_piece_received.ensures)
+    let db = g.V.DraftService.standing.database in
+    (
+      [],
+      placed_ends g.D.Disk db (member_of n.state) (server_of n.state) c.args.now c.args.packet.now [] _ _ c.in-Some.from (body.PutPiece c.in-PutPiece.new c.in-PutPiece.number c.as_slice-in-PutPiece.result.now) (placed _ _ _ c.index.ensures.found c.index.ensures.only ∙ c.in-Some.is) (c.in-PutPiece.is ∙ ap (λ (bytes : List ℕ). body.PutPiece c.in-PutPiece.new c.in-PutPiece.number bytes) (sym c.as_slice-in-PutPiece.ensures))
+          (quiet_ends g.D.Disk c.args.out.now c.put_piece_received.ensures),
+    )
 
 pub returns-in-Commit-clause-ends : goal.returns-in-Commit-clause-ends
-returns-in-Commit-clause-ends g c = λ db short.
+returns-in-Commit-clause-ends g c =
     let n = c.args.self.now in
-    placed_ends g.D.Disk db (member_of n.state) (server_of n.state) c.args.now c.args.packet.now short _ c.in-Some.from (body.Commit c.in-Commit.old c.in-Commit.new) (placed _ _ _ c.index.ensures.found c.index.ensures.only ∙ c.in-Some.is) c.in-Commit.is
-    c.commit_received.ensures
+    let db = g.V.DraftService.standing.database in
+    (
+      [],
+      placed_ends g.D.Disk db (member_of n.state) (server_of n.state) c.args.now c.args.packet.now [] _ _ c.in-Some.from (body.Commit c.in-Commit.old c.in-Commit.new) (placed _ _ _ c.index.ensures.found c.index.ensures.only ∙ c.in-Some.is) c.in-Commit.is
+          c.commit_received.ensures,
+    )
 
 pub returns-in-Abort-clause-ends : goal.returns-in-Abort-clause-ends
-returns-in-Abort-clause-ends g c = λ db short.
+returns-in-Abort-clause-ends g c =
     let n = c.args.self.now in
-    placed_ends g.D.Disk db (member_of n.state) (server_of n.state) c.args.now c.args.packet.now short _ c.in-Some.from (body.Abort c.in-Abort.new) (placed _ _ _ c.index.ensures.found c.index.ensures.only ∙ c.in-Some.is) c.in-Abort.is
-    (shown_ends g.D.Disk (held n) n.state c.abort_received.new.self c.requires.stored c.requires.not_halted refl refl c.abort_received.ensures.kept (quietly _ _ c.args.out.now c.abort_received.ensures.rests))
+    let db = g.V.DraftService.standing.database in
+    (
+      [],
+      placed_ends g.D.Disk db (member_of n.state) (server_of n.state) c.args.now c.args.packet.now [] _ _ c.in-Some.from (body.Abort c.in-Abort.new) (placed _ _ _ c.index.ensures.found c.index.ensures.only ∙ c.in-Some.is) c.in-Abort.is
+          (shown_ends g.D.Disk (held n) n.state c.abort_received.new.self c.requires.stored c.requires.not_halted refl refl c.abort_received.ensures.kept (quietly _ _ c.args.out.now c.abort_received.ensures.rests)),
+    )
 
 pub returns-in-Begin-clause-memory : goal.returns-in-Begin-clause-memory
 returns-in-Begin-clause-memory g c = λ takes. absurd (subst BodyTakesNoMemory c.in-Begin.is takes)
@@ -246,7 +312,7 @@ pub returns-in-Commit-clause-memory : goal.returns-in-Commit-clause-memory
 returns-in-Commit-clause-memory g c = λ takes. absurd (subst BodyTakesNoMemory c.in-Commit.is takes)
 
 pub returns-in-Abort-clause-memory : goal.returns-in-Abort-clause-memory
-returns-in-Abort-clause-memory g c = λ takes. refl
+returns-in-Abort-clause-memory g c = λ takes. inr refl
 
 pub begin_received-requires-clause-version : goal.begin_received-requires-clause-version
 begin_received-requires-clause-version g c = subst IsBuiltBody c.in-Begin.is c.requires.kind

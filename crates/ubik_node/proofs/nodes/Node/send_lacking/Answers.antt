@@ -1,22 +1,34 @@
 use Rattle.std.proofs.Common.{◌∙◌, ℕ, length, refl, sym, ap, arith}
+use Rattle.std.proofs.lemmas.List.{append-nil}
 use Rattle.ubik_types.specs.declared.versions.Version.{Version}
 use Rattle.ubik_calls.specs.declared.packets.Body.TheVariants as body
 use Rattle.ubik_node.specs.Node.{held}
 use Rattle.ubik_node.specs.State.{announced, member_of, server_of}
+use Rattle.ubik_node.specs.Writing.{own_of}
 use Rattle.ubik_node.proofs.Endings.{rests_ends, same_ends}
-use Rattle.ubik_node.proofs.Told.{lacks_image, lacks_version, sent_as}
+use Rattle.ubik_node.proofs.Told.{flight_none, flight_some, lacks_free, lacks_held, lacks_image, lacks_version, sent_as}
 use Rattle.ubik_node.proofs.nodes.Node.send_lacking.Goals as goal
+
+pub returns-then-writes : goal.returns-then-writes
+returns-then-writes g c =
+    let n = c.args.self.now in
+    let st = n.state in
+    same_ends g.D.Disk
+    (lacks_held (member_of st) (server_of st) c.args.host c.args.version (announced st) st.recovery (server_of st).flight (flight_some c.is_writing-writes.result (own_of st.writes) c.is_writing-writes.ensures c.if-writes.true))
+    (rests_ends g.D.Disk (held n) c.requires.stored c.requires.not_halted (record { server = refl; calls = refl; outputs = sym (append-nil c.args.out.now) }))
 
 pub returns-then-not-has_old : goal.returns-then-not-has_old
 returns-then-not-has_old g c =
     let st = c.args.self.now.state in
-    same_ends g.D.Disk (lacks_image (member_of st) (server_of st) c.args.host c.args.version (announced st) st.recovery (sym c.is_before-has_old.ensures ∙ c.if-not-has_old.true)) c.send_piece.ensures
+    same_ends g.D.Disk (lacks_free (member_of st) (server_of st) c.args.host c.args.version (announced st) st.recovery (server_of st).flight (flight_none c.is_writing-writes.result (own_of st.writes) c.is_writing-writes.ensures c.if-writes.false)
+    ∙ lacks_image (member_of st) (server_of st) c.args.host c.args.version (announced st) st.recovery (sym c.is_before-has_old.ensures ∙ c.if-not-has_old.true)) c.send_piece.ensures
 
 pub returns : goal.returns
 returns g c =
     let n = c.args.self.now in
     let st = n.state in
-    same_ends g.D.Disk (lacks_version (member_of st) (server_of st) c.args.host c.args.version (announced st) st.recovery (sym c.is_before-has_old.ensures ∙ c.if-not-has_old.false))
+    same_ends g.D.Disk (lacks_free (member_of st) (server_of st) c.args.host c.args.version (announced st) st.recovery (server_of st).flight (flight_none c.is_writing-writes.result (own_of st.writes) c.is_writing-writes.ensures c.if-writes.false)
+    ∙ lacks_version (member_of st) (server_of st) c.args.host c.args.version (announced st) st.recovery (sym c.is_before-has_old.ensures ∙ c.if-not-has_old.false))
     (rests_ends g.D.Disk (held n) c.requires.stored c.requires.not_halted (record {
       server = refl;
       calls = refl;

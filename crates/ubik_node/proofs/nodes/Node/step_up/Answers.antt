@@ -6,13 +6,15 @@ use Rattle.cell_model.specs.Durable.{durable}
 use Rattle.cell_model.specs.Lapse.{lapsed}
 use Rattle.cell_model.specs.Node as model
 use Rattle.cell_model.specs.NodeRule.{handled, step_of}
-use Rattle.cell_model.specs.Step.{Member, Stepped, outputs_of}
+use Rattle.cell_model.specs.Step.{Member, Stepped, cell_size, outputs_of}
 use Rattle.ubik_node.specs.declared.nodes.StepEnd.TheVariants.{Halted}
+use Rattle.ubik_node.specs.declared.lapse.Dropped.{Dropped}
 use Rattle.ubik_node.specs.declared.state.State.{State}
 use Rattle.ubik_node.specs.Lapsing.{IsDroppedOf, returned}
 use Rattle.ubik_node.specs.Node.{Needs, durable_in, held, node_of}
+use Rattle.ubik_node.specs.Recovering.{IsOfCell}
 use Rattle.ubik_node.specs.State.{Keeps, member_of, server_of}
-use Rattle.ubik_node.proofs.Closing.{closed_calls, closed_halts, closed_place, closed_step, closed_stored, closed_told, err_map}
+use Rattle.ubik_node.proofs.Closing.{closed_calls, closed_halts, closed_memory, closed_place, closed_step, closed_stored, closed_told, err_map, some_map}
 use Rattle.ubik_node.proofs.Endings.{behind_ends, kept_with}
 use Rattle.ubik_node.proofs.Lapsed.{needs_lapsed}
 use Rattle.ubik_node.proofs.Rested.{back_keeps, back_same, short_behind, step_comes}
@@ -65,3 +67,77 @@ handle-end-requires-clause-moment g c = c.requires.moment
 
 pub handle-end-requires-clause-not_halted : goal.handle-end-requires-clause-not_halted
 handle-end-requires-clause-not_halted g c = c.requires.not_halted
+
+pub returns-clause-stored : goal.returns-clause-stored
+returns-clause-stored g c =
+    let n = c.args.self.now in
+    let mid = c.lapse-given.new.self in
+    let later = c.handle-end.new.self in
+    let first = record (held n) { server = server_of mid; member = member_of mid } in
+    let ends = c.handle-end.ensures.ends.1 in
+    let back = returned c.lapse-given.result later.state in
+    let returns = err_map c.handle-end.result _ (durable_in back ≡ durable_in (server_of mid)) ends.state
+    (λ same. ap durable_in (back_same c.lapse-given.result later.state mid same ∙ sym c.lapse-given.ensures.back) ∙ sym (same_durable n.state mid c.lapse-given.ensures.kept)) in
+    closed_stored g.D.Disk c.args.event.now first (held later) (held c.end.new.self) c.handle-end.new.out c.end.new.out back c.end.result c.requires.not_halted c.handle-end.result ends returns c.end.ensures
+
+pub returns-clause-told : goal.returns-clause-told
+returns-clause-told g c =
+    let n = c.args.self.now in
+    let mid = c.lapse-given.new.self in
+    let later = c.handle-end.new.self in
+    closed_told g.D.Disk c.args.event.now (record (held n) { server = server_of mid; member = member_of mid }) (held later) (held c.end.new.self) c.handle-end.new.out c.end.new.out (returned c.lapse-given.result later.state) c.end.result c.requires.not_halted
+    c.handle-end.result c.handle-end.ensures.ends.1 c.end.ensures
+
+pub returns-clause-calls : goal.returns-clause-calls
+returns-clause-calls g c =
+    let n = c.args.self.now in
+    let mid = c.lapse-given.new.self in
+    let later = c.handle-end.new.self in
+    closed_calls g.D.Disk c.args.event.now (record (held n) { server = server_of mid; member = member_of mid }) (held later) (held c.end.new.self) c.handle-end.new.out c.end.new.out (returned c.lapse-given.result later.state) c.end.result c.requires.not_halted
+    c.handle-end.result c.handle-end.ensures.ends.1 c.end.ensures
+
+pub returns-clause-halts : goal.returns-clause-halts
+returns-clause-halts g c =
+    let n = c.args.self.now in
+    let mid = c.lapse-given.new.self in
+    let later = c.handle-end.new.self in
+    closed_halts g.D.Disk c.args.event.now (record (held n) { server = server_of mid; member = member_of mid }) (held later) (held c.end.new.self) c.handle-end.new.out c.end.new.out (returned c.lapse-given.result later.state) c.end.result c.requires.not_halted
+    c.handle-end.result c.handle-end.ensures.ends.1 c.end.ensures
+
+pub returns-clause-member : goal.returns-clause-member
+returns-clause-member g c =
+    let n = c.args.self.now in
+    let mid = c.lapse-given.new.self in
+    let later = c.handle-end.new.self in
+    (closed_place g.D.Disk c.args.event.now (record (held n) { server = server_of mid; member = member_of mid }) (held later) (held c.end.new.self) c.handle-end.new.out c.end.new.out (returned c.lapse-given.result later.state) c.end.result c.requires.not_halted
+    c.handle-end.result c.handle-end.ensures.ends.1 c.end.ensures).0 ∙ c.lapse-given.ensures.kept.member
+
+pub returns-clause-last : goal.returns-clause-last
+returns-clause-last g c =
+    let n = c.args.self.now in
+    let mid = c.lapse-given.new.self in
+    let later = c.handle-end.new.self in
+    (closed_place g.D.Disk c.args.event.now (record (held n) { server = server_of mid; member = member_of mid }) (held later) (held c.end.new.self) c.handle-end.new.out c.end.new.out (returned c.lapse-given.result later.state) c.end.result c.requires.not_halted
+    c.handle-end.result c.handle-end.ensures.ends.1 c.end.ensures).1
+
+pub returns-clause-memory : goal.returns-clause-memory
+returns-clause-memory g c = λ takes.
+    let later = c.handle-end.new.self in
+    closed_memory c.args.event.now (held later) (held c.end.new.self) c.handle-end.new.out c.end.new.out (returned c.lapse-given.result later.state) c.end.result c.handle-end.result (c.handle-end.ensures.memory takes) c.end.ensures
+
+pub end-requires-clause-given : goal.end-requires-clause-given
+end-requires-clause-given g c =
+    let mid = c.lapse-given.new.self in
+    let given = c.lapse-given.result in
+    subst (λ (m : Member). IfSome given (λ (d : Dropped). IsOfCell (cell_size m) d.recovery)) (sym c.handle-end.ensures.ends.1.member)
+    (some_map given (IsDroppedOf (length mid.cell) mid.image) (λ (d : Dropped). IsOfCell (length mid.cell) d.recovery) (λ d of. of.recovery) c.lapse-given.ensures.given)
+
+pub end-requires-clause-dropped : goal.end-requires-clause-dropped
+end-requires-clause-dropped g c =
+    let mid = c.lapse-given.new.self in
+    let later = c.handle-end.new.self in
+    let given = c.lapse-given.result in
+    let ends = c.handle-end.ensures.ends.1 in
+    err_map c.handle-end.result _ (IfSome given (IsDroppedOf (length later.state.cell) later.state.image)) ends.state (λ same.
+    subst (λ (m : Member). IfSome given (IsDroppedOf (cell_size m) later.state.image)) (sym ends.member)
+    (subst (λ (s : model.Server). IfSome given (IsDroppedOf (length mid.cell) s.image)) (sym same) c.lapse-given.ensures.given))

@@ -1,0 +1,59 @@
+use Rattle.std.proofs.Common.{◌∙◌, Bool, Option, [], ◌∷◌, false, refl, ap, sym}
+use Rattle.cell_model.specs.Asks.{asked_as}
+use Rattle.cell_model.specs.Step.{is_short}
+use Rattle.ubik_node.specs.Node.{held}
+use Rattle.ubik_node.specs.State.{member_of, server_of}
+use Rattle.ubik_node.proofs.Endings.{known_ends, rests_ends, same_ends, shown_ends}
+use Rattle.ubik_node.proofs.Reading.{in_flight_so, line_shows}
+use Rattle.ubik_node.proofs.nodes.Node.ask.Goals as goal
+
+pub returns-in_default-clause-ends : goal.returns-in_default-clause-ends
+returns-in_default-clause-ends g c =
+    let n = c.args.self.now in
+    let st = n.state in
+    let kind = λ (w : Option Bool). asked_as g.V.DraftService.standing.database (member_of st) (server_of st) c.args.now c.args.id c.args.call.now false w in
+    ([], same_ends g.D.Disk (ap kind (sym c.in_default.ensures)) (rests_ends g.D.Disk (held n) c.requires.stored c.requires.not_halted (record { server = refl; calls = refl; outputs = c.put_reply.ensures })))
+
+pub returns-in-Refuse-clause-ends : goal.returns-in-Refuse-clause-ends
+returns-in-Refuse-clause-ends g c =
+    let n = c.args.self.now in
+    let st = n.state in
+    let db = g.V.DraftService.standing.database in
+    let kind = λ (w : Option Bool). asked_as db (member_of st) (server_of st) c.args.now c.args.id c.args.call.now false w in
+    ([], same_ends g.D.Disk (ap kind (sym c.in-Some.ensures) ∙ c.in-Refuse.ensures.turn db c.args.id c.args.call.now false)
+        (rests_ends g.D.Disk (held n) c.requires.stored c.requires.not_halted (record { server = refl; calls = refl; outputs = c.put_reply-in-Refuse.ensures })))
+
+pub returns-in-Read-clause-ends : goal.returns-in-Read-clause-ends
+returns-in-Read-clause-ends g c =
+    let st = c.args.self.now.state in
+    let db = g.V.DraftService.standing.database in
+    let made = c.read.ensures.ends in
+    let kind = λ (w : Option Bool). asked_as db (member_of st) (server_of st) c.args.now c.args.id c.args.call.now (is_short made.0) w in
+    let turn = c.in-Read.ensures.turn db c.args.id c.args.call.now (is_short made.0) in
+    (made.0, same_ends g.D.Disk (ap kind (sym c.in-Some.ensures) ∙ turn.1) (known_ends g.D.Disk (λ meant. meant.1) (made.1 turn.0)))
+
+pub returns-in-ReadOwn-clause-ends : goal.returns-in-ReadOwn-clause-ends
+returns-in-ReadOwn-clause-ends g c =
+    let st = c.args.self.now.state in
+    let db = g.V.DraftService.standing.database in
+    let made = c.read_own.ensures.ends in
+    let kind = λ (w : Option Bool). asked_as db (member_of st) (server_of st) c.args.now c.args.id c.args.call.now (is_short made.0) w in
+    let turn = c.in-ReadOwn.ensures.turn db c.args.id c.args.call.now (is_short made.0) in
+    (made.0, same_ends g.D.Disk (ap kind (sym c.in-Some.ensures) ∙ turn.1) (known_ends g.D.Disk (λ meant. meant.0) (made.1 turn.0)))
+
+pub returns-in-Wait-clause-ends : goal.returns-in-Wait-clause-ends
+returns-in-Wait-clause-ends g c =
+    let n = c.args.self.now in
+    let st = n.state in
+    let db = g.V.DraftService.standing.database in
+    let line = c.put_in_line.ensures.shows in
+    let kind = λ (w : Option Bool). asked_as db (member_of st) (server_of st) c.args.now c.args.id c.args.call.now line.0 w in
+    ?
+
+pub returns-in-Write-clause-ends : goal.returns-in-Write-clause-ends
+returns-in-Write-clause-ends g c =
+    let st = c.args.self.now.state in
+    let db = g.V.DraftService.standing.database in
+    let made = c.write_turn.ensures.ends in
+    let kind = λ (w : Option Bool). asked_as db (member_of st) (server_of st) c.args.now c.args.id c.args.call.now (is_short made.0) w in
+    (made.0, same_ends g.D.Disk (ap kind (sym c.in-Some.ensures) ∙ c.in-Write.ensures.turn db c.args.id c.args.call.now (is_short made.0)) (known_ends g.D.Disk (λ meant. meant.0) made.1))
