@@ -40,7 +40,7 @@ pub server_later : {D V : Type 0} (g : Ghosts D) (m : Member) (clock later : ℕ
 server_later g m clock later (server.Down disk) le sound = sound
 server_later g m clock later (server.Up n) le sound =
     let last = sound.last in
-    record { last = omega (arith, last, le); member = sound.member; quiet = sound.quiet; stored = sound.stored }
+    record { last = omega (arith, last, le); member = sound.member; stored = sound.stored }
 
 pub site_later : {D V : Type 0} (g : Ghosts D) (m : Member) (bound seconds : ℕ) (site : Site D V) → site.clock + seconds ≤ MAX_MOMENT
     → IsSoundSite g m bound site → IsSoundSite g m (bound + seconds) (ticked_on seconds site)
@@ -151,7 +151,6 @@ tick_sound {D} {V} g bound most running k seconds site sound fits there near =
           let e : get_or (clocks_in items) j 0 ≡ one.site.clock = clock_there items j one.site one.there in
           let n = near j one.site one.there other in
           omega (arith, e, n)));
-      packets = sound.packets;
       told = sound.told;
     }
 
@@ -231,7 +230,7 @@ tick_told g db bound running c k seconds site run text sound fits stands there n
     let after = tick_sound g bound bound running k seconds site sound (omega (arith, within, fits)) there near in
     record {
       choices = sound_choices;
-      whole = refl;
+      whole = record { most = refl; found = tt };
       ran = with_event db c (Tick k seconds);
       is = is ∙ ap (λ (b : Bool). if b then Ok (with_event db c (Tick k seconds)) else Err why.Skew)
           (may g (bound + seconds) (ticked_at running k seconds site) (tick_at c.run.world.sites k seconds) after
@@ -328,7 +327,6 @@ all_sound {D} {V} g bound bound' running sites seconds are sound fits sound' =
           (sound_ticked g running.hosts.items 0 bound bound' seconds items fits sound.sites sound'.sites);
       near = ap (λ (l : List (Site D V)). are_near (clocks_in l)) is ∙ ap are_near (clocks_ticked items seconds)
           ∙ near_make (map (λ (n : ℕ). n + seconds) (clocks_in items)) (near_all (clocks_in items) seconds (near_read (clocks_in items) sound.near));
-      packets = sound.packets;
       told = sound.told;
     }
 
@@ -343,7 +341,7 @@ all_told {D} {V} {given} g db bound running sites c seconds text are sound fits 
     (sites_all_ticked running.sites.items c.run.world.sites seconds stands.sites) in
     record {
       choices = sound_choices;
-      whole = refl;
+      whole = record { most = refl; found = tt };
       ran = with_event db c (Tick_all seconds);
       is = ap (λ (b : Bool). if b then Ok (with_event db c (Tick_all seconds)) else Err why.Skew)
           (may g (bound + seconds) (all_ticked running sites) (map (ticked seconds) c.run.world.sites)

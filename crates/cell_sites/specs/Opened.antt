@@ -54,6 +54,7 @@ pub record ArePartOpened {D V : Type 0} (g : Ghosts D) (db : ScriptDatabase) (cl
   pub sound : AreSound g running.hosts.items 0 clock running.sites.items
   pub packets : running.packets ≡ no_traffic
   pub outputs : running.outputs ≡ []
+  pub calls : running.calls.items ≡ []
   pub told : text_after ≡ text_before ++ trace db running.hosts.items (opening_items failed)
   pub causes : AreRises 0 (opening_items failed) (all_held g given) (helds g running)
   pub read : AreReadBy (map (first_site (length running.hosts.items) clock) failed) (helds g running)
@@ -72,6 +73,6 @@ pub record IsOpened {D V : Type 0} (g : Ghosts D) (db : ScriptDatabase) (clock :
     (text_before text_after : List ℕ) : Type 0 where
   pub choices : List Choice
   pub stands : IsModelledBy g db.database (counts_of g given) running (opened_cell (length given) clock k (fails_at (length given) choices))
-  pub sound : (asks : ℕ) → IsSound g db.database (record { clock = clock; asks = asks }) running
+  pub sound : IsSound g db.database (record { clock = clock; asks = 0 }) running
   pub told : text_after ≡ text_before ++ trace db running.hosts.items (opening_items (fails_at (length given) choices))
   pub causes : AreRises 0 (opening_items (fails_at (length given) choices)) (all_held g given) (helds g running)

@@ -27,6 +27,7 @@ use script_laws::law_cells_go_on;
 use std::alloc::Global;
 use ubik_node::{Outputs, SteadyDisk};
 use ubik_types::{Bytes, Host, NoMemory};
+use write_laws::law_writes_spread;
 
 /// The host of the first server of a cell, 10.0.0.1. The others follow it.
 const FIRST_HOST: u32 = 167_772_161;
@@ -157,4 +158,5 @@ pub fn law_cell_opened<D: SteadyDisk + StopDisk, V: DraftWords>()
         IsOpened D.Disk db clock k given running text_before text_after }
 {
     law_cells_go_on();
+    law_writes_spread();
 }
