@@ -46,7 +46,7 @@ get_last : (calls : List (List ℕ)) (call : List ℕ) → get_or (calls ++ call
 get_last [] call = refl
 get_last (c ∷ calls) call = get_last calls call
 
-length_more : (calls : List (List ℕ)) (call : List ℕ) → length (calls ++ call ∷ []) ≡ length calls + 1
+pub length_more : (calls : List (List ℕ)) (call : List ℕ) → length (calls ++ call ∷ []) ≡ length calls + 1
 length_more [] call = refl
 length_more (c ∷ calls) call = let rest = length_more calls call in omega (arith, rest)
 

@@ -23,6 +23,7 @@ use Rattle.cell_model.specs.World.{packets_of, restart_at, site_of}
 use Rattle.cell_runs.specs.ScriptDatabase.{ScriptDatabase}
 use Rattle.cell_runs.specs.Script.{Armed, Cell, Choice, Run_or_why, armed_at, cell_after, first_choice, happened, resting, with_event, Choices, IsHeard, sound_choices}
 use Rattle.cell_runs.specs.Trace.{Tells, fault_count, trace}
+use Rattle.write_laws.specs.Spreads.{WritesSpread}
 use Rattle.ubik_node.specs.declared.nodes.Node.{Node}
 use Rattle.ubik_node.specs.Disk.{IsArmed, IsRevived, StandsAs}
 use Rattle.ubik_node.specs.declared.state.State.{State}
@@ -39,7 +40,7 @@ use Rattle.cell_sites.specs.Disks.{AreRises, IsReadBy, held}
 use Rattle.cell_sites.specs.OpenedServer.{ServerIs, ServerOpens, is_cut_short}
 use Rattle.cell_sites.specs.Reopened.{SiteReopened, reopened_marks}
 use Rattle.cell_sites.specs.Sites.{AreArmed, AreSitesOf, IsArmedAs, IsModelledBy, helds, server_disk, server_node, site_disk}
-use Rattle.cell_sites.specs.Sound.{IsSoundDisk, IsSoundNode, IsSoundServer, IsSteady}
+use Rattle.cell_sites.specs.Sound.{IsSoundDisk, IsSoundNode, IsSoundServer, IsSteady, Keeps, KeepsServer}
 use Rattle.cell_sites.specs.Stepped.{TakenDown, member_at, up_site}
 use Rattle.cell_sites.specs.Telling.{told_of}
 use Rattle.cell_sites.specs.Told.{CellTold, IsShort}
@@ -50,6 +51,7 @@ use Rattle.cell_sites.proofs.AtPlace.{IsSiteAt, site_at, sites_set}
 use Rattle.cell_sites.proofs.Counting.{hold_added, hold_as, hold_more, hold_still, no_surplus, same_run}
 use Rattle.cell_sites.proofs.Delivering.{set_same}
 use Rattle.cell_sites.proofs.Happening.{with_armed}
+use Rattle.cell_sites.proofs.Keeping.{closed_keeps, keeps_set, opened_keeps}
 use Rattle.cell_sites.proofs.Plainly.{and_some, make_if, make_some, of_some, some_of}
 use Rattle.cell_sites.proofs.Reading.{read_at}
 use Rattle.cell_sites.proofs.Running.{held_at, moved_set, reads_both, reads_set, rises_set, short_after, whole, whole_choices}
@@ -272,6 +274,19 @@ module _ {D V : Type 0} (g : Ghosts D) (script_db : ScriptDatabase) (running aft
   reopen_sound other still =
       sound_at_place g running after k closed_site open_site re.there re.sites other still refl (server_sound re.end some_durable.0 some_durable.1.is)
       some_durable.1.sound re.hosts re.outputs
+
+  -- a server that was opened takes writes
+  server_keeps : WritesSpread → (end : OpenEnd) (d : Durable) → ServerIs g (member_at running k) re.clock d end re.disk re.server
+      → KeepsServer script_db.database running.hosts.items running.calls.items re.server
+  server_keeps law (opened.Up version) d is =
+      opened_keeps script_db.database running.hosts.items running.calls.items law d re.clock is.3 re.server is.0
+  server_keeps law opened.StaysDown d is = closed_keeps script_db.database running.hosts.items running.calls.items re.server is.0
+  server_keeps law opened.NoMemory d is = closed_keeps script_db.database running.hosts.items running.calls.items re.server is
+
+  pub reopen_keeps : WritesSpread → Keeps script_db.database running → Keeps script_db.database after
+  reopen_keeps law keeps =
+      keeps_set script_db.database running after keeps re.hosts k open_site [] re.sites re.calls (re.packets ∙ none_sent running.packets)
+      (server_keeps law re.end some_durable.0 some_durable.1.is) (All-nil _)
 
   pub reopen_many : length after.sites.items ≡ length running.sites.items
   reopen_many = many_at g running after k closed_site open_site re.there re.sites

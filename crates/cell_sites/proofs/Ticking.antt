@@ -4,6 +4,7 @@ use Rattle.std.proofs.Common.{Result, Ok, Err, length, map, set, get_or, replica
 use Rattle.std.specs.Prelude.{slice_get, IsErrAnd}
 use Rattle.std.specs.Vec.{with_item, with_items}
 use Rattle.std.proofs.lemmas.List.{append-nil, length-set, length-map, map-set}
+use Rattle.std.proofs.lemmas.List.Elements.{All-nil}
 use Rattle.std.proofs.Math.Seq.{map-set_same}
 use Rattle.std.proofs.lemmas.Option.{get_or_from_slice_get, slice_get_within}
 use Rattle.db_image.specs.Database.{Database}
@@ -20,7 +21,7 @@ use Rattle.cell_sites.specs.Disks.{AreReadBy, Held, held}
 use Rattle.cell_sites.specs.Places.{IsNearAt, ticked_on}
 use Rattle.cell_sites.specs.Counts.{HoldRun}
 use Rattle.cell_sites.specs.Sites.{AreArmed, AreSitesOf, IsModelledBy, helds, site_disk}
-use Rattle.cell_sites.specs.Sound.{AreSound, IsSteady, IsSoundServer, IsSoundSite, clocks_in}
+use Rattle.cell_sites.specs.Sound.{AreSound, IsSteady, IsSoundServer, IsSoundSite, Keeps, clocks_in}
 use Rattle.cell_sites.specs.Told.{CellTold}
 use Rattle.cell_sites.specs.declared.cells.OpenCell.{OpenCell}
 use Rattle.cell_sites.specs.declared.sites.Server.{Server}
@@ -29,8 +30,10 @@ use Rattle.cell_sites.specs.declared.sites.Site.{Site}
 use Rattle.cell_sites.proofs.AtPlace.{rises_same, sites_all_ticked, sites_clocks, sites_ticked, sound_at, sound_set}
 use Rattle.cell_sites.proofs.Arming.{armed_here, armed_still}
 use Rattle.cell_sites.proofs.Counting.{hold_more, moved_same}
+use Rattle.cell_sites.proofs.Keeping.{keeps_set}
 use Rattle.cell_sites.proofs.Near.{moments_make, near_all, near_make, near_read, near_set, near_unset}
 use Rattle.cell_sites.proofs.Delivering.{set_same}
+use Rattle.cell_sites.proofs.Soundly.{none_sent}
 use Rattle.cell_sites.proofs.Waiting.{items_with}
 
 -- ---- one site
@@ -160,6 +163,12 @@ pub tick_rests : {D V : Type 0} (running : OpenCell D V) (k seconds : ℕ) (site
 tick_rests {D} {V} running k seconds site there none =
     let clock : site.clock + seconds ≡ site.clock = omega (arith, none) in
     ap (λ (n : ℕ). set running.sites.items k (record site { clock = n })) clock ∙ set_same running.sites.items k site there
+
+pub tick_keeps : {D V : Type 0} (db : Database) (running : OpenCell D V) (k seconds : ℕ) (site : Site D V) → slice_get running.sites.items k ≡ Some site
+    → Keeps db running → Keeps db (ticked_at running k seconds site)
+tick_keeps db running k seconds site there keeps =
+    keeps_set db running (ticked_at running k seconds site) keeps refl k (ticked_on seconds site) [] refl refl (none_sent running.packets)
+    (keeps.servers k site there) (All-nil _)
 
 none_more : {X : Type 0} (xs : List X) (handed : List Bool) → handed ++ replicate (length xs - length xs) false ≡ handed
 none_more xs handed =

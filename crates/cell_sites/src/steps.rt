@@ -138,10 +138,7 @@ impl<D: SteadyDisk + StopDisk, V: DraftWords> OpenCell<D, V> {
     /// Keeps a call, which may be answered long after.
     fn keep(&mut self, call: Bytes) -> Result<(), NoMemory>
         ensures kept { OnOk result (self.new.calls.items ≡ self.old.calls.items ++ call ∷ []) }
-        ensures hosts { self.new.hosts.items ≡ self.old.hosts.items }
-        ensures sites { self.new.sites.items ≡ self.old.sites.items }
-        ensures packets { self.new.packets ≡ self.old.packets }
-        ensures outputs { self.new.outputs ≡ self.old.outputs }
+        ensures same { self.new ≡ record self.old { calls = self.new.calls } }
     {
         self.calls.push(call)?;
         Ok(())

@@ -25,15 +25,26 @@ pub fn lacks_memory(out: &Outputs) -> bool
     ensures { MatchBool result (¬ All IsNotShort out.now) (All IsNotShort out.now) }
 {
     for place in 0..out.len() {
-        if let Some(Output::Reply {
-            reply: Reply::NoMemory,
-            ..
-        }) = out.get(place)
-        {
-            return true;
+        if let Some(output) = out.get(place) {
+            if is_short(output) {
+                return true;
+            }
         }
     }
     false
+}
+
+/// Whether an output is a reply for want of memory.
+fn is_short(output: &Output) -> bool
+    ensures { MatchBool result (¬ IsNotShort output.now) (IsNotShort output.now) }
+{
+    matches!(
+        output,
+        Output::Reply {
+            reply: Reply::NoMemory,
+            ..
+        }
+    )
 }
 
 /// Tells what a server puts out, where these are the calls that were asked, each under its id from 1; packets are sent. Where a packet
