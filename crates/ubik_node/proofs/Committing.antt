@@ -117,6 +117,17 @@ spread_to_each m n count set a b new s t none old text =
 
 -- ---- a commit at a server that serves
 
+-- the server after it, in a cell of so many
+abbrev after_commit : Server → RecoveryRecord → List ℕ → (me n : ℕ) → Version → Option Flight → Server
+after_commit s r image me n announced flight = record s {
+  version = next_version s.version;
+  image = image;
+  phase = Ready (polled_of r) (record { old = r.old_version; holders = only_at true false n me }) announced;
+  kept = None;
+  received = None;
+  flight = flight;
+}
+
 module _ (s : Server) (v : Version) (r : RecoveryRecord) (now id : ℕ) (call answer image : List ℕ) (changes : List Change) (serves : r.phase ≡ phase.Ready) where
   -- of one that is alone
   alone_written : (h : Host) → s.flight ≡ None → r.servers ≡ 1
@@ -125,16 +136,6 @@ module _ (s : Server) (v : Version) (r : RecoveryRecord) (now id : ℕ) (call an
       (output.Announce (next_version s.version) ∷ output.Reply id (reply.Ok answer) ∷ []) (own_commit (next_version s.version) changes image (record { moment = now; call = call }) ∷ [])
   alone_written h free one = by r.phase serves
     where
-      abbrev last : ℕ → Option Flight → Server
-      last n flight = record s {
-        version = next_version s.version;
-        image = image;
-        phase = Ready (polled_of r) (record { old = r.old_version; holders = only_at true false n 0 }) (next_version s.version);
-        kept = None;
-        received = None;
-        flight = flight;
-      }
-
       by : (p : Phase) → p ≡ phase.Ready
           → Leads (written_in (alone h) (recovering v (record r { phase = p }) s) now id call answer image changes (record_in p v r))
           (recovering (next_version s.version) (with_text (held_alone (record r { phase = p }) 0) None) (with_database (recovering v (record r { phase = p }) s) (next_version s.version) image))
@@ -144,7 +145,7 @@ module _ (s : Server) (v : Version) (r : RecoveryRecord) (now id : ℕ) (call an
       by phase.Fetch is = absurd cc
       by phase.Relabel is = absurd cc
       by phase.Send is = absurd cc
-      by phase.Ready is = record { server = ap (λ (n : ℕ). last n None) (sym one) ∙ ap (λ (f : Option Flight). last r.servers f) (sym free); outputs = refl; calls = refl }
+      by phase.Ready is = record { server = ap (λ (n : ℕ). after_commit s r image 0 n (next_version s.version) None) (sym one) ∙ ap (λ (f : Option Flight). after_commit s r image 0 r.servers (next_version s.version) f) (sym free); outputs = refl; calls = refl }
 
   pub written_alone : (m : Member) (only : (h : Host) × (m ≡ alone h)) (next : Version) → next ≡ next_version s.version → s.flight ≡ None → r.servers ≡ 1
       → Leads (written_in m (recovering v r s) now id call answer image changes (recovering v r s).phase) (recovering next (with_text (held_alone r 0) None) (with_database (recovering v r s) next image))
@@ -165,16 +166,6 @@ module _ (s : Server) (v : Version) (r : RecoveryRecord) (now id : ℕ) (call an
       few : is_majority (cell_size m) (only_holder m) ≡ false
       few = one_is_few (cell_size m) m.me more
 
-      abbrev last : ℕ → Version → Flight → Server
-      last n announced f = record s {
-        version = next_version s.version;
-        image = image;
-        phase = Ready (polled_of r) (record { old = r.old_version; holders = only_at true false n m.me }) announced;
-        kept = None;
-        received = None;
-        flight = Some f;
-      }
-
       by : (p : Phase) → p ≡ phase.Ready
           → Leads (written_in m (recovering v (record r { phase = p }) s) now id call answer image changes (record_in p v r))
           (write_begun write (held_alone (record r { phase = p }) m.me) (with_database (recovering v (record r { phase = p }) s) (next_version s.version) image))
@@ -185,7 +176,10 @@ module _ (s : Server) (v : Version) (r : RecoveryRecord) (now id : ℕ) (call an
       by phase.Relabel is = absurd cc
       by phase.Send is = absurd cc
       by phase.Ready is = rw few (record {
-        server = ap (λ (n : ℕ). last n s.version (flight_of s now id call answer changes)) same ∙ ap (λ (w : Version). last r.servers w (flight_of s now id call answer changes)) (sym old) ∙ ap (λ (f : Flight). last r.servers write.kept.old_version f) (sym flight);
+        server =
+            ap (λ (n : ℕ). after_commit s r image m.me n s.version (Some (flight_of s now id call answer changes))) same
+            ∙ ap (λ (w : Version). after_commit s r image m.me r.servers w (Some (flight_of s now id call answer changes))) (sym old)
+            ∙ ap (λ (f : Flight). after_commit s r image m.me r.servers write.kept.old_version (Some f)) (sym flight);
         outputs = ap outputs_of (append-nil (sends_to_each m (λ k. write_bodies s.version (next_version s.version) (text_of changes))));
         calls = refl;
       })

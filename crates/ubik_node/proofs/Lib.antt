@@ -1,5 +1,4 @@
 pub mod AfterReads
-pub mod Again
 pub mod Alone
 pub mod Appended
 pub mod Begun
@@ -7,7 +6,6 @@ pub mod Calling
 pub mod Closing
 pub mod Committing
 pub mod Cut
-pub mod Dropping
 pub mod Durables
 pub mod Endings
 pub mod Fetching
@@ -18,7 +16,6 @@ pub mod HeldImages
 pub mod Images
 pub mod Lapsed
 pub mod Lending
-pub mod Lining
 pub mod Logging
 pub mod Made
 pub mod Places
@@ -30,7 +27,6 @@ pub mod Relabelled
 pub mod Rested
 pub mod Sending
 pub mod Served
-pub mod Settling
 pub mod Spread
 pub mod Stepping
 pub mod Told

@@ -47,12 +47,15 @@ replied_as d image now call told (Err why) so made = tt
 module _ {D : Type 0} (g : Ghosts D) (d : Standing) (n : Held D) (s : Store D) (was : IsKept g n) (up : n.halted ≡ false) (sound : IsSound g s) (image : List ℕ) (now id : ℕ) (call : List ℕ) (before after : List Output) where
   answered : {F : Type 0} (e : code.Evaluation) (told : Reply) → StaysAsItWas n.store s → OnlyReads g n.store.disk s.disk F → ¬ F → (IsMeantIn d (g.files n.store.disk) image → e.reply ≡ (d.database.call image now call).reply)
       → after ≡ before ++ output.Reply id told ∷ [] → IsReadReply (Ok e) told → ReadsFrom g d n (record n { store = s }) image now id call before after (Ok tt)
-  answered e told stays reads went outcome put says = ([], λ basis.
-      let on : Evaluation = record { call = call; moment = now; basis = basis } in
-      read_ends g n (record n { store = s }) refl refl refl was up reads went (stored_read g n s was up sound stays reads went) refl (λ meant. (
-        refl,
-        put ∙ ap (λ (o : Output). before ++ o ∷ []) (sym (says id on) ∙ ap (λ (r : CallReply). (read_reply id on r).output) (outcome meant)),
-      )))
+  answered e told stays reads went outcome put says = (
+    [],
+    λ basis.
+        let on : Evaluation = record { call = call; moment = now; basis = basis } in
+        read_ends g n (record n { store = s }) refl refl refl was up reads went (stored_read g n s was up sound stays reads went) refl (λ meant. (
+          refl,
+          put ∙ ap (λ (o : Output). before ++ o ∷ []) (sym (says id on) ∙ ap (λ (r : CallReply). (read_reply id on r).output) (outcome meant)),
+        )),
+  )
 
   -- it found no memory
   short_answered : {F : Type 0} → StaysAsItWas n.store s → OnlyReads g n.store.disk s.disk F → ¬ F → after ≡ before ++ output.Reply id reply.NoMemory ∷ [] → ReadsFrom g d n (record n { store = s }) image now id call before after (Ok tt)
@@ -60,14 +63,17 @@ module _ {D : Type 0} (g : Ghosts D) (d : Standing) (n : Held D) (s : Store D) (
 
   -- the disk failed
   unanswered : {F : Type 0} → HasFailed n.store s → OnlyReads g n.store.disk s.disk F → F → ReadsFrom g d n (record n { store = s }) image now id call before after (Err DiskFault)
-  unanswered has reads failed = ([], λ basis.
-      failed_ends g n (record n { store = s }) refl refl refl DiskFault (inl refl) was up reads (λ _. refl) (λ _. failed) (λ other. absurd (other refl)) (λ _. record { sound = sound; failed = has.failed }) refl)
+  unanswered has reads failed = (
+    [],
+    λ basis.
+        failed_ends g n (record n { store = s }) refl refl refl DiskFault (inl refl) was up reads (λ _. refl) (λ _. failed) (λ other. absurd (other refl)) (λ _. record { sound = sound; failed = has.failed }) refl,
+  )
 
   pub read_ended : (made : Result code.Evaluation StoreFault) (r : Result (Unit {0}) StoreFault) → (¬ IsErrOf made DiskFault → StaysAsItWas n.store s) → (IsErrOf made DiskFault → HasFailed n.store s) → OnlyReads g n.store.disk s.disk (IsErrOf made DiskFault)
       → (IsMeantIn d (g.files n.store.disk) image → IfOk made (λ e. e.reply ≡ (d.database.call image now call).reply)) → (IsErrOf r DiskFault ↔ IsErrOf made DiskFault) → IsErrOf r DiskFault ⊎ IsOk r
       → OnOk r ((told : Reply) × (after ≡ before ++ output.Reply id told ∷ []) × IsReadReply made told) → ReadsFrom g d n (record n { store = s }) image now id call before after r
   read_ended (Ok e) (Ok done) stays failed reads outcome fault memory told = answered e told.0 (stays (λ is. ok_not e is)) reads (λ is. ok_not e is) outcome told.1 told.2
-  read_ended (Ok e) (Err why) stays failed reads outcome fault memory told = absurd (elim memory [ | inl is ↦ ok_not e (fault.0 is) | inr ok ↦ false≢true ok ])
+  read_ended (Ok e) (Err why) stays failed reads outcome fault memory told = absurd (elim memory [ inl is ↦ ok_not e (fault.0 is) | inr ok ↦ false≢true ok ])
   read_ended (Err why) (Ok done) stays failed reads outcome fault memory told =
       short_answered (stays (λ is. ok_not done (fault.1 is))) reads (λ is. ok_not done (fault.1 is)) (told.1 ∙ ap (λ (r : Reply). before ++ output.Reply id r ∷ []) told.2)
   read_ended (Err why) (Err other) stays failed reads outcome fault memory told = elim memory [

@@ -19,14 +19,10 @@ use Rattle.cell_model.specs.Receiver.{answers_version_is, answers_version_kept, 
 use Rattle.cell_model.specs.Recovery.{continues, installed, is_whole, text_continued, text_with}
 use Rattle.cell_model.specs.Step.{Member, followed, is_fetch, quiet, sends_to, showing}
 use Rattle.ubik_recovery.specs.declared.texts.TextSource.{TextSource}
-use Rattle.ubik_recovery.specs.Record.{RecoveryRecord, phase_record, record_in, with_text}
-use Rattle.ubik_recovery.specs.Rules.{recovering}
+use Rattle.ubik_recovery.specs.Record.{RecoveryRecord, phase_record, record_in}
 use Rattle.ubik_recovery.specs.Text.{IsNext, received_bytes, text_of, with_piece}
-use Rattle.ubik_node.specs.declared.state.State.{State}
 use Rattle.ubik_node.specs.Held.{held_image}
-use Rattle.ubik_node.specs.Receiving.{front_back, front_taken}
 use Rattle.ubik_node.specs.Spreading.{IsSpreading}
-use Rattle.ubik_node.specs.State.{announced, server_of, server_with}
 
 not_true : (b : Bool) → (IsTrue b ↔ ⊥) → false ≡ b
 not_true true says = absurd (says.0 refl)
@@ -147,18 +143,3 @@ front_of may source at bytes text x other is =
     by : (text : Option ReceivedText) → text_continued source.server source.version source.total at bytes text ≡ Some x → text ≡ Some (text_of source (take at (received_bytes text)))
     by None is = absurd cc
     by (Some t) is = same_text source at t (cond_some _ _ x is).0
-
--- the front that was taken out comes back
-pub front_returns : (may : Bool) (source : TextSource) (at : ℕ) (bytes items : List ℕ) (st mid : State) (x : ReceivedText) → text_with may source.server source.version source.total at bytes st.recovery.text ≡ Some x
-    → server_of mid ≡ server_with st (front_taken at st.recovery) → mid.recovery ≡ front_taken at st.recovery → take at items ≡ take at (received_bytes st.recovery.text)
-    → server_with mid (front_back source at (take at items) mid.recovery) ≡ server_of st
-front_returns may source at bytes items st mid x takes server recovery front =
-    let v : mid.version ≡ st.version = ap (λ (s : Server). s.version) server in
-    ap (λ (r : RecoveryRecord). server_with mid (front_back source at (take at items) r)) recovery
-    ∙ ap (λ (xs : List ℕ). server_with mid (front_back source at xs (front_taken at st.recovery))) front
-    ∙ ap (λ (s : Server). recovering s.version (front_back source at (take at (received_bytes st.recovery.text)) (front_taken at st.recovery)) s) server ∙ by (at == 0) refl
-  where
-    by : (b : Bool) → (at == 0) ≡ b → recovering (announced st) (front_back source at (take at (received_bytes st.recovery.text)) (front_taken at st.recovery)) (server_with st (front_taken at st.recovery)) ≡ server_of st
-    by true first = rw first refl
-    by false later =
-        rw later (ap (λ (text : Option ReceivedText). server_with st (with_text st.recovery text)) (sym (front_of may source at bytes st.recovery.text x later takes)))

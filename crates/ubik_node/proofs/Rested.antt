@@ -64,7 +64,7 @@ restored_phase given left = by (is_fetch given.phase)
     by true = refl
     by false = refl
 
-phase_is : (v : Version) (r : RecoveryRecord) → phase_of (phase_record v r) ≡ r.phase
+pub phase_is : (v : Version) (r : RecoveryRecord) → phase_of (phase_record v r) ≡ r.phase
 phase_is v r = by r.phase
   where
     by : (p : Phase) → phase_of (record_in p v r) ≡ p

@@ -1,8 +1,9 @@
 -- The turns of those that wait.
-use Rattle.std.proofs.Common.{◌≡◌, ◌≢◌, ◌++◌, ◌⊎◌, inl, inr, ⊎_elim, ℕ, zero, suc, ◌+◌, ◌<◌, ◌≤◌, Bool, true, false, cond, eqb, Option, Some, None, List, [], ◌∷◌, length, drop, take, replicate, IfErr, IfSome, IsErrOf, IsOk, IsSome, Result, Ok, Err, refl, sym, ap, subst, ◌∙◌, append_assoc, arith}
-use Rattle.std.specs.Prelude.{OnOk, count_by}
+use Rattle.std.proofs.Common.{◌≡◌, ◌≢◌, ◌++◌, ◌⊎◌, inl, inr, ⊎_elim, ℕ, zero, suc, ◌+◌, ◌<◌, ◌≤◌, Bool, true, false, cond, eqb, Option, Some, None, List, [], ◌∷◌, length, drop, take, replicate, slice_get, IfErr, IfSome, IsErrAnd, IsErrOf, IsOk, IsSome, Result, Ok, Err, refl, sym, ap, subst, ◌∙◌, append_assoc, arith}
+use Rattle.std.specs.Option.{option_map}
+use Rattle.std.specs.Prelude.{OnErr, OnOk, count_by}
 use Rattle.std.proofs.lemmas.Bool.{false≢true}
-use Rattle.std.proofs.lemmas.List.{append-nil, map-append}
+use Rattle.std.proofs.lemmas.List.{append-nil, map-append, take_all}
 use Rattle.ubik_types.specs.declared.images.Change.{Change}
 use Rattle.ubik_types.specs.Logged.{too_large}
 use Rattle.ubik_types.specs.Phase.{PhaseRecord, Polled, Spread, NoPhase, Poll, Fetch, Relabel, Send, Ready, phase_of}
@@ -26,14 +27,30 @@ use Rattle.cell_model.specs.Node.{Flight, Server, Waiting, halted_from}
 use Rattle.cell_model.specs.Polls.{only_holder}
 use Rattle.cell_model.specs.Step.{Member, Shown, Stepped, announcing, cell_size, followed, is_ready, is_reply, is_short, outputs_of, quiet, short_after, showing, with_phase}
 use Rattle.cell_model.specs.Writes.{ended_write, flight_settled, is_free, is_free_in, last_counter, next_turns, own_write_begun, settled, settled_in, settled_with_turns, turned, write_turn, written, written_changes, written_in, written_within}
+use Rattle.site_writes.specs.OwnWrite.{OwnRecord}
 use Rattle.ubik_node.specs.Disk.{FailsIn, Serves, StandsAs, StandsBetween, StandsWithin, calls_made, has_label}
 use Rattle.ubik_node.specs.Node.{Ends, EndsSo, Held, IsKept, IsMade, IsMeantIn, durable_in}
 use Rattle.ubik_node.specs.Serving.{IsRepliedTo}
 use Rattle.ubik_node.specs.State.{ShowsBehind}
 use Rattle.ubik_node.specs.Writing.{without_first}
-use Rattle.ubik_node.proofs.Calling.{after_reads, known_so}
+use Rattle.ubik_node.proofs.Calling.{after_reads, ended, known_so}
 use Rattle.ubik_node.proofs.Committing.{one_is_few}
 use Rattle.ubik_node.proofs.Endings.{fault_is, same_ends}
+
+-- no write can begin where one is in flight
+pub writes_busy : (p : PhaseRecord) (own : Option OwnRecord) → IsSome own → is_free_in p (option_map (λ (write : OwnRecord). write.flight) own) ≡ false
+writes_busy p None some = absurd (false≢true some)
+writes_busy NoPhase (Some write) some = refl
+writes_busy (Poll poll) (Some write) some = refl
+writes_busy (Fetch poll best host) (Some write) some = refl
+writes_busy (Relabel poll) (Some write) some = refl
+writes_busy (Send poll spread) (Some write) some = refl
+writes_busy (Ready poll spread announced) (Some write) some = refl
+
+-- what was put out before is all that was put out
+pub front_whole : (r : Result (Unit {0}) StoreFault) (out : List Output) → OnErr r (take (length out) out ≡ out)
+front_whole (Ok done) out = tt
+front_whole (Err why) out = take_all (length out) out (omega arith)
 
 -- how many replies these are
 abbrev pub replies : List Shown → ℕ
@@ -195,16 +212,20 @@ module _ (db : Database) (m : Member) (s : Server) (now : ℕ) (w : Waiting) (wa
       ∙ ap (λ (x : Server). at x short turn.calls) same
       ∙ ap (λ (made : List Made). at (with_line s waiting) short made) calls
 
+named : (db : Database) (now : ℕ) (w : Waiting) (b : Bool) (m place : Member) (s t : Server) → place ≡ m → s ≡ t → write_turn db m t now w.id w.call b ≡ write_turn db place s now w.id w.call b
+named db now w b m place s t at is = ap (λ (k : Member). write_turn db k t now w.id w.call b) (sym at) ∙ ap (λ (x : Server). write_turn db place x now w.id w.call b) (sym is)
+
+-- a fault that is one of the disk
+pub named_fault : {D : Type 0} (g : Ghosts D) {knows : Type 0} {t : Stepped} {before after : List Output} {n m : Held D} (e : StoreFault) → e ≡ DiskFault → Ends g knows t before after n m (Err e) → Ends g knows t before after n m (Err DiskFault)
+named_fault g {knows} {t} {before} {after} {n} {m} e is ends = subst (λ (x : StoreFault). Ends g knows t before after n m (Err x)) is ends
+
 module _ {D : Type 0} (g : Ghosts D) {knows : Type 0} (db : Database) (now : ℕ) (w : Waiting) (waiting : List Waiting) (b : Bool) (before after : List Output) (n : Held D) (free : is_free n.server ≡ true) (others : 1 < cell_size n.member)
     (line : n.server.waiting ≡ w ∷ waiting) (s : Server) (place : Member) (is : s ≡ with_line n.server waiting) (at : place ≡ n.member) where
-  named : write_turn db n.member (with_line n.server waiting) now w.id w.call b ≡ write_turn db place s now w.id w.call b
-  named = ap (λ (k : Member). write_turn db k (with_line n.server waiting) now w.id w.call b) (sym at) ∙ ap (λ (x : Server). write_turn db place x now w.id w.call b) (sym is)
-
   -- a turn after which no write can begin, or in which the disk failed
   pub turn_over : (last : Held D) (r : Result (Unit {0}) StoreFault) → IsErrOf r DiskFault ⊎ IsOk r → (IsOk r → is_free last.server ≡ false) → Ends g knows (write_turn db place s now w.id w.call b) before after (record n { server = s; member = place }) last r
       → Ends g knows (next_turns db n.member now n.server.waiting n.server (b ∷ [])) before after n last r
   turn_over last r fine busy ends =
-      by r fine busy (went_on g n s place last r (ap durable_in is) (λ failed. ap halted_from is) at fine (same_ends g named ends))
+      by r fine busy (went_on g n s place last r (ap durable_in is) (λ failed. ap halted_from is) at fine (same_ends g (named db now w b n.member place s (with_line n.server waiting) at is) ends))
     where
       by : (r : Result (Unit {0}) StoreFault) → IsErrOf r DiskFault ⊎ IsOk r → (IsOk r → is_free last.server ≡ false) → Ends g knows (turn db n.member n.server now w waiting b free line) before after n last r
           → Ends g knows (next_turns db n.member now n.server.waiting n.server (b ∷ [])) before after n last r
@@ -248,7 +269,7 @@ module _ {D : Type 0} (g : Ghosts D) {knows : Type 0} (db : Database) (now : ℕ
       (after_reads g (record n { server = s; member = place }) mid.store last r replied.reads (λ none. none) (subst (λ (h : Held D). Ends g more u between after h last r) mid_is later)) in
       let goes : knows → (between ≡ before ++ outputs_of t.shown) × (next_turns db n.member now n.server.waiting n.server (b ∷ short) ≡ stepped u.server u.calls (t.shown ++ u.shown)) = λ known.
       (let made = ends.made known in
-      let first = same_ends g named ends in
+      let first = same_ends g (named db now w b n.member place s (with_line n.server waiting) at is) ends in
       let shown = (first.made known).outputs in
       let server = (first.made known).server in
       let rests : (t.server ≡ with_line n.server waiting) × (t.calls ≡ []) × (replies t.shown ≡ 1) =
@@ -346,3 +367,36 @@ module _ (m : Member) (s : Server) where
       by (Relabel poll) = refl
       by (Send poll spread) = by_majority poll spread (is_majority (cell_size m) spread.holders)
       by (Ready poll spread announced) = ended_line poll spread announced s.flight
+
+-- so does one at which nobody waits, or one whose disk does not fail
+pub settled_halts : (m : Member) (s mid : Server) → (settled m s).server ≡ mid → (is_ready s.phase ≡ false → halted_from mid ≡ halted_from s) → halted_from mid ≡ halted_from s
+settled_halts m s mid is rests = by (is_ready s.phase) refl
+  where
+    by : (b : Bool) → is_ready s.phase ≡ b → halted_from mid ≡ halted_from s
+    by true ready = sym (ap halted_from is) ∙ settled_keeps m s ready
+    by false ready = rests ready
+
+-- ---- the line
+
+pub line_none : (waiting : List Waiting) → None ≡ slice_get waiting 0 → waiting ≡ []
+line_none [] is = refl
+line_none (w ∷ waiting) is = absurd cc
+
+pub line_first : (waiting : List Waiting) (w : Waiting) → Some w ≡ slice_get waiting 0 → waiting ≡ w ∷ drop 1 waiting
+line_first [] w is = absurd cc
+line_first (first ∷ waiting) w is = let same : w ≡ first = cc in ap (λ (x : Waiting). x ∷ waiting) (sym same)
+
+-- where somebody waits there are others
+pub several : (n me : ℕ) (w : Waiting) (waiting rest : List Waiting) → me < n → (n ≡ 1 → waiting ≡ []) → waiting ≡ w ∷ rest → 1 < n
+several zero me w waiting rest inside alone line = omega (arith, inside)
+several (suc zero) me w waiting rest inside alone line = let none : waiting ≡ [] = alone refl in absurd cc
+several (suc (suc n)) me w waiting rest inside alone line = omega arith
+
+-- an error that is handed on
+pub handed_fine : (r : Result (Unit {0}) StoreFault) (e : StoreFault) → IsErrAnd r (λ x. x ≡ e) → IsErrOf (ended e) DiskFault ⊎ IsOk (ended e) → IsErrOf r DiskFault ⊎ IsOk r
+handed_fine (Ok done) e is fine = absurd is
+handed_fine (Err why) e is fine = ⊎_elim (λ failed. inl (ap ended is ∙ failed)) (λ ok. absurd (false≢true ok)) fine
+
+pub handed_not : {P : Type 0} (r : Result (Unit {0}) StoreFault) (e : StoreFault) → IsErrAnd r (λ x. x ≡ e) → IsOk r → P
+handed_not (Ok done) e is ok = absurd is
+handed_not (Err why) e is ok = absurd (false≢true ok)

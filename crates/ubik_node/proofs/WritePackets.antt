@@ -1,24 +1,20 @@
 -- The packets of a write, one after the other.
-use Rattle.std.proofs.Common.{◌≡◌, ℕ, zero, suc, ◌+◌, ◌-◌, ◌<◌, ◌≤◌, ◌==◌, true, false, Some, List, [], ◌∷◌, ◌++◌, length, map, take, drop, slice_get, refl, sym, ap, ◌∙◌, append_assoc, arith}
-use Rattle.std.proofs.lemmas.List.{map-append, take-append-le, append-nil}
+use Rattle.std.proofs.Common.{◌≡◌, ℕ, suc, ◌+◌, ◌-◌, ◌<◌, ◌≤◌, ◌==◌, false, Some, List, [], ◌∷◌, ◌++◌, length, map, take, drop, slice_get, refl, sym, ap, ◌∙◌, append_assoc, arith}
+use Rattle.std.proofs.lemmas.List.{take-append-le}
 use Rattle.ubik_types.specs.declared.hosts.Host.{Host}
 use Rattle.ubik_types.specs.declared.versions.Version.{Version}
 use Rattle.ubik_calls.specs.declared.packets.Body.{Body}
 use Rattle.ubik_calls.specs.declared.packets.Body.TheVariants as body
 use Rattle.cell_model.specs.declared.events.Output.{Output}
 use Rattle.cell_model.specs.declared.events.Output.TheVariants.{Send}
-use Rattle.cell_model.specs.Pieces.{numbered_piece, piece_count}
+use Rattle.cell_model.specs.Pieces.{numbered_piece}
 use Rattle.cell_model.specs.Step.{Member, Shown, outputs_of, packet_to, sends_from, sent}
-use Rattle.cell_model.specs.Writes.{put_pieces, write_bodies}
+use Rattle.cell_model.specs.Writes.{put_pieces}
 use Rattle.ubik_node.proofs.Sending.{left_of, parted}
 
 -- packets to a host
 abbrev pub packets : Member → Host → List Body → List Output
 packets m host those = outputs_of (map (λ (b : Body). sent (packet_to m host b)) those)
-
-packets-append : (m : Member) (host : Host) (first later : List Body) → packets m host (first ++ later) ≡ packets m host first ++ packets m host later
-packets-append m host [] later = refl
-packets-append m host (b ∷ first) later = ap (λ (rest : List Output). Send (packet_to m host b) ∷ rest) (packets-append m host first later)
 
 pub shown-append : (first later : List Shown) → outputs_of (first ++ later) ≡ outputs_of first ++ outputs_of later
 shown-append [] later = refl
@@ -55,25 +51,6 @@ piece_put m host new text number count out all inside rest =
     append_assoc out (Send (packet_to m host (body.PutPiece new number (numbered_piece text number))) ∷ []) (pieces_left m host new text (number + 1) (count - (number + 1)))
     ∙ ap (λ (left : ℕ). out ++ Send (packet_to m host (body.PutPiece new number (numbered_piece text number))) ∷ pieces_left m host new text (number + 1) left) less
     ∙ ap (λ (more : List Output). out ++ more) (sym (piece_next m host new text number (count - number) one)) ∙ rest
-
--- all pieces were put
-pub pieces_over : (m : Member) (host : Host) (new : Version) (text : List ℕ) (number count : ℕ) (out all : List Output) → count ≤ number → out ++ pieces_left m host new text number (count - number) ≡ all → out ≡ all
-pieces_over m host new text number count out all past rest =
-    let none : count - number ≡ 0 = omega arith in
-    sym (append-nil out) ∙ ap (λ (left : ℕ). out ++ pieces_left m host new text number left) (sym none) ∙ rest
-
--- the beginning of a write, its pieces and its commit
-pub write_put : (m : Member) (host : Host) (old new : Version) (text : List ℕ) (out last : List Output)
-    → last ≡ (out ++ Send (packet_to m host (body.Begin old new (piece_count text) (length text))) ∷ []) ++ pieces_left m host new text 0 (piece_count text)
-    → last ++ Send (packet_to m host (body.Commit old new)) ∷ [] ≡ out ++ packets m host (write_bodies old new text)
-write_put m host old new text out last is =
-    let first : List Output = Send (packet_to m host (body.Begin old new (piece_count text) (length text))) ∷ [] in
-    let middle : List Output = pieces_left m host new text 0 (piece_count text) in
-    let end : List Output = Send (packet_to m host (body.Commit old new)) ∷ [] in
-    ap (λ (xs : List Output). xs ++ end) is
-    ∙ append_assoc (out ++ first) middle end
-    ∙ append_assoc out first (middle ++ end)
-    ∙ ap (λ (xs : List Output). out ++ first ++ xs) (sym (packets-append m host (put_pieces new text 0 (piece_count text)) (body.Commit old new ∷ [])))
 
 -- what stood at the front still stands there
 pub front_stays : (first out more : List Output) → length first ≤ length out → take (length first) out ≡ first → take (length first) (out ++ more) ≡ first

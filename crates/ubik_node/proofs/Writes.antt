@@ -1,28 +1,22 @@
 -- The own writes of a server.
-use Rattle.std.proofs.Common.{◌≡◌, ℕ, suc, ◌+◌, ◌<◌, ◌≤◌, Bool, true, false, Option, Some, None, is_some, option_map, IsSome, List, [], ◌∷◌, ◌++◌, length, drop, get_or, slice_get, refl, sym, ap, subst, ◌∙◌, append_assoc, arith}
-use Rattle.std.proofs.lemmas.List.{append-nil, drop_all}
-use Rattle.std.proofs.lemmas.Option.{get_or_from_slice_get, slice_get-get_or, slice_get_within}
+use Rattle.std.proofs.Common.{◌≡◌, ℕ, suc, ◌+◌, ◌<◌, ◌≤◌, false, Option, Some, None, is_some, option_map, IsSome, List, [], ◌∷◌, ◌++◌, length, drop, slice_get, refl, sym, ap, subst, ◌∙◌, append_assoc, arith, length-append, length-drop, Result, Ok, Err, OnOk, OnErr, IsErrAnd}
+use Rattle.std.proofs.lemmas.Option.{get_or_from_slice_get, slice_get-get_or}
 use Rattle.std.proofs.Math.Seq.{drop-cons}
 use Rattle.std.proofs.Common.{add-one}
-use Rattle.ubik_types.specs.declared.phases.Applied.{Applied}
-use Rattle.ubik_types.specs.declared.phases.Applied.TheVariants as applied
-use Rattle.ubik_types.specs.declared.phases.Phase.{Phase}
-use Rattle.ubik_types.specs.declared.phases.Phase.TheVariants as phase
-use Rattle.ubik_types.specs.declared.versions.Version.{Version}
 use Rattle.ubik_calls.specs.declared.replies.Reply.{Reply}
 use Rattle.cell_model.specs.declared.events.Output.{Output}
 use Rattle.cell_model.specs.declared.events.Output.TheVariants as output
-use Rattle.cell_model.specs.Lapse.{no_quorum, waiting_refused}
-use Rattle.cell_model.specs.Node.{Flight, Server, Waiting}
-use Rattle.cell_model.specs.Polls.{polling}
-use Rattle.cell_model.specs.Step.{Member, outputs_of}
-use Rattle.cell_model.specs.Writes.{last_counter}
+use Rattle.cell_model.specs.Lapse.{waiting_refused}
+use Rattle.cell_model.specs.Node.{Waiting}
+use Rattle.cell_model.specs.Step.{outputs_of}
 use Rattle.site_writes.specs.OwnWrite.{OwnRecord}
-use Rattle.site_writes.specs.Site.{SiteRecord, with_flight}
+use Rattle.lock_table.specs.declared.tables.TheConstants.{MAX_WAITING}
+use Rattle.site_writes.specs.Site.{LineIsFull, SiteRecord, no_writes, with_place, with_waiting, without_first, without_place}
+use Rattle.site_writes.specs.declared.sites.WaitFault.{WaitFault}
+use Rattle.ubik_types.specs.declared.memory.NoMemory.{NoMemory}
 use Rattle.ubik_recovery.specs.Record.{RecoveryRecord}
 use Rattle.ubik_node.specs.Recovering.{IsServing}
-use Rattle.ubik_node.specs.State.{ShowsBehind}
-use Rattle.ubik_node.specs.Writing.{AreOfCell, IsUndoneOf, announced_of, flight_of, own_of, waiting_of}
+use Rattle.ubik_node.specs.Writing.{AreOfCell, own_of}
 
 -- no write is in flight where no calls are served
 pub resting_free : (writes : Option SiteRecord) (r : RecoveryRecord) → ¬ IsServing r → (IsSome (own_of writes) → IsServing r) → own_of writes ≡ None
@@ -32,19 +26,8 @@ resting_free writes r rests serving = by (own_of writes) serving
     by None so = refl
     by (Some write) so = absurd (rests (so refl))
 
--- so the announced version is the own one
-pub free_announced : (v : Version) (own : Option OwnRecord) → own ≡ None → announced_of v own ≡ v
-free_announced v own free = ap (announced_of v) free
-
-pub no_flight : (own : Option OwnRecord) → option_map (λ (write : OwnRecord). write.flight) own ≡ None → own ≡ None
-no_flight None is = refl
-no_flight (Some write) is = absurd cc
-
 pub no_own : (own : Option OwnRecord) → own ≡ None → option_map (λ (write : OwnRecord). write.flight) own ≡ None
 no_own own is = ap (option_map (λ (write : OwnRecord). write.flight)) is
-
-pub free_serves : (own : Option OwnRecord) (P : Type 0) → own ≡ None → IsSome own → P
-free_serves own P free is = let none : is_some own ≡ false = ap is_some free in absurd cc
 
 -- where none is in flight the image may be any other
 pub written_free : (n : ℕ) (image other : List ℕ) (writes : Option SiteRecord) → own_of writes ≡ None → AreOfCell n image writes → AreOfCell n other writes
@@ -55,23 +38,50 @@ written_free n image other writes free are = record {
   alone = are.alone;
 }
 
--- no writes
-pub written_none : (n : ℕ) (image : List ℕ) → AreOfCell n image None
-written_none n image = record {
+pub written_empty : (n : ℕ) (image : List ℕ) → AreOfCell n image (Some no_writes)
+written_empty n image = record {
   others = λ is. absurd cc;
   undone = λ write is. absurd cc;
   room = omega arith;
   alone = λ one. refl;
 }
 
--- a write has begun
-pub written_begun : (n : ℕ) (image other : List ℕ) (site : SiteRecord) (write : OwnRecord) → 1 < n → IsUndoneOf other write → AreOfCell n image (Some site) → AreOfCell n other (Some (with_flight site write))
-written_begun n image other site write others undone are = record {
-  others = λ is. others;
-  undone = λ w is. let same : write ≡ w = cc in subst (IsUndoneOf other) same undone;
-  room = are.room;
-  alone = λ one. absurd (omega arith);
+-- the first one that waits was taken
+pub written_next : (n : ℕ) (image : List ℕ) (site : SiteRecord) → AreOfCell n image (Some site) → AreOfCell n image (Some (without_first site))
+written_next n image site are = record {
+  others = are.others;
+  undone = are.undone;
+  room = omega (arith, length-drop 1 site.waiting, are.room);
+  alone = λ one. ap (drop 1) (are.alone one);
 }
+
+-- a call waits, where the line had room for it
+pub written_waits : (r : Result (Unit {0}) WaitFault) (n id : ℕ) (call image : List ℕ) (site new : SiteRecord) → IsSome site.own → OnOk r (new ≡ with_waiting site id call) → OnErr r (new ≡ site)
+    → (MAX_WAITING ≤ length site.waiting → IsErrAnd r (LineIsFull site)) → AreOfCell n image (Some site) → AreOfCell n image (Some new)
+written_waits (Ok done) n id call image site new some ok err full are =
+    let room : ¬ (MAX_WAITING ≤ length site.waiting) = full in
+    subst (λ (s : SiteRecord). AreOfCell n image (Some s)) (sym ok) (record {
+      others = are.others;
+      undone = are.undone;
+      room = omega (arith, length-append site.waiting (record { id = id; call = call } ∷ []), room);
+      alone = λ one. let others : 1 < n = are.others some in absurd (omega arith);
+    })
+written_waits (Err why) n id call image site new some ok err full are = subst (λ (s : SiteRecord). AreOfCell n image (Some s)) (sym err) are
+
+-- a place is taken, or not
+pub written_held : (r : Result (Unit {0}) NoMemory) (n id : ℕ) (image : List ℕ) (site mid new : SiteRecord) → mid ≡ without_place site → OnOk r (new ≡ with_place mid id) → OnErr r (new ≡ mid) → AreOfCell n image (Some site) → AreOfCell n image (Some new)
+written_held (Ok done) n id image site mid new released ok err are =
+    subst (λ (s : SiteRecord). AreOfCell n image (Some s)) (sym (ok ∙ ap (λ (x : SiteRecord). with_place x id) released)) (record { others = are.others; undone = are.undone; room = are.room; alone = are.alone })
+written_held (Err why) n id image site mid new released ok err are =
+    subst (λ (s : SiteRecord). AreOfCell n image (Some s)) (sym (err ∙ released)) (record { others = are.others; undone = are.undone; room = are.room; alone = are.alone })
+
+pub line_held : (r : Result (Unit {0}) NoMemory) (id : ℕ) (site mid new : SiteRecord) → mid ≡ without_place site → OnOk r (new ≡ with_place mid id) → OnErr r (new ≡ mid) → new.waiting ≡ site.waiting
+line_held (Ok done) id site mid new released ok err = ap (λ (x : SiteRecord). x.waiting) ok ∙ ap (λ (x : SiteRecord). x.waiting) released
+line_held (Err why) id site mid new released ok err = ap (λ (x : SiteRecord). x.waiting) err ∙ ap (λ (x : SiteRecord). x.waiting) released
+
+pub none_in_flight : (own : Option OwnRecord) → is_some own ≡ false → option_map (λ (write : OwnRecord). write.flight) own ≡ None
+none_in_flight None is = refl
+none_in_flight (Some write) is = absurd cc
 
 -- what is put out for those that wait from a place on
 abbrev pub refused_from : List Waiting → ℕ → Reply → List Output
@@ -106,48 +116,3 @@ waits_there waiting k P inside none = by (slice_get waiting k) none (got waiting
     by : (there : Option Waiting) → option_map (λ (w : Waiting). w.id) there ≡ None → IsSome there → P
     by None is some = absurd cc
     by (Some w) is some = absurd cc
-
--- all were refused
-pub all_refused : (waiting : List Waiting) (k : ℕ) (r : Reply) (out all : List Output) → length waiting ≤ k → out ++ refused_from waiting k r ≡ all → out ≡ all
-all_refused waiting k r out all past rest = sym (append-nil out) ∙ ap (λ (those : List Waiting). out ++ outputs_of (waiting_refused those r)) (sym (drop_all k waiting past)) ∙ rest
-
--- the line, from its first one on
-pub line_none : (waiting : List Waiting) → None ≡ slice_get waiting 0 → waiting ≡ []
-line_none [] is = refl
-line_none (w ∷ waiting) is = absurd cc
-
-pub line_first : (waiting : List Waiting) (w : Waiting) → Some w ≡ slice_get waiting 0 → waiting ≡ w ∷ drop 1 waiting
-line_first [] w is = absurd cc
-line_first (first ∷ waiting) w is = let same : w ≡ first = cc in ap (λ (x : Waiting). x ∷ waiting) (sym same)
-
-drop_none : (waiting : List Waiting) → drop 0 waiting ≡ waiting
-drop_none [] = refl
-drop_none (w ∷ waiting) = refl
-
--- the first one that waits has its refusal
-pub turn_refused : (waiting later : List Waiting) (w : Waiting) (r q : Reply) (out all : List Output) → Some w ≡ slice_get waiting 0 → later ≡ drop 1 waiting → q ≡ r
-    → out ++ refused_from waiting 0 r ≡ all → (out ++ output.Reply w.id q ∷ []) ++ refused_from later 0 r ≡ all
-turn_refused waiting later w r q out all first others same rest =
-    let there : slice_get waiting 0 ≡ Some w = sym first in
-    let inside : 0 < length waiting = slice_get_within waiting 0 w there in
-    ap (λ (x : Reply). (out ++ output.Reply w.id x ∷ []) ++ refused_from later 0 r) same
-    ∙ ap (λ (those : List Waiting). (out ++ output.Reply w.id r ∷ []) ++ outputs_of (waiting_refused those r)) (drop_none later ∙ others)
-    ∙ one_refused waiting 0 w.id r out all inside (ap (option_map (λ (x : Waiting). x.id)) there) rest
-
--- the refusal of a server, where another one has the same cell and starts
-pub same_refusal : (m n : Member) (s t : Server) (now : ℕ) (p : Phase) (a : Applied) → m ≡ n → s.starts ≡ t.starts → no_quorum m s now p a ≡ no_quorum n t now p a
-same_refusal m n s t now p a place starts =
-    ap (λ (x : Member). no_quorum x s now p a) place ∙ ap (λ (x : List (Option ℕ)). no_quorum n (record s { starts = x }) now p a) starts
-
--- neither the call nor one that waits is served
-pub counter_over : (m : Member) (s mid after : Server) (now id : ℕ) (old out : List Output) → mid ≡ record s { waiting = [] } → after ≡ polling m mid now
-    → out ≡ (old ++ output.Reply id (no_quorum m s now phase.Poll applied.No) ∷ []) ++ refused_from s.waiting 0 (no_quorum m s now phase.Poll applied.No) → ShowsBehind (last_counter m s now id) after old out
-counter_over m s mid after now id old out drained polls shown =
-    let r : Reply = no_quorum m s now phase.Poll applied.No in
-    record {
-      server = sym (polls ∙ ap (λ (x : Server). polling m x now) drained);
-      calls = refl;
-      outputs =
-          shown ∙ append_assoc old (output.Reply id r ∷ []) (refused_from s.waiting 0 r)
-          ∙ ap (λ (those : List Waiting). old ++ output.Reply id r ∷ outputs_of (waiting_refused those r)) (drop_none s.waiting);
-    }

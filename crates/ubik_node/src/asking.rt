@@ -119,10 +119,13 @@ impl<D: SteadyDisk, V: DraftService> Node<D, V> {
         ensures memory { IsErrOf result StoreFault.DiskFault ⊎ IsOk result }
     {
         let before = out.len();
-        match self.make_write(now, id, call, out) {
-            Ok(()) => Ok(()),
-            Err(StoreFault::DiskFault) => Err(StoreFault::DiskFault),
-            Err(_) => {
+        let fault = match self.make_write(now, id, call, out) {
+            Ok(()) => return Ok(()),
+            Err(fault) => fault,
+        };
+        match fault {
+            StoreFault::DiskFault => Err(StoreFault::DiskFault),
+            _ => {
                 out.cut(before);
                 put_reply(out, id, Reply::NoMemory);
                 Ok(())
@@ -153,17 +156,22 @@ impl<D: SteadyDisk, V: DraftService> Node<D, V> {
     {
         let made = evaluate::<D, V>(self.alloc, &mut self.store, now, call)?;
         match verdict_of::<V>(&self.state, made) {
-            Verdict::Reply(reply) => put_reply(out, id, reply),
-            Verdict::NewPoll => self.state.last_counter(now, id, out),
+            Verdict::Reply(reply) => {
+                put_reply(out, id, reply);
+                Ok(())
+            }
+            Verdict::NewPoll => {
+                self.state.last_counter(now, id, out);
+                Ok(())
+            }
             Verdict::Commit { answer, changes } => {
                 if self.state.cell.len() == 1 {
-                    self.commit(id, answer, &changes, out)?;
+                    self.commit(id, answer, &changes, out)
                 } else {
-                    self.begin_write(now, id, call, answer, &changes, out)?;
+                    self.begin_write(now, id, call, answer, &changes, out)
                 }
             }
         }
-        Ok(())
     }
 
     /// Commits changes under the next counter, announces it, and answers the call: a server that is alone in its cell is a majority.

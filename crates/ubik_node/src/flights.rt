@@ -2,6 +2,7 @@
 ghost use Rattle.std.specs.Prelude.{◌≡◌, ◌≤◌, ◌<◌, ◌+◌, ◌++◌, ◌⊎◌, if◌then◌else◌, ℕ, None, [], length, take, false, IfOk, IfErr, IfSome, IsErrOf, IsSome, List, OnErr, OnOk};
 ghost use Rattle.ubik_types.specs.declared.limits.TheConstants.{MAX_IMAGE};
 ghost use Rattle.ubik_types.specs.declared.versions.TheConstants.{MAX_COUNTER};
+ghost use Rattle.ubik_types.specs.Image.{effect};
 ghost use Rattle.ubik_types.specs.Logged.{too_large};
 ghost use Rattle.ubik_types.specs.Quorum.{marked};
 ghost use Rattle.ubik_types.specs.Version.{IsVersion};
@@ -37,7 +38,7 @@ use ubik_store::{Store, StoreFault};
 use ubik_types::{
     Bytes, Changes, Host, MAXSERVERS, Marks, NoMemory, Phase, Version, bytes_of, majority,
 };
-use ubik_write::{Flight, FlightFault, text_len};
+use ubik_write::{Flight, FlightFault, law_before_image_holds_the_old_bytes, text_len};
 
 /// The flight of changes that are to be made to the image of a store, of which it reads what they overwrite.
 pub fn flight_over<D: SteadyDisk>(
@@ -103,8 +104,10 @@ pub fn own_write(
     image: &HeldImage,
 ) -> OwnWrite
     requires text { flight.text ≡ text_of changes.now }
-    ensures { result ≡ own_write flight answer call.now (image_before flight.undo flight.old_len image.now) changes.now }
+    ensures value { result ≡ own_write flight answer call.now (image_before flight.undo flight.old_len image.now) changes.now }
+    ensures before { (old : List ℕ) → Undoes flight old changes.now → image.now ≡ effect old changes.now → result.flight.old_image ≡ old }
 {
+    law_before_image_holds_the_old_bytes();
     let old_image = Ghost::of::<Undone, BytesBefore>(&Undone {
         flight: &flight,
         image,
@@ -124,14 +127,14 @@ impl State {
         ensures recovery { self.new.recovery ≡ self.old.recovery }
         ensures held { OnOk result (HasPlace id self.new.writes) }
     {
-        if self.writes.is_none() {
-            self.writes = Some(SiteWrites::make(alloc)?);
-        }
-        let Some(writes) = &mut self.writes else {
-            return Ok(());
+        let mut writes = match self.writes.take() {
+            Some(writes) => writes,
+            None => SiteWrites::make(alloc)?,
         };
         writes.release();
-        writes.hold(id)
+        let held = writes.hold(id);
+        self.writes = Some(writes);
+        held
     }
 
     /// Sends the packets of a write that leads to a version to a host: its beginning, its pieces in their order, its commit. For want of memory

@@ -245,7 +245,8 @@ impl<D: SteadyDisk, V: DraftService> Node<D, V> {
         requires fits { length text.now ≤ MAX_IMAGE }
         requires version { IsVersion version }
         requires newer { version_lt self.old.state.version version ≡ true }
-        ensures { Ends D.Disk (IsSome (D.files self.old.store.disk)) (installed (up_server self.old) version text.now) [] [] (held self.old) (held self.new) result }
+        ensures ends { Ends D.Disk (IsSome (D.files self.old.store.disk)) (installed (up_server self.old) version text.now) [] [] (held self.old) (held self.new) result }
+        ensures resting { OnOk result (¬ IsServing self.new.state.recovery) }
     {
         self.store.install(text, version)?;
         self.state.take_over(version, HeldImage::of(&self.store));

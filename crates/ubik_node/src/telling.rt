@@ -92,10 +92,15 @@ impl<D: SteadyDisk, V: DraftService> Node<D, V> {
             out.old out.new (held self.old) (held self.new) result }
         ensures memory { IsErrOf result StoreFault.DiskFault ⊎ IsOk result }
     {
-        if self.state.is_spreading() && version == self.state.version {
-            return self.add_holder(now, from, out);
+        let spreads = self.state.is_spreading();
+        let same = version == self.state.version;
+        if !spreads {
+            return Ok(());
         }
-        Ok(())
+        if !same {
+            return Ok(());
+        }
+        self.add_holder(now, from, out)
     }
 
     /// A server has the own version.

@@ -1,22 +1,38 @@
-use Rattle.std.proofs.Common.{◌≡◌, true, false, sym, ◌∙◌}
+use Rattle.std.proofs.Common.{◌≡◌, Bool, true, false, Option, is_some, sym, ap, ◌∙◌}
+use Rattle.cell_model.specs.Asks.{write_asked}
+use Rattle.cell_model.specs.Node.{Flight}
 use Rattle.cell_model.specs.Step.{Announced_image, Beacon_image, told_version}
 use Rattle.ubik_recovery.specs.Record.{phase_record}
-use Rattle.ubik_node.specs.State.{announced, member_of}
+use Rattle.ubik_node.specs.State.{announced, member_of, server_of}
+use Rattle.ubik_node.specs.Writing.{own_of}
 use Rattle.ubik_node.proofs.Alone.{leased_here}
 use Rattle.ubik_node.proofs.Polled.{ready_phase}
-use Rattle.ubik_node.proofs.Served.{reads_announced, reads_own}
+use Rattle.ubik_node.proofs.Served.{reads_announced, reads_own, waits_or_writes}
+use Rattle.ubik_node.proofs.Writes.{none_in_flight}
 use Rattle.ubik_node.proofs.serving.turn_of.Goals as goal
-use Rattle.ubik_node.proofs.serving.turn_of.Goals.{then-leased+else-writes, else-leased}
+use Rattle.ubik_node.proofs.serving.turn_of.Goals.{then-leased+then-writes+else-is_writing, then-leased+else-writes, else-leased, then-leased-2+else-writes-2, else-leased-2}
 
 pub returns-in-Ready-2-clause-turn : goal.returns-in-Ready-2-clause-turn
 returns-in-Ready-2-clause-turn c = λ db id call short.
     let st = c.args.state.now in
-    let reads : c.args.writes ≡ false = elim c.if-leased.branch [ then-leased+else-writes w ↦ w.if-writes.false | else-leased w ↦ cc ] in (
+    let writes : c.args.writes ≡ true = c.if-writes-2.true in
+    let free : is_some (own_of st.writes) ≡ false = elim c.if-leased.branch [
+      | then-leased+then-writes+else-is_writing w ↦ sym w.is_writing.ensures ∙ w.if-is_writing.false
+      | then-leased+else-writes w ↦ absurd cc
+      | else-leased w ↦ absurd cc
+    ] in
+    waits_or_writes db (member_of st) st c.args.now id call short c.args.writes (leased_here st c.args.now true st.voters (sym c.in_lease-leased.ensures ∙ c.if-leased-2.true)) (ready_phase (announced st) st.recovery (sym c.phase.ensures ∙ c.in-Ready-2.is)) writes
+    ∙ ap (λ (f : Option Flight). write_asked db (member_of st) (server_of st) c.args.now id call short f) (none_in_flight (own_of st.writes) free)
+
+pub returns-in-Ready-3-clause-turn : goal.returns-in-Ready-3-clause-turn
+returns-in-Ready-3-clause-turn c = λ db id call short.
+    let st = c.args.state.now in
+    let reads : c.args.writes ≡ false = elim c.if-leased-2.branch [ then-leased-2+else-writes-2 w ↦ w.if-writes-2.false | else-leased-2 w ↦ cc ] in (
       Announced_image (told_version (phase_record (announced st) st.recovery) st.version),
-      reads_announced db (member_of st) st c.args.now id call short c.args.writes (leased_here st c.args.now true st.voters (sym c.in_lease-leased.ensures ∙ c.if-leased-2.true)) (ready_phase (announced st) st.recovery (sym c.phase.ensures ∙ c.in-Ready-2.is)) reads,
+      reads_announced db (member_of st) st c.args.now id call short c.args.writes (leased_here st c.args.now true st.voters (sym c.in_lease-leased.ensures ∙ c.if-leased-3.true)) (ready_phase (announced st) st.recovery (sym c.phase.ensures ∙ c.in-Ready-3.is)) reads,
     )
 
 pub returns-in_default-2-clause-turn : goal.returns-in_default-2-clause-turn
 returns-in_default-2-clause-turn c = λ db id call short.
     let st = c.args.state.now in
-    (Beacon_image st.version, reads_own db (member_of st) st c.args.now id call short c.args.writes (leased_here st c.args.now false st.voters (sym c.in_lease-leased.ensures ∙ c.if-leased-3.false)) c.if-not-writes.true (sym c.allows_reads.ensures ∙ c.if-allows_reads.true))
+    (Beacon_image st.version, reads_own db (member_of st) st c.args.now id call short c.args.writes (leased_here st c.args.now false st.voters (sym c.in_lease-leased.ensures ∙ c.if-leased-4.false)) c.if-not-writes.true (sym c.allows_reads.ensures ∙ c.if-allows_reads.true))

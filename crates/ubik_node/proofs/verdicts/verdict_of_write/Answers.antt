@@ -42,3 +42,10 @@ returns-then-state-eq-MAX_COUNTER-clause-judged g c = λ image grows made m now 
     let empty : eqb (length c.as_slice.result.now) 0 ≡ false = sym c.is_empty.ensures ∙ c.if-is_empty.false in
     let some : 0 < length c.args.changes = filled _ (ap (λ (x : List Change). eqb (length x) 0) (sym c.as_slice.ensures) ∙ empty) in
     polls_again db m (server_of c.args.state.now) now id call c.args.answer image c.args.changes same fits some (eq-eqb _ _ c.if-state-eq-MAX_COUNTER.true)
+
+pub returns-else-state-eq-MAX_COUNTER-clause-can : goal.returns-else-state-eq-MAX_COUNTER-clause-can
+returns-else-state-eq-MAX_COUNTER-clause-can g c =
+    let apart : c.args.state.now.version.counter ≢ 2147483647 = c.if-state-eq-MAX_COUNTER.false in (
+      omega (arith, c.args.state.now.counter_fits, apart),
+      rw c.requires.len at (sym c.too_large.ensures ∙ c.in_default.is),
+    )

@@ -1,8 +1,10 @@
-use Rattle.std.proofs.Common.{◌∙◌, Bool, Option, [], ◌∷◌, false, refl, ap, sym}
-use Rattle.cell_model.specs.Asks.{asked_as}
+use Rattle.std.proofs.Common.{◌∙◌, Bool, Option, Some, [], ◌∷◌, false, refl, ap, sym}
+use Rattle.cell_model.specs.Asks.{asked_as, put_into_line}
+use Rattle.cell_model.specs.Node.{Flight}
 use Rattle.cell_model.specs.Step.{is_short}
 use Rattle.ubik_node.specs.Node.{held}
 use Rattle.ubik_node.specs.State.{member_of, server_of}
+use Rattle.ubik_node.specs.Writing.{own_of}
 use Rattle.ubik_node.proofs.Endings.{known_ends, rests_ends, same_ends, shown_ends}
 use Rattle.ubik_node.proofs.Reading.{in_flight_so, line_shows}
 use Rattle.ubik_node.proofs.nodes.Node.ask.Goals as goal
@@ -19,9 +21,11 @@ returns-in-Refuse-clause-ends g c =
     let n = c.args.self.now in
     let st = n.state in
     let db = g.V.DraftService.standing.database in
-    let kind = λ (w : Option Bool). asked_as db (member_of st) (server_of st) c.args.now c.args.id c.args.call.now false w in
-    ([], same_ends g.D.Disk (ap kind (sym c.in-Some.ensures) ∙ c.in-Refuse.ensures.turn db c.args.id c.args.call.now false)
-        (rests_ends g.D.Disk (held n) c.requires.stored c.requires.not_halted (record { server = refl; calls = refl; outputs = c.put_reply-in-Refuse.ensures })))
+    let kind = λ (w : Option Bool). asked_as db (member_of st) (server_of st) c.args.now c.args.id c.args.call.now false w in (
+      [],
+      same_ends g.D.Disk (ap kind (sym c.in-Some.ensures) ∙ c.in-Refuse.ensures.turn db c.args.id c.args.call.now false)
+          (rests_ends g.D.Disk (held n) c.requires.stored c.requires.not_halted (record { server = refl; calls = refl; outputs = c.put_reply-in-Refuse.ensures })),
+    )
 
 pub returns-in-Read-clause-ends : goal.returns-in-Read-clause-ends
 returns-in-Read-clause-ends g c =
@@ -45,10 +49,16 @@ pub returns-in-Wait-clause-ends : goal.returns-in-Wait-clause-ends
 returns-in-Wait-clause-ends g c =
     let n = c.args.self.now in
     let st = n.state in
+    let s = server_of st in
     let db = g.V.DraftService.standing.database in
     let line = c.put_in_line.ensures.shows in
-    let kind = λ (w : Option Bool). asked_as db (member_of st) (server_of st) c.args.now c.args.id c.args.call.now line.0 w in
-    ?
+    let now = c.put_in_line.new.self in
+    let kind = λ (w : Option Bool). asked_as db (member_of st) s c.args.now c.args.id c.args.call.now line.0 w in (
+      line.0 ∷ [],
+      same_ends g.D.Disk (ap kind (sym c.in-Some.ensures)) (shown_ends g.D.Disk (held n) st now c.requires.stored c.requires.not_halted refl refl c.put_in_line.ensures.kept
+          (line_shows s.flight (λ (f : Flight). put_into_line s c.args.id c.args.call.now line.0 f) (kind (Some c.in-Some.writes)) (server_of now) c.args.out.now c.put_in_line.new.out (in_flight_so (own_of st.writes) (c.in-Wait.ensures.writing tt))
+          (c.in-Wait.ensures.turn db c.args.id c.args.call.now line.0) line.1)),
+    )
 
 pub returns-in-Write-clause-ends : goal.returns-in-Write-clause-ends
 returns-in-Write-clause-ends g c =

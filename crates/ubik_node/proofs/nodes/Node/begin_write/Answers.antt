@@ -1,4 +1,4 @@
-use Rattle.std.proofs.Common.{◌≡◌, ◌∙◌, ◌++◌, ℕ, cond, List, [], None, Err, IsErrOf, IsSome, length, refl, sym, ap, subst}
+use Rattle.std.proofs.Common.{◌≡◌, ◌∙◌, ◌++◌, ℕ, cond, false, replicate, List, [], None, Err, IsErrOf, IsSome, length, refl, sym, ap, subst, arith}
 use Rattle.std.specs.Result.{is_err}
 use Rattle.std.proofs.lemmas.Bool.{false≢true}
 use Rattle.ubik_types.specs.declared.images.Change.{Change}
@@ -20,7 +20,6 @@ use Rattle.ubik_store.specs.DurableCall.{Commits, IsDurable, IsNeverLong}
 use Rattle.ubik_store.specs.Gaps.{CutsNoPut}
 use Rattle.ubik_node.specs.Node.{held}
 use Rattle.ubik_node.specs.State.{announced, member_of, server_of}
-use Rattle.ubik_write.proofs.BeforeImages.{before-is-old}
 use Rattle.ubik_write.specs.Flight.{IsFlightOf}
 use Rattle.ubik_write.specs.Undo.{image_before}
 use Rattle.ubik_types.specs.Quorum.{marked}
@@ -60,7 +59,7 @@ returns-in_err-commit_all-clause-ends g c = λ image.
     let n = c.args.self.now in
     let st = n.state in
     let m = member_of st in
-    let v = c.next_version.result in
+    let v = c.next_version-next.result in
     let given = c.args.changes.now in
     let kept = logged (length st.image) given in
     let went = λ (failed : _). false≢true (ap is_err failed) in
@@ -73,9 +72,9 @@ returns-in_err-commit_all-clause-ends g c = λ image.
     let same : logged first.len c.as_slice.result.now ≡ kept = ap (λ (cs : List Change). logged first.len cs) c.as_slice.ensures ∙ ap (λ (k : ℕ). logged k given) (still.len c.requires.not_halted) in
     let e = c.in_err-commit_all.field-0.0 in
     let fits : too_large 0 first.len c.as_slice.result.now ≡ None = ap (λ (cs : List Change). too_large 0 first.len cs) c.as_slice.ensures ∙ ap (λ (k : ℕ). too_large 0 k given) (still.len c.requires.not_halted) ∙ c.requires.within in
-    let newer = ap (λ (own : Version). version_lt own v) (still.version c.requires.not_halted) ∙ ap (version_lt st.version) c.next_version.ensures ∙ next_is_newer st.version in
+    let newer = ap (λ (own : Version). version_lt own v) (still.version c.requires.not_halted) ∙ ap (version_lt st.version) c.next_version-next.ensures ∙ next_is_newer st.version in
     let own : OwnRecord = record { flight = flight_of (server_of st) c.args.now c.args.id c.args.call.now c.args.answer given; kept = record c.in_ok-flight.flight { old_version = st.version } } in
-    let leads = written_begun (server_of st) (announced st) st.recovery c.args.now c.args.id c.args.call.now c.args.answer image given c.requires.serving m own v c.next_version.ensures (sym st.of_cell.servers) c.requires.others refl refl in
+    let leads = written_begun (server_of st) (announced st) st.recovery c.args.now c.args.id c.args.call.now c.args.answer image given c.requires.serving m own v c.next_version-next.ensures (sym st.of_cell.servers) c.requires.others refl refl in
     handed_ends g.D.Disk c.from_residual-in_err-commit_all.result e c.from_residual-in_err-commit_all.ensures.1
     (held_as g.D.Disk (server_of mid) (member_of mid) c.hold_place.ensures.server c.hold_place.ensures.kept.member
     (known_call_failed g.D.Disk (held n) c.requires.stored c.requires.not_halted first reads went c.in_ok-flight.ensures.sound stays later c.commit_all.ensures.sound kept v image (own_commit v given image (record { moment = c.args.now; call = c.args.call.now }))
@@ -89,7 +88,7 @@ returns-clause-ends g c = λ image.
     let n = c.args.self.now in
     let st = n.state in
     let m = member_of st in
-    let v = c.next_version.result in
+    let v = c.next_version-next.result in
     let given = c.args.changes.now in
     let kept = logged (length st.image) given in
     let went = λ (failed : _). false≢true (ap is_err failed) in
@@ -110,12 +109,12 @@ returns-clause-ends g c = λ image.
     let Known : Type 0 = IsSome (g.D.Disk.files n.store.disk) × IsWritten st.image image given in
     let here : Known → c.of-image.result ≡ image = λ known.
     c.of-image.ensures ∙ held_after (g.D.Disk.files first.disk) (g.D.Disk.files later.disk) later.len kept st.image image (told_still g.D.Disk reads went known.0) (still.image c.requires.not_halted) done.image (ap (effect st.image) known.1.kept ∙ known.1.leads) in
-    let before : Known → image_before flight.undo flight.old_len c.of-image.result ≡ st.image = λ known.
-    ap (image_before flight.undo flight.old_len) (here known ∙ sym known.1.leads)
-    ∙ before-is-old flight st.image given (undone_here (g.D.Disk.files n.store.disk) flight st.image given known.0 (c.requires.stored.image c.requires.not_halted) c.in_ok-flight.ensures.undo) in
-    let leads = λ (known : Known). written_begun (server_of st) (announced st) st.recovery c.args.now c.args.id c.args.call.now c.args.answer image given c.requires.serving m write v c.next_version.ensures (sym st.of_cell.servers) c.requires.others
-    (ap (λ (w : OwnRecord). w.kept.old_version) c.own_write-write.ensures ∙ of.old_version)
-    (flown write flight (server_of st) c.args.id c.args.now st.version v c.args.call.now c.args.answer (image_before flight.undo flight.old_len c.of-image.result) given c.own_write-write.ensures of (before known)) in
+    let undoes = λ (known : Known). undone_here (g.D.Disk.files n.store.disk) flight st.image given known.0 (c.requires.stored.image c.requires.not_halted) c.in_ok-flight.ensures.undo in
+    let back : Known → image_before flight.undo flight.old_len c.of-image.result ≡ st.image = λ known.
+    sym (ap (λ (w : OwnRecord). w.flight.old_image) c.own_write-write.ensures.value) ∙ c.own_write-write.ensures.before st.image (undoes known) (here known ∙ sym known.1.leads) in
+    let leads = λ (known : Known). written_begun (server_of st) (announced st) st.recovery c.args.now c.args.id c.args.call.now c.args.answer image given c.requires.serving m write v c.next_version-next.ensures (sym st.of_cell.servers) c.requires.others
+    (ap (λ (w : OwnRecord). w.kept.old_version) c.own_write-write.ensures.value ∙ of.old_version)
+    (flown write flight (server_of st) c.args.id c.args.now st.version v c.args.call.now c.args.answer (image_before flight.undo flight.old_len c.of-image.result) given c.own_write-write.ensures.value of (back known)) in
     known_call_made g.D.Disk (held n) c.requires.stored c.requires.not_halted first reads went c.in_ok-flight.ensures.sound stays later c.commit_all.ensures.sound kept v image (own_commit v given image t)
     (λ known. record { leads = ap (effect st.image) known.1.kept ∙ known.1.leads; same = refl; cuts = λ _. subst CutsNoPut (sym known.1.kept) known.1.puts; count = ap length (sym known.1.kept); calls = (leads known).calls })
     (server_of last) (member_of last) (c.begin_flight.ensures.place ∙ c.hold_place.ensures.kept.member) done
@@ -125,17 +124,22 @@ returns-clause-ends g c = λ image.
     (λ known. (
       (leads known).server
           ∙ sym (c.begin_flight.ensures.after
-              ∙ ap (λ (r : RecoveryRecord). write_begun write (held_alone r mid.me) (with_database (server_of mid) v c.of-image.result)) c.hold_place.ensures.recovery
-              ∙ ap (λ (k : Member). write_begun write (held_alone st.recovery k.me) (with_database (server_of mid) v c.of-image.result)) c.hold_place.ensures.kept.member
-              ∙ ap (λ (s : Server). write_begun write (held_alone st.recovery m.me) (with_database s v c.of-image.result)) c.hold_place.ensures.server
-              ∙ ap (λ (bytes : List ℕ). write_begun write (held_alone st.recovery m.me) (with_database (server_of st) v bytes)) (here known)),
+          ∙ ap (λ (r : RecoveryRecord). write_begun write (held_alone r mid.me) (with_database (server_of mid) v c.of-image.result)) c.hold_place.ensures.recovery
+          ∙ ap (λ (k : Member). write_begun write (held_alone st.recovery k.me) (with_database (server_of mid) v c.of-image.result)) c.hold_place.ensures.kept.member
+          ∙ ap (λ (s : Server). write_begun write (held_alone st.recovery m.me) (with_database s v c.of-image.result)) c.hold_place.ensures.server
+          ∙ ap (λ (bytes : List ℕ). write_begun write (held_alone st.recovery m.me) (with_database (server_of st) v bytes)) (here known)),
       c.in_ok-spread_write.ensures.sent
-          ∙ ap (λ (k : Member). c.args.out.now ++ outputs_of (sends_to_each k (λ j. cond (is_marked (marked (length k.hosts) c.nobody.set) j) [] (write_bodies flight.old_version v flight.text)))) c.hold_place.ensures.kept.member
-          ∙ ap (λ (shown : List Shown). c.args.out.now ++ outputs_of shown) (spread_to_each m (length st.cell) 20 c.nobody.set flight.old_version st.version v flight.text (text_of given) refl of.old_version of.text)
+          ∙ ap (λ (k : Member). c.args.out.now ++ outputs_of (sends_to_each k (λ j. cond (is_marked (marked (length k.hosts) (replicate 20 false)) j) [] (write_bodies flight.old_version v flight.text)))) c.hold_place.ensures.kept.member
+          ∙ ap (λ (shown : List Shown). c.args.out.now ++ outputs_of shown) (spread_to_each m (length st.cell) 20 (replicate 20 false) flight.old_version st.version v flight.text (text_of given) refl of.old_version of.text)
           ∙ ap (λ (o : List Output). c.args.out.now ++ o) (sym (leads known).outputs),
-    )))
+    ))
 
 pub commit_all-requires-clause-none : goal.commit_all-requires-clause-none
 commit_all-requires-clause-none g c =
     let went = λ (failed : _). false≢true (ap is_err failed) in
     (stored_read g.D.Disk (held c.args.self.now) c.flight_over.new.store c.requires.stored c.requires.not_halted c.in_ok-flight.ensures.sound (c.in_ok-flight.ensures.same went) c.in_ok-flight.ensures.disk went).none_begun c.requires.not_halted
+
+pub begin_flight-requires-clause-fits : goal.begin_flight-requires-clause-fits
+begin_flight-requires-clause-fits g c =
+    let later = c.commit_all.new.store in
+    omega (arith, c.commit_all.ensures.sound.len, ap length c.of-image.ensures, held_length g.D.Disk later (c.commit_all.ensures.sound.ready c.in_ok-commit_all.ensures.done.failed))

@@ -31,16 +31,16 @@ pub returns-in_err-commit_all-clause-ends : goal.returns-in_err-commit_all-claus
 returns-in_err-commit_all-clause-ends g c = λ now call image.
     let n = c.args.self.now in
     let st = n.state in
-    let v = c.next_version.result in
+    let v = c.next_version-next.result in
     let e = c.in_err-commit_all.field-0.0 in
     let later = c.commit_all.new.store in
     let given = c.args.changes.now in
     let kept = logged (length st.image) given in
     let only = is_alone st.cell st.me c.requires.alone st.place in
-    let leads = written_alone (server_of st) (announced st) st.recovery now c.args.id call c.args.answer image given c.requires.serving (member_of st) only v c.next_version.ensures (no_own _ c.requires.free) (st.of_cell.servers ∙ c.requires.alone) in
+    let leads = written_alone (server_of st) (announced st) st.recovery now c.args.id call c.args.answer image given c.requires.serving (member_of st) only v c.next_version-next.ensures (no_own _ c.requires.free) (st.of_cell.servers ∙ c.requires.alone) in
     let same : logged n.store.len c.as_slice.result.now ≡ kept = ap (λ (cs : List Change). logged n.store.len cs) c.as_slice.ensures ∙ ap (λ (k : ℕ). logged k given) (c.requires.stored.len c.requires.not_halted) in
     let fits : too_large 0 n.store.len c.as_slice.result.now ≡ None = ap (λ (cs : List Change). too_large 0 n.store.len cs) c.as_slice.ensures ∙ ap (λ (k : ℕ). too_large 0 k given) (c.requires.stored.len c.requires.not_halted) ∙ c.requires.within in
-    let newer = ap (λ (own : Version). version_lt own v) (c.requires.stored.version c.requires.not_halted) ∙ ap (version_lt st.version) c.next_version.ensures ∙ next_is_newer st.version in
+    let newer = ap (λ (own : Version). version_lt own v) (c.requires.stored.version c.requires.not_halted) ∙ ap (version_lt st.version) c.next_version-next.ensures ∙ next_is_newer st.version in
     handed_ends g.D.Disk c.from_residual.result e c.from_residual.ensures.1
     (known_call_failed g.D.Disk (held n) c.requires.stored c.requires.not_halted n.store (reads_none g.D.Disk n.store.disk) (λ none. none) c.requires.stored.sound (record { version = refl; len = refl; begun = refl; failed = refl }) later
     c.commit_all.ensures.sound kept v image (own_commit v given image (record { moment = now; call = call }))
@@ -53,13 +53,13 @@ pub returns-clause-ends : goal.returns-clause-ends
 returns-clause-ends g c = λ now call image.
     let n = c.args.self.now in
     let st = n.state in
-    let v = c.next_version.result in
+    let v = c.next_version-next.result in
     let later = c.commit_all.new.store in
     let last = c.take_commit.new.self in
     let given = c.args.changes.now in
     let kept = logged (length st.image) given in
     let only = is_alone st.cell st.me c.requires.alone st.place in
-    let leads = written_alone (server_of st) (announced st) st.recovery now c.args.id call c.args.answer image given c.requires.serving (member_of st) only v c.next_version.ensures (no_own _ c.requires.free) (st.of_cell.servers ∙ c.requires.alone) in
+    let leads = written_alone (server_of st) (announced st) st.recovery now c.args.id call c.args.answer image given c.requires.serving (member_of st) only v c.next_version-next.ensures (no_own _ c.requires.free) (st.of_cell.servers ∙ c.requires.alone) in
     let same : logged n.store.len c.as_slice.result.now ≡ kept = ap (λ (cs : List Change). logged n.store.len cs) c.as_slice.ensures ∙ ap (λ (k : ℕ). logged k given) (c.requires.stored.len c.requires.not_halted) in
     let done : Commits g.D.Disk kept v n.store later = subst (λ (cs : List Change). Commits g.D.Disk cs v n.store later) same c.in_ok-commit_all.ensures.done in
     let is : last.image ≡ c.of-image.result = c.take_commit.ensures.image in
@@ -76,7 +76,7 @@ returns-clause-ends g c = λ now call image.
       leads.server ∙ sym (c.take_commit.ensures.after ∙ ap (λ (bytes : List ℕ). recovering v (with_text (held_alone st.recovery 0) None) (with_database (server_of st) v bytes)) here),
       c.put_reply.ensures ∙ ap (λ (o : List Output). o ++ output.Reply c.args.id (reply.Ok c.args.answer) ∷ []) c.put.ensures
           ∙ append_assoc c.args.out.now (output.Announce v ∷ []) (output.Reply c.args.id (reply.Ok c.args.answer) ∷ []) ∙ ap (λ (o : List Output). c.args.out.now ++ o) (sym leads.outputs),
-    )))
+    ))
 
 pub commit_all-requires-clause-none : goal.commit_all-requires-clause-none
 commit_all-requires-clause-none g c = c.requires.stored.none_begun c.requires.not_halted

@@ -90,12 +90,12 @@ returns-in_err-install g c =
     handed_ends g.D.Disk c.from_residual.result c.in_err-install.field-0.0 c.from_residual.ensures.1
     (same_ends g.D.Disk (fetched_waits (member_of st) (server_of st) c.args.now (polled_of st.recovery) (best_of st.recovery) c.args.text.now newer waits)
     (fails_so g.D.Disk {t = installed (server_of st) (best_of st.recovery) c.args.text.now} (held n) (held c.install.new.self) refl c.in_err-install.field-0.0
-    (subst (λ (v : Version). Ends g.D.Disk (IsSome (g.D.Disk.files n.store.disk)) (installed (server_of st) v c.args.text.now) [] [] (held n) (held c.install.new.self) (Err c.in_err-install.field-0.0)) c.best.ensures.version c.in_err-install.ensures)))
+    (subst (λ (v : Version). Ends g.D.Disk (IsSome (g.D.Disk.files n.store.disk)) (installed (server_of st) v c.args.text.now) [] [] (held n) (held c.install.new.self) (Err c.in_err-install.field-0.0)) c.best.ensures.version c.in_err-install.ensures.ends)))
 
 pub wait-requires-clause-of_cell : goal.wait-requires-clause-of_cell
 wait-requires-clause-of_cell g c =
     let st = c.args.self.now.state in
-    subst (λ (hosts : List Host). IsOfCell (length hosts) c.set_phase.new.self) (sym (ap (λ (m : Member). m.hosts) c.in_ok-install.ensures.member))
+    subst (λ (hosts : List Host). IsOfCell (length hosts) c.set_phase.new.self) (sym (ap (λ (m : Member). m.hosts) c.in_ok-install.ensures.ends.member))
     (subst (λ (r : RecoveryRecord). IsOfCell (length st.cell) r) (sym (c.set_phase.ensures ∙ ap (λ (r : RecoveryRecord). in_phase r phase.Relabel st.me) c.marks-next.ensures))
     (of_relabelling (length st.cell) st.me st.recovery st.of_cell))
 
@@ -124,7 +124,7 @@ returns g c =
           ∙ sym (c.wait.ensures.after ∙ ap (λ (poll : Polled). with_phase (server_with mid.state (adopted next mid.state.recovery)) (Relabel poll)) same),
       sym (append-nil c.args.out.now),
     ))
-    (subst (λ (v : Version). Ends g.D.Disk (IsSome (g.D.Disk.files n.store.disk)) (installed (server_of st) v text) [] [] (held n) (held mid) (Ok tt)) c.best.ensures.version c.in_ok-install.ensures))
+    (subst (λ (v : Version). Ends g.D.Disk (IsSome (g.D.Disk.files n.store.disk)) (installed (server_of st) v text) [] [] (held n) (held mid) (Ok tt)) c.best.ensures.version c.in_ok-install.ensures.ends))
 
 pub set_phase-requires : goal.set_phase-requires
 set_phase-requires g c = let st = c.args.self.now.state in omega (arith, st.place, st.few)
@@ -179,3 +179,6 @@ same-next g c = search rules
 
 pub relabelled-requires-clause-resting : goal.relabelled-requires-clause-resting
 relabelled-requires-clause-resting g c = λ serves. let not = sym c.requires.phase ∙ serves in absurd cc
+
+pub wait-requires-clause-resting : goal.wait-requires-clause-resting
+wait-requires-clause-resting g c = c.in_ok-install.ensures.resting

@@ -1,19 +1,27 @@
-use Rattle.std.proofs.Common.{◌∙◌, ℕ, List, length, refl, sym, ap, arith}
+use Rattle.std.proofs.Common.{◌≡◌, ◌∙◌, ℕ, List, length, refl, sym, ap, arith}
 use Rattle.cell_model.specs.Durable as durable
 use Rattle.cell_model.specs.Durable.{Received}
 use Rattle.cell_model.specs.Step.{with_database}
 use Rattle.ubik_store.specs.DurableCall.{whole_image}
 use Rattle.ubik_store.specs.Store.{IsTooLong}
+use Rattle.ubik_types.specs.Phase.{phase_of}
+use Rattle.cell_model.specs.Node.{Server}
+use Rattle.ubik_node.specs.declared.state.State.{State}
 use Rattle.ubik_node.specs.Node.{held}
-use Rattle.ubik_node.specs.State.{member_of, server_of}
+use Rattle.ubik_node.specs.State.{announced, member_of, server_of}
 use Rattle.ubik_node.proofs.Calling.{call_failed, call_made}
 use Rattle.ubik_node.proofs.Endings.{handed_ends, ok_not, reads_none}
 use Rattle.ubik_node.proofs.HeldImages.{held_length, held_there}
 use Rattle.ubik_node.proofs.Received.{effect_whole, held_text}
+use Rattle.ubik_node.proofs.Rested.{phase_is}
 use Rattle.ubik_node.proofs.nodes.Node.install.Goals as goal
 
-pub returns-in_err-install : goal.returns-in_err-install
-returns-in_err-install g c =
+-- what a server serves by is told by its phase
+same_phase : (x y : State) → (server_of x).phase ≡ (server_of y).phase → x.recovery.phase ≡ y.recovery.phase
+same_phase x y same = sym (phase_is (announced x) x.recovery) ∙ ap phase_of same ∙ phase_is (announced y) y.recovery
+
+pub returns-in_err-install-clause-ends : goal.returns-in_err-install-clause-ends
+returns-in_err-install-clause-ends g c =
     let n = c.args.self.now in
     let v = c.args.version in
     let text = c.args.text.now in
@@ -22,8 +30,8 @@ returns-in_err-install g c =
     c.install.ensures.sound (whole_image text) v text (record { call = durable.Install v text; reason = Received }) (effect_whole n.state.image text) refl (λ _. (tt, tt)) refl refl (IsTooLong text) c.in_err-install.field-0.0 c.in_err-install.ensures.ended
     (rw (c.requires.stored.version c.requires.not_halted) c.requires.newer) (λ bytes long. absurd (omega (arith, long.0, c.requires.fits))) (c.in_err-install.ensures.durable (c.requires.stored.failed ∙ c.requires.not_halted)))
 
-pub returns : goal.returns
-returns g c =
+pub returns-clause-ends : goal.returns-clause-ends
+returns-clause-ends g c =
     let n = c.args.self.now in
     let st = n.state in
     let v = c.args.version in
@@ -65,3 +73,6 @@ take_over-requires-clause-version g c = c.requires.version
 
 pub take_over-requires-clause-fits : goal.take_over-requires-clause-fits
 take_over-requires-clause-fits g c = omega (arith, c.install.ensures.sound.len, ap length c.of.ensures, held_length g.D.Disk c.install.new.self (c.install.ensures.sound.ready c.in_ok-install.ensures.ended.failed))
+
+pub returns-clause-resting : goal.returns-clause-resting
+returns-clause-resting g c = λ serves. c.requires.resting (sym (same_phase c.take_over.new.self c.args.self.now.state (ap (λ (s : Server). s.phase) c.take_over.ensures.after)) ∙ serves)

@@ -1,16 +1,47 @@
-use Rattle.std.proofs.Common.{◌∙◌, Option, sym, ap, subst}
+use Rattle.std.proofs.Common.{◌≡◌, ◌∙◌, ℕ, List, Option, Some, None, sym, ap, subst, arith}
 use Rattle.std.specs.Option.{option_map}
+use Rattle.std.specs.Prelude.{option_copied}
 use Rattle.cell_model.specs.Writes.{announced_image, image_before}
 use Rattle.site_writes.specs.OwnWrite.{OwnRecord}
 use Rattle.ubik_store.specs.Store.{image_in}
+use Rattle.ubik_write.specs.Flight.{FlightRecord}
 use Rattle.ubik_write.specs.Undo as undo
 use Rattle.ubik_node.specs.Node.{held, up_server}
 use Rattle.ubik_node.specs.Serving.{ReadsFrom}
+use Rattle.ubik_node.specs.Writing.{own_of}
 use Rattle.ubik_node.proofs.Reading.{made_from, read_ended, replied_as}
 use Rattle.ubik_node.proofs.nodes.Node.read.Goals as goal
 
+-- the announced image, by the write in flight
+abbrev announced : List ℕ → Option OwnRecord → List ℕ
+announced image own = image_before image (option_map (λ (write : OwnRecord). write.flight) own)
+
 pub returns-in_default-clause-ends : goal.returns-in_default-clause-ends
-returns-in_default-clause-ends g c = ?
+returns-in_default-clause-ends g c =
+    let n = c.args.self.now in
+    let none : own_of n.state.writes ≡ None = sym c.in_flight.ensures ∙ ap option_copied c.in_default.is in
+    subst (λ (image : List ℕ). ReadsFrom g.D.Disk g.V.DraftService.standing (held n) (held c.read_own.new.self) image c.args.now c.args.id c.args.call.now c.args.out.now c.read_own.new.out c.read_own.result) (sym (ap (announced n.state.image) none)) c.read_own.ensures.ends
 
 pub returns-clause-ends : goal.returns-clause-ends
-returns-clause-ends g c = ?
+returns-clause-ends g c =
+    let n = c.args.self.now in
+    let d = g.V.DraftService.standing in
+    let files = g.D.Disk.files n.store.disk in
+    let own : own_of n.state.writes ≡ Some c.in-Some.write.now = sym c.in_flight.ensures ∙ ap option_copied c.in-Some.is in
+    let undone = n.state.written.undone c.in-Some.write.now own in
+    let flight = c.flight.result.now in
+    let image = announced_image (up_server n) in
+    let before : undo.image_before flight.undo flight.old_len n.state.image ≡ image =
+    ap (λ (f : FlightRecord). undo.image_before f.undo f.old_len n.state.image) c.flight.ensures.flight ∙ sym undone.bytes ∙ sym (ap (announced n.state.image) own) in
+    read_ended g.D.Disk d (held n) c.evaluate_before-made.new.store c.requires.stored c.requires.not_halted c.evaluate_before-made.ensures.sound image c.args.now c.args.id c.args.call.now c.args.out.now c.answer_read.new.out c.evaluate_before-made.result c.answer_read.result
+    c.evaluate_before-made.ensures.same c.evaluate_before-made.ensures.failed c.evaluate_before-made.ensures.disk
+    (λ meant. replied_as d image c.args.now c.args.call.now (option_map (undo.image_before flight.undo flight.old_len) (image_in files)) c.evaluate_before-made.result
+    (λ e made. made_from d files (undo.image_before flight.undo flight.old_len) n.state.image image c.args.now c.args.call.now e meant (c.requires.stored.image c.requires.not_halted) before made) c.evaluate_before-made.ensures.made)
+    c.answer_read.ensures.fault c.answer_read.ensures.memory c.answer_read.ensures.replied
+
+pub evaluate_before-made-requires-clause-fits : goal.evaluate_before-made-requires-clause-fits
+evaluate_before-made-requires-clause-fits g c =
+    let st = c.args.self.now.state in
+    let own : own_of st.writes ≡ Some c.in-Some.write.now = sym c.in_flight.ensures ∙ ap option_copied c.in-Some.is in
+    let undone = st.written.undone c.in-Some.write.now own in
+    omega (arith, undone.fits, ap (λ (f : FlightRecord). f.old_len) c.flight.ensures.flight)

@@ -1,4 +1,3 @@
-use Rattle.std.proofs.Common.{◌∙◌}
 use Rattle.ubik_store.specs.Store.{image_in}
 use Rattle.ubik_node.specs.Node.{held}
 use Rattle.ubik_node.proofs.Made.{made_here}
@@ -15,6 +14,3 @@ returns-clause-ends g c =
     (λ meant. replied_as d n.state.image c.args.now c.args.call.now (image_in files) c.evaluate-made.result
     (λ e made. made_here d files n.state.image c.args.now c.args.call.now e meant (c.requires.stored.image c.requires.not_halted) made) c.evaluate-made.ensures.made)
     c.answer_read.ensures.fault c.answer_read.ensures.memory c.answer_read.ensures.replied
-
-pub evaluate-requires-clause-fresh : goal.evaluate-requires-clause-fresh
-evaluate-requires-clause-fresh g c = c.requires.stored.failed ∙ c.requires.not_halted

@@ -20,8 +20,7 @@ inside hosts k host there = slice_get_within hosts k host there
 pub returns-in_default-clause-ends : goal.returns-in_default-clause-ends
 returns-in_default-clause-ends g c =
     let n = c.args.self.now in
-    let db = g.V.DraftService.standing.database in
-    (
+    let db = g.V.DraftService.standing.database in (
       [],
       ignored_ends g.D.Disk db (member_of n.state) (server_of n.state) c.args.now c.args.packet.now [] _ _ (placed _ _ _ c.index.ensures.found c.index.ensures.only ∙ c.in_default.is)
           (rests_ends g.D.Disk (held n) c.requires.stored c.requires.not_halted (record { server = refl; calls = refl; outputs = sym (append-nil c.args.out.now) })),
@@ -30,8 +29,7 @@ returns-in_default-clause-ends g c =
 pub returns-in-Beacon-clause-ends : goal.returns-in-Beacon-clause-ends
 returns-in-Beacon-clause-ends g c =
     let n = c.args.self.now in
-    let db = g.V.DraftService.standing.database in
-    (
+    let db = g.V.DraftService.standing.database in (
       [],
       placed_ends g.D.Disk db (member_of n.state) (server_of n.state) c.args.now c.args.packet.now [] _ _ c.in-Some.from (body.Beacon c.in-Beacon.start c.in-Beacon.claim c.in-Beacon.ready c.in-Beacon.version) (placed _ _ _ c.index.ensures.found c.index.ensures.only ∙ c.in-Some.is) c.in-Beacon.is
           (shown_ends g.D.Disk (held n) n.state c.hear_beacon.new.self c.requires.stored c.requires.not_halted refl refl c.hear_beacon.ensures.kept c.hear_beacon.ensures.shows),
@@ -40,8 +38,7 @@ returns-in-Beacon-clause-ends g c =
 pub returns-in-Vote-clause-ends : goal.returns-in-Vote-clause-ends
 returns-in-Vote-clause-ends g c =
     let n = c.args.self.now in
-    let db = g.V.DraftService.standing.database in
-    (
+    let db = g.V.DraftService.standing.database in (
       [],
       placed_ends g.D.Disk db (member_of n.state) (server_of n.state) c.args.now c.args.packet.now [] _ _ c.in-Some.from (body.Vote c.in-Vote.start c.in-Vote.yes) (placed _ _ _ c.index.ensures.found c.index.ensures.only ∙ c.in-Some.is) c.in-Vote.is
           (shown_ends g.D.Disk (held n) n.state c.hear_vote.new.self c.requires.stored c.requires.not_halted refl refl c.hear_vote.ensures.kept (record { server = ap (λ (t : Stepped). t.server) c.hear_vote.ensures.server; calls = ap (λ (t : Stepped). t.calls) c.hear_vote.ensures.server; outputs = sym (append-nil c.args.out.now) })),
@@ -50,8 +47,7 @@ returns-in-Vote-clause-ends g c =
 pub returns-in-GetVersion-clause-ends : goal.returns-in-GetVersion-clause-ends
 returns-in-GetVersion-clause-ends g c =
     let n = c.args.self.now in
-    let db = g.V.DraftService.standing.database in
-    (
+    let db = g.V.DraftService.standing.database in (
       [],
       placed_ends g.D.Disk db (member_of n.state) (server_of n.state) c.args.now c.args.packet.now [] _ _ c.in-Some.from (body.GetVersion c.in-GetVersion.poll) (placed _ _ _ c.index.ensures.found c.index.ensures.only ∙ c.in-Some.is) c.in-GetVersion.is
           (rests_ends g.D.Disk (held n) c.requires.stored c.requires.not_halted (record {
@@ -66,8 +62,7 @@ returns-in-GetVersion-clause-ends g c =
 pub returns-in-VersionKept-clause-ends : goal.returns-in-VersionKept-clause-ends
 returns-in-VersionKept-clause-ends g c =
     let n = c.args.self.now in
-    let db = g.V.DraftService.standing.database in
-    (
+    let db = g.V.DraftService.standing.database in (
       c.hear_kept.ensures.ends.0,
       placed_ends g.D.Disk db (member_of n.state) (server_of n.state) c.args.now c.args.packet.now c.hear_kept.ensures.ends.0 _ _ c.in-Some.from (body.VersionKept c.in-VersionKept.version) (placed _ _ _ c.index.ensures.found c.index.ensures.only ∙ c.in-Some.is) c.in-VersionKept.is
           c.hear_kept.ensures.ends.1,
@@ -76,8 +71,7 @@ returns-in-VersionKept-clause-ends g c =
 pub returns-in-VersionIs-clause-ends : goal.returns-in-VersionIs-clause-ends
 returns-in-VersionIs-clause-ends g c =
     let n = c.args.self.now in
-    let db = g.V.DraftService.standing.database in
-    (
+    let db = g.V.DraftService.standing.database in (
       c.hear_version.ensures.0,
       placed_ends g.D.Disk db (member_of n.state) (server_of n.state) c.args.now c.args.packet.now c.hear_version.ensures.0 _ _ c.in-Some.from (body.VersionIs c.in-VersionIs.poll c.in-VersionIs.version) (placed _ _ _ c.index.ensures.found c.index.ensures.only ∙ c.in-Some.is) c.in-VersionIs.is
           c.hear_version.ensures.1,
@@ -86,8 +80,7 @@ returns-in-VersionIs-clause-ends g c =
 pub returns-in-GetPiece-clause-ends : goal.returns-in-GetPiece-clause-ends
 returns-in-GetPiece-clause-ends g c =
     let n = c.args.self.now in
-    let db = g.V.DraftService.standing.database in
-    (
+    let db = g.V.DraftService.standing.database in (
       [],
       placed_ends g.D.Disk db (member_of n.state) (server_of n.state) c.args.now c.args.packet.now [] _ _ c.in-Some.from (body.GetPiece c.in-GetPiece.poll c.in-GetPiece.version c.in-GetPiece.offset) (placed _ _ _ c.index.ensures.found c.index.ensures.only ∙ c.in-Some.is) c.in-GetPiece.is
           c.tell_piece.ensures,
@@ -96,8 +89,7 @@ returns-in-GetPiece-clause-ends g c =
 pub returns-in-PieceKept-clause-ends : goal.returns-in-PieceKept-clause-ends
 returns-in-PieceKept-clause-ends g c =
     let n = c.args.self.now in
-    let db = g.V.DraftService.standing.database in
-    (
+    let db = g.V.DraftService.standing.database in (
       [],
       placed_ends g.D.Disk db (member_of n.state) (server_of n.state) c.args.now c.args.packet.now [] _ _ c.in-Some.from (body.PieceKept _ c.in-PieceKept.version c.in-PieceKept.next) (placed _ _ _ c.index.ensures.found c.index.ensures.only ∙ c.in-Some.is) c.in-PieceKept.is
           c.send_next.ensures,
@@ -106,8 +98,7 @@ returns-in-PieceKept-clause-ends g c =
 pub returns-in-SetVersion-clause-ends : goal.returns-in-SetVersion-clause-ends
 returns-in-SetVersion-clause-ends g c =
     let n = c.args.self.now in
-    let db = g.V.DraftService.standing.database in
-    (
+    let db = g.V.DraftService.standing.database in (
       [],
       placed_ends g.D.Disk db (member_of n.state) (server_of n.state) c.args.now c.args.packet.now [] _ _ c.in-Some.from (body.SetVersion c.in-SetVersion.poll c.in-SetVersion.old c.in-SetVersion.new) (placed _ _ _ c.index.ensures.found c.index.ensures.only ∙ c.in-Some.is) c.in-SetVersion.is
           c.set_version.ensures,
@@ -116,8 +107,7 @@ returns-in-SetVersion-clause-ends g c =
 pub returns-in-Piece-clause-ends : goal.returns-in-Piece-clause-ends
 returns-in-Piece-clause-ends g c =
     let n = c.args.self.now in
-    let db = g.V.DraftService.standing.database in
-    (
+    let db = g.V.DraftService.standing.database in (
       [],
       placed_ends g.D.Disk db (member_of n.state) (server_of n.state) c.args.now c.args.packet.now [] _ _ c.in-Some.from (body.Piece c.in-Piece.poll c.in-Piece.version c.in-Piece.total c.in-Piece.offset c.as_slice.result.now) (placed _ _ _ c.index.ensures.found c.index.ensures.only ∙ c.in-Some.is) (c.in-Piece.is ∙ ap (λ (bytes : List ℕ). body.Piece c.in-Piece.poll c.in-Piece.version c.in-Piece.total c.in-Piece.offset bytes) (sym c.as_slice.ensures))
           c.fetch_piece.ensures,
@@ -126,8 +116,7 @@ returns-in-Piece-clause-ends g c =
 pub returns-in-SendPiece-clause-ends : goal.returns-in-SendPiece-clause-ends
 returns-in-SendPiece-clause-ends g c =
     let n = c.args.self.now in
-    let db = g.V.DraftService.standing.database in
-    (
+    let db = g.V.DraftService.standing.database in (
       [],
       placed_ends g.D.Disk db (member_of n.state) (server_of n.state) c.args.now c.args.packet.now [] _ _ c.in-Some.from (body.SendPiece c.in-SendPiece.poll c.in-SendPiece.version c.in-SendPiece.total c.in-SendPiece.offset c.as_slice-in-SendPiece.result.now) (placed _ _ _ c.index.ensures.found c.index.ensures.only ∙ c.in-Some.is) (c.in-SendPiece.is ∙ ap (λ (bytes : List ℕ). body.SendPiece c.in-SendPiece.poll c.in-SendPiece.version c.in-SendPiece.total c.in-SendPiece.offset bytes) (sym c.as_slice-in-SendPiece.ensures))
           c.take_piece.ensures,
@@ -265,8 +254,7 @@ returns-in_default-clause-memory g c = λ takes. inr refl
 pub returns-in-Begin-clause-ends : goal.returns-in-Begin-clause-ends
 returns-in-Begin-clause-ends g c =
     let n = c.args.self.now in
-    let db = g.V.DraftService.standing.database in
-    (
+    let db = g.V.DraftService.standing.database in (
       [],
       placed_ends g.D.Disk db (member_of n.state) (server_of n.state) c.args.now c.args.packet.now [] _ _ c.in-Some.from (body.Begin c.in-Begin.old c.in-Begin.new c.in-Begin.pieces c.in-Begin.len) (placed _ _ _ c.index.ensures.found c.index.ensures.only ∙ c.in-Some.is) c.in-Begin.is
           (quiet_ends g.D.Disk c.args.out.now c.begin_received.ensures),
@@ -275,8 +263,7 @@ returns-in-Begin-clause-ends g c =
 pub returns-in-PutPiece-clause-ends : goal.returns-in-PutPiece-clause-ends
 returns-in-PutPiece-clause-ends g c =
     let n = c.args.self.now in
-    let db = g.V.DraftService.standing.database in
-    (
+    let db = g.V.DraftService.standing.database in (
       [],
       placed_ends g.D.Disk db (member_of n.state) (server_of n.state) c.args.now c.args.packet.now [] _ _ c.in-Some.from (body.PutPiece c.in-PutPiece.new c.in-PutPiece.number c.as_slice-in-PutPiece.result.now) (placed _ _ _ c.index.ensures.found c.index.ensures.only ∙ c.in-Some.is) (c.in-PutPiece.is ∙ ap (λ (bytes : List ℕ). body.PutPiece c.in-PutPiece.new c.in-PutPiece.number bytes) (sym c.as_slice-in-PutPiece.ensures))
           (quiet_ends g.D.Disk c.args.out.now c.put_piece_received.ensures),
@@ -285,8 +272,7 @@ returns-in-PutPiece-clause-ends g c =
 pub returns-in-Commit-clause-ends : goal.returns-in-Commit-clause-ends
 returns-in-Commit-clause-ends g c =
     let n = c.args.self.now in
-    let db = g.V.DraftService.standing.database in
-    (
+    let db = g.V.DraftService.standing.database in (
       [],
       placed_ends g.D.Disk db (member_of n.state) (server_of n.state) c.args.now c.args.packet.now [] _ _ c.in-Some.from (body.Commit c.in-Commit.old c.in-Commit.new) (placed _ _ _ c.index.ensures.found c.index.ensures.only ∙ c.in-Some.is) c.in-Commit.is
           c.commit_received.ensures,
@@ -295,8 +281,7 @@ returns-in-Commit-clause-ends g c =
 pub returns-in-Abort-clause-ends : goal.returns-in-Abort-clause-ends
 returns-in-Abort-clause-ends g c =
     let n = c.args.self.now in
-    let db = g.V.DraftService.standing.database in
-    (
+    let db = g.V.DraftService.standing.database in (
       [],
       placed_ends g.D.Disk db (member_of n.state) (server_of n.state) c.args.now c.args.packet.now [] _ _ c.in-Some.from (body.Abort c.in-Abort.new) (placed _ _ _ c.index.ensures.found c.index.ensures.only ∙ c.in-Some.is) c.in-Abort.is
           (shown_ends g.D.Disk (held n) n.state c.abort_received.new.self c.requires.stored c.requires.not_halted refl refl c.abort_received.ensures.kept (quietly _ _ c.args.out.now c.abort_received.ensures.rests)),

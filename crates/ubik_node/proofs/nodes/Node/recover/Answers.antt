@@ -157,18 +157,18 @@ returns-in-Fetch-2 g c =
 pub spread_again-requires-clause-phase : goal.spread_again-requires-clause-phase
 spread_again-requires-clause-phase g c = search rules
 
-pub returns-in_err-spread_again : goal.returns-in_err-spread_again
-returns-in_err-spread_again g c =
+pub returns-in_err-spread_again-in-Send : goal.returns-in_err-spread_again-in-Send
+returns-in_err-spread_again-in-Send g c =
     let n = c.args.self.now in
-    let err = c.in_err-spread_again.ensures.err in
+    let err = c.in_err-spread_again-in-Send.ensures.err in
     handed_ends g.D.Disk c.from_residual.result _ c.from_residual.ensures.1
     (short_back g.D.Disk (held n) (server_of c.spread_again.new.self) (member_of c.spread_again.new.self) c.requires.stored c.requires.not_halted (ap (λ (st : State). server_of st) err) (ap (λ (st : State). member_of st) err))
 
-pub returns-in-Send : goal.returns-in-Send
-returns-in-Send g c =
+pub returns-in_ok-spread_again-in-Send : goal.returns-in_ok-spread_again-in-Send
+returns-in_ok-spread_again-in-Send g c =
     let n = c.args.self.now in
     shown_ends g.D.Disk (held n) n.state c.spread_again.new.self c.requires.stored c.requires.not_halted refl refl c.spread_again.ensures.kept
-    (c.in_ok-spread_again.ensures.shows c.args.now)
+    (c.in_ok-spread_again-in-Send.ensures.shows c.args.now)
 
 pub begin_poll-requires-clause-resting : goal.begin_poll-requires-clause-resting
 begin_poll-requires-clause-resting g c = λ serves. let not = c.phase.ensures in let none = c.in-None.is in absurd cc

@@ -69,7 +69,7 @@ returns-in-Ok g c =
     let same : durable_in (server_of mid) ≡ durable_in (server_of st) = ap (λ (v : Version). durable v mid.image) kept.version ∙ ap (durable st.version) kept.image in
     made_from g.D.Disk (held n) (server_of mid) (member_of mid) same kept.member (held c.install.new.self)
     (same_ends g.D.Disk
-    (installed_front (server_of st) (server_of mid) at c.args.source.version (with_piece c.args.source at c.args.bytes.now st.recovery.text).bytes c.deref.result.now (announced st) st.recovery c.take_front-text.ensures.after (c.deref.ensures.value ∙ whole)) c.in-Ok.ensures)
+    (installed_front (server_of st) (server_of mid) at c.args.source.version (with_piece c.args.source at c.args.bytes.now st.recovery.text).bytes c.deref.result.now (announced st) st.recovery c.take_front-text.ensures.after (c.deref.ensures.value ∙ whole)) c.in-Ok.ensures.ends)
 
 pub put_front-requires-in-Err : goal.put_front-requires-in-Err
 put_front-requires-in-Err g c = omega (arith, length-take c.args.offset c.extended.new.text.items, c.requires.whole, c.requires.fits)
@@ -91,11 +91,11 @@ returns-in-Err g c =
     let front : take at items ≡ take at xs = ap (take at) whole ∙ front_cut at xs c.args.bytes.now (next_within at st.recovery.text c.requires.next) in
     let same : durable_in (server_of mid) ≡ durable_in (server_of st) = ap (λ (v : Version). durable v mid.image) kept.version ∙ ap (durable st.version) kept.image in
     failed_from g.D.Disk (held n) (server_of mid) (member_of mid) same kept.member (held c.install.new.self) (server_of last) (member_of last) c.in-Err.fault
-    (λ other. c.put_front-in-Err.ensures.after ∙ front_restored true c.args.source at c.args.bytes.now (take at items) st late _ c.requires.takes (c.in-Err.ensures.state other ∙ c.take_front-text.ensures.after) front)
-    (λ is. ap halted_from c.put_front-in-Err.ensures.after ∙ back_kept c.args.source at (take at items) late ∙ c.in-Err.ensures.keeps (ap Err is) ∙ ap halted_from c.take_front-text.ensures.after ∙ taken_kept at st)
-    (c.put_front-in-Err.ensures.kept.member ∙ c.in-Err.ensures.member ∙ kept.member)
+    (λ other. c.put_front-in-Err.ensures.after ∙ front_restored true c.args.source at c.args.bytes.now (take at items) st late _ c.requires.takes (c.in-Err.ensures.ends.state other ∙ c.take_front-text.ensures.after) front)
+    (λ is. ap halted_from c.put_front-in-Err.ensures.after ∙ back_kept c.args.source at (take at items) late ∙ c.in-Err.ensures.ends.keeps (ap Err is) ∙ ap halted_from c.take_front-text.ensures.after ∙ taken_kept at st)
+    (c.put_front-in-Err.ensures.kept.member ∙ c.in-Err.ensures.ends.member ∙ kept.member)
     (same_ends g.D.Disk
-    (installed_front (server_of st) (server_of mid) at c.args.source.version (with_piece c.args.source at c.args.bytes.now st.recovery.text).bytes c.deref.result.now (announced st) st.recovery c.take_front-text.ensures.after (c.deref.ensures.value ∙ whole)) c.in-Err.ensures)
+    (installed_front (server_of st) (server_of mid) at c.args.source.version (with_piece c.args.source at c.args.bytes.now st.recovery.text).bytes c.deref.result.now (announced st) st.recovery c.take_front-text.ensures.after (c.deref.ensures.value ∙ whole)) c.in-Err.ensures.ends)
 
 pub take_front-text-requires : goal.take_front-text-requires
 take_front-text-requires g c = record { next = c.requires.next }

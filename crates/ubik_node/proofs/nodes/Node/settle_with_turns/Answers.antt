@@ -1,0 +1,43 @@
+use Rattle.std.proofs.Common.{◌≡◌, ◌∙◌, ◌++◌, ℕ, List, [], false, replicate, IsErrOf, sym, ap, subst}
+use Rattle.std.specs.Result.{is_ok}
+use Rattle.std.proofs.lemmas.Bool.{false≢true}
+use Rattle.ubik_types.specs.declared.versions.Version.{Version}
+use Rattle.ubik_store.specs.declared.faults.StoreFault.TheVariants.{DiskFault}
+use Rattle.cell_model.specs.Durable.{durable}
+use Rattle.cell_model.specs.Node.{Server, halted_from}
+use Rattle.cell_model.specs.Step.{Member}
+use Rattle.cell_model.specs.Writes.{next_turns, settled}
+use Rattle.ubik_node.specs.Node.{durable_in, held, IsMeantIn}
+use Rattle.ubik_node.specs.State.{announced, member_of, server_of}
+use Rattle.ubik_node.proofs.Endings.{behind_ends, kept_with, known_ends, same_ends}
+use Rattle.ubik_node.proofs.Polled.{ready_phase}
+use Rattle.ubik_node.proofs.Turns.{replies, settled_comes, settled_halts, settled_line, went_on}
+use Rattle.ubik_node.proofs.nodes.Node.settle_with_turns.Goals as goal
+
+pub returns-clause-ends : goal.returns-clause-ends
+returns-clause-ends g c =
+    let n = c.args.self.now in
+    let st = n.state in
+    let mid = c.settle.new.self in
+    let m = member_of st in
+    let s = server_of st in
+    let d = g.V.DraftService.standing in
+    let files = g.D.Disk.files n.store.disk in
+    let shows = c.settle.ensures.shows in
+    let kept = c.settle.ensures.kept in
+    let turns = c.take_turns.ensures.ends in
+    let r = c.take_turns.result in
+    let same : durable_in (server_of mid) ≡ durable_in s = ap (λ (v : Version). durable v mid.image) kept.version ∙ ap (λ (image : List ℕ). durable st.version image) kept.image in
+    let keeps : IsErrOf r DiskFault → halted_from (server_of mid) ≡ halted_from s = λ failed.
+    settled_halts m s (server_of mid) shows.server (λ rests.
+    let waiting = ap (λ (x : Server). x.waiting) (sym shows.server) ∙ settled_line m s ∙ st.line (λ serves. false≢true (sym rests ∙ ready_phase (announced st) st.recovery serves)) in
+    absurd (false≢true (sym (ap is_ok failed) ∙ c.take_turns.ensures.nobody waiting))) in (
+      replicate (replies (settled m s).shown) false ++ turns.0,
+      same_ends g.D.Disk (settled_comes d.database m s (server_of mid) c.args.now turns.0 shows.server shows.calls) (behind_ends g.D.Disk (settled m s).shown r shows.outputs
+          (went_on g.D.Disk (held n) (server_of mid) (member_of mid) (held c.take_turns.new.self) r same keeps kept.member c.take_turns.ensures.memory
+          (known_ends g.D.Disk (λ (meant : IsMeantIn d files st.image). subst (λ (image : List ℕ). IsMeantIn d files image) (sym kept.image) meant)
+          (same_ends g.D.Disk (ap (λ (k : Member). next_turns d.database k c.args.now (server_of mid).waiting (server_of mid) turns.0) (sym kept.member)) turns.1)))),
+    )
+
+pub take_turns-requires-clause-stored : goal.take_turns-requires-clause-stored
+take_turns-requires-clause-stored g c = kept_with g.D.Disk (held c.args.self.now) (server_of c.settle.new.self) c.requires.stored c.settle.ensures.kept.version c.settle.ensures.kept.image
