@@ -48,7 +48,7 @@ use Rattle.cell_sites.proofs.AtPlace.{sites_clocks, sites_length, sites_push, so
 use Rattle.cell_sites.proofs.Hosts.{length-hosts_of}
 use Rattle.cell_sites.proofs.Keeping.{closed_keeps, opened_keeps}
 use Rattle.cell_sites.proofs.Near.{near_make, near_same}
-use Rattle.cell_sites.proofs.Opening.{choices_of, chosen, items_more, rises_more}
+use Rattle.cell_sites.proofs.Opening.{choices_of, chosen, heard, items_more, rises_more}
 use Rattle.cell_sites.proofs.Opens.{if_told, some_told, told_at}
 use Rattle.cell_sites.proofs.Standing.{fresh_stands}
 
@@ -350,6 +350,7 @@ all_opened {D} {V} g db clock k given running before after law spreads moment ro
     } in
     record {
       choices = choices;
+      heard = heard failed;
       stands = subst (λ (f : List Bool). IsModelledBy g db.database (counts_of g given) running (opened_cell n clock k f)) (sym is) opened_so;
       sound = record {
         steady = record {

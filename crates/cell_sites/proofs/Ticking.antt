@@ -30,7 +30,7 @@ use Rattle.cell_sites.specs.declared.sites.Site.{Site}
 use Rattle.cell_sites.proofs.AtPlace.{rises_same, sites_all_ticked, sites_clocks, sites_ticked, sound_at, sound_set}
 use Rattle.cell_sites.proofs.Arming.{armed_here, armed_still}
 use Rattle.cell_sites.proofs.Counting.{hold_more, moved_same}
-use Rattle.cell_sites.proofs.Keeping.{keeps_set}
+use Rattle.cell_sites.proofs.Keeping.{keeps_map, keeps_set}
 use Rattle.cell_sites.proofs.Near.{moments_make, near_all, near_make, near_read, near_set, near_unset}
 use Rattle.cell_sites.proofs.Delivering.{set_same}
 use Rattle.cell_sites.proofs.Soundly.{none_sent}
@@ -317,6 +317,11 @@ none_ticked {D} {V} (site ∷ sites) seconds none =
 pub all_rests : {D V : Type 0} (running : OpenCell D V) (sites : List (Site D V)) (seconds : ℕ) → sites ≡ map (ticked_on seconds) running.sites.items
     → seconds ≡ 0 → (all_ticked running sites).sites.items ≡ running.sites.items
 all_rests running sites seconds are none = all_items running sites seconds are ∙ none_ticked running.sites.items seconds none
+
+pub all_keeps : {D V : Type 0} (db : Database) (running : OpenCell D V) (sites : List (Site D V)) (seconds : ℕ)
+    → sites ≡ map (ticked_on seconds) running.sites.items → Keeps db running → Keeps db (all_ticked running sites)
+all_keeps db running sites seconds are keeps =
+    keeps_map db running (all_ticked running sites) keeps refl (ticked_on seconds) (λ site. refl) (all_items running sites seconds are) refl refl
 
 pub all_sound : {D V : Type 0} (g : Ghosts D) (bound bound' : ℕ) (running : OpenCell D V) (sites : List (Site D V)) (seconds : ℕ)
     → sites ≡ map (ticked_on seconds) running.sites.items → IsSteady g bound running → bound + seconds ≤ MAX_MOMENT → IsSteady g bound' running
