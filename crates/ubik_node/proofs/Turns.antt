@@ -215,6 +215,10 @@ module _ (db : Database) (m : Member) (s : Server) (now : ℕ) (w : Waiting) (wa
 named : (db : Database) (now : ℕ) (w : Waiting) (b : Bool) (m place : Member) (s t : Server) → place ≡ m → s ≡ t → write_turn db m t now w.id w.call b ≡ write_turn db place s now w.id w.call b
 named db now w b m place s t at is = ap (λ (k : Member). write_turn db k t now w.id w.call b) (sym at) ∙ ap (λ (x : Server). write_turn db place x now w.id w.call b) (sym is)
 
+-- an end that is known
+pub named_as : {D : Type 0} (g : Ghosts D) {knows : Type 0} {t : Stepped} {before after : List Output} {n m : Held D} (r q : Result (Unit {0}) StoreFault) → r ≡ q → Ends g knows t before after n m r → Ends g knows t before after n m q
+named_as g {knows} {t} {before} {after} {n} {m} r q is ends = subst (λ (x : Result (Unit {0}) StoreFault). Ends g knows t before after n m x) is ends
+
 -- a fault that is one of the disk
 pub named_fault : {D : Type 0} (g : Ghosts D) {knows : Type 0} {t : Stepped} {before after : List Output} {n m : Held D} (e : StoreFault) → e ≡ DiskFault → Ends g knows t before after n m (Err e) → Ends g knows t before after n m (Err DiskFault)
 named_fault g {knows} {t} {before} {after} {n} {m} e is ends = subst (λ (x : StoreFault). Ends g knows t before after n m (Err x)) is ends

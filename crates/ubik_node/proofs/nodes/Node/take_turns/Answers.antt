@@ -1,15 +1,14 @@
-use Rattle.std.proofs.Common.{◌≡◌, ◌∙◌, ◌∷◌, ◌<◌, ◌+◌, ◌≤◌, ◌⊎◌, inr, ℕ, true, false, Some, List, [], length, drop, IsOk, Ok, refl, sym, ap, subst, arith}
+use Rattle.std.proofs.Common.{◌≡◌, ◌∙◌, ◌∷◌, ◌<◌, inr, ℕ, true, Option, Some, List, [], length, drop, Err, Ok, refl, sym, ap, subst, arith}
 use Rattle.std.proofs.lemmas.List.{append-nil}
 use Rattle.disk_base.specs.Files.{Files}
-use Rattle.std.proofs.Common.{Option}
 use Rattle.cell_model.specs.Node.{Server, Waiting}
 use Rattle.cell_model.specs.Step.{Member, is_short}
 use Rattle.cell_model.specs.Writes.{is_free, write_turn}
-use Rattle.ubik_node.specs.Node.{held, IsMeantIn, own_member, up_server}
+use Rattle.ubik_node.specs.Node.{held, IsMeantIn}
 use Rattle.ubik_node.specs.State.{member_of, server_of}
 use Rattle.ubik_node.specs.Writing.{waiting_of}
 use Rattle.ubik_node.proofs.Endings.{handed_ends, known_ends, ok_not, rests_ends, same_ends, shown_ends}
-use Rattle.ubik_node.proofs.Turns.{handed_fine, handed_not, line_first, line_none, nobody_left, several, turn_goes, turn_over, turns_rest}
+use Rattle.ubik_node.proofs.Turns.{handed_fine, handed_not, line_first, line_none, named_as, nobody_left, several, turn_goes, turn_over, turns_rest}
 use Rattle.ubik_node.proofs.nodes.Node.take_turns.Goals as goal
 
 pub loop-self-init : goal.loop-self-init
@@ -49,11 +48,11 @@ loop-self-preserved g c =
     let made = c.in_ok-write_turn.ensures in
     let last = c.write_turn.new.self in
     let out = c.write_turn.new.out in
-    let ends = known_ends g.D.Disk known (same_ends g.D.Disk (ap (λ (call : List ℕ). write_turn d.database (member_of now) (server_of now) c.args.now w.id call b) (sym c.as_slice.ensures)) turn.1) in
+    let ends = known_ends g.D.Disk known (same_ends g.D.Disk (ap (λ (call : List ℕ). write_turn d.database (member_of now) (server_of now) c.args.now w.id call b) (sym c.as_slice.ensures)) (named_as g.D.Disk c.write_turn.result (Ok c.in_ok-write_turn.field-0) c.in_ok-write_turn.was turn.1)) in
     let several_now : 1 < length now.cell = omega (arith, others, ap (λ (k : Member). length k.hosts) kept.member) in
     record {
       not_halted = ends.halted ∙ inv.not_halted;
-      stored = ends.stored (λ failed. ok_not c.in_ok-write_turn.field-0 (sym c.in_ok-write_turn.was ∙ failed));
+      stored = ends.stored (λ failed. ok_not c.in_ok-write_turn.field-0 failed);
       few = λ ready.
           let replied = made.rests several_now ready in
           omega (arith, inv.few free, replied.few, c.write_turn.ensures.line, ap length line, ap (λ (s : Server). length s.waiting) c.next_asked.ensures.after);
@@ -111,7 +110,7 @@ returns-in_err-write_turn-clause-ends g c =
     let is = c.from_residual.ensures.1 in
     let last = c.write_turn.new.self in
     let out = c.write_turn.new.out in
-    let ends = handed_ends g.D.Disk r e is (known_ends g.D.Disk known (same_ends g.D.Disk (ap (λ (call : List ℕ). write_turn d.database (member_of now) (server_of now) c.args.now w.id call b) (sym c.as_slice.ensures)) c.in_err-write_turn.ensures.ends.1)) in
+    let ends = handed_ends g.D.Disk r e is (known_ends g.D.Disk known (same_ends g.D.Disk (ap (λ (call : List ℕ). write_turn d.database (member_of now) (server_of now) c.args.now w.id call b) (sym c.as_slice.ensures)) (named_as g.D.Disk c.write_turn.result (Err e) c.in_err-write_turn.was turn.1))) in
     let fine = handed_fine r e is c.in_err-write_turn.ensures.memory in
     inv.goes free out (held last) r fine (b ∷ [], turn_over g.D.Disk d.database c.args.now w rest b c.loop-self.out out (held n) free others line (server_of now) (member_of now) c.next_asked.ensures.after kept.member (held last) r fine (λ ok. handed_not r e is ok) ends)
 
