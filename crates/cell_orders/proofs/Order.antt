@@ -39,7 +39,7 @@ use Rattle.cell_model.specs.KeptLaws.{IsPlaced}
 use Rattle.cell_model.specs.Laws.{Begins}
 use Rattle.cell_orders.specs.Acknowledged.{IsLevel, IsFlown, FlightMade, AllKeptAt}
 use Rattle.cell_orders.specs.Laws.{AnnouncementsGrow, AcknowledgedStay, MajoritiesKeep, RepliesAreSingle, RepliesAreGiven}
-use Rattle.cell_orders.specs.Laws.{RepliesAnswerAsks, RepliesHaveAcknowledged, RepliesGrow, SitesServeTheOrder}
+use Rattle.cell_orders.specs.Laws.{RepliesAnswerAsks, RepliesHaveAcknowledged, RepliesGrow, SitesServeTheOrder, WritesAreMade}
 use Rattle.cell_orders.specs.Orders.{IsLast, ServesLast, Premises}
 use Rattle.std.specs.List.{AllByRecursion}
 use Rattle.std.proofs.lemmas.List.Elements.{All-from_recursion}
@@ -458,3 +458,13 @@ module _ (safe : AreSafe cell_rules) (rests : (n : ℕ) (starts : List (Option �
   pub majorities_keep : MajoritiesKeep
   majorities_keep db hosts clock failed events first run =
       (ordered safe premises db Any hosts clock failed events (any_known events) first run).kept.majority
+
+  pub writes_are_made : WritesAreMade
+  writes_are_made db hosts clock failed events first run k site s get up =
+      let r = run_of db hosts clock failed events in
+      let is = ordered safe premises db Any hosts clock failed events (any_known events) first run in
+      let holds =
+      (subst
+      (NodeKeeps (λ lease. Both db OnceAndRising both_grew k lease r.book) (length r.world.hosts) site.clock site.durable) up
+      (is.contents.sites k site get).node).1.1 in
+      record { image = holds.image; flight = is.kept.flights k site s get up; kept = holds.kept }

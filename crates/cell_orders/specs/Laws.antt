@@ -4,14 +4,16 @@ use Rattle.db_image.specs.Database.{Database}
 use Rattle.ubik_types.specs.declared.hosts.Host.{Host}
 use Rattle.ubik_types.specs.declared.versions.Version.{Version}
 use Rattle.ubik_types.specs.Phase.{Polled, Spread, Ready}
-use Rattle.cell_model.specs.Book.{Given, Run, order_of, run_through, is_ready_site, site_database}
+use Rattle.cell_model.specs.Book.{Book, Given, Run, order_of, run_through, is_ready_site, site_database}
 use Rattle.cell_model.specs.KeptLaws.{IsPlaced}
 use Rattle.cell_model.specs.Laws.{Grows}
 use Rattle.cell_model.specs.Node.{Up, Server}
 use Rattle.cell_model.specs.SingleCopy.{image_after}
 use Rattle.cell_model.specs.World.{Site, Event, IsFirst, IsRun, first_world, world_after, member, site_of, happens}
-use Rattle.cell_pages.specs.Images.{KeepsImages}
+use Rattle.cell_pages.specs.Images.{KeepsImages, IsImageOf}
 use Rattle.cell_pages.specs.Laws.{run_of}
+use Rattle.cell_pages.specs.WritesOnTheWay.{KeptIsWrite}
+use Rattle.cell_orders.specs.Acknowledged.{FlightMade}
 use Rattle.cell_orders.specs.Asked.{AnswersAsk}
 use Rattle.cell_orders.specs.Kept.{versions_of, versions_in}
 use Rattle.cell_orders.specs.Orders.{HasMajority, IsLast}
@@ -97,3 +99,18 @@ RepliesAnswerAsks =
     (db : Database) (hosts : List Host) (clock : ℕ) (failed : List Bool) (events : List Event) →
     IsFirst hosts clock failed → IsRun db (first_world hosts clock failed) events →
     All (AnswersAsk events) (run_of db hosts clock failed events).given
+
+-- The writes of a server that is up: that in flight was evaluated on the image of the announced version, and made the own one; and what it
+-- keeps of another server is a write on its own version.
+pub record HasMadeWrites (db : Database) (book : Book) (s : Server) : Type 0 where
+  pub image : IsImageOf db book s.version s.image
+  pub flight : FlightMade db book s.version s.phase s.flight
+  pub kept : KeptIsWrite db book s.version s.kept
+
+-- In each cell, after each run, so of each server that is up.
+abbrev pub WritesAreMade : Type 0
+WritesAreMade =
+    (db : Database) (hosts : List Host) (clock : ℕ) (failed : List Bool) (events : List Event) →
+    IsFirst hosts clock failed → IsRun db (first_world hosts clock failed) events →
+    let r = run_of db hosts clock failed events in
+    (k : ℕ) (site : Site) (s : Server) → site_of r.world k ≡ Some site → site.node ≡ Up s → HasMadeWrites db r.book s

@@ -9,6 +9,7 @@ ghost use Rattle.cell_orders.specs.Laws.{
   RepliesGrow,
   RepliesHaveAcknowledged,
   SitesServeTheOrder,
+  WritesAreMade,
 };
 
 use lease_model::law_rules_are_safe;
@@ -68,6 +69,15 @@ pub fn law_replies()
 /// In each cell, whatever happens, openings included, the lists from which one server gives Ok or Rule grow as prefixes.
 pub fn law_prefixes_stay()
     ensures { RepliesGrow }
+{
+    law_rules_are_safe();
+    lease_rests_on_greatest_start();
+}
+
+/// In each cell, whatever happens, a write in flight was evaluated on the image of the announced version, and made the own version of its
+/// server; and a write that a server keeps of another one is one on its own version.
+pub fn law_writes_are_made()
+    ensures { WritesAreMade }
 {
     law_rules_are_safe();
     lease_rests_on_greatest_start();

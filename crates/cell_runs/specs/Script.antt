@@ -1,5 +1,7 @@
 -- The meaning of a script: each line is a list of events of the world, given what the lines before it left, or the script ends
--- there (own). The free choices are where a disk fails, and whether a stop lets the durable call take place in which it comes.
+-- there (own). The free choices are where a disk fails, whether a stop lets the durable call take place in which it comes, and where memory
+-- is not found.
+use Rattle.std.specs.List.{AllByRecursion}
 use Rattle.std.specs.Prelude.{ℕ, zero, suc, ◌≡◌, ◌+◌, ◌-◌, ◌==◌, ◌&&◌, ◌||◌, nat_lt, nat_le, not, Bool, true, false, if◌then◌else◌, Option, Some, None, is_none, Result, Ok, Err, List, [], ◌∷◌, ◌++◌, length, map, replicate, set, slice_get, drop}
 use Rattle.ubik_types.specs.declared.hosts.Host.{Host}
 use Rattle.ubik_types.specs.declared.versions.Version.{Version}
@@ -14,7 +16,7 @@ use Rattle.cell_model.specs.Book.{Run, first_run, run_with, clock_at}
 use Rattle.cell_model.specs.Durable.{Made, version_after}
 use Rattle.cell_model.specs.Node.{Node, Down, Halted, Up, Server}
 use Rattle.cell_model.specs.NodeRule.{place_of, step_of}
-use Rattle.cell_model.specs.Step.{host_at, is_ready}
+use Rattle.cell_model.specs.Step.{host_at}
 use Rattle.cell_model.specs.World.{Site, World, Trigger, Delivery, Beacon_turn, Recover_turn, Asking, Event, Tick, Tick_all, Step, Stop, Fault, Crash, Restart, Happening, Sent, Happened, happens, first_world, first_seen, calls_on, occasion, member, site_of, is_down, may_tick, tick_at, ticked}
 use Rattle.cell_script.specs.declared.lines.Kind.{Kind}
 use Rattle.cell_script.specs.declared.lines.Line.{Line}
@@ -31,14 +33,22 @@ use Rattle.cell_runs.specs.declared.traces.Showing.{Showing}
 use Rattle.cell_runs.specs.Trace.{TraceItem, Tells, Shows, trace, ending_text}
 
 -- The choices of a step or an opening: whether its disk fails; how many of its durable calls took place, where it does; and
--- whether the durable call took place in which an armed disk stops.
+-- whether the durable call took place in which an armed disk stops. Want of memory is a choice too: which of its replies are for
+-- that, in their order. Of a step in which the disk fails or stops no reply is seen (`unheard`). In one that the disk serves such a
+-- reply ends the run (`short`).
 pub record Choice : Type 0 where
   pub fails : Bool
   pub made : ℕ
   pub took : Bool
+  pub unheard : List Bool
+  pub short : List Bool
 
 abbrev pub sound : Choice
-sound = record { fails = false; made = 0; took = false }
+sound = record { fails = false; made = 0; took = false; unheard = []; short = [] }
+
+-- no reply that is seen of the step is for want of memory
+abbrev pub IsHeard : Choice → Type 0
+IsHeard choice = choice.short ≡ []
 
 -- the first of these choices; where nothing is said of it the disk is sound
 abbrev pub choice_of : List Choice → Choice
@@ -56,9 +66,10 @@ pub record Choices : Type 0 where
 abbrev pub sound_choices : Choices
 sound_choices = record { each = []; most = MAX_PACKETS }
 
--- the line is run to its end
-abbrev pub IsWhole : Choices → Type 0
-IsWhole choices = choices.most ≡ MAX_PACKETS
+-- the line is run to its end, and memory is found in it
+pub record IsWhole (choices : Choices) : Type 0 where
+  pub most : choices.most ≡ MAX_PACKETS
+  pub found : AllByRecursion IsHeard choices.each
 
 -- the choice for the first step of a line
 abbrev pub first_choice : Choices → Choice
@@ -210,23 +221,29 @@ counted_on calls (Some armed) = Some (record armed { made = armed.made + calls }
 pub data DiskOutcome : Type 0 where
   -- it serves the step, in so many changing calls
   Serves : (calls : ℕ) → DiskOutcome
-  Fails_after : (made : ℕ) → DiskOutcome
-  Stops_after : (made : ℕ) → DiskOutcome
+  -- it fails or stops after so many durable calls of the step with these replies for want of memory
+  Fails_after : (short : List Bool) → (made : ℕ) → DiskOutcome
+  Stops_after : (short : List Bool) → (made : ℕ) → DiskOutcome
 
-abbrev pub outcome_of_stop : ℕ → Bool → Option ℕ → DiskOutcome
-outcome_of_stop calls took None = Serves calls
-outcome_of_stop calls took (Some made) = Stops_after (if took then made + 1 else made)
+abbrev pub or_stops : DiskOutcome → (short : List Bool) → (took : Bool) → Option ℕ → DiskOutcome
+or_stops other short took None = other
+or_stops other short took (Some made) = Stops_after short (if took then made + 1 else made)
 
--- an armed disk stops where it must; else it fails or not
-abbrev pub outcome_up : Choice → Version → List Made → Option Armed → DiskOutcome
-outcome_up choice version calls armed =
-    if choice.fails then Fails_after choice.made
-    else outcome_of_stop (calls_on_all version calls) choice.took (stops_in version calls armed)
+-- the disk that serves a step, or stops in it, where it is armed for that
+abbrev pub served_or_stops : Choice → Version → (List Bool → List Made) → Option Armed → DiskOutcome
+served_or_stops choice version calls_with armed =
+    or_stops (Serves (calls_on_all version (calls_with choice.short))) choice.short choice.took (stops_in version (calls_with choice.short) armed)
+
+-- An armed disk stops where it must; else it fails or not. `calls_with` has the durable calls of the step, by its replies for want of memory.
+abbrev pub outcome_up : Choice → Version → (List Bool → List Made) → Option Armed → DiskOutcome
+outcome_up choice version calls_with armed =
+    if choice.fails then Fails_after choice.unheard choice.made
+    else or_stops (served_or_stops choice version calls_with armed) choice.unheard choice.took (stops_in version (calls_with choice.unheard) armed)
 
 -- a server that is down or halted makes no call of its disk
 abbrev pub outcome_at : Database → World → Choice → List (Option Armed) → ℕ × NodeEvent → Node → DiskOutcome
 outcome_at db w choice armed o (Up s) =
-    outcome_up choice s.version (step_of db (member w o.0) s (clock_at w o.0) o.1 []).calls (armed_at armed o.0)
+    outcome_up choice s.version (λ short. (step_of db (member w o.0) s (clock_at w o.0) o.1 short).calls) (armed_at armed o.0)
 outcome_at db w choice armed o _ = Serves 0
 
 abbrev pub node_in : Option Site → Node
@@ -241,19 +258,19 @@ abbrev pub place_in : Option (ℕ × NodeEvent) → ℕ
 place_in None = 0
 place_in (Some o) = o.0
 
--- The step that a trigger brings: no call in it finds no memory, for that ends a run. A stop disarms its disk.
-abbrev pub stepped_so : ScriptDatabase → Cell → Trigger → ℕ → DiskOutcome → Cell_run
-stepped_so script_db c trigger k (Serves calls) =
-    with_event script_db (record c { armed = set c.armed k (counted_on calls (armed_at c.armed k)) }) (Step trigger [])
-stepped_so script_db c trigger k (Fails_after made) = with_event script_db c (Fault trigger [] made)
-stepped_so script_db c trigger k (Stops_after made) =
-    with_event script_db (record c { armed = set c.armed k None }) (Stop trigger [] made)
+-- The step that a trigger brings. A stop disarms its disk.
+abbrev pub stepped_so : ScriptDatabase → Cell → Trigger → ℕ → (short : List Bool) → DiskOutcome → Cell_run
+stepped_so script_db c trigger k short (Serves calls) =
+    with_event script_db (record c { armed = set c.armed k (counted_on calls (armed_at c.armed k)) }) (Step trigger short)
+stepped_so script_db c trigger k short (Fails_after unheard made) = with_event script_db c (Fault trigger unheard made)
+stepped_so script_db c trigger k short (Stops_after unheard made) =
+    with_event script_db (record c { armed = set c.armed k None }) (Stop trigger unheard made)
 
 abbrev pub stepped : ScriptDatabase → Cell → Choice → Trigger → Cell_run
 stepped script_db c choice trigger =
     let w = c.run.world in
     let o = occasion w trigger in
-    stepped_so script_db c trigger (place_in o) (outcome_of script_db.database w choice c.armed o)
+    stepped_so script_db c trigger (place_in o) choice.short (outcome_of script_db.database w choice c.armed o)
 
 -- a packet is delivered, and waits no longer
 abbrev pub delivered : ScriptDatabase → Cell → Choice → ℕ → Cell_run
@@ -364,26 +381,10 @@ run_in script_db c choices (line.Cell servers clock k) = Err why.Cell
 run_in script_db c choices line.Nothing = Ok (resting c)
 run_in script_db c choices (line.Ask server words) = Err why.Syntax
 
--- a server that is up serves calls, as far as its last step tells
-abbrev pub serves_calls : Node → Bool
-serves_calls (Up s) = is_ready s.phase
-serves_calls _ = false
-
-abbrev pub does_write : Option Bool → Bool
-does_write None = false
-does_write (Some writes) = writes
-
--- A call that is not built yet: it writes, and server `number`, counted from 1, serves calls in a cell of several servers.
-abbrev pub is_later_write : Database → Cell → ℕ → List ℕ → Bool
-is_later_write db c number call =
-    nat_lt 0 number && nat_lt 1 (cell_size_of c) && serves_calls (node_in (site_of c.run.world (number - 1))) && does_write (db.writes call)
-
 -- a call at a server that is up, under the next number
 abbrev pub asked_at : ScriptDatabase → Cell → Choice → ℕ → List ℕ → Option ℕ → Run_or_why
 asked_at script_db c choice id call None = Err why.Number
-asked_at script_db c choice id call (Some number) =
-    if is_later_write script_db.database c number call then Err why.Unbuilt
-    else at_up c number (λ k. stepped script_db c choice (Asking k id call))
+asked_at script_db c choice id call (Some number) = at_up c number (λ k. stepped script_db c choice (Asking k id call))
 
 abbrev pub asked_in : ScriptDatabase → Cell → Choice → ℕ → List (List ℕ) → Option ℕ → Option (List ℕ) → Run_or_why
 asked_in script_db c choice id words server None = if script_db.words.is_unbuilt words then Err why.Unbuilt else Err why.Syntax

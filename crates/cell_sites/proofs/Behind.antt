@@ -7,13 +7,19 @@ use Rattle.disk_base.specs.declared.disks.Disk.{Ghosts}
 use Rattle.db_image.specs.Database.{Database}
 use Rattle.db_image.specs.Standing.{Standing}
 use Rattle.cell_model.specs.Book.{Run}
+use Rattle.cell_model.specs.declared.events.NodeEvent.{NodeEvent}
 use Rattle.cell_model.specs.Durable.{Durable}
 use Rattle.cell_model.specs.Node as model
+use Rattle.cell_model.specs.NodeRule.{step_of}
+use Rattle.cell_model.specs.Step.{Member}
+use Rattle.cell_model.specs.World.{site_of}
+use Rattle.cell_model.specs.Writes.{announced_image}
 use Rattle.cell_script.specs.declared.lines.Line.{Line}
 use Rattle.cell_script.specs.declared.lines.Line.TheVariants as line
 use Rattle.cell_script.specs.declared.lines.Why.TheVariants as why
 use Rattle.cell_runs.specs.Script.{Cell, Choices, asked_at, delivered, first_choice, resting, run_in, sound_choices}
 use Rattle.cell_runs.specs.ScriptDatabase.{ScriptDatabase}
+use Rattle.flight_laws.specs.Flights.{HasWrites, WritesStand}
 use Rattle.recovery_laws.specs.Stands.{AllStand, ImagesStand, IsMeantImage, IsService}
 use Rattle.script_laws.specs.CellRuns.{CellsGoOn, TicksOn}
 use Rattle.ubik_node.specs.declared.nodes.Node.{Node}
@@ -26,10 +32,12 @@ use Rattle.cell_sites.specs.Disks.{held}
 use Rattle.cell_sites.specs.Sites.{AreArmed, AreSitesOf, site_disk}
 use Rattle.cell_sites.specs.Sound.{HasRun}
 use Rattle.cell_sites.specs.Stepped.{up_site}
+use Rattle.cell_sites.specs.Taken.{CutsNone}
 use Rattle.cell_sites.specs.Told.{CellTold}
 use Rattle.cell_sites.specs.Traffic.{Traffic, handed_over}
-use Rattle.cell_sites.proofs.AtPlace.{site_at}
+use Rattle.cell_sites.proofs.AtPlace.{IsSiteAt, site_at}
 use Rattle.cell_sites.proofs.Delivering.{stands_with, with_handed, with_packets}
+use Rattle.cell_sites.proofs.Plainly.{taken_cut}
 use Rattle.cell_sites.proofs.Reading.{read_at}
 
 -- ---- images
@@ -43,12 +51,29 @@ all_stand g standing asks running law service behind =
     subst (λ (r : Run). AllStand standing r) (sym is.run)
     (law service c.run.world.hosts c.opening.clock c.opening.failed c.events is.first is.legal).0
 
-pub up_meant : {D V : Type 0} (g : Ghosts D) (standing : Standing) (asks : ℕ) (running : OpenCell D V) (k clock : ℕ) (node : Node D V) → ImagesStand standing
-    → IsService standing → HasRun g standing.database asks running → slice_get running.sites.items k ≡ Some (up_site clock node)
-    → (s : model.Server) → node_of node ≡ model.Up s → IsMeantImage standing s.image
-up_meant g standing asks running k clock node law service behind there s up =
-    let at = site_at running.sites.items behind.cell.run.world.sites k (up_site clock node) behind.stands.sites there in
-    (all_stand g standing asks running law service behind).up k at.s s at.there (at.is.node ∙ up)
+module _ {D V : Type 0} (g : Ghosts D) (standing : Standing) (asks : ℕ) (running : OpenCell D V) (k clock : ℕ) (node : Node D V)
+    (service : IsService standing) (behind : HasRun g standing.database asks running) (there : slice_get running.sites.items k ≡ Some (up_site clock node))
+    where
+  at : IsSiteAt (up_site {D = D} {V = V} clock node) behind.cell.run.world.sites k
+  at = site_at running.sites.items behind.cell.run.world.sites k (up_site clock node) behind.stands.sites there
+
+  -- so the image before a write in flight of a server that is up, and what it takes of another one's
+  pub up_writes : WritesStand standing → (s : model.Server) → node_of node ≡ model.Up s → HasWrites standing s
+  up_writes law s up =
+      let c = behind.cell in
+      let is = behind.run in
+      law service c.run.world.hosts c.opening.clock c.opening.failed c.events is.first is.legal k at.s s
+      (subst (λ (r : Run). site_of r.world k ≡ Some at.s) is.run at.there) (at.is.node ∙ up)
+
+  pub up_meant : ImagesStand standing → WritesStand standing → (s : model.Server) → node_of node ≡ model.Up s
+      → IsMeantImage standing s.image × IsMeantImage standing (announced_image s)
+  up_meant law writes s up =
+      ((all_stand g standing asks running law service behind).up k at.s s at.there (at.is.node ∙ up), (up_writes writes s up).before)
+
+  -- what a server takes from another one cuts no put
+  pub up_cuts : WritesStand standing → (m : Member) (e : NodeEvent) → CutsNone standing.database m e clock (node_of node)
+  up_cuts writes m e s up short =
+      taken_cut (step_of standing.database m s clock e short).calls ((up_writes writes s up).takes m clock e short)
 
 -- the files of a server stand for its durable state
 pub some_stands : {D V : Type 0} (g : Ghosts D) (db : Database) (asks : ℕ) (running : OpenCell D V) (k : ℕ) (site : Site D V) → HasRun g db asks running

@@ -11,7 +11,7 @@ use Rattle.ubik_types.specs.declared.hosts.Host.{Host}
 use Rattle.ubik_calls.specs.declared.packets.Packet.{Packet}
 use Rattle.cell_model.specs.declared.events.NodeEvent.TheVariants as event
 use Rattle.cell_model.specs.NodeRule.{place_of}
-use Rattle.recovery_laws.specs.HasNoWrite.{IsRecoveryPacket}
+use Rattle.write_laws.specs.Keeping.{IsCellPacket}
 use Rattle.cell_model.specs.World.{Site as ModelSite, World, Delivery, Step, Lost, Happened, SiteHappened, happened_at, occasion, only_marks}
 use Rattle.cell_model.specs.World.{packet_numbered}
 use Rattle.cell_model.specs.World as world
@@ -26,7 +26,7 @@ use Rattle.cell_sites.specs.Disks.{AreReadBy}
 use Rattle.cell_sites.specs.Places.{IsDownAt}
 use Rattle.cell_sites.specs.Counts.{calls_of}
 use Rattle.cell_sites.specs.Sites.{AreArmed, IsModelledBy, helds}
-use Rattle.cell_sites.specs.Sound.{IsSteady}
+use Rattle.cell_sites.specs.Sound.{IsSteady, Keeps}
 use Rattle.cell_sites.specs.Told.{CellTold, IsShort}
 use Rattle.cell_sites.specs.Traffic.{Traffic, handed_over}
 use Rattle.cell_sites.proofs.AtPlace.{site_at}
@@ -58,16 +58,23 @@ stands_with running c p handed stands sent is =
     }
 
 pub sound_with : {D V : Type 0} (g : Ghosts D) (bound : ℕ) (running : OpenCell D V) (p : Traffic) → IsSteady g bound running
-    → p.sent ≡ running.packets.sent → IsSteady g bound (with_packets running p)
-sound_with g bound running p sound sent =
+    → IsSteady g bound (with_packets running p)
+sound_with g bound running p sound =
     record {
       some = sound.some;
       few = sound.few;
       hosts = sound.hosts;
       sites = sound.sites;
       near = sound.near;
-      packets = subst (λ (l : List Packet). All (IsRecoveryPacket running.hosts.items) l) (sym sent) sound.packets;
       told = sound.told;
+    }
+
+pub keeps_with : {D V : Type 0} (db : Database) (running : OpenCell D V) (p : Traffic) → Keeps db running → p.sent ≡ running.packets.sent
+    → Keeps db (with_packets running p)
+keeps_with db running p keeps sent =
+    record {
+      servers = keeps.servers;
+      packets = subst (λ (l : List Packet). All (IsCellPacket running.hosts.items) l) (sym sent) keeps.packets;
     }
 
 -- what is told of the cell with other packets is told of the cell
@@ -128,7 +135,7 @@ lost {D} {V} {given} g script_db running c number k p tb ta stands down o told =
     let armed = set c.armed k (counted_on 0 (armed_at c.armed k)) in
     let here = armed_here g running.sites.items c.armed k site stands.armed down.there in
     let same : running.sites.items ≡ set running.sites.items k site = sym (set_same running.sites.items k site down.there) in
-    let happened_so = down_happens script_db.database c.run.world (Delivery number) k (event.Packet p) m.s o m.there m.is.node in
+    let happened_so = down_happens script_db.database c.run.world (Delivery number) k (event.Packet p) m.s o m.there [] m.is.node in
     let goes : GoesOn script_db.database c (cell_after (with_armed c armed) (Step (Delivery number) []) (happened_at c.run.world k h))
     (Step (Delivery number) [] ∷ []) =
     record { opening = refl; events = refl; world = ap (λ (x : Happened). x.world) (sym happened_so) } in
@@ -137,7 +144,7 @@ lost {D} {V} {given} g script_db running c number k p tb ta stands down o told =
     (ap Ok (stepped_down script_db c (Delivery number) k (event.Packet p) m.s o m.there m.is.node
     ∙ ap (happened (with_armed c armed) (Step (Delivery number) [])) happened_so))
     tt site site down.there same (omega arith) (λ j other. refl)
-    tb tb ta refl
+    tt tb tb ta refl
     (told ∙ ap (λ (l : List ℕ). tb ++ l) (sym (append-nil (item_text script_db running.hosts.items (Tells (Lost number))))))
     refl
     (ap (λ (l : List Packet). record { sent = l; handed = running.packets.handed }) (sym (append-nil running.packets.sent))

@@ -18,12 +18,12 @@ use Rattle.ubik_store.specs.Gaps.{IsPlain}
 use Rattle.cell_model.specs.Durable.{Durable}
 use Rattle.cell_model.specs.Node as model
 use Rattle.cell_model.specs.Step.{Member, Shown, cell_size}
-use Rattle.recovery_laws.specs.HasNoWrite.{HasNoWrite}
 use Rattle.cell_model.specs.World.{Site as ModelSite, Crash, Restart, Restarts, Stays_down, Happened, SiteHappened, crash_at, happened_at, happens, happens_at}
 use Rattle.cell_model.specs.World.{packets_of, restart_at, site_of}
 use Rattle.cell_runs.specs.ScriptDatabase.{ScriptDatabase}
-use Rattle.cell_runs.specs.Script.{Armed, Cell, Choice, Run_or_why, armed_at, cell_after, first_choice, happened, resting, with_event, Choices, sound_choices}
+use Rattle.cell_runs.specs.Script.{Armed, Cell, Choice, Run_or_why, armed_at, cell_after, first_choice, happened, resting, with_event, Choices, IsHeard, sound_choices}
 use Rattle.cell_runs.specs.Trace.{Tells, fault_count, trace}
+use Rattle.write_laws.specs.Spreads.{WritesSpread}
 use Rattle.ubik_node.specs.declared.nodes.Node.{Node}
 use Rattle.ubik_node.specs.Disk.{IsArmed, IsRevived, StandsAs}
 use Rattle.ubik_node.specs.declared.state.State.{State}
@@ -40,7 +40,7 @@ use Rattle.cell_sites.specs.Disks.{AreRises, IsReadBy, held}
 use Rattle.cell_sites.specs.OpenedServer.{ServerIs, ServerOpens, is_cut_short}
 use Rattle.cell_sites.specs.Reopened.{SiteReopened, reopened_marks}
 use Rattle.cell_sites.specs.Sites.{AreArmed, AreSitesOf, IsArmedAs, IsModelledBy, helds, server_disk, server_node, site_disk}
-use Rattle.cell_sites.specs.Sound.{IsSoundDisk, IsSoundNode, IsSoundServer, IsSteady}
+use Rattle.cell_sites.specs.Sound.{IsSoundDisk, IsSoundNode, IsSoundServer, IsSteady, Keeps, KeepsServer}
 use Rattle.cell_sites.specs.Stepped.{TakenDown, member_at, up_site}
 use Rattle.cell_sites.specs.Telling.{told_of}
 use Rattle.cell_sites.specs.Told.{CellTold, IsShort}
@@ -51,6 +51,7 @@ use Rattle.cell_sites.proofs.AtPlace.{IsSiteAt, site_at, sites_set}
 use Rattle.cell_sites.proofs.Counting.{hold_added, hold_as, hold_more, hold_still, no_surplus, same_run}
 use Rattle.cell_sites.proofs.Delivering.{set_same}
 use Rattle.cell_sites.proofs.Happening.{with_armed}
+use Rattle.cell_sites.proofs.Keeping.{closed_keeps, keeps_set, opened_keeps}
 use Rattle.cell_sites.proofs.Plainly.{and_some, make_if, make_some, of_some, some_of}
 use Rattle.cell_sites.proofs.Reading.{read_at}
 use Rattle.cell_sites.proofs.Running.{held_at, moved_set, reads_both, reads_set, rises_set, short_after, whole, whole_choices}
@@ -79,10 +80,9 @@ module _ {D V : Type 0} (g : Ghosts D) (running after : OpenCell D V) (k : ℕ) 
 
   pub sound_at_place : (bound : ℕ) → IsSteady g bound running → later.clock ≡ site.clock
       → IsSoundServer g (member_at running k) later.clock later.server → IsSoundDisk g (site_disk later)
-      → after.hosts.items ≡ running.hosts.items → after.packets ≡ running.packets → after.outputs ≡ running.outputs → IsSteady g bound after
-  sound_at_place bound sound clock is disk hosts packets outputs =
-      sound_after g bound running after k site later [] sound there clock is disk sites hosts (packets ∙ none_sent running.packets) (All-nil _)
-      (outputs ∙ sound.told)
+      → after.hosts.items ≡ running.hosts.items → after.outputs ≡ running.outputs → IsSteady g bound after
+  sound_at_place bound sound clock is disk hosts outputs =
+      sound_after g bound running after k site later sound there clock is disk sites hosts (outputs ∙ sound.told)
 
 -- ---- a disk that is armed
 
@@ -116,7 +116,7 @@ module _ {D V : Type 0} (g : Ghosts D) (running after : OpenCell D V) (k clock c
       let read = read_at g c.run.world.sites running.sites.items k site.s (up_site clock node) stands.disks.read site.there there in
       record {
         choices = sound_choices;
-        whole = refl;
+        whole = record { most = refl; found = tt };
         ran = resting (record c { armed = now });
         is = does sound_choices;
         ends = refl;
@@ -165,7 +165,6 @@ module _ {D V : Type 0} (g : Ghosts D) (clock calls : ℕ) (fill : Fill) (node l
       record {
         last = let l = sound.last in let is = same.2 in omega (arith, l, is);
         member = member;
-        quiet = λ up. subst (λ (s : State). HasNoWrite (cell_size m) (server_of s)) (sym same.0) (sound.quiet (sym same.1 ∙ up));
         stored = stored;
       }
 
@@ -217,7 +216,7 @@ module _ {D V : Type 0} (g : Ghosts D) (running after : OpenCell D V) (k : ℕ) 
       whole g script_db given running after c stands k (Crash k) h now run []
       (does (whole_choices []) ∙ ap (λ (x : Happened). Ok (happened (with_armed c now) (Crash k) x)) happened_so) tt before_site down_site down.there down.sites
       (let f = down.revived.faults in omega (arith, f)) (λ j other. refl)
-      text text text (ap (λ (t : Traffic). record { after = record { text = text; sent = t.sent }; ending = None }) (sym down.packets)) (sym (append-nil text))
+      tt text text text (ap (λ (t : Traffic). record { after = record { text = text; sent = t.sent }; ending = None }) (sym down.packets)) (sym (append-nil text))
       down.hosts (down.packets ∙ none_sent running.packets) (record { clock = site.is.clock; node = refl })
       (subst (λ (l : List (Site D V)). AreArmed g l now) (sym down.sites)
       (armed_set g running.sites.items c.armed k down_site None stands.armed (refl, down.revived.unarmed)))
@@ -236,7 +235,7 @@ module _ {D V : Type 0} (g : Ghosts D) (running after : OpenCell D V) (k : ℕ) 
   pub crash_sound : (bound : ℕ) → IsSteady g bound running → IsSteady g bound after
   crash_sound bound sound =
       sound_at_place g running after k before_site down_site down.there down.sites bound sound refl tt
-      (revived_sound g (server_disk down.server) down.disk disk down.revived) down.hosts down.packets down.outputs
+      (revived_sound g (server_disk down.server) down.disk disk down.revived) down.hosts down.outputs
 
 -- ---- a server that is opened again
 
@@ -274,7 +273,20 @@ module _ {D V : Type 0} (g : Ghosts D) (script_db : ScriptDatabase) (running aft
   pub reopen_sound : (other : ℕ) → IsSteady g other running → IsSteady g other after
   reopen_sound other still =
       sound_at_place g running after k closed_site open_site re.there re.sites other still refl (server_sound re.end some_durable.0 some_durable.1.is)
-      some_durable.1.sound re.hosts re.packets re.outputs
+      some_durable.1.sound re.hosts re.outputs
+
+  -- a server that was opened takes writes
+  server_keeps : WritesSpread → (end : OpenEnd) (d : Durable) → ServerIs g (member_at running k) re.clock d end re.disk re.server
+      → KeepsServer script_db.database running.hosts.items running.calls.items re.server
+  server_keeps law (opened.Up version) d is =
+      opened_keeps script_db.database running.hosts.items running.calls.items law d re.clock is.3 re.server is.0
+  server_keeps law opened.StaysDown d is = closed_keeps script_db.database running.hosts.items running.calls.items re.server is.0
+  server_keeps law opened.NoMemory d is = closed_keeps script_db.database running.hosts.items running.calls.items re.server is
+
+  pub reopen_keeps : WritesSpread → Keeps script_db.database running → Keeps script_db.database after
+  reopen_keeps law keeps =
+      keeps_set script_db.database running after keeps re.hosts k open_site [] re.sites re.calls (re.packets ∙ none_sent running.packets)
+      (server_keeps law re.end some_durable.0 some_durable.1.is) (All-nil _)
 
   pub reopen_many : length after.sites.items ≡ length running.sites.items
   reopen_many = many_at g running after k closed_site open_site re.there re.sites
@@ -307,7 +319,11 @@ module _ {D V : Type 0} (g : Ghosts D) (script_db : ScriptDatabase) (running aft
         )
 
     choice_of : Bool → Choice
-    choice_of failed = record { fails = failed; made = 0; took = false }
+    choice_of failed = record { fails = failed; made = 0; took = false; unheard = []; short = [] }
+
+    heard : (failed : Bool) → IsHeard (choice_of failed)
+    unfolding choice_of
+    heard failed = refl
 
     -- the line as the model has it
     abbrev pub restarts : Choices → Run_or_why
@@ -395,7 +411,7 @@ module _ {D V : Type 0} (g : Ghosts D) (script_db : ScriptDatabase) (running aft
           whole g script_db given running after c stands k (Restart k failed) h c.armed restarts (choice_of failed ∷ []) line_is (marks_are failed) closed_site
           open_site re.there re.sites
           (faults_told failed faulted opens.never_falls) (faults_others failed)
-          tb tb ta (ap (told_of script_db running.hosts.items k (record { text = tb; sent = running.packets.sent })) (shown_none failed)
+          (heard failed, tt) tb tb ta (ap (told_of script_db running.hosts.items k (record { text = tb; sent = running.packets.sent })) (shown_none failed)
           ∙ ap (λ (t : Traffic). record { after = record { text = tb; sent = t.sent }; ending = None }) (sym re.packets)) marks re.hosts
           (re.packets ∙ none_sent running.packets ∙ ap (λ (l : List Shown). sent_all running.packets (packets_of l)) (sym (shown_none failed)))
           (record { clock = clock_same failed ∙ site.is.clock; node = node_next failed ∙ sym node_is })

@@ -31,7 +31,7 @@ pub packets_told : {D V : Type 0} {given : List ℕ} (g : Ghosts D) (db : Script
 packets_told g db running c packets handed run text does sent same stands =
     record {
       choices = sound_choices;
-      whole = refl;
+      whole = record { most = refl; found = tt };
       ran = resting (record c { handed = handed });
       is = does sound_choices;
       ends = refl;

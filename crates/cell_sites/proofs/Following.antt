@@ -1,13 +1,14 @@
 -- Waiting packets that are delivered one after the other.
 use Rattle.std.proofs.Common.{◌≡◌, inl, inr, ◌<◌, ◌≤◌, ◌+◌, ℕ, zero, suc, Bool, true, false, Option, Some, None, Ok, List, [], ◌∷◌, ◌++◌, length, refl, sym, ap}
 use Rattle.std.proofs.Common.{subst, ◌∙◌, arith, append_assoc}
+use Rattle.std.specs.List.{AllByRecursion}
 use Rattle.std.proofs.lemmas.List.{append-nil}
 use Rattle.disk_base.specs.declared.disks.Disk.{Ghosts}
 use Rattle.ubik_types.specs.declared.hosts.Host.{Host}
 use Rattle.cell_runs.specs.declared.endings.Ending.{Ending}
 use Rattle.cell_runs.specs.ScriptDatabase.{ScriptDatabase}
 use Rattle.cell_runs.specs.declared.limits.TheConstants.{MAX_PACKETS}
-use Rattle.cell_runs.specs.Script.{Cell, Cell_run, Choice, all_delivered, delivered, first_choice, first_waiting, hosts_of, joined_run, resting}
+use Rattle.cell_runs.specs.Script.{Cell, Cell_run, Choice, IsHeard, all_delivered, choice_of, delivered, first_choice, first_waiting, hosts_of, joined_run, resting}
 use Rattle.cell_runs.specs.Script.{unless_ended}
 use Rattle.cell_runs.specs.Trace.{TraceItem, trace, item_text}
 use Rattle.cell_sites.specs.declared.cells.OpenCell.{OpenCell}
@@ -39,6 +40,15 @@ rises_both k items more (x ∷ a) (y ∷ b) (z ∷ d) first then =
 joined : (items more : List TraceItem) (r : Cell_run) → joined_run items (joined_run more r) ≡ joined_run (items ++ more) r
 joined items more r = ap (λ (l : List TraceItem). record r { items = l }) (sym (append_assoc items more r.items))
 
+-- choices in which memory was found
+heard_append : (a b : List Choice) → AllByRecursion IsHeard a → AllByRecursion IsHeard b → AllByRecursion IsHeard (a ++ b)
+heard_append [] b first second = second
+heard_append (x ∷ a) b first second = (first.0, heard_append a b first.1 second)
+
+first_heard : (each : List Choice) → AllByRecursion IsHeard each → IsHeard (choice_of each)
+first_heard [] all = refl
+first_heard (x ∷ each) all = all.0
+
 -- ---- the loop
 
 -- What was delivered so far, so many packets with some choices: what more comes to is that, and then what it comes to from here.
@@ -48,6 +58,7 @@ pub record SoFar {D V : Type 0} (g : Ghosts D) (script_db : ScriptDatabase) (giv
   pub stands : IsModelledBy g script_db.database given now cell
   pub items : List TraceItem
   pub done : List Choice
+  pub heard : AllByRecursion IsHeard done
   pub count : ℕ
   pub all : count + fuel ≡ most
   pub is : (rest : ℕ) (more : List Choice)
@@ -77,6 +88,7 @@ follows_none g script_db most fuel start text same =
         stands = stands;
         items = [];
         done = [];
+        heard = tt;
         count = 0;
         all = omega (arith, same);
         is = λ rest more. let none : 0 + rest ≡ rest = omega arith in
@@ -131,6 +143,7 @@ module _ {D V : Type 0} (g : Ghosts D) (script_db : ScriptDatabase) (given : Lis
         stands = stands;
         items = so.items ++ told.ran.items;
         done = so.done ++ first_choice told.choices ∷ [];
+        heard = heard_append so.done (first_choice told.choices ∷ []) so.heard (first_heard told.choices.each told.whole.found, tt);
         count = so.count + 1;
         all = let all = so.all in omega (arith, all);
         is = λ rest more.
@@ -151,7 +164,11 @@ module _ {D V : Type 0} (g : Ghosts D) (script_db : ScriptDatabase) (given : Lis
       let all : so.count + 1 + fuel ≡ most = let all = so.all in omega (arith, all) in
       record {
         choices = record { each = (so.done ++ first_choice told.choices ∷ []) ++ []; most = most };
-        whole = whole;
+        whole = record {
+          most = whole;
+          found = heard_append (so.done ++ first_choice told.choices ∷ []) []
+              (heard_append so.done (first_choice told.choices ∷ []) so.heard (first_heard told.choices.each told.whole.found, tt)) tt;
+        };
         ran = joined_run so.items told.ran;
         is = ap Ok (ap (λ (n : ℕ). all_delivered script_db n c ((so.done ++ first_choice told.choices ∷ []) ++ []) (first_waiting 1 c.handed)) (sym all)
             ∙ one_more g script_db given most (suc fuel) c start now tb text so number waits (first_choice told.choices) told.ran came fuel []
@@ -171,7 +188,7 @@ pub followed : {D V : Type 0} (g : Ghosts D) (script_db : ScriptDatabase) (given
 followed g script_db given most fuel c start now tb text so whole rests =
     record {
       choices = record { each = so.done ++ []; most = most };
-      whole = whole;
+      whole = record { most = whole; found = heard_append so.done [] so.heard tt };
       ran = joined_run so.items (resting so.cell);
       is = ap Ok (ap (λ (n : ℕ). all_delivered script_db n c (so.done ++ []) (first_waiting 1 c.handed)) (sym so.all)
           ∙ so.is fuel [] ∙ ap (joined_run so.items) rests);

@@ -1,4 +1,5 @@
 pub mod Agreeing
+pub mod Answering
 pub mod Arming
 pub mod Asking
 pub mod AtPlace
@@ -12,6 +13,7 @@ pub mod Following
 pub mod Happening
 pub mod Hosts
 pub mod Joined
+pub mod Keeping
 pub mod Later
 pub mod Leading
 pub mod Lining

@@ -12,20 +12,19 @@ use Rattle.cell_model.specs.declared.events.Output.{Output}
 use Rattle.cell_model.specs.Durable.{Durable, Made}
 use Rattle.cell_model.specs.Node as model
 use Rattle.cell_model.specs.NodeRule.{step_of}
-use Rattle.cell_model.specs.Step.{Member, Stepped, cell_size}
-use Rattle.recovery_laws.specs.HasNoWrite.{HasNoWrite}
-use Rattle.recovery_laws.specs.Spreads.{AllTakeNoWrite}
+use Rattle.cell_model.specs.Step.{Member}
 use Rattle.ubik_store.specs.Gaps.{IsPlain}
 use Rattle.ubik_node.specs.declared.nodes.Node.{Node}
 use Rattle.ubik_node.specs.declared.nodes.StepEnd.{StepEnd}
 use Rattle.ubik_node.specs.declared.nodes.StepEnd.TheVariants.{Done, Halted, NoMemory}
-use Rattle.ubik_node.specs.Disk.{IsRevived, LeavesWithin}
+use Rattle.ubik_node.specs.Disk.{IsRevived, LeavesWithin, TakenCutNoPut}
 use Rattle.ubik_node.specs.Node.{Calls, IsStored, Steps, last_after, node_of, own_member, up_server}
 use Rattle.ubik_node.specs.declared.state.State.{State}
 use Rattle.ubik_node.specs.State.{member_of, server_of}
 use Rattle.cell_sites.specs.declared.steps.SiteEnd.TheVariants as ended
 use Rattle.cell_sites.specs.Sound.{IsSoundDisk, IsSoundNode}
 use Rattle.cell_sites.specs.Stepped.{NodeStepped}
+use Rattle.cell_sites.specs.Taken.{CutsNone}
 use Rattle.cell_sites.proofs.Plainly.{left_plain, make_if, of_some, some_of}
 
 -- ---- whether it is halted
@@ -84,33 +83,24 @@ made_up g db m e now model.Down after out old new steps = absurd steps
 made_up g db m e now (model.Halted h) after out old new steps = absurd steps
 made_up g db m e now (model.Up s) after out old new (short, makes) = ((s, refl), (_, makes.server))
 
--- the server after a step has no write in flight, and its durable calls take none of another server
-pub record IsQuiet (m : Member) (t : Stepped) : Type 0 where
-  pub server : HasNoWrite (cell_size m) t.server
-  pub own : AllTakeNoWrite t.calls
-
--- so of each step, from this server on
-abbrev pub QuietOn : Database → Member → NodeEvent → ℕ → model.Node → Type 0
-QuietOn db m e now x = (s : model.Server) → x ≡ model.Up s → (short : List Bool) → IsQuiet m (step_of db m s now e short)
-
 -- what a crash leaves of it
 abbrev pub Leaves : {D : Type 0} → Ghosts D → (old new : D) → Type 0
-Leaves g old new = (d : Durable) × (calls : List Made) × AllTakeNoWrite calls × LeavesWithin g d old new calls
+Leaves g old new = (d : Durable) × (calls : List Made) × TakenCutNoPut calls × LeavesWithin g d old new calls
 
 pub made_leaves : {D : Type 0} (g : Ghosts D) (db : Database) (m : Member) (e : NodeEvent) (now : ℕ) (x after : model.Node) (out : List Output)
-    (old new : D) → QuietOn db m e now x → Steps g db m Done e now x after out old new → Leaves g old new
-made_leaves g db m e now model.Down after out old new quiet steps = absurd steps
-made_leaves g db m e now (model.Halted h) after out old new quiet steps = absurd steps
-made_leaves g db m e now (model.Up s) after out old new quiet (short, makes) = (_, _, (quiet s refl short).own, makes.disk.leaves)
+    (old new : D) → CutsNone db m e now x → Steps g db m Done e now x after out old new → Leaves g old new
+made_leaves g db m e now model.Down after out old new cuts steps = absurd steps
+made_leaves g db m e now (model.Halted h) after out old new cuts steps = absurd steps
+made_leaves g db m e now (model.Up s) after out old new cuts (short, makes) = (_, _, cuts s refl short, makes.disk.leaves)
 
 pub halted_leaves : {D V : Type 0} (g : Ghosts D) (db : Database) (m : Member) (e : NodeEvent) (now : ℕ) (node : Node D V) (after : model.Node)
-    (out : List Output) (old new : D) → node.halted ≡ false → QuietOn db m e now (node_of node) → Steps g db m Halted e now (node_of node) after out old new
+    (out : List Output) (old new : D) → node.halted ≡ false → CutsNone db m e now (node_of node) → Steps g db m Halted e now (node_of node) after out old new
     → Leaves g old new
-halted_leaves g db m e now node after out old new up quiet steps =
+halted_leaves g db m e now node after out old new up cuts steps =
     let s = up_server node in
     let is : node_of node ≡ model.Up s = ap (λ (b : Bool). if b then model.Halted (model.halted_from s) else model.Up s) up in
     let so = subst (λ (x : model.Node). Steps g db m Halted e now x after out old new) is steps in
-    (_, _, (quiet s is so.2).own, so.3.leaves)
+    (_, _, cuts s is so.2, so.3.leaves)
 
 -- a step that ended so leaves the server halted
 pub halts : {D V : Type 0} (g : Ghosts D) (db : Database) (m : Member) (e : NodeEvent) (now : ℕ) (x : model.Node) (later : Node D V) (out : List Output)
@@ -131,25 +121,6 @@ short_step g db m e now model.Down after out old new steps = absurd steps
 short_step g db m e now (model.Halted h) after out old new steps = absurd steps
 short_step g db m e now (model.Up s) after out old new (same, quiet, reads) = record { same = same; quiet = quiet; reads = reads }
 
--- ---- it has no write in flight
-
-made_quiet : {D V : Type 0} (g : Ghosts D) (db : Database) (m : Member) (e : NodeEvent) (now : ℕ) (x : model.Node) (later : Node D V) (out : List Output)
-    (old new : D)
-    → QuietOn db m e now x → Steps g db m Done e now x (node_of later) out old new → HasNoWrite (cell_size m) (up_server later)
-made_quiet g db m e now model.Down later out old new quiet steps = absurd steps
-made_quiet g db m e now (model.Halted h) later out old new quiet steps = absurd steps
-made_quiet g db m e now (model.Up s) later out old new quiet (short, makes) =
-    subst (HasNoWrite (cell_size m)) (sym (is_up later (step_of db m s now e short).server makes.server).1) (quiet s refl short).server
-
--- a server that stays as it is
-same_quiet : {D V : Type 0} (m : Member) (node later : Node D V) → node_of later ≡ node_of node
-    → (node.halted ≡ false → HasNoWrite (cell_size m) (up_server node)) → later.halted ≡ false → HasNoWrite (cell_size m) (up_server later)
-same_quiet m node later same quiet up =
-    let s = up_server later in
-    let is : node_of later ≡ model.Up s = ap (λ (b : Bool). if b then model.Halted (model.halted_from s) else model.Up s) up in
-    let was = is_up node s (sym same ∙ is) in
-    subst (HasNoWrite (cell_size m)) was.1 (quiet was.0)
-
 -- a halted server leaves its disk alone
 pub halted_rests : {D V : Type 0} (g : Ghosts D) (db : Database) (m : Member) (e : NodeEvent) (now : ℕ) (node : Node D V) (after : model.Node)
     (out : List Output) (old new : D) → node.halted ≡ true → Steps g db m Halted e now (node_of node) after out old new → new ≡ old
@@ -160,31 +131,25 @@ halted_rests g db m e now node after out old new halted steps =
 
 -- what is left of a plain file is plain
 pub plain_left : {D : Type 0} (g : Ghosts D) (old new : D) → IsSoundDisk g old → Leaves g old new → (fs : Files) → g.may_leave new fs → IsPlain fs
-plain_left {D} g old new sound (d, calls, own, leaves) fs left =
+plain_left {D} g old new sound (d, calls, cuts, leaves) fs left =
     let there = some_of (g.files old) sound.told in
-    left_plain g d old new calls there.0 fs there.1 (of_some (g.files old) there.0 IsPlain there.1 sound.plain) own leaves left
+    left_plain g d old new calls there.0 fs there.1 (of_some (g.files old) there.0 IsPlain there.1 sound.plain) cuts leaves left
 
 module _ {D V : Type 0} (g : Ghosts D) (db : Database) (m : Member) (clock : ℕ) (e : NodeEvent) (node : Node D V) (out : List Output)
-    (sound : IsSoundNode g m clock node) (disk : IsSoundDisk g node.store.disk) (quiet : QuietOn db m e clock (node_of node)) where
+    (sound : IsSoundNode g m clock node) (disk : IsSoundDisk g node.store.disk) (cuts : CutsNone db m e clock (node_of node)) where
   lasts : (end : StepEnd) (last : ℕ) → last ≤ clock → last_after end last clock ≤ clock
   lasts Done last within = omega arith
   lasts Halted last within = omega arith
   lasts NoMemory last within = within
 
-  sound_later : (later : Node D V) (end : StepEnd) → own_member later ≡ own_member node → (later.halted ≡ false → HasNoWrite (cell_size m) (up_server later))
-      → IsStored g later → later.last ≡ last_after end node.last clock
-      → IsSoundNode g m clock later
-  sound_later later end member none stored last =
+  sound_later : (later : Node D V) (end : StepEnd) → own_member later ≡ own_member node → IsStored g later
+      → later.last ≡ last_after end node.last clock → IsSoundNode g m clock later
+  sound_later later end member stored last =
       record {
         last = let within = lasts end node.last sound.last in omega (arith, within, last);
         member = member ∙ sound.member;
-        quiet = none;
         stored = stored;
       }
-
-  -- of a halted server nothing is said
-  not_up : (later : Node D V) → later.halted ≡ true → later.halted ≡ false → HasNoWrite (cell_size m) (up_server later)
-  not_up later halted up = absurd (false≢true (sym up ∙ halted))
 
   -- it was made
   pub done_now : (later : Node D V) → Steps g db m Done e clock (node_of node) (node_of later) out node.store.disk later.store.disk
@@ -196,7 +161,7 @@ module _ {D V : Type 0} (g : Ghosts D) (db : Database) (m : Member) (clock : ℕ
       let up = (is_up later made.1.0 made.1.1).0 in
       let there = some_of (g.files later.store.disk) (others disk.told) in
       let left =
-      plain_left g node.store.disk later.store.disk disk (made_leaves g db m e clock (node_of node) (node_of later) out node.store.disk later.store.disk quiet steps)
+      plain_left g node.store.disk later.store.disk disk (made_leaves g db m e clock (node_of node) (node_of later) out node.store.disk later.store.disk cuts steps)
       there.0
       (g.may_be_read later.store.disk there.0 there.1) in
       record {
@@ -205,8 +170,7 @@ module _ {D V : Type 0} (g : Ghosts D) (db : Database) (m : Member) (clock : ℕ
         steps = steps;
         calls = calls;
         sound = record {
-          node = sound_later later Done member (λ _. made_quiet g db m e clock (node_of node) later out node.store.disk later.store.disk quiet steps) stored
-              last;
+          node = sound_later later Done member stored last;
           disk = record {
             told = others disk.told;
             settled = (stored.sound.ready (stored.failed ∙ up)).settled;
@@ -226,8 +190,7 @@ module _ {D V : Type 0} (g : Ghosts D) (db : Database) (m : Member) (clock : ℕ
         steps = steps;
         calls = calls;
         sound = record {
-          node = sound_later later Halted member (not_up later (halts g db m e clock (node_of node) later out node.store.disk later.store.disk steps)) stored
-              last;
+          node = sound_later later Halted member stored last;
           disk = subst (IsSoundDisk g) (sym (halted_rests g db m e clock node (node_of later) out node.store.disk later.store.disk halted steps)) disk;
         };
       }
@@ -241,7 +204,7 @@ module _ {D V : Type 0} (g : Ghosts D) (db : Database) (m : Member) (clock : ℕ
       record {
         steps = steps;
         sound = record {
-          node = sound_later later NoMemory member (same_quiet m node later short.same sound.quiet) stored last;
+          node = sound_later later NoMemory member stored last;
           disk = sound_read g node.store.disk later.store.disk disk short.reads;
         };
       }
@@ -258,7 +221,7 @@ module _ {D V : Type 0} (g : Ghosts D) (db : Database) (m : Member) (clock : ℕ
         stopped = stopped;
         fault = calls.1.cause.rose (refl, up);
         left = plain_left g node.store.disk later.store.disk disk
-            (halted_leaves g db m e clock node (node_of later) out node.store.disk later.store.disk up quiet steps);
+            (halted_leaves g db m e clock node (node_of later) out node.store.disk later.store.disk up cuts steps);
       }
 
   -- its disk failed, and the files were opened anew
@@ -279,10 +242,9 @@ module _ {D V : Type 0} (g : Ghosts D) (db : Database) (m : Member) (clock : ℕ
         fault = calls.1.cause.rose (refl, up);
         revived = revived;
         sound = record {
-          node = sound_later later Halted (ap (λ (st : State). member_of st) same.0 ∙ member)
-              (not_up later (same.1 ∙ halts g db m e clock (node_of node) mid out node.store.disk mid.store.disk steps)) stored (same.2 ∙ last);
+          node = sound_later later Halted (ap (λ (st : State). member_of st) same.0 ∙ member) stored (same.2 ∙ last);
           disk = sound_revived g mid.store.disk later.store.disk revived (calls.1.tells ∙ g.tells_now node.store.disk disk.told)
-              (plain_left g node.store.disk mid.store.disk disk (halted_leaves g db m e clock node (node_of mid) out node.store.disk mid.store.disk up quiet
+              (plain_left g node.store.disk mid.store.disk disk (halted_leaves g db m e clock node (node_of mid) out node.store.disk mid.store.disk up cuts
               steps));
         };
       }

@@ -1,9 +1,10 @@
 -- One more server is opened, until all are.
 use Rattle.std.proofs.Common.{if◌then◌else◌, ◌≡◌, ◌≢◌, ◌<◌, ◌≤◌, ◌+◌, ◌++◌, ℕ, zero, suc, Bool, true, false, List, [], ◌∷◌, Vec, length, map, get_or, replicate}
 use Rattle.std.proofs.Common.{Some, None, Result, Ok, Err, IsSomeAnd, refl, sym, ap, subst, ◌∙◌, arith}
-use Rattle.std.specs.Prelude.{All, OnOk}
+use Rattle.std.specs.Prelude.{All, OnOk, slice_get}
 use Rattle.std.proofs.lemmas.List.{append_assoc, length-map, map-append}
 use Rattle.std.proofs.lemmas.Grind.{flat_map-append}
+use Rattle.std.proofs.lemmas.List.Elements.{All-nil}
 use Rattle.std.specs.declared.alloc.Global.{Global}
 use Rattle.db_image.specs.Database.{Database}
 use Rattle.disk_base.specs.declared.disks.Disk.{Ghosts}
@@ -13,14 +14,15 @@ use Rattle.disk_base.specs.Stops.{DiskStop}
 use Rattle.disk_base.specs.Stops.DiskStop.{Unarmed}
 use Rattle.ubik_types.specs.declared.hosts.Host.{Host}
 use Rattle.ubik_types.specs.Moment.{IsMoment}
-use Rattle.ubik_calls.specs.declared.packets.Packet.{Packet}
+use Rattle.ubik_types.specs.Version.{IsVersion}
 use Rattle.ubik_log.proofs.Gates.{short_log_is_discarded}
 use Rattle.ubik_store.specs.Gaps.{IsPlain}
 use Rattle.ubik_store.specs.Opening.{OpensIn}
 use Rattle.ubik_store.proofs.Gaps.{discarded_is_plain}
 use Rattle.cell_model.specs.Durable.{no_database}
 use Rattle.cell_model.specs.Node as model
-use Rattle.recovery_laws.specs.HasNoWrite.{IsRecoveryPacket}
+use Rattle.write_laws.specs.Keeping.{IsCellPacket}
+use Rattle.write_laws.specs.Spreads.{WritesSpread}
 use Rattle.script_laws.specs.CellRuns.{CellsGoOn}
 use Rattle.cell_model.specs.World.{Site as ModelSite, are_near, clocks_of, first_seen, first_site}
 use Rattle.cell_script.specs.declared.lines.Kind.{Kind}
@@ -33,8 +35,8 @@ use Rattle.cell_sites.specs.Counts.{AreCountsFrom, OpensFirst}
 use Rattle.cell_sites.specs.Disks.{AreReadBy, AreRises, Held, IsReadBy, all_held, held}
 use Rattle.cell_sites.specs.Opened.{AreFirstCounts, ArePartOpened, AreUnarmed, HasRoom, IsAdded, IsOpened, counts_of, opening_items}
 use Rattle.cell_sites.specs.OpenedServer.{IsEmptied, OpensDisk, ServerOpens, is_cut_short, opened_marks}
-use Rattle.cell_sites.specs.Sites.{AreArmed, AreSitesOf, IsArmedAs, IsModelledBy, helds, server_disk, server_node, site_disk}
-use Rattle.cell_sites.specs.Sound.{AreSound, IsSoundDisk, IsSoundServer, IsSoundSite}
+use Rattle.cell_sites.specs.Sites.{AreArmed, AreSitesOf, IsArmedAs, IsModelledBy, IsSiteOf, helds, server_disk, server_node, site_disk}
+use Rattle.cell_sites.specs.Sound.{AreSound, IsSoundDisk, IsSoundServer, IsSoundSite, KeepsServer}
 use Rattle.cell_sites.specs.Traffic.{Traffic}
 use Rattle.cell_sites.specs.declared.cells.OpenCell.{OpenCell}
 use Rattle.cell_sites.specs.declared.openings.OpenEnd.{OpenEnd}
@@ -44,8 +46,9 @@ use Rattle.cell_sites.specs.declared.sites.Server.TheVariants as server
 use Rattle.cell_sites.specs.declared.sites.Site.{Site}
 use Rattle.cell_sites.proofs.AtPlace.{sites_clocks, sites_length, sites_push, sound_push}
 use Rattle.cell_sites.proofs.Hosts.{length-hosts_of}
+use Rattle.cell_sites.proofs.Keeping.{closed_keeps, opened_keeps}
 use Rattle.cell_sites.proofs.Near.{near_make, near_same}
-use Rattle.cell_sites.proofs.Opening.{choices_of, chosen, items_more, rises_more}
+use Rattle.cell_sites.proofs.Opening.{choices_of, chosen, heard, items_more, rises_more}
 use Rattle.cell_sites.proofs.Opens.{if_told, some_told, told_at}
 use Rattle.cell_sites.proofs.Standing.{fresh_stands}
 
@@ -209,6 +212,7 @@ next_opened {D} {V} g db clock given running before told after disk s sites mome
           (record { moment = moment; within = omega arith; server = one.sound; disk = one.disk_sound })));
       packets = p.packets;
       outputs = p.outputs;
+      calls = p.calls;
       told = one.told
           ∙ ap (λ (n : ℕ). told ++ trace db hosts (map Tells (first_seen n (one.fails ∷ [])))) count
           ∙ ap (λ (l : List ℕ). l ++ trace db hosts more) p.told
@@ -262,14 +266,28 @@ next_opened_at {D} {V} (Ok x) g db clock running told after disk s end sites hos
 
 -- ---- all of them
 
+first_version : IsVersion no_database.version
+first_version = record { epoch = omega arith; counter = omega arith }
+
+-- a server that was just opened takes writes, where it does not stay down
+module _ {D V : Type 0} (db : Database) (hosts : List Host) (calls : List (List ℕ)) (law : WritesSpread) (clock : ℕ) where
+  one_keeps : (failed : Bool) (site : Site D V) → IsSiteOf site (first_site (length hosts) clock failed) → KeepsServer db hosts calls site.server
+  one_keeps true site is = closed_keeps db hosts calls site.server (sym is.node)
+  one_keeps false site is = opened_keeps db hosts calls law no_database clock first_version site.server (sym is.node)
+
+  first_keeps : (sites : List (Site D V)) (failed : List Bool) (j : ℕ) (site : Site D V) → AreSitesOf sites (map (first_site (length hosts) clock) failed)
+      → slice_get sites j ≡ Some site → KeepsServer db hosts calls site.server
+  first_keeps [] failed j site are there = cc
+  first_keeps (x ∷ sites) [] j site are there = absurd are
+  first_keeps (x ∷ sites) (f ∷ failed) zero site are there =
+      let same : x ≡ site = cc in subst (λ (y : Site D V). KeepsServer db hosts calls y.server) same (one_keeps f x are.0)
+  first_keeps (x ∷ sites) (f ∷ failed) (suc j) site are there = first_keeps sites failed j site are.1 there
+
 first_clock : (n clock : ℕ) (failed : List Bool) (k : ℕ) → k < length (clocks_of (map (first_site n clock) failed))
     → get_or (clocks_of (map (first_site n clock) failed)) k 0 ≡ clock
 first_clock n clock [] k less = absurd (omega arith)
 first_clock n clock (fails ∷ failed) zero less = refl
 first_clock n clock (fails ∷ failed) (suc k) less = first_clock n clock failed k (omega arith)
-
-none_sent : (hosts : List Host) (sent : List Packet) → sent ≡ [] → All (IsRecoveryPacket hosts) sent
-none_sent hosts sent none = subst (λ (l : List Packet). All (IsRecoveryPacket hosts) l) (sym none) (λ k d less. absurd (omega (arith, less)))
 
 -- none is to stop
 armed_none : (node : model.Node) (stop : DiskStop) → stop ≡ Unarmed → IsArmedAs node None stop
@@ -303,9 +321,9 @@ first_counts db c k (f ∷ failed) (b ∷ given) (x ∷ disks) none are = (
 )
 
 pub all_opened : {D V : Type 0} (g : Ghosts D) (db : ScriptDatabase) (clock : ℕ) (k : Kind) (given : List D) (running : OpenCell D V)
-    (before after : List ℕ) → CellsGoOn → IsMoment clock → HasRoom running → length given ≡ length running.hosts.items
+    (before after : List ℕ) → CellsGoOn → WritesSpread → IsMoment clock → HasRoom running → length given ≡ length running.hosts.items
     → ArePartOpened g db clock given running before after → IsOpened g db clock k given running before after
-all_opened {D} {V} g db clock k given running before after law moment room same p =
+all_opened {D} {V} g db clock k given running before after law spreads moment room same p =
     let items = running.sites.items in
     let hosts = running.hosts.items in
     let failed = p.failed in
@@ -332,22 +350,28 @@ all_opened {D} {V} g db clock k given running before after law moment room same 
     } in
     record {
       choices = choices;
+      heard = heard failed;
       stands = subst (λ (f : List Bool). IsModelledBy g db.database (counts_of g given) running (opened_cell n clock k f)) (sym is) opened_so;
-      sound = λ asks. record {
+      sound = record {
         steady = record {
           some = omega (arith, some, count);
           few = omega (arith, few, count);
           hosts = room.hosts ∙ ap hosts_of (sym count);
           sites = p.sound;
           near = ap are_near (sym (sites_clocks items ss p.sites)) ∙ near;
-          packets = none_sent hosts running.packets.sent (ap (λ (t : Traffic). t.sent) p.packets);
           told = p.outputs;
         };
+        keeps = record {
+          servers = λ j site there.
+              first_keeps db.database hosts running.calls.items spreads clock items failed j site p.sites there;
+          packets = subst (λ (t : Traffic). All (IsCellPacket hosts) t.sent) (sym p.packets) (All-nil (IsCellPacket hosts));
+        };
+        calls = ap length p.calls;
         run = record {
           given = counts_of g given;
           cell = opened_cell n clock k failed;
           stands = opened_so;
-          run = law.opened db.database asks n clock k failed (omega (arith, some, same)) (omega (arith, few, same)) moment p.each;
+          run = law.opened db.database 0 n clock k failed (omega (arith, some, same)) (omega (arith, few, same)) moment p.each;
         };
         blocks = p.blocks;
       };

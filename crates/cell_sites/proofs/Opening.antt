@@ -1,10 +1,11 @@
 -- A cell that is opened server by server.
 use Rattle.std.proofs.Common.{if◌then◌else◌, ◌≡◌, ◌<◌, ◌≤◌, ◌+◌, ◌++◌, ℕ, Bool, true, false, List, [], ◌∷◌, length, map, refl, sym, ap, subst, ◌∙◌, arith}
+use Rattle.std.specs.List.{AllByRecursion}
 use Rattle.std.specs.Prelude.{◌==◌}
 use Rattle.std.proofs.lemmas.Bool.{eq-eqb, ne_eqb}
 use Rattle.std.proofs.lemmas.List.{map-append}
 use Rattle.cell_model.specs.World.{Stays_down, first_seen}
-use Rattle.cell_runs.specs.Script.{Choice, fails_at, sound}
+use Rattle.cell_runs.specs.Script.{Choice, IsHeard, fails_at, sound}
 use Rattle.cell_runs.specs.Trace.{TraceItem, Tells, Shows, fault_count}
 use Rattle.cell_sites.specs.Disks.{Held, AreRises}
 use Rattle.cell_sites.specs.Opened.{opening_items}
@@ -97,6 +98,11 @@ rises_more failed fails before after x y same are last =
 pub choices_of : List Bool → List Choice
 choices_of [] = []
 choices_of (fails ∷ failed) = record sound { fails = fails } ∷ choices_of failed
+
+pub heard : (failed : List Bool) → AllByRecursion IsHeard (choices_of failed)
+unfolding choices_of
+heard [] = tt
+heard (fails ∷ failed) = (refl, heard failed)
 
 pub chosen : (failed : List Bool) → fails_at (length failed) (choices_of failed) ≡ failed
 unfolding choices_of

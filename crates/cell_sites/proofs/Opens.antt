@@ -28,7 +28,6 @@ use Rattle.ubik_store.proofs.Telling.{of_told, told}
 use Rattle.cell_model.specs.Durable.{Durable, durable}
 use Rattle.cell_model.specs.Node as model
 use Rattle.cell_model.specs.Step.{Member}
-use Rattle.recovery_laws.specs.HasNoWrite.{HasNoWrite}
 use Rattle.ubik_types.specs.Version.{IsVersion}
 use Rattle.cell_sites.proofs.Versions.{version_is}
 use Rattle.ubik_node.specs.declared.nodes.Node.{Node}
@@ -174,7 +173,6 @@ plain_read g disk leaves = told (g.files disk) IsPlain (λ fs is. leaves fs (g.m
 
 module _ {D V : Type 0} (g : Ghosts D) (hosts cell : List Host) (me clock : ℕ) (disk : D) (n : Node D V) (d e : Durable)
     (sound : IsSoundDisk g disk) (stands : IsSomeAnd (g.files disk) (StandsAs d)) (opening : IsOpening g disk n.store.disk ⊥)
-    (quiet : (servers : ℕ) (d : Durable) (now : ℕ) → IsVersion d.version → HasNoWrite servers (model.opened_server servers d now))
     (same : cell ≡ hosts) (up : node_of n ≡ model.Up (model.opened_server (length cell) e clock)) (read : IfSome (g.files disk) (StandsAs e))
     (mine : own_member n ≡ record { hosts = cell; me = me }) (stored : IsStored g n) (kept : IsSome (g.files disk) → IsSome (g.files n.store.disk))
     (steps : IfSome (g.files disk) (λ fs. (calls : ℕ) → OpensIn fs calls → g.steps n.store.disk ≡ g.steps disk + calls)) (last : n.last ≡ clock) where
@@ -229,10 +227,9 @@ module _ {D V : Type 0} (g : Ghosts D) (hosts cell : List Host) (me clock : ℕ)
       record {
         last = omega (arith, last);
         member = mine ∙ ap (λ (l : List Host). record { hosts = l; me = me }) same;
-        quiet = λ _. subst (HasNoWrite (length hosts)) (sym server_up.1)
-            (quiet (length hosts) d clock (subst IsVersion (ap (λ (u : model.Server). u.version) server_up.1) (node_version g n stored server_up.0 some)));
         stored = stored;
       },
+      subst IsVersion (ap (λ (u : model.Server). u.version) server_up.1) (node_version g n stored server_up.0 some),
     );
   }
 

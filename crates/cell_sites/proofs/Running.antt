@@ -1,6 +1,7 @@
 -- What a step of one server of a running cell tells, and what it leaves.
 use Rattle.std.proofs.Common.{◌≡◌, ◌≢◌, inr, ◌<◌, ◌≤◌, ◌+◌, ℕ, zero, suc, Bool, false, Option, Some, None, Ok, List, [], ◌∷◌, ◌++◌, length, replicate, map, set}
 use Rattle.std.proofs.Common.{refl, sym, ap, subst, ◌∙◌, arith}
+use Rattle.std.specs.List.{AllByRecursion}
 use Rattle.std.specs.Prelude.{slice_get}
 use Rattle.std.proofs.lemmas.List.{length-append}
 use Rattle.disk_base.specs.declared.disks.Disk.{Ghosts}
@@ -9,7 +10,7 @@ use Rattle.cell_model.specs.World.{Site as ModelSite, Event, SiteHappened, happe
 use Rattle.cell_runs.specs.declared.endings.Ending.{Ending}
 use Rattle.cell_runs.specs.declared.limits.TheConstants.{MAX_PACKETS}
 use Rattle.cell_runs.specs.ScriptDatabase.{ScriptDatabase}
-use Rattle.cell_runs.specs.Script.{Armed, Cell, cell_after, Choice, Run_or_why, Within, within, bytes_of, happened, Choices}
+use Rattle.cell_runs.specs.Script.{Armed, Cell, cell_after, Choice, IsHeard, Run_or_why, Within, within, bytes_of, happened, Choices}
 use Rattle.cell_runs.specs.Trace.{TraceItem, Tells, trace, fault_count}
 use Rattle.cell_sites.specs.declared.cells.OpenCell.{OpenCell}
 use Rattle.cell_sites.specs.declared.sites.Site.{Site}
@@ -136,20 +137,20 @@ module _ {D V : Type 0} (g : Ghosts D) (script_db : ScriptDatabase) (given : Lis
       zero_add n = omega arith
 
   -- all was told
-  pub whole : (text_before text text_after : List ℕ)
+  pub whole : AllByRecursion IsHeard choices → (text_before text text_after : List ℕ)
       → told_of script_db before.hosts.items k (record { text = text_before; sent = before.packets.sent }) h.shown ≡ record
       { after = record { text = text; sent = after.packets.sent }; ending = None }
       → text_after ≡ text ++ trace script_db before.hosts.items (map Tells h.marks)
       → after.hosts.items ≡ before.hosts.items → after.packets ≡ sent_all before.packets (packets_of h.shown) → IsSiteOf later h.site
       → AreArmed g after.sites.items armed → HoldRun script_db.database given false cell_then (helds g after)
       → CellTold g script_db given run None before after text_before text_after
-  whole tb text ta told marked hosts packets stood arms hold =
+  whole heard tb text ta told marked hosts packets stood arms hold =
       let agree = agrees script_db before.hosts.items k (record { text = tb; sent = before.packets.sent }) h.shown h.marks marks in
       let ended : (told_of script_db before.hosts.items k (record { text = tb; sent = before.packets.sent }) h.shown).ending ≡ None = ap
       (λ (r : TellingRun). r.ending) told in
       record {
         choices = whole_choices choices;
-        whole = refl;
+        whole = record { most = refl; found = heard };
         ran = happened (with_armed c armed) ev (happened_at c.run.world k h);
         is = is;
         ends = ap (λ (w : Within). w.ending) as_seen ∙ agree.ending ∙ ended;
@@ -172,18 +173,18 @@ module _ {D V : Type 0} (g : Ghosts D) (script_db : ScriptDatabase) (given : Lis
       }
 
   -- a packet passed a limit
-  pub part : (ending : Ending) (text_before text_after : List ℕ) (sent : List Packet)
+  pub part : AllByRecursion IsHeard choices → (ending : Ending) (text_before text_after : List ℕ) (sent : List Packet)
       → told_of script_db before.hosts.items k (record { text = text_before; sent = before.packets.sent }) h.shown ≡ record
       { after = record { text = text_after; sent = sent }; ending = Some ending }
       → HoldRun script_db.database given false cell_then (helds g after)
       → CellTold g script_db given run (Some ending) before after text_before text_after
-  part ending tb ta sent told hold =
+  part heard ending tb ta sent told hold =
       let agree = agrees script_db before.hosts.items k (record { text = tb; sent = before.packets.sent }) h.shown h.marks marks in
       let ended : (told_of script_db before.hosts.items k (record { text = tb; sent = before.packets.sent }) h.shown).ending ≡ Some ending = ap
       (λ (r : TellingRun). r.ending) told in
       record {
         choices = whole_choices choices;
-        whole = refl;
+        whole = record { most = refl; found = heard };
         ran = happened (with_armed c armed) ev (happened_at c.run.world k h);
         is = is;
         ends = ap (λ (w : Within). w.ending) as_seen ∙ agree.ending ∙ ended;

@@ -53,7 +53,7 @@ show_told g db running c k site showing run hosts before after stands there same
     let items = shown_is running c k site showing stands there is in
     record {
       choices = sound_choices;
-      whole = refl;
+      whole = record { most = refl; found = tt };
       ran = record { cell = c; items = shown_site (cell_size_of c) k (site_of c.run.world k); ending = None };
       is = does;
       ends = refl;

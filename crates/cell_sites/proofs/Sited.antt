@@ -47,6 +47,7 @@ module _ {D V : Type 0} (g : Ghosts D) (db : Database) (k : ℕ) (e : NodeEvent)
         sites = up.sites;
         hosts = up.hosts;
         packets = up.packets;
+        calls = up.calls;
       }
 
   -- there is a server at its place
@@ -57,8 +58,8 @@ module _ {D V : Type 0} (g : Ghosts D) (db : Database) (k : ℕ) (e : NodeEvent)
       omega (arith, there, many)
 
   pub goes_down : end ≡ ended.Stops → (quiet after : OpenCell D V) → quiet.sites.items ≡ mid.sites.items → quiet.hosts.items ≡ mid.hosts.items
-      → quiet.packets ≡ mid.packets → quiet.outputs ≡ [] → TakenDown g k quiet after → SiteStepped g db k e end before after
-  goes_down is quiet after sites hosts packets none down =
+      → quiet.packets ≡ mid.packets → quiet.calls.items ≡ mid.calls.items → quiet.outputs ≡ [] → TakenDown g k quiet after → SiteStepped g db k e end before after
+  goes_down is quiet after sites hosts packets calls none down =
       let was : Some (up_site up.clock up.later) ≡ Some (record { clock = down.clock; server = down.server }) =
       sym (get_set before.sites.items k (up_site up.clock up.later) (up_site up.clock up.node) up.there)
       ∙ ap (λ (l : List (Site D V)). slice_get l k) (sym (sites ∙ up.sites)) ∙ down.there in
@@ -80,4 +81,5 @@ module _ {D V : Type 0} (g : Ghosts D) (db : Database) (k : ℕ) (e : NodeEvent)
             ∙ set-set before.sites.items k (up_site up.clock up.later) (record { clock = up.clock; server = Down down.disk });
         hosts = down.hosts ∙ hosts ∙ up.hosts;
         packets = down.packets ∙ packets ∙ up.packets;
+        calls = down.calls ∙ calls ∙ up.calls;
       }

@@ -8,7 +8,6 @@ use Rattle.disk_base.specs.declared.disks.Disk.{Ghosts}
 use Rattle.ubik_types.specs.declared.hosts.Host.{Host}
 use Rattle.ubik_types.specs.Moment.{IsMoment}
 use Rattle.ubik_calls.specs.declared.packets.Packet.{Packet}
-use Rattle.recovery_laws.specs.HasNoWrite.{IsRecoveryPacket}
 use Rattle.cell_model.specs.World.{are_near}
 use Rattle.cell_runs.specs.Script.{hosts_of}
 use Rattle.ubik_node.specs.declared.nodes.Node.{Node}
@@ -62,12 +61,10 @@ clocks_set (x ∷ sites) (suc k) site later there same = ap (λ (l : List ℕ). 
 
 -- the cell stays sound, where another sound server takes the place of one
 pub sound_after : {D V : Type 0} (g : Ghosts D) (bound : ℕ) (before after : OpenCell D V) (k : ℕ) (site later : Site D V)
-    (packets : List Packet)
     → IsSteady g bound before → slice_get before.sites.items k ≡ Some site → later.clock ≡ site.clock
     → IsSoundServer g (member_at before k) later.clock later.server → IsSoundDisk g (site_disk later)
-    → after.sites.items ≡ set before.sites.items k later → after.hosts.items ≡ before.hosts.items → after.packets ≡ sent_all before.packets packets
-    → All (IsRecoveryPacket before.hosts.items) packets → after.outputs ≡ [] → IsSteady g bound after
-sound_after {D} {V} g bound before after k site later packets sound there clock is disk sites hosts sent votes empty =
+    → after.sites.items ≡ set before.sites.items k later → after.hosts.items ≡ before.hosts.items → after.outputs ≡ [] → IsSteady g bound after
+sound_after {D} {V} g bound before after k site later sound there clock is disk sites hosts empty =
     let at = sound_at g before.hosts.items 0 bound before.sites.items k site sound.sites there in
     let many : length after.sites.items ≡ length before.sites.items = ap length sites ∙ length-set before.sites.items k later in
     let me : 0 + k ≡ k = omega arith in
@@ -84,10 +81,6 @@ sound_after {D} {V} g bound before after k site later packets sound there clock 
           (subst (λ (l : List (Site D V)). AreSound g before.hosts.items 0 bound l) (sym sites)
           (sound_set g before.hosts.items 0 bound before.sites.items k later sound.sites one));
       near = ap (λ (l : List (Site D V)). are_near (clocks_in l)) sites ∙ ap are_near (clocks_set before.sites.items k site later there clock) ∙ sound.near;
-      packets =
-          subst (λ (h : List Host). All (IsRecoveryPacket h) after.packets.sent) (sym hosts)
-          (subst (λ (t : Traffic). All (IsRecoveryPacket before.hosts.items) t.sent) (sym sent)
-          (All-append (IsRecoveryPacket before.hosts.items) before.packets.sent packets sound.packets votes));
       told = empty;
     }
 

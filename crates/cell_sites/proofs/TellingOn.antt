@@ -2,44 +2,42 @@
 use Rattle.std.proofs.Common.{◌≡◌, ℕ, Bool, false, Option, Some, None, List, [], ◌∷◌, ◌++◌, length, replicate, refl, sym, ap, ◌∙◌, append_assoc}
 use Rattle.std.specs.Prelude.{All, filter_map}
 use Rattle.std.specs.List.{cons_option}
-use Rattle.std.proofs.lemmas.List.Elements.{All-head, All-tail, All-cons}
+use Rattle.std.proofs.lemmas.List.Elements.{All-head, All-tail}
 use Rattle.ubik_types.specs.declared.hosts.Host.{Host}
 use Rattle.ubik_calls.specs.declared.packets.Packet.{Packet}
 use Rattle.cell_model.specs.declared.events.Output.{Output}
 use Rattle.cell_model.specs.Step.{Shown, outputs_of}
-use Rattle.cell_model.specs.Voters.{AnswersCall}
 use Rattle.cell_model.specs.World.{packet_in, packet_of}
 use Rattle.cell_runs.specs.declared.endings.Ending.{Ending}
 use Rattle.cell_runs.specs.ScriptDatabase.{ScriptDatabase}
-use Rattle.cell_sites.specs.Telling.{IsNotShort, MayBeTold, Telling, TellingRun, passed_in, told_of, unless_passed, with_shown}
+use Rattle.cell_sites.specs.Calls.{AnswersOf}
+use Rattle.cell_sites.specs.Telling.{MayBeTold, Telling, TellingRun, passed_in, told_of, unless_passed, with_shown}
 use Rattle.cell_sites.specs.Traffic.{Traffic, sent_all, sent_maybe}
 
 abbrev pub telling : List ℕ → Traffic → Telling
 telling text packets = record { text = text; sent = packets.sent }
 
 -- what is left of a list that is shown, and what it comes to
-pub record Rest (script_db : ScriptDatabase) (hosts : List Host) (k : ℕ) (call : List ℕ) (run : TellingRun) (text : List ℕ) (packets : Traffic)
+pub record Rest (script_db : ScriptDatabase) (hosts : List Host) (k : ℕ) (calls : List (List ℕ)) (run : TellingRun) (text : List ℕ) (packets : Traffic)
     (out : List Output) : Type 0 where
   pub shown : List Shown
   pub outputs : outputs_of shown ≡ out
-  pub answers : All (λ one. AnswersCall call one) shown
+  pub answers : All (AnswersOf calls) shown
   pub same : run ≡ told_of script_db hosts k (telling text packets) shown
 
-pub record TellsOn (script_db : ScriptDatabase) (hosts : List Host) (k : ℕ) (call : List ℕ) (text_before : List ℕ) (packets_before : Traffic)
+pub record TellsOn (script_db : ScriptDatabase) (hosts : List Host) (k : ℕ) (calls : List (List ℕ)) (text_before : List ℕ) (packets_before : Traffic)
     (out_before : List Output) (text : List ℕ) (packets : Traffic) (out : List Output) : Type 0 where
-  pub rest : (shown : List Shown) → outputs_of shown ≡ out_before → All (λ one. AnswersCall call one) shown
-      → Rest script_db hosts k call (told_of script_db hosts k (telling text_before packets_before) shown) text packets out
+  pub rest : (shown : List Shown) → outputs_of shown ≡ out_before → All (AnswersOf calls) shown
+      → Rest script_db hosts k calls (told_of script_db hosts k (telling text_before packets_before) shown) text packets out
   pub votes : All MayBeTold out
-  pub found : All IsNotShort out → All IsNotShort out_before
   pub sends : sent_all packets (filter_map packet_in out) ≡ sent_all packets_before (filter_map packet_in out_before)
 
-pub tells_none : (script_db : ScriptDatabase) (hosts : List Host) (k : ℕ) (call text : List ℕ) (packets : Traffic) (out : List Output) → All MayBeTold out
-    → TellsOn script_db hosts k call text packets out text packets out
-tells_none script_db hosts k call text packets out votes =
+pub tells_none : (script_db : ScriptDatabase) (hosts : List Host) (k : ℕ) (calls : List (List ℕ)) (text : List ℕ) (packets : Traffic) (out : List Output) → All MayBeTold out
+    → TellsOn script_db hosts k calls text packets out text packets out
+tells_none script_db hosts k calls text packets out votes =
     record {
       rest = λ shown outputs answers. record { shown = shown; outputs = outputs; answers = answers; same = refl };
       votes = votes;
-      found = λ none. none;
       sends = refl;
     }
 
@@ -52,32 +50,32 @@ sent_more_all packets (Some p) more =
     ap (λ (l : List Packet). record { sent = l; handed = (packets.handed ++ false ∷ []) ++ replicate (length more) false }) front
     ∙ ap (λ (l : List Bool). record { sent = packets.sent ++ p ∷ more; handed = l }) handed
 
-module _ (script_db : ScriptDatabase) (hosts : List Host) (k : ℕ) (call text_before : List ℕ) (packets_before : Traffic) (out_before : List Output)
+module _ (script_db : ScriptDatabase) (hosts : List Host) (k : ℕ) (calls : List (List ℕ)) (text_before : List ℕ) (packets_before : Traffic) (out_before : List Output)
     (text : List ℕ) (packets : Traffic) (o : Output) (out : List Output)
-    (on : TellsOn script_db hosts k call text_before packets_before out_before text packets (o ∷ out)) where
+    (on : TellsOn script_db hosts k calls text_before packets_before out_before text packets (o ∷ out)) where
   -- what is told of the first output that is left
-  first_of : (run : TellingRun) → Rest script_db hosts k call run text packets (o ∷ out)
-      → (one : Shown) × (shown : List Shown) × (one.output ≡ o) × (outputs_of shown ≡ out) × AnswersCall call one × All (λ one. AnswersCall call one) shown
+  first_of : (run : TellingRun) → Rest script_db hosts k calls run text packets (o ∷ out)
+      → (one : Shown) × (shown : List Shown) × (one.output ≡ o) × (outputs_of shown ≡ out) × AnswersOf calls one × All (AnswersOf calls) shown
       × (run ≡ unless_passed (telling text packets) (passed_in (telling text packets) (packet_of one))
       (told_of script_db hosts k (with_shown script_db hosts k (telling text packets) one) shown))
   first_of run rest = by rest.shown rest.outputs rest.answers rest.same
     where
-      by : (shown : List Shown) → outputs_of shown ≡ o ∷ out → All (λ one. AnswersCall call one) shown
+      by : (shown : List Shown) → outputs_of shown ≡ o ∷ out → All (AnswersOf calls) shown
           → run ≡ told_of script_db hosts k (telling text packets) shown
-          → (one : Shown) × (shown : List Shown) × (one.output ≡ o) × (outputs_of shown ≡ out) × AnswersCall call one × All (λ one. AnswersCall call one) shown
+          → (one : Shown) × (shown : List Shown) × (one.output ≡ o) × (outputs_of shown ≡ out) × AnswersOf calls one × All (AnswersOf calls) shown
           × (run ≡ unless_passed (telling text packets) (passed_in (telling text packets) (packet_of one))
           (told_of script_db hosts k (with_shown script_db hosts k (telling text packets) one) shown))
       by [] outputs answers same = cc
       by (one ∷ shown) outputs answers same =
-          (one, shown, cc, cc, All-head (λ one. AnswersCall call one) one shown answers, All-tail (λ one. AnswersCall call one) one shown answers, same)
+          (one, shown, cc, cc, All-head (AnswersOf calls) one shown answers, All-tail (AnswersOf calls) one shown answers, same)
 
   pub tells_more : (text_after : List ℕ) (packets_after : Traffic)
-      → ((one : Shown) → one.output ≡ o → AnswersCall call one
+      → ((one : Shown) → one.output ≡ o → AnswersOf calls one
       → (passed_in (telling text packets) (packet_in o) ≡ None) × (telling text_after packets_after ≡ with_shown script_db hosts k (telling text packets)
       one))
-      → IsNotShort o → packets_after ≡ sent_maybe packets (packet_in o)
-      → TellsOn script_db hosts k call text_before packets_before out_before text_after packets_after out
-  tells_more ta pa told found sends =
+      → packets_after ≡ sent_maybe packets (packet_in o)
+      → TellsOn script_db hosts k calls text_before packets_before out_before text_after packets_after out
+  tells_more ta pa told sends =
       record {
         rest = λ shown outputs answers.
             let f = first_of _ (on.rest shown outputs answers) in
@@ -94,13 +92,12 @@ module _ (script_db : ScriptDatabase) (hosts : List Host) (k : ℕ) (call text_b
                   ∙ ap (λ (u : Telling). told_of script_db hosts k u f.1) (sym t.1);
             };
         votes = All-tail MayBeTold o out on.votes;
-        found = λ rest. on.found (All-cons IsNotShort o out found rest);
         sends = ap (λ (t : Traffic). sent_all t (filter_map packet_in out)) sends ∙ sent_more_all packets (packet_in o) (filter_map packet_in out) ∙ on.sends;
       }
 
   -- the packet passes a limit
   pub tells_part : (ending : Ending) → passed_in (telling text packets) (packet_in o) ≡ Some ending
-      → (shown : List Shown) → outputs_of shown ≡ out_before → All (λ one. AnswersCall call one) shown
+      → (shown : List Shown) → outputs_of shown ≡ out_before → All (AnswersOf calls) shown
       → told_of script_db hosts k (telling text_before packets_before) shown ≡ record { after = telling text packets; ending = Some ending }
   tells_part ending passed shown outputs answers =
       let f = first_of _ (on.rest shown outputs answers) in
@@ -110,12 +107,12 @@ module _ (script_db : ScriptDatabase) (hosts : List Host) (k : ℕ) (call text_b
       (told_of script_db hosts k (with_shown script_db hosts k (telling text packets) f.0) f.1)) e
 
 -- the end
-pub tells_all : (script_db : ScriptDatabase) (hosts : List Host) (k : ℕ) (call text_before : List ℕ) (packets_before : Traffic) (out_before : List Output)
+pub tells_all : (script_db : ScriptDatabase) (hosts : List Host) (k : ℕ) (calls : List (List ℕ)) (text_before : List ℕ) (packets_before : Traffic) (out_before : List Output)
     (text : List ℕ) (packets : Traffic) (out : List Output) → out ≡ []
-    → TellsOn script_db hosts k call text_before packets_before out_before text packets out
-    → (shown : List Shown) → outputs_of shown ≡ out_before → All (λ one. AnswersCall call one) shown
+    → TellsOn script_db hosts k calls text_before packets_before out_before text packets out
+    → (shown : List Shown) → outputs_of shown ≡ out_before → All (AnswersOf calls) shown
     → told_of script_db hosts k (telling text_before packets_before) shown ≡ record { after = telling text packets; ending = None }
-tells_all script_db hosts k call tb pb ob text packets out none on shown outputs answers =
+tells_all script_db hosts k calls tb pb ob text packets out none on shown outputs answers =
     let rest = on.rest shown outputs answers in
     by rest.shown (rest.outputs ∙ none) rest.same
   where

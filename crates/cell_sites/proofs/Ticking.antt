@@ -4,6 +4,7 @@ use Rattle.std.proofs.Common.{Result, Ok, Err, length, map, set, get_or, replica
 use Rattle.std.specs.Prelude.{slice_get, IsErrAnd}
 use Rattle.std.specs.Vec.{with_item, with_items}
 use Rattle.std.proofs.lemmas.List.{append-nil, length-set, length-map, map-set}
+use Rattle.std.proofs.lemmas.List.Elements.{All-nil}
 use Rattle.std.proofs.Math.Seq.{map-set_same}
 use Rattle.std.proofs.lemmas.Option.{get_or_from_slice_get, slice_get_within}
 use Rattle.db_image.specs.Database.{Database}
@@ -20,7 +21,7 @@ use Rattle.cell_sites.specs.Disks.{AreReadBy, Held, held}
 use Rattle.cell_sites.specs.Places.{IsNearAt, ticked_on}
 use Rattle.cell_sites.specs.Counts.{HoldRun}
 use Rattle.cell_sites.specs.Sites.{AreArmed, AreSitesOf, IsModelledBy, helds, site_disk}
-use Rattle.cell_sites.specs.Sound.{AreSound, IsSteady, IsSoundServer, IsSoundSite, clocks_in}
+use Rattle.cell_sites.specs.Sound.{AreSound, IsSteady, IsSoundServer, IsSoundSite, Keeps, clocks_in}
 use Rattle.cell_sites.specs.Told.{CellTold}
 use Rattle.cell_sites.specs.declared.cells.OpenCell.{OpenCell}
 use Rattle.cell_sites.specs.declared.sites.Server.{Server}
@@ -29,8 +30,10 @@ use Rattle.cell_sites.specs.declared.sites.Site.{Site}
 use Rattle.cell_sites.proofs.AtPlace.{rises_same, sites_all_ticked, sites_clocks, sites_ticked, sound_at, sound_set}
 use Rattle.cell_sites.proofs.Arming.{armed_here, armed_still}
 use Rattle.cell_sites.proofs.Counting.{hold_more, moved_same}
+use Rattle.cell_sites.proofs.Keeping.{keeps_map, keeps_set}
 use Rattle.cell_sites.proofs.Near.{moments_make, near_all, near_make, near_read, near_set, near_unset}
 use Rattle.cell_sites.proofs.Delivering.{set_same}
+use Rattle.cell_sites.proofs.Soundly.{none_sent}
 use Rattle.cell_sites.proofs.Waiting.{items_with}
 
 -- ---- one site
@@ -40,7 +43,7 @@ pub server_later : {D V : Type 0} (g : Ghosts D) (m : Member) (clock later : ℕ
 server_later g m clock later (server.Down disk) le sound = sound
 server_later g m clock later (server.Up n) le sound =
     let last = sound.last in
-    record { last = omega (arith, last, le); member = sound.member; quiet = sound.quiet; stored = sound.stored }
+    record { last = omega (arith, last, le); member = sound.member; stored = sound.stored }
 
 pub site_later : {D V : Type 0} (g : Ghosts D) (m : Member) (bound seconds : ℕ) (site : Site D V) → site.clock + seconds ≤ MAX_MOMENT
     → IsSoundSite g m bound site → IsSoundSite g m (bound + seconds) (ticked_on seconds site)
@@ -151,7 +154,6 @@ tick_sound {D} {V} g bound most running k seconds site sound fits there near =
           let e : get_or (clocks_in items) j 0 ≡ one.site.clock = clock_there items j one.site one.there in
           let n = near j one.site one.there other in
           omega (arith, e, n)));
-      packets = sound.packets;
       told = sound.told;
     }
 
@@ -161,6 +163,12 @@ pub tick_rests : {D V : Type 0} (running : OpenCell D V) (k seconds : ℕ) (site
 tick_rests {D} {V} running k seconds site there none =
     let clock : site.clock + seconds ≡ site.clock = omega (arith, none) in
     ap (λ (n : ℕ). set running.sites.items k (record site { clock = n })) clock ∙ set_same running.sites.items k site there
+
+pub tick_keeps : {D V : Type 0} (db : Database) (running : OpenCell D V) (k seconds : ℕ) (site : Site D V) → slice_get running.sites.items k ≡ Some site
+    → Keeps db running → Keeps db (ticked_at running k seconds site)
+tick_keeps db running k seconds site there keeps =
+    keeps_set db running (ticked_at running k seconds site) keeps refl k (ticked_on seconds site) [] refl refl (none_sent running.packets)
+    (keeps.servers k site there) (All-nil _)
 
 none_more : {X : Type 0} (xs : List X) (handed : List Bool) → handed ++ replicate (length xs - length xs) false ≡ handed
 none_more xs handed =
@@ -231,7 +239,7 @@ tick_told g db bound running c k seconds site run text sound fits stands there n
     let after = tick_sound g bound bound running k seconds site sound (omega (arith, within, fits)) there near in
     record {
       choices = sound_choices;
-      whole = refl;
+      whole = record { most = refl; found = tt };
       ran = with_event db c (Tick k seconds);
       is = is ∙ ap (λ (b : Bool). if b then Ok (with_event db c (Tick k seconds)) else Err why.Skew)
           (may g (bound + seconds) (ticked_at running k seconds site) (tick_at c.run.world.sites k seconds) after
@@ -310,6 +318,11 @@ pub all_rests : {D V : Type 0} (running : OpenCell D V) (sites : List (Site D V)
     → seconds ≡ 0 → (all_ticked running sites).sites.items ≡ running.sites.items
 all_rests running sites seconds are none = all_items running sites seconds are ∙ none_ticked running.sites.items seconds none
 
+pub all_keeps : {D V : Type 0} (db : Database) (running : OpenCell D V) (sites : List (Site D V)) (seconds : ℕ)
+    → sites ≡ map (ticked_on seconds) running.sites.items → Keeps db running → Keeps db (all_ticked running sites)
+all_keeps db running sites seconds are keeps =
+    keeps_map db running (all_ticked running sites) keeps refl (ticked_on seconds) (λ site. refl) (all_items running sites seconds are) refl refl
+
 pub all_sound : {D V : Type 0} (g : Ghosts D) (bound bound' : ℕ) (running : OpenCell D V) (sites : List (Site D V)) (seconds : ℕ)
     → sites ≡ map (ticked_on seconds) running.sites.items → IsSteady g bound running → bound + seconds ≤ MAX_MOMENT → IsSteady g bound' running
     → IsSteady g (bound' + seconds) (all_ticked running sites)
@@ -328,7 +341,6 @@ all_sound {D} {V} g bound bound' running sites seconds are sound fits sound' =
           (sound_ticked g running.hosts.items 0 bound bound' seconds items fits sound.sites sound'.sites);
       near = ap (λ (l : List (Site D V)). are_near (clocks_in l)) is ∙ ap are_near (clocks_ticked items seconds)
           ∙ near_make (map (λ (n : ℕ). n + seconds) (clocks_in items)) (near_all (clocks_in items) seconds (near_read (clocks_in items) sound.near));
-      packets = sound.packets;
       told = sound.told;
     }
 
@@ -343,7 +355,7 @@ all_told {D} {V} {given} g db bound running sites c seconds text are sound fits 
     (sites_all_ticked running.sites.items c.run.world.sites seconds stands.sites) in
     record {
       choices = sound_choices;
-      whole = refl;
+      whole = record { most = refl; found = tt };
       ran = with_event db c (Tick_all seconds);
       is = ap (λ (b : Bool). if b then Ok (with_event db c (Tick_all seconds)) else Err why.Skew)
           (may g (bound + seconds) (all_ticked running sites) (map (ticked seconds) c.run.world.sites)

@@ -1,11 +1,12 @@
 -- The opening of a cell, server by server.
 use Rattle.std.specs.Prelude.{◌≡◌, ◌≢◌, ◌≤◌, ◌+◌, ◌++◌, ℕ, Bool, List, [], ◌∷◌, length, map, vec_capacity}
+use Rattle.std.specs.List.{AllByRecursion}
 use Rattle.disk_base.specs.declared.disks.Disk.{Ghosts}
 use Rattle.disk_base.specs.Stops.DiskStop.{Unarmed}
 use Rattle.ubik_types.specs.declared.limits.TheConstants.{MAXSERVERS}
 use Rattle.cell_model.specs.World.{first_site, first_seen}
 use Rattle.cell_script.specs.declared.lines.Kind.{Kind}
-use Rattle.cell_runs.specs.Script.{Choice, fails_at, hosts_of, opened_cell}
+use Rattle.cell_runs.specs.Script.{Choice, IsHeard, fails_at, hosts_of, opened_cell}
 use Rattle.cell_runs.specs.ScriptDatabase.{ScriptDatabase}
 use Rattle.cell_runs.specs.Trace.{TraceItem, Tells, trace}
 use Rattle.cell_sites.specs.Counts.{OpensFirst}
@@ -54,6 +55,7 @@ pub record ArePartOpened {D V : Type 0} (g : Ghosts D) (db : ScriptDatabase) (cl
   pub sound : AreSound g running.hosts.items 0 clock running.sites.items
   pub packets : running.packets ≡ no_traffic
   pub outputs : running.outputs ≡ []
+  pub calls : running.calls.items ≡ []
   pub told : text_after ≡ text_before ++ trace db running.hosts.items (opening_items failed)
   pub causes : AreRises 0 (opening_items failed) (all_held g given) (helds g running)
   pub read : AreReadBy (map (first_site (length running.hosts.items) clock) failed) (helds g running)
@@ -71,7 +73,8 @@ pub record IsAdded {D V : Type 0} (g : Ghosts D) (disk : D) (before after : Open
 pub record IsOpened {D V : Type 0} (g : Ghosts D) (db : ScriptDatabase) (clock : ℕ) (k : Kind) (given : List D) (running : OpenCell D V)
     (text_before text_after : List ℕ) : Type 0 where
   pub choices : List Choice
+  pub heard : AllByRecursion IsHeard choices
   pub stands : IsModelledBy g db.database (counts_of g given) running (opened_cell (length given) clock k (fails_at (length given) choices))
-  pub sound : (asks : ℕ) → IsSound g db.database (record { clock = clock; asks = asks }) running
+  pub sound : IsSound g db.database (record { clock = clock; asks = 0 }) running
   pub told : text_after ≡ text_before ++ trace db running.hosts.items (opening_items (fails_at (length given) choices))
   pub causes : AreRises 0 (opening_items (fails_at (length given) choices)) (all_held g given) (helds g running)

@@ -33,6 +33,7 @@ pub record SiteReopened {D V : Type 0} (g : Ghosts D) (db : ScriptDatabase) (k :
   pub sites : after.sites.items ≡ set before.sites.items k (record { clock = clock; server = server })
   pub hosts : after.hosts.items ≡ before.hosts.items
   pub packets : after.packets ≡ before.packets
+  pub calls : after.calls.items ≡ before.calls.items
   pub outputs : after.outputs ≡ before.outputs
   pub told : result ≡ Ok tt → (end ≢ opened.NoMemory)
       × (text_after ≡ text_before ++ trace db before.hosts.items (map Tells (reopened_marks k end)))

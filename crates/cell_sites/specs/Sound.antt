@@ -1,17 +1,19 @@
 -- What is kept true of a running cell.
-use Rattle.std.specs.Prelude.{◌≡◌, ◌≢◌, ◌+◌, ◌≤◌, ℕ, true, false, IfSome, IsSome, All, List, [], ◌∷◌, length, map}
+use Rattle.std.specs.Prelude.{◌≡◌, ◌≢◌, ◌+◌, ◌≤◌, ℕ, true, false, IfSome, IsSome, Some, All, List, [], ◌∷◌, length, map, slice_get}
 use Rattle.disk_base.specs.declared.disks.Disk.{Ghosts}
 use Rattle.disk_base.specs.Crash.{IsSettled}
 use Rattle.ubik_types.specs.declared.hosts.Host.{Host}
 use Rattle.ubik_types.specs.declared.limits.TheConstants.{MAXSERVERS}
 use Rattle.ubik_types.specs.Moment.{IsMoment}
 use Rattle.db_image.specs.Database.{Database}
-use Rattle.cell_model.specs.Step.{Member, cell_size}
+use Rattle.cell_model.specs.Step.{Member}
 use Rattle.cell_model.specs.World.{are_near}
 use Rattle.cell_runs.specs.Script.{Cell, hosts_of}
-use Rattle.recovery_laws.specs.HasNoWrite.{HasNoWrite, IsRecoveryPacket}
 use Rattle.script_laws.specs.CellRuns.{IsWorldRun}
+use Rattle.write_laws.specs.Keeping.{IsCellPacket, IsKeeping}
+use Rattle.write_laws.specs.Lines.{unanswered}
 use Rattle.ubik_store.specs.Gaps.{IsPlain}
+use Rattle.cell_sites.specs.Calls.{AllStandUnder}
 use Rattle.cell_sites.specs.Sites.{IsModelledBy, site_disk}
 use Rattle.cell_sites.specs.declared.cells.OpenCell.{OpenCell}
 use Rattle.cell_sites.specs.declared.sites.Server.{Server}
@@ -20,11 +22,10 @@ use Rattle.cell_sites.specs.declared.sites.Site.{Site}
 use Rattle.ubik_node.specs.declared.nodes.Node.{Node}
 use Rattle.ubik_node.specs.Node.{own_member, up_server, IsStored}
 
--- A server that is up: it has no write in flight, and its store has its version and its image; or it is halted.
+-- a server that is up, or halted: where it is not, its store has its version and its image
 pub record IsSoundNode {D V : Type 0} (g : Ghosts D) (m : Member) (clock : ℕ) (n : Node D V) : Type 0 where
   pub last : n.last ≤ clock
   pub member : own_member n ≡ m
-  pub quiet : n.halted ≡ false → HasNoWrite (cell_size m) (up_server n)
   pub stored : IsStored g n
 
 abbrev pub IsSoundServer : {D V : Type 0} → Ghosts D → Member → (clock : ℕ) → Server D V → Type 0
@@ -52,15 +53,28 @@ AreSound g hosts place bound (site ∷ sites) =
 abbrev pub clocks_in : {D V : Type 0} → List (Site D V) → List ℕ
 clocks_in sites = map (λ site. site.clock) sites
 
--- A cell of 1 to 20 servers, whose clocks are near and at most this bound, and whose packets are all of votes or recovery.
+-- a cell of 1 to 20 servers, whose clocks are near and at most this bound
 pub record IsSteady {D V : Type 0} (g : Ghosts D) (bound : ℕ) (running : OpenCell D V) : Type 0 where
   pub some : 1 ≤ length running.sites.items
   pub few : length running.sites.items ≤ MAXSERVERS
   pub hosts : running.hosts.items ≡ hosts_of (length running.sites.items)
   pub sites : AreSound g running.hosts.items 0 bound running.sites.items
   pub near : are_near (clocks_in running.sites.items) ≡ true
-  pub packets : All (IsRecoveryPacket running.hosts.items) running.packets.sent
   pub told : running.outputs ≡ []
+
+-- A server that is up and not halted takes writes, and the calls that it has not answered are calls of the cell, each under its id.
+pub record KeepsNode {D V : Type 0} (db : Database) (hosts : List Host) (calls : List (List ℕ)) (node : Node D V) : Type 0 where
+  pub takes : IsKeeping db (length hosts) (up_server node)
+  pub line : AllStandUnder calls (unanswered (up_server node))
+
+abbrev pub KeepsServer : {D V : Type 0} → Database → List Host → List (List ℕ) → Server D V → Type 0
+KeepsServer {D} {V} db hosts calls s = (node : Node D V) → s ≡ server.Up node → node.halted ≡ false → KeepsNode db hosts calls node
+
+-- so each server of a cell; and its packets go from host to host of it
+pub record Keeps {D V : Type 0} (db : Database) (running : OpenCell D V) : Type 0 where
+  pub servers : (k : ℕ) (site : Site D V) → slice_get running.sites.items k ≡ Some site →
+      KeepsServer db running.hosts.items running.calls.items site.server
+  pub packets : All (IsCellPacket running.hosts.items) running.packets.sent
 
 -- Behind the cell stands some run of the world, in which the ids of calls are at most this. So all that is proved of runs is known of it.
 pub record HasRun {D V : Type 0} (g : Ghosts D) (db : Database) (asks : ℕ) (running : OpenCell D V) : Type 0 where
@@ -69,7 +83,7 @@ pub record HasRun {D V : Type 0} (g : Ghosts D) (db : Database) (asks : ℕ) (ru
   pub stands : IsModelledBy g db given running cell
   pub run : IsWorldRun db asks cell
 
--- what clocks, and the ids of calls, are at most
+-- what clocks are at most, and how many calls were asked
 pub record Bounds : Type 0 where
   pub clock : ℕ
   pub asks : ℕ
@@ -77,5 +91,7 @@ pub record Bounds : Type 0 where
 -- a running cell, between two lines, of a database whose blocks have a length
 pub record IsSound {D V : Type 0} (g : Ghosts D) (db : Database) (bounds : Bounds) (running : OpenCell D V) : Type 0 where
   pub steady : IsSteady g bounds.clock running
+  pub keeps : Keeps db running
+  pub calls : length running.calls.items ≡ bounds.asks
   pub run : HasRun g db bounds.asks running
   pub blocks : db.block ≢ 0

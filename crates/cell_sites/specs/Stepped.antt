@@ -90,6 +90,7 @@ pub record UpStepped {D V : Type 0} (g : Ghosts D) (db : Database) (k : ℕ) (ev
   pub sites : after.sites.items ≡ set before.sites.items k (up_site clock later)
   pub hosts : after.hosts.items ≡ before.hosts.items
   pub packets : after.packets ≡ before.packets
+  pub calls : after.calls.items ≡ before.calls.items
 
 -- what becomes of a server after its step, and of what it put out: where its disk stopped, it is down, its disk is revived, and it puts
 -- nothing out
@@ -111,6 +112,7 @@ pub record SiteStepped {D V : Type 0} (g : Ghosts D) (db : Database) (k : ℕ) (
   pub sites : after.sites.items ≡ set before.sites.items k (record { clock = clock; server = server })
   pub hosts : after.hosts.items ≡ before.hosts.items
   pub packets : after.packets ≡ before.packets
+  pub calls : after.calls.items ≡ before.calls.items
 
 -- the server at a place was taken down, and its disk revived; nothing else of the cell changed
 pub record TakenDown {D V : Type 0} (g : Ghosts D) (k : ℕ) (before after : OpenCell D V) : Type 0 where
@@ -122,4 +124,5 @@ pub record TakenDown {D V : Type 0} (g : Ghosts D) (k : ℕ) (before after : Ope
   pub sites : after.sites.items ≡ set before.sites.items k (record { clock = clock; server = Down disk })
   pub hosts : after.hosts.items ≡ before.hosts.items
   pub packets : after.packets ≡ before.packets
+  pub calls : after.calls.items ≡ before.calls.items
   pub outputs : after.outputs ≡ before.outputs

@@ -26,7 +26,8 @@ use disk_base::StopDisk;
 use script_laws::law_cells_go_on;
 use std::alloc::Global;
 use ubik_node::{Outputs, SteadyDisk};
-use ubik_types::{Host, NoMemory};
+use ubik_types::{Bytes, Host, NoMemory};
+use write_laws::law_writes_spread;
 
 /// The host of the first server of a cell, 10.0.0.1. The others follow it.
 const FIRST_HOST: u32 = 167_772_161;
@@ -40,6 +41,8 @@ pub struct OpenCell<D: SteadyDisk + StopDisk, V: DraftWords> {
     pub sites: Vec<Site<D, V>>,
     pub packets: Packets,
     pub outputs: Outputs,
+    /// The calls that were asked, in their order. The id of a call is its place, counted from 1.
+    pub calls: Vec<Bytes>,
 }
 
 impl<D: SteadyDisk + StopDisk, V: DraftWords> OpenCell<D, V> {
@@ -64,6 +67,7 @@ impl<D: SteadyDisk + StopDisk, V: DraftWords> OpenCell<D, V> {
             sites,
             packets,
             outputs,
+            calls: Vec::new(alloc),
         })
     }
 
@@ -154,4 +158,5 @@ pub fn law_cell_opened<D: SteadyDisk + StopDisk, V: DraftWords>()
         IsOpened D.Disk db clock k given running text_before text_after }
 {
     law_cells_go_on();
+    law_writes_spread();
 }

@@ -115,7 +115,7 @@ impl<D: SteadyDisk + StopDisk, V: DraftWords> OpenCell<D, V> {
             unreachable!();
         };
         if self.is_up(k) {
-            return self.step(k, NodeEvent::Packet(packet), &[], text);
+            return self.step(k, NodeEvent::Packet(packet), text);
         }
         let packet = number;
         tell_mark(text, Mark::Lost { packet })?;

@@ -11,7 +11,6 @@ ghost use Rattle.ubik_node.specs.Disk.{StandsAs};
 use crate::sites::Server;
 use db_image::DraftWords;
 use disk_base::{Refused, StopDisk};
-use recovery_laws::law_recovery_spreads;
 use std::alloc::Global;
 use ubik_node::{Node, SteadyDisk, StoreFault};
 use ubik_types::{Cell, Host, Version};
@@ -43,7 +42,6 @@ pub(crate) fn open_server<D: SteadyDisk + StopDisk, V: DraftWords>(
     ensures { (d : Durable) → IsSomeAnd (D.files disk) (StandsAs d)
         → ServerOpens D.Disk (record { hosts = hosts.now; me = me }) clock d result.1 disk result.0 }
 {
-    law_recovery_spreads();
     let Ok(cell) = Cell::new(alloc, hosts) else {
         return (Server::Down(disk), OpenEnd::NoMemory);
     };

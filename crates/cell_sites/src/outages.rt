@@ -27,6 +27,7 @@ use disk_base::{Fill, StopDisk};
 use script_laws::law_cells_go_on;
 use ubik_node::SteadyDisk;
 use ubik_types::NoMemory;
+use write_laws::law_writes_spread;
 
 impl<D: SteadyDisk + StopDisk, V: DraftWords> OpenCell<D, V> {
     /// Has the disk of a server that is up stop after so many further changing calls, and then leave its files so.
@@ -94,6 +95,7 @@ impl<D: SteadyDisk + StopDisk, V: DraftWords> OpenCell<D, V> {
         ensures same { length self.new.sites.items ≡ length self.old.sites.items }
     {
         law_cells_go_on();
+        law_writes_spread();
         let k = self.place_down(server)?;
         Ok(self.reopen(k, text)?)
     }
@@ -133,7 +135,8 @@ impl<D: SteadyDisk + StopDisk, V: DraftWords> OpenCell<D, V> {
         requires place { k ≤ length self.old.sites.items }
         requires room { length self.old.sites.items < vec_capacity self.old.sites }
         ensures sites { self.new.sites.items ≡ insert self.old.sites.items k site }
-        ensures same { (self.new.hosts ≡ self.old.hosts) × (self.new.packets ≡ self.old.packets) × (self.new.outputs ≡ self.old.outputs) }
+        ensures same { (self.new.hosts ≡ self.old.hosts) × (self.new.packets ≡ self.old.packets) × (self.new.outputs ≡ self.old.outputs)
+            × (self.new.calls ≡ self.old.calls) }
     {
         match self.sites.insert(k, site) {
             Ok(()) => {}

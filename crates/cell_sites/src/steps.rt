@@ -1,39 +1,42 @@
 //! Steps of one server: its turns, and the calls that it is asked.
-ghost use Rattle.std.specs.Prelude.{not, ◌≡◌, ◌≢◌, ◌<◌, ◌+◌, ◌-◌, ◌&&◌, ℕ, List, Some, None, All, Ok, Err, false, length, filter_map, []};
+ghost use Rattle.std.specs.Prelude.{◌≡◌, ◌≢◌, ◌<◌, ◌+◌, ◌-◌, ◌++◌, ◌∷◌, ℕ, List, Some, None, All, Ok, Err, OnOk, length, filter_map, []};
 ghost use Rattle.std.specs.String.{string_bytes};
-ghost use Rattle.cell_model.specs.Step.{Shown, cell_size, is_ready, outputs_of};
+ghost use Rattle.cell_model.specs.Step.{Shown, cell_size, outputs_of};
 ghost use Rattle.cell_model.specs.World.{Trigger, occasion, packet_in};
 ghost use Rattle.cell_sites.specs.Telling.{IsNotShort, MayBeTold, WholeTold, told_of};
 ghost use Rattle.cell_sites.specs.Traffic.{sent_all};
-ghost use Rattle.cell_model.specs.Voters.{AnswersCall, AsksNoOther};
+ghost use Rattle.cell_sites.specs.Calls.{AnswersOf, AsksOf};
 ghost use Rattle.cell_runs.specs.declared.endings.Ending.TheVariants as ending;
 ghost use Rattle.cell_runs.specs.declared.endings.Which.{Which as AWhich};
 ghost use Rattle.cell_runs.specs.ScriptDatabase.{script_database};
-ghost use Rattle.cell_runs.specs.Script.{Cell, first_choice, stepped, run_in, asked_at, cell_size_of, does_write, is_later_write};
+ghost use Rattle.cell_runs.specs.Script.{Cell, first_choice, stepped, run_in, asked_at};
 ghost use Rattle.cell_script.specs.declared.lines.Line.TheVariants as line;
 ghost use Rattle.cell_script.specs.declared.lines.Why.{Why as AWhy};
 ghost use Rattle.cell_sites.specs.Disks.{AreRises};
 ghost use Rattle.cell_sites.specs.Places.{IsUpAt};
-ghost use Rattle.cell_sites.specs.Sites.{AreSitesOf, IsModelledBy, helds};
-ghost use Rattle.cell_sites.specs.Sound.{Bounds, IsSound, IsSoundDisk, IsSoundNode, IsSteady};
-ghost use Rattle.cell_sites.specs.Stepped.{NodeStepped, SiteStepped, UpStepped};
-ghost use Rattle.cell_sites.specs.Taken.{IsTakenAt, IsTakenBy};
+ghost use Rattle.cell_sites.specs.Sites.{IsModelledBy, helds};
+ghost use Rattle.cell_sites.specs.Sound.{Bounds, IsSound, IsSoundDisk, IsSoundNode, IsSteady, Keeps};
+ghost use Rattle.cell_sites.specs.Stepped.{NodeStepped, SiteStepped, UpStepped, member_at};
+ghost use Rattle.cell_sites.specs.Taken.{CutsNone};
 ghost use Rattle.cell_sites.specs.Told.{CellTold, IsRefused, IsShort};
-ghost use Rattle.ubik_node.specs.Node.{Needs, node_of, own_member, up_server};
+ghost use Rattle.ubik_node.specs.Built.{IsBuilt};
+ghost use Rattle.ubik_node.specs.Node.{Needs, node_of, own_member};
+ghost use Rattle.write_laws.specs.Keeping.{IsBrought};
 ghost use Rattle.ubik_types.specs.Moment.{IsMoment};
 
 use crate::cells::OpenCell;
 use crate::faults::LineFault;
 use crate::sites::Server;
-use crate::telling::tell_outputs;
+use crate::telling::{lacks_memory, tell_outputs};
 use cell_runs::{Mark, tell_mark};
-use cell_script::Why;
 use db_image::DraftWords;
 use disk_base::StopDisk;
-use recovery_laws::{law_images_stand, law_memory_is_told, law_recovery_spreads};
+use flight_laws::law_writes_stand;
+use recovery_laws::law_images_stand;
 use script_laws::law_cells_go_on;
 use ubik_node::{Node, NodeEvent, Outputs, SteadyDisk, StepEnd};
-use ubik_types::{Bytes, Phase, bytes_of};
+use ubik_types::{Bytes, NoMemory, bytes_of};
+use write_laws::{law_replies_tell_memory, law_writes_spread};
 
 impl<D: SteadyDisk + StopDisk, V: DraftWords> OpenCell<D, V> {
     /// A beacon turn of a server, which is counted from 1.
@@ -62,7 +65,7 @@ impl<D: SteadyDisk + StopDisk, V: DraftWords> OpenCell<D, V> {
     {
         law_cells_go_on();
         let k = self.place_up(server)?;
-        self.step(k, NodeEvent::BeaconTurn, &[], text)
+        self.step(k, NodeEvent::BeaconTurn, text)
     }
 
     /// A recovery turn of a server.
@@ -91,10 +94,10 @@ impl<D: SteadyDisk + StopDisk, V: DraftWords> OpenCell<D, V> {
     {
         law_cells_go_on();
         let k = self.place_up(server)?;
-        self.step(k, NodeEvent::RecoverTurn, &[], text)
+        self.step(k, NodeEvent::RecoverTurn, text)
     }
 
-    /// A call at a server, under an id that no call had before.
+    /// A call at a server. Its id is the number of calls that were asked, this one with them.
     pub fn ask(
         &mut self,
         server: u64,
@@ -102,7 +105,8 @@ impl<D: SteadyDisk + StopDisk, V: DraftWords> OpenCell<D, V> {
         call: Bytes,
         text: &mut String,
     ) -> Result<(), LineFault>
-        requires { (bounds : Bounds) × IsSound D.Disk V.standing.database bounds self.old }
+        requires sound { (bounds : Bounds) × IsSound D.Disk V.standing.database bounds self.old }
+        requires next { id ≡ length self.old.calls.items + 1 }
         ensures told { result ≡ Ok tt → (given : List ℕ) (c : Cell) → IsModelledBy D.Disk V.standing.database given self.old c →
             CellTold D.Disk (script_database V.standing.database V.words) given
             (λ choices. asked_at (script_database V.standing.database V.words) c (first_choice choices) id call (Some server))
@@ -126,41 +130,31 @@ impl<D: SteadyDisk + StopDisk, V: DraftWords> OpenCell<D, V> {
     {
         law_cells_go_on();
         let k = self.place_up(server)?;
-        let bytes = call.as_slice();
-        if self.is_later_write(k, bytes) {
-            return Err(LineFault::Refused(Why::Unbuilt));
-        }
-        let asked = bytes_of(self.alloc, bytes)?;
-        self.step(k, NodeEvent::Ask { id, call: asked }, bytes, text)
+        let asked = bytes_of(self.alloc, call.as_slice())?;
+        self.keep(call)?;
+        self.step(k, NodeEvent::Ask { id, call: asked }, text)
     }
 
-    /// Whether a call at the server of a place is not built yet: it writes, and the server serves calls in a cell of several servers.
-    fn is_later_write(&self, k: usize, call: &[u8]) -> bool
-        requires up { IsUpAt self.now k }
-        ensures { (c : Cell) → cell_size_of c ≡ length self.now.sites.items → AreSitesOf self.now.sites.items c.run.world.sites →
-            result ≡ is_later_write V.standing.database c (k + 1) call.now }
+    /// Keeps a call, which may be answered long after.
+    fn keep(&mut self, call: Bytes) -> Result<(), NoMemory>
+        ensures kept { OnOk result (self.new.calls.items ≡ self.old.calls.items ++ call ∷ []) }
+        ensures same { self.new ≡ record self.old { calls = self.new.calls } }
     {
-        let Server::Up(node) = &self.sites[k].server else {
-            unreachable!();
-        };
-        let several = self.sites.len() > 1;
-        let serves = serves_calls(node);
-        let writes = does_write(V::writes(call));
-        several && serves && writes
+        self.calls.push(call)?;
+        Ok(())
     }
 
-    /// A step of a server that is up, at its clock; `call` is what the event asks, if it asks something.
+    /// A step of a server that is up, at its clock.
     pub(crate) fn step(
         &mut self,
         k: usize,
         event: NodeEvent,
-        call: &[u8],
         text: &mut String,
     ) -> Result<(), LineFault>
         requires sound { (bounds : Bounds) × IsSound D.Disk V.standing.database bounds self.old }
         requires up { IsUpAt self.old k }
-        requires taken { IsTakenAt V.standing.database self.old k event }
-        requires asks { AsksNoOther event call.now }
+        requires brought { IsBrought (member_at self.old k) event }
+        requires asks { AsksOf self.old.calls.items event }
         ensures told { result ≡ Ok tt →
             (given : List ℕ) (c : Cell) (trigger : Trigger) → IsModelledBy D.Disk V.standing.database given self.old c →
             occasion c.run.world trigger ≡ Some (k, event) →
@@ -180,15 +174,17 @@ impl<D: SteadyDisk + StopDisk, V: DraftWords> OpenCell<D, V> {
             IsShort D.Disk V.standing.database given
             (λ choices. Ok (stepped (script_database V.standing.database V.words) c (first_choice choices) trigger)) c self.old self.new }
         ensures steady { result ≡ Ok tt → (bound : ℕ) → IsSteady D.Disk bound self.old → IsSteady D.Disk bound self.new }
+        ensures keeps { result ≡ Ok tt → Keeps V.standing.database self.new }
+        ensures calls { self.new.calls.items ≡ self.old.calls.items }
         ensures never_falls { AreRises 0 [] (helds D.Disk self.old) (helds D.Disk self.new) }
         ensures same { length self.new.sites.items ≡ length self.old.sites.items }
     {
-        law_recovery_spreads();
-        law_memory_is_told();
+        law_writes_spread();
+        law_replies_tell_memory();
         match self.step_site(k, event) {
             SiteEnd::NoMemory => Err(LineFault::NoMemory),
-            SiteEnd::Made => self.tell_step(k, false, call, text),
-            SiteEnd::Halts => self.tell_step(k, true, call, text),
+            SiteEnd::Made => self.tell_step(k, false, text),
+            SiteEnd::Halts => self.tell_step(k, true, text),
             SiteEnd::Stops => {
                 let server = k as u32;
                 Ok(tell_mark(text, Mark::Stops { server })?)
@@ -196,37 +192,41 @@ impl<D: SteadyDisk + StopDisk, V: DraftWords> OpenCell<D, V> {
         }
     }
 
-    /// Tells a step of the server at a place: what it put out, and then whether it was halted.
+    /// Tells a step of the server at a place: what it put out, and then whether it was halted. A reply for want of memory is want of memory:
+    /// then nothing is told.
     fn tell_step(
         &mut self,
         k: usize,
         halts: bool,
-        call: &[u8],
         text: &mut String,
     ) -> Result<(), LineFault>
         requires place { k < 20 }
         requires short { All MayBeTold self.old.outputs }
-        ensures told { result ≡ Ok tt → (shown : List Shown) → outputs_of shown ≡ self.old.outputs → All (λ one. AnswersCall call.now one) shown →
+        ensures told { result ≡ Ok tt → (shown : List Shown) → outputs_of shown ≡ self.old.outputs → All (AnswersOf self.old.calls.items) shown →
             WholeTold (script_database V.standing.database V.words) self.old.hosts.items k halts
             (record { text = string_bytes text.old; sent = self.old.packets.sent }) shown (string_bytes text.new) self.new.packets.sent }
         ensures limit { (which : AWhich) → result ≡ Err (LineFault.Limit which) →
-            (shown : List Shown) → outputs_of shown ≡ self.old.outputs → All (λ one. AnswersCall call.now one) shown →
+            (shown : List Shown) → outputs_of shown ≡ self.old.outputs → All (AnswersOf self.old.calls.items) shown →
             told_of (script_database V.standing.database V.words) self.old.hosts.items k
             (record { text = string_bytes text.old; sent = self.old.packets.sent }) shown
             ≡ record { after = record { text = string_bytes text.new; sent = self.new.packets.sent }; ending = Some (ending.Limit which) } }
         ensures refused { (why : AWhy) → result ≢ Err (LineFault.Refused why) }
-        ensures found { result ≡ Ok tt → All IsNotShort self.old.outputs }
+        ensures found { result ≢ Err LineFault.NoMemory → All IsNotShort self.old.outputs }
         ensures sends { result ≡ Ok tt → self.new.packets ≡ sent_all self.old.packets (filter_map packet_in self.old.outputs) }
         ensures emptied { result ≡ Ok tt → self.new.outputs ≡ [] }
         ensures hosts { self.new.hosts.items ≡ self.old.hosts.items }
         ensures sites { self.new.sites.items ≡ self.old.sites.items }
+        ensures calls { self.new.calls.items ≡ self.old.calls.items }
     {
+        if lacks_memory(&self.outputs) {
+            return Err(LineFault::NoMemory);
+        }
         let server = k as u32;
         tell_outputs::<V>(
             text,
             &self.hosts,
             server,
-            call,
+            &self.calls,
             &mut self.outputs,
             &mut self.packets,
         )?;
@@ -241,7 +241,7 @@ impl<D: SteadyDisk + StopDisk, V: DraftWords> OpenCell<D, V> {
     fn step_site(&mut self, k: usize, event: NodeEvent) -> SiteEnd
         requires sound { (bounds : Bounds) × IsSound D.Disk V.standing.database bounds self.old }
         requires up { IsUpAt self.old k }
-        requires taken { IsTakenAt V.standing.database self.old k event }
+        requires brought { IsBrought (member_at self.old k) event }
         ensures { SiteStepped D.Disk V.standing.database k event result self.old self.new }
     {
         let end = self.step_up(k, event);
@@ -256,33 +256,17 @@ impl<D: SteadyDisk + StopDisk, V: DraftWords> OpenCell<D, V> {
     fn step_up(&mut self, k: usize, event: NodeEvent) -> SiteEnd
         requires sound { (bounds : Bounds) × IsSound D.Disk V.standing.database bounds self.old }
         requires up { IsUpAt self.old k }
-        requires taken { IsTakenAt V.standing.database self.old k event }
+        requires brought { IsBrought (member_at self.old k) event }
         ensures { UpStepped D.Disk V.standing.database k event result self.old self.new }
     {
         law_images_stand::<V>();
+        law_writes_stand::<V>();
         let site = &mut self.sites[k];
         let clock = site.clock;
         let Server::Up(node) = &mut site.server else {
             unreachable!();
         };
         step_node(node, clock, event, &mut self.outputs)
-    }
-}
-
-/// Whether a server serves calls, as its last step left it.
-fn serves_calls<D: SteadyDisk + StopDisk, V: DraftWords>(node: &Node<D, V>) -> bool
-    ensures { result ≡ (not node.now.halted && is_ready (up_server node.now).phase) }
-{
-    !node.halted() && node.phase() == Phase::Ready
-}
-
-/// Whether a call writes, where it is one.
-fn does_write(writes: Option<bool>) -> bool
-    ensures { result ≡ does_write writes }
-{
-    match writes {
-        None => false,
-        Some(writes) => writes,
     }
 }
 
@@ -316,13 +300,13 @@ fn step_node<D: SteadyDisk + StopDisk, V: DraftWords>(
     requires moment { IsMoment clock }
     requires place { (own_member node.old).me < cell_size (own_member node.old) }
     requires sound { IsSoundNode D.Disk (own_member node.old) clock node.old }
-    requires taken { IsTakenBy V.standing.database node.old event }
+    requires built { IsBuilt event }
+    requires cuts { CutsNone V.standing.database (own_member node.old) event clock (node_of node.old) }
     requires needs { Needs V.standing (own_member node.old) (node_of node.old) event (D.files node.old.store.disk) }
     requires disk { IsSoundDisk D.Disk node.old.store.disk }
     requires empty { out.old ≡ [] }
     ensures { NodeStepped D.Disk V.standing.database (own_member node.old) clock event result node.old node.new out.new }
 {
-    law_recovery_spreads();
     let was_halted = node.halted();
     match node.step(clock, event, out) {
         StepEnd::Done => SiteEnd::Made,

@@ -1,13 +1,13 @@
 //! What is seen of a step, told output by output.
-ghost use Rattle.std.specs.Prelude.{◌≡◌, ◌≢◌, ◌<◌, ◌+◌, ◌++◌, ℕ, List, Some, None, All, [], OnOk, map, length, filter_map};
+ghost use Rattle.std.specs.Prelude.{◌≡◌, ◌≢◌, ◌<◌, ◌+◌, ◌++◌, ℕ, List, Some, None, All, [], MatchBool, OnOk, map, length, filter_map};
 ghost use Rattle.std.specs.String.{string_bytes};
 ghost use Rattle.cell_model.specs.Step.{Shown, outputs_of};
 ghost use Rattle.cell_model.specs.World.{packet_in};
 ghost use Rattle.cell_runs.specs.declared.endings.Which.{Which};
 ghost use Rattle.cell_script.specs.declared.lines.Why.{Why};
-ghost use Rattle.cell_model.specs.Voters.{AnswersCall};
 ghost use Rattle.cell_runs.specs.declared.endings.Ending.TheVariants as ending;
 ghost use Rattle.cell_runs.specs.ScriptDatabase.{script_database};
+ghost use Rattle.cell_sites.specs.Calls.{AnswersOf, call_for};
 ghost use Rattle.cell_sites.specs.Telling.{IsNotShort, MayBeTold, passed_after, passed_in, told_of, with_shown};
 ghost use Rattle.cell_sites.specs.Traffic.{sent_all, sent_maybe};
 
@@ -18,34 +18,60 @@ use cell_runs::tell_output;
 use db_image::DraftWords;
 use ubik_calls::Reply;
 use ubik_node::Outputs;
-use ubik_types::{Host, NoMemory};
+use ubik_types::{Bytes, Host, NoMemory};
 
-/// Tells what a server puts out, where `call` is the call that was asked of it, if one was; packets are sent. Where a packet passes a
-/// limit, what stands before it was told. A call that found no memory is want of memory.
+/// Whether some reply among these is for want of memory.
+pub fn lacks_memory(out: &Outputs) -> bool
+    ensures { MatchBool result (¬ All IsNotShort out.now) (All IsNotShort out.now) }
+{
+    for place in 0..out.len() {
+        if let Some(output) = out.get(place) {
+            if is_short(output) {
+                return true;
+            }
+        }
+    }
+    false
+}
+
+/// Whether an output is a reply for want of memory.
+fn is_short(output: &Output) -> bool
+    ensures { MatchBool result (¬ IsNotShort output.now) (IsNotShort output.now) }
+{
+    matches!(
+        output,
+        Output::Reply {
+            reply: Reply::NoMemory,
+            ..
+        }
+    )
+}
+
+/// Tells what a server puts out, where these are the calls that were asked, each under its id from 1; packets are sent. Where a packet
+/// passes a limit, what stands before it was told.
 pub fn tell_outputs<V: DraftWords>(
     text: &mut String,
     hosts: &[Host],
     server: u32,
-    call: &[u8],
+    calls: &[Bytes],
     out: &mut Outputs,
     packets: &mut Packets,
 ) -> Result<(), LineFault>
     requires server { server < 20 }
     requires short { All MayBeTold out.old }
-    ensures told { OnOk result ((shown : List Shown) → outputs_of shown ≡ out.old → All (λ one. AnswersCall call.now one) shown →
+    ensures told { OnOk result ((shown : List Shown) → outputs_of shown ≡ out.old → All (AnswersOf calls.now) shown →
         told_of (script_database V.standing.database V.words) hosts.now server (record { text = string_bytes text.old; sent = packets.old.sent }) shown
         ≡ record { after = record { text = string_bytes text.new; sent = packets.new.sent }; ending = None }) }
     ensures limit { (which : Which) → result ≡ Err (LineFault.Limit which) →
-        (shown : List Shown) → outputs_of shown ≡ out.old → All (λ one. AnswersCall call.now one) shown →
+        (shown : List Shown) → outputs_of shown ≡ out.old → All (AnswersOf calls.now) shown →
         told_of (script_database V.standing.database V.words) hosts.now server (record { text = string_bytes text.old; sent = packets.old.sent }) shown
         ≡ record { after = record { text = string_bytes text.new; sent = packets.new.sent }; ending = Some (ending.Limit which) } }
     ensures refused { (why : Why) → result ≢ Err (LineFault.Refused why) }
-    ensures found { OnOk result (All IsNotShort out.old) }
     ensures sends { OnOk result (packets.new ≡ sent_all packets.old (filter_map packet_in out.old)) }
     ensures emptied { OnOk result (out.new ≡ []) }
 {
     while let Some(output) = out.take() {
-        tell_one::<V>(text, hosts, server, call, output, packets)?;
+        tell_one::<V>(text, hosts, server, calls, output, packets)?;
     }
     Ok(())
 }
@@ -55,13 +81,13 @@ fn tell_one<V: DraftWords>(
     text: &mut String,
     hosts: &[Host],
     server: u32,
-    call: &[u8],
+    calls: &[Bytes],
     output: Output,
     packets: &mut Packets,
 ) -> Result<(), LineFault>
     requires server { server < 20 }
     requires short { MayBeTold output }
-    ensures told { OnOk result ((one : Shown) → one.output ≡ output → AnswersCall call.now one →
+    ensures told { OnOk result ((one : Shown) → one.output ≡ output → AnswersOf calls.now one →
         (passed_in (record { text = string_bytes text.old; sent = packets.old.sent }) (packet_in output) ≡ None)
         × (record { text = string_bytes text.new; sent = packets.new.sent }
         ≡ with_shown (script_database V.standing.database V.words) hosts.now server (record { text = string_bytes text.old; sent = packets.old.sent }) one)) }
@@ -69,34 +95,43 @@ fn tell_one<V: DraftWords>(
         (passed_in (record { text = string_bytes text.old; sent = packets.old.sent }) (packet_in output) ≡ Some (ending.Limit which))
         × (string_bytes text.new ≡ string_bytes text.old) × (packets.new ≡ packets.old) }
     ensures refused { (why : Why) → result ≢ Err (LineFault.Refused why) }
-    ensures found { OnOk result (IsNotShort output) }
     ensures sends { OnOk result (packets.new ≡ sent_maybe packets.old (packet_in output)) }
 {
     may_be_told(&output, packets)?;
     let number = packets.count() + 1;
+    let call = call_for(calls, &output);
     tell_output::<V>(text, hosts, server, number, &output, call)?;
     send(output, packets)?;
     Ok(())
 }
 
-/// Whether an output may be told: its packet passes no limit, and its call found memory.
+/// The call that an output answers; no bytes where it is no reply.
+fn call_for<'a>(calls: &'a [Bytes], output: &Output) -> &'a [u8]
+    ensures { result.now ≡ call_for calls.now output.now }
+{
+    let Output::Reply { id, .. } = output else {
+        return &[];
+    };
+    match calls.get((*id as usize).saturating_sub(1)) {
+        Some(call) => call.as_slice(),
+        None => &[],
+    }
+}
+
+/// Whether an output may be told: its packet passes no limit.
 fn may_be_told(output: &Output, packets: &Packets) -> Result<(), LineFault>
     requires { MayBeTold output.now }
     ensures passes { OnOk result (passed_after packets.now.sent (packet_in output.now) ≡ None) }
-    ensures found { OnOk result (IsNotShort output.now) }
     ensures limit { (which : Which) → result ≡ Err (LineFault.Limit which) → passed_after packets.now.sent (packet_in output.now) ≡ Some (ending.Limit which) }
     ensures refused { (why : Why) → result ≢ Err (LineFault.Refused why) }
+    ensures memory { result ≢ Err LineFault.NoMemory }
 {
-    match output {
-        Output::Send(packet) => match packets.limit_at(packet) {
-            Some(which) => Err(LineFault::Limit(which)),
-            None => Ok(()),
-        },
-        Output::Reply {
-            reply: Reply::NoMemory,
-            ..
-        } => Err(LineFault::NoMemory),
-        Output::Reply { .. } | Output::Announce { .. } => Ok(()),
+    let Output::Send(packet) = output else {
+        return Ok(());
+    };
+    match packets.limit_at(packet) {
+        Some(which) => Err(LineFault::Limit(which)),
+        None => Ok(()),
     }
 }
 

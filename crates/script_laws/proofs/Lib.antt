@@ -8,5 +8,6 @@ pub mod Telling
 pub mod GoingOn
 pub mod Sites
 pub mod SoundLines
+pub mod Finding
 pub mod SoundTelling
 pub mod ToldFaults

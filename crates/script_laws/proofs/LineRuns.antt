@@ -18,7 +18,7 @@ use Rattle.cell_script.specs.declared.lines.Line.TheVariants as line
 use Rattle.cell_script.specs.declared.lines.Why.TheVariants as why
 use Rattle.cell_runs.specs.Script.{Choice, Choices, Cell, Cell_run, Run_or_why, cell_size_of, at_server, at_up, at_down, at_packet, is_down_at, unless_skewed}
 use Rattle.cell_runs.specs.Script.{with_event, node_in, first_choice, first_waiting, dropped_of, delivered, resting, shown_site, stepped, run_in}
-use Rattle.cell_runs.specs.Script.{asked, asked_at, asked_in, is_later_write}
+use Rattle.cell_runs.specs.Script.{asked, asked_at, asked_in}
 use Rattle.cell_runs.specs.ScriptDatabase.{ScriptDatabase}
 use Rattle.script_laws.specs.CellRuns.{Fits, SiteFits, TicksOn}
 use Rattle.script_laws.specs.Runs.{happenings_of}
@@ -189,9 +189,7 @@ module _ (calls : Type 0) (law : PacketsHavePlaces) (script_db : ScriptDatabase)
     pub at_part : (server : Option ℕ) → MayPart later (asked_at script_db c choice id call server)
     at_part None = tt
     at_part (Some number) =
-        cond_both (is_later_write script_db.database c number call) (Err why.Unbuilt)
-        (at_up c number (λ k. stepped script_db c choice (Asking k id call))) (MayPart later) (λ _. tt)
-        (λ _. up_part later number (λ k. stepped script_db c choice (Asking k id call))
+        up_part later number (λ k. stepped script_db c choice (Asking k id call))
         (λ k site at. turn_part later choice (Asking k id call) k (event.Ask id call) site at
         (record {
           more = omega (arith, new, most);
@@ -201,7 +199,7 @@ module _ (calls : Type 0) (law : PacketsHavePlaces) (script_db : ScriptDatabase)
           site_fits = at.fit;
           asked = (new, most);
           call = names;
-        })))
+        }))
 
   module _
       (names : calls → (words : List (List ℕ)) (call : List ℕ) → script_db.words.call_of words ≡ Some call

@@ -199,22 +199,22 @@ module _ (calls : Type 0) (law : PacketsHavePlaces) (script_db : ScriptDatabase)
   abbrev Steps : Cell_run → Type 0
   Steps r = IsPart calls script_db later c.opening c.events c.run r
 
-  served : (made : ℕ) → (is_down site.node ≡ true → may_be_down trigger ≡ true) → Steps (stepped_so script_db c trigger k (Serves made))
+  served : (made : ℕ) → (is_down site.node ≡ true → may_be_down trigger ≡ true) → Steps (stepped_so script_db c trigger k choice.short (Serves made))
   served made delivered =
-      event_part calls script_db later (record c { armed = set c.armed k (counted_on made (armed_at c.armed k)) }) (Step trigger []) each
-      (step_legal calls law script_db.database asks later c.run.world fits trigger k e site is delivered)
+      event_part calls script_db later (record c { armed = set c.armed k (counted_on made (armed_at c.armed k)) }) (Step trigger choice.short) each
+      (step_legal calls law script_db.database asks later c.run.world fits trigger k e site is choice.short delivered)
 
-  up_part : (s : Server) → site.node ≡ Up s → (outcome : DiskOutcome) → Steps (stepped_so script_db c trigger k outcome)
+  up_part : (s : Server) → site.node ≡ Up s → (outcome : DiskOutcome) → Steps (stepped_so script_db c trigger k choice.short outcome)
   up_part s up (Serves made) = served made (λ down. absurd (true≢false (sym down ∙ ap is_down up)))
-  up_part s up (Fails_after made) =
-      event_part calls script_db later c (Fault trigger [] made) each
-      (fault_legal calls law script_db.database asks later c.run.world fits trigger k e site is s up made)
-  up_part s up (Stops_after made) =
-      event_part calls script_db later (record c { armed = set c.armed k None }) (Stop trigger [] made) each
-      (stop_legal calls law script_db.database asks later c.run.world fits trigger k e site is s up made)
+  up_part s up (Fails_after short made) =
+      event_part calls script_db later c (Fault trigger short made) each
+      (fault_legal calls law script_db.database asks later c.run.world fits trigger k e site is s up short made)
+  up_part s up (Stops_after short made) =
+      event_part calls script_db later (record c { armed = set c.armed k None }) (Stop trigger short made) each
+      (stop_legal calls law script_db.database asks later c.run.world fits trigger k e site is s up short made)
 
   node_part : (node : Node) → site.node ≡ node → (is_down site.node ≡ true → may_be_down trigger ≡ true)
-      → Steps (stepped_so script_db c trigger k (outcome_at script_db.database c.run.world choice c.armed (k, e) node))
+      → Steps (stepped_so script_db c trigger k choice.short (outcome_at script_db.database c.run.world choice c.armed (k, e) node))
   node_part Down at delivered = served 0 delivered
   node_part (Halted h) at delivered = served 0 delivered
   node_part (Up s) at delivered = up_part s at _
@@ -222,7 +222,7 @@ module _ (calls : Type 0) (law : PacketsHavePlaces) (script_db : ScriptDatabase)
   pub stepped_part : (is_down site.node ≡ true → may_be_down trigger ≡ true) → Steps (stepped script_db c choice trigger)
   stepped_part delivered =
       let P : Option (ℕ × NodeEvent) → Type 0 =
-      λ o. Steps (stepped_so script_db c trigger (place_in o) (outcome_of script_db.database c.run.world choice c.armed o)) in
+      λ o. Steps (stepped_so script_db c trigger (place_in o) choice.short (outcome_of script_db.database c.run.world choice c.armed o)) in
       let Q : Option Site → Type 0 =
-      λ o. Steps (stepped_so script_db c trigger k (outcome_at script_db.database c.run.world choice c.armed (k, e) (node_in o))) in
+      λ o. Steps (stepped_so script_db c trigger k choice.short (outcome_at script_db.database c.run.world choice c.armed (k, e) (node_in o))) in
       subst P (sym is.brought) (subst Q (sym is.there) (node_part site.node refl delivered))

@@ -19,7 +19,7 @@ use Rattle.cell_runs.specs.declared.limits.TheConstants.{MAX_LINES}
 use Rattle.cell_runs.specs.Script.{Choice, Choices, LineRead, Cell, Stage, Line_run, Cell_run, Run_or_why, ScriptEnd, Told, DiskOutcome, Serves, Fails_after}
 use Rattle.cell_runs.specs.Script.{Stops_after, choice_of, first_choice, with_event, armed_at, counted_on, outcome_of, place_in, stepped_so, stepped, delivered}
 use Rattle.cell_runs.specs.Script.{first_waiting, dropped_of, all_delivered, unless_ended, resting, cell_size_of, at_server, at_up}
-use Rattle.cell_runs.specs.Script.{at_down, at_packet, is_down_at, unless_skewed, shown_site, run_in, asked_in, asked, is_later_write, in_stage, next_line}
+use Rattle.cell_runs.specs.Script.{at_down, at_packet, is_down_at, unless_skewed, shown_site, run_in, asked_in, asked, in_stage, next_line}
 use Rattle.cell_runs.specs.Script.{hosts_of}
 use Rattle.cell_runs.specs.Script.{fails_at, run_first, kind_of_cell, run_standing, line_run, meaning_run, or_refused, line_result, told_with}
 use Rattle.cell_runs.specs.Script.{told_after}
@@ -72,17 +72,18 @@ module _ (script_db : ScriptDatabase) where
   event_has : (c : Cell) (e : Event) → HasSites c → HasSites (with_event script_db c e).cell
   event_has c e has = event_whole script_db.database c.run.world e has
 
-  so_has : (c : Cell) (trigger : Trigger) (k : ℕ) (outcome : DiskOutcome) → HasSites c
-      → HasSites (stepped_so script_db c trigger k outcome).cell
-  so_has c trigger k (Serves calls) has =
-      event_has (record c { armed = set c.armed k (counted_on calls (armed_at c.armed k)) }) (Step trigger []) has
-  so_has c trigger k (Fails_after made) has = event_has c (Fault trigger [] made) has
-  so_has c trigger k (Stops_after made) has = event_has (record c { armed = set c.armed k None }) (Stop trigger [] made) has
+  so_has : (c : Cell) (trigger : Trigger) (k : ℕ) (short : List Bool) (outcome : DiskOutcome) → HasSites c
+      → HasSites (stepped_so script_db c trigger k short outcome).cell
+  so_has c trigger k short (Serves calls) has =
+      event_has (record c { armed = set c.armed k (counted_on calls (armed_at c.armed k)) }) (Step trigger short) has
+  so_has c trigger k short (Fails_after unheard made) has = event_has c (Fault trigger unheard made) has
+  so_has c trigger k short (Stops_after unheard made) has =
+      event_has (record c { armed = set c.armed k None }) (Stop trigger unheard made) has
 
   stepped_has : (c : Cell) (choice : Choice) (trigger : Trigger) → HasSites c → HasSites (stepped script_db c choice trigger).cell
   stepped_has c choice trigger has =
       let o = occasion c.run.world trigger in
-      so_has c trigger (place_in o) (outcome_of script_db.database c.run.world choice c.armed o) has
+      so_has c trigger (place_in o) choice.short (outcome_of script_db.database c.run.world choice c.armed o) has
 
   delivered_has : (c : Cell) (choice : Choice) (number : ℕ) → HasSites c → HasSites (delivered script_db c choice number).cell
   delivered_has c choice number has = stepped_has (record c { handed = set c.handed (number - 1) true }) choice (Delivery number) has
@@ -171,8 +172,7 @@ module _ (script_db : ScriptDatabase) where
     call_has choice id words server None = if_has (script_db.words.is_unbuilt words) (Err why.Unbuilt) (Err why.Syntax) tt tt
     call_has choice id words None (Some call) = tt
     call_has choice id words (Some number) (Some call) =
-        if_has (is_later_write script_db.database c number call) (Err why.Unbuilt) _ tt
-        (up_has number (λ k. stepped script_db c choice (Asking k id call)) (λ k. stepped_has c choice (Asking k id call) has))
+        up_has number (λ k. stepped script_db c choice (Asking k id call)) (λ k. stepped_has c choice (Asking k id call) has)
 
 -- ---- each line, and all
 

@@ -33,8 +33,8 @@ module _ (dbs : Databases) where
   after_same : (t : Told) (r : LineRead) (ended : Option ScriptEnd) → MayHaveSites t.stage.cell → HasNoFault (told_after dbs t r ended).items
       → IsWhole r.choices → told_after dbs t (record { line = r.line; choices = sound_choices }) ended ≡ told_after dbs t r ended
   after_same t r None has free whole =
-      ap (λ (most : ℕ). told_with dbs t (line_result dbs t.stage (record { line = r.line; choices = record { each = []; most = most } }))) (sym whole)
-      ∙ ap (told_with dbs t) (result_same dbs t.stage r.line r.choices has (with_free t (line_result dbs t.stage r) free))
+      ap (λ (most : ℕ). told_with dbs t (line_result dbs t.stage (record { line = r.line; choices = record { each = []; most = most } }))) (sym whole.most)
+      ∙ ap (told_with dbs t) (result_same dbs t.stage r.line r.choices has whole.found (with_free t (line_result dbs t.stage r) free))
   after_same t r (Some h) has free whole = refl
 
   from_same : (t : Told) (readings : List LineRead) → AreWhole readings → MayHaveSites t.stage.cell → HasNoFault (told_from dbs t readings).items

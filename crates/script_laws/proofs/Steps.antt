@@ -1,5 +1,5 @@
 -- The events that lines bring are events of the world, and the world after each of them is again one that scripts lead to.
-use Rattle.std.proofs.Common.{Bool, true, false, cond, not, ◌&&◌, ◌≡◌, ℕ, ◌<◌, ◌≤◌, [], length, refl, sym, ap, subst, ◌∙◌, arith}
+use Rattle.std.proofs.Common.{Bool, true, false, cond, not, ◌&&◌, ◌≡◌, ℕ, ◌<◌, ◌≤◌, List, length, refl, sym, ap, subst, ◌∙◌, arith}
 use Rattle.std.proofs.lemmas.Bool.Decides.{nat_tests}
 use Rattle.std.proofs.lemmas.List.{length-append}
 use Rattle.std.proofs.lemmas.List.Elements.{All-nil}
@@ -65,23 +65,23 @@ module _ (calls : Type 0) (law : PacketsHavePlaces) (db : Database) (asks later 
     (e : NodeEvent) (site : Site) (is : IsOccasion calls db asks later w trigger k e site) where
   -- ---- a step
 
-  stepped_site : (node : Node) → NodeFits w.hosts node → SiteFits w.hosts later (step_at db (member w k) trigger e [] site node).site
-  stepped_site Down fit = site_later w.hosts asks later site is.more is.site_fits
-  stepped_site (Halted h) fit =
+  stepped_site : (short : List Bool) (node : Node) → NodeFits w.hosts node → SiteFits w.hosts later (step_at db (member w k) trigger e short site node).site
+  stepped_site short Down fit = site_later w.hosts asks later site is.more is.site_fits
+  stepped_site short (Halted h) fit =
       record { ids = asked_fit asks later site.asked e is.more is.asked is.site_fits.ids; node = is.site_fits.node }
-  stepped_site (Up s) fit =
-      let t : IsPlacedStep (member w k) (step_of db (member w k) s site.clock e []) =
-      law.steps db (member w k) s site.clock e [] is.inside fit in
+  stepped_site short (Up s) fit =
+      let t : IsPlacedStep (member w k) (step_of db (member w k) s site.clock e short) =
+      law.steps db (member w k) s site.clock e short is.inside fit in
       record {
         ids = asked_fit asks later site.asked e is.more is.asked is.site_fits.ids;
         node = t.phase;
       }
 
-  stepped_packets : (node : Node) → NodeFits w.hosts node
-      → All (IsBetween w.hosts) (packets_of (step_at db (member w k) trigger e [] site node).shown)
-  stepped_packets Down fit = All-nil (IsBetween w.hosts)
-  stepped_packets (Halted h) fit = refusals_send (IsBetween w.hosts) e
-  stepped_packets (Up s) fit = (law.steps db (member w k) s site.clock e [] is.inside fit).packets
+  stepped_packets : (short : List Bool) (node : Node) → NodeFits w.hosts node
+      → All (IsBetween w.hosts) (packets_of (step_at db (member w k) trigger e short site node).shown)
+  stepped_packets short Down fit = All-nil (IsBetween w.hosts)
+  stepped_packets short (Halted h) fit = refusals_send (IsBetween w.hosts) e
+  stepped_packets short (Up s) fit = (law.steps db (member w k) s site.clock e short is.inside fit).packets
 
   may_be : (b : Bool) → is_down site.node ≡ b → (b ≡ true → may_be_down trigger ≡ true)
       → cond b (may_be_down trigger) (is_new_ask site.asked e) ≡ true
@@ -89,39 +89,39 @@ module _ (calls : Type 0) (law : PacketsHavePlaces) (db : Database) (asks later 
   may_be false at delivered = new_ask asks later site.asked e is.asked is.site_fits.ids
 
   -- a packet may come to a server that is down; else the server is up
-  pub step_legal : (is_down site.node ≡ true → may_be_down trigger ≡ true) → IsLegal calls db later w (Step trigger [])
-  step_legal delivered =
-      happened_legal calls db asks later w k (Step trigger []) (step_at db (member w k) trigger e [] site site.node) is.more fits
-      (ap (triggered w (λ m e site. step_at db m trigger e [] site site.node)) is.brought
-      ∙ ap (happens_at w k (λ site. step_at db (member w k) trigger e [] site site.node)) is.there)
+  pub step_legal : (short : List Bool) → (is_down site.node ≡ true → may_be_down trigger ≡ true) → IsLegal calls db later w (Step trigger short)
+  step_legal short delivered =
+      happened_legal calls db asks later w k (Step trigger short) (step_at db (member w k) trigger e short site site.node) is.more fits
+      (ap (triggered w (λ m e site. step_at db m trigger e short site site.node)) is.brought
+      ∙ ap (happens_at w k (λ site. step_at db (member w k) trigger e short site site.node)) is.there)
       (ap (occurs w (may_step trigger)) is.brought ∙ ap (holds_at (may_step trigger e)) is.there ∙ may_be
       (is_down site.node) refl delivered)
-      (λ named. (is.call named, refl)) (stepped_site site.node is.site_fits.node) (stepped_packets site.node is.site_fits.node)
+      is.call (stepped_site short site.node is.site_fits.node) (stepped_packets short site.node is.site_fits.node)
 
   -- ---- a stop, and a fault
 
-  module _ (s : Server) (up : site.node ≡ Up s) (made : ℕ) where
-    pub stop_legal : IsLegal calls db later w (Stop trigger [] made)
+  module _ (s : Server) (up : site.node ≡ Up s) (short : List Bool) (made : ℕ) where
+    pub stop_legal : IsLegal calls db later w (Stop trigger short made)
     stop_legal =
-        happened_legal calls db asks later w k (Stop trigger [] made) (stop_at db (member w k) e [] made site (Up s)) is.more fits
-        (ap (triggered w (λ m e site. stop_at db m e [] made site site.node)) is.brought
-        ∙ ap (happens_at w k (λ site. stop_at db (member w k) e [] made site site.node)) is.there
-        ∙ ap (λ (node : Node). happened_at w k (stop_at db (member w k) e [] made site node)) up)
+        happened_legal calls db asks later w k (Stop trigger short made) (stop_at db (member w k) e short made site (Up s)) is.more fits
+        (ap (triggered w (λ m e site. stop_at db m e short made site site.node)) is.brought
+        ∙ ap (happens_at w k (λ site. stop_at db (member w k) e short made site site.node)) is.there
+        ∙ ap (λ (node : Node). happened_at w k (stop_at db (member w k) e short made site node)) up)
         (ap (occurs w may_stop) is.brought ∙ ap (holds_at (may_stop e)) is.there
         ∙ both (not (is_down site.node)) (is_new_ask site.asked e) (ap (λ (node : Node). not (is_down node)) up)
         (new_ask asks later site.asked e is.asked is.site_fits.ids))
-        (λ named. (is.call named, refl))
+        is.call
         (record { ids = (site_later w.hosts asks later site is.more is.site_fits).ids; node = tt }) (All-nil (IsBetween w.hosts))
 
-    pub fault_legal : IsLegal calls db later w (Fault trigger [] made)
+    pub fault_legal : IsLegal calls db later w (Fault trigger short made)
     fault_legal =
-        happened_legal calls db asks later w k (Fault trigger [] made) (fault_at db (member w k) e [] made site (Up s)) is.more fits
-        (ap (triggered w (λ m e site. fault_at db m e [] made site site.node)) is.brought
-        ∙ ap (happens_at w k (λ site. fault_at db (member w k) e [] made site site.node)) is.there
-        ∙ ap (λ (node : Node). happened_at w k (fault_at db (member w k) e [] made site node)) up)
+        happened_legal calls db asks later w k (Fault trigger short made) (fault_at db (member w k) e short made site (Up s)) is.more fits
+        (ap (triggered w (λ m e site. fault_at db m e short made site site.node)) is.brought
+        ∙ ap (happens_at w k (λ site. fault_at db (member w k) e short made site site.node)) is.there
+        ∙ ap (λ (node : Node). happened_at w k (fault_at db (member w k) e short made site node)) up)
         (ap (occurs w may_fail) is.brought ∙ ap (holds_at (may_fail e)) is.there
         ∙ both (has_disk site.node) (is_new_ask site.asked e) (ap has_disk up) (new_ask asks later site.asked e is.asked is.site_fits.ids))
-        (λ named. (is.call named, refl))
+        is.call
         (record { ids = asked_fit asks later site.asked e is.more is.asked is.site_fits.ids; node = tt })
         (refusals_send (IsBetween w.hosts) e)
 

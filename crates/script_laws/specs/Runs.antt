@@ -1,5 +1,5 @@
 -- What the lines of a script make of a cell is a run of the world, and what they tell is what is seen of that run (own).
-use Rattle.std.specs.Prelude.{ℕ, ◌≡◌, Bool, true, false, Option, Some, None, IsSome, All, List, [], ◌∷◌, ◌++◌, length}
+use Rattle.std.specs.Prelude.{ℕ, ◌≡◌, Bool, true, false, Option, Some, None, IfSome, IsSome, All, List, [], ◌∷◌, ◌++◌, length}
 use Rattle.db_image.specs.Database.{Database}
 use Rattle.cell_model.specs.Book.{Run, first_run, run_through}
 use Rattle.cell_model.specs.World.{Trigger, Asking, Event, Step, Stop, Fault, Happening, IsFirst, IsRun, first_seen, seen_of}
@@ -7,7 +7,7 @@ use Rattle.cell_script.specs.declared.lines.Kind.{Kind}
 use Rattle.cell_runs.specs.declared.endings.Ending.{Ending}
 use Rattle.cell_runs.specs.declared.endings.Ending.TheVariants.{Limit}
 use Rattle.cell_runs.specs.declared.endings.Which.TheVariants.{Packets, PacketBytes}
-use Rattle.cell_runs.specs.Script.{LineRead, Cell, ScriptEnd, Told, hosts_of, kind_of_cell, end_text, told}
+use Rattle.cell_runs.specs.Script.{AreWhole, LineRead, Cell, ScriptEnd, Told, hosts_of, kind_of_cell, end_text, told}
 pub use Rattle.cell_runs.specs.Script.{first_of}
 use Rattle.cell_runs.specs.ScriptDatabase.{Databases}
 use Rattle.cell_runs.specs.Trace.{TraceItem, Tells, Shows, trace}
@@ -46,12 +46,21 @@ abbrev pub AsksACall : Database → Trigger → Type 0
 AsksACall db (Asking server id call) = IsSome (db.writes call)
 AsksACall db _ = Unit {0}
 
--- an event that a script may bring: what it asks is a call, and no reply is for want of memory
+-- an event that a script may bring: what it asks is a call
 abbrev pub IsScripted : Database → Event → Type 0
-IsScripted db (Step trigger short) = AsksACall db trigger × (short ≡ [])
-IsScripted db (Stop trigger short made) = AsksACall db trigger × (short ≡ [])
-IsScripted db (Fault trigger short made) = AsksACall db trigger × (short ≡ [])
+IsScripted db (Step trigger short) = AsksACall db trigger
+IsScripted db (Stop trigger short made) = AsksACall db trigger
+IsScripted db (Fault trigger short made) = AsksACall db trigger
 IsScripted db _ = Unit {0}
+
+-- no reply that is seen of it is for want of memory; of a step in which the disk fails or stops none is seen
+abbrev pub IsFound : Event → Type 0
+IsFound (Step trigger short) = short ≡ []
+IsFound _ = Unit {0}
+
+-- so of each event of a cell
+abbrev pub FindsMemory : Cell → Type 0
+FindsMemory c = All IsFound c.events
 
 -- All that was seen is told, in its order; where packets passed a limit it may be a front of that.
 pub record IsTold (ended : Option ScriptEnd) (seen : List Happening) (items : List TraceItem) : Type 0 where
@@ -81,3 +90,7 @@ IsRunOfTold dbs t = IsRunOfCell dbs t t.stage.cell
 -- What any lines tell, whatever the disks do, is what is seen of a run of the world.
 abbrev pub ScriptsAreRuns : Type 0
 ScriptsAreRuns = (dbs : Databases) → NamesCalls dbs → (readings : List LineRead) → IsRunOfTold dbs (told dbs readings)
+
+-- Lines that are run to their ends, and in which memory is found, bring no event in which it is not.
+abbrev pub MemoryIsFound : Type 0
+MemoryIsFound = (dbs : Databases) (readings : List LineRead) → AreWhole readings → IfSome (told dbs readings).stage.cell FindsMemory

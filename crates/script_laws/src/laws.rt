@@ -1,6 +1,6 @@
 //! Laws of scripts: each is the clause of a call that does nothing.
 ghost use Rattle.script_laws.specs.CellRuns.{CellsGoOn};
-ghost use Rattle.script_laws.specs.Runs.{ScriptsAreRuns};
+ghost use Rattle.script_laws.specs.Runs.{MemoryIsFound, ScriptsAreRuns};
 ghost use Rattle.script_laws.specs.Sound.{FaultsHaveServers, SoundFronts, SoundScripts};
 
 use cell_places::law_packets_have_places;
@@ -22,7 +22,7 @@ pub fn law_cells_go_on()
     law_packets_have_places();
 }
 
-/// Where no fault of a disk is told, no choice of what disks do matters: the same lines where every disk is sound leave and tell
+/// Where no fault of a disk is told, and memory is found, no choice of what disks do matters: the same lines where every disk is sound leave and tell
 /// the same, and end where these end.
 pub fn law_sound_scripts()
     ensures { SoundScripts }
@@ -31,6 +31,11 @@ pub fn law_sound_scripts()
 /// Where no line ends a script whose disks are all sound, none ends a front of it of which no fault of a disk is told.
 pub fn law_sound_fronts()
     ensures { SoundFronts }
+{}
+
+/// Lines that are run to their ends, and in which memory is found, bring no step of which a reply is seen that is for want of memory.
+pub fn law_memory_is_found()
+    ensures { MemoryIsFound }
 {}
 
 /// Each fault of a disk that is told, each stop and each opening that fails is one of a server of the cell.

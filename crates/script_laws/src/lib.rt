@@ -5,6 +5,6 @@
 mod laws;
 
 pub use laws::{
-    law_cells_go_on, law_faults_have_servers, law_scripts_are_runs, law_sound_fronts,
-    law_sound_scripts,
+    law_cells_go_on, law_faults_have_servers, law_memory_is_found, law_scripts_are_runs,
+    law_sound_fronts, law_sound_scripts,
 };

@@ -15,7 +15,7 @@ use Rattle.cell_model.specs.SingleCopy as single
 use Rattle.cell_model.specs.Step.{Member, Evaluation}
 use Rattle.cell_model.specs.World.{Site, World, Trigger, Delivery, Beacon_turn, Recover_turn, Asking, Event, Tick, Tick_all, Step, Stop, Fault, Crash, Restart, Happening, Sent, Announced, Replied, Lost, Stops, Halts, Restarts, Stays_down, member, site_of, happens, first_world}
 use Rattle.cell_runs.specs.Script.{Cell}
-use Rattle.script_laws.specs.Runs.{first_of, IsScripted}
+use Rattle.script_laws.specs.Runs.{first_of, FindsMemory, IsFound, IsScripted}
 use Rattle.script_laws.proofs.Parts.{run-append}
 use Rattle.script_promises.specs.Kept.{HasState, IsCounted, IsKept, IsSiteOf, transaction_at, state_after}
 use Rattle.script_promises.specs.Lawful.{IsLawful}
@@ -220,8 +220,8 @@ module _ (d : Standing) (c : Cell) (one : IsOfOne c) where
   abbrev AllSingle : Event → Run → Type 0
   AllSingle e r = All (IsSeenSingle d.database r (run_after d.database r e) e) (happens d.database r.world e).seen
 
-  pub single_replies : IsLawful d → RepliesAreSingle → All (IsScripted d.database) c.events → HasSingleReplies d c
-  single_replies laws law scripted = λ front back e split.
+  pub single_replies : IsLawful d → RepliesAreSingle → All (IsScripted d.database) c.events → FindsMemory c → HasSingleReplies d c
+  single_replies laws law scripted found = λ front back e split.
       let r = run_at d c front in
       let later = run_after d.database r e in
       let order = order_in r in
@@ -230,7 +230,7 @@ module _ (d : Standing) (c : Cell) (one : IsOfOne c) where
       let first : FineWorld (first_of c) = subst FineWorld (sym one.first) (first_fine c.opening.clock one.failed) in
       let fine : All FineSeen (happens d.database r.world e).seen =
       fine_run d.database (good_call d laws) (first_run (first_of c)) front back e first
-      (subst (All (IsScripted d.database)) split scripted) in
+      (subst (All (IsScripted d.database)) split scripted) (subst (All IsFound) split found) in
       all_both (IsSeenSingle d.database r later e) FineSeen (λ seen. IsSeenOf (single_in d r e) seen × IsProper seen)
       (λ seen told good. let is = seen_of_single d r later e (single_in d r e) same seen told in (is, proper d laws order r.world e seen good is))
       (happens d.database r.world e).seen

@@ -35,7 +35,7 @@ use Rattle.ubik_calls.specs.declared.packets.Packet.{Packet}
 use Rattle.cell_model.specs.Book.{Run, run_after, run_through}
 use Rattle.cell_model.specs.World.{Site, World, Trigger, Delivery, Beacon_turn, Recover_turn, Asking, Event, Tick, Tick_all, Step, Stop, Fault, Crash, Restart, Happening, Announced, Replied, Stops, Halts, Restarts, Stays_down, Happened, SiteHappened, ticked, packet_in, packet_of, packets_of, number_after, seen_of_output, seen_from, happened_at, lost_at, step_at, stop_at, fault_at, crash_at, restart_at, nothing, happens, first_world}
 use Rattle.cell_model.proofs.KeptRuns.{world_of}
-use Rattle.script_laws.specs.Runs.{AsksACall, IsScripted}
+use Rattle.script_laws.specs.Runs.{AsksACall, IsFound, IsScripted}
 use Rattle.cell_model.proofs.StepKinds.{IsAlone, IsAlonePhase, IsOwn, IsStep, AllTold, IsToldOutput, one_of, step_is}
 
 -- the one server of the cell
@@ -373,18 +373,18 @@ site_stepped db trigger e site (Up s) good lost is fine =
       node = (still_alone db s site.clock e t step, kept.heard);
     }
 
-site_failed : (db : Database) (e : NodeEvent) (made : ℕ) (site : Site) (node : Node) → site.node ≡ node → FineNode node
-    → FineSite (fault_at db only e [] made site node)
-site_failed db e made site Down is fine = record { quiet = tt; fine = tt; marks = All-nil FineSeen; node = subst FineNode (sym is) tt }
-site_failed db e made site (Halted h) is fine =
+site_failed : (db : Database) (e : NodeEvent) (short : List Bool) (made : ℕ) (site : Site) (node : Node) → site.node ≡ node → FineNode node
+    → FineSite (fault_at db only e short made site node)
+site_failed db e short made site Down is fine = record { quiet = tt; fine = tt; marks = All-nil FineSeen; node = subst FineNode (sym is) tt }
+site_failed db e short made site (Halted h) is fine =
     record { quiet = tt; fine = tt; marks = All-nil FineSeen; node = subst FineNode (sym is) tt }
-site_failed db e made site (Up s) is fine = record { quiet = refusals_quiet e; fine = refusals_fine e; marks = one_fine (Halts 0) tt; node = tt }
+site_failed db e short made site (Up s) is fine = record { quiet = refusals_quiet e; fine = refusals_fine e; marks = one_fine (Halts 0) tt; node = tt }
 
-site_stopped : (db : Database) (e : NodeEvent) (made : ℕ) (site : Site) (node : Node) → site.node ≡ node → FineNode node
-    → FineSite (stop_at db only e [] made site node)
-site_stopped db e made site Down is fine = record { quiet = tt; fine = tt; marks = All-nil FineSeen; node = subst FineNode (sym is) tt }
-site_stopped db e made site (Halted h) is fine = record { quiet = tt; fine = tt; marks = one_fine (Stops 0) tt; node = tt }
-site_stopped db e made site (Up s) is fine = record { quiet = tt; fine = tt; marks = one_fine (Stops 0) tt; node = tt }
+site_stopped : (db : Database) (e : NodeEvent) (short : List Bool) (made : ℕ) (site : Site) (node : Node) → site.node ≡ node → FineNode node
+    → FineSite (stop_at db only e short made site node)
+site_stopped db e short made site Down is fine = record { quiet = tt; fine = tt; marks = All-nil FineSeen; node = subst FineNode (sym is) tt }
+site_stopped db e short made site (Halted h) is fine = record { quiet = tt; fine = tt; marks = one_fine (Stops 0) tt; node = tt }
+site_stopped db e short made site (Up s) is fine = record { quiet = tt; fine = tt; marks = one_fine (Stops 0) tt; node = tt }
 
 site_crashed : (site : Site) → FineSite (crash_at site)
 site_crashed site = record { quiet = tt; fine = tt; marks = All-nil FineSeen; node = tt }
@@ -434,61 +434,59 @@ module _ (db : Database) (goods : (call : List ℕ) → IsSome (db.writes call) 
         at_first site _ (site_stepped db (Asking 0 id call) (event.Ask id call) site site.node (goods call asks) refl refl fine)
     stepped_fine (Asking (suc k) id call) asks = nothing_seen
 
-    failed_fine : (trigger : Trigger) (made : ℕ) → FineHappened (happens db (world_of the_host site) (Fault trigger [] made))
-    failed_fine (Delivery zero) made = nothing_seen
-    failed_fine (Delivery (suc number)) made = nothing_seen
-    failed_fine (Beacon_turn zero) made = at_first site _ (site_failed db event.BeaconTurn made site site.node refl fine)
-    failed_fine (Beacon_turn (suc k)) made = nothing_seen
-    failed_fine (Recover_turn zero) made = at_first site _ (site_failed db event.RecoverTurn made site site.node refl fine)
-    failed_fine (Recover_turn (suc k)) made = nothing_seen
-    failed_fine (Asking zero id call) made = at_first site _ (site_failed db (event.Ask id call) made site site.node refl fine)
-    failed_fine (Asking (suc k) id call) made = nothing_seen
+    failed_fine : (trigger : Trigger) (short : List Bool) (made : ℕ) → FineHappened (happens db (world_of the_host site) (Fault trigger short made))
+    failed_fine (Delivery zero) short made = nothing_seen
+    failed_fine (Delivery (suc number)) short made = nothing_seen
+    failed_fine (Beacon_turn zero) short made = at_first site _ (site_failed db event.BeaconTurn short made site site.node refl fine)
+    failed_fine (Beacon_turn (suc k)) short made = nothing_seen
+    failed_fine (Recover_turn zero) short made = at_first site _ (site_failed db event.RecoverTurn short made site site.node refl fine)
+    failed_fine (Recover_turn (suc k)) short made = nothing_seen
+    failed_fine (Asking zero id call) short made = at_first site _ (site_failed db (event.Ask id call) short made site site.node refl fine)
+    failed_fine (Asking (suc k) id call) short made = nothing_seen
 
-    stopped_fine : (trigger : Trigger) (made : ℕ) → FineHappened (happens db (world_of the_host site) (Stop trigger [] made))
-    stopped_fine (Delivery zero) made = nothing_seen
-    stopped_fine (Delivery (suc number)) made = nothing_seen
-    stopped_fine (Beacon_turn zero) made = at_first site _ (site_stopped db event.BeaconTurn made site site.node refl fine)
-    stopped_fine (Beacon_turn (suc k)) made = nothing_seen
-    stopped_fine (Recover_turn zero) made = at_first site _ (site_stopped db event.RecoverTurn made site site.node refl fine)
-    stopped_fine (Recover_turn (suc k)) made = nothing_seen
-    stopped_fine (Asking zero id call) made = at_first site _ (site_stopped db (event.Ask id call) made site site.node refl fine)
-    stopped_fine (Asking (suc k) id call) made = nothing_seen
+    stopped_fine : (trigger : Trigger) (short : List Bool) (made : ℕ) → FineHappened (happens db (world_of the_host site) (Stop trigger short made))
+    stopped_fine (Delivery zero) short made = nothing_seen
+    stopped_fine (Delivery (suc number)) short made = nothing_seen
+    stopped_fine (Beacon_turn zero) short made = at_first site _ (site_stopped db event.BeaconTurn short made site site.node refl fine)
+    stopped_fine (Beacon_turn (suc k)) short made = nothing_seen
+    stopped_fine (Recover_turn zero) short made = at_first site _ (site_stopped db event.RecoverTurn short made site site.node refl fine)
+    stopped_fine (Recover_turn (suc k)) short made = nothing_seen
+    stopped_fine (Asking zero id call) short made = at_first site _ (site_stopped db (event.Ask id call) short made site site.node refl fine)
+    stopped_fine (Asking (suc k) id call) short made = nothing_seen
 
     ticked_fine : (seconds : ℕ) (w : World) → w ≡ world_of the_host (ticked seconds site)
         → FineHappened (record { world = w; seen = []; entries = [] })
     ticked_fine seconds w is = record { seen = All-nil FineSeen; world = record { site = ticked seconds site; is = is; node = fine } }
 
-    here_fine : (e : Event) → IsScripted db e → FineHappened (happens db (world_of the_host site) e)
-    here_fine (Tick zero seconds) scripted = ticked_fine seconds _ refl
-    here_fine (Tick (suc k) seconds) scripted = nothing_seen
-    here_fine (Tick_all seconds) scripted = ticked_fine seconds _ refl
-    here_fine (Step trigger short) scripted =
+    here_fine : (e : Event) → IsScripted db e → IsFound e → FineHappened (happens db (world_of the_host site) e)
+    here_fine (Tick zero seconds) scripted found = ticked_fine seconds _ refl
+    here_fine (Tick (suc k) seconds) scripted found = nothing_seen
+    here_fine (Tick_all seconds) scripted found = ticked_fine seconds _ refl
+    here_fine (Step trigger short) scripted found =
         let P : List Bool → Type 0 = λ l. FineHappened (happens db (world_of the_host site) (Step trigger l)) in
-        subst P (sym scripted.1) (stepped_fine trigger scripted.0)
-    here_fine (Stop trigger short made) scripted =
-        let P : List Bool → Type 0 = λ l. FineHappened (happens db (world_of the_host site) (Stop trigger l made)) in
-        subst P (sym scripted.1) (stopped_fine trigger made)
-    here_fine (Fault trigger short made) scripted =
-        let P : List Bool → Type 0 = λ l. FineHappened (happens db (world_of the_host site) (Fault trigger l made)) in
-        subst P (sym scripted.1) (failed_fine trigger made)
-    here_fine (Crash zero) scripted = at_first site _ (site_crashed site)
-    here_fine (Crash (suc k)) scripted = nothing_seen
-    here_fine (Restart zero failed) scripted = at_first site _ (site_opened failed site fine)
-    here_fine (Restart (suc k) failed) scripted = nothing_seen
+        subst P (sym found) (stepped_fine trigger scripted)
+    here_fine (Stop trigger short made) scripted found = stopped_fine trigger short made
+    here_fine (Fault trigger short made) scripted found = failed_fine trigger short made
+    here_fine (Crash zero) scripted found = at_first site _ (site_crashed site)
+    here_fine (Crash (suc k)) scripted found = nothing_seen
+    here_fine (Restart zero failed) scripted found = at_first site _ (site_opened failed site fine)
+    here_fine (Restart (suc k) failed) scripted found = nothing_seen
 
-  event_fine : (w : World) (e : Event) → FineWorld w → IsScripted db e → FineHappened (happens db w e)
-  event_fine w e fine scripted =
+  event_fine : (w : World) (e : Event) → FineWorld w → IsScripted db e → IsFound e → FineHappened (happens db w e)
+  event_fine w e fine scripted found =
       let P : World → Type 0 = λ v. FineHappened (happens db v e) in
-      subst P (sym fine.is) (here_fine fine.site fine.node e scripted)
+      subst P (sym fine.is) (here_fine fine.site fine.node e scripted found)
 
   -- what is seen of each event of a run
   pub fine_run : (r : Run) (front back : List Event) (e : Event) → FineWorld r.world → All (IsScripted db) (front ++ e ∷ back)
+      → All IsFound (front ++ e ∷ back)
       → All FineSeen (happens db (run_through db r front).world e).seen
-  fine_run r [] back e fine scripted = (event_fine r.world e fine (All-head (IsScripted db) e back scripted)).seen
-  fine_run r (f ∷ front) back e fine scripted =
+  fine_run r [] back e fine scripted found =
+      (event_fine r.world e fine (All-head (IsScripted db) e back scripted) (All-head IsFound e back found)).seen
+  fine_run r (f ∷ front) back e fine scripted found =
       let rest = front ++ e ∷ back in
-      let next = event_fine r.world f fine (All-head (IsScripted db) f rest scripted) in
-      fine_run (run_after db r f) front back e next.world (All-tail (IsScripted db) f rest scripted)
+      let next = event_fine r.world f fine (All-head (IsScripted db) f rest scripted) (All-head IsFound f rest found) in
+      fine_run (run_after db r f) front back e next.world (All-tail (IsScripted db) f rest scripted) (All-tail IsFound f rest found)
 
 pub first_fine : (clock : ℕ) (failed : Bool) → FineWorld (first_world (the_host ∷ []) clock (failed ∷ []))
 first_fine clock true = record { site = _; is = refl; node = tt }

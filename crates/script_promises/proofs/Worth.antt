@@ -56,7 +56,7 @@ worth laws t c run one =
     record {
       order = one_order d c is laws.order;
       kept = kept d c is lawful laws.stay laws.sites laws.acknowledged;
-      replies = single_replies d c is lawful laws.replies run.scripted;
+      replies = λ found. single_replies d c is lawful laws.replies run.scripted found;
     }
 
 cell_worth : Laws → (t : Told) (cell : Option Cell) → IsRunOfCell databases t cell → IfSome cell KeepsPromises

@@ -2,16 +2,17 @@
 use Rattle.std.specs.Prelude.{◌≡◌, IfSome, List}
 use Rattle.db_image.specs.Standing.{Standing}
 use Rattle.cell_runs.specs.Script.{LineRead, Cell, cell_size_of, told}
+use Rattle.script_laws.specs.Runs.{FindsMemory}
 use Rattle.script_promises.specs.Databases.{databases, standing_of}
 use Rattle.script_promises.specs.Kept.{IsKept}
 use Rattle.script_promises.specs.Order.{HasOneOrder}
 use Rattle.script_promises.specs.Replies.{HasSingleReplies}
 
--- committed transactions have one order, what is acknowledged stays in it, and replies are those of a single copy
+-- Committed transactions have one order, and what is acknowledged stays in it. Where memory is found, replies are those of a single copy.
 pub record HasPromises (d : Standing) (c : Cell) : Type 0 where
   pub order : HasOneOrder d c
   pub kept : IsKept d c
-  pub replies : HasSingleReplies d c
+  pub replies : FindsMemory c → HasSingleReplies d c
 
 -- so it is of a cell's own database, where the cell has one server
 abbrev pub KeepsPromises : Cell → Type 0

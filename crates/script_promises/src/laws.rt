@@ -47,9 +47,9 @@ pub fn law_words_are_calls()
 
 /// Whatever the lines of a script, and whatever the disks do, wherever the server stops, crashes and is opened again: in a cell of
 /// one server, of either database, committed transactions have one order, which only grows; what was acknowledged stays in it, at its
-/// place; the database of the server, once it is ready, is that of the single copy; and each reply of the database is the single copy's
-/// to the call that was asked. Nothing is seen that such a cell cannot show: no packet, and no reply for want of memory, of another
-/// server, or of a bad call or database.
+/// place; the database of the server, once it is ready, is that of the single copy; and, where memory is found, each reply of the
+/// database is the single copy's to the call that was asked. Nothing is seen that such a cell cannot show: no packet, and no reply for
+/// want of memory, of another server, or of a bad call or database.
 pub fn law_scripts_keep_promises()
     ensures { ScriptsKeepPromises }
 {

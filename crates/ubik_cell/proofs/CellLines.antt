@@ -45,9 +45,10 @@ raised g db bounds later running more sound = record {
     hosts = sound.steady.hosts;
     sites = sites_raised g running.hosts.items 0 bounds.clock later running.sites.items more sound.steady.sites;
     near = sound.steady.near;
-    packets = sound.steady.packets;
     told = sound.steady.told;
   };
+  keeps = sound.keeps;
+  calls = sound.calls;
   run = sound.run;
   blocks = sound.blocks;
 }
@@ -134,7 +135,7 @@ pub nothing_told : {D V : Type 0} (g : Ghosts D) (db : ScriptDatabase) (running 
     → IsModelledBy g db.database given running c → CellTold g db given (λ choices. run_in db c choices line.Nothing) None running running text text
 nothing_told g db running text given c stands = record {
   choices = sound_choices;
-  whole = refl;
+  whole = record { most = refl; found = tt };
   ran = resting c;
   is = refl;
   ends = refl;

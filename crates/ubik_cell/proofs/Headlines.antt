@@ -2,7 +2,7 @@
 use Rattle.std.proofs.Common.{◌≡◌, ℕ, List, [], ◌++◌, Option, Some, None, IfSome, refl, subst, ◌⊎◌}
 use Rattle.disk_base.specs.declared.disks.Disk.{Ghosts}
 use Rattle.cell_runs.specs.Script.{Cell, LineRead, told}
-use Rattle.script_laws.specs.Runs.{NamesCalls, ScriptsAreRuns}
+use Rattle.script_laws.specs.Runs.{FindsMemory, MemoryIsFound, NamesCalls, ScriptsAreRuns}
 use Rattle.cell_promises.specs.Promises.{CellsKeepPromises}
 use Rattle.script_promises.specs.Databases.{databases, standing_of}
 use Rattle.script_promises.specs.Kept.{IsKept}
@@ -21,6 +21,11 @@ of_one : (P : Cell → Type 0) → ((c : Cell) → HasPromises (standing_of c) c
 of_one P has None keeps = tt
 of_one P has (Some c) keeps = λ one. has c (keeps one)
 
+-- its replies are those of the single copy, where memory was found
+single : (cell : Option Cell) → IfSome cell KeepsPromises → IfSome cell FindsMemory → OfOne (λ c. HasSingleReplies (standing_of c) c) cell
+single None keeps found = tt
+single (Some c) keeps found = λ one. (keeps one).replies found
+
 -- ---- the line in which memory ran out
 
 untold_more : (k : CellKind) (readings : List LineRead) (script : List ℕ) (left : Option (List ℕ)) (before : List ℕ)
@@ -37,10 +42,10 @@ untold_more (kind.Words place) readings script left before after run = refl
 
 -- ---- the headline
 
-pub headline : ScriptsAreRuns → NamesCalls databases → ScriptsKeepPromises → CellsKeepPromises → {D : Type 0} (g : Ghosts D) (k : CellKind) (script : List ℕ) (left : Option (List ℕ)) (before : List ℕ) (after : Option (List ℕ))
+pub headline : ScriptsAreRuns → MemoryIsFound → NamesCalls databases → ScriptsKeepPromises → CellsKeepPromises → {D : Type 0} (g : Ghosts D) (k : CellKind) (script : List ℕ) (left : Option (List ℕ)) (before : List ℕ) (after : Option (List ℕ))
     (disks_before disks_after : List D) → RanOver g k databases script left before after disks_before disks_after
     → Headline g k script left before after disks_before disks_after
-headline runs names promises every g k script left before after disks_before disks_after over =
+headline runs memory names promises every g k script left before after disks_before disks_after over =
     let ran = over.ran in
     let readings : List LineRead = ran.readings in
     let with_more : List LineRead = readings ++ ran.more in
@@ -51,10 +56,11 @@ headline runs names promises every g k script left before after disks_before dis
       whole = ran.whole;
       run = ran.run;
       world = runs databases names readings;
+      found = memory databases readings ran.whole;
       every_cell = every readings;
       one_order = of_one (λ c. HasOneOrder (standing_of c) c) (λ c has. has.order) cell keeps;
       kept = of_one (λ c. IsKept (standing_of c) c) (λ c has. has.kept) cell keeps;
-      single_copy = of_one (λ c. HasSingleReplies (standing_of c) c) (λ c has. has.replies) cell keeps;
+      single_copy = single cell keeps (memory databases readings ran.whole);
       causes = ran.causes;
       disks = record {
         more = ran.more;

@@ -166,7 +166,7 @@ module _ {D V : Type 0} (g : Ghosts D) (db : ScriptDatabase) (bytes : List ℕ) 
         let held = held_at g (only db) given before t sound at in
         record {
           choices = sound_choices;
-          whole = refl;
+          whole = record { most = refl; found = tt };
           later = told_with (only db) t (Err e);
           is = ap (told_with (only db) t) (sym (ends.2 given t.stage at.stage sound_choices));
           ended = refl;

@@ -13,7 +13,7 @@ use Rattle.cell_runs.specs.declared.endings.Ending.{Ending}
 use Rattle.cell_runs.specs.declared.endings.Ending.TheVariants.{Limit}
 use Rattle.cell_runs.specs.declared.endings.Which.TheVariants.{Lines}
 use Rattle.cell_runs.specs.declared.limits.TheConstants.{MAX_LINES}
-use Rattle.cell_runs.specs.Script.{Choice, Choices, Cell, Cell_run, LineRead, Line_run, Opening, Run_or_why, Stage, Told, DiskOutcome, Serves, Fails_after, Stops_after, outcome_of, place_in, stepped_so, stepped, delivered, all_delivered, unless_ended, choice_of, first_choice, first_waiting, at_server, at_up, at_down, at_packet, is_down_at, is_later_write, unless_skewed, run_in, asked, asked_in, with_event, cell_size_of, dropped_of, shown_site, in_stage, kind_of_cell, line_result, line_run, meaning_run, next_line, or_refused, run_standing, text_in, told_with, resting, end_text, ended_at}
+use Rattle.cell_runs.specs.Script.{Choice, Choices, Cell, Cell_run, LineRead, Line_run, Opening, Run_or_why, Stage, Told, DiskOutcome, Serves, Fails_after, Stops_after, outcome_of, place_in, stepped_so, stepped, delivered, all_delivered, unless_ended, choice_of, first_choice, first_waiting, at_server, at_up, at_down, at_packet, is_down_at, unless_skewed, run_in, asked, asked_in, with_event, cell_size_of, dropped_of, shown_site, in_stage, kind_of_cell, line_result, line_run, meaning_run, next_line, or_refused, run_standing, text_in, told_with, resting, end_text, ended_at}
 use Rattle.cell_runs.specs.ScriptDatabase.{ScriptDatabase, Databases}
 use Rattle.cell_runs.specs.Trace.{TraceItem}
 use Rattle.cell_sites.specs.Counts.{HoldRun}
@@ -29,14 +29,14 @@ module _ (script_db : ScriptDatabase) where
   abbrev Stays : Opening → Cell_run → Type 0
   Stays opening r = r.cell.opening ≡ opening
 
-  so_stays : (c : Cell) (trigger : Trigger) (k : ℕ) (outcome : DiskOutcome) → Stays c.opening (stepped_so script_db c trigger k outcome)
-  so_stays c trigger k (Serves calls) = refl
-  so_stays c trigger k (Fails_after made) = refl
-  so_stays c trigger k (Stops_after made) = refl
+  so_stays : (c : Cell) (trigger : Trigger) (k : ℕ) (short : List Bool) (outcome : DiskOutcome) → Stays c.opening (stepped_so script_db c trigger k short outcome)
+  so_stays c trigger k short (Serves calls) = refl
+  so_stays c trigger k short (Fails_after unheard made) = refl
+  so_stays c trigger k short (Stops_after unheard made) = refl
 
   stepped_stays : (c : Cell) (choice : Choice) (trigger : Trigger) → Stays c.opening (stepped script_db c choice trigger)
   stepped_stays c choice trigger =
-      so_stays c trigger (place_in (occasion c.run.world trigger)) (outcome_of script_db.database c.run.world choice c.armed (occasion c.run.world trigger))
+      so_stays c trigger (place_in (occasion c.run.world trigger)) choice.short (outcome_of script_db.database c.run.world choice c.armed (occasion c.run.world trigger))
 
   delivered_stays : (c : Cell) (choice : Choice) (number : ℕ) → Stays c.opening (delivered script_db c choice number)
   delivered_stays c choice number = stepped_stays (record c { handed = set c.handed (number - 1) true }) choice (Delivery number)
@@ -111,9 +111,7 @@ module _ (script_db : ScriptDatabase) where
         by server None = if_stays (script_db.words.is_unbuilt words) (Err why.Unbuilt) (Err why.Syntax) tt tt
         by None (Some call) = tt
         by (Some number) (Some call) =
-            if_stays (is_later_write script_db.database c number call) (Err why.Unbuilt)
-            (at_up c number (λ k. stepped script_db c choice (Asking k id call))) tt
-            (up_stays number (λ k. stepped script_db c choice (Asking k id call)) (λ k. stepped_stays c choice (Asking k id call)))
+            up_stays number (λ k. stepped script_db c choice (Asking k id call)) (λ k. stepped_stays c choice (Asking k id call))
 
 -- ---- what a line means in a cell, or where none stands
 

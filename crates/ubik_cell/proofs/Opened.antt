@@ -23,7 +23,7 @@ use Rattle.cell_sites.specs.declared.faults.LineFault.TheVariants.{NoMemory}
 use Rattle.cell_sites.specs.Disks.{Held, all_held, AreCauses, AreRises}
 use Rattle.cell_sites.specs.Opened.{IsOpened, counts_of, opening_items}
 use Rattle.cell_sites.specs.Sites.{IsModelledBy, helds}
-use Rattle.cell_sites.specs.Sound.{IsSound}
+use Rattle.cell_sites.specs.Sound.{Bounds, IsSound}
 use Rattle.ubik_cell.specs.declared.scripts.CellRun.{CellRun}
 use Rattle.ubik_cell.specs.LineRuns.{KeepsRun, LineDone, run_of_line}
 use Rattle.ubik_cell.specs.Lines.{AreUnwritten, CellIsSound, CellStandsFor, HasCauses, HeldCauses, HoldStage, IsNear, IsSoundRun, bounds_after, cell_helds, clock_bound, only, run_helds, sites_in}
@@ -58,6 +58,12 @@ no_causes k (disk ∷ disks) = (omega arith, no_causes (k + 1) disks)
 nothing_before : {D V : Type 0} (g : Ghosts D) (cell : Option (OpenCell D V)) (items : List TraceItem) → cell ≡ None → HasCauses g cell items → items ≡ []
 nothing_before g None items is none = none
 nothing_before g (Some running) items is none = absurd (cc)
+
+-- no call was asked before a cell stands
+pub none_asked : {D V : Type 0} (g : Ghosts D) (standing : Standing) (bounds : Bounds) (cell : Option (OpenCell D V)) → cell ≡ None
+    → CellIsSound g standing bounds cell → bounds.asks ≡ 0
+none_asked g standing bounds None none is = is
+none_asked g standing bounds (Some running) none is = absurd (cc)
 
 module _ {D V : Type 0} (g : Ghosts D) (db : ScriptDatabase) (servers clock : ℕ) (k : Kind) (before : CellRun D V) (running : OpenCell D V)
     (after : CellRun D V) (here : after.cell ≡ Some running) (none : before.cell ≡ None) (lines : after.lines ≡ before.lines) (asks : after.asks ≡ before.asks) where
@@ -94,7 +100,7 @@ module _ {D V : Type 0} (g : Ghosts D) (db : ScriptDatabase) (servers clock : �
       let whole : Choices = record { each = choices; most = MAX_PACKETS } in
       let failed = fails_at servers choices in
       let opened_c : Cell = opened_cell servers clock k failed in
-      let hosts_are : length running.hosts.items ≡ length running.sites.items = ap length (is.sound 0).steady.hosts ∙ hosts_count (length running.sites.items) in
+      let hosts_are : length running.hosts.items ≡ length running.sites.items = ap length is.sound.steady.hosts ∙ hosts_count (length running.sites.items) in
       let sites_are : length running.sites.items ≡ servers = sym hosts_are ∙ ap length hosts ∙ hosts_count servers in
       let all : counts_of g before.spare.items ≡ given = all_given given st near in
       let own : counts_of g disks ≡ take (length running.sites.items) given =
@@ -110,7 +116,7 @@ module _ {D V : Type 0} (g : Ghosts D) (db : ScriptDatabase) (servers clock : �
       behind ∙ ap (λ (o : Option (OpenCell D V)). drop (sites_in o) given) (sym here) in
       record {
         choices = whole;
-        whole = refl;
+        whole = record { most = refl; found = is.heard };
         ran = opened (next_line st) whole servers clock k;
         is = opens_is st (none_of g (only db) given before.cell st.cell none near.cell) whole;
         ends = refl;
@@ -157,7 +163,7 @@ module _ {D V : Type 0} (g : Ghosts D) (db : ScriptDatabase) (servers clock : �
 
   -- what stays
   pub opened_keeps : {standing : Standing} (result : Result (Unit {0}) LineFault) → IsSoundRun g standing before → before.lines < MAX_LINES → length running.sites.items ≤ MAXSERVERS
-      → after.spare.items ≡ drop (length running.sites.items) before.spare.items → (result ≡ Ok tt → (asks : ℕ) → IsSound g standing.database (record { clock = clock; asks = asks }) running) → clock ≤ MAX_CLOCK
+      → after.spare.items ≡ drop (length running.sites.items) before.spare.items → (result ≡ Ok tt → IsSound g standing.database (record { clock = clock; asks = 0 }) running) → clock ≤ MAX_CLOCK
       → KeepsRun g standing result before after
   opened_keeps {standing} result sound room few spare is_sound early =
       let count : sites_in after.cell ≡ length running.sites.items = ap sites_in here in
@@ -172,8 +178,10 @@ module _ {D V : Type 0} (g : Ghosts D) (db : ScriptDatabase) (servers clock : �
             spare ∙ sym (ap (λ n. drop n before.spare.items) all);
         sound = λ done. record {
           cell = subst (CellIsSound g standing (bounds_after (before.lines + 1) after.asks)) (sym here)
-              (raised g standing.database (record { clock = clock; asks = after.asks }) (clock_bound (before.lines + 1)) running
-              (omega (arith, early)) (is_sound done after.asks));
+              (subst (λ (n : ℕ). IsSound g standing.database (record { clock = clock_bound (before.lines + 1); asks = n }) running)
+              (sym (asks ∙ none_asked g standing (bounds_after before.lines before.asks) before.cell none sound.cell))
+              (raised g standing.database (record { clock = clock; asks = 0 }) (clock_bound (before.lines + 1)) running
+              (omega (arith, early)) (is_sound done)));
           spare = subst (All (λ disk. g.files disk ≡ Some no_files)) (sym spare) (All-drop (λ disk. g.files disk ≡ Some no_files) (length running.sites.items) before.spare.items sound.spare);
           settled = subst (All (λ disk. IsSettled (g.files disk) (g.may_leave disk))) (sym spare)
               (All-drop (λ disk. IsSettled (g.files disk) (g.may_leave disk)) (length running.sites.items) before.spare.items sound.settled);
@@ -202,7 +210,7 @@ module _ {D V : Type 0} {standing : Standing} (g : Ghosts D) (db : ScriptDatabas
   pub nothing_line : (text : List ℕ) → LineDone g db line.Nothing (Ok tt) before before text text
   nothing_line text = λ given st near. record {
     choices = sound_choices;
-    whole = refl;
+    whole = record { most = refl; found = tt };
     ran = record { stage = next_line st; items = []; ending = None };
     is = nothing_in st st.cell refl sound_choices;
     ends = refl;
@@ -235,7 +243,7 @@ module _ {D V : Type 0} {standing : Standing} (g : Ghosts D) (db : ScriptDatabas
     where
       by : (cell : Option (OpenCell D V)) → CellIsSound g standing (bounds_after before.lines before.asks) cell
           → CellIsSound g standing (bounds_after (before.lines + 1) before.asks) cell
-      by None is = tt
+      by None is = is
       by (Some running) is =
           raised g standing.database (bounds_after before.lines before.asks) (clock_bound (before.lines + 1)) running (omega arith) is
 

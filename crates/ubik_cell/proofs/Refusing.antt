@@ -36,7 +36,7 @@ module _ {D V : Type 0} {standing : Standing} (g : Ghosts D) (dbs : Databases) (
       let place : run.lines + 1 ≡ t.stage.lines + 1 = omega (arith, at.stage.lines) in
       record {
         choices = sound_choices;
-        whole = refl;
+        whole = record { most = refl; found = tt };
         later = told_with dbs t (Err ending);
         is = ap (told_with dbs t) (sym ends);
         ended = refl;

@@ -2,7 +2,7 @@
 use Rattle.std.specs.Prelude.{◌≡◌, ◌≢◌, ◌⊎◌, ℕ, Bool, Option, Some, None, IfSome, List, [], ◌++◌, drop}
 use Rattle.disk_base.specs.declared.disks.Disk.{Ghosts}
 use Rattle.cell_runs.specs.Script.{AreWhole, Cell, LineRead, cell_size_of, servers_of, told}
-use Rattle.script_laws.specs.Runs.{IsRunOfTold}
+use Rattle.script_laws.specs.Runs.{FindsMemory, IsRunOfTold}
 use Rattle.script_promises.specs.Databases.{databases, standing_of}
 use Rattle.script_promises.specs.Order.{HasOneOrder}
 use Rattle.script_promises.specs.Kept.{IsKept}
@@ -57,6 +57,7 @@ pub record Headline {D : Type 0} (g : Ghosts D) (k : CellKind) (script : List �
   pub whole : AreWhole readings
   pub run : Runs k databases readings script left before after
   pub world : IsRunOfTold databases (told databases readings)
+  pub found : IfSome (told databases readings).stage.cell FindsMemory
   pub every_cell : IfSome (told databases readings).stage.cell (λ c. HasMeaning (standing_of c) c)
   pub one_order : OfOneAfter (λ c. HasOneOrder (standing_of c) c) readings
   pub kept : OfOneAfter (λ c. IsKept (standing_of c) c) readings

@@ -38,9 +38,9 @@ clock_bound lines = MAX_CLOCK + MAX_TICK * lines
 abbrev pub bounds_after : (lines asks : ℕ) → Bounds
 bounds_after lines asks = record { clock = clock_bound lines; asks = asks }
 
--- a cell stands, and is sound
+-- a cell stands, and is sound; or none stands, and no call was asked
 abbrev pub CellIsSound : {D V : Type 0} → Ghosts D → Standing → Bounds → Option (OpenCell D V) → Type 0
-CellIsSound g standing bounds None = Unit {0}
+CellIsSound g standing bounds None = bounds.asks ≡ 0
 CellIsSound g standing bounds (Some running) = IsSound g standing.database bounds running
 
 abbrev pub sites_in : {D V : Type 0} → Option (OpenCell D V) → ℕ

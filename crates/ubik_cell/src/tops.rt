@@ -21,7 +21,9 @@ use cell_promises::law_cells_keep_promises;
 use cell_runs::Ending;
 use cell_script::{LineEnd, LineReader, write_whole};
 use disk_base::{Sink, Source, StopDisk};
-use script_laws::{law_faults_have_servers, law_scripts_are_runs, law_sound_fronts};
+use script_laws::{
+    law_faults_have_servers, law_memory_is_found, law_scripts_are_runs, law_sound_fronts,
+};
 use script_promises::{law_scripts_keep_promises, law_words_are_calls};
 use std::alloc::Global;
 use ubik_node::SteadyDisk;
@@ -165,6 +167,7 @@ pub fn cell_top<S: Source, K: Sink, D: SteadyDisk + StopDisk>(
     ensures twenty { vec_len disks.new ≡ 20 }
 {
     law_scripts_are_runs();
+    law_memory_is_found();
     law_sound_fronts();
     law_faults_have_servers();
     law_scripts_keep_promises();

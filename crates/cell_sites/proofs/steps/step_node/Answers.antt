@@ -1,53 +1,38 @@
 use Rattle.std.proofs.Common.{◌∙◌, sym}
 use Rattle.std.proofs.lemmas.Bool.{false≢true}
-use Rattle.cell_sites.proofs.Leading.{built_for, quiet_on}
 use Rattle.cell_sites.proofs.Nodes.{done_now, halted_now, halts, rested_now, short_now, stopped_now}
 use Rattle.cell_sites.proofs.steps.step_node.Goals as goal
-
-pub step-requires-clause-built : goal.step-requires-clause-built
-step-requires-clause-built g c =
-    built_for g.D.Disk g.V.DraftService.standing.database _ _ _ c.requires.sound c.law_recovery_spreads.ensures c.args.event c.requires.taken
 
 pub returns-in-Done : goal.returns-in-Done
 returns-in-Done g c =
     let e = c.in-Done.ensures in
-    let quiet = quiet_on g.D.Disk g.V.DraftService.standing.database _ _ _ c.requires.sound c.law_recovery_spreads.ensures c.requires.place
-    c.requires.moment c.args.event c.requires.taken in
-    done_now g.D.Disk g.V.DraftService.standing.database _ _ _ _ _ c.requires.sound c.requires.disk quiet _ (e.step c.requires.needs) e.member e.stored
+    done_now g.D.Disk g.V.DraftService.standing.database _ _ _ _ _ c.requires.sound c.requires.disk c.requires.cuts _ (e.step c.requires.needs) e.member e.stored
     (e.told (λ is. cc)) e.calls e.last
 
 pub returns-in-NoMemory : goal.returns-in-NoMemory
 returns-in-NoMemory g c =
     let e = c.in-NoMemory.ensures in
-    let quiet = quiet_on g.D.Disk g.V.DraftService.standing.database _ _ _ c.requires.sound c.law_recovery_spreads.ensures c.requires.place
-    c.requires.moment c.args.event c.requires.taken in
-    short_now g.D.Disk g.V.DraftService.standing.database _ _ _ _ _ c.requires.sound c.requires.disk quiet _ (e.step c.requires.needs) e.member e.stored e.last
+    short_now g.D.Disk g.V.DraftService.standing.database _ _ _ _ _ c.requires.sound c.requires.disk c.requires.cuts _ (e.step c.requires.needs) e.member e.stored e.last
 
 pub returns-in-Halted : goal.returns-in-Halted
 returns-in-Halted g c =
     let e = c.in-Halted.ensures in
     let halted = sym c.halted-was_halted.ensures ∙ c.if-was_halted.true in
-    let quiet = quiet_on g.D.Disk g.V.DraftService.standing.database _ _ _ c.requires.sound c.law_recovery_spreads.ensures c.requires.place
-    c.requires.moment c.args.event c.requires.taken in
-    rested_now g.D.Disk g.V.DraftService.standing.database _ _ _ _ _ c.requires.sound c.requires.disk quiet _ halted (e.step c.requires.needs) e.member
+    rested_now g.D.Disk g.V.DraftService.standing.database _ _ _ _ _ c.requires.sound c.requires.disk c.requires.cuts _ halted (e.step c.requires.needs) e.member
     e.stored e.calls e.last
 
 pub returns-in-Halted-2 : goal.returns-in-Halted-2
 returns-in-Halted-2 g c =
     let e = c.in-Halted-2.ensures in
     let up = sym c.halted-was_halted.ensures ∙ c.if-was_halted.false in
-    let quiet = quiet_on g.D.Disk g.V.DraftService.standing.database _ _ _ c.requires.sound c.law_recovery_spreads.ensures c.requires.place
-    c.requires.moment c.args.event c.requires.taken in
-    stopped_now g.D.Disk g.V.DraftService.standing.database _ _ _ _ _ c.requires.sound c.requires.disk quiet _ up (e.step c.requires.needs) e.calls
+    stopped_now g.D.Disk g.V.DraftService.standing.database _ _ _ _ _ c.requires.sound c.requires.disk c.requires.cuts _ up (e.step c.requires.needs) e.calls
     (c.stopped.ensures.0 c.if-stopped.true)
 
 pub returns-in-Halted-3 : goal.returns-in-Halted-3
 returns-in-Halted-3 g c =
     let e = c.in-Halted-3.ensures in
     let up = sym c.halted-was_halted.ensures ∙ c.if-was_halted.false in
-    let quiet = quiet_on g.D.Disk g.V.DraftService.standing.database _ _ _ c.requires.sound c.law_recovery_spreads.ensures c.requires.place
-    c.requires.moment c.args.event c.requires.taken in
-    halted_now g.D.Disk g.V.DraftService.standing.database _ _ _ _ _ c.requires.sound c.requires.disk quiet c.step.new.self c.revive.new.self up (e.step
+    halted_now g.D.Disk g.V.DraftService.standing.database _ _ _ _ _ c.requires.sound c.requires.disk c.requires.cuts c.step.new.self c.revive.new.self up (e.step
     c.requires.needs) e.calls
     (λ stopped. absurd (false≢true (sym c.if-stopped.false ∙ c.stopped.ensures.1 stopped)))
     c.revive.ensures.disk c.revive.ensures.same e.member c.revive.ensures.stored e.last

@@ -1,14 +1,22 @@
-use Rattle.std.proofs.Common.{◌≡◌, ◌∙◌, ◌+◌, ℕ, inl, false, List, Some, Ok, Err, length, refl, sym, ap}
+use Rattle.std.proofs.Common.{◌≡◌, ◌∙◌, ◌+◌, ◌++◌, ℕ, inl, List, [], ◌∷◌, Some, Ok, Err, length, refl, sym, ap, subst, arith}
 use Rattle.std.proofs.lemmas.Result.{err_from_is_err_and}
 use Rattle.cell_model.specs.declared.events.NodeEvent.TheVariants as event
 use Rattle.cell_model.specs.World.{Asking}
 use Rattle.std.specs.String.{string_bytes}
 use Rattle.cell_runs.specs.ScriptDatabase.{script_database}
-use Rattle.cell_runs.specs.Script.{Cell_run, Choices, asked_at, at_up, cell_size_of, first_choice, is_later_write, stepped}
-use Rattle.cell_script.specs.declared.lines.Why.TheVariants as why
-use Rattle.cell_sites.proofs.Asking.{asked_so, later_refused, not_later, taken_ask}
+use Rattle.cell_runs.specs.Script.{Cell_run, Choices, asked_at, first_choice, stepped}
+use Rattle.cell_sites.specs.Calls.{StandsUnder}
+use Rattle.cell_sites.specs.Counts.{HoldRun}
+use Rattle.cell_sites.specs.Disks.{AreRises}
+use Rattle.cell_sites.specs.Places.{IsUpAt}
+use Rattle.cell_sites.specs.Sites.{IsModelledBy, helds}
+use Rattle.cell_sites.specs.Sound.{IsSound, IsSteady}
+use Rattle.cell_sites.specs.Told.{CellTold, IsShort}
+use Rattle.cell_sites.specs.declared.cells.OpenCell.{OpenCell}
+use Rattle.cell_sites.proofs.Answering.{length_more, new_stands}
+use Rattle.cell_sites.proofs.Asking.{kept_sound, kept_stands, kept_steady, kept_up, short_from, told_from}
 use Rattle.cell_sites.proofs.Behind.{asked_on}
-use Rattle.cell_sites.proofs.AtPlace.{rises_same, sites_length}
+use Rattle.cell_sites.proofs.AtPlace.{rises_same}
 use Rattle.cell_sites.proofs.Lining.{short_as, size_of, told_as}
 use Rattle.cell_sites.proofs.Reading.{nothing_done}
 use Rattle.cell_sites.proofs.cells.OpenCell.ask.Goals as goal
@@ -21,99 +29,104 @@ returns-in_err-k-clause-refused g c = λ reason is.
       refl,
       λ given cell stands choices.
           let does : ℕ → Cell_run = λ k. stepped db cell (first_choice choices) (Asking k c.args.id c.args.call) in
-          let size = size_of g.D.Disk c.requires.0.clock c.args.self.now cell c.requires.1.steady stands in
-          let count : length cell.run.world.sites ≡ cell_size_of cell =
-          sites_length c.args.self.now.sites.items cell.run.world.sites stands.sites ∙ sym size in
-          let at : at_up cell c.args.server does ≡ Err reason = c.in_err-k.ensures.up cell does size stands.sites ∙ ap Err same in
-          asked_so db cell (first_choice choices) c.args.id c.args.call c.args.server
-          (not_later db.database cell c.args.server c.args.call does reason count at) ∙ at,
+          let size = size_of g.D.Disk c.requires.sound.0.clock c.args.self.now cell c.requires.sound.1.steady stands in
+          c.in_err-k.ensures.up cell does size stands.sites ∙ ap Err same,
     )
 
 pub returns-in_err-k-clause-never_falls : goal.returns-in_err-k-clause-never_falls
 returns-in_err-k-clause-never_falls g c = rises_same _ _ refl
 
--- ---- a call that is not built
+-- ---- the call is kept
 
-pub returns-then-is_later_write-clause-refused : goal.returns-then-is_later_write-clause-refused
-returns-then-is_later_write-clause-refused g c = λ reason is.
-    let db = script_database g.V.DraftService.standing.database g.V.DraftWords.words in
-    let same : why.Unbuilt ≡ reason = cc in (
-      refl,
-      λ given cell stands choices.
-          let size = size_of g.D.Disk c.requires.0.clock c.args.self.now cell c.requires.1.steady stands in
-          let later =
-          ap (λ (n : ℕ). is_later_write db.database cell n c.args.call) (sym c.in_ok-k.ensures.some)
-          ∙ ap (λ (bytes : List ℕ). is_later_write db.database cell (c.in_ok-k.k + 1) bytes) (sym c.as_slice-bytes.ensures)
-          ∙ sym (c.is_later_write.ensures cell size stands.sites) ∙ c.if-is_later_write.true in
-          later_refused db cell (first_choice choices) c.args.id c.args.call c.args.server later ∙ ap Err same,
+pub returns-in_err-keep-clause-short : goal.returns-in_err-keep-clause-short
+returns-in_err-keep-clause-short g c = λ is given cell stands.
+    inl (subst (λ (r : OpenCell _ _). HoldRun g.V.DraftService.standing.database given _ cell (helds g.D.Disk r)) (sym c.in_err-keep.ensures.same)
+    (nothing_done g.D.Disk g.V.DraftService.standing.database given c.args.self.now cell stands))
+
+pub returns-in_err-keep-clause-never_falls : goal.returns-in_err-keep-clause-never_falls
+returns-in_err-keep-clause-never_falls g c = rises_same _ _ (ap (λ (r : OpenCell _ _). helds g.D.Disk r) c.in_err-keep.ensures.same)
+
+pub returns-in_err-keep-clause-same : goal.returns-in_err-keep-clause-same
+returns-in_err-keep-clause-same g c = ap (λ (r : OpenCell _ _). length r.sites.items) c.in_err-keep.ensures.same
+
+pub step-requires-clause-sound : goal.step-requires-clause-sound
+step-requires-clause-sound g c =
+    let b = c.requires.sound.0 in (
+      record b { asks = c.args.id },
+      subst (λ (r : OpenCell _ _). IsSound g.D.Disk g.V.DraftService.standing.database (record b { asks = c.args.id }) r) (sym c.in_ok-keep.ensures.same)
+          (kept_sound g.D.Disk c.args.self.now c.keep.new.self.calls g.V.DraftService.standing.database b c.args.call c.args.id
+          c.in_ok-keep.ensures.kept c.requires.next c.requires.sound.1),
     )
 
-pub returns-then-is_later_write-clause-never_falls : goal.returns-then-is_later_write-clause-never_falls
-returns-then-is_later_write-clause-never_falls g c = rises_same _ _ refl
+pub step-requires-clause-up : goal.step-requires-clause-up
+step-requires-clause-up g c =
+    subst (λ (r : OpenCell _ _). IsUpAt r c.in_ok-k.k) (sym c.in_ok-keep.ensures.same)
+    (kept_up g.D.Disk c.args.self.now c.keep.new.self.calls c.in_ok-k.k c.in_ok-k.ensures.place.1)
 
--- ---- one that is
+pub step-requires-clause-brought : goal.step-requires-clause-brought
+step-requires-clause-brought g c = tt
 
-pub step-requires-clause-taken : goal.step-requires-clause-taken
-step-requires-clause-taken g c = λ clock node there.
-    let behind = c.requires.1.run in
-    let database = g.V.DraftService.standing.database in
-    let size = size_of g.D.Disk c.requires.0.clock c.args.self.now behind.cell c.requires.1.steady behind.stands in
-    let built =
-    ap (λ (bytes : List ℕ). is_later_write database behind.cell (c.in_ok-k.k + 1) bytes) c.in_ok-asked.ensures
-    ∙ sym (c.is_later_write.ensures behind.cell size behind.stands.sites) ∙ c.if-is_later_write.false in
-    taken_ask g.D.Disk database c.requires.0.clock c.args.self.now behind.cell c.in_ok-k.k c.args.id c.in_ok-asked.asked
-    c.requires.1.steady behind.stands built clock node there
+pub step-requires-clause-asks : goal.step-requires-clause-asks
+step-requires-clause-asks g c =
+    let same : c.in_ok-asked.asked ≡ c.args.call = c.in_ok-asked.ensures ∙ c.as_slice.ensures in
+    subst (λ (l : List (List ℕ)). StandsUnder l c.args.id c.in_ok-asked.asked)
+    (ap (λ (bytes : List ℕ). c.args.self.now.calls.items ++ bytes ∷ []) same ∙ sym c.in_ok-keep.ensures.kept)
+    (new_stands c.args.self.now.calls.items c.in_ok-asked.asked c.args.id c.requires.next)
+
+-- ---- its step
 
 pub returns-clause-told : goal.returns-clause-told
 returns-clause-told g c = λ ok given cell stands.
-    let same : c.in_ok-asked.asked ≡ c.args.call = c.in_ok-asked.ensures ∙ c.as_slice-bytes.ensures in
+    let same : c.in_ok-asked.asked ≡ c.args.call = c.in_ok-asked.ensures ∙ c.as_slice.ensures in
     let o : Some (c.in_ok-k.k, event.Ask c.args.id c.args.call) ≡ Some (c.in_ok-k.k, event.Ask c.args.id c.in_ok-asked.asked) = ap
     (λ (bytes : List ℕ). Some (c.in_ok-k.k, event.Ask c.args.id bytes)) (sym same) in
     let db = script_database g.V.DraftService.standing.database g.V.DraftWords.words in
     let does : Choices → ℕ → Cell_run = λ choices k. stepped db cell (first_choice choices) (Asking k c.args.id c.args.call) in
-    let size = size_of g.D.Disk c.requires.0.clock c.args.self.now cell c.requires.1.steady stands in
-    let built : is_later_write db.database cell c.args.server c.args.call ≡ false =
-    ap (λ (n : ℕ). is_later_write db.database cell n c.args.call) (sym c.in_ok-k.ensures.some)
-    ∙ ap (λ (bytes : List ℕ). is_later_write db.database cell (c.in_ok-k.k + 1) bytes) (sym c.as_slice-bytes.ensures)
-    ∙ sym (c.is_later_write.ensures cell size stands.sites) ∙ c.if-is_later_write.false in
+    let size = size_of g.D.Disk c.requires.sound.0.clock c.args.self.now cell c.requires.sound.1.steady stands in
+    let kept = subst (λ (r : OpenCell _ _). IsModelledBy g.D.Disk db.database given r cell) (sym c.in_ok-keep.ensures.same)
+    (kept_stands g.D.Disk c.args.self.now c.keep.new.self.calls cell stands) in
     told_as g.D.Disk (λ choices. asked_at db cell (first_choice choices) c.args.id c.args.call (Some c.args.server)) (λ choices. Ok (does choices c.in_ok-k.k))
-    (λ choices. asked_so db cell (first_choice choices) c.args.id c.args.call c.args.server built
-    ∙ c.in_ok-k.ensures.up cell (does choices) size stands.sites)
-    db _ _ _ _ _ (c.step.ensures.told ok given cell (Asking c.in_ok-k.k c.args.id c.args.call) stands o)
+    (λ choices. c.in_ok-k.ensures.up cell (does choices) size stands.sites)
+    db _ _ _ _ _
+    (told_from g.D.Disk c.args.self.now c.keep.new.self.calls db (λ choices. Ok (does choices c.in_ok-k.k)) _ _ _ _
+    (subst (λ (r : OpenCell _ _). CellTold g.D.Disk db given (λ choices. Ok (does choices c.in_ok-k.k)) _ r c.step.new.self (string_bytes c.args.text.now)
+    (string_bytes c.step.new.text)) c.in_ok-keep.ensures.same
+    (c.step.ensures.told ok given cell (Asking c.in_ok-k.k c.args.id c.args.call) kept o)))
 
 pub returns-clause-limit : goal.returns-clause-limit
 returns-clause-limit g c = λ which is given cell stands.
-    let same : c.in_ok-asked.asked ≡ c.args.call = c.in_ok-asked.ensures ∙ c.as_slice-bytes.ensures in
+    let same : c.in_ok-asked.asked ≡ c.args.call = c.in_ok-asked.ensures ∙ c.as_slice.ensures in
     let o : Some (c.in_ok-k.k, event.Ask c.args.id c.args.call) ≡ Some (c.in_ok-k.k, event.Ask c.args.id c.in_ok-asked.asked) = ap
     (λ (bytes : List ℕ). Some (c.in_ok-k.k, event.Ask c.args.id bytes)) (sym same) in
     let db = script_database g.V.DraftService.standing.database g.V.DraftWords.words in
     let does : Choices → ℕ → Cell_run = λ choices k. stepped db cell (first_choice choices) (Asking k c.args.id c.args.call) in
-    let size = size_of g.D.Disk c.requires.0.clock c.args.self.now cell c.requires.1.steady stands in
-    let built : is_later_write db.database cell c.args.server c.args.call ≡ false =
-    ap (λ (n : ℕ). is_later_write db.database cell n c.args.call) (sym c.in_ok-k.ensures.some)
-    ∙ ap (λ (bytes : List ℕ). is_later_write db.database cell (c.in_ok-k.k + 1) bytes) (sym c.as_slice-bytes.ensures)
-    ∙ sym (c.is_later_write.ensures cell size stands.sites) ∙ c.if-is_later_write.false in
+    let size = size_of g.D.Disk c.requires.sound.0.clock c.args.self.now cell c.requires.sound.1.steady stands in
+    let kept = subst (λ (r : OpenCell _ _). IsModelledBy g.D.Disk db.database given r cell) (sym c.in_ok-keep.ensures.same)
+    (kept_stands g.D.Disk c.args.self.now c.keep.new.self.calls cell stands) in
     told_as g.D.Disk (λ choices. asked_at db cell (first_choice choices) c.args.id c.args.call (Some c.args.server)) (λ choices. Ok (does choices c.in_ok-k.k))
-    (λ choices. asked_so db cell (first_choice choices) c.args.id c.args.call c.args.server built
-    ∙ c.in_ok-k.ensures.up cell (does choices) size stands.sites)
-    db _ _ _ _ _ (c.step.ensures.limit which is given cell (Asking c.in_ok-k.k c.args.id c.args.call) stands o)
+    (λ choices. c.in_ok-k.ensures.up cell (does choices) size stands.sites)
+    db _ _ _ _ _
+    (told_from g.D.Disk c.args.self.now c.keep.new.self.calls db (λ choices. Ok (does choices c.in_ok-k.k)) _ _ _ _
+    (subst (λ (r : OpenCell _ _). CellTold g.D.Disk db given (λ choices. Ok (does choices c.in_ok-k.k)) _ r c.step.new.self (string_bytes c.args.text.now)
+    (string_bytes c.step.new.text)) c.in_ok-keep.ensures.same
+    (c.step.ensures.limit which is given cell (Asking c.in_ok-k.k c.args.id c.args.call) kept o)))
 
 pub returns-clause-short : goal.returns-clause-short
 returns-clause-short g c = λ is given cell stands.
-    let same : c.in_ok-asked.asked ≡ c.args.call = c.in_ok-asked.ensures ∙ c.as_slice-bytes.ensures in
+    let same : c.in_ok-asked.asked ≡ c.args.call = c.in_ok-asked.ensures ∙ c.as_slice.ensures in
     let o : Some (c.in_ok-k.k, event.Ask c.args.id c.args.call) ≡ Some (c.in_ok-k.k, event.Ask c.args.id c.in_ok-asked.asked) = ap
     (λ (bytes : List ℕ). Some (c.in_ok-k.k, event.Ask c.args.id bytes)) (sym same) in
     let db = script_database g.V.DraftService.standing.database g.V.DraftWords.words in
     let does : Choices → ℕ → Cell_run = λ choices k. stepped db cell (first_choice choices) (Asking k c.args.id c.args.call) in
-    let size = size_of g.D.Disk c.requires.0.clock c.args.self.now cell c.requires.1.steady stands in
-    let built : is_later_write db.database cell c.args.server c.args.call ≡ false =
-    ap (λ (n : ℕ). is_later_write db.database cell n c.args.call) (sym c.in_ok-k.ensures.some)
-    ∙ ap (λ (bytes : List ℕ). is_later_write db.database cell (c.in_ok-k.k + 1) bytes) (sym c.as_slice-bytes.ensures)
-    ∙ sym (c.is_later_write.ensures cell size stands.sites) ∙ c.if-is_later_write.false in
+    let size = size_of g.D.Disk c.requires.sound.0.clock c.args.self.now cell c.requires.sound.1.steady stands in
+    let kept = subst (λ (r : OpenCell _ _). IsModelledBy g.D.Disk db.database given r cell) (sym c.in_ok-keep.ensures.same)
+    (kept_stands g.D.Disk c.args.self.now c.keep.new.self.calls cell stands) in
     short_as g.D.Disk (λ choices. asked_at db cell (first_choice choices) c.args.id c.args.call (Some c.args.server)) (λ choices. Ok (does choices c.in_ok-k.k))
-    (λ choices. asked_so db cell (first_choice choices) c.args.id c.args.call c.args.server built
-    ∙ c.in_ok-k.ensures.up cell (does choices) size stands.sites)
-    cell _ _ (c.step.ensures.short is given cell (Asking c.in_ok-k.k c.args.id c.args.call) stands o)
+    (λ choices. c.in_ok-k.ensures.up cell (does choices) size stands.sites)
+    cell _ _
+    (short_from g.D.Disk c.args.self.now c.keep.new.self.calls (λ choices. Ok (does choices c.in_ok-k.k)) cell _
+    (subst (λ (r : OpenCell _ _). IsShort g.D.Disk db.database given (λ choices. Ok (does choices c.in_ok-k.k)) cell r c.step.new.self)
+    c.in_ok-keep.ensures.same (c.step.ensures.short is given cell (Asking c.in_ok-k.k c.args.id c.args.call) kept o)))
 
 pub returns-in_err-asked-clause-short : goal.returns-in_err-asked-clause-short
 returns-in_err-asked-clause-short g c = λ is given cell stands. inl (nothing_done g.D.Disk g.V.DraftService.standing.database given c.args.self.now cell stands)
@@ -122,10 +135,25 @@ pub returns-in_err-asked-clause-never_falls : goal.returns-in_err-asked-clause-n
 returns-in_err-asked-clause-never_falls g c = rises_same _ _ refl
 
 pub returns-clause-sound : goal.returns-clause-sound
-returns-clause-sound g c = λ ok bounds new still. record {
-  steady = c.step.ensures.steady ok bounds.clock still.steady;
-  run = asked_on g.D.Disk (script_database g.V.DraftService.standing.database g.V.DraftWords.words) bounds.asks c.args.id c.args.self.now
-      c.step.new.self c.args.call c.args.server (string_bytes c.args.text.now) (string_bytes c.step.new.text) c.law_cells_go_on.ensures new still.run
-      (returns-clause-told g c ok still.run.given still.run.cell still.run.stands);
-  blocks = still.blocks;
-}
+returns-clause-sound g c = λ ok bounds new still.
+    let next = c.requires.next in
+    let many : length c.keep.new.self.calls.items ≡ length c.args.self.now.calls.items + 1 =
+    ap length c.in_ok-keep.ensures.kept ∙ length_more c.args.self.now.calls.items c.args.call in
+    record {
+      steady = c.step.ensures.steady ok bounds.clock
+          (subst (λ (r : OpenCell _ _). IsSteady g.D.Disk bounds.clock r) (sym c.in_ok-keep.ensures.same)
+          (kept_steady g.D.Disk c.args.self.now c.keep.new.self.calls bounds.clock still.steady));
+      keeps = c.step.ensures.keeps ok;
+      calls = ap length c.step.ensures.calls ∙ many ∙ sym next;
+      run = asked_on g.D.Disk (script_database g.V.DraftService.standing.database g.V.DraftWords.words) bounds.asks c.args.id c.args.self.now
+          c.step.new.self c.args.call c.args.server (string_bytes c.args.text.now) (string_bytes c.step.new.text) c.law_cells_go_on.ensures new still.run
+          (returns-clause-told g c ok still.run.given still.run.cell still.run.stands);
+      blocks = still.blocks;
+    }
+
+pub returns-clause-never_falls : goal.returns-clause-never_falls
+returns-clause-never_falls g c =
+    subst (λ (r : OpenCell _ _). AreRises 0 [] (helds g.D.Disk r) (helds g.D.Disk c.step.new.self)) c.in_ok-keep.ensures.same c.step.ensures.never_falls
+
+pub returns-clause-same : goal.returns-clause-same
+returns-clause-same g c = c.step.ensures.same ∙ ap (λ (r : OpenCell _ _). length r.sites.items) c.in_ok-keep.ensures.same

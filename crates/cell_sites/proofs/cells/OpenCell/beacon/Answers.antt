@@ -1,4 +1,4 @@
-use Rattle.std.proofs.Common.{◌≡◌, ◌∙◌, ℕ, Ok, Err, refl, ap}
+use Rattle.std.proofs.Common.{◌≡◌, ◌∙◌, ℕ, length, Ok, Err, refl, ap}
 use Rattle.std.proofs.lemmas.Result.{err_from_is_err_and}
 use Rattle.cell_model.specs.World.{Beacon_turn}
 use Rattle.std.specs.String.{string_bytes}
@@ -48,12 +48,14 @@ returns-clause-short g c = λ is given cell stands.
     (λ choices. c.in_ok-k.ensures.up cell (does choices) (size_of g.D.Disk c.requires.0.clock c.args.self.now cell c.requires.1.steady stands) stands.sites)
     cell _ _ (c.step.ensures.short is given cell (Beacon_turn c.in_ok-k.k) stands refl)
 
-pub step-requires-clause-taken : goal.step-requires-clause-taken
-step-requires-clause-taken g c = λ clock node there. tt
+pub step-requires-clause-brought : goal.step-requires-clause-brought
+step-requires-clause-brought g c = tt
 
 pub returns-clause-sound : goal.returns-clause-sound
 returns-clause-sound g c = λ ok bounds still. record {
   steady = c.step.ensures.steady ok bounds.clock still.steady;
+  keeps = c.step.ensures.keeps ok;
+  calls = ap length c.step.ensures.calls ∙ still.calls;
   run = runs_on g.D.Disk (script_database g.V.DraftService.standing.database g.V.DraftWords.words) bounds.asks c.args.self.now
       c.step.new.self (line.Beacon c.args.server) (string_bytes c.args.text.now) (string_bytes c.step.new.text) c.law_cells_go_on.ensures tt still.run
       (returns-clause-told g c ok still.run.given still.run.cell still.run.stands);

@@ -1,15 +1,18 @@
-use Rattle.std.proofs.Common.{[], ◌≡◌, ◌∙◌, ℕ, None, Err, set, refl, ap}
+use Rattle.std.proofs.Common.{[], ◌≡◌, ◌∙◌, ℕ, None, Err, length, set, refl, ap}
+use Rattle.std.proofs.lemmas.List.Elements.{All-nil}
 use Rattle.std.proofs.lemmas.Option.{slice_get_within}
 use Rattle.std.proofs.lemmas.Result.{err_from_is_err_and}
 use Rattle.cell_model.specs.World.{Crash}
 use Rattle.cell_runs.specs.ScriptDatabase.{script_database}
 use Rattle.cell_runs.specs.Script.{Cell_run, run_in, with_event}
 use Rattle.cell_script.specs.declared.lines.Line.TheVariants as line
+use Rattle.cell_sites.specs.declared.sites.Server.TheVariants.{Down}
 use Rattle.cell_sites.proofs.Behind.{runs_on}
 use Rattle.cell_sites.proofs.AtPlace.{rises_same}
 use Rattle.cell_sites.proofs.Downtimes.{crash_rises, crash_sound, crash_told, many_at}
+use Rattle.cell_sites.proofs.Keeping.{down_keeps, keeps_set}
 use Rattle.cell_sites.proofs.Lining.{size_of}
-use Rattle.cell_sites.proofs.Soundly.{disk_here}
+use Rattle.cell_sites.proofs.Soundly.{disk_here, none_sent}
 use Rattle.cell_sites.proofs.cells.OpenCell.crash.Goals as goal
 
 pub returns-in_err-k-clause-refused : goal.returns-in_err-k-clause-refused
@@ -45,6 +48,10 @@ returns-clause-sound g c = λ bounds still.
     record {
       steady = crash_sound g.D.Disk c.args.self.now c.take_down.new.self c.in_ok-k.k down
           (disk_here g.D.Disk c.requires.0.clock c.args.self.now c.in_ok-k.k _ c.requires.1.steady down.there) bounds.clock still.steady;
+      keeps = keeps_set g.V.DraftService.standing.database c.args.self.now c.take_down.new.self still.keeps down.hosts c.in_ok-k.k
+          (record { clock = down.clock; server = Down down.disk }) [] down.sites down.calls (down.packets ∙ none_sent c.args.self.now.packets)
+          (down_keeps g.V.DraftService.standing.database c.args.self.now.hosts.items c.args.self.now.calls.items down.disk) (All-nil _);
+      calls = ap length down.calls ∙ still.calls;
       run = runs_on g.D.Disk (script_database g.V.DraftService.standing.database g.V.DraftWords.words) bounds.asks c.args.self.now
           c.take_down.new.self (line.Crash c.args.server) [] [] c.law_cells_go_on.ensures tt still.run
           (returns-clause-told g c refl still.run.given still.run.cell [] still.run.stands);

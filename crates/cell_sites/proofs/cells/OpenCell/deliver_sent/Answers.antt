@@ -1,19 +1,18 @@
-use Rattle.std.proofs.Common.{◌≡◌, ◌==◌, ◌-◌, ◌∙◌, inl, true, List, Some, set, arith, refl, sym, ap, subst}
+use Rattle.std.proofs.Common.{◌≡◌, ◌==◌, ◌-◌, ◌∙◌, inl, true, List, Some, length, set, arith, refl, sym, ap, subst}
 use Rattle.std.specs.Prelude.{slice_get}
 use Rattle.std.specs.String.{string_bytes}
 use Rattle.std.proofs.lemmas.List.Quantifiers.{position-Some}
 use Rattle.ubik_types.specs.declared.hosts.Host.{Host}
 use Rattle.cell_model.specs.NodeRule.{place_of}
-use Rattle.cell_model.specs.Step.{Member}
-use Rattle.recovery_laws.specs.HasNoWrite.{IsRecoveryPacket}
+use Rattle.write_laws.specs.Keeping.{IsCellPacket}
 use Rattle.cell_model.specs.World.{Delivery}
 use Rattle.cell_runs.specs.ScriptDatabase.{script_database}
 use Rattle.cell_sites.specs.Traffic.{Traffic}
 use Rattle.cell_sites.proofs.AtPlace.{rises_same}
-use Rattle.cell_sites.proofs.Delivering.{all_at, handed_cell, lost, short_before, sound_with, told_before, with_handed, with_packets}
+use Rattle.cell_sites.proofs.Delivering.{all_at, handed_cell, keeps_with, lost, short_before, sound_with, told_before, with_handed, with_packets}
 use Rattle.cell_sites.proofs.Reading.{nothing_done}
 use Rattle.cell_sites.proofs.Behind.{delivered_on, handed_on}
-use Rattle.cell_sites.proofs.Soundly.{here, host_count}
+use Rattle.cell_sites.proofs.Soundly.{host_count}
 use Rattle.cell_sites.proofs.cells.OpenCell.deliver_sent.Goals as goal
 
 pub is_up-requires : goal.is_up-requires
@@ -31,21 +30,21 @@ step-requires-clause-sound g c =
     let p = c.hand_over.new.self in (
       b,
       record {
-        steady = sound_with g.D.Disk b.clock c.args.self.now p c.requires.sound.1.steady (ap (λ (t : Traffic). t.sent) c.hand_over.ensures);
+        steady = sound_with g.D.Disk b.clock c.args.self.now p c.requires.sound.1.steady;
+        keeps = keeps_with g.V.DraftService.standing.database c.args.self.now p c.requires.sound.1.keeps (ap (λ (t : Traffic). t.sent) c.hand_over.ensures);
+        calls = c.requires.sound.1.calls;
         run = handed_on g.D.Disk (script_database g.V.DraftService.standing.database g.V.DraftWords.words) b.asks c.args.self.now p
             c.args.number c.law_cells_go_on.ensures c.requires.some c.requires.sent c.hand_over.ensures c.requires.sound.1.run;
         blocks = c.requires.sound.1.blocks;
       },
     )
 
-pub step-requires-clause-taken : goal.step-requires-clause-taken
-step-requires-clause-taken g c = λ clock node there.
+pub step-requires-clause-brought : goal.step-requires-clause-brought
+step-requires-clause-brought g c =
     let hosts = c.args.self.now.hosts.items in
     let sent = sym (ap (λ (t : Traffic). slice_get t.sent (c.args.number - 1)) c.hand_over.ensures) ∙ c.packet.ensures in
-    let at = here g.D.Disk c.requires.sound.0.clock c.args.self.now c.in-Some.k clock node c.requires.sound.1.steady there in
-    subst (λ (m : Member). IsRecoveryPacket m.hosts c.in_ok-packet.packet) (sym at.sound.member)
-    (subst (IsRecoveryPacket hosts) (sym c.in_ok-packet.ensures)
-    (all_at (IsRecoveryPacket hosts) c.args.self.now.packets.sent (c.args.number - 1) c.packet.result.now c.requires.sound.1.steady.packets sent))
+    subst (IsCellPacket hosts) (sym c.in_ok-packet.ensures)
+    (all_at (IsCellPacket hosts) c.args.self.now.packets.sent (c.args.number - 1) c.packet.result.now c.requires.sound.1.keeps.packets sent)
 
 pub returns-then-is_up-clause-told : goal.returns-then-is_up-clause-told
 returns-then-is_up-clause-told g c = λ ok given cell stands.
@@ -84,8 +83,9 @@ returns-then-is_up-clause-short g c = λ is given cell stands.
 
 pub returns-then-is_up-clause-sound : goal.returns-then-is_up-clause-sound
 returns-then-is_up-clause-sound g c = λ ok bounds still. record {
-  steady = c.step.ensures.steady ok bounds.clock
-      (sound_with g.D.Disk bounds.clock c.args.self.now c.hand_over.new.self still.steady (ap (λ (t : Traffic). t.sent) c.hand_over.ensures));
+  steady = c.step.ensures.steady ok bounds.clock (sound_with g.D.Disk bounds.clock c.args.self.now c.hand_over.new.self still.steady);
+  keeps = c.step.ensures.keeps ok;
+  calls = ap length c.step.ensures.calls ∙ still.calls;
   run = delivered_on g.D.Disk (script_database g.V.DraftService.standing.database g.V.DraftWords.words) bounds.asks c.args.self.now
       c.step.new.self c.args.number (string_bytes c.args.text.now) (string_bytes c.step.new.text) c.law_cells_go_on.ensures c.requires.some c.requires.sent
       still.run (returns-then-is_up-clause-told g c ok still.run.given still.run.cell still.run.stands);
@@ -125,7 +125,9 @@ returns-clause-told g c = λ ok given cell stands.
 
 pub returns-clause-sound : goal.returns-clause-sound
 returns-clause-sound g c = λ ok bounds still. record {
-  steady = sound_with g.D.Disk bounds.clock c.args.self.now c.hand_over.new.self still.steady (ap (λ (t : Traffic). t.sent) c.hand_over.ensures);
+  steady = sound_with g.D.Disk bounds.clock c.args.self.now c.hand_over.new.self still.steady;
+  keeps = keeps_with g.V.DraftService.standing.database c.args.self.now c.hand_over.new.self still.keeps (ap (λ (t : Traffic). t.sent) c.hand_over.ensures);
+  calls = still.calls;
   run = delivered_on g.D.Disk (script_database g.V.DraftService.standing.database g.V.DraftWords.words) bounds.asks c.args.self.now
       (with_packets c.args.self.now c.hand_over.new.self) c.args.number (string_bytes c.args.text.now) (string_bytes c.tell_mark.new.text)
       c.law_cells_go_on.ensures c.requires.some c.requires.sent still.run (returns-clause-told g c ok still.run.given still.run.cell still.run.stands);

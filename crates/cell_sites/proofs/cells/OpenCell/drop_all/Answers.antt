@@ -6,7 +6,7 @@ use Rattle.cell_runs.specs.ScriptDatabase.{script_database}
 use Rattle.cell_sites.specs.Traffic.{Traffic}
 use Rattle.cell_script.specs.declared.lines.Line.TheVariants as line
 use Rattle.cell_sites.proofs.Behind.{runs_on}
-use Rattle.cell_sites.proofs.Delivering.{sound_with}
+use Rattle.cell_sites.proofs.Delivering.{keeps_with, sound_with}
 use Rattle.cell_sites.proofs.AtPlace.{rises_none, site_there}
 use Rattle.cell_sites.proofs.Dropping.{host_handed, host_within, packets_told}
 use Rattle.cell_sites.proofs.Lining.{size_of}
@@ -58,7 +58,9 @@ returns-clause-never_falls g c = rises_none 0 _
 
 pub returns-clause-sound : goal.returns-clause-sound
 returns-clause-sound g c = λ bounds still. record {
-  steady = sound_with g.D.Disk bounds.clock c.args.self.now c.drop_all.new.self still.steady (ap (λ (t : Traffic). t.sent) c.drop_all.ensures);
+  steady = sound_with g.D.Disk bounds.clock c.args.self.now c.drop_all.new.self still.steady;
+  keeps = keeps_with g.V.DraftService.standing.database c.args.self.now c.drop_all.new.self still.keeps (ap (λ (t : Traffic). t.sent) c.drop_all.ensures);
+  calls = still.calls;
   run = runs_on g.D.Disk (script_database g.V.DraftService.standing.database g.V.DraftWords.words) bounds.asks c.args.self.now
       _ (line.DropAll c.args.server) [] [] c.law_cells_go_on.ensures tt still.run
       (returns-clause-told g c refl still.run.given still.run.cell [] still.run.stands);

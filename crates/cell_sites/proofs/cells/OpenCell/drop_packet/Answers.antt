@@ -4,7 +4,7 @@ use Rattle.cell_runs.specs.ScriptDatabase.{script_database}
 use Rattle.cell_sites.specs.Traffic.{Traffic}
 use Rattle.cell_script.specs.declared.lines.Line.TheVariants as line
 use Rattle.cell_sites.proofs.Behind.{runs_on}
-use Rattle.cell_sites.proofs.Delivering.{sound_with}
+use Rattle.cell_sites.proofs.Delivering.{keeps_with, sound_with}
 use Rattle.cell_sites.proofs.AtPlace.{rises_none}
 use Rattle.cell_sites.proofs.Dropping.{one_handed, packets_told}
 use Rattle.cell_sites.proofs.cells.OpenCell.drop_packet.Goals as goal
@@ -29,7 +29,9 @@ returns-clause-never_falls g c = rises_none 0 _
 
 pub returns-clause-sound : goal.returns-clause-sound
 returns-clause-sound g c = λ bounds still. record {
-  steady = sound_with g.D.Disk bounds.clock c.args.self.now c.hand_over.new.self still.steady (ap (λ (t : Traffic). t.sent) c.hand_over.ensures);
+  steady = sound_with g.D.Disk bounds.clock c.args.self.now c.hand_over.new.self still.steady;
+  keeps = keeps_with g.V.DraftService.standing.database c.args.self.now c.hand_over.new.self still.keeps (ap (λ (t : Traffic). t.sent) c.hand_over.ensures);
+  calls = still.calls;
   run = runs_on g.D.Disk (script_database g.V.DraftService.standing.database g.V.DraftWords.words) bounds.asks c.args.self.now
       _ (line.Drop c.args.number) [] [] c.law_cells_go_on.ensures tt still.run
       (returns-clause-told g c refl still.run.given still.run.cell [] still.run.stands);

@@ -83,6 +83,7 @@ returns g c =
       hosts = ap (λ (v : Vec Host Global). v.items) c.put_site.ensures.same.0;
       packets = c.put_site.ensures.same.1;
       outputs = c.put_site.ensures.same.2;
+      calls = ap (λ (v : Vec (List ℕ) Global). v.items) c.put_site.ensures.same.3;
       told = λ ok. let t = ok_says c.tell_reopened.result ok c.tell_reopened.ensures in
           (t.0, t.1 (script_database g.V.DraftService.standing.database g.V.DraftWords.words) running.hosts.items);
     }

@@ -1,4 +1,4 @@
-use Rattle.std.proofs.Common.{◌≡◌, ◌∙◌, ℕ, Ok, Err, refl, ap}
+use Rattle.std.proofs.Common.{◌≡◌, ◌∙◌, ℕ, Ok, Err, length, refl, ap}
 use Rattle.std.specs.String.{string_bytes}
 use Rattle.std.proofs.lemmas.Result.{err_from_is_err_and}
 use Rattle.cell_model.specs.World.{Restart}
@@ -7,7 +7,7 @@ use Rattle.cell_runs.specs.Script.{Cell_run, Choices, first_choice, run_in, with
 use Rattle.cell_script.specs.declared.lines.Line.TheVariants as line
 use Rattle.cell_sites.proofs.Behind.{runs_on, some_stands}
 use Rattle.cell_sites.proofs.AtPlace.{rises_same}
-use Rattle.cell_sites.proofs.Downtimes.{reopen_line, reopen_many, reopen_rises, reopen_short, reopen_sound}
+use Rattle.cell_sites.proofs.Downtimes.{reopen_keeps, reopen_line, reopen_many, reopen_rises, reopen_short, reopen_sound}
 use Rattle.cell_sites.proofs.Lining.{short_as, size_of, told_as}
 use Rattle.cell_sites.proofs.cells.OpenCell.restart.Goals as goal
 
@@ -65,6 +65,11 @@ returns-clause-sound g c = λ ok bounds still. record {
       c.in_ok-k.k (Ok tt) (string_bytes c.args.text.now) (string_bytes c.reopen.new.text) c.requires.0.clock c.requires.1.steady c.in_ok-reopen.ensures
       (some_stands g.D.Disk g.V.DraftService.standing.database c.requires.0.asks c.args.self.now c.in_ok-k.k _ c.requires.1.run
       c.in_ok-reopen.ensures.there) bounds.clock still.steady;
+  keeps = reopen_keeps g.D.Disk (script_database g.V.DraftService.standing.database g.V.DraftWords.words) c.args.self.now c.reopen.new.self
+      c.in_ok-k.k (Ok tt) (string_bytes c.args.text.now) (string_bytes c.reopen.new.text) c.requires.0.clock c.requires.1.steady c.in_ok-reopen.ensures
+      (some_stands g.D.Disk g.V.DraftService.standing.database c.requires.0.asks c.args.self.now c.in_ok-k.k _ c.requires.1.run
+      c.in_ok-reopen.ensures.there) c.law_writes_spread.ensures still.keeps;
+  calls = ap length c.in_ok-reopen.ensures.calls ∙ still.calls;
   run = runs_on g.D.Disk (script_database g.V.DraftService.standing.database g.V.DraftWords.words) bounds.asks c.args.self.now
       c.reopen.new.self (line.Restart c.args.server) (string_bytes c.args.text.now) (string_bytes c.reopen.new.text) c.law_cells_go_on.ensures tt still.run
       (returns-clause-told g c refl still.run.given still.run.cell still.run.stands);

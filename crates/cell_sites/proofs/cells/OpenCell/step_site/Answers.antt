@@ -12,7 +12,7 @@ pub returns-in-Stops : goal.returns-in-Stops
 returns-in-Stops g c =
     let mid = c.step_up-end.new.self in
     goes_down g.D.Disk g.V.DraftService.standing.database c.args.k c.args.event c.step_up-end.result c.args.self.now mid c.step_up-end.ensures c.in-Stops.is
-    (record mid { outputs = c.drop_outputs.new.out }) c.take_down.new.self refl refl refl c.drop_outputs.ensures c.take_down.ensures
+    (record mid { outputs = c.drop_outputs.new.out }) c.take_down.new.self refl refl refl refl c.drop_outputs.ensures c.take_down.ensures
 
 pub returns-in_default : goal.returns-in_default
 returns-in_default g c =

@@ -1,10 +1,10 @@
 use Rattle.std.proofs.Common.{◌<◌, refl, subst, sym}
 use Rattle.cell_model.specs.Step.{Member, cell_size}
 use Rattle.cell_sites.specs.Sound.{IsSoundNode}
-use Rattle.cell_sites.specs.Stepped.{NodeStepped}
+use Rattle.cell_sites.specs.Stepped.{NodeStepped, member_at}
 use Rattle.ubik_node.specs.Node.{own_member}
-use Rattle.cell_sites.proofs.Behind.{up_meant}
-use Rattle.cell_sites.proofs.Leading.{needs_met}
+use Rattle.cell_sites.proofs.Behind.{up_cuts, up_meant}
+use Rattle.cell_sites.proofs.Leading.{brought_built, needs_met}
 use Rattle.cell_sites.proofs.Soundly.{found_up, here}
 use Rattle.cell_sites.proofs.cells.OpenCell.step_up.Goals as goal
 
@@ -28,11 +28,16 @@ step_node-requires-clause-sound g c =
     let at = here g.D.Disk c.requires.sound.0.clock c.args.self.now c.args.k site.clock c.in-Up.node c.requires.sound.1.steady there in
     subst (λ (m : Member). IsSoundNode g.D.Disk m site.clock c.in-Up.node) (sym at.sound.member) at.sound
 
-pub step_node-requires-clause-taken : goal.step_node-requires-clause-taken
-step_node-requires-clause-taken g c =
+pub step_node-requires-clause-built : goal.step_node-requires-clause-built
+step_node-requires-clause-built g c = brought_built (member_at c.args.self.now c.args.k) c.args.event c.requires.brought
+
+pub step_node-requires-clause-cuts : goal.step_node-requires-clause-cuts
+step_node-requires-clause-cuts g c =
     let site = c.index_mut-site.result.now in
     let there = found_up c.args.self.now c.args.k site c.in-Up.node c.requires.up c.index_mut-site.ensures.value c.in-Up.is in
-    c.requires.taken site.clock c.in-Up.node there
+    up_cuts g.D.Disk g.V.DraftService.standing c.requires.sound.0.asks c.args.self.now c.args.k site.clock c.in-Up.node
+    (c.law_images_stand.ensures.service c.requires.sound.1.blocks) c.requires.sound.1.run there c.law_writes_stand.ensures (own_member c.in-Up.node)
+    c.args.event
 
 pub step_node-requires-clause-needs : goal.step_node-requires-clause-needs
 step_node-requires-clause-needs g c =
@@ -40,8 +45,9 @@ step_node-requires-clause-needs g c =
     let there = found_up c.args.self.now c.args.k site c.in-Up.node c.requires.up c.index_mut-site.ensures.value c.in-Up.is in
     let at = here g.D.Disk c.requires.sound.0.clock c.args.self.now c.args.k site.clock c.in-Up.node c.requires.sound.1.steady there in
     needs_met g.D.Disk g.V.DraftService.standing (own_member c.in-Up.node) c.in-Up.node at.disk
-    (up_meant g.D.Disk g.V.DraftService.standing c.requires.sound.0.asks c.args.self.now c.args.k site.clock c.in-Up.node c.law_images_stand.ensures.stand
-    (c.law_images_stand.ensures.service c.requires.sound.1.blocks) c.requires.sound.1.run there) c.args.event
+    (up_meant g.D.Disk g.V.DraftService.standing c.requires.sound.0.asks c.args.self.now c.args.k site.clock c.in-Up.node
+    (c.law_images_stand.ensures.service c.requires.sound.1.blocks) c.requires.sound.1.run there c.law_images_stand.ensures.stand
+    c.law_writes_stand.ensures) c.args.event
 
 pub step_node-requires-clause-disk : goal.step_node-requires-clause-disk
 step_node-requires-clause-disk g c =
@@ -64,4 +70,5 @@ returns g c =
       sites = refl;
       hosts = refl;
       packets = refl;
+      calls = refl;
     }

@@ -1,15 +1,19 @@
 use Rattle.std.proofs.Common.{[], ◌≡◌, ◌∙◌, ℕ, Some, Err, set, refl, ap, arith}
+use Rattle.std.proofs.lemmas.List.Elements.{All-nil}
 use Rattle.std.proofs.lemmas.Option.{slice_get_within}
 use Rattle.std.proofs.lemmas.Result.{err_from_is_err_and}
 use Rattle.cell_runs.specs.ScriptDatabase.{script_database}
 use Rattle.cell_runs.specs.Script.{Cell_run, resting, run_in}
 use Rattle.cell_script.specs.declared.lines.Line.TheVariants as line
+use Rattle.ubik_node.specs.declared.state.State.{State}
+use Rattle.ubik_node.specs.State.{server_of}
 use Rattle.cell_sites.proofs.Behind.{runs_on}
 use Rattle.cell_sites.proofs.AtPlace.{rises_same}
 use Rattle.cell_sites.proofs.Downtimes.{arm_disk, arm_node, arm_told, sound_at_place}
+use Rattle.cell_sites.proofs.Keeping.{keeps_set, same_keeps}
 use Rattle.cell_sites.proofs.Lining.{size_of}
 use Rattle.cell_sites.proofs.Running.{rises_set}
-use Rattle.cell_sites.proofs.Soundly.{found_up, here, not_down}
+use Rattle.cell_sites.proofs.Soundly.{found_up, here, none_sent, not_down}
 use Rattle.cell_sites.specs.Stepped.{member_at, up_site}
 use Rattle.cell_sites.proofs.cells.OpenCell.stop.Goals as goal
 
@@ -65,7 +69,14 @@ returns-clause-sound g c = λ bounds still.
           (arm_node g.D.Disk site.clock c.args.calls c.args.fill c.in-Up.node c.arm.new.self c.arm.ensures.disk c.arm.ensures.same
           (member_at c.args.self.now k) at.sound c.arm.ensures.stored)
           (arm_disk g.D.Disk site.clock c.args.calls c.args.fill c.in-Up.node c.arm.new.self c.arm.ensures.disk c.arm.ensures.same at.disk)
-          refl refl refl;
+          refl refl;
+      keeps = keeps_set g.V.DraftService.standing.database c.args.self.now _ still.keeps refl k (up_site site.clock c.arm.new.self) [] refl refl
+          (none_sent c.args.self.now.packets)
+          (same_keeps g.V.DraftService.standing.database c.args.self.now.hosts.items c.args.self.now.calls.items c.in-Up.node c.arm.new.self
+          (still.keeps.servers k (up_site site.clock c.in-Up.node) there) (ap (λ (s : State). server_of s) c.arm.ensures.same.0)
+          c.arm.ensures.same.1)
+          (All-nil _);
+      calls = still.calls;
       run = runs_on g.D.Disk (script_database g.V.DraftService.standing.database g.V.DraftWords.words) bounds.asks c.args.self.now
           _ (line.Stop c.args.server c.args.calls c.args.fill) [] [] c.law_cells_go_on.ensures tt still.run
           (returns-clause-told g c refl still.run.given still.run.cell [] still.run.stands);

@@ -1,4 +1,4 @@
-use Rattle.std.proofs.Common.{◌∙◌, ap, subst, List, Vec}
+use Rattle.std.proofs.Common.{◌∙◌, ℕ, ap, subst, List, Vec}
 use Rattle.std.specs.Prelude.{insert}
 use Rattle.std.specs.declared.alloc.Global.{Global}
 use Rattle.ubik_types.specs.declared.hosts.Host.{Host}
@@ -33,4 +33,5 @@ returns g c =
       hosts = ap (λ (v : Vec Host Global). v.items) c.put_site.ensures.same.0;
       packets = c.put_site.ensures.same.1;
       outputs = c.put_site.ensures.same.2;
+      calls = ap (λ (v : Vec (List ℕ) Global). v.items) c.put_site.ensures.same.3;
     }

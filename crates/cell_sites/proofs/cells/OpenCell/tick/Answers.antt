@@ -8,11 +8,11 @@ use Rattle.cell_sites.specs.declared.cells.OpenCell.{OpenCell}
 use Rattle.cell_sites.specs.Disks.{AreRises}
 use Rattle.cell_sites.specs.Places.{IsNearAt}
 use Rattle.cell_sites.specs.Sites.{helds}
-use Rattle.cell_sites.specs.Sound.{IsSteady}
+use Rattle.cell_sites.specs.Sound.{IsSteady, Keeps}
 use Rattle.cell_sites.specs.Told.{CellTold}
 use Rattle.cell_sites.proofs.AtPlace.{cell_size, rises_none, rises_same, site_there}
 use Rattle.cell_sites.proofs.Behind.{ticks_run}
-use Rattle.cell_sites.proofs.Ticking.{fits_at, helds_ticked, refused_so, tick_rests, tick_skews, tick_sound, tick_told, ticked_so}
+use Rattle.cell_sites.proofs.Ticking.{fits_at, helds_ticked, refused_so, tick_keeps, tick_rests, tick_skews, tick_sound, tick_told, ticked_so}
 use Rattle.cell_sites.proofs.cells.OpenCell.tick.Goals as goal
 
 pub returns-in_err-k-clause-refused : goal.returns-in_err-k-clause-refused
@@ -79,6 +79,9 @@ returns-clause-sound g c = λ is bounds still.
     record {
       steady = subst (λ (after : OpenCell _ _). IsSteady g.D.Disk (bounds.clock + c.args.seconds) after) same
           (tick_sound g.D.Disk bounds.clock bounds.clock c.args.self.now k c.args.seconds c.index.result.now still.steady fits there near);
+      keeps = subst (λ (after : OpenCell _ _). Keeps g.V.DraftService.standing.database after) same
+          (tick_keeps g.V.DraftService.standing.database c.args.self.now k c.args.seconds c.index.result.now there still.keeps);
+      calls = still.calls;
       run = ticks_run g.D.Disk (script_database g.V.DraftService.standing.database g.V.DraftWords.words) bounds.asks c.args.self.now _
           (line.Tick c.args.server c.args.seconds) c.args.seconds [] [] c.law_cells_go_on.ensures (λ some. some)
           (λ none. ap (λ (after : OpenCell _ _). after.sites.items) (sym same)

@@ -5,7 +5,7 @@ use Rattle.cell_script.specs.declared.lines.Line.TheVariants as line
 use Rattle.cell_sites.specs.Places.{ticked_on}
 use Rattle.cell_sites.proofs.AtPlace.{rises_same}
 use Rattle.cell_sites.proofs.Behind.{ticks_run}
-use Rattle.cell_sites.proofs.Ticking.{all_rests, all_sound, all_told, fits_at, helds_all}
+use Rattle.cell_sites.proofs.Ticking.{all_keeps, all_rests, all_sound, all_told, fits_at, helds_all}
 use Rattle.cell_sites.proofs.cells.OpenCell.tick_all.Goals as goal
 
 pub tick_sites-requires : goal.tick_sites-requires
@@ -25,6 +25,8 @@ returns-clause-sound g c = λ bounds still.
     record {
       steady = all_sound g.D.Disk c.requires.0.clock bounds.clock c.args.self.now c.tick_sites.new.sites c.args.seconds are c.requires.1.steady c.requires.2
           still.steady;
+      keeps = all_keeps g.V.DraftService.standing.database c.args.self.now c.tick_sites.new.sites c.args.seconds are still.keeps;
+      calls = still.calls;
       run = ticks_run g.D.Disk (script_database g.V.DraftService.standing.database g.V.DraftWords.words) bounds.asks c.args.self.now _
           (line.TickAll c.args.seconds) c.args.seconds [] [] c.law_cells_go_on.ensures (λ some. some)
           (λ none. all_rests c.args.self.now c.tick_sites.new.sites c.args.seconds are none) refl refl still.run

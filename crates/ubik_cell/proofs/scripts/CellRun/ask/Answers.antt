@@ -6,10 +6,16 @@ use Rattle.cell_runs.specs.Script.{Cell, Choices, asked_at, first_choice}
 use Rattle.cell_runs.specs.ScriptDatabase.{script_database}
 use Rattle.cell_sites.specs.declared.faults.LineFault.TheVariants.{NoMemory}
 use Rattle.ubik_cell.specs.LineRuns.{CellDone, LineDone}
-use Rattle.ubik_cell.specs.Lines.{bounds_after, clock_bound}
+use Rattle.ubik_cell.specs.Lines.{CellIsSound, bounds_after, clock_bound}
 use Rattle.ubik_cell.proofs.CellLines.{cell_done, handed_on, raised}
 use Rattle.ubik_cell.proofs.Lifting.{asked_err, asked_ok, kept_run, same_again, short_same, with_cell}
 use Rattle.ubik_cell.proofs.scripts.CellRun.ask.Goals as goal
+
+pub ask-requires-clause-next : goal.ask-requires-clause-next
+ask-requires-clause-next g c =
+    let run = c.args.self.now in
+    let calls = (subst (CellIsSound g.D.Disk g.V.DraftService.standing (bounds_after run.lines run.asks)) c.in-Some.is c.requires.sound.cell).calls in
+    omega (arith, calls)
 
 pub returns-in_err-call-clause-done : goal.returns-in_err-call-clause-done
 returns-in_err-call-clause-done g c =
