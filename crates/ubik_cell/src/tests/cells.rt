@@ -163,7 +163,7 @@ fn three_servers_recover(rt: HostRuntime) -> Result<(), Fail> {
     expect_told(&rt, rt.alloc(), &script, &text)
 }
 
-/// A write of a larger cell is answered once a majority keeps it, and reads in the sync site's line wait for it.
+/// A write of a larger cell is answered once a majority keeps it; until then a read sees the database before it.
 #[test]
 fn three_servers_keep_a_write(rt: HostRuntime) -> Result<(), Fail> {
     let script = format!(in rt.alloc();

@@ -1,8 +1,9 @@
-use Rattle.std.proofs.Common.{◌≡◌, ◌∙◌, ◌+◌, ◌++◌, ℕ, inl, List, [], ◌∷◌, Some, Ok, Err, length, refl, sym, ap, subst, arith}
+use Rattle.std.proofs.Common.{◌≡◌, ◌∙◌, ◌+◌, ◌++◌, ℕ, inl, true, List, [], ◌∷◌, Some, None, Ok, Err, length, refl, sym, ap, subst, arith}
 use Rattle.std.proofs.lemmas.Result.{err_from_is_err_and}
 use Rattle.cell_model.specs.declared.events.NodeEvent.TheVariants as event
 use Rattle.cell_model.specs.World.{Asking}
 use Rattle.std.specs.String.{string_bytes}
+use Rattle.cell_runs.specs.declared.endings.Ending.TheVariants as ending
 use Rattle.cell_runs.specs.ScriptDatabase.{script_database}
 use Rattle.cell_runs.specs.Script.{Cell_run, Choices, asked_at, first_choice, stepped}
 use Rattle.cell_sites.specs.Calls.{StandsUnder}
@@ -40,7 +41,7 @@ returns-in_err-k-clause-never_falls g c = rises_same _ _ refl
 
 pub returns-in_err-keep-clause-short : goal.returns-in_err-keep-clause-short
 returns-in_err-keep-clause-short g c = λ is given cell stands.
-    inl (subst (λ (r : OpenCell _ _). HoldRun g.V.DraftService.standing.database given _ cell (helds g.D.Disk r)) (sym c.in_err-keep.ensures.same)
+    inl (subst (λ (r : OpenCell _ _). HoldRun g.V.DraftService.standing.database given true cell (helds g.D.Disk r)) (sym c.in_err-keep.ensures.same)
     (nothing_done g.D.Disk g.V.DraftService.standing.database given c.args.self.now cell stands))
 
 pub returns-in_err-keep-clause-never_falls : goal.returns-in_err-keep-clause-never_falls
@@ -88,8 +89,8 @@ returns-clause-told g c = λ ok given cell stands.
     told_as g.D.Disk (λ choices. asked_at db cell (first_choice choices) c.args.id c.args.call (Some c.args.server)) (λ choices. Ok (does choices c.in_ok-k.k))
     (λ choices. c.in_ok-k.ensures.up cell (does choices) size stands.sites)
     db _ _ _ _ _
-    (told_from g.D.Disk c.args.self.now c.keep.new.self.calls db (λ choices. Ok (does choices c.in_ok-k.k)) _ _ _ _
-    (subst (λ (r : OpenCell _ _). CellTold g.D.Disk db given (λ choices. Ok (does choices c.in_ok-k.k)) _ r c.step.new.self (string_bytes c.args.text.now)
+    (told_from g.D.Disk c.args.self.now c.keep.new.self.calls db (λ choices. Ok (does choices c.in_ok-k.k)) None _ _ _
+    (subst (λ (r : OpenCell _ _). CellTold g.D.Disk db given (λ choices. Ok (does choices c.in_ok-k.k)) None r c.step.new.self (string_bytes c.args.text.now)
     (string_bytes c.step.new.text)) c.in_ok-keep.ensures.same
     (c.step.ensures.told ok given cell (Asking c.in_ok-k.k c.args.id c.args.call) kept o)))
 
@@ -106,8 +107,8 @@ returns-clause-limit g c = λ which is given cell stands.
     told_as g.D.Disk (λ choices. asked_at db cell (first_choice choices) c.args.id c.args.call (Some c.args.server)) (λ choices. Ok (does choices c.in_ok-k.k))
     (λ choices. c.in_ok-k.ensures.up cell (does choices) size stands.sites)
     db _ _ _ _ _
-    (told_from g.D.Disk c.args.self.now c.keep.new.self.calls db (λ choices. Ok (does choices c.in_ok-k.k)) _ _ _ _
-    (subst (λ (r : OpenCell _ _). CellTold g.D.Disk db given (λ choices. Ok (does choices c.in_ok-k.k)) _ r c.step.new.self (string_bytes c.args.text.now)
+    (told_from g.D.Disk c.args.self.now c.keep.new.self.calls db (λ choices. Ok (does choices c.in_ok-k.k)) (Some (ending.Limit which)) _ _ _
+    (subst (λ (r : OpenCell _ _). CellTold g.D.Disk db given (λ choices. Ok (does choices c.in_ok-k.k)) (Some (ending.Limit which)) r c.step.new.self (string_bytes c.args.text.now)
     (string_bytes c.step.new.text)) c.in_ok-keep.ensures.same
     (c.step.ensures.limit which is given cell (Asking c.in_ok-k.k c.args.id c.args.call) kept o)))
 

@@ -17,3 +17,12 @@ returns-clause-limit g c = λ which is given cell stands.
     (λ choices. c.in_ok-number.ensures.there cell (delivered db cell (first_choice choices) c.args.number) (ap length stands.sent)
     ∙ ap (λ (n : ℕ). Ok (delivered db cell (first_choice choices) n)) (sym c.in_ok-number.ensures.sent.0))
     db _ _ _ _ _ (c.deliver_sent.ensures.limit which is given cell stands)
+
+pub returns-clause-told : goal.returns-clause-told
+returns-clause-told g c = λ ok given cell stands.
+    let db = script_database g.V.DraftService.standing.database g.V.DraftWords.words in
+    told_as g.D.Disk (λ choices. run_in db cell choices (line.Deliver c.args.number))
+    (λ choices. Ok (delivered db cell (first_choice choices) c.in_ok-number.number))
+    (λ choices. c.in_ok-number.ensures.there cell (delivered db cell (first_choice choices) c.args.number) (ap length stands.sent)
+    ∙ ap (λ (n : ℕ). Ok (delivered db cell (first_choice choices) n)) (sym c.in_ok-number.ensures.sent.0))
+    db _ _ _ _ _ (c.deliver_sent.ensures.told ok given cell stands)
