@@ -53,27 +53,27 @@ all_stand g standing asks running law service behind =
 
 module _ {D V : Type 0} (g : Ghosts D) (standing : Standing) (asks : ℕ) (running : OpenCell D V) (k clock : ℕ) (node : Node D V)
     (service : IsService standing) (behind : HasRun g standing.database asks running) (there : slice_get running.sites.items k ≡ Some (up_site clock node))
-    where
-  at : IsSiteAt (up_site {D = D} {V = V} clock node) behind.cell.run.world.sites k
-  at = site_at running.sites.items behind.cell.run.world.sites k (up_site clock node) behind.stands.sites there
+  where
+    at : IsSiteAt (up_site {D = D} {V = V} clock node) behind.cell.run.world.sites k
+    at = site_at running.sites.items behind.cell.run.world.sites k (up_site clock node) behind.stands.sites there
 
-  -- so the image before a write in flight of a server that is up, and what it takes of another one's
-  pub up_writes : WritesStand standing → (s : model.Server) → node_of node ≡ model.Up s → HasWrites standing s
-  up_writes law s up =
-      let c = behind.cell in
-      let is = behind.run in
-      law service c.run.world.hosts c.opening.clock c.opening.failed c.events is.first is.legal k at.s s
-      (subst (λ (r : Run). site_of r.world k ≡ Some at.s) is.run at.there) (at.is.node ∙ up)
+    -- so the image before a write in flight of a server that is up, and what it takes of another one's
+    pub up_writes : WritesStand standing → (s : model.Server) → node_of node ≡ model.Up s → HasWrites standing s
+    up_writes law s up =
+        let c = behind.cell in
+        let is = behind.run in
+        law service c.run.world.hosts c.opening.clock c.opening.failed c.events is.first is.legal k at.s s
+        (subst (λ (r : Run). site_of r.world k ≡ Some at.s) is.run at.there) (at.is.node ∙ up)
 
-  pub up_meant : ImagesStand standing → WritesStand standing → (s : model.Server) → node_of node ≡ model.Up s
-      → IsMeantImage standing s.image × IsMeantImage standing (announced_image s)
-  up_meant law writes s up =
-      ((all_stand g standing asks running law service behind).up k at.s s at.there (at.is.node ∙ up), (up_writes writes s up).before)
+    pub up_meant : ImagesStand standing → WritesStand standing → (s : model.Server) → node_of node ≡ model.Up s
+        → IsMeantImage standing s.image × IsMeantImage standing (announced_image s)
+    up_meant law writes s up =
+        ((all_stand g standing asks running law service behind).up k at.s s at.there (at.is.node ∙ up), (up_writes writes s up).before)
 
-  -- what a server takes from another one cuts no put
-  pub up_cuts : WritesStand standing → (m : Member) (e : NodeEvent) → CutsNone standing.database m e clock (node_of node)
-  up_cuts writes m e s up short =
-      taken_cut (step_of standing.database m s clock e short).calls ((up_writes writes s up).takes m clock e short)
+    -- what a server takes from another one cuts no put
+    pub up_cuts : WritesStand standing → (m : Member) (e : NodeEvent) → CutsNone standing.database m e clock (node_of node)
+    up_cuts writes m e s up short =
+        taken_cut (step_of standing.database m s clock e short).calls ((up_writes writes s up).takes m clock e short)
 
 -- the files of a server stand for its durable state
 pub some_stands : {D V : Type 0} (g : Ghosts D) (db : Database) (asks : ℕ) (running : OpenCell D V) (k : ℕ) (site : Site D V) → HasRun g db asks running

@@ -194,12 +194,7 @@ impl<D: SteadyDisk + StopDisk, V: DraftWords> OpenCell<D, V> {
 
     /// Tells a step of the server at a place: what it put out, and then whether it was halted. A reply for want of memory is want of memory:
     /// then nothing is told.
-    fn tell_step(
-        &mut self,
-        k: usize,
-        halts: bool,
-        text: &mut String,
-    ) -> Result<(), LineFault>
+    fn tell_step(&mut self, k: usize, halts: bool, text: &mut String) -> Result<(), LineFault>
         requires place { k < 20 }
         requires short { All MayBeTold self.old.outputs }
         ensures told { result ≡ Ok tt → (shown : List Shown) → outputs_of shown ≡ self.old.outputs → All (AnswersOf self.old.calls.items) shown →

@@ -152,7 +152,8 @@ const RECOVERED: &str = "packet 1 1>2 beacon 0.0\npacket 2 1>3 beacon 0.0\n\
     packet 11 2>1 versionkept 1076.1\npacket 12 3>1 versionkept 1076.1\nannounce 1 1076.1\n";
 
 /// What the first write of the first of them sends.
-const WRITES: &str = "packet 13 1>2 begin 1076.2\npacket 14 1>2 putpiece 1076.2\npacket 15 1>2 commit 1076.2\n\
+const WRITES: &str =
+    "packet 13 1>2 begin 1076.2\npacket 14 1>2 putpiece 1076.2\npacket 15 1>2 commit 1076.2\n\
     packet 16 1>3 begin 1076.2\npacket 17 1>3 putpiece 1076.2\npacket 18 1>3 commit 1076.2\n";
 
 /// Behind a recovery the sync site answers.
@@ -167,11 +168,13 @@ fn three_servers_recover(rt: HostRuntime) -> Result<(), Fail> {
 #[test]
 fn three_servers_keep_a_write(rt: HostRuntime) -> Result<(), Fail> {
     let script = format!(in rt.alloc();
-        "{RECOVERS}ask 1 newentry smith 0 0\nask 1 nametoid 1 smith\ndeliverall\nask 1 nametoid 1 smith\n")?;
+        "{RECOVERS}ask 1 newentry smith 0 0\nask 1 nametoid 1 smith\ndeliverall\nask 1 nametoid 1 smith\n"
+    )?;
     let text = format!(in rt.alloc();
         "{RECOVERED}{WRITES}reply 2 1 ok 1 32766\n\
          packet 19 2>1 versionkept 1076.2\npacket 20 3>1 versionkept 1076.2\n\
-         announce 1 1076.2\nreply 1 1 ok 1\nreply 3 1 ok 1 1\n")?;
+         announce 1 1076.2\nreply 1 1 ok 1\nreply 3 1 ok 1 1\n"
+    )?;
     expect_told(&rt, rt.alloc(), &script, &text)
 }
 
@@ -179,12 +182,14 @@ fn three_servers_keep_a_write(rt: HostRuntime) -> Result<(), Fail> {
 #[test]
 fn a_lost_commit_is_sent_again(rt: HostRuntime) -> Result<(), Fail> {
     let script = format!(in rt.alloc();
-        "{RECOVERS}ask 1 newentry smith 0 0\ndrop 15\ndeliverall\nrecover 1\ndeliverall\nshow 2\n")?;
+        "{RECOVERS}ask 1 newentry smith 0 0\ndrop 15\ndeliverall\nrecover 1\ndeliverall\nshow 2\n"
+    )?;
     let text = format!(in rt.alloc();
         "{RECOVERED}{WRITES}packet 19 3>1 versionkept 1076.2\nannounce 1 1076.2\nreply 1 1 ok 1\n\
          packet 20 1>2 getversion 1076\npacket 21 2>1 versionis 1076.1\n\
          packet 22 1>2 sendpiece 1076.2\npacket 23 2>1 versionkept 1076.2\n\
-         show 2 clock 1076 version 1076.2 phase none until 0 length 3456\n")?;
+         show 2 clock 1076 version 1076.2 phase none until 0 length 3456\n"
+    )?;
     expect_told(&rt, rt.alloc(), &script, &text)
 }
 

@@ -149,16 +149,16 @@ pub returns-in-NoMemory-clause-short : goal.returns-in-NoMemory-clause-short
 returns-in-NoMemory-clause-short g c =
     λ out given cell trigger stands o. short_line g.D.Disk (script_database g.V.DraftService.standing.database g.V.DraftWords.words) c.args.self.now
     c.step_site.new.self c.step_site.new.self (laws_of c.law_writes_spread.ensures c.law_replies_tell_memory.ensures) c.args.k c.args.event c.step_site.result
-          c.requires.sound.0.clock
+    c.requires.sound.0.clock
     c.requires.sound.1.steady c.requires.sound.1.keeps
-          c.requires.brought c.requires.asks c.step_site.ensures refl refl given cell stands trigger o
+    c.requires.brought c.requires.asks c.step_site.ensures refl refl given cell stands trigger o
 
 pub returns-in-NoMemory-clause-never_falls : goal.returns-in-NoMemory-clause-never_falls
 returns-in-NoMemory-clause-never_falls g c =
     rises g.D.Disk (script_database g.V.DraftService.standing.database g.V.DraftWords.words) c.args.self.now c.step_site.new.self c.step_site.new.self
     (laws_of c.law_writes_spread.ensures c.law_replies_tell_memory.ensures) c.args.k c.args.event c.step_site.result c.requires.sound.0.clock
     c.requires.sound.1.steady c.requires.sound.1.keeps
-          c.requires.brought c.requires.asks
+    c.requires.brought c.requires.asks
     c.step_site.ensures refl refl
 
 pub returns-in-NoMemory-clause-same : goal.returns-in-NoMemory-clause-same
@@ -166,23 +166,23 @@ returns-in-NoMemory-clause-same g c =
     as_many g.D.Disk (script_database g.V.DraftService.standing.database g.V.DraftWords.words) c.args.self.now c.step_site.new.self c.step_site.new.self
     (laws_of c.law_writes_spread.ensures c.law_replies_tell_memory.ensures) c.args.k c.args.event c.step_site.result c.requires.sound.0.clock
     c.requires.sound.1.steady c.requires.sound.1.keeps
-          c.requires.brought c.requires.asks
+    c.requires.brought c.requires.asks
     c.step_site.ensures refl refl
 
 pub returns-in_err-tell_mark-in-Stops-clause-short : goal.returns-in_err-tell_mark-in-Stops-clause-short
 returns-in_err-tell_mark-in-Stops-clause-short g c =
     λ out given cell trigger stands o. short_line g.D.Disk (script_database g.V.DraftService.standing.database g.V.DraftWords.words) c.args.self.now
     c.step_site.new.self c.step_site.new.self (laws_of c.law_writes_spread.ensures c.law_replies_tell_memory.ensures) c.args.k c.args.event c.step_site.result
-          c.requires.sound.0.clock
+    c.requires.sound.0.clock
     c.requires.sound.1.steady c.requires.sound.1.keeps
-          c.requires.brought c.requires.asks c.step_site.ensures refl refl given cell stands trigger o
+    c.requires.brought c.requires.asks c.step_site.ensures refl refl given cell stands trigger o
 
 pub returns-in_err-tell_mark-in-Stops-clause-never_falls : goal.returns-in_err-tell_mark-in-Stops-clause-never_falls
 returns-in_err-tell_mark-in-Stops-clause-never_falls g c =
     rises g.D.Disk (script_database g.V.DraftService.standing.database g.V.DraftWords.words) c.args.self.now c.step_site.new.self c.step_site.new.self
     (laws_of c.law_writes_spread.ensures c.law_replies_tell_memory.ensures) c.args.k c.args.event c.step_site.result c.requires.sound.0.clock
     c.requires.sound.1.steady c.requires.sound.1.keeps
-          c.requires.brought c.requires.asks
+    c.requires.brought c.requires.asks
     c.step_site.ensures refl refl
 
 pub returns-in_err-tell_mark-in-Stops-clause-same : goal.returns-in_err-tell_mark-in-Stops-clause-same
@@ -190,23 +190,23 @@ returns-in_err-tell_mark-in-Stops-clause-same g c =
     as_many g.D.Disk (script_database g.V.DraftService.standing.database g.V.DraftWords.words) c.args.self.now c.step_site.new.self c.step_site.new.self
     (laws_of c.law_writes_spread.ensures c.law_replies_tell_memory.ensures) c.args.k c.args.event c.step_site.result c.requires.sound.0.clock
     c.requires.sound.1.steady c.requires.sound.1.keeps
-          c.requires.brought c.requires.asks
+    c.requires.brought c.requires.asks
     c.step_site.ensures refl refl
 
 pub returns-in_ok-tell_mark-in-Stops-clause-short : goal.returns-in_ok-tell_mark-in-Stops-clause-short
 returns-in_ok-tell_mark-in-Stops-clause-short g c =
     λ out given cell trigger stands o. short_line g.D.Disk (script_database g.V.DraftService.standing.database g.V.DraftWords.words) c.args.self.now
     c.step_site.new.self c.step_site.new.self (laws_of c.law_writes_spread.ensures c.law_replies_tell_memory.ensures) c.args.k c.args.event c.step_site.result
-          c.requires.sound.0.clock
+    c.requires.sound.0.clock
     c.requires.sound.1.steady c.requires.sound.1.keeps
-          c.requires.brought c.requires.asks c.step_site.ensures refl refl given cell stands trigger o
+    c.requires.brought c.requires.asks c.step_site.ensures refl refl given cell stands trigger o
 
 pub returns-in_ok-tell_mark-in-Stops-clause-never_falls : goal.returns-in_ok-tell_mark-in-Stops-clause-never_falls
 returns-in_ok-tell_mark-in-Stops-clause-never_falls g c =
     rises g.D.Disk (script_database g.V.DraftService.standing.database g.V.DraftWords.words) c.args.self.now c.step_site.new.self c.step_site.new.self
     (laws_of c.law_writes_spread.ensures c.law_replies_tell_memory.ensures) c.args.k c.args.event c.step_site.result c.requires.sound.0.clock
     c.requires.sound.1.steady c.requires.sound.1.keeps
-          c.requires.brought c.requires.asks
+    c.requires.brought c.requires.asks
     c.step_site.ensures refl refl
 
 pub returns-in_ok-tell_mark-in-Stops-clause-same : goal.returns-in_ok-tell_mark-in-Stops-clause-same
@@ -214,7 +214,7 @@ returns-in_ok-tell_mark-in-Stops-clause-same g c =
     as_many g.D.Disk (script_database g.V.DraftService.standing.database g.V.DraftWords.words) c.args.self.now c.step_site.new.self c.step_site.new.self
     (laws_of c.law_writes_spread.ensures c.law_replies_tell_memory.ensures) c.args.k c.args.event c.step_site.result c.requires.sound.0.clock
     c.requires.sound.1.steady c.requires.sound.1.keeps
-          c.requires.brought c.requires.asks
+    c.requires.brought c.requires.asks
     c.step_site.ensures refl refl
 
 pub returns-in_ok-tell_mark-in-Stops-clause-told : goal.returns-in_ok-tell_mark-in-Stops-clause-told
@@ -222,7 +222,7 @@ returns-in_ok-tell_mark-in-Stops-clause-told g c = λ ok given cell trigger stan
     stop_line g.D.Disk (script_database g.V.DraftService.standing.database g.V.DraftWords.words) c.args.self.now c.step_site.new.self c.step_site.new.self
     (laws_of c.law_writes_spread.ensures c.law_replies_tell_memory.ensures) c.args.k c.args.event c.step_site.result c.requires.sound.0.clock
     c.requires.sound.1.steady c.requires.sound.1.keeps
-          c.requires.brought c.requires.asks c.step_site.ensures refl refl given cell stands trigger o c.in-Stops.is (string_bytes c.args.text.now)
+    c.requires.brought c.requires.asks c.step_site.ensures refl refl given cell stands trigger o c.in-Stops.is (string_bytes c.args.text.now)
     (string_bytes c.tell_mark.new.text) c.in_ok-tell_mark-in-Stops.ensures refl
 
 pub returns-in_ok-tell_mark-in-Stops-clause-steady : goal.returns-in_ok-tell_mark-in-Stops-clause-steady
