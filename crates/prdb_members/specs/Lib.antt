@@ -5,3 +5,4 @@ pub mod Lists
 pub mod Layout
 pub mod Ends
 pub mod Sought
+pub mod Changes
