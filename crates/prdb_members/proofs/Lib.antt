@@ -7,5 +7,3 @@ pub mod ListRead
 pub mod OwnedSeen
 pub mod Kept
 pub mod RecordsKeep
-pub mod Side
-pub mod WithList

@@ -5,4 +5,3 @@ pub mod Lists
 pub mod Layout
 pub mod Ends
 pub mod Sought
-pub mod Changes

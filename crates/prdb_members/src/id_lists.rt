@@ -103,15 +103,4 @@ impl IdList {
         ids.extend_from_slice(behind)?;
         Ok(IdList { ids })
     }
-
-    /// The same list without an id.
-    pub(crate) fn without(&self, alloc: Global, id: i32) -> Result<IdList, AllocError> {
-        let mut after = IdList::new(alloc);
-        for x in self.ids.as_slice() {
-            if *x != id {
-                after.push(*x)?;
-            }
-        }
-        Ok(after)
-    }
 }

@@ -2,14 +2,12 @@
 #![tactic(auto)]
 
 mod blocks;
-mod changes;
 mod finds;
 mod id_lists;
 mod laws;
 mod layout;
 mod listed;
 
-pub use changes::{add_pair, remove_pair};
 pub use finds::{cps, elements, has_pair, owned};
 pub use id_lists::IdList;
 pub use laws::{
@@ -17,7 +15,5 @@ pub use laws::{
     law_replace_keeps_pairs, law_set_maxima_keeps_pairs,
 };
 
-#[cfg(test)]
-mod change_tests;
 #[cfg(test)]
 mod tests;
