@@ -150,7 +150,7 @@ first_there image r id holds there =
     let within : k ≤ 0 + n = first_within (λ j. has_id id (block_in (whole image) j)) 0 n in
     ⊎_elim
     (λ (below : k < n). below)
-    (λ (last : n ≤ k). absurd (is_not (r.entry id) (id_absent (whole image) r id holds.laid holds.valid (omega arith)) there))
+    (λ (last : n ≤ k). absurd (is_not (r.entry id) (sym (id_absent (whole image) r id holds.laid holds.valid (omega arith))) there))
     (cases_lt k n)
 
 -- with other fields in one block
