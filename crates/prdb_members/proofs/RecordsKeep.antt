@@ -411,8 +411,11 @@ removed_lists old r id k lists laid below kind same none are =
     lists_kept old new k r (without_entry id r) lists lists are one
     (λ is_one. absurd (omega (arith, zero, is_one)))
     (λ j in_old other is_one. refl)
-    (λ x j there has. (remaining r id x
-    (λ at. let c : Contains {X = ℕ} [] j = subst (λ (l : List ℕ). Contains l j) (ap (λ (y : ℤ). (lists y).more) at ∙ no_more) has in omega (arith, c.1)) there, refl))
+    (λ x j there has. (
+      remaining r id x
+          (λ at. let c : Contains {X = ℕ} [] j = subst (λ (l : List ℕ). Contains l j) (ap (λ (y : ℤ). (lists y).more) at ∙ no_more) has in omega (arith, c.1)) there,
+      refl,
+    ))
     (λ x there. are.once x (was_there r id x there).1)
 
 remove_lists : (image : List ℕ) (r : Registry) (id : ℤ) (lists : ℤ → PairList) → Holds image r → IsSome (r.entry id) → (lists id).ids ≡ [] → AreLists (whole image) r lists
