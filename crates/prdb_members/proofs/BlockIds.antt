@@ -60,7 +60,7 @@ pub kind_of_more : (entry : ℤ) (next : ℕ) (ids : List ℤ) → kind_of (more
 unfolding words
 kind_of_more entry next ids = refl
 
-entry_of_more : (entry : ℤ) (next : ℕ) (ids : List ℤ) → FitsSigned w32 entry → signed_at (more_block entry next ids) 4 ≡ entry
+pub entry_of_more : (entry : ℤ) (next : ℕ) (ids : List ℤ) → FitsSigned w32 entry → signed_at (more_block entry next ids) 4 ≡ entry
 unfolding words
 entry_of_more entry next ids fits = ap (cast_signed w32) (from_be_bytes-to_be_bytes_4 (bits entry) (bits_below entry fits)) ∙ to_z-of_z w32 entry fits
 

@@ -5,3 +5,5 @@ pub mod InList
 pub mod ListFound
 pub mod ListRead
 pub mod OwnedSeen
+pub mod Kept
+pub mod RecordsKeep

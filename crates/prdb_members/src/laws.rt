@@ -1,10 +1,36 @@
 //! Laws of the definitions that the contracts cite.
-ghost use Rattle.std.specs.Prelude.{[]};
-ghost use Rattle.prdb_entries.specs.Registry.{first_registry};
+ghost use Rattle.std.specs.Prelude.{◌≡◌, ℕ, ℤ, List, [], false};
+ghost use Rattle.prdb_entries.specs.Records.{after_insert, after_remove, after_replace, after_set_maxima};
+ghost use Rattle.prdb_entries.specs.Registry.{Registry, AreMaxima, IsRecord, MayBeAdded, MayBeRemoved, MayReplace, first_registry, with_entry, with_maxima, without_entry};
+ghost use Rattle.prdb_entries.specs.State.{PrEntry};
 ghost use Rattle.prdb_members.specs.Layout.{HoldsPairs};
-ghost use Rattle.prdb_members.specs.Members.{no_members};
+ghost use Rattle.prdb_members.specs.Members.{Members, are_paired, no_members};
 
 /// The empty image holds the first registry, and no pairs.
 pub fn law_empty_holds_no_pairs()
     ensures { HoldsPairs [] first_registry no_members }
+{}
+
+/// An entry more leaves the pairs.
+pub fn law_insert_keeps_pairs()
+    ensures { (image : List ℕ) (r : Registry) (m : Members) (e : PrEntry) → HoldsPairs image r m → IsRecord e → MayBeAdded e r
+        → HoldsPairs (after_insert e image) (with_entry e r) m }
+{}
+
+/// Other fields for an entry leave its pairs and all others.
+pub fn law_replace_keeps_pairs()
+    ensures { (image : List ℕ) (r : Registry) (m : Members) (id : ℤ) (e : PrEntry) → HoldsPairs image r m → IsRecord e → MayReplace id e r
+        → HoldsPairs (after_replace id e image) (with_entry e r) m }
+{}
+
+/// An entry less leaves the pairs, where it is in none.
+pub fn law_remove_keeps_pairs()
+    ensures { (image : List ℕ) (r : Registry) (m : Members) (id : ℤ) → HoldsPairs image r m → MayBeRemoved id r
+        → ((other : ℤ) → are_paired m id other ≡ false) → HoldsPairs (after_remove id image) (without_entry id r) m }
+{}
+
+/// Other maxima leave the pairs.
+pub fn law_set_maxima_keeps_pairs()
+    ensures { (image : List ℕ) (r : Registry) (m : Members) (user group : ℤ) → HoldsPairs image r m → AreMaxima user group
+        → HoldsPairs (after_set_maxima user group image) (with_maxima user group r) m }
 {}

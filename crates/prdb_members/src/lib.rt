@@ -10,7 +10,10 @@ mod listed;
 
 pub use finds::{cps, elements, has_pair, owned};
 pub use id_lists::IdList;
-pub use laws::law_empty_holds_no_pairs;
+pub use laws::{
+    law_empty_holds_no_pairs, law_insert_keeps_pairs, law_remove_keeps_pairs,
+    law_replace_keeps_pairs, law_set_maxima_keeps_pairs,
+};
 
 #[cfg(test)]
 mod tests;

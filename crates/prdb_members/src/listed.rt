@@ -54,7 +54,7 @@ fn read_more<I: ImageRead>(
 }
 
 /// The pairs of an entry, by its block.
-fn read_list<I: ImageRead>(
+pub(crate) fn read_list<I: ImageRead>(
     alloc: Global,
     d: &mut Draft<I>,
     entry: i32,
