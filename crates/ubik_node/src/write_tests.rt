@@ -10,7 +10,7 @@ use crate::tests::{
     version,
 };
 use crate::transfer_tests::comes;
-use disk_base::MemDisk;
+use disk_base::{MemDisk, StopDisk};
 use std::alloc::Global;
 use std::collections::VecDeque;
 use std::process::Abort;
@@ -228,19 +228,49 @@ impl<D: SteadyDisk> Three<D> {
         assert!(rt; self.told.is_empty());
         Ok(())
     }
+
+    /// What host 2 reads at a moment: these bytes, or where to ask, since host 1 claimed at another moment.
+    fn second_reads(
+        &mut self,
+        rt: &impl Abort,
+        alloc: Global,
+        asked: (u32, u32),
+        wanted: Result<&[u8], u32>,
+    ) -> Result<(), Fail>
+        requires first { IsStored D.Disk self.old.first }
+        requires second { IsStored D.Disk self.old.second }
+        requires third { IsStored D.Disk self.old.third }
+        ensures first { IsStored D.Disk self.new.first }
+        ensures second { IsStored D.Disk self.new.second }
+        ensures third { IsStored D.Disk self.new.third }
+    {
+        let (now, id) = asked;
+        let mut out = ask(rt, alloc, &mut self.second, (now, id, b""), StepEnd::Done)?;
+        let reply = out.take();
+        let is_right = match wanted {
+            Ok(bytes) => is_answer(&reply, id, bytes),
+            Err(heard) => is_elsewhere(&reply, id, (Host(1), heard)),
+        };
+        assert!(rt; is_right, "at {now}");
+        Ok(())
+    }
 }
 
-/// A cell of three in which host 1 serves from 2026 on, under version 2026.1, and all have the empty image. The calls of these numbers
-/// fail on the disk of host 1.
-fn elected_over(rt: &impl Abort, alloc: Global, failing: &[u64]) -> Result<Three<MemDisk>, Fail>
-    ensures first { IfOk result (λ three. IsStored MemDisk.Disk three.first) }
-    ensures second { IfOk result (λ three. IsStored MemDisk.Disk three.second) }
-    ensures third { IfOk result (λ three. IsStored MemDisk.Disk three.third) }
+/// A cell of three over these disks, which are empty: host 1 serves from 2026 on, under version 2026.1.
+fn elected<D: SteadyDisk + StopDisk + Drop>(
+    rt: &impl Abort,
+    alloc: Global,
+    disks: (D, D, D),
+) -> Result<Three<D>, Fail>
+    ensures first { IfOk result (λ three. IsStored D.Disk three.first) }
+    ensures second { IfOk result (λ three. IsStored D.Disk three.second) }
+    ensures third { IfOk result (λ three. IsStored D.Disk three.third) }
 {
+    let (first, second, third) = disks;
     let mut three = Three {
-        first: server(rt, alloc, revived(MemDisk::new(alloc, failing)?), 0)?,
-        second: server(rt, alloc, revived(MemDisk::new(alloc, &[])?), 1)?,
-        third: server(rt, alloc, revived(MemDisk::new(alloc, &[])?), 2)?,
+        first: server(rt, alloc, revived(first), 0)?,
+        second: server(rt, alloc, revived(second), 1)?,
+        third: server(rt, alloc, revived(third), 2)?,
         way: VecDeque::new(alloc),
         told: VecDeque::new(alloc),
         pieces: 0,
@@ -253,13 +283,10 @@ fn elected_over(rt: &impl Abort, alloc: Global, failing: &[u64]) -> Result<Three
     Ok(three)
 }
 
-/// So over disks on which no call fails.
-fn elected(rt: &impl Abort, alloc: Global) -> Result<Three<MemDisk>, Fail>
-    ensures first { IfOk result (λ three. IsStored MemDisk.Disk three.first) }
-    ensures second { IfOk result (λ three. IsStored MemDisk.Disk three.second) }
-    ensures third { IfOk result (λ three. IsStored MemDisk.Disk three.third) }
-{
-    elected_over(rt, alloc, &[])
+/// Three empty disks. The calls of these numbers fail on the first one.
+fn disks(alloc: Global, failing: &[u64]) -> Result<(MemDisk, MemDisk, MemDisk), Fail> {
+    let first = MemDisk::new(alloc, failing)?;
+    Ok((first, MemDisk::new(alloc, &[])?, MemDisk::new(alloc, &[])?))
 }
 
 /// A host tells host 1 that it has a version.
@@ -290,7 +317,7 @@ fn named(rt: &impl Abort, way: &VecDeque<Packet>) -> Version {
 #[test]
 fn a_write_is_answered_once_a_second_server_has_it(rt: HostRuntime) -> Result<(), Fail> {
     let alloc = rt.alloc();
-    let mut three = elected(&rt, alloc)?;
+    let mut three = elected(&rt, alloc, disks(alloc, &[])?)?;
     three.asks(&rt, alloc, (2027, 7, b"abc"))?;
     assert!(rt; three.told.is_empty());
     assert_eq!(rt;
@@ -321,7 +348,7 @@ fn a_write_is_answered_once_a_second_server_has_it(rt: HostRuntime) -> Result<()
 #[test]
 fn beacons_name_the_announced_version(rt: HostRuntime) -> Result<(), Fail> {
     let alloc = rt.alloc();
-    let mut three = elected(&rt, alloc)?;
+    let mut three = elected(&rt, alloc, disks(alloc, &[])?)?;
     three.asks(&rt, alloc, (2027, 7, b"abc"))?;
     three.all_come(&rt, alloc, 2027, Lost::ButVotes)?;
     three.at_first(&rt, alloc, 2041, NodeEvent::BeaconTurn)?;
@@ -334,47 +361,18 @@ fn beacons_name_the_announced_version(rt: HostRuntime) -> Result<(), Fail> {
     Ok(())
 }
 
-/// What host 2 reads at a moment: these bytes, or where to ask, since host 1 claimed at another moment.
-fn second_reads(
-    rt: &impl Abort,
-    alloc: Global,
-    three: &mut Three<MemDisk>,
-    asked: (u32, u32),
-    wanted: Result<&[u8], u32>,
-) -> Result<(), Fail>
-    requires first { IsStored MemDisk.Disk three.old.first }
-    requires second { IsStored MemDisk.Disk three.old.second }
-    requires third { IsStored MemDisk.Disk three.old.third }
-    ensures first { IsStored MemDisk.Disk three.new.first }
-    ensures second { IsStored MemDisk.Disk three.new.second }
-    ensures third { IsStored MemDisk.Disk three.new.third }
-{
-    let (now, id) = asked;
-    let mut out = ask(rt, alloc, &mut three.second, (now, id, b""), StepEnd::Done)?;
-    let reply = out.take();
-    match wanted {
-        Ok(bytes) => {
-            assert!(rt; is_answer(&reply, id, bytes), "at {now}");
-        }
-        Err(heard) => {
-            assert!(rt; is_elsewhere(&reply, id, (Host(1), heard)), "at {now}");
-        }
-    }
-    Ok(())
-}
-
 #[test]
 fn another_server_reads_what_its_beacon_names(rt: HostRuntime) -> Result<(), Fail> {
     let alloc = rt.alloc();
-    let mut three = elected(&rt, alloc)?;
+    let mut three = elected(&rt, alloc, disks(alloc, &[])?)?;
     three.turn(&rt, alloc, 2041, NodeEvent::BeaconTurn, Lost::Nothing)?;
-    second_reads(&rt, alloc, &mut three, (2042, 1), Ok(b""))?;
+    three.second_reads(&rt, alloc, (2042, 1), Ok(b""))?;
     three.asks(&rt, alloc, (2043, 7, b"abc"))?;
     three.all_come(&rt, alloc, 2043, Lost::Nothing)?;
     // It has the write, and keeps a beacon that names the version before it.
-    second_reads(&rt, alloc, &mut three, (2044, 2), Err(2041))?;
+    three.second_reads(&rt, alloc, (2044, 2), Err(2041))?;
     three.turn(&rt, alloc, 2056, NodeEvent::BeaconTurn, Lost::Nothing)?;
-    second_reads(&rt, alloc, &mut three, (2057, 3), Ok(b"abc"))
+    three.second_reads(&rt, alloc, (2057, 3), Ok(b"abc"))
 }
 
 /// So many bytes.
@@ -389,7 +387,7 @@ fn long_call(alloc: Global, len: u32) -> Result<Vec<u8>, Fail> {
 #[test]
 fn a_lost_piece_is_sent_again(rt: HostRuntime) -> Result<(), Fail> {
     let alloc = rt.alloc();
-    let mut three = elected(&rt, alloc)?;
+    let mut three = elected(&rt, alloc, disks(alloc, &[])?)?;
     let call = long_call(alloc, 20_000)?;
     three.asks(&rt, alloc, (2027, 7, &call))?;
     // A beginning, three pieces and a commit for each of two servers.
@@ -408,7 +406,7 @@ fn a_lost_piece_is_sent_again(rt: HostRuntime) -> Result<(), Fail> {
 #[test]
 fn sixty_four_calls_wait(rt: HostRuntime) -> Result<(), Fail> {
     let alloc = rt.alloc();
-    let mut three = elected(&rt, alloc)?;
+    let mut three = elected(&rt, alloc, disks(alloc, &[])?)?;
     for id in 1..66 {
         three.asks(&rt, alloc, (2027, id, b"x"))?;
         assert!(rt; three.told.is_empty(), "{id}");
@@ -445,7 +443,7 @@ fn long_x(alloc: Global, len: u32) -> Result<Vec<u8>, Fail> {
 #[test]
 fn the_end_of_the_lease_drops_the_writes(rt: HostRuntime) -> Result<(), Fail> {
     let alloc = rt.alloc();
-    let mut three = elected(&rt, alloc)?;
+    let mut three = elected(&rt, alloc, disks(alloc, &[])?)?;
     for id in 1..4 {
         three.asks(&rt, alloc, (2027, id, b"x"))?;
     }
@@ -466,7 +464,7 @@ fn the_end_of_the_lease_drops_the_writes(rt: HostRuntime) -> Result<(), Fail> {
 #[test]
 fn a_write_of_61_seconds_is_given_up(rt: HostRuntime) -> Result<(), Fail> {
     let alloc = rt.alloc();
-    let mut three = elected(&rt, alloc)?;
+    let mut three = elected(&rt, alloc, disks(alloc, &[])?)?;
     for id in 1..3 {
         three.asks(&rt, alloc, (2027, id, b"abc"))?;
     }
@@ -511,7 +509,7 @@ const WRITE: u64 = 18;
 
 /// A second write over a disk of host 1 on which the call of this number fails: whether it was committed, or else halted the server.
 fn second_write(rt: &impl Abort, alloc: Global, failing: u64) -> Result<bool, Fail> {
-    let mut three = elected_over(rt, alloc, &[failing])?;
+    let mut three = elected(rt, alloc, disks(alloc, &[failing])?)?;
     three.asks(rt, alloc, (2027, 7, b"abc"))?;
     three.all_come(rt, alloc, 2027, Lost::Nothing)?;
     let call = bytes_of(alloc, b"d")?;
@@ -541,7 +539,7 @@ fn a_disk_that_fails_in_a_write_sends_nothing(rt: HostRuntime) -> Result<(), Fai
 #[test]
 fn changes_that_are_too_large_are_refused(rt: HostRuntime) -> Result<(), Fail> {
     let alloc = rt.alloc();
-    let mut three = elected(&rt, alloc)?;
+    let mut three = elected(&rt, alloc, disks(alloc, &[])?)?;
     let call = vec![in alloc; 7u8; 1_048_600]?;
     three.asks(&rt, alloc, (2027, 7, &call))?;
     let Some(
@@ -570,7 +568,7 @@ fn told_of(alloc: Global, out: Outputs) -> Result<VecDeque<Output>, Fail> {
 #[test]
 fn the_last_counter_refuses_those_that_wait(rt: HostRuntime) -> Result<(), Fail> {
     let alloc = rt.alloc();
-    let mut three = elected(&rt, alloc)?;
+    let mut three = elected(&rt, alloc, disks(alloc, &[])?)?;
     for id in 1..4 {
         three.asks(&rt, alloc, (2027, id, b"x"))?;
     }
