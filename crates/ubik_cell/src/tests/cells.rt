@@ -211,3 +211,31 @@ fn a_script_has_200000_packets_at_most(rt: HostRuntime) -> Result<(), Fail> {
     assert!(rt; seen.text.ends_with(tail));
     Ok(())
 }
+
+/// A server misses one write in each of 250 rounds, and is sent the whole image when it is back: some 400,000 bytes. Past 67,108,864 bytes
+/// of packets the script ends.
+#[test]
+fn the_packets_of_a_script_have_67108864_bytes_at_most(rt: HostRuntime) -> Result<(), Fail> {
+    let alloc = rt.alloc();
+    let mut script = RECOVERS.to_string(alloc)?;
+    for user in 0..2000 {
+        let line = format!(in alloc; "ask 1 newentry u{user} 0 0\ndeliverall\n")?;
+        script.push_str(&line)?;
+    }
+    for round in 0..250 {
+        let lines = format!(in alloc;
+            "crash 3\nask 1 newentry v{round} 0 0\ndeliverall\nrestart 3\nrecover 1\ndeliverall\n"
+        )?;
+        script.push_str(&lines)?;
+    }
+    let seen = run_on(alloc, script.as_bytes(), &[], &[], &[])?;
+    let (line, which) = (4846, Which::PacketBytes);
+    let end = CellEnd {
+        status: 4,
+        kind: CellKind::Limit { line, which },
+    };
+    assert_eq!(rt; seen.end, end);
+    let tail = b"limit line 4846 packetbytes\n".as_slice();
+    assert!(rt; seen.text.ends_with(tail));
+    Ok(())
+}
