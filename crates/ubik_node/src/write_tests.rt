@@ -142,6 +142,22 @@ impl<D: SteadyDisk> Three<D> {
         sorts(&mut self.way, &mut self.told, out)
     }
 
+    /// Calls of the ids below an end, from 1 on, at host 1 at 2027. Each appends one byte, and is told nothing at once.
+    fn asks_each(&mut self, rt: &impl Abort, alloc: Global, end: u32) -> Result<(), Fail>
+        requires first { IsStored D.Disk self.old.first }
+        requires second { IsStored D.Disk self.old.second }
+        requires third { IsStored D.Disk self.old.third }
+        ensures first { IsStored D.Disk self.new.first }
+        ensures second { IsStored D.Disk self.new.second }
+        ensures third { IsStored D.Disk self.new.third }
+    {
+        for id in 1..end {
+            self.asks(rt, alloc, (2027, id, b"x"))?;
+            assert!(rt; self.told.is_empty(), "{id}");
+        }
+        Ok(())
+    }
+
     /// A packet comes to its host.
     fn arrives(
         &mut self,
@@ -407,10 +423,7 @@ fn a_lost_piece_is_sent_again(rt: HostRuntime) -> Result<(), Fail> {
 fn sixty_four_calls_wait(rt: HostRuntime) -> Result<(), Fail> {
     let alloc = rt.alloc();
     let mut three = elected(&rt, alloc, disks(alloc, &[])?)?;
-    for id in 1..66 {
-        three.asks(&rt, alloc, (2027, id, b"x"))?;
-        assert!(rt; three.told.is_empty(), "{id}");
-    }
+    three.asks_each(&rt, alloc, 66)?;
     three.asks(&rt, alloc, (2027, 66, b"x"))?;
     let full = matches!(
         three.told.pop_front(),
@@ -444,9 +457,7 @@ fn long_x(alloc: Global, len: u32) -> Result<Vec<u8>, Fail> {
 fn the_end_of_the_lease_drops_the_writes(rt: HostRuntime) -> Result<(), Fail> {
     let alloc = rt.alloc();
     let mut three = elected(&rt, alloc, disks(alloc, &[])?)?;
-    for id in 1..4 {
-        three.asks(&rt, alloc, (2027, id, b"x"))?;
-    }
+    three.asks_each(&rt, alloc, 4)?;
     three.all_come(&rt, alloc, 2027, Lost::ButVotes)?;
     // The lease is that of the votes at 2026: a majority that comes behind it is none.
     three.arrives(&rt, alloc, 2087, has_kept(Host(2), version(2026, 2)))?;
@@ -461,25 +472,10 @@ fn the_end_of_the_lease_drops_the_writes(rt: HostRuntime) -> Result<(), Fail> {
     Ok(())
 }
 
-#[test]
-fn a_write_of_61_seconds_is_given_up(rt: HostRuntime) -> Result<(), Fail> {
-    let alloc = rt.alloc();
-    let mut three = elected(&rt, alloc, disks(alloc, &[])?)?;
-    for id in 1..3 {
-        three.asks(&rt, alloc, (2027, id, b"abc"))?;
-    }
-    three.all_come(&rt, alloc, 2027, Lost::ButVotes)?;
-    three.turn(&rt, alloc, 2041, NodeEvent::BeaconTurn, Lost::ButVotes)?;
-    three.turn(&rt, alloc, 2056, NodeEvent::BeaconTurn, Lost::ButVotes)?;
-    three.turn(&rt, alloc, 2087, NodeEvent::RecoverTurn, Lost::ButVotes)?;
-    assert!(rt; three.told.is_empty());
-    assert_eq!(rt; three.first.phase(), Phase::Ready);
-    three.at_first(&rt, alloc, 2088, NodeEvent::RecoverTurn)?;
-    assert!(rt; is_refusal(&three.told.pop_front(), 1, Phase::Poll, Applied::Unknown));
-    assert!(rt; is_refusal(&three.told.pop_front(), 2, Phase::Poll, Applied::No));
-    assert!(rt; three.told.is_empty());
+/// The next two packets: host 1 gives its write up, which led to 2026.2.
+fn give_up(rt: &impl Abort, way: &mut VecDeque<Packet>) {
     for to in [Host(2), Host(3)] {
-        let Some(packet) = three.way.pop_front() else {
+        let Some(packet) = way.pop_front() else {
             panic!(rt; "no packet");
         };
         assert_eq!(rt; packet.to, to);
@@ -495,10 +491,28 @@ fn a_write_of_61_seconds_is_given_up(rt: HostRuntime) -> Result<(), Fail> {
             )
         );
     }
+}
+
+#[test]
+fn a_write_of_61_seconds_is_given_up(rt: HostRuntime) -> Result<(), Fail> {
+    let alloc = rt.alloc();
+    let mut three = elected(&rt, alloc, disks(alloc, &[])?)?;
+    three.asks_each(&rt, alloc, 3)?;
+    three.all_come(&rt, alloc, 2027, Lost::ButVotes)?;
+    three.turn(&rt, alloc, 2041, NodeEvent::BeaconTurn, Lost::ButVotes)?;
+    three.turn(&rt, alloc, 2056, NodeEvent::BeaconTurn, Lost::ButVotes)?;
+    three.turn(&rt, alloc, 2087, NodeEvent::RecoverTurn, Lost::ButVotes)?;
+    assert!(rt; three.told.is_empty());
+    assert_eq!(rt; three.first.phase(), Phase::Ready);
+    three.at_first(&rt, alloc, 2088, NodeEvent::RecoverTurn)?;
+    assert!(rt; is_refusal(&three.told.pop_front(), 1, Phase::Poll, Applied::Unknown));
+    assert!(rt; is_refusal(&three.told.pop_front(), 2, Phase::Poll, Applied::No));
+    assert!(rt; three.told.is_empty());
+    give_up(&rt, &mut three.way);
     // The poll finds the own version the best: it was committed here.
     three.all_come(&rt, alloc, 2088, Lost::Nothing)?;
     assert!(rt; is_announcement(&three.told.pop_front(), version(2088, 1)));
-    three.reads(&rt, alloc, (2089, 9), b"abc")
+    three.reads(&rt, alloc, (2089, 9), b"x")
 }
 
 /// The calls of the disk of host 1 up to its second write.
@@ -569,9 +583,7 @@ fn told_of(alloc: Global, out: Outputs) -> Result<VecDeque<Output>, Fail> {
 fn the_last_counter_refuses_those_that_wait(rt: HostRuntime) -> Result<(), Fail> {
     let alloc = rt.alloc();
     let mut three = elected(&rt, alloc, disks(alloc, &[])?)?;
-    for id in 1..4 {
-        three.asks(&rt, alloc, (2027, id, b"x"))?;
-    }
+    three.asks_each(&rt, alloc, 4)?;
     let state = &mut three.first.state;
     let mut out = Outputs::make(alloc)?;
     assert!(rt; state.is_spreading() && state.cell.len() == 3);
