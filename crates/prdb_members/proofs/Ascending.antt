@@ -7,11 +7,9 @@ use Rattle.std.proofs.lemmas.Int.{ints}
 use Rattle.std.proofs.lemmas.List.{length-append, get_or_append_left, get_or-append_right, get_or-append-add, get_or_default, take-append-drop, length-take-le}
 use Rattle.std.proofs.lemmas.List.Elements.{Contains-append_left, Contains-append_right, Contains-append_cases}
 use Rattle.std.specs.Prelude.{IsTrue, int_lt}
-use Rattle.std.specs.Int.{w32}
-use Rattle.std.proofs.Common.{SFits}
 use Rattle.prdb_members.specs.Lists.{IsAscending, IsRank}
 
-lt_same : (a b x y : ℤ) → x ≡ a → y ≡ b → a <ℤ b → x <ℤ y
+pub lt_same : (a b x y : ℤ) → x ≡ a → y ≡ b → a <ℤ b → x <ℤ y
 lt_same a b x y p q less = subst (λ (v : ℤ). x <ℤ v) (sym q) (subst (λ (v : ℤ). v <ℤ b) (sym p) less)
 
 pub lt_on : (a b c : ℤ) → a <ℤ b → b <ℤ c → a <ℤ c
@@ -133,10 +131,10 @@ with_ascending below behind id cut above =
 
 -- ---- whether an id is above all
 
-lt_from : (a b : ℤ) → IsTrue (int_lt a b) → a <ℤ b
+pub lt_from : (a b : ℤ) → IsTrue (int_lt a b) → a <ℤ b
 lt_from a b e = grind (arith, ints)
 
-lt_to : (a b : ℤ) → a <ℤ b → IsTrue (int_lt a b)
+pub lt_to : (a b : ℤ) → a <ℤ b → IsTrue (int_lt a b)
 lt_to a b h = grind (arith, ints)
 
 pub below_answer : (self ids : List ℤ) (id last : ℤ) → ids ≡ self → IsAscending ids → 1 ≤ length ids → last ≡ get_or ids (length ids - 1) (pos 0)

@@ -1,16 +1,15 @@
 -- What is written into a block is read of it.
-use Rattle.std.proofs.Common.{◌≡◌, ℕ, ℤ, zero, suc, ◌+◌, ◌-◌, ◌*◌, ◌^◌, ◌<◌, ◌≤◌, min, true, List, [], ◌∷◌, ◌++◌, length, get_or, take, drop, map, refl, sym, ap, subst, ◌∙◌, arith}
+use Rattle.std.proofs.Common.{◌≡◌, ℕ, ℤ, zero, suc, ◌+◌, ◌*◌, ◌^◌, ◌<◌, true, List, [], ◌∷◌, ◌++◌, length, get_or, take, drop, map, refl, sym, ap, ◌∙◌, arith}
 use Rattle.std.specs.Prelude.{FitsSigned}
 use Rattle.std.specs.Int.{w32, cast_signed, from_be_bytes}
-use Rattle.std.specs.List.{All, range_with_len}
-use Rattle.std.specs.Ordering.{int_eq}
+use Rattle.std.specs.List.{All}
 use Rattle.std.proofs.lemmas.Bool.{and_from, eq-eqb}
 use Rattle.std.proofs.lemmas.Bool.Decides.{Decides-int_eq}
 use Rattle.std.proofs.lemmas.Int.{to_z-of_z}
-use Rattle.std.proofs.lemmas.List.{append_assoc, same_lists, take-take, drop-drop, length-map, get_or-map}
+use Rattle.std.proofs.lemmas.List.{same_lists, take-take, drop-drop, length-map, get_or-map}
 use Rattle.std.proofs.lemmas.List.FromFn.{length-map-range_with_len, get_or-map-range_with_len, map-range_with_len_more}
 use Rattle.std.proofs.lemmas.Nat.{from_be_bytes-to_be_bytes_4}
-use Rattle.prdb_entries.specs.Bytes.{bits, word, words, word_at, zeros, filled}
+use Rattle.prdb_entries.specs.Bytes.{bits, words, word_at}
 use Rattle.prdb_entries.specs.Records.{kind_of, signed_at}
 use Rattle.prdb_entries.proofs.Lengths.{bits_below}
 use Rattle.prdb_members.specs.Blocks.{ids_in, is_more_of}

@@ -1,10 +1,8 @@
 -- The empty image holds no pairs.
-use Rattle.std.proofs.Common.{◌≡◌, ℕ, ℤ, zero, suc, ◌+◌, ◌^◌, ◌<◌, true, false, List, [], ◌∷◌, length, take, drop, refl, sym, ap, subst, ◌∙◌, arith}
-use Rattle.std.specs.List.{Contains}
-use Rattle.prdb_entries.specs.Blocks.{block_count}
+use Rattle.std.proofs.Common.{◌≡◌, ℕ, zero, suc, ◌<◌, List, [], drop, refl, sym, subst, arith}
 use Rattle.prdb_entries.specs.Bytes.{words, zeros}
 use Rattle.prdb_entries.specs.Layout.{layout, head_of, block_of as entry_block, numbers_of}
-use Rattle.prdb_entries.specs.Records.{Holds, block_in, kind_of, whole}
+use Rattle.prdb_entries.specs.Records.{block_in, kind_of}
 use Rattle.prdb_entries.specs.Registry.{first_registry}
 use Rattle.prdb_entries.specs.State.{fixed_entries, initial_state}
 use Rattle.prdb_entries.proofs.FirstImage.{empty_holds}

@@ -1,8 +1,8 @@
 -- The records of prdb_entries leave the lists of pairs: an image that holds pairs holds them after a change of one block that is no
 -- continuation.
-use Rattle.std.proofs.Common.{◌≡◌, ◌≢◌, ℕ, ℤ, ◌+◌, ◌<◌, ◌≤◌, true, false, Bool, List, [], ◌∷◌, length, take, drop, Option, Some, None, IsSome, refl, sym, ap, subst, ◌∙◌, ⊎_elim, arith}
+use Rattle.std.proofs.Common.{◌≡◌, ◌≢◌, ℕ, ℤ, ◌<◌, List, [], ◌∷◌, take, drop, IsSome, sym, ap, subst, ◌∙◌, ⊎_elim}
 use Rattle.std.specs.List.{Contains}
-use Rattle.std.proofs.lemmas.Bool.{cases_eq, cases_Bool}
+use Rattle.std.proofs.lemmas.Bool.{cases_eq}
 use Rattle.prdb_entries.specs.Blocks.{block_count}
 use Rattle.prdb_entries.specs.Records.{block_in, entry_in, kind_of}
 use Rattle.prdb_entries.specs.Registry.{Registry}

@@ -7,3 +7,15 @@ pub mod ListRead
 pub mod OwnedSeen
 pub mod Kept
 pub mod RecordsKeep
+pub mod Side
+pub mod WithList
+pub mod Both
+pub mod Chains
+pub mod FreeBlock
+pub mod Gains
+pub mod Ids
+pub mod Relist
+pub mod Written
+pub mod Places
+pub mod Ends
+pub mod FirstWhole

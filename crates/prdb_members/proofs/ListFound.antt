@@ -1,17 +1,15 @@
 -- The list that is read of an id's entry is that of its pairs.
-use Rattle.std.proofs.Common.{◌≡◌, ◌≢◌, ℕ, ℤ, zero, suc, ◌+◌, ◌<◌, ◌≤◌, true, false, Bool, List, [], ◌∷◌, length, take, drop, Option, Some, None, IfSome, IsSome, Result, Ok, Err, IfOk, IfErr, refl, sym, ap, subst, ◌∙◌, ⊎_elim, inl, inr, arith}
-use Rattle.std.specs.Prelude.{◌<ℤ◌, ◌||◌, FitsSigned, pos}
-use Rattle.std.specs.Int.{w32}
+use Rattle.std.proofs.Common.{◌≡◌, ℕ, ℤ, zero, suc, ◌<◌, true, false, Bool, List, [], ◌∷◌, length, take, drop, Option, Some, None, IfSome, IsSome, refl, sym, ap, subst, ◌∙◌, ⊎_elim, arith}
+use Rattle.std.specs.Prelude.{◌<ℤ◌, ◌||◌, pos}
 use Rattle.std.specs.List.{Contains}
 use Rattle.std.proofs.lemmas.Bool.{and_from, eq-eqb, cases_Bool}
 use Rattle.std.proofs.lemmas.Bool.Decides.{Decides-int_eq}
 use Rattle.std.proofs.lemmas.Int.{ints}
 use Rattle.db_image.specs.declared.faults.RecordFault.{RecordFault}
-use Rattle.db_blocks.specs.Blocks.{IsFirst, IsWhole, block_in as block_of}
+use Rattle.db_blocks.specs.Blocks.{IsFirst, IsWhole}
 use Rattle.db_blocks.specs.Ends.{HasCause}
 use Rattle.db_blocks.specs.declared.scans.Found.{Found}
 use Rattle.db_blocks.proofs.FoundBlocks.{found_meets, none_meets}
-use Rattle.prdb_entries.specs.Blocks.{block_count}
 use Rattle.prdb_entries.specs.Bytes.{words, word_at, zeros}
 use Rattle.prdb_entries.specs.Layout.{layout, head_of, block_of as entry_block, numbers_of}
 use Rattle.prdb_entries.specs.Records.{Holds, IsLaidOut, block_in, entry_in, has_id, kind_of, whole}
@@ -23,7 +21,7 @@ use Rattle.prdb_entries.proofs.Lookups.{id_parts}
 use Rattle.prdb_members.specs.Ends.{HasItsCause, HoldsSome}
 use Rattle.prdb_members.specs.Found.{IsFound}
 use Rattle.prdb_members.specs.Layout.{AreLists, HoldsPairs, IsListed, PairList, link_to}
-use Rattle.prdb_members.specs.Lists.{IsAscending, IsListOf}
+use Rattle.prdb_members.specs.Lists.{IsListOf}
 use Rattle.prdb_members.specs.Members.{Members, are_paired}
 use Rattle.prdb_members.specs.declared.listed.Listed.{Listed}
 use Rattle.prdb_members.proofs.BlockIds.{count_of}

@@ -1,10 +1,10 @@
 -- How far a list of pairs was read.
-use Rattle.std.proofs.Common.{◌≡◌, ℕ, ℤ, ◌+◌, ◌-◌, ◌*◌, ◌^◌, ◌<◌, ◌≤◌, min, true, false, List, [], ◌∷◌, ◌++◌, length, get_or, take, drop, map, Option, Some, None, IfSome, refl, sym, ap, subst, ◌∙◌, append_assoc, arith}
+use Rattle.std.proofs.Common.{◌≡◌, ℕ, ℤ, ◌+◌, ◌-◌, ◌*◌, ◌^◌, ◌<◌, ◌≤◌, min, true, false, List, [], ◌∷◌, ◌++◌, length, take, drop, map, Option, Some, None, IfSome, refl, sym, ap, subst, ◌∙◌, append_assoc, arith}
 use Rattle.std.specs.Prelude.{FitsSigned, ◌<ℤ◌}
 use Rattle.std.specs.Int.{w32}
 use Rattle.std.specs.List.{All}
 use Rattle.std.proofs.lemmas.List.{take-append-drop, length-take, length-drop, append-nil, drop_at}
-use Rattle.std.proofs.lemmas.List.Elements.{All-take, All-drop, All-same}
+use Rattle.std.proofs.lemmas.List.Elements.{All-append, All-cons, All-take, All-drop, All-same}
 use Rattle.std.proofs.lemmas.List.FromFn.{take-map-range_with_len}
 use Rattle.db_image.specs.Draft.{Drafted}
 use Rattle.db_image.specs.declared.images.ImageRead.{Ghosts}
@@ -16,7 +16,7 @@ use Rattle.db_blocks.proofs.Scanned.{looks_none, looks_then, looks_so}
 use Rattle.prdb_entries.specs.Blocks.{block_count}
 use Rattle.prdb_entries.specs.Bytes.{bits, word_at, words, zeros}
 use Rattle.prdb_entries.specs.Records.{block_in, signed_at}
-use Rattle.prdb_members.specs.Blocks.{IsMore, ids_in, is_more_of}
+use Rattle.prdb_members.specs.Blocks.{AreWithin, IsMore, ids_in, is_more_of}
 use Rattle.prdb_members.specs.Layout.{IsChain, IsListed, PairList, link_to, more_block}
 use Rattle.prdb_members.specs.Lists.{IsAscending}
 use Rattle.prdb_members.proofs.Ascending.{ascending_left, ascending_apart, one_apart}
@@ -159,12 +159,19 @@ next_read image block entry l ids more left link count here r rises fits some si
       };
     }
 
+-- one block more lies within
+pub within_more : (len : ℕ) (more : List ℕ) (k : ℕ) → AreWithin len more → block_place 2112 k + 192 ≤ len → AreWithin len (more ++ k ∷ [])
+within_more len more k all here =
+    All-append (λ j. block_place 2112 j + 192 ≤ len) more (k ∷ []) all (All-cons (λ j. block_place 2112 j + 192 ≤ len) k [] here (λ i d below. absurd (omega arith)))
+
 -- ---- over a draft
 
 pub record ReadSoFar {I : Type 0} (g : Ghosts I) (first now : Drafted I) (entry : ℤ) (block : List ℕ) (ids : List ℤ) (more : List ℕ) (count left link : ℕ) : Type 0 where
   pub frame : OnlyLooks g first now ⊥
   pub told : IfSome first.bytes (λ image. length image ≡ block_place 2112 count)
   pub size : block_place 2112 count < 2 ^ 31
+  pub len : first.len ≡ block_place 2112 count
+  pub within : AreWithin first.len more
   pub rest : IfSome first.bytes (λ image. (l : PairList) → IsListed image entry block l → IsRest image entry l ids more left link)
 
 first_so : (bytes : Option (List ℕ)) (block : List ℕ) (entry : ℤ) (ids : List ℤ) (more : List ℕ) (first left link count : ℕ) → IfSome bytes (λ image. length image ≡ block_place 2112 count)
@@ -176,12 +183,14 @@ first_so (Some image) block entry ids more first left link count told short here
     λ l is. rest_first image block entry l ids more first left link count is told (omega (arith, told, short)) here ids_is none left_is link_is
 
 pub read_first : {I : Type 0} (g : Ghosts I) (d : Drafted I) (entry : ℤ) (block : List ℕ) (ids : List ℤ) (more : List ℕ) (first count left link : ℕ)
-    → IfSome d.bytes (λ image. length image ≡ block_place 2112 count) → block_place 2112 count < 2 ^ 31 → first ≡ min (word_at block 24) 19 → ids ≡ ids_in block 112 first → more ≡ []
-    → left ≡ word_at block 24 - first → link ≡ word_at block 28 → ReadSoFar g d d entry block ids more count left link
-read_first g d entry block ids more first count left link told short here ids_is none left_is link_is = record {
+    → IfSome d.bytes (λ image. length image ≡ block_place 2112 count) → block_place 2112 count < 2 ^ 31 → d.len ≡ block_place 2112 count → first ≡ min (word_at block 24) 19
+    → ids ≡ ids_in block 112 first → more ≡ [] → left ≡ word_at block 24 - first → link ≡ word_at block 28 → ReadSoFar g d d entry block ids more count left link
+read_first g d entry block ids more first count left link told short len here ids_is none left_is link_is = record {
   frame = looks_none g d ⊥ (λ h. h);
   told = told;
   size = short;
+  len = len;
+  within = subst (λ (l : List ℕ). AreWithin d.len l) (sym none) (λ i e below. absurd (omega arith));
   rest = first_so d.bytes block entry ids more first left link count told short here ids_is none left_is link_is;
 }
 
@@ -199,13 +208,15 @@ more_so (Some image) block read entry ids new_ids more new_more left link count 
 
 pub read_more : {I : Type 0} (g : Ghosts I) (first now next : Drafted I) (entry : ℤ) (block read : List ℕ) (ids new_ids : List ℤ) (more new_more : List ℕ)
     (count left link here new_left new_link : ℕ) (failed : Type 0) → ReadSoFar g first now entry block ids more count left link → OnlyLooks g now next failed
-    → IfSome now.bytes (λ image. read ≡ block_of 2112 image (link - 1)) → 0 < left → here ≡ min left 44
+    → IfSome now.bytes (λ image. read ≡ block_of 2112 image (link - 1)) → 0 < left → 0 < link → link ≤ count → here ≡ min left 44
     → new_ids ≡ ids ++ ids_in read 12 here → new_more ≡ more ++ (link - 1) ∷ [] → new_left ≡ left - here → new_link ≡ word_at read 8
     → ReadSoFar g first next entry block new_ids new_more count new_left new_link
-read_more g first now next entry block read ids new_ids more new_more count left link here new_left new_link failed s looks at some len i m n k = record {
+read_more g first now next entry block read ids new_ids more new_more count left link here new_left new_link failed s looks at some linked within len i m n k = record {
   frame = looks_then g first now next ⊥ ⊥ s.frame (looks_so g now next failed ⊥ looks (λ h. absurd h));
   told = s.told;
   size = s.size;
+  len = s.len;
+  within = subst (λ (l : List ℕ). AreWithin first.len l) (sym m) (within_more first.len more (link - 1) s.within (omega (arith, s.len)));
   rest = more_so first.bytes block read entry ids new_ids more new_more left link count here new_left new_link s.told s.size s.rest
       (subst (λ (b : Option (List ℕ)). IfSome b (λ image. read ≡ block_of 2112 image (link - 1))) s.frame.same.bytes at) some len i m n k;
 }

@@ -1,12 +1,12 @@
 -- The records of prdb_entries leave the pairs: over an image that holds pairs each change leaves one that holds them too.
-use Rattle.std.proofs.Common.{◌≡◌, ◌≢◌, ℕ, ℤ, zero, suc, ◌+◌, ◌-◌, ◌<◌, ◌≤◌, true, false, Bool, cond, ◌&&◌, List, [], ◌∷◌, ◌++◌, length, take, drop, Option, Some, None, IsSome, refl, sym, ap, subst, ◌∙◌, ⊎_elim, inl, inr, append_assoc, arith}
+use Rattle.std.proofs.Common.{◌≡◌, ◌≢◌, ℕ, ℤ, ◌+◌, ◌<◌, ◌≤◌, true, false, Bool, cond, ◌&&◌, List, [], ◌∷◌, ◌++◌, length, take, drop, Option, Some, None, IsSome, refl, sym, ap, subst, ◌∙◌, ⊎_elim, inl, inr, append_assoc, arith}
 use Rattle.std.specs.Prelude.{◌⊎◌, ◌||◌}
 use Rattle.std.specs.List.{Contains}
 use Rattle.std.specs.Ordering.{int_eq}
 use Rattle.std.specs.Str.{bytes_eq}
-use Rattle.std.proofs.lemmas.Bool.{cases_eq, cases_lt, cases_Bool, lt-ltb, le-ltb, eqb-true}
+use Rattle.std.proofs.lemmas.Bool.{cases_lt, cases_Bool, lt-ltb, le-ltb, eqb-true}
 use Rattle.std.proofs.lemmas.Bool.Decides.{Decides-int_eq}
-use Rattle.std.proofs.lemmas.List.{take_at, drop-drop, length-append, length-take-le, length-drop}
+use Rattle.std.proofs.lemmas.List.{take_at, drop-drop, length-take-le, length-drop}
 use Rattle.std.proofs.lemmas.Slice.Eq.{bytes_eq-Decides}
 use Rattle.ubik_types.specs.Image.{changed}
 use Rattle.ubik_types.specs.declared.images.Change.TheVariants.{Put}
@@ -15,7 +15,7 @@ use Rattle.prdb_entries.specs.Bytes.{bits, word, words, zeros, filled}
 use Rattle.prdb_entries.specs.Records.{Holds, IsLaidOut, after_insert, after_remove, after_replace, after_set_maxima, block_in, block_place, entry_in, field_numbers, first_block, has_id, is_free, kind_of, maxima_in, new_block, next_block, whole, with_block, with_count, with_fields}
 use Rattle.prdb_entries.specs.Registry.{Registry, AreMaxima, IsRecord, MayBeAdded, MayBeRemoved, MayReplace, with_entry, with_maxima, without_entry}
 use Rattle.prdb_entries.specs.State.{PrEntry}
-use Rattle.prdb_entries.proofs.BlockPlaces.{IsPut, IsHeadPut, put_block, add_block, put_count, put_maxima, block_len}
+use Rattle.prdb_entries.proofs.BlockPlaces.{IsPut, put_block, add_block, put_count, put_maxima, block_len}
 use Rattle.prdb_entries.proofs.Changed.{by_id}
 use Rattle.prdb_entries.proofs.EntryFields.{behind_name, entry_with, kind_with, length-with_fields}
 use Rattle.prdb_entries.proofs.FirstBlocks.{first_met, first_within}
@@ -34,14 +34,14 @@ is_there o x e = subst (λ (v : Option PrEntry). IsSome v) (sym e) refl
 is_not : (o : Option PrEntry) → o ≡ None → IsSome o → ⊥
 is_not o none there = let no : IsSome {T = PrEntry} None = subst (λ (v : Option PrEntry). IsSome v) none there in absurd cc
 
-true_false : (b : Bool) → b ≡ true → b ≡ false → ⊥
+pub true_false : (b : Bool) → b ≡ true → b ≡ false → ⊥
 true_false b t f = cc
 
-or_left : (a b : Bool) → a ≡ true → (a || b) ≡ true
+pub or_left : (a b : Bool) → a ≡ true → (a || b) ≡ true
 or_left true b e = refl
 or_left false b e = absurd cc
 
-or_right : (a b : Bool) → b ≡ true → (a || b) ≡ true
+pub or_right : (a b : Bool) → b ≡ true → (a || b) ≡ true
 or_right true b e = refl
 or_right false b e = e
 
@@ -49,10 +49,10 @@ by_bool : (b : Bool) (x o : Option PrEntry) → IsSome x → IsSome o → IsSome
 by_bool true x o p q = p
 by_bool false x o p q = q
 
-int_other : (a b : ℤ) → a ≢ b → int_eq a b ≡ false
+pub int_other : (a b : ℤ) → a ≢ b → int_eq a b ≡ false
 int_other a b other = ⊎_elim (λ (t : int_eq a b ≡ true). absurd (other ((Decides-int_eq a b).0 t))) (λ (f : int_eq a b ≡ false). f) (cases_Bool (int_eq a b))
 
-zeros_len : length (zeros 192) ≡ 192
+pub zeros_len : length (zeros 192) ≡ 192
 unfolding zeros
 zeros_len = refl
 

@@ -1,5 +1,5 @@
 -- The list of pairs that is found of an id.
-use Rattle.std.specs.Prelude.{ℕ, ℤ, ◌≡◌, true, false, List, Option, Some, None}
+use Rattle.std.specs.Prelude.{ℤ, ◌≡◌, true, false, Option, Some, None}
 use Rattle.prdb_members.specs.Lists.{IsListOf}
 use Rattle.prdb_members.specs.Members.{Members, are_paired}
 use Rattle.prdb_members.specs.declared.listed.Listed.{Listed}

@@ -1,14 +1,14 @@
 -- How an image holds the pairs of its entries (layout of format 1).
-use Rattle.std.specs.Prelude.{ℕ, ℤ, ◌≡◌, ◌≢◌, ◌+◌, ◌-◌, ◌*◌, ◌<◌, ◌^◌, true, List, [], ◌∷◌, length, take, drop, map, ◌++◌, IsSome, FitsSigned, slice_index_or}
+use Rattle.std.specs.Prelude.{ℕ, ℤ, ◌≡◌, ◌≢◌, ◌+◌, ◌-◌, ◌<◌, ◌^◌, true, List, [], ◌∷◌, length, take, drop, map, ◌++◌, IsSome, FitsSigned, slice_index_or}
 use Rattle.std.specs.Int.{w32}
 use Rattle.std.specs.List.{All, Contains}
 use Rattle.prdb_entries.specs.Blocks.{block_count}
 use Rattle.prdb_entries.specs.Bytes.{bits, words, filled}
-use Rattle.prdb_entries.specs.Records.{Holds, block_in, entry_in, kind_of, signed_at, whole}
+use Rattle.prdb_entries.specs.Records.{Holds, block_in, entry_in, kind_of, whole}
 use Rattle.prdb_entries.specs.Registry.{Registry}
 use Rattle.prdb_members.specs.Lists.{IsAscending}
 use Rattle.prdb_members.specs.Members.{Members, ArePairs, are_paired}
-use Rattle.prdb_members.specs.declared.layout.TheConstants.{BLOCK_LEN, PAIR_COUNT_AT, ID_AT, FIRST_IDS_AT, FIRST_IDS, MORE_IDS_AT, MORE_IDS}
+use Rattle.prdb_members.specs.declared.layout.TheConstants.{BLOCK_LEN, PAIR_COUNT_AT, FIRST_IDS_AT, FIRST_IDS, MORE_IDS_AT, MORE_IDS}
 
 -- the ids with which an entry is paired, and the numbers of the continuation blocks in which those behind the first ones lie
 pub record PairList : Type 0 where

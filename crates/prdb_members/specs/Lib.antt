@@ -5,3 +5,5 @@ pub mod Lists
 pub mod Layout
 pub mod Ends
 pub mod Sought
+pub mod Changes
+pub mod Sides

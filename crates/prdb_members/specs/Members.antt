@@ -1,8 +1,7 @@
 -- Who is in which group, apart from any layout (ptserver). Nothing is said of an order in which pairs lie.
-use Rattle.std.specs.Prelude.{ℤ, pos, negsuc, ◌≡◌, ◌<ℤ◌, ◌⊎◌, Bool, true, false, ◌&&◌, ◌||◌, IsTrue, Option, Some, None, IsSome, IsSomeAnd, int_lt, if◌then◌else◌}
+use Rattle.std.specs.Prelude.{ℤ, pos, negsuc, ◌≡◌, ◌<ℤ◌, ◌⊎◌, Bool, true, false, ◌&&◌, ◌||◌, IsSome, IsSomeAnd, if◌then◌else◌}
 use Rattle.std.specs.Ordering.{int_eq}
 use Rattle.prdb_entries.specs.Registry.{Registry}
-use Rattle.prdb_entries.specs.State.{PrEntry}
 
 -- a set of pairs of a member and a group
 pub record Members : Type 0 where

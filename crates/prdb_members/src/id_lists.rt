@@ -1,7 +1,7 @@
 //! Ascending lists of ids.
 ghost use Rattle.std.specs.Prelude.{◌≡◌, ◌≢◌, ◌↔◌, ◌<ℤ◌, ◌≤ℤ◌, ◌⊎◌, ◌++◌, ◌∷◌, [], ℤ, IsTrue, IfOk, OnOk, OnErr, length, take, drop};
 ghost use Rattle.std.specs.List.{All, Contains};
-ghost use Rattle.prdb_members.specs.Lists.{IsAscending, IsRank};
+ghost use Rattle.prdb_members.specs.Lists.{IsAscending, IsRank, ids_with, ids_without};
 
 use std::alloc::{AllocError, Global};
 use std::marker::Model;
@@ -92,6 +92,7 @@ impl IdList {
     pub(crate) fn with(&self, alloc: Global, id: i32) -> Result<IdList, AllocError>
         ensures members { IfOk result (λ after. (x : ℤ) → Contains after x ↔ ((x ≡ id) ⊎ Contains self.now x)) }
         ensures ascending { IfOk result (λ after. IsAscending after) }
+        ensures placed { IfOk result (λ after. ¬ Contains self.now id → after ≡ ids_with id self.now) }
     {
         let there = self.contains(id);
         let (below, behind) = self.ids.as_slice().split_at(self.rank(id));
@@ -103,4 +104,19 @@ impl IdList {
         ids.extend_from_slice(behind)?;
         Ok(IdList { ids })
     }
+    /// The same list without an id.
+    pub(crate) fn without(&self, alloc: Global, id: i32) -> Result<IdList, AllocError>
+        ensures { IfOk result (λ after. after ≡ ids_without id self.now) }
+    {
+        let ids = others(alloc, self.ids.as_slice(), id)?;
+        Ok(IdList { ids })
+    }
+}
+
+/// All of these ids but one.
+#[tactic(auto, unfolding(crate::specs::Lists::ids_without))]
+fn others(alloc: Global, ids: &[i32], id: i32) -> Result<Vec<i32>, AllocError>
+    ensures { IfOk result (λ others. others.items ≡ ids_without id ids.now) }
+{
+    ids.iter().copied().filter(|x| *x != id).collect(alloc)
 }

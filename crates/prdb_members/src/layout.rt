@@ -18,6 +18,9 @@ pub(crate) const PAIR_COUNT_AT: usize = 24;
 /// Where the first continuation block is named in an entry's block.
 pub(crate) const FIRST_MORE_AT: usize = 28;
 
+/// Where the name's field begins in an entry's block.
+pub(crate) const NAME_AT: usize = 32;
+
 /// Where the first ids stand in an entry's block.
 pub(crate) const FIRST_IDS_AT: usize = 112;
 
@@ -36,6 +39,9 @@ pub(crate) const MORE_IDS_AT: usize = 12;
 /// How many ids stand in a continuation block.
 pub(crate) const MORE_IDS: usize = 44;
 
+/// How many ids a word can count.
+pub(crate) const MAX_IDS: usize = 4_294_967_295;
+
 /// The first word of an entry's block.
 pub(crate) const ENTRY: u32 = 1;
 
@@ -44,3 +50,6 @@ pub(crate) const MORE: u32 = 2;
 
 /// The first word of a free block.
 pub(crate) const FREE: u32 = 0;
+
+/// The length of the first image, in bytes.
+pub(crate) const FIRST_LEN: usize = 3264;

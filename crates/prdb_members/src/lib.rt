@@ -2,18 +2,25 @@
 #![tactic(auto)]
 
 mod blocks;
+mod changes;
 mod finds;
 mod id_lists;
 mod laws;
 mod layout;
 mod listed;
+mod sides;
+mod writes;
 
+pub use changes::{add_pair, remove_pair};
 pub use finds::{cps, elements, has_pair, owned};
 pub use id_lists::IdList;
 pub use laws::{
-    law_empty_holds_no_pairs, law_insert_keeps_pairs, law_remove_keeps_pairs,
-    law_replace_keeps_pairs, law_set_maxima_keeps_pairs,
+    law_empty_holds_no_pairs, law_insert_keeps_pairs, law_join_adds_the_pair,
+    law_part_takes_the_pair, law_remove_keeps_pairs, law_replace_keeps_pairs,
+    law_set_maxima_keeps_pairs,
 };
 
+#[cfg(test)]
+mod change_tests;
 #[cfg(test)]
 mod tests;

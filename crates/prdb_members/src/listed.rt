@@ -3,7 +3,7 @@ ghost use Rattle.std.specs.Prelude.{◌≡◌, ◌+◌, ◌-◌, ◌<◌, ◌≤
 ghost use Rattle.db_blocks.specs.Blocks.{IsWhole, block_in, block_place};
 ghost use Rattle.db_blocks.specs.Ends.{HasCause, OnlyLooks};
 ghost use Rattle.prdb_entries.specs.Registry.{Registry};
-ghost use Rattle.prdb_members.specs.Blocks.{IsMore};
+ghost use Rattle.prdb_members.specs.Blocks.{AreWithin, IsMore};
 ghost use Rattle.prdb_members.specs.Ends.{HasItsCause};
 ghost use Rattle.prdb_members.specs.Found.{IsFound};
 ghost use Rattle.prdb_members.specs.Layout.{HoldsPairs, IsListed, PairList};
@@ -39,6 +39,7 @@ fn read_more<I: ImageRead>(
     requires len { d.old.len < 2 ^ 31 }
     requires count { d.old.len ≡ block_place HEAD_LEN count }
     ensures some { IfOk result (λ block. 0 < link) }
+    ensures within { IfOk result (λ block. link ≤ count) }
     ensures block { IfOk result (λ block. IfSome d.old.bytes (λ image. block ≡ block_in HEAD_LEN image (link - 1))) }
     ensures fault { IfErr result (HasCause d.old.bytes (λ image. IsMore image entry link count)) }
     ensures frame { OnlyLooks I.ImageRead d.old d.new (IsErrOf result RecordFault.DiskFault) }
@@ -64,6 +65,7 @@ pub(crate) fn read_list<I: ImageRead>(
     requires within { block_place HEAD_LEN found.now.number + BLOCK_LEN ≤ d.old.len }
     ensures found { IfOk result (λ read. IfSome d.old.bytes (λ image. (l : PairList) → IsListed image entry found.now.block l
         → (read.ids ≡ l.ids) × (read.more.items ≡ l.more))) }
+    ensures within { IfOk result (λ read. AreWithin d.old.len read.more.items) }
     ensures fault { IfErr result (HasCause d.old.bytes (λ image. IsWhole HEAD_LEN image × ((l : PairList) × IsListed image entry found.now.block l))) }
     ensures frame { OnlyLooks I.ImageRead d.old d.new (IsErrOf result RecordFault.DiskFault) }
 {

@@ -16,14 +16,19 @@ const HEAD: u32 = 2112;
 const BLOCK: u32 = 192;
 
 /// An image as a draft.
-fn draft_of(alloc: Global, bytes: &[u8]) -> Result<Draft<VecImage>, NoMemory>
+pub(crate) fn draft_of(alloc: Global, bytes: &[u8]) -> Result<Draft<VecImage>, NoMemory>
     requires { length bytes.now < 2 ^ 32 }
 {
     Ok(Draft::over(alloc, VecImage::new(alloc, bytes)?, HEAD, BLOCK))
 }
 
 /// A user of an id and a name.
-fn user(rt: &impl Abort, alloc: Global, id: i32, name: &[u8]) -> Result<PrEntry, NoMemory>
+pub(crate) fn user(
+    rt: &impl Abort,
+    alloc: Global,
+    id: i32,
+    name: &[u8],
+) -> Result<PrEntry, NoMemory>
     ensures { IfOk result (λ e. IsRecord (seen e)) }
 {
     let is_name = is_user_name(name);

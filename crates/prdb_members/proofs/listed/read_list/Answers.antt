@@ -1,9 +1,8 @@
-use Rattle.std.proofs.Common.{◌≡◌, ℕ, ℤ, ◌-◌, ◌<◌, ◌^◌, min, List, ◌++◌, refl, ap, subst, ◌∙◌, arith}
+use Rattle.std.proofs.Common.{ℕ, ℤ, ◌-◌, List, ◌++◌, refl, ap, subst, ◌∙◌, arith}
 use Rattle.std.proofs.lemmas.Int.{to_z-of_z}
 use Rattle.std.proofs.lemmas.Result.{err_from_is_err_and}
-use Rattle.db_blocks.specs.Blocks.{IsWhole, block_place}
+use Rattle.db_blocks.specs.Blocks.{IsWhole}
 use Rattle.db_blocks.proofs.Scanned.{bad_size, looks_then, looks_so}
-use Rattle.prdb_entries.specs.Bytes.{word_at}
 use Rattle.prdb_members.specs.Blocks.{ids_in}
 use Rattle.prdb_members.specs.Lists.{IsAscending}
 use Rattle.prdb_members.proofs.ListRead.{Lists, cause_so, first_falls, lists_whole, more_falls, no_more, read_first, read_more, read_whole}
@@ -28,6 +27,7 @@ loop-left-init g c =
     (c.word_at-left.result - c.min-first.result) c.word_at-link.result
     (rw (← c.in_ok-count.ensures.count, c.len.ensures.size) c.len.ensures.told)
     (omega (arith, c.in_ok-count.ensures.count, c.len.ensures.size, c.requires.len))
+    (omega (arith, c.in_ok-count.ensures.count, c.len.ensures.size))
     (omega (arith, c.min-first.ensures, c.word_at-left.ensures))
     (c.in_ok-read_ids.ensures.read c.if-not-branch.false ∙ ap (λ (l : List ℤ). l ++ ids_in c.args.found.now.block 112 c.min-first.result) c.new-ids.ensures)
     c.new-more.ensures.items
@@ -75,7 +75,7 @@ loop-left-preserved g c =
     simp to_z-of_z (read_more g.I.ImageRead c.args.d.now c.loop-left.d c.read_more.new.d c.args.entry c.args.found.now.block c.in_ok-block.block
     c.loop-left.ids c.read_ids-in-loop-left.new.ids c.loop-left.more.items c.push.new.self.items c.in_ok-count.count
     c.loop-left.left c.loop-left.link c.min-here.result (c.loop-left.left - c.min-here.result) c.word_at-next.result _
-    so_far c.read_more.ensures.frame c.in_ok-block.ensures.block c.loop-left-test.true c.min-here.ensures
+    so_far c.read_more.ensures.frame c.in_ok-block.ensures.block c.loop-left-test.true c.in_ok-block.ensures.some c.in_ok-block.ensures.within c.min-here.ensures
     (c.in_ok-read_ids-2.ensures.read c.if-not-branch-2.false) c.in_ok-push.ensures.items refl c.word_at-next.ensures)
 
 pub returns-clause-found : goal.returns-clause-found
@@ -85,3 +85,6 @@ returns-clause-found g c =
     let so_far = simp to_z-of_z at raw in
     read_whole g.I.ImageRead c.args.d.now c.loop-left.d c.args.entry c.args.found.now.block c.loop-left.ids c.loop-left.more.items c.in_ok-count.count
     c.loop-left.left c.loop-left.link so_far (omega arith)
+
+pub returns-clause-within : goal.returns-clause-within
+returns-clause-within g c = c.loop-left.invariant.within

@@ -1,4 +1,4 @@
-use Rattle.std.proofs.Common.{◌≡◌, sym, ◌∙◌}
+use Rattle.std.proofs.Common.{sym, ◌∙◌}
 use Rattle.std.proofs.lemmas.Int.{to_z-of_z}
 use Rattle.prdb_members.proofs.ListRead.{not_more}
 use Rattle.prdb_members.proofs.listed.read_more.Goals as goal

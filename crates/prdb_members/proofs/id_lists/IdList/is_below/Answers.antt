@@ -1,4 +1,4 @@
-use Rattle.std.proofs.Common.{ℤ, pos, ◌≡◌, ◌-◌, ◌∙◌, length, get_or, w32, SFits, refl, sym, subst, rules, arith}
+use Rattle.std.proofs.Common.{pos, ◌-◌, ◌∙◌, length, get_or, w32, SFits, refl, sym, subst, rules}
 use Rattle.std.proofs.lemmas.Int.{to_z-of_z}
 use Rattle.prdb_members.specs.Lists.{IsAscending}
 use Rattle.prdb_members.proofs.Ascending.{below_answer}
