@@ -1,13 +1,12 @@
 -- What a call did is what was decided of it.
-use Rattle.std.proofs.Common.{◌≡◌, ℕ, List, Option, Some, None, IfSome, refl, sym, ap, ◌∙◌}
+use Rattle.std.proofs.Common.{◌≡◌, ℕ, List, Option, Some, None, refl, sym, ap, ◌∙◌}
 use Rattle.std.specs.Prelude.{option_and_then}
 use Rattle.db_image.specs.Ends.{end_of}
 use Rattle.db_image.specs.declared.draft_services.CallEnd.{CallEnd}
-use Rattle.prdb_entries.specs.Records.{Holds}
 use Rattle.prdb_entries.specs.Registry.{Registry}
 use Rattle.pt_calls.specs.declared.answers.PtAnswer.{PtAnswer}
 use Rattle.pt_service.specs.Meaning.{Answers, Change, Makes, Refuses, Verdict, reply_by}
-use Rattle.pt_service.specs.Standing.{IsDone, image_after, image_by}
+use Rattle.pt_service.specs.Standing.{image_after, image_by}
 use Rattle.pt_service.specs.Told.{IsMeant, Told}
 
 left_by : (bytes after : Option (List ℕ)) (v : Registry → Verdict) (w : Verdict) (ended : CallEnd) → ((image : List ℕ) → image_by w image ≡ Some image)

@@ -1,5 +1,5 @@
 -- What passes the tests of an entry is one that the database may hold, and nothing else is.
-use Rattle.std.proofs.Common.{◌≡◌, ℕ, ℤ, pos, negsuc, ◌<◌, ◌≤◌, ◌^◌, Bool, true, false, ◌&&◌, cond, ltb, List, length, Option, Some, None, IfSome, refl, sym, ap, subst, ◌∙◌, arith}
+use Rattle.std.proofs.Common.{◌≡◌, ℕ, ℤ, pos, negsuc, ◌<◌, ◌≤◌, ◌^◌, Bool, true, false, ◌&&◌, ltb, List, length, Option, Some, None, IfSome, refl, sym, ap, subst, ◌∙◌, arith}
 use Rattle.std.specs.Prelude.{FitsSigned, IsSomeAnd}
 use Rattle.std.specs.Int.{w32}
 use Rattle.std.specs.Option.{option_map}
@@ -9,7 +9,7 @@ use Rattle.db_image.specs.declared.faults.RecordFault.{RecordFault}
 use Rattle.db_image.specs.declared.faults.RecordFault.TheVariants as fault
 use Rattle.prdb_entries.specs.RecordEnds.{HasCause, seen}
 use Rattle.prdb_entries.specs.Records.{Holds}
-use Rattle.prdb_entries.specs.Registry.{Registry, IsNamed, IsNext, IsRecord, IsRegistry, is_name_for}
+use Rattle.prdb_entries.specs.Registry.{Registry, IsNamed, IsNext, IsRecord, is_name_for}
 use Rattle.prdb_entries.specs.State.{PrEntry, IsId}
 use Rattle.prdb_entries.specs.declared.records.PrEntry.{PrEntry as CodeEntry}
 use Rattle.prdb_entries.proofs.UserNames.{HasForm, form}

@@ -1,9 +1,11 @@
 -- What a call leaves of a draft that it looks at before it changes it.
-use Rattle.std.proofs.Common.{◌≡◌}
+use Rattle.std.proofs.Common.{◌≡◌, Result, Err}
 use Rattle.db_image.specs.Draft.{Drafted}
+use Rattle.db_image.specs.declared.faults.RecordFault.{RecordFault}
+use Rattle.db_image.specs.declared.faults.RecordFault.TheVariants.{DiskFault, NoMemory}
 use Rattle.db_image.specs.declared.images.ImageRead.{Ghosts}
 use Rattle.prdb_entries.specs.RecordEnds.{OnlyDrafts, OnlyLooks}
-use Rattle.prdb_entries.proofs.Scanned.{drafts_after}
+use Rattle.prdb_entries.proofs.Scanned.{drafts_after, looks_then}
 
 pub looked : {I : Type 0} (g : Ghosts I) (a b : Drafted I) (first failed : Type 0) → OnlyLooks g a b first → (failed → first) → OnlyDrafts g a b failed
 looked g a b first failed r so = record {
@@ -20,3 +22,17 @@ drafts_so g a b first failed r so = record {
 pub drafted : {I : Type 0} (g : Ghosts I) (a b c : Drafted I) (first second failed : Type 0) → OnlyLooks g a b first → OnlyDrafts g b c second → (failed → second)
     → OnlyDrafts g a c failed
 drafted g a b c first second failed r s so = drafts_so g a c second failed (drafts_after g a b c first second r s) so
+
+pub looked_thrice : {I : Type 0} (g : Ghosts I) (a b c d : Drafted I) (first second third failed : Type 0) → OnlyLooks g a b first → OnlyLooks g b c second
+    → OnlyLooks g c d third → (failed → third) → OnlyDrafts g a d failed
+looked_thrice g a b c d first second third failed r s t so =
+    looked g a d third failed (looks_then g a b d first third r (looks_then g b c d second third s t)) so
+
+pub drafted_thrice : {I : Type 0} (g : Ghosts I) (a b c d e : Drafted I) (first second third fourth failed : Type 0) → OnlyLooks g a b first → OnlyLooks g b c second
+    → OnlyLooks g c d third → OnlyDrafts g d e fourth → (failed → fourth) → OnlyDrafts g a e failed
+drafted_thrice g a b c d e first second third fourth failed r s t u so =
+    drafted g a d e third fourth failed (looks_then g a b d first third r (looks_then g b c d second third s t)) u so
+
+-- want of memory is no fault of a disk
+pub no_disk : {T : Type 0} (r : Result T RecordFault) (y : RecordFault) → r ≡ Err y → y ≡ NoMemory → r ≡ Err DiskFault → ⊥
+no_disk r y made from disk = cc

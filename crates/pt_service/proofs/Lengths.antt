@@ -1,11 +1,10 @@
 -- How long answers are.
-use Rattle.std.proofs.Common.{◌≡◌, ℕ, ℤ, pos, negsuc, ◌+◌, ◌*◌, ◌<◌, ◌≤◌, ◌^◌, List, [], ◌∷◌, ◌++◌, length, replicate, arith}
+use Rattle.std.proofs.Common.{ℕ, ℤ, ◌+◌, ◌*◌, ◌≤◌, List, [], ◌∷◌, ◌++◌, length, replicate, arith}
 use Rattle.std.specs.Prelude.{FitsSigned}
 use Rattle.std.specs.Fmt.{signed_decimal}
 use Rattle.std.specs.Int.{w32}
 use Rattle.std.specs.List.{AllByRecursion, flat_map}
 use Rattle.std.proofs.lemmas.Fmt.{length_signed_le}
-use Rattle.std.proofs.lemmas.Int.{ints}
 use Rattle.std.proofs.lemmas.List.{length-append, length-replicate}
 use Rattle.xdr_base.specs.Spelling.{opaque, padding, word}
 use Rattle.pt_calls.specs.Shapes.{IsName, listed}

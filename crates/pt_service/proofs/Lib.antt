@@ -1,7 +1,11 @@
+pub mod Comes
 pub mod Done
+pub mod Entered
 pub mod Entries
 pub mod Frames
 pub mod GroupNames
 pub mod Lengths
 pub mod Named
+pub mod Ownership
 pub mod Refitted
+pub mod Unused

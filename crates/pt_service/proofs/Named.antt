@@ -1,5 +1,5 @@
 -- Names that ids are translated to, one after the other.
-use Rattle.std.proofs.Common.{◌≡◌, ℕ, ℤ, zero, suc, ◌+◌, ◌<◌, ◌≤◌, List, [], ◌∷◌, ◌++◌, length, map, take, get_or, add-one, Option, Some, None, refl, sym, ap, subst, ◌∙◌, arith}
+use Rattle.std.proofs.Common.{◌≡◌, ℕ, ℤ, zero, suc, ◌+◌, ◌<◌, ◌≤◌, List, [], ◌∷◌, ◌++◌, length, map, take, get_or, add-one, Option, refl, sym, ap, subst, ◌∙◌, arith}
 use mir.Syntax.{w32}
 use mir.Val.{of_z, to_z}
 use Rattle.std.specs.Prelude.{FitsSigned}
@@ -10,7 +10,6 @@ use Rattle.std.proofs.lemmas.List.{length-append, map_push, take_all}
 use Rattle.db_image.specs.Draft.{Drafted}
 use Rattle.db_image.specs.declared.images.ImageRead.{Ghosts}
 use Rattle.prdb_entries.specs.RecordEnds.{OnlyLooks}
-use Rattle.prdb_entries.specs.Records.{Holds}
 use Rattle.prdb_entries.specs.Registry.{Registry}
 use Rattle.prdb_entries.proofs.Scanned.{looks_none, looks_then, looks_so}
 use Rattle.pt_service.specs.Meaning.{name_of}

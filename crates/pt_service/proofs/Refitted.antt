@@ -1,14 +1,13 @@
 -- Maxima and fields that are set.
-use Rattle.std.proofs.Common.{◌≡◌, ◌≢◌, ℕ, ℤ, pos, negsuc, ◌<◌, ◌≤◌, Bool, true, false, not, cond, ltb, List, length, get_or, Option, Some, None, Result, Ok, Err, IsSome, IsSomeAnd, IfSome, IfErr, refl, sym, ap, subst, ◌∙◌, ⊎_elim, inl, inr, arith}
+use Rattle.std.proofs.Common.{◌≡◌, ℕ, ℤ, pos, negsuc, ◌≤◌, Bool, true, false, cond, List, get_or, Option, Some, None, Result, Ok, Err, IsSome, IsSomeAnd, IfSome, IfErr, refl, sym, ap, subst, ◌∙◌, ⊎_elim, inl, inr, arith}
 use Rattle.std.specs.Prelude.{◌≤ℤ◌, ◌⊎◌, FitsSigned, option_and_then}
 use Rattle.std.specs.Int.{w32}
-use Rattle.std.specs.List.{All}
 use Rattle.std.specs.Option.{option_map}
 use Rattle.std.proofs.lemmas.Bool.{ltb-true}
 use Rattle.std.proofs.lemmas.Int.{ints}
 use Rattle.db_image.specs.declared.faults.RecordFault.{RecordFault}
 use Rattle.db_image.specs.declared.faults.RecordFault.TheVariants.{DiskFault, BadRecord, NoMemory}
-use Rattle.prdb_entries.specs.RecordEnds.{HasCause, seen}
+use Rattle.prdb_entries.specs.RecordEnds.{HasCause}
 use Rattle.prdb_entries.specs.Records.{Holds, after_replace, after_set_maxima}
 use Rattle.prdb_entries.specs.Registry.{Registry, AreMaxima, IsAmong, IsFixedId, IsRegistry, MayReplace, with_entry}
 use Rattle.prdb_entries.specs.State.{PrEntry, fixed_entries}

@@ -1,15 +1,15 @@
 -- What the calls mean (ptserver): what is decided of a call in a state, and by it the reply and the state after.
-use Rattle.std.specs.Prelude.{ℕ, ℤ, pos, negsuc, ◌+◌, ◌-◌, ◌*◌, ◌/◌, ◌%◌, ◌==◌, ◌&&◌, ◌||◌, suc, Bool, true, false, not, is_some, is_none, unsigned_abs, List, length, take, map, filter, Option, Some, None, Result, Ok, Err, option_map, bit_and, nat_lt, nat_le, int_lt, if◌then◌else◌}
+use Rattle.std.specs.Prelude.{ℕ, ℤ, pos, negsuc, ◌+◌, ◌-◌, ◌/◌, ◌%◌, ◌==◌, ◌&&◌, ◌||◌, Bool, true, false, not, is_some, is_none, unsigned_abs, List, take, map, filter, Option, Some, None, Result, Ok, Err, option_map, bit_and, nat_lt, nat_le, int_lt, if◌then◌else◌}
 use Rattle.std.specs.Fmt.{signed_decimal}
-use Rattle.std.specs.List.{find, list_all, list_any, range_with_len}
+use Rattle.std.specs.List.{find, list_all, range_with_len}
 use Rattle.std.specs.Ordering.{int_eq}
 use Rattle.std.specs.Str.{bytes_eq}
 use Rattle.db_image.specs.declared.services.CallReply.{CallReply}
 use Rattle.db_image.specs.declared.services.CallReply.TheVariants as reply
 use Rattle.db_image.specs.Meaning.{Meaning}
 use Rattle.prdb_entries.specs.Names.{lowered}
-use Rattle.prdb_entries.specs.Registry.{Registry, is_name_for, with_entry, with_maxima}
-use Rattle.prdb_entries.specs.State.{PrEntry, administrators, anonymous, fixed_entries, front_of, group_flags, user_flags}
+use Rattle.prdb_entries.specs.Registry.{Registry, with_entry, with_maxima}
+use Rattle.prdb_entries.specs.State.{PrEntry, administrators, anonymous, front_of, group_flags, user_flags}
 use Rattle.pt_calls.specs.declared.answers.PtAnswer.{PtAnswer}
 use Rattle.pt_calls.specs.declared.answers.PtAnswer.TheVariants as answer
 use Rattle.pt_calls.specs.declared.answers.PtEntry.{PtEntry}
@@ -34,8 +34,8 @@ pub data Change : Type 0 where
   -- an entry has other fields, and keeps its id and its name
   Refit : PrEntry → Change
   Leave : (id : ℤ) → Change
-  -- an entry gets this name, this owner and this id; other names, owners and pairs follow it
-  Turn : PrEntry → (name : List ℕ) → (owner id : ℤ) → Change
+  -- an entry gets this name, this owner and this id; other names, owners and pairs follow it, and these are the maxima then
+  Turn : PrEntry → (name : List ℕ) → (owner id : ℤ) → (user group : ℤ) → Change
   -- a user comes into a group, or goes out of it
   Join : (user group : ℤ) → Change
   Part : (user group : ℤ) → Change
@@ -262,9 +262,14 @@ new_entry_of_id r name id owner =
 abbrev pub leaves : PrEntry → Verdict
 leaves e = if is_fixed e.id then Refuses rule.not_permitted else Makes answer.Done (Leave e.id)
 
+-- a new id that is given becomes the maximum that it is past; 0 is past none
+abbrev pub turn_by : Registry → (name : List ℕ) → (owner new_id : ℤ) → PrEntry → Change
+turn_by r name owner new_id e =
+    let maxima = raised r.max_user r.max_group new_id in
+    Turn e (new_name r e name owner) (given_or owner e.owner) (given_or new_id e.id) maxima.0 maxima.1
+
 abbrev pub turns : Registry → (name : List ℕ) → (owner new_id : ℤ) → PrEntry → Verdict
-turns r name owner new_id e = unless (turn_fault r e name owner new_id)
-    (Makes answer.Done (Turn e (new_name r e name owner) (given_or owner e.owner) (given_or new_id e.id)))
+turns r name owner new_id e = unless (turn_fault r e name owner new_id) (Makes answer.Done (turn_by r name owner new_id e))
 
 -- ---- pairs
 
@@ -300,10 +305,9 @@ state_after (Maxima user group) s = with_registry (with_maxima user group s.regi
 state_after (Enter e user group) s = with_registry (with_maxima user group (with_entry e s.registry)) s
 state_after (Refit e) s = with_registry (with_entry e s.registry) s
 state_after (Leave id) s = without id s
-state_after (Turn e name owner id) s =
+state_after (Turn e name owner id user group) s =
     let after = with_turned e name owner id s in
-    let maxima = raised s.registry.max_user s.registry.max_group id in
-    with_registry (with_maxima maxima.0 maxima.1 after.registry) after
+    with_registry (with_maxima user group after.registry) after
 state_after (Join user group) s = with_pair user group true s
 state_after (Part user group) s = with_pair user group false s
 

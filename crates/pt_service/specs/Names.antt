@@ -3,7 +3,6 @@ use Rattle.std.specs.Prelude.{ℕ, ◌==◌, Bool, List, ◌∷◌, ◌++◌, co
 use Rattle.std.specs.List.{list_any}
 use Rattle.prdb_entries.specs.Names.{is_user_name}
 use Rattle.prdb_entries.specs.Registry.{behind_colon, is_group_name}
-use Rattle.prdb_entries.specs.State.{front_of}
 
 -- a name has a `:`
 abbrev pub has_colon : List ℕ → Bool

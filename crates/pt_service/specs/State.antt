@@ -1,5 +1,5 @@
 -- The protection database apart from any image: its entries, the two maxima, and which user is in which group (ptserver).
-use Rattle.std.specs.Prelude.{ℕ, ℤ, pos, negsuc, ◌+ℤ◌, ◌≡◌, zero, suc, Bool, true, false, IsSome, List, [], ◌∷◌, filter, length, nat_lt, Option, Some, None, option_to_list}
+use Rattle.std.specs.Prelude.{ℕ, ℤ, pos, negsuc, ◌+ℤ◌, ◌≡◌, zero, suc, Bool, true, false, IsSome, List, [], ◌∷◌, filter, length, nat_lt, option_to_list}
 use Rattle.std.specs.List.{flat_map}
 use Rattle.prdb_entries.specs.Registry.{Registry, IsRegistry, first_registry}
 use Rattle.prdb_entries.specs.State.{PrEntry}
@@ -38,7 +38,7 @@ pub record IsState (s : State) : Type 0 where
 -- ---- in their order
 
 -- so many numbers from one on, ascending
-abbrev pub numbers_from : ℤ → (count : ℕ) → List ℤ
+unfoldable pub numbers_from : ℤ → (count : ℕ) → List ℤ
 numbers_from first zero = []
 numbers_from first (suc count) = first ∷ numbers_from (first +ℤ pos 1) count
 

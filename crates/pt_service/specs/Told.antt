@@ -1,5 +1,5 @@
 -- What is said of the registry that an image holds, where the image tells its bytes.
-use Rattle.std.specs.Prelude.{ℕ, ◌≡◌, ◌≤◌, Bool, true, List, length, Option, IfSome}
+use Rattle.std.specs.Prelude.{ℕ, ◌≡◌, true, List, Option, IfSome}
 use Rattle.db_image.specs.declared.draft_services.CallEnd.{CallEnd}
 use Rattle.prdb_entries.specs.RecordEnds.{seen}
 use Rattle.prdb_entries.specs.Records.{Holds}

@@ -1,5 +1,5 @@
 -- An entry that gets another name, owner or id, and what follows it (ptserver): names that begin with its name, owners, creators, pairs.
-use Rattle.std.specs.Prelude.{ℕ, ℤ, pos, negsuc, ◌==◌, ◌&&◌, Bool, false, not, is_none, is_some, List, length, map, Option, Some, None, option_map, option_and_then, int_lt, nat_lt, if◌then◌else◌}
+use Rattle.std.specs.Prelude.{ℕ, ℤ, pos, ◌==◌, ◌&&◌, Bool, false, not, is_none, is_some, List, length, Option, Some, None, option_map, option_and_then, nat_lt, if◌then◌else◌}
 use Rattle.std.specs.List.{list_any}
 use Rattle.std.specs.Ordering.{int_eq}
 use Rattle.std.specs.Str.{bytes_eq}

@@ -15,7 +15,7 @@ use prdb_entries::{PrEntry, find_id, find_name, next_id};
 use std::alloc::Global;
 
 /// Whether an id is a group's.
-pub(crate) fn is_group(id: i32) -> bool
+pub fn is_group(id: i32) -> bool
     ensures { result ≡ is_group id }
 {
     id < 0
@@ -60,7 +60,7 @@ fn fitting(found: Option<PrEntry>, at: u32) -> Result<Option<PrEntry>, RecordFau
 }
 
 /// The entry of an id.
-pub(crate) fn entry_of_id<I: ImageRead>(
+pub fn entry_of_id<I: ImageRead>(
     alloc: Global,
     d: &mut Draft<I>,
     id: i32,
@@ -113,7 +113,7 @@ fn above(found: Option<PrEntry>, after: i32, at: u32) -> Result<Option<PrEntry>,
 }
 
 /// The entry with the least id above one.
-pub(crate) fn entry_after<I: ImageRead>(
+pub fn entry_after<I: ImageRead>(
     alloc: Global,
     d: &mut Draft<I>,
     after: i32,

@@ -1,5 +1,5 @@
 //! The calls that look for entries one by one, and for the maxima, over a draft.
-ghost use Rattle.std.specs.Prelude.{◌≡◌, ◌<◌, ◌≤◌, ◌^◌, IfSome, IfOk, IfErr, IsErrOf, length, map};
+ghost use Rattle.std.specs.Prelude.{◌≡◌, ◌<◌, ◌≤◌, ◌^◌, IfOk, IfErr, IsErrOf, length, map};
 ghost use Rattle.std.specs.Fmt.{signed_decimal};
 ghost use Rattle.std.specs.List.{AllByRecursion};
 ghost use Rattle.db_image.specs.Ends.{end_of};
@@ -22,10 +22,10 @@ use std::alloc::Global;
 use ubik_types::{Bytes, NoMemory};
 
 /// The id of the entry `anonymous`, to which a name is translated that is no entry's.
-const ANONYMOUS: i32 = 32766;
+pub(crate) const ANONYMOUS: i32 = 32766;
 
 /// Tells an answer.
-pub(crate) fn tell(alloc: Global, answer: &PtAnswer) -> Result<CallEnd, NoMemory>
+pub fn tell(alloc: Global, answer: &PtAnswer) -> Result<CallEnd, NoMemory>
     requires spelled { AnswerHasSpelling answer.now }
     requires short { length (answer_spelling answer.now) ≤ 1048576 }
     ensures told { IfOk result (λ end. end ≡ end_of (reply_by (Answers answer.now))) }

@@ -1,17 +1,18 @@
 //! Names of users and groups.
 ghost use Rattle.std.specs.Prelude.{◌≡◌, ◌==◌, IfOk};
-ghost use Rattle.std.specs.List.{list_all, position};
+ghost use Rattle.std.specs.List.{list_all, position, position_or_len};
 ghost use Rattle.std.specs.Str.{bytes_eq};
 ghost use Rattle.prdb_entries.specs.Names.{is_name_byte, lowered};
 ghost use Rattle.prdb_entries.specs.Registry.{is_group_name, is_text};
-ghost use Rattle.pt_service.specs.Names.{is_name_of, system};
+ghost use Rattle.prdb_entries.specs.State.{front_of};
+ghost use Rattle.pt_service.specs.Names.{has_colon, is_name_of, system};
 
 use prdb_entries::is_user_name;
 use std::alloc::Global;
 use ubik_types::NoMemory;
 
 /// The most bytes of a name.
-const MAX_NAME: usize = 63;
+pub(crate) const MAX_NAME: usize = 63;
 
 /// What stands before the `:` in the names of the system's groups, and is no entry's name itself.
 const SYSTEM: &[u8] = b"system";
@@ -49,7 +50,27 @@ fn colon(name: &[u8]) -> Option<usize>
     name.iter().position(|b| *b == b':')
 }
 
-fn is_system(text: &[u8]) -> bool
+pub(crate) fn has_colon(name: &[u8]) -> bool
+    ensures { result ≡ has_colon name.now }
+{
+    name.iter().any(|b| *b == b':')
+}
+
+/// How many bytes stand before the first `:` of a name; all of them where it has none.
+fn front_len(name: &[u8]) -> usize
+    ensures { result ≡ position_or_len (λ b. b == 58) name.now }
+{
+    colon(name).unwrap_or(name.len())
+}
+
+/// What stands before the first `:` of a name; all of it where it has none.
+pub(crate) fn front_of(name: &[u8]) -> &[u8]
+    ensures { result.now ≡ front_of name.now }
+{
+    &name[..front_len(name)]
+}
+
+pub(crate) fn is_system(text: &[u8]) -> bool
     ensures { result ≡ bytes_eq text.now system }
 {
     text == SYSTEM

@@ -1,10 +1,5 @@
-use Rattle.std.proofs.Common.{arith, refl}
-use Rattle.pt_calls.specs.Meaning.{id_or_anonymous}
-use Rattle.std.specs.Prelude.{map}
-use Rattle.prdb_entries.specs.Registry.{Registry}
-use Rattle.pt_calls.specs.declared.answers.PtAnswer.TheVariants as answer
+use Rattle.std.proofs.Common.{arith}
 use Rattle.pt_calls.proofs.Steps.{ids_len}
-use Rattle.pt_service.specs.Meaning.{Answers}
 use Rattle.pt_service.proofs.looks.name_to_id.Goals as goal
 
 pub tell-requires : goal.tell-requires
