@@ -1,0 +1,184 @@
+//! The calls that look for an entry and its pairs, over a draft.
+ghost use Rattle.std.specs.Prelude.{◌≡◌, ◌&&◌, ◌≤◌, pos, filter, length, not, is_none, IfOk, IfErr, IsErrOf};
+ghost use Rattle.std.specs.Ordering.{int_eq};
+ghost use Rattle.db_image.specs.Ends.{end_of};
+ghost use Rattle.prdb_entries.specs.RecordEnds.{OnlyLooks};
+ghost use Rattle.prdb_members.specs.Ends.{HasItsCause};
+ghost use Rattle.pt_calls.specs.Standing.{IsDecided};
+ghost use Rattle.pt_calls.specs.declared.answers.PtAnswer.TheVariants as answer;
+ghost use Rattle.pt_service.specs.Meaning.{Answers, Verdict, counts_for, of_entry, of_pair, owned, reply_by, told_of, unless};
+ghost use Rattle.pt_service.specs.State.{elements, ids};
+ghost use Rattle.pt_database.specs.Ends.{IsTooMany};
+ghost use Rattle.pt_database.specs.States.{IsToldOf, OfStates};
+
+use crate::finds::{entry_of, is_in, told_of};
+use db_image::{CallEnd, Draft, ImageRead, RecordFault};
+use prdb_members::{IdList, cps, elements, owned};
+use pt_calls::{Items, MAX_ANSWER_IDS, PtAnswer};
+use pt_service::{NO_ENTRY, NOT_GROUP, NOT_USER, is_group, tell};
+use std::alloc::Global;
+
+/// Tells ids. No image holds more of them than an answer may have: a longer list is a bad record, at this position.
+fn tell_ids(alloc: Global, ids: IdList, at: u32) -> Result<CallEnd, RecordFault>
+    ensures told { IfOk result (λ end. end ≡ end_of (reply_by (Answers (answer.Ids ids)))) }
+    ensures short { IfOk result IsDecided }
+    ensures fault { IfErr result (IsTooMany (length ids)) }
+{
+    if ids.as_slice().len() > MAX_ANSWER_IDS as usize {
+        return Err(RecordFault::BadRecord { at });
+    }
+    let answer = PtAnswer::Ids(Items::new(ids.into_vec()));
+    let end = tell(alloc, &answer)?;
+    Ok(end)
+}
+
+/// Tells the entry of an id, with the number of its pairs.
+pub fn list_entry<I: ImageRead>(
+    alloc: Global,
+    d: &mut Draft<I>,
+    id: i32,
+) -> Result<CallEnd, RecordFault>
+    requires { d.old.len ≤ 16777216 }
+    ensures meant { IfOk result (IsToldOf d.old.bytes (λ s. of_entry (s.registry.entry id) (λ e. Answers (answer.Entry (told_of s e))))) }
+    ensures short { IfOk result IsDecided }
+    ensures fault { IfErr result (HasItsCause d.old.bytes) }
+    ensures frame { OnlyLooks I.ImageRead d.old d.new (IsErrOf result RecordFault.DiskFault) }
+{
+    let Some(e) = entry_of(alloc, d, id)? else {
+        return Ok(CallEnd::Rule(NO_ENTRY));
+    };
+    let entry = told_of(alloc, d, e)?;
+    let end = tell(alloc, &PtAnswer::Entry(entry))?;
+    Ok(end)
+}
+
+/// Whether no entry has an id.
+fn is_unknown<I: ImageRead>(alloc: Global, d: &mut Draft<I>, id: i32) -> Result<bool, RecordFault>
+    requires { d.old.len ≤ 16777216 }
+    ensures found { IfOk result (λ unknown. OfStates d.old.bytes (λ s. unknown ≡ is_none (s.registry.entry id))) }
+    ensures fault { IfErr result (HasItsCause d.old.bytes) }
+    ensures frame { OnlyLooks I.ImageRead d.old d.new (IsErrOf result RecordFault.DiskFault) }
+{
+    Ok(entry_of(alloc, d, id)?.is_none())
+}
+
+/// Tells the groups in which a user is, or the users in a group, ascending.
+pub fn list_elements<I: ImageRead>(
+    alloc: Global,
+    d: &mut Draft<I>,
+    id: i32,
+) -> Result<CallEnd, RecordFault>
+    requires { d.old.len ≤ 16777216 }
+    ensures meant { IfOk result (IsToldOf d.old.bytes (λ s. of_entry (s.registry.entry id) (λ e. Answers (answer.Ids (elements s id))))) }
+    ensures short { IfOk result IsDecided }
+    ensures fault { IfErr result (HasItsCause d.old.bytes) }
+    ensures frame { OnlyLooks I.ImageRead d.old d.new (IsErrOf result RecordFault.DiskFault) }
+{
+    if is_unknown(alloc, d, id)? {
+        return Ok(CallEnd::Rule(NO_ENTRY));
+    }
+    let ids = elements(alloc, d, id)?;
+    tell_ids(alloc, ids, d.len())
+}
+
+/// Tells the ids for which an entry counts, ascending: its own, and for a user its groups and those in which each user is.
+pub fn get_cps<I: ImageRead>(
+    alloc: Global,
+    d: &mut Draft<I>,
+    id: i32,
+) -> Result<CallEnd, RecordFault>
+    requires { d.old.len ≤ 16777216 }
+    ensures meant { IfOk result (IsToldOf d.old.bytes (λ s. of_entry (s.registry.entry id)
+        (λ e. Answers (answer.Ids (filter (counts_for s id) ids))))) }
+    ensures short { IfOk result IsDecided }
+    ensures fault { IfErr result (HasItsCause d.old.bytes) }
+    ensures frame { OnlyLooks I.ImageRead d.old d.new (IsErrOf result RecordFault.DiskFault) }
+{
+    if is_unknown(alloc, d, id)? {
+        return Ok(CallEnd::Rule(NO_ENTRY));
+    }
+    let ids = cps(alloc, d, id)?;
+    tell_ids(alloc, ids, d.len())
+}
+
+/// Whether an owner is neither 0 nor an entry.
+fn is_no_owner<I: ImageRead>(alloc: Global, d: &mut Draft<I>, id: i32) -> Result<bool, RecordFault>
+    requires { d.old.len ≤ 16777216 }
+    ensures found { IfOk result (λ none. OfStates d.old.bytes
+        (λ s. none ≡ (not (int_eq id (pos 0)) && is_none (s.registry.entry id)))) }
+    ensures fault { IfErr result (HasItsCause d.old.bytes) }
+    ensures frame { OnlyLooks I.ImageRead d.old d.new (IsErrOf result RecordFault.DiskFault) }
+{
+    if id == 0 {
+        return Ok(false);
+    }
+    is_unknown(alloc, d, id)
+}
+
+/// Tells the groups that an entry owns, ascending; for the id 0 those that have no owner.
+pub fn list_owned<I: ImageRead>(
+    alloc: Global,
+    d: &mut Draft<I>,
+    id: i32,
+) -> Result<CallEnd, RecordFault>
+    requires { d.old.len ≤ 16777216 }
+    ensures meant { IfOk result (IsToldOf d.old.bytes (λ s. owned s.registry id)) }
+    ensures short { IfOk result IsDecided }
+    ensures fault { IfErr result (HasItsCause d.old.bytes) }
+    ensures frame { OnlyLooks I.ImageRead d.old d.new (IsErrOf result RecordFault.DiskFault) }
+{
+    if is_no_owner(alloc, d, id)? {
+        return Ok(CallEnd::Rule(NO_ENTRY));
+    }
+    let ids = owned(alloc, d, id)?;
+    tell_ids(alloc, ids, d.len())
+}
+
+/// The rule by which a call on a pair is refused, whatever pairs are there: both are entries, the second a group and the first a user.
+pub(crate) fn pair_fault<I: ImageRead>(
+    alloc: Global,
+    d: &mut Draft<I>,
+    member: i32,
+    group: i32,
+) -> Result<Option<u32>, RecordFault>
+    requires { d.old.len ≤ 16777216 }
+    ensures found { IfOk result (λ fault. OfStates d.old.bytes
+        (λ s. (goes : Verdict) → of_pair s.registry member group goes ≡ unless fault goes)) }
+    ensures fault { IfErr result (HasItsCause d.old.bytes) }
+    ensures frame { OnlyLooks I.ImageRead d.old d.new (IsErrOf result RecordFault.DiskFault) }
+{
+    if is_unknown(alloc, d, member)? {
+        return Ok(Some(NO_ENTRY));
+    }
+    if is_unknown(alloc, d, group)? {
+        return Ok(Some(NO_ENTRY));
+    }
+    if !is_group(group) {
+        return Ok(Some(NOT_GROUP));
+    }
+    if is_group(member) {
+        return Ok(Some(NOT_USER));
+    }
+    Ok(None)
+}
+
+/// Tells whether a user is in a group.
+pub fn is_member_of<I: ImageRead>(
+    alloc: Global,
+    d: &mut Draft<I>,
+    member: i32,
+    group: i32,
+) -> Result<CallEnd, RecordFault>
+    requires { d.old.len ≤ 16777216 }
+    ensures meant { IfOk result (IsToldOf d.old.bytes (λ s. of_pair s.registry member group (Answers (answer.Truth (s.is_in member group))))) }
+    ensures short { IfOk result IsDecided }
+    ensures fault { IfErr result (HasItsCause d.old.bytes) }
+    ensures frame { OnlyLooks I.ImageRead d.old d.new (IsErrOf result RecordFault.DiskFault) }
+{
+    if let Some(rule) = pair_fault(alloc, d, member, group)? {
+        return Ok(CallEnd::Rule(rule));
+    }
+    let is = is_in(alloc, d, member, group)?;
+    let end = tell(alloc, &PtAnswer::Truth(is))?;
+    Ok(end)
+}
