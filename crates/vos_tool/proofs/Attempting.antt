@@ -4,7 +4,7 @@ use Rattle.std.specs.Prelude.{◌≢◌}
 use Rattle.io_base.specs.declared.links.Exchange.{Exchange}
 use Rattle.vl_calls.specs.declared.calls.GivenEntry.{GivenEntry}
 use Rattle.vl_calls.specs.declared.calls.VlCall.TheVariants as call
-use Rattle.tool_base.specs.Course.{◌>>=◌, Asker, Course, Walk, behind, asks_in, still, stops}
+use Rattle.tool_base.specs.Course.{◌>>=◌, Asker, Course, Walk, still, stops}
 use Rattle.tool_base.specs.Running.{Broke, Led, Ran}
 use Rattle.tool_base.specs.declared.stops.Stop.{Stop}
 use Rattle.tool_base.specs.declared.stops.Stop.TheVariants.{Refused, NoServer, OutcomeUnknown, WriteFault, NoMemory}

@@ -3,7 +3,7 @@ use Rattle.std.proofs.Common.{◌≡◌, ℕ, ◌+◌, ◌<◌, ◌≤◌, List,
 use Rattle.std.specs.Prelude.{IsErrAnd}
 use Rattle.std.proofs.lemmas.List.{at_drop_more, drop_all}
 use Rattle.io_base.specs.declared.links.Exchange.{Exchange}
-use Rattle.tool_base.specs.Course.{◌>>=◌, Asker, Course, gives}
+use Rattle.tool_base.specs.Course.{◌>>=◌, Asker, Course}
 use Rattle.tool_base.specs.Running.{Led, Ran}
 use Rattle.tool_base.specs.declared.stops.Stop.{Stop}
 use Rattle.vos_tool.specs.Each.{each}

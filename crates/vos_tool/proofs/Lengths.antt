@@ -1,8 +1,8 @@
 -- How long a call is.
 use Rattle.std.proofs.Common.{◌≡◌, ℕ, ◌+◌, ◌*◌, ◌≤◌, List, [], ◌∷◌, ◌++◌, length, replicate, arith}
-use Rattle.std.specs.List.{AllByRecursion, flat_map}
+use Rattle.std.specs.List.{flat_map}
 use Rattle.std.proofs.lemmas.List.{length-append, length-replicate}
-use Rattle.xdr_base.specs.Spelling.{opaque, padding, signed, truth, word}
+use Rattle.xdr_base.specs.Spelling.{opaque, padding, signed, word}
 use Rattle.call_grammar.specs.Items.{xdr_text}
 use Rattle.call_grammar.specs.Lists.{listed}
 use Rattle.vl_calls.specs.Calls.{HasSpelling, spelling}

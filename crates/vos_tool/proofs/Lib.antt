@@ -6,4 +6,5 @@ pub mod Items
 pub mod Lengths
 pub mod Paged
 pub mod Short
+pub mod Sorting
 pub mod Telling

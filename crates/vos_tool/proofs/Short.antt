@@ -1,7 +1,6 @@
 -- Names that are too long for a call, and names that are not.
 use Rattle.std.proofs.Common.{◌≡◌, ℕ, ◌<◌, ◌≤◌, true, false, leb, List, length, Result, Err, arith, refl}
 use Rattle.std.proofs.lemmas.Bool.Decides.{nat_tests}
-use Rattle.call_grammar.specs.declared.limits.TheConstants.{MAX_TEXT}
 use Rattle.io_base.specs.declared.links.Exchange.{Exchange}
 use Rattle.tool_base.specs.Course.{Asker, Course, stops}
 use Rattle.tool_base.specs.Running.{Ran}

@@ -1,9 +1,9 @@
 -- The text of a command, written once its calls were asked.
-use Rattle.std.proofs.Common.{◌≡◌, ℕ, ◌<◌, ◌≤◌, List, [], Option, Result, Ok, Err, arith, refl, subst, sym, ap, ◌∙◌}
+use Rattle.std.proofs.Common.{◌≡◌, ℕ, ◌<◌, ◌≤◌, List, Option, Result, Ok, Err, arith, subst, sym, ◌∙◌}
 use Rattle.std.specs.Prelude.{IsErrAnd}
 use Rattle.disk_base.specs.Count.{HasCause}
 use Rattle.io_base.specs.declared.links.Exchange.{Exchange}
-use Rattle.tool_base.specs.Course.{◌>>=◌, Asker, Course, gives, says}
+use Rattle.tool_base.specs.Course.{◌>>=◌, Asker, Course, gives}
 use Rattle.tool_base.specs.Running.{IsNoFault, Ran, ToldSome, Under}
 use Rattle.tool_base.specs.Writing.{Says}
 use Rattle.tool_base.specs.declared.stops.Stop.{Stop}

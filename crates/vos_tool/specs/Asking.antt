@@ -2,7 +2,6 @@
 use Rattle.std.specs.Prelude.{ℕ, Bool, true, false, List, Option}
 use Rattle.vl_calls.specs.Calls.{call_kind, spelling}
 use Rattle.vl_calls.specs.declared.calls.VlCall.{VlCall}
-use Rattle.vl_calls.specs.declared.calls.VlCall.TheVariants as call
 use Rattle.vl_calls.specs.declared.kinds.CallKind.{CallKind}
 use Rattle.vl_calls.specs.declared.kinds.CallKind.TheVariants as kinds
 use Rattle.vldb_records.specs.declared.entries.VlEntry.{VlEntry}

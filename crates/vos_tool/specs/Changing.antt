@@ -4,7 +4,7 @@ use Rattle.vl_calls.specs.declared.calls.GivenEntry.{GivenEntry}
 use Rattle.vl_calls.specs.declared.calls.VlCall.TheVariants as call
 use Rattle.vldb_records.specs.declared.entries.VlEntry.{VlEntry}
 use Rattle.vldb_records.specs.declared.entries.VlSite.{VlSite}
-use Rattle.tool_base.specs.Course.{◌>>=◌, Course, Walk, gives, stops}
+use Rattle.tool_base.specs.Course.{◌>>=◌, Course, gives, stops}
 use Rattle.tool_base.specs.Texts.{joined}
 use Rattle.tool_base.specs.declared.stops.Refusal.{Refusal}
 use Rattle.tool_base.specs.declared.stops.Refusal.TheVariants.{Rule}

@@ -61,7 +61,7 @@ fn entries_text(alloc: Global, style: Style, entries: Entries) -> Result<Bytes, 
     ensures { IfOk result (λ text. text ≡ entries_text style entries) }
 {
     let total = total_text(alloc, style, entries.as_slice().len())?;
-    let entries = in_order(alloc, style, entries.into_vec())?;
+    let entries = in_order(style, entries.into_vec())?;
     let mut text = entry_texts(alloc, entries.as_slice())?.into_vec();
     text.extend_from_slice(total.as_slice())?;
     Ok(Bytes::new(text))
@@ -77,13 +77,13 @@ fn entry_texts(alloc: Global, entries: &[VlEntry]) -> Result<Bytes, NoMemory>
     Ok(Bytes::new(text))
 }
 
-fn in_order(alloc: Global, style: Style, entries: Vec<VlEntry>) -> Result<Vec<VlEntry>, NoMemory>
+fn in_order(style: Style, entries: Vec<VlEntry>) -> Result<Vec<VlEntry>, NoMemory>
     ensures { IfOk result (λ ordered. ordered.items ≡ in_order style entries.items) }
 {
     if style.unsorted {
         Ok(entries)
     } else {
-        by_name(alloc, entries)
+        by_name(entries)
     }
 }
 

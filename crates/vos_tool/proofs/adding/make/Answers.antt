@@ -1,4 +1,4 @@
-use Rattle.std.proofs.Common.{ℕ, List, Ok, refl, ap, subst, sym}
+use Rattle.std.proofs.Common.{Ok, refl, ap, subst, sym}
 use Rattle.tool_base.specs.Course.{gives}
 use Rattle.tool_base.proofs.Walking.{ran_broken, ran_is, ran_lacks, ran_then}
 use Rattle.vl_calls.specs.Entries.{IsGiven}

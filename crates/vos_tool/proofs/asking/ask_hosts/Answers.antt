@@ -1,4 +1,4 @@
-use Rattle.std.proofs.Common.{refl, arith, rules}
+use Rattle.std.proofs.Common.{arith, rules}
 use Rattle.tool_base.proofs.Walking.{led_start}
 use Rattle.vos_tool.proofs.Asked.{ended_at, gave_at, next_at, none_left, stopped_at}
 use Rattle.vos_tool.proofs.asking.ask_hosts.Goals as goal

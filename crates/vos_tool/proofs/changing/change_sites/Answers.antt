@@ -1,6 +1,6 @@
-use Rattle.std.proofs.Common.{ℕ, List, Ok, length, codes, refl, ap}
-use Rattle.tool_base.specs.Course.{◌>>=◌, gives}
-use Rattle.tool_base.proofs.Walking.{ran_broken, ran_is, ran_lacks, ran_then}
+use Rattle.std.proofs.Common.{refl}
+use Rattle.tool_base.specs.Course.{◌>>=◌}
+use Rattle.tool_base.proofs.Walking.{ran_broken, ran_then}
 use Rattle.vl_calls.specs.declared.calls.VlCall.TheVariants as call
 use Rattle.vldb_records.specs.declared.entries.VlEntry.{VlEntry}
 use Rattle.vos_tool.specs.Asking.{asks_entry}

@@ -1,4 +1,4 @@
-use Rattle.std.proofs.Common.{◌≡◌, ℕ, Bool, List, Option, Some, None}
+use Rattle.std.proofs.Common.{◌≡◌, ℕ, List, Option}
 use Rattle.vos_tool.specs.Adding.{addentry_text}
 use Rattle.vos_tool.specs.Command.{new_id_at, place_at}
 use Rattle.vos_tool.specs.declared.places.Place.{Place}

@@ -1,6 +1,6 @@
-use Rattle.std.proofs.Common.{◌≡◌, ℕ, Bool, List, Option, Some, None}
+use Rattle.std.proofs.Common.{◌≡◌, ℕ, List}
 use Rattle.vos_tool.specs.Changing.{change_text}
-use Rattle.vos_tool.specs.Command.{place_at, word_at}
+use Rattle.vos_tool.specs.Command.{word_at}
 use Rattle.vos_tool.specs.declared.places.Place.{Place}
 use Rattle.vos_tool.proofs.Args.{ran_arg}
 use Rattle.vos_tool.proofs.commands.change_by.Goals as goal

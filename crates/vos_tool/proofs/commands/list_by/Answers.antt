@@ -1,4 +1,4 @@
-use Rattle.std.proofs.Common.{◌≡◌, ℕ, Bool, List, Option, Some, None}
+use Rattle.std.proofs.Common.{◌≡◌, ℕ, Bool, List, Option}
 use Rattle.vos_tool.specs.Command.{filter_at, flag_at, style_at}
 use Rattle.vos_tool.specs.Listing.{listing_text, listvldb_text}
 use Rattle.vos_tool.specs.declared.listing.Filter.{Filter}

@@ -1,4 +1,4 @@
-use Rattle.std.proofs.Common.{◌≡◌, ℕ, Bool, List, Option, Some, None}
+use Rattle.std.proofs.Common.{◌≡◌, ℕ, Option}
 use Rattle.vos_tool.specs.Addresses.{changeaddr_text}
 use Rattle.vos_tool.specs.Command.{address_at}
 use Rattle.vos_tool.proofs.Args.{ran_arg}

@@ -1,4 +1,4 @@
-use Rattle.std.proofs.Common.{◌≡◌, ℕ, Bool, List, Option, Some, None}
+use Rattle.std.proofs.Common.{◌≡◌}
 use Rattle.vos_tool.specs.Listing.{unlockvldb_text}
 use Rattle.vos_tool.specs.declared.listing.Filter.{Filter}
 use Rattle.vos_tool.proofs.Args.{ran_arg}

@@ -1,4 +1,4 @@
-use Rattle.std.proofs.Common.{ℕ, List, Ok, length, codes, refl, ap}
+use Rattle.std.proofs.Common.{Ok, length, refl, ap}
 use Rattle.tool_base.specs.Course.{◌>>=◌, gives}
 use Rattle.tool_base.proofs.Walking.{ran_broken, ran_is, ran_lacks, ran_then}
 use Rattle.vos_tool.specs.Deleting.{deleted_text, delentry_text}

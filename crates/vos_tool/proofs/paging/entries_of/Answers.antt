@@ -1,6 +1,6 @@
-use Rattle.std.proofs.Common.{◌++◌, List, arith, ◌∙◌, ap}
+use Rattle.std.proofs.Common.{◌++◌, List, arith, ◌∙◌}
 use Rattle.vldb_records.specs.declared.entries.VlEntry.{VlEntry}
-use Rattle.vos_tool.specs.Listing.{last_id, pages}
+use Rattle.vos_tool.specs.Listing.{pages}
 use Rattle.vos_tool.specs.declared.paging.TheConstants.{MOST_PAGES}
 use Rattle.vos_tool.proofs.Args.{ran_arg}
 use Rattle.vos_tool.proofs.Paged.{page_lacks, page_last, page_next, page_stops, pages_all}

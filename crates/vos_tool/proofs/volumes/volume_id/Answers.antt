@@ -1,8 +1,8 @@
-use Rattle.std.proofs.Common.{◌≡◌, ℕ, Ok, Some, None, Option, refl, ap, sym}
-use Rattle.tool_base.specs.Course.{◌>>=◌, Course, gives}
+use Rattle.std.proofs.Common.{◌≡◌, ℕ, Ok, Some, None, Option, refl, ap}
+use Rattle.tool_base.specs.Course.{◌>>=◌, gives}
 use Rattle.tool_base.proofs.Walking.{ran_as, ran_broken, ran_still, ran_then}
 use Rattle.vldb_records.specs.declared.entries.VlEntry.{VlEntry}
-use Rattle.vos_tool.specs.Volumes.{entry_named, id_of, id_or_named, volume_id}
+use Rattle.vos_tool.specs.Volumes.{id_of, id_or_named, volume_id}
 use Rattle.vos_tool.proofs.volumes.volume_id.Goals as goal
 
 pub returns-in-Some : goal.returns-in-Some
