@@ -1,0 +1,200 @@
+//! What stands behind a call: the answer, in words. `ok` comes with the fields of the answer, `rule`, `noquorum`, `notsync`,
+//! `linefull`, `toolarge` and `badrecord` with the numbers of the reply. `othernumber` stands before a reply that has the number of
+//! another call, `garbage` for bytes that are no frame, `debug` for a frame of another kind. `notsent`, `noanswer` and `lacks` are
+//! the ends of an ask without a frame; at the last, memory ran out before anything was sent.
+use crate::faults::Fault;
+use crate::frames::{DEBUG, REPLY, frame_of};
+use io_base::Answer;
+use script_words::{number, number_within, signed_number};
+use std::alloc::Global;
+use ubik_types::{Bytes, bytes_of};
+use xdr_base::XdrWriter;
+
+/// The longest name of a session, in bytes.
+const MAX_NAME: usize = 255;
+
+/// What comes back to the call of this number: how the ask ends, and the frame.
+pub fn answer_to(
+    alloc: Global,
+    number: u32,
+    call: &str,
+    answer: &str,
+) -> Result<(Answer, Bytes), Fault> {
+    let (call, _) = call.split_once(' ').unwrap_or((call, ""));
+    let (word, rest) = answer.split_once(' ').unwrap_or((answer, ""));
+    match word {
+        "notsent" => Ok((Answer::NotSent, Bytes::new(Vec::new(alloc)))),
+        "noanswer" => Ok((Answer::NoAnswer, Bytes::new(Vec::new(alloc)))),
+        "lacks" => Ok((Answer::NoMemory, Bytes::new(Vec::new(alloc)))),
+        "garbage" => Ok((Answer::Got, bytes_of(alloc, b"garbage")?)),
+        "debug" => Ok((Answer::Got, frame_of(alloc, DEBUG, number, &[])?)),
+        "othernumber" => {
+            let fields = reply_fields(alloc, call, rest)?;
+            Ok((
+                Answer::Got,
+                frame_of(alloc, REPLY, number.wrapping_add(1), fields.as_slice())?,
+            ))
+        }
+        _ => {
+            let fields = reply_fields(alloc, call, answer)?;
+            Ok((
+                Answer::Got,
+                frame_of(alloc, REPLY, number, fields.as_slice())?,
+            ))
+        }
+    }
+}
+
+/// The tag of a reply and what stands behind it.
+fn reply_fields(alloc: Global, call: &str, answer: &str) -> Result<Bytes, Fault> {
+    let mut fields = Fields {
+        rest: answer,
+        out: XdrWriter::new(alloc),
+    };
+    match fields.word()? {
+        "ok" => fields.put_answer(call)?,
+        "rule" => fields.put_tagged(1, 1)?,
+        "noquorum" => fields.put_tagged(2, 4)?,
+        "notsync" => fields.put_tagged(3, 2)?,
+        "linefull" => fields.put_tagged(4, 1)?,
+        "toolarge" => fields.put_too_large()?,
+        "malformed" => fields.out.put_u32(6)?,
+        "diskfault" => fields.out.put_u32(7)?,
+        "nomemory" => fields.out.put_u32(8)?,
+        "badrecord" => fields.put_tagged(9, 1)?,
+        _ => return Err(Fault::NoLine),
+    }
+    let Fields { rest, out } = fields;
+    if !rest.is_empty() {
+        return Err(Fault::NoLine);
+    }
+    Ok(out.finish())
+}
+
+/// Words that are left, and the fields that those before them spell.
+#[derive(Drop)]
+struct Fields<'a> {
+    rest: &'a str,
+    out: XdrWriter,
+}
+
+impl<'a> Fields<'a> {
+    fn word(&mut self) -> Result<&'a str, Fault> {
+        if self.rest.is_empty() {
+            return Err(Fault::NoLine);
+        }
+        let (word, rest) = self.rest.split_once(' ').unwrap_or((self.rest, ""));
+        self.rest = rest;
+        Ok(word)
+    }
+
+    /// Spells a number of 32 bits, which may have a sign.
+    fn put_number(&mut self) -> Result<u32, Fault> {
+        let word = self.word()?.as_bytes();
+        let number = match signed_number(word) {
+            Some(number) => number.cast_unsigned(),
+            None => number_within(word, 0, u32::MAX).ok_or(Fault::NoLine)?,
+        };
+        self.out.put_u32(number)?;
+        Ok(number)
+    }
+
+    fn put_numbers(&mut self, count: u32) -> Result<(), Fault> {
+        for _ in 0..count {
+            self.put_number()?;
+        }
+        Ok(())
+    }
+
+    fn put_name(&mut self) -> Result<(), Fault> {
+        let name = self.word()?.as_bytes();
+        if name.len() > MAX_NAME {
+            return Err(Fault::NoLine);
+        }
+        self.out.put_bytes(name)?;
+        Ok(())
+    }
+
+    /// Spells a tag and so many numbers.
+    fn put_tagged(&mut self, tag: u32, count: u32) -> Result<(), Fault> {
+        self.out.put_u32(tag)?;
+        self.put_numbers(count)
+    }
+
+    /// Spells that an image would have so many bytes, a number of 64 bits.
+    fn put_too_large(&mut self) -> Result<(), Fault> {
+        let bytes = number(self.word()?.as_bytes()).ok_or(Fault::NoLine)?;
+        self.out.put_u32(5)?;
+        self.out.put_u32((bytes >> 32) as u32)?;
+        self.out.put_u32((bytes & 0xffff_ffff) as u32)?;
+        Ok(())
+    }
+
+    /// Spells the answer to a call that was done. `outside` is one that is no answer to it.
+    fn put_answer(&mut self, call: &str) -> Result<(), Fault> {
+        self.out.put_u32(0)?;
+        if self.rest == "outside" {
+            self.word()?;
+            self.out.put_u32(u32::MAX)?;
+            return Ok(());
+        }
+        match call {
+            "getentrybyname" | "getentrybyid" => self.put_volume(),
+            "listentry" => self.put_user(),
+            "listattributes" => self.put_volumes(),
+            "listentries" => self.put_users(),
+            "idtoname" => self.put_names(),
+            "nametoid" | "listelements" | "listowned" | "getaddrs" => self.put_list(),
+            "newentry" | "getnewvolumeid" => self.put_numbers(1),
+            "listmax" => self.put_numbers(2),
+            _ => Ok(()),
+        }
+    }
+
+    /// Spells numbers, and how many there are.
+    fn put_list(&mut self) -> Result<(), Fault> {
+        let count = self.put_number()?;
+        self.put_numbers(count)
+    }
+
+    /// Spells an entry of the location database: its name, five numbers, its sites, and its lock.
+    fn put_volume(&mut self) -> Result<(), Fault> {
+        self.put_name()?;
+        self.put_numbers(5)?;
+        let sites = self.put_number()?;
+        for _ in 0..sites {
+            self.put_numbers(3)?;
+        }
+        self.put_numbers(2)
+    }
+
+    /// Spells an entry of the protection database: six numbers, and its name.
+    fn put_user(&mut self) -> Result<(), Fault> {
+        self.put_numbers(6)?;
+        self.put_name()
+    }
+
+    fn put_volumes(&mut self) -> Result<(), Fault> {
+        let count = self.put_number()?;
+        for _ in 0..count {
+            self.put_volume()?;
+        }
+        Ok(())
+    }
+
+    fn put_users(&mut self) -> Result<(), Fault> {
+        let count = self.put_number()?;
+        for _ in 0..count {
+            self.put_user()?;
+        }
+        Ok(())
+    }
+
+    fn put_names(&mut self) -> Result<(), Fault> {
+        let count = self.put_number()?;
+        for _ in 0..count {
+            self.put_name()?;
+        }
+        Ok(())
+    }
+}
