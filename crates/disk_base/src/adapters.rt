@@ -5,8 +5,8 @@ ghost use Rattle.disk_base.specs.Count.{HasCause};
 ghost use Rattle.disk_base.specs.Sink.{Appends};
 ghost use Rattle.disk_base.specs.Source.{Reads};
 
-use crate::tallies::Tally;
 use crate::{Got, Sink, Source, Wrote};
+use ghost_values::Tally;
 use std::io::{Read, Write};
 
 /// A source over a reader. Each error of the reader is a failed read.

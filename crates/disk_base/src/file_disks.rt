@@ -2,8 +2,8 @@
 ghost use Rattle.std.specs.Prelude.{◌≡◌, ◌+◌, ◌^◌, false, None, IfOk, OnOk, OnErr};
 ghost use Rattle.disk_base.specs.Count.{HasCause};
 
-use crate::tallies::Tally;
 use crate::{Disk, DiskEnd, FileNo, LenEnd, RoomEnd};
+use ghost_values::Tally;
 use std::alloc::Global;
 use std::fs::{File, OpenOptions};
 use std::io;

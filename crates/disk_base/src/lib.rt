@@ -5,7 +5,6 @@
 mod adapters;
 mod disks;
 mod file_disks;
-mod ghosts;
 mod memory_calls;
 mod memory_disks;
 mod memory_files;
@@ -14,7 +13,6 @@ mod moments;
 mod plans;
 mod sinks;
 mod sources;
-mod tallies;
 mod touches;
 mod undos;
 

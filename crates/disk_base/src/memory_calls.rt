@@ -8,7 +8,7 @@ ghost use Rattle.disk_base.specs.MemCalls.{stop_of, fails_now, passage_of, unles
 
 use crate::Fill;
 use crate::plans::Plan;
-use crate::tallies::Tally;
+use ghost_values::Tally;
 use std::alloc::Global;
 use ubik_types::NoMemory;
 

@@ -5,8 +5,8 @@ ghost use Rattle.disk_base.specs.Sink.{Appends, IsWhole};
 ghost use Rattle.disk_base.specs.Count.{HasCause};
 
 use crate::plans::Plan;
-use crate::tallies::Tally;
 use crate::{Got, Sink, Source, Wrote};
+use ghost_values::Tally;
 use std::alloc::Global;
 use ubik_types::NoMemory;
 

@@ -2,8 +2,8 @@
 ghost use Rattle.std.specs.Prelude.{List, ◌≡◌, [], ◌∷◌};
 ghost use Rattle.disk_base.specs.Pending.{Pending};
 
-use crate::ghosts::{Ghost, Says};
 use crate::memory_disks::MemFiles;
+use ghost_values::{Ghost, Says};
 use std::marker::Model;
 
 /// What contracts see: what was pending, the newest first.

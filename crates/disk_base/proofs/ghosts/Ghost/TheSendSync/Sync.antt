@@ -1,8 +1,0 @@
--- A ghost cell owns nothing, so threads may share it.
-use denote.RattleType.{RattleType}
-use denote.Param.Send.{IsSync, part_keyless}
-use Rattle.disk_base.specs.contracts.ghosts.Ghost.{the_row}
-use Rattle.disk_base.proofs.ghosts.Ghost.TheSendSync.Send.{send}
-
-pub sync : (T : RattleType) → IsSync (the_row T)
-sync T = record { shared = λ d b o κ q. part_keyless (the_row T) (send T) q d b o }
