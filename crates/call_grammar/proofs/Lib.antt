@@ -1,4 +1,5 @@
 pub mod Again
+pub mod Fitting
 pub mod ItemsTaken
 pub mod Loop
 pub mod Skipped
