@@ -1,0 +1,20 @@
+use Rattle.std.proofs.Common.{arith}
+use Rattle.entry_scans.proofs.FirstDraft.{err_empty, first_some, ok_empty, told_some}
+use Rattle.entry_scans.proofs.scans.has_entry.Goals as goal
+
+pub scan-requires-clause-some : goal.scan-requires-clause-some
+scan-requires-clause-some g c = told_some c.args.d.now.bytes c.len.result (rw c.len.ensures.size c.len.ensures.told) (omega arith)
+
+pub scan-requires-2-clause-some : goal.scan-requires-2-clause-some
+scan-requires-2-clause-some g c = first_some _ c.in_ok-first_draft.ensures.entries
+
+pub returns-clause-found : goal.returns-clause-found
+returns-clause-found g c =
+    ok_empty c.scan-2.result c.args.d.now.bytes _ c.len.result _ (λ f r user group h. h) (rw c.len.ensures.size c.len.ensures.told)
+    (omega arith)
+    c.in_ok-first_draft.ensures.entries c.scan-2.ensures.found
+
+pub returns-clause-fault : goal.returns-clause-fault
+returns-clause-fault g c =
+    err_empty c.scan-2.result c.args.d.now.bytes _ c.len.result (rw c.len.ensures.size c.len.ensures.told) (omega arith)
+    c.in_ok-first_draft.ensures.entries c.scan-2.ensures.fault

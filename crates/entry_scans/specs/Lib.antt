@@ -1,0 +1,5 @@
+pub mod First
+pub mod Found
+pub mod Lists
+pub mod Sought
+pub mod Views

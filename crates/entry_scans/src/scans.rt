@@ -1,0 +1,164 @@
+//! One pass over the blocks of a draft.
+ghost use Rattle.std.specs.Prelude.{◌≡◌, ◌+◌, ◌<◌, ◌≤◌, ◌^◌, ◌↔◌, ℤ, Bool, IfSome, IfOk, IfErr, IsErrOf, IsSomeAnd, length};
+ghost use Rattle.std.specs.List.{Contains};
+ghost use Rattle.prdb_entries.specs.RecordEnds.{HasCause, OnlyLooks};
+ghost use Rattle.prdb_entries.specs.Records.{Holds, block_in, block_place, kind_of};
+ghost use Rattle.prdb_entries.specs.Registry.{Registry};
+ghost use Rattle.prdb_entries.specs.State.{PrEntry};
+ghost use Rattle.entry_scans.specs.First.{HasTheFirst};
+ghost use Rattle.entry_scans.specs.Found.{IsMetAt, TellsWhether};
+ghost use Rattle.entry_scans.specs.Lists.{IsAscending, IsListOf};
+ghost use Rattle.entry_scans.specs.Sought.{is_sought};
+ghost use Rattle.entry_scans.specs.Views.{viewed};
+
+use crate::views::{EntryView, entry_in, kind_of};
+use db_blocks::{BLOCK_LEN, Block, block_count, block_place};
+use db_image::{Draft, ImageRead, RecordFault, VecImage};
+use prdb_entries::{draft_over, set_maxima};
+use std::alloc::Global;
+
+/// The length of an image's head, in bytes.
+const HEAD_LEN: u32 = 2112;
+
+/// The first word of an entry's block.
+const ENTRY: u32 = 1;
+
+/// The greatest first word of a block, which a continuation of an entry's pairs has.
+const MORE: u32 = 2;
+
+/// What is looked for among the entries.
+pub trait Sought {
+    /// Whether an entry is it.
+    ghost test: { Self → PrEntry → Bool };
+
+    fn is_met(&self, e: EntryView<'_>) -> bool
+        ensures { result ≡ test self.now (viewed e.entry) };
+}
+
+/// Whether a block is that of an entry which is looked for.
+fn is_sought<S: Sought>(sought: &S, block: &Block) -> bool
+    ensures { result ≡ is_sought (S.test sought.now) block.now }
+{
+    kind_of(block) == ENTRY && sought.is_met(entry_in(block))
+}
+
+/// A block of the draft, where its first word is one of a block.
+#[tactic(auto, unfolding(db_blocks::specs::Blocks::block_in, prdb_entries::specs::Records::block_in))]
+fn read_block<I: ImageRead>(d: &mut Draft<I>, number: u32) -> Result<Block, RecordFault>
+    requires within { block_place number + BLOCK_LEN ≤ d.old.len }
+    requires len { d.old.len < 2 ^ 31 }
+    ensures block { IfOk result (λ block. IfSome d.old.bytes (λ image. block ≡ block_in image number)) }
+    ensures fault { IfErr result (HasCause d.old.bytes (λ image r. kind_of (block_in image number) ≤ 2)) }
+    ensures frame { OnlyLooks I.ImageRead d.old d.new (IsErrOf result RecordFault.DiskFault) }
+{
+    let block = db_blocks::read_block(d, HEAD_LEN, number)?;
+    if kind_of(&block) > MORE {
+        return Err(RecordFault::BadRecord {
+            at: block_place(HEAD_LEN, number),
+        });
+    }
+    Ok(block)
+}
+
+/// Whether some entry of a draft that is not empty is looked for.
+fn scan<I: ImageRead, S: Sought>(d: &mut Draft<I>, sought: &S) -> Result<bool, RecordFault>
+    requires len { d.old.len < 2 ^ 31 }
+    requires some { IfSome d.old.bytes (λ image. 0 < length image) }
+    ensures found { IfOk result (λ there. IfSome d.old.bytes (λ image. (r : Registry) → Holds image r
+        → TellsWhether (S.test sought.now) r there)) }
+    ensures fault { IfErr result (HasCause d.old.bytes Holds) }
+    ensures frame { OnlyLooks I.ImageRead d.old d.new (IsErrOf result RecordFault.DiskFault) }
+{
+    let count = block_count(HEAD_LEN, d.len())?;
+    for number in 0..count {
+        let block = read_block(d, number)?;
+        if is_sought(sought, &block) {
+            return Ok(true);
+        }
+    }
+    Ok(false)
+}
+
+/// Puts ids into their order, each once.
+fn put_in_order(ids: &mut Vec<i32>)
+    ensures ascending { IsAscending ids.new.items }
+    ensures same { (id : ℤ) → Contains ids.new.items id ↔ Contains ids.old.items id }
+{
+    ids.sort_unstable();
+    ids.dedup();
+}
+
+/// The ids of the entries that are looked for, in a draft that is not empty.
+fn scan_ids<I: ImageRead, S: Sought>(
+    alloc: Global,
+    d: &mut Draft<I>,
+    sought: &S,
+) -> Result<Vec<i32>, RecordFault>
+    requires len { d.old.len < 2 ^ 31 }
+    requires some { IfSome d.old.bytes (λ image. 0 < length image) }
+    ensures found { IfOk result (λ ids. IfSome d.old.bytes (λ image. (r : Registry) → Holds image r
+        → IsListOf (IsMetAt (S.test sought.now) r) ids.items)) }
+    ensures ascending { IfOk result (λ ids. IsAscending ids.items) }
+    ensures fault { IfErr result (HasCause d.old.bytes Holds) }
+    ensures frame { OnlyLooks I.ImageRead d.old d.new (IsErrOf result RecordFault.DiskFault) }
+{
+    let count = block_count(HEAD_LEN, d.len())?;
+    let mut ids = Vec::new(alloc);
+    for number in 0..count {
+        let block = read_block(d, number)?;
+        if is_sought(sought, &block) {
+            ids.push(entry_in(&block).id)?;
+        }
+    }
+    put_in_order(&mut ids);
+    Ok(ids)
+}
+
+/// A draft with the entries of the first image. Maxima that are set to what they are change nothing, so others are set.
+fn first_draft(alloc: Global) -> Result<Draft<VecImage>, RecordFault>
+    ensures entries { IfOk result (λ d. IsSomeAnd d.bytes HasTheFirst) }
+    ensures len { IfOk result (λ d. d.len < 2 ^ 31) }
+    ensures fault { IfErr result (λ fault. fault ≡ RecordFault.NoMemory) }
+{
+    let mut d = draft_over(alloc, VecImage::new(alloc, &[])?);
+    set_maxima(alloc, &mut d, 1, -1)?;
+    Ok(d)
+}
+
+/// Whether some entry is looked for; an empty draft is read as the first image.
+pub fn has_entry<I: ImageRead, S: Sought>(
+    alloc: Global,
+    d: &mut Draft<I>,
+    sought: &S,
+) -> Result<bool, RecordFault>
+    requires { d.old.len < 2 ^ 31 }
+    ensures found { IfOk result (λ there. IfSome d.old.bytes (λ image. (r : Registry) → Holds image r
+        → TellsWhether (S.test sought.now) r there)) }
+    ensures fault { IfErr result (HasCause d.old.bytes Holds) }
+    ensures frame { OnlyLooks I.ImageRead d.old d.new (IsErrOf result RecordFault.DiskFault) }
+{
+    if d.len() > 0 {
+        return scan(d, sought);
+    }
+    scan(&mut first_draft(alloc)?, sought)
+}
+
+/// The ids of the entries that are looked for, ascending; an empty draft is read as the first image. An id that stands in two
+/// blocks of a damaged image is told once.
+pub fn ids_where<I: ImageRead, S: Sought>(
+    alloc: Global,
+    d: &mut Draft<I>,
+    sought: &S,
+) -> Result<Vec<i32>, RecordFault>
+    requires { d.old.len < 2 ^ 31 }
+    ensures found { IfOk result (λ ids. IfSome d.old.bytes (λ image. (r : Registry) → Holds image r
+        → IsListOf (IsMetAt (S.test sought.now) r) ids.items)) }
+    ensures ascending { IfOk result (λ ids. IsAscending ids.items) }
+    ensures fault { IfErr result (HasCause d.old.bytes Holds) }
+    ensures frame { OnlyLooks I.ImageRead d.old d.new (IsErrOf result RecordFault.DiskFault) }
+{
+    if d.len() > 0 {
+        return scan_ids(alloc, d, sought);
+    }
+    scan_ids(alloc, &mut first_draft(alloc)?, sought)
+}
