@@ -10,6 +10,7 @@ use Rattle.prdb_entries.proofs.Initial.{length-initial}
 use Rattle.prdb_members.specs.Layout.{AreLists, HoldsPairs, PairList, id_field}
 use Rattle.prdb_members.specs.Members.{no_members}
 use Rattle.prdb_members.proofs.ListFound.{front_zero, whole_none}
+use Rattle.prdb_members.proofs.Spelled.{first_spelled}
 
 first_zero : (k : ℕ) → k < 6 → drop 112 (block_in (layout initial_state) k) ≡ id_field 80 []
 unfolding block_in layout head_of words zeros fixed_entries entry_block numbers_of
@@ -49,6 +50,7 @@ first_lists = record {
       };
   used = λ k below kind. let one = first_kind k (omega (arith, below, length-initial)) in absurd (omega arith);
   once = λ id there i j d less in_j. absurd (omega arith);
+  spelled = λ k below kind. first_spelled k (omega (arith, below, length-initial));
 }
 
 pub holds_none : HoldsPairs [] first_registry no_members

@@ -24,14 +24,20 @@ pub record HasFree (old new : List ℕ) (r : Registry) (lists : ℤ → PairList
 
 -- a block that says 0 is zero
 pub free_zero : (block : List ℕ) → IsBlock block → kind_of block ≡ 0 → block ≡ zeros 192
-free_zero block is none = elim is [ inl zero ↦ zero | inr other ↦ elim other [ inl two ↦ absurd (omega arith) | inr entry ↦ let one = entry.kind in absurd (omega arith) ] ]
+free_zero block is none =
+    elim is [
+      | inl zero ↦ zero
+      | inr other ↦
+          elim other [ inl two ↦ absurd (omega arith) | inr entry ↦ let one = entry.kind in absurd (omega arith) ]
+    ]
 
-free_there : (image : List ℕ) (r : Registry) (lists : ℤ → PairList) (f : ℕ) → HoldsLists image r lists → f < block_count image → kind_of (block_in image f) ≡ 0
+free_there : (image : List ℕ) (r : Registry) (lists : ℤ → PairList) (f : ℕ) → HoldsLists image r lists → f < block_count image
+    → kind_of (block_in image f) ≡ 0
     → HasFree image image r lists f
 free_there image r lists f h below kind = record {
   holds = h;
   below = below;
-  zero = free_zero (block_in image f) (h.laid.blocks f below) kind;
+  zero = free_zero (block_in image f) (h.has.laid.blocks f below) kind;
   size = omega arith;
   stood = λ j in_old. (in_old, refl);
 }
@@ -42,12 +48,14 @@ record IsAdded (old new : List ℕ) (n : ℕ) : Type 0 where
   here : block_in new n ≡ zeros 192
   others : (j : ℕ) → j < n → block_in new j ≡ block_in old j
 
-added_laid : (old new : List ℕ) (r : Registry) (n : ℕ) → IsLaidOut old r → block_count old ≡ n → IsAdded old new n → take 2112 new ≡ head_with r.max_user r.max_group (n + 1) → IsLaidOut new r
+added_laid : (old new : List ℕ) (r : Registry) (n : ℕ) → IsLaidOut old r → block_count old ≡ n → IsAdded old new n
+    → take 2112 new ≡ head_with r.max_user r.max_group (n + 1) → IsLaidOut new r
 added_laid old new r n laid count a head =
     let new_count : block_count new ≡ n + 1 = count_is new (n + 1) a.size in
     let zero : kind_of (block_in new n) ≡ 0 = ap kind_of a.here ∙ zero_kind in
     let before : (j : ℕ) → j < block_count new → kind_of (block_in new j) ≡ 1 → j < n = λ j below kind.
-    ⊎_elim (λ (same : j ≡ n). let one = ap (λ (i : ℕ). kind_of (block_in new i)) (sym same) ∙ kind in absurd (omega arith)) (λ (other : j ≢ n). omega arith) (cases_eq j n) in
+    ⊎_elim (λ (same : j ≡ n). let one = ap (λ (i : ℕ). kind_of (block_in new i)) (sym same) ∙ kind in absurd (omega arith))
+    (λ (other : j ≢ n). omega arith) (cases_eq j n) in
     record {
       size = a.size ∙ ap block_place (sym new_count);
       head = head ∙ ap (head_with r.max_user r.max_group) (sym new_count);
@@ -60,7 +68,8 @@ added_laid old new r n laid count a head =
           (cases_eq j n);
       there = λ j below kind.
           let in_old = before j below kind in
-          subst (λ (c : List ℕ). r.entry (entry_in c).id ≡ Some (entry_in c)) (sym (a.others j in_old)) (laid.there j (omega arith) (ap kind_of (sym (a.others j in_old)) ∙ kind));
+          subst (λ (c : List ℕ). r.entry (entry_in c).id ≡ Some (entry_in c)) (sym (a.others j in_old))
+          (laid.there j (omega arith) (ap kind_of (sym (a.others j in_old)) ∙ kind));
       only = λ id e at.
           let o = laid.only id e at in
           let in_old : o.0 < n = omega (arith, o.1) in
@@ -78,10 +87,11 @@ free_end : (image : List ℕ) (r : Registry) (lists : ℤ → PairList) (n : ℕ
 free_end image r lists n h count =
     let mid = with_block n (zeros 192) image in
     let new = with_count (n + 1) mid in
-    let was : length image ≡ block_place n = h.laid.size ∙ ap block_place count in
+    let was : length image ≡ block_place n = h.has.laid.size ∙ ap block_place count in
     let put : IsPut n (zeros 192) image mid (n + 1) = add_block image (zeros 192) n was zeros_len in
-    let first : take 2112 image ≡ head_with r.max_user r.max_group n = h.laid.head ∙ ap (head_with r.max_user r.max_group) count in
-    let head : IsHeadPut mid new (head_with r.max_user r.max_group (n + 1)) = put_count mid r.max_user r.max_group n (n + 1) (n + 1) put.size (put.head ∙ first) in
+    let first : take 2112 image ≡ head_with r.max_user r.max_group n = h.has.laid.head ∙ ap (head_with r.max_user r.max_group) count in
+    let head : IsHeadPut mid new (head_with r.max_user r.max_group (n + 1)) = put_count mid r.max_user r.max_group n (n + 1)
+    (n + 1) put.size (put.head ∙ first) in
     let mid_count : block_count mid ≡ n + 1 = count_is mid (n + 1) put.size in
     let size : length new ≡ block_place (n + 1) = head.size ∙ put.size in
     let new_count : block_count new ≡ n + 1 = count_is new (n + 1) size in
@@ -99,9 +109,12 @@ free_end image r lists n h count =
     } in
     record {
       holds = record {
-        valid = h.valid;
-        laid = added_laid image new r n h.laid count a head.head;
-        are = lists_kept image new n r r lists lists h.are one (λ kind. absurd (omega arith)) (λ j in_old other kind. refl) (λ id j there has. (there, refl)) (λ id there. h.are.once id there);
+        has = record {
+          valid = h.has.valid;
+          laid = added_laid image new r n h.has.laid count a head.head;
+          are = lists_kept image new n r r lists lists h.has.are one (λ kind. absurd (omega arith)) (λ kind. absurd (omega arith))
+              (λ j in_old other kind. refl) (λ id j there has. (there, refl)) (λ id there. h.has.are.once id there);
+        };
         members = h.members;
       };
       below = omega arith;
@@ -110,7 +123,8 @@ free_end image r lists n h count =
       stood = λ j in_old. let less : j < n = omega arith in (omega arith, a.others j less);
     }
 
-pub free_taken : (image : List ℕ) (r : Registry) (lists : ℤ → PairList) → HoldsLists image r lists → HasFree image (with_free image) r lists (next_block image)
+pub free_taken : (image : List ℕ) (r : Registry) (lists : ℤ → PairList) → HoldsLists image r lists
+    → HasFree image (with_free image) r lists (next_block image)
 unfolding with_free
 free_taken image r lists h =
     let k = next_block image in
@@ -122,5 +136,7 @@ free_taken image r lists h =
     rw (lt-ltb k n below) (free_there image r lists k h below free))
     (λ (last : n ≤ k).
     let same : k ≡ n = omega arith in
-    rw (le-ltb k n last) (subst (λ (j : ℕ). HasFree image (with_count (n + 1) (with_block n (zeros 192) image)) r lists j) (sym same) (free_end image r lists n h refl)))
+    rw (le-ltb k n last)
+    (subst (λ (j : ℕ). HasFree image (with_count (n + 1) (with_block n (zeros 192) image)) r lists j) (sym same)
+    (free_end image r lists n h refl)))
     (cases_lt k n)

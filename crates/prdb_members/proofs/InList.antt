@@ -1,5 +1,5 @@
 -- The list of ids under which an entry acts.
-use Rattle.std.proofs.Common.{◌≡◌, ◌≢◌, ℕ, ℤ, pos, negsuc, ◌<◌, true, List, [], length, Option, Some, None, IfSome, IsSome, refl, sym, ap, subst, ◌∙◌, ⊎_elim, inl, inr, arith}
+use Rattle.std.proofs.Common.{◌≡◌, ◌≢◌, ℕ, ℤ, pos, negsuc, true, List, [], Option, Some, None, IfSome, subst, inl, inr, arith}
 use Rattle.std.specs.Prelude.{◌<ℤ◌, ◌⊎◌}
 use Rattle.std.specs.List.{Contains}
 use Rattle.std.proofs.lemmas.Int.{ints}
@@ -12,7 +12,8 @@ use Rattle.prdb_members.specs.Members.{Members, IsInList, any_user, are_paired, 
 abbrev pub HasMore : List ℤ → ℤ → List ℤ → Type 0
 HasMore ids id after = (x : ℤ) → (Contains after x → (x ≡ id) ⊎ Contains ids x) × ((x ≡ id) ⊎ Contains ids x → Contains after x)
 
-pub group_list : (m : Members) (id : ℤ) (none after : List ℤ) → id <ℤ pos 0 → none ≡ [] → HasMore none id after → IsAscending after → IsListOf (IsInList m id) after
+pub group_list : (m : Members) (id : ℤ) (none after : List ℤ) → id <ℤ pos 0 → none ≡ [] → HasMore none id after → IsAscending after
+    → IsListOf (IsInList m id) after
 group_list m (pos n) none after group is more rises = absurd (omega (arith, ints, group))
 group_list m (negsuc n) none after group is more rises = record {
   ascending = rises;
@@ -27,7 +28,8 @@ group_list m (negsuc n) none after group is more rises = record {
 abbrev InTwo : Members → ℤ → ℤ → Type 0
 InTwo m id x = (x ≡ id) ⊎ (are_paired m id x ≡ true) ⊎ (x ≡ any_user)
 
-in_two : (m : Members) (id : ℤ) (groups one two : List ℤ) → IsListOf (λ x. are_paired m id x ≡ true) groups → HasMore groups any_user one → HasMore one id two
+in_two : (m : Members) (id : ℤ) (groups one two : List ℤ) → IsListOf (λ x. are_paired m id x ≡ true) groups → HasMore groups any_user one
+    → HasMore one id two
     → (x : ℤ) → (Contains two x → InTwo m id x) × (InTwo m id x → Contains two x)
 in_two m id groups one two list first second x = (
   λ there. elim ((second x).0 there) [
@@ -36,11 +38,14 @@ in_two m id groups one two list first second x = (
   ],
   λ is. elim is [
     | inl own ↦ (second x).1 (inl own)
-    | inr other ↦ elim other [ inl paired ↦ (second x).1 (inr ((first x).1 (inr (list.all x paired)))) | inr any ↦ (second x).1 (inr ((first x).1 (inl any))) ]
+    | inr other ↦
+        elim other
+        [ inl paired ↦ (second x).1 (inr ((first x).1 (inr (list.all x paired)))) | inr any ↦ (second x).1 (inr ((first x).1 (inl any))) ]
   ],
 )
 
-anonymous_list : (m : Members) (id : ℤ) (groups one two : List ℤ) → (id <ℤ pos 0 → ⊥) → id ≡ not_signed_in → IsListOf (λ x. are_paired m id x ≡ true) groups
+anonymous_list : (m : Members) (id : ℤ) (groups one two : List ℤ) → (id <ℤ pos 0 → ⊥) → id ≡ not_signed_in
+    → IsListOf (λ x. are_paired m id x ≡ true) groups
     → HasMore groups any_user one → HasMore one id two → IsAscending two → IsListOf (IsInList m id) two
 anonymous_list m (negsuc n) groups one two user is list first second rises = absurd (user (omega (arith, ints)))
 anonymous_list m (pos n) groups one two user is list first second rises = record {
@@ -58,7 +63,8 @@ anonymous_list m (pos n) groups one two user is list first second rises = record
   ]);
 }
 
-user_list : (m : Members) (id : ℤ) (groups one two three : List ℤ) → (id <ℤ pos 0 → ⊥) → id ≢ not_signed_in → IsListOf (λ x. are_paired m id x ≡ true) groups
+user_list : (m : Members) (id : ℤ) (groups one two three : List ℤ) → (id <ℤ pos 0 → ⊥) → id ≢ not_signed_in
+    → IsListOf (λ x. are_paired m id x ≡ true) groups
     → HasMore groups any_user one → HasMore one id two → HasMore two signed_in three → IsAscending three → IsListOf (IsInList m id) three
 user_list m (negsuc n) groups one two three user not list first second third rises = absurd (user (omega (arith, ints)))
 user_list m (pos n) groups one two three user not list first second third rises = record {
@@ -88,20 +94,23 @@ user_list m (pos n) groups one two three user not list first second third rises 
 abbrev pub InEach : Option (List ℕ) → (Members → Type 0) → Type 0
 InEach bytes says = IfSome bytes (λ image. (r : Registry) (m : Members) → HoldsPairs image r m → says m)
 
-pub group_in : (bytes : Option (List ℕ)) (id : ℤ) (none after : List ℤ) → id <ℤ pos 0 → none ≡ [] → HasMore none id after → IsAscending after
+pub group_in : (bytes : Option (List ℕ)) (id : ℤ) (none after : List ℤ) → id <ℤ pos 0 → none ≡ [] → HasMore none id after
+    → IsAscending after
     → InEach bytes (λ m. IsListOf (IsInList m id) after)
 group_in None id none after group is more rises = tt
 group_in (Some image) id none after group is more rises = λ r m h. group_list m id none after group is more rises
 
 pub anonymous_in : (bytes : Option (List ℕ)) (id : ℤ) (groups one two : List ℤ) → (id <ℤ pos 0 → ⊥) → id ≡ not_signed_in
-    → InEach bytes (λ m. IsListOf (λ x. are_paired m id x ≡ true) groups) → HasMore groups any_user one → HasMore one id two → IsAscending two
+    → InEach bytes (λ m. IsListOf (λ x. are_paired m id x ≡ true) groups) → HasMore groups any_user one → HasMore one id two
+    → IsAscending two
     → InEach bytes (λ m. IsListOf (IsInList m id) two)
 anonymous_in None id groups one two user is list first second rises = tt
 anonymous_in (Some image) id groups one two user is list first second rises =
     λ r m h. anonymous_list m id groups one two user is (list r m h) first second rises
 
 pub user_in : (bytes : Option (List ℕ)) (id : ℤ) (groups one two three : List ℤ) → (id <ℤ pos 0 → ⊥) → id ≢ not_signed_in
-    → InEach bytes (λ m. IsListOf (λ x. are_paired m id x ≡ true) groups) → HasMore groups any_user one → HasMore one id two → HasMore two signed_in three
+    → InEach bytes (λ m. IsListOf (λ x. are_paired m id x ≡ true) groups) → HasMore groups any_user one → HasMore one id two
+    → HasMore two signed_in three
     → IsAscending three → InEach bytes (λ m. IsListOf (IsInList m id) three)
 user_in None id groups one two three user not list first second third rises = tt
 user_in (Some image) id groups one two three user not list first second third rises =

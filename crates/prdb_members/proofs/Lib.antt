@@ -4,10 +4,11 @@ pub mod FirstPairs
 pub mod InList
 pub mod ListFound
 pub mod ListRead
-pub mod OwnedSeen
+pub mod OwnedIds
 pub mod Kept
 pub mod RecordsKeep
 pub mod Side
+pub mod Spelled
 pub mod WithList
 pub mod Both
 pub mod Chains
@@ -19,3 +20,10 @@ pub mod Written
 pub mod Places
 pub mod Ends
 pub mod FirstWhole
+pub mod MovedIds
+pub mod Relists
+pub mod MovedRegistry
+pub mod MovedBlock
+pub mod MovedImage
+pub mod Moved
+pub mod MoveEnds

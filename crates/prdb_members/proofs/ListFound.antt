@@ -1,5 +1,5 @@
 -- The list that is read of an id's entry is that of its pairs.
-use Rattle.std.proofs.Common.{◌≡◌, ℕ, ℤ, zero, suc, ◌<◌, true, false, Bool, List, [], ◌∷◌, length, take, drop, Option, Some, None, IfSome, IsSome, refl, sym, ap, subst, ◌∙◌, ⊎_elim, arith}
+use Rattle.std.proofs.Common.{◌≡◌, ℕ, ℤ, zero, suc, ◌<◌, true, false, Bool, List, [], ◌∷◌, ◌++◌, length, take, drop, Option, Some, None, IfSome, IsSome, refl, sym, ap, subst, ◌∙◌, ⊎_elim, arith}
 use Rattle.std.specs.Prelude.{◌<ℤ◌, ◌||◌, pos}
 use Rattle.std.specs.List.{Contains}
 use Rattle.std.proofs.lemmas.Bool.{and_from, eq-eqb, cases_Bool}
@@ -10,7 +10,7 @@ use Rattle.db_blocks.specs.Blocks.{IsFirst, IsWhole}
 use Rattle.db_blocks.specs.Ends.{HasCause}
 use Rattle.db_blocks.specs.declared.scans.Found.{Found}
 use Rattle.db_blocks.proofs.FoundBlocks.{found_meets, none_meets}
-use Rattle.prdb_entries.specs.Bytes.{words, word_at, zeros}
+use Rattle.prdb_entries.specs.Bytes.{word, words, word_at, zeros}
 use Rattle.prdb_entries.specs.Layout.{layout, head_of, block_of as entry_block, numbers_of}
 use Rattle.prdb_entries.specs.Records.{Holds, IsLaidOut, block_in, entry_in, has_id, kind_of, whole}
 use Rattle.prdb_entries.specs.Registry.{Registry}
@@ -20,7 +20,7 @@ use Rattle.prdb_entries.proofs.LaidOut.{whole_same}
 use Rattle.prdb_entries.proofs.Lookups.{id_parts}
 use Rattle.prdb_members.specs.Ends.{HasItsCause, HoldsSome}
 use Rattle.prdb_members.specs.Found.{IsFound}
-use Rattle.prdb_members.specs.Layout.{AreLists, HoldsPairs, IsListed, PairList, link_to}
+use Rattle.prdb_members.specs.Layout.{AreLists, HoldsPairs, IsListed, PairList, link_word}
 use Rattle.prdb_members.specs.Lists.{IsListOf}
 use Rattle.prdb_members.specs.Members.{Members, are_paired}
 use Rattle.prdb_members.specs.declared.listed.Listed.{Listed}
@@ -30,7 +30,8 @@ use Rattle.prdb_members.proofs.ListRead.{Lists, block_same, cause_so, none_left}
 -- ---- what a scan found
 
 -- the list of the block that was found
-pub listed_at : (image : List ℕ) (r : Registry) (m : Members) (id : ℤ) (f : Found) (h : HoldsPairs image r m) → 0 < length image → IsFirst 2112 (has_id id) image (Some f)
+pub listed_at : (image : List ℕ) (r : Registry) (m : Members) (id : ℤ) (f : Found) (h : HoldsPairs image r m) → 0 < length image
+    → IsFirst 2112 (has_id id) image (Some f)
     → IsListed image id f.block (h.lists id)
 listed_at image r m id f h some is =
     let are : AreLists image r h.lists = subst (λ (i : List ℕ). AreLists i r h.lists) (whole_same image some) h.are in
@@ -44,7 +45,8 @@ listed_at image r m id f h some is =
 laid_at : (image : List ℕ) (r : Registry) → Holds image r → 0 < length image → IsLaidOut image r
 laid_at image r holds some = subst (λ (i : List ℕ). IsLaidOut i r) (whole_same image some) holds.laid
 
-pub there_at : (image : List ℕ) (r : Registry) (id : ℤ) (f : Found) → Holds image r → 0 < length image → IsFirst 2112 (has_id id) image (Some f) → IsSome (r.entry id)
+pub there_at : (image : List ℕ) (r : Registry) (id : ℤ) (f : Found) → Holds image r → 0 < length image
+    → IsFirst 2112 (has_id id) image (Some f) → IsSome (r.entry id)
 there_at image r id f holds some is =
     let laid = laid_at image r holds some in
     let block : f.block ≡ block_in image f.number = is.2 ∙ block_same image f.number in
@@ -61,7 +63,8 @@ option_cases : {X P : Type 0} (o : Option X) → (o ≡ None → P) → ((x : X)
 option_cases None none some = none refl
 option_cases (Some x) none some = some x refl
 
-pub none_at : (image : List ℕ) (r : Registry) (id : ℤ) → Holds image r → 0 < length image → IsFirst 2112 (has_id id) image None → r.entry id ≡ None
+pub none_at : (image : List ℕ) (r : Registry) (id : ℤ) → Holds image r → 0 < length image → IsFirst 2112 (has_id id) image None
+    → r.entry id ≡ None
 none_at image r id holds some is =
     option_cases (r.entry id) (λ none. none)
     (λ e at.
@@ -72,7 +75,8 @@ none_at image r id holds some is =
     let same : (entry_in (block_in image o.0)).id ≡ id = ap (λ (y : PrEntry). y.id) entry ∙ holds.valid.ids id e at in
     let meets : has_id id (block_in image o.0) ≡ true =
     and_from _ _ (eq-eqb (kind_of (block_in image o.0)) 1 kind) ((Decides-int_eq (entry_in (block_in image o.0)).id id).1 same) in
-    let fails : has_id id (block_in image o.0) ≡ false = ap (has_id id) (sym (block_same image o.0)) ∙ none_meets 2112 (has_id id) image o.0 is o.1 in
+    let fails : has_id id (block_in image o.0) ≡ false = ap (has_id id) (sym (block_same image o.0))
+    ∙ none_meets 2112 (has_id id) image o.0 is o.1 in
     absurd cc)
 
 -- ---- over a draft
@@ -86,13 +90,17 @@ none_or true b p q = absurd cc
 none_or false b p q = q
 
 -- an id that is no entry's is in no pair
-pub none_paired : (image : List ℕ) (r : Registry) (m : Members) (id : ℤ) → HoldsPairs image r m → r.entry id ≡ None → (other : ℤ) → are_paired m id other ≡ false
+pub none_paired : (image : List ℕ) (r : Registry) (m : Members) (id : ℤ) → HoldsPairs image r m → r.entry id ≡ None → (other : ℤ)
+    → are_paired m id other ≡ false
 none_paired image r m id h none other =
     none_or (m.has id other) (m.has other id)
-    (⊎_elim (λ (yes : m.has id other ≡ true). absurd (is_not (r.entry id) none (h.valid id other yes).2)) (λ (no : m.has id other ≡ false). no) (cases_Bool (m.has id other)))
-    (⊎_elim (λ (yes : m.has other id ≡ true). absurd (is_not (r.entry id) none (h.valid other id yes).3)) (λ (no : m.has other id ≡ false). no) (cases_Bool (m.has other id)))
+    (⊎_elim (λ (yes : m.has id other ≡ true). absurd (is_not (r.entry id) none (h.valid id other yes).2))
+    (λ (no : m.has id other ≡ false). no) (cases_Bool (m.has id other)))
+    (⊎_elim (λ (yes : m.has other id ≡ true). absurd (is_not (r.entry id) none (h.valid other id yes).3))
+    (λ (no : m.has other id ≡ false). no) (cases_Bool (m.has other id)))
 
-pub found_some : (bytes : Option (List ℕ)) (len : ℕ) (id : ℤ) (f : Found) (l : Listed) → IfSome bytes (λ image. length image ≡ len) → 0 < len
+pub found_some : (bytes : Option (List ℕ)) (len : ℕ) (id : ℤ) (f : Found) (l : Listed) → IfSome bytes (λ image. length image ≡ len)
+    → 0 < len
     → IfSome bytes (λ image. IsFirst 2112 (has_id id) image (Some f))
     → IfSome bytes (λ image. (p : PairList) → IsListed image id f.block p → (l.ids ≡ p.ids) × (l.more.items ≡ p.more))
     → IfSome bytes (λ image. (r : Registry) (m : Members) → HoldsPairs image r m → IsFound m id (Some l))
@@ -119,11 +127,14 @@ lists_so None len id f told some is = tt
 lists_so (Some image) len id f told some is = λ q.
     let laid = laid_at image q.0 q.2.holds (omega arith) in (laid.size, (q.2.lists id, listed_at image q.0 q.1 id f q.2 (omega arith) is))
 
-pub list_fault : (bytes : Option (List ℕ)) (len : ℕ) (id : ℤ) (f : Found) (fault : RecordFault) → IfSome bytes (λ image. length image ≡ len) → 0 < len
+pub list_fault : (bytes : Option (List ℕ)) (len : ℕ) (id : ℤ) (f : Found) (fault : RecordFault) → IfSome bytes (λ image. length image ≡ len)
+    → 0 < len
     → IfSome bytes (λ image. IsFirst 2112 (has_id id) image (Some f)) → HasCause bytes (Lists id f.block) fault → HasItsCause bytes fault
-list_fault bytes len id f fault told some is cause = cause_so bytes (Lists id f.block) HoldsSome fault cause (lists_so bytes len id f told some is)
+list_fault bytes len id f fault told some is cause =
+    cause_so bytes (Lists id f.block) HoldsSome fault cause (lists_so bytes len id f told some is)
 
-whole_so : (bytes : Option (List ℕ)) (len : ℕ) → IfSome bytes (λ image. length image ≡ len) → 0 < len → IfSome bytes (λ image. HoldsSome image → IsWhole 2112 image)
+whole_so : (bytes : Option (List ℕ)) (len : ℕ) → IfSome bytes (λ image. length image ≡ len) → 0 < len
+    → IfSome bytes (λ image. HoldsSome image → IsWhole 2112 image)
 whole_so None len told some = tt
 whole_so (Some image) len told some = λ q. (laid_at image q.0 q.2.holds (omega arith)).size
 
@@ -133,7 +144,7 @@ scan_fault bytes len fault told some cause = cause_so bytes (IsWhole 2112) Holds
 
 -- ---- the first image has no pairs
 
-pub front_zero : (k : ℕ) → k < 6 → take 8 (drop 24 (block_in (layout initial_state) k)) ≡ words (0 ∷ 0 ∷ [])
+pub front_zero : (k : ℕ) → k < 6 → take 8 (drop 24 (block_in (layout initial_state) k)) ≡ word 0 ++ link_word 0
 unfolding block_in layout head_of words zeros fixed_entries entry_block numbers_of
 front_zero zero below = refl
 front_zero (suc zero) below = refl
@@ -160,8 +171,10 @@ list_none r m h id there =
     let same : (entry_in (block_in (layout initial_state) o.0)).id ≡ id = ap (λ (y : PrEntry). y.id) o.3 ∙ h.holds.valid.ids id e at in
     let listed : IsListed (layout initial_state) id (block_in (layout initial_state) o.0) (h.lists id) =
     subst (λ (x : ℤ). IsListed (layout initial_state) x (block_in (layout initial_state) o.0) (h.lists x)) same (are.listed o.0 o.1 o.2) in
-    let count : word_at (block_in (layout initial_state) o.0) 24 ≡ length (h.lists id).ids = count_of (block_in (layout initial_state) o.0) (length (h.lists id).ids) (link_to (h.lists id).more) listed.front listed.few in
-    let zero_count : word_at (block_in (layout initial_state) o.0) 24 ≡ 0 = count_of (block_in (layout initial_state) o.0) 0 0 (front_zero o.0 six) (omega arith) in
+    let count : word_at (block_in (layout initial_state) o.0) 24
+    ≡ length (h.lists id).ids = count_of (block_in (layout initial_state) o.0) (h.lists id) listed.front listed.few in
+    let zero_count : word_at (block_in (layout initial_state) o.0) 24
+    ≡ 0 = count_of (block_in (layout initial_state) o.0) (record { ids = []; more = [] }) (front_zero o.0 six) (omega arith) in
     none_left (h.lists id).ids (omega (arith, count, zero_count)))
 
 nothing : (xs : List ℤ) (x : ℤ) → xs ≡ [] → Contains xs x → ⊥
@@ -200,7 +213,8 @@ pub list_of_none : (bytes : Option (List ℕ)) (id : ℤ) (ids : List ℤ) → i
     → IfSome bytes (λ image. (r : Registry) (m : Members) → HoldsPairs image r m → IsFound m id None)
     → IfSome bytes (λ image. (r : Registry) (m : Members) → HoldsPairs image r m → IsListOf (λ other. are_paired m id other ≡ true) ids)
 list_of_none None id ids is found = tt
-list_of_none (Some image) id ids is found = λ r m h. subst (IsListOf (λ other. are_paired m id other ≡ true)) (sym is) (no_list m id (found r m h))
+list_of_none (Some image) id ids is found =
+    λ r m h. subst (IsListOf (λ other. are_paired m id other ≡ true)) (sym is) (no_list m id (found r m h))
 
 -- ---- whether a pair is there
 
@@ -226,7 +240,8 @@ or_first : (a b : Bool) → (a || b) ≡ true → b ≡ false → a ≡ true
 or_first true b e fails = refl
 or_first false b e fails = absurd cc
 
-has_of : (image : List ℕ) (r : Registry) (m : Members) (a b : ℤ) (ids : List ℤ) → HoldsPairs image r m → (a <ℤ pos 0 → ⊥) → IsListOf (λ other. are_paired m a other ≡ true) ids
+has_of : (image : List ℕ) (r : Registry) (m : Members) (a b : ℤ) (ids : List ℤ) → HoldsPairs image r m → (a <ℤ pos 0 → ⊥)
+    → IsListOf (λ other. are_paired m a other ≡ true) ids
     → (Contains ids b → m.has a b ≡ true) × (m.has a b ≡ true → Contains ids b)
 has_of image r m a b ids h user list = (
   λ there.
@@ -242,7 +257,8 @@ same_truth true false p q = sym (p refl)
 same_truth false true p q = q refl
 same_truth false false p q = refl
 
-pub has_of_list : (bytes : Option (List ℕ)) (a b : ℤ) (there : Bool) (l : Listed) → (a <ℤ pos 0 → ⊥) → (there ≡ true → Contains l.ids b) → (Contains l.ids b → there ≡ true)
+pub has_of_list : (bytes : Option (List ℕ)) (a b : ℤ) (there : Bool) (l : Listed) → (a <ℤ pos 0 → ⊥) → (there ≡ true → Contains l.ids b)
+    → (Contains l.ids b → there ≡ true)
     → IfSome bytes (λ image. (r : Registry) (m : Members) → HoldsPairs image r m → IsFound m a (Some l))
     → IfSome bytes (λ image. (r : Registry) (m : Members) → HoldsPairs image r m → there ≡ m.has a b)
 has_of_list None a b there l user to from found = tt

@@ -35,10 +35,13 @@ pub not_ascending : (block : List ℕ) (ids : List ℤ) (at i count : ℕ) → i
 not_ascending block ids at i count below is =
     let xs = ids_in block at count in
     let x = signed_at block (at + 4 * i) in
-    let front : take (i + 1) xs ≡ ids_in block at i ++ x ∷ [] = take-map-range_with_len (λ j. signed_at block (at + 4 * j)) 0 count (i + 1) (omega arith) ∙ ids_more block at i in
+    let front : take (i + 1) xs
+    ≡ ids_in block at i ++ x ∷ [] = take-map-range_with_len (λ j. signed_at block (at + 4 * j)) 0 count (i + 1) (omega arith)
+    ∙ ids_more block at i in
     let parts : ids ++ xs ≡ ((ids ++ ids_in block at i) ++ x ∷ []) ++ drop (i + 1) xs =
     ap (λ (l : List ℤ). ids ++ l) (sym (take-append-drop (i + 1) xs)) ∙ sym (append_assoc ids (take (i + 1) xs) (drop (i + 1) xs))
-    ∙ ap (λ (l : List ℤ). (ids ++ l) ++ drop (i + 1) xs) front ∙ ap (λ (l : List ℤ). l ++ drop (i + 1) xs) (sym (append_assoc ids (ids_in block at i) (x ∷ []))) in
+    ∙ ap (λ (l : List ℤ). (ids ++ l) ++ drop (i + 1) xs) front
+    ∙ ap (λ (l : List ℤ). l ++ drop (i + 1) xs) (sym (append_assoc ids (ids_in block at i) (x ∷ []))) in
     let whole : IsAscending (((ids ++ ids_in block at i) ++ x ∷ []) ++ drop (i + 1) xs) = subst IsAscending parts is in
     one_apart (ids ++ ids_in block at i) x (ascending_apart (ids ++ ids_in block at i) (x ∷ []) (ascending_left _ _ whole))
 
@@ -52,20 +55,15 @@ pub record IsNext (image : List ℕ) (entry : ℤ) (more : List ℕ) (ids : List
   pub block : block_in image k ≡ more_block entry (link_to behind) (take 44 ids)
   pub chain : IsChain image entry behind (drop 44 ids)
 
-pub chain_next : (image : List ℕ) (entry : ℤ) (more : List ℕ) (ids : List ℤ) → IsChain image entry more ids → 0 < length ids → IsNext image entry more ids
+pub chain_next : (image : List ℕ) (entry : ℤ) (more : List ℕ) (ids : List ℤ) → IsChain image entry more ids → 0 < length ids
+    → IsNext image entry more ids
 chain_next image entry [] ids chain some = absurd (omega (arith, ap length chain))
-chain_next image entry (k ∷ behind) ids chain some = record { k = k; behind = behind; is = refl; below = chain.0; block = chain.2; chain = chain.3 }
+chain_next image entry (k ∷ behind) ids chain some =
+    record { k = k; behind = behind; is = refl; below = chain.0; block = chain.2; chain = chain.3 }
 
 pub chain_end : (image : List ℕ) (entry : ℤ) (more : List ℕ) (ids : List ℤ) → IsChain image entry more ids → ids ≡ [] → more ≡ []
 chain_end image entry [] ids chain none = refl
 chain_end image entry (k ∷ behind) ids chain none = absurd (chain.1 none)
-
-pub link_small : (image : List ℕ) (entry : ℤ) (more : List ℕ) (ids : List ℤ) (count : ℕ) → IsChain image entry more ids → length image ≡ block_place 2112 count
-    → length image < 2 ^ 31 → link_to more < 2 ^ 32
-link_small image entry [] ids count chain size short = omega arith
-link_small image entry (k ∷ behind) ids count chain size short =
-    let below : k < block_count image = chain.0 in
-    omega (arith, below, size, short)
 
 -- ---- what was read of a list, and what is left of it
 
@@ -90,18 +88,21 @@ take_short n ids = omega (arith, length-take n ids)
 drop_short : (n : ℕ) (ids : List ℤ) → length ids - min (length ids) n ≡ length (drop n ids)
 drop_short n ids = omega (arith, length-drop n ids)
 
-pub first_ids : (image block : List ℕ) (entry : ℤ) (l : PairList) (first : ℕ) → IsListed image entry block l → first ≡ min (word_at block 24) 19
+pub first_ids : (image block : List ℕ) (entry : ℤ) (l : PairList) (first : ℕ) → IsListed image entry block l
+    → first ≡ min (word_at block 24) 19
     → ids_in block 112 first ≡ take 19 l.ids
 first_ids image block entry l first is here =
-    let count : word_at block 24 ≡ length l.ids = count_of block (length l.ids) (link_to l.more) is.front is.few in
-    ids_read (take 19 l.ids) (zeros (80 - length (words (map bits (take 19 l.ids))))) block 112 first (All-take (λ id. FitsSigned w32 id) 19 l.ids is.fits) is.first
+    let count : word_at block 24 ≡ length l.ids = count_of block l is.front is.few in
+    ids_read (take 19 l.ids) (zeros (80 - length (words (map bits (take 19 l.ids))))) block 112 first
+    (All-take (λ id. FitsSigned w32 id) 19 l.ids is.fits) is.first
     (here ∙ ap (λ (n : ℕ). min n 19) count ∙ take_short 19 l.ids)
 
-pub rest_first : (image block : List ℕ) (entry : ℤ) (l : PairList) (ids : List ℤ) (more : List ℕ) (first left link count : ℕ) → IsListed image entry block l
-    → length image ≡ block_place 2112 count → length image < 2 ^ 31 → first ≡ min (word_at block 24) 19 → ids ≡ ids_in block 112 first → more ≡ []
+pub rest_first : (image block : List ℕ) (entry : ℤ) (l : PairList) (ids : List ℤ) (more : List ℕ) (first left link : ℕ)
+    → IsListed image entry block l
+    → first ≡ min (word_at block 24) 19 → ids ≡ ids_in block 112 first → more ≡ []
     → left ≡ word_at block 24 - first → link ≡ word_at block 28 → IsRest image entry l ids more left link
-rest_first image block entry l ids more first left link count is size short here ids_is none left_is link_is =
-    let len : word_at block 24 ≡ length l.ids = count_of block (length l.ids) (link_to l.more) is.front is.few in
+rest_first image block entry l ids more first left link is here ids_is none left_is link_is =
+    let len : word_at block 24 ≡ length l.ids = count_of block l is.front is.few in
     let read : ids ≡ take 19 l.ids = ids_is ∙ first_ids image block entry l first is here in
     record {
       rest = record { ids = drop 19 l.ids; more = l.more };
@@ -109,7 +110,7 @@ rest_first image block entry l ids more first left link count is size short here
       more_are = ap (λ (x : List ℕ). x ++ l.more) (sym none);
       chain = is.chain;
       left_is = omega (arith, left_is, here, len, length-drop 19 l.ids);
-      link_is = link_is ∙ link_of block (length l.ids) (link_to l.more) is.front (link_small image entry l.more (drop 19 l.ids) count is.chain size short);
+      link_is = link_is ∙ link_of block l is.front;
     }
 
 -- the ids of the next continuation block
@@ -117,7 +118,8 @@ pub record IsNextRead (image block : List ℕ) (entry : ℤ) (l : PairList) (ids
   pub ascending : IsAscending (ids ++ ids_in block 12 here)
   pub rest : IsRest image entry l (ids ++ ids_in block 12 here) (more ++ (link - 1) ∷ []) (left - here) (word_at block 8)
 
-pub more_there : (image : List ℕ) (entry : ℤ) (l : PairList) (ids : List ℤ) (more : List ℕ) (left link count : ℕ) → IsRest image entry l ids more left link
+pub more_there : (image : List ℕ) (entry : ℤ) (l : PairList) (ids : List ℤ) (more : List ℕ) (left link count : ℕ)
+    → IsRest image entry l ids more left link
     → FitsSigned w32 entry → 0 < left → length image ≡ block_place 2112 count → IsMore image entry link count
 more_there image entry l ids more left link count r fits some size =
     let n = chain_next image entry r.rest.more r.rest.ids r.chain (omega (arith, r.left_is)) in
@@ -126,47 +128,57 @@ more_there image entry l ids more left link count r fits some size =
     record {
       some = omega arith;
       within = omega (arith, size, below, link_at);
-      kind = ap (λ (j : ℕ). is_more_of entry (block_in image (j - 1))) link_at ∙ ap (λ (j : ℕ). is_more_of entry (block_in image j)) (omega arith) ∙ ap (is_more_of entry) n.block
+      kind = ap (λ (j : ℕ). is_more_of entry (block_in image (j - 1))) link_at
+          ∙ ap (λ (j : ℕ). is_more_of entry (block_in image j)) (omega arith) ∙ ap (is_more_of entry) n.block
           ∙ is_more entry (link_to n.behind) (take 44 r.rest.ids) fits;
     }
 
-pub next_read : (image block : List ℕ) (entry : ℤ) (l : PairList) (ids : List ℤ) (more : List ℕ) (left link count here : ℕ) → IsRest image entry l ids more left link
-    → IsAscending l.ids → All (λ id. FitsSigned w32 id) l.ids → 0 < left → length image ≡ block_place 2112 count → length image < 2 ^ 31
+pub next_read : (image block : List ℕ) (entry : ℤ) (l : PairList) (ids : List ℤ) (more : List ℕ) (left link here : ℕ)
+    → IsRest image entry l ids more left link
+    → IsAscending l.ids → All (λ id. FitsSigned w32 id) l.ids → 0 < left
     → block ≡ block_of 2112 image (link - 1) → here ≡ min left 44 → IsNextRead image block entry l ids more left link here
-next_read image block entry l ids more left link count here r rises fits some size short at len =
+next_read image block entry l ids more left link here r rises fits some at len =
     let n = chain_next image entry r.rest.more r.rest.ids r.chain (omega (arith, r.left_is)) in
     let link_at : link ≡ n.k + 1 = r.link_is ∙ ap link_to n.is in
     let k_is : link - 1 ≡ n.k = omega (arith, link_at) in
-    let block_is : block ≡ more_block entry (link_to n.behind) (take 44 r.rest.ids) = at ∙ block_same image (link - 1) ∙ ap (block_in image) k_is ∙ n.block in
+    let block_is : block ≡ more_block entry (link_to n.behind) (take 44 r.rest.ids) = at ∙ block_same image (link - 1)
+    ∙ ap (block_in image) k_is ∙ n.block in
     let fits_rest : All (λ id. FitsSigned w32 id) r.rest.ids = All-same (λ id. FitsSigned w32 id) r.rest.ids (drop (length ids) l.ids)
     (sym (drop_front ids r.rest.ids l.ids r.ids_are)) (All-drop (λ id. FitsSigned w32 id) (length ids) l.ids fits) in
     let read : ids_in block 12 here ≡ take 44 r.rest.ids =
-    ids_read (take 44 r.rest.ids) (zeros (180 - length (words (map bits (take 44 r.rest.ids))))) block 12 here (All-take (λ id. FitsSigned w32 id) 44 r.rest.ids fits_rest)
-    (ap (drop 12) block_is ∙ ids_of_more entry (link_to n.behind) (take 44 r.rest.ids)) (len ∙ ap (λ (m : ℕ). min m 44) r.left_is ∙ take_short 44 r.rest.ids) in
+    ids_read (take 44 r.rest.ids) (zeros (180 - length (words (map bits (take 44 r.rest.ids))))) block 12 here
+    (All-take (λ id. FitsSigned w32 id) 44 r.rest.ids fits_rest)
+    (ap (drop 12) block_is ∙ ids_of_more entry (link_to n.behind) (take 44 r.rest.ids))
+    (len ∙ ap (λ (m : ℕ). min m 44) r.left_is ∙ take_short 44 r.rest.ids) in
     let parts : l.ids ≡ (ids ++ take 44 r.rest.ids) ++ drop 44 r.rest.ids =
-    r.ids_are ∙ ap (λ (x : List ℤ). ids ++ x) (sym (take-append-drop 44 r.rest.ids)) ∙ sym (append_assoc ids (take 44 r.rest.ids) (drop 44 r.rest.ids)) in
-    let parts_read : l.ids ≡ (ids ++ ids_in block 12 here) ++ drop 44 r.rest.ids = parts ∙ ap (λ (x : List ℤ). (ids ++ x) ++ drop 44 r.rest.ids) (sym read) in
+    r.ids_are ∙ ap (λ (x : List ℤ). ids ++ x) (sym (take-append-drop 44 r.rest.ids))
+    ∙ sym (append_assoc ids (take 44 r.rest.ids) (drop 44 r.rest.ids)) in
+    let parts_read : l.ids ≡ (ids ++ ids_in block 12 here) ++ drop 44 r.rest.ids = parts
+    ∙ ap (λ (x : List ℤ). (ids ++ x) ++ drop 44 r.rest.ids) (sym read) in
     record {
       ascending = ascending_left (ids ++ ids_in block 12 here) (drop 44 r.rest.ids) (subst IsAscending parts_read rises);
       rest = record {
         rest = record { ids = drop 44 r.rest.ids; more = n.behind };
         ids_are = parts_read;
-        more_are = r.more_are ∙ ap (λ (x : List ℕ). more ++ x) (n.is ∙ ap (λ (j : ℕ). j ∷ n.behind) (sym k_is)) ∙ sym (append_assoc more ((link - 1) ∷ []) n.behind);
+        more_are = r.more_are ∙ ap (λ (x : List ℕ). more ++ x) (n.is ∙ ap (λ (j : ℕ). j ∷ n.behind) (sym k_is))
+            ∙ sym (append_assoc more ((link - 1) ∷ []) n.behind);
         chain = n.chain;
         left_is = omega (arith, r.left_is, len, length-drop 44 r.rest.ids);
         link_is = ap (λ (b : List ℕ). word_at b 8) block_is
-            ∙ next_of_more entry (link_to n.behind) (take 44 r.rest.ids) (link_small image entry n.behind (drop 44 r.rest.ids) count n.chain size short);
+            ∙ next_of_more entry (link_to n.behind) (take 44 r.rest.ids);
       };
     }
 
 -- one block more lies within
 pub within_more : (len : ℕ) (more : List ℕ) (k : ℕ) → AreWithin len more → block_place 2112 k + 192 ≤ len → AreWithin len (more ++ k ∷ [])
 within_more len more k all here =
-    All-append (λ j. block_place 2112 j + 192 ≤ len) more (k ∷ []) all (All-cons (λ j. block_place 2112 j + 192 ≤ len) k [] here (λ i d below. absurd (omega arith)))
+    All-append (λ j. block_place 2112 j + 192 ≤ len) more (k ∷ []) all
+    (All-cons (λ j. block_place 2112 j + 192 ≤ len) k [] here (λ i d below. absurd (omega arith)))
 
 -- ---- over a draft
 
-pub record ReadSoFar {I : Type 0} (g : Ghosts I) (first now : Drafted I) (entry : ℤ) (block : List ℕ) (ids : List ℤ) (more : List ℕ) (count left link : ℕ) : Type 0 where
+pub record ReadSoFar {I : Type 0} (g : Ghosts I) (first now : Drafted I) (entry : ℤ) (block : List ℕ) (ids : List ℤ) (more : List ℕ)
+    (count left link : ℕ) : Type 0 where
   pub frame : OnlyLooks g first now ⊥
   pub told : IfSome first.bytes (λ image. length image ≡ block_place 2112 count)
   pub size : block_place 2112 count < 2 ^ 31
@@ -174,70 +186,81 @@ pub record ReadSoFar {I : Type 0} (g : Ghosts I) (first now : Drafted I) (entry 
   pub within : AreWithin first.len more
   pub rest : IfSome first.bytes (λ image. (l : PairList) → IsListed image entry block l → IsRest image entry l ids more left link)
 
-first_so : (bytes : Option (List ℕ)) (block : List ℕ) (entry : ℤ) (ids : List ℤ) (more : List ℕ) (first left link count : ℕ) → IfSome bytes (λ image. length image ≡ block_place 2112 count)
-    → block_place 2112 count < 2 ^ 31 → first ≡ min (word_at block 24) 19 → ids ≡ ids_in block 112 first → more ≡ []
+first_so : (bytes : Option (List ℕ)) (block : List ℕ) (entry : ℤ) (ids : List ℤ) (more : List ℕ) (first left link : ℕ)
+    → first ≡ min (word_at block 24) 19 → ids ≡ ids_in block 112 first → more ≡ []
     → left ≡ word_at block 24 - first → link ≡ word_at block 28
     → IfSome bytes (λ image. (l : PairList) → IsListed image entry block l → IsRest image entry l ids more left link)
-first_so None block entry ids more first left link count told short here ids_is none left_is link_is = tt
-first_so (Some image) block entry ids more first left link count told short here ids_is none left_is link_is =
-    λ l is. rest_first image block entry l ids more first left link count is told (omega (arith, told, short)) here ids_is none left_is link_is
+first_so None block entry ids more first left link here ids_is none left_is link_is = tt
+first_so (Some image) block entry ids more first left link here ids_is none left_is link_is =
+    λ l is. rest_first image block entry l ids more first left link is here ids_is none left_is link_is
 
-pub read_first : {I : Type 0} (g : Ghosts I) (d : Drafted I) (entry : ℤ) (block : List ℕ) (ids : List ℤ) (more : List ℕ) (first count left link : ℕ)
-    → IfSome d.bytes (λ image. length image ≡ block_place 2112 count) → block_place 2112 count < 2 ^ 31 → d.len ≡ block_place 2112 count → first ≡ min (word_at block 24) 19
-    → ids ≡ ids_in block 112 first → more ≡ [] → left ≡ word_at block 24 - first → link ≡ word_at block 28 → ReadSoFar g d d entry block ids more count left link
+pub read_first : {I : Type 0} (g : Ghosts I) (d : Drafted I) (entry : ℤ) (block : List ℕ) (ids : List ℤ) (more : List ℕ)
+    (first count left link : ℕ)
+    → IfSome d.bytes (λ image. length image ≡ block_place 2112 count) → block_place 2112 count < 2 ^ 31 → d.len ≡ block_place 2112 count
+    → first ≡ min (word_at block 24) 19
+    → ids ≡ ids_in block 112 first → more ≡ [] → left ≡ word_at block 24 - first → link ≡ word_at block 28
+    → ReadSoFar g d d entry block ids more count left link
 read_first g d entry block ids more first count left link told short len here ids_is none left_is link_is = record {
   frame = looks_none g d ⊥ (λ h. h);
   told = told;
   size = short;
   len = len;
   within = subst (λ (l : List ℕ). AreWithin d.len l) (sym none) (λ i e below. absurd (omega arith));
-  rest = first_so d.bytes block entry ids more first left link count told short here ids_is none left_is link_is;
+  rest = first_so d.bytes block entry ids more first left link here ids_is none left_is link_is;
 }
 
-more_so : (bytes : Option (List ℕ)) (block read : List ℕ) (entry : ℤ) (ids new_ids : List ℤ) (more new_more : List ℕ) (left link count here new_left new_link : ℕ)
-    → IfSome bytes (λ image. length image ≡ block_place 2112 count) → block_place 2112 count < 2 ^ 31
+more_so : (bytes : Option (List ℕ)) (block read : List ℕ) (entry : ℤ) (ids new_ids : List ℤ) (more new_more : List ℕ)
+    (left link here new_left new_link : ℕ)
     → IfSome bytes (λ image. (l : PairList) → IsListed image entry block l → IsRest image entry l ids more left link)
     → IfSome bytes (λ image. read ≡ block_of 2112 image (link - 1)) → 0 < left → here ≡ min left 44
     → new_ids ≡ ids ++ ids_in read 12 here → new_more ≡ more ++ (link - 1) ∷ [] → new_left ≡ left - here → new_link ≡ word_at read 8
     → IfSome bytes (λ image. (l : PairList) → IsListed image entry block l → IsRest image entry l new_ids new_more new_left new_link)
-more_so None block read entry ids new_ids more new_more left link count here new_left new_link told short rest at some len i m n k = tt
-more_so (Some image) block read entry ids new_ids more new_more left link count here new_left new_link told short rest at some len i m n k =
+more_so None block read entry ids new_ids more new_more left link here new_left new_link rest at some len i m n k = tt
+more_so (Some image) block read entry ids new_ids more new_more left link here new_left new_link rest at some len i m n k =
     λ l is.
-    let next = next_read image read entry l ids more left link count here (rest l is) is.ascending is.fits some told (omega (arith, told, short)) at len in
+    let next = next_read image read entry l ids more left link here (rest l is) is.ascending is.fits some at len in
     rw (i, m, n, k) next.rest
 
-pub read_more : {I : Type 0} (g : Ghosts I) (first now next : Drafted I) (entry : ℤ) (block read : List ℕ) (ids new_ids : List ℤ) (more new_more : List ℕ)
-    (count left link here new_left new_link : ℕ) (failed : Type 0) → ReadSoFar g first now entry block ids more count left link → OnlyLooks g now next failed
+pub read_more : {I : Type 0} (g : Ghosts I) (first now next : Drafted I) (entry : ℤ) (block read : List ℕ) (ids new_ids : List ℤ)
+    (more new_more : List ℕ)
+    (count left link here new_left new_link : ℕ) (failed : Type 0) → ReadSoFar g first now entry block ids more count left link
+    → OnlyLooks g now next failed
     → IfSome now.bytes (λ image. read ≡ block_of 2112 image (link - 1)) → 0 < left → 0 < link → link ≤ count → here ≡ min left 44
     → new_ids ≡ ids ++ ids_in read 12 here → new_more ≡ more ++ (link - 1) ∷ [] → new_left ≡ left - here → new_link ≡ word_at read 8
     → ReadSoFar g first next entry block new_ids new_more count new_left new_link
-read_more g first now next entry block read ids new_ids more new_more count left link here new_left new_link failed s looks at some linked within len i m n k = record {
-  frame = looks_then g first now next ⊥ ⊥ s.frame (looks_so g now next failed ⊥ looks (λ h. absurd h));
-  told = s.told;
-  size = s.size;
-  len = s.len;
-  within = subst (λ (l : List ℕ). AreWithin first.len l) (sym m) (within_more first.len more (link - 1) s.within (omega (arith, s.len)));
-  rest = more_so first.bytes block read entry ids new_ids more new_more left link count here new_left new_link s.told s.size s.rest
-      (subst (λ (b : Option (List ℕ)). IfSome b (λ image. read ≡ block_of 2112 image (link - 1))) s.frame.same.bytes at) some len i m n k;
-}
+read_more g first now next entry block read ids new_ids more new_more count left link here new_left new_link failed s looks at some linked
+    within len i m n k = record {
+      frame = looks_then g first now next ⊥ ⊥ s.frame (looks_so g now next failed ⊥ looks (λ h. absurd h));
+      told = s.told;
+      size = s.size;
+      len = s.len;
+      within = subst (λ (l : List ℕ). AreWithin first.len l) (sym m)
+          (within_more first.len more (link - 1) s.within (omega (arith, s.len)));
+      rest = more_so first.bytes block read entry ids new_ids more new_more left link here new_left new_link s.rest
+          (subst (λ (b : Option (List ℕ)). IfSome b (λ image. read ≡ block_of 2112 image (link - 1))) s.frame.same.bytes at) some len i m n
+          k;
+    }
 
 -- ---- what is no list
 
 abbrev pub Lists : ℤ → List ℕ → List ℕ → Type 0
 Lists entry block image = IsWhole 2112 image × ((l : PairList) × IsListed image entry block l)
 
-pub cause_so : (bytes : Option (List ℕ)) (P Q : List ℕ → Type 0) (fault : RecordFault) → HasCause bytes P fault → IfSome bytes (λ image. Q image → P image) → HasCause bytes Q fault
+pub cause_so : (bytes : Option (List ℕ)) (P Q : List ℕ → Type 0) (fault : RecordFault) → HasCause bytes P fault
+    → IfSome bytes (λ image. Q image → P image) → HasCause bytes Q fault
 cause_so bytes P Q DiskFault cause so = tt
 cause_so bytes P Q NoMemory cause so = tt
 cause_so None P Q (BadRecord at) cause so = tt
 cause_so (Some image) P Q (BadRecord at) cause so = λ q. cause (so q)
 
-pub lists_whole : (bytes : Option (List ℕ)) (entry : ℤ) (block : List ℕ) → IfSome bytes (λ image. Lists entry block image → IsWhole 2112 image)
+pub lists_whole : (bytes : Option (List ℕ)) (entry : ℤ) (block : List ℕ)
+    → IfSome bytes (λ image. Lists entry block image → IsWhole 2112 image)
 lists_whole None entry block = tt
 lists_whole (Some image) entry block = λ lists. lists.0
 
 -- a block is no continuation of the entry
-pub not_more : (bytes : Option (List ℕ)) (entry : ℤ) (link count : ℕ) (block : List ℕ) → IfSome bytes (λ image. block ≡ block_of 2112 image (link - 1))
+pub not_more : (bytes : Option (List ℕ)) (entry : ℤ) (link count : ℕ) (block : List ℕ)
+    → IfSome bytes (λ image. block ≡ block_of 2112 image (link - 1))
     → is_more_of entry block ≡ false → IfSome bytes (λ image. IsMore image entry link count → ⊥)
 not_more None entry link count block at fails = tt
 not_more (Some image) entry link count block at fails = λ more.
@@ -245,16 +268,19 @@ not_more (Some image) entry link count block at fails = λ more.
     absurd cc
 
 -- the ids of the entry's block do not ascend
-pub first_falls : (bytes : Option (List ℕ)) (entry : ℤ) (block : List ℕ) (first : ℕ) → first ≡ min (word_at block 24) 19 → ¬ IsAscending ([] ++ ids_in block 112 first)
+pub first_falls : (bytes : Option (List ℕ)) (entry : ℤ) (block : List ℕ) (first : ℕ) → first ≡ min (word_at block 24) 19
+    → ¬ IsAscending ([] ++ ids_in block 112 first)
     → IfSome bytes (λ image. Lists entry block image → ⊥)
 first_falls None entry block first here not = tt
 first_falls (Some image) entry block first here not = λ lists.
     let l = lists.1.0 in
     let is = lists.1.1 in
-    not (subst IsAscending (sym (first_ids image block entry l first is here)) (ascending_left (take 19 l.ids) (drop 19 l.ids) (subst IsAscending (sym (take-append-drop 19 l.ids)) is.ascending)))
+    not (subst IsAscending (sym (first_ids image block entry l first is here))
+    (ascending_left (take 19 l.ids) (drop 19 l.ids) (subst IsAscending (sym (take-append-drop 19 l.ids)) is.ascending)))
 
 -- no continuation is named where one must be
-more_wanted : (bytes : Option (List ℕ)) (entry : ℤ) (block : List ℕ) (ids : List ℤ) (more : List ℕ) (left link count : ℕ) → FitsSigned w32 entry → 0 < left
+more_wanted : (bytes : Option (List ℕ)) (entry : ℤ) (block : List ℕ) (ids : List ℤ) (more : List ℕ) (left link count : ℕ)
+    → FitsSigned w32 entry → 0 < left
     → IfSome bytes (λ image. length image ≡ block_place 2112 count)
     → IfSome bytes (λ image. (l : PairList) → IsListed image entry block l → IsRest image entry l ids more left link)
     → IfSome bytes (λ image. Lists entry block image → IsMore image entry link count)
@@ -262,7 +288,8 @@ more_wanted None entry block ids more left link count fits some told rest = tt
 more_wanted (Some image) entry block ids more left link count fits some told rest = λ lists.
     more_there image entry lists.1.0 ids more left link count (rest lists.1.0 lists.1.1) fits some told
 
-pub no_more : {I : Type 0} (g : Ghosts I) (first now : Drafted I) (entry : ℤ) (block : List ℕ) (ids : List ℤ) (more : List ℕ) (count left link : ℕ) (fault : RecordFault)
+pub no_more : {I : Type 0} (g : Ghosts I) (first now : Drafted I) (entry : ℤ) (block : List ℕ) (ids : List ℤ) (more : List ℕ)
+    (count left link : ℕ) (fault : RecordFault)
     → ReadSoFar g first now entry block ids more count left link → FitsSigned w32 entry → 0 < left
     → HasCause now.bytes (λ image. IsMore image entry link count) fault → HasCause first.bytes (Lists entry block) fault
 no_more g first now entry block ids more count left link fault s fits some cause =
@@ -270,22 +297,23 @@ no_more g first now entry block ids more count left link fault s fits some cause
     (subst (λ (b : Option (List ℕ)). HasCause b (λ image. IsMore image entry link count) fault) s.frame.same.bytes cause)
     (more_wanted first.bytes entry block ids more left link count fits some s.told s.rest)
 
-falls_so : (bytes : Option (List ℕ)) (entry : ℤ) (block read : List ℕ) (ids : List ℤ) (more : List ℕ) (left link count here : ℕ) → 0 < left
-    → IfSome bytes (λ image. length image ≡ block_place 2112 count) → block_place 2112 count < 2 ^ 31
+falls_so : (bytes : Option (List ℕ)) (entry : ℤ) (block read : List ℕ) (ids : List ℤ) (more : List ℕ) (left link here : ℕ) → 0 < left
     → IfSome bytes (λ image. (l : PairList) → IsListed image entry block l → IsRest image entry l ids more left link)
     → IfSome bytes (λ image. read ≡ block_of 2112 image (link - 1)) → here ≡ min left 44 → ¬ IsAscending (ids ++ ids_in read 12 here)
     → IfSome bytes (λ image. Lists entry block image → ⊥)
-falls_so None entry block read ids more left link count here some told short rest at len not = tt
-falls_so (Some image) entry block read ids more left link count here some told short rest at len not = λ lists.
+falls_so None entry block read ids more left link here some rest at len not = tt
+falls_so (Some image) entry block read ids more left link here some rest at len not = λ lists.
     let is = lists.1.1 in
-    let next = next_read image read entry lists.1.0 ids more left link count here (rest lists.1.0 is) is.ascending is.fits some told (omega (arith, told, short)) at len in
+    let next = next_read image read entry lists.1.0 ids more left link here (rest lists.1.0 is) is.ascending is.fits some at len in
     not next.ascending
 
-pub more_falls : {I : Type 0} (g : Ghosts I) (first now : Drafted I) (entry : ℤ) (block read : List ℕ) (ids : List ℤ) (more : List ℕ) (count left link here : ℕ)
-    → ReadSoFar g first now entry block ids more count left link → 0 < left → IfSome now.bytes (λ image. read ≡ block_of 2112 image (link - 1)) → here ≡ min left 44
+pub more_falls : {I : Type 0} (g : Ghosts I) (first now : Drafted I) (entry : ℤ) (block read : List ℕ) (ids : List ℤ) (more : List ℕ)
+    (count left link here : ℕ)
+    → ReadSoFar g first now entry block ids more count left link → 0 < left
+    → IfSome now.bytes (λ image. read ≡ block_of 2112 image (link - 1)) → here ≡ min left 44
     → ¬ IsAscending (ids ++ ids_in read 12 here) → IfSome first.bytes (λ image. Lists entry block image → ⊥)
 more_falls g first now entry block read ids more count left link here s some at len not =
-    falls_so first.bytes entry block read ids more left link count here some s.told s.size s.rest
+    falls_so first.bytes entry block read ids more left link here some s.rest
     (subst (λ (b : Option (List ℕ)). IfSome b (λ image. read ≡ block_of 2112 image (link - 1))) s.frame.same.bytes at) len not
 
 -- ---- the whole list
@@ -302,7 +330,8 @@ whole_so (Some image) entry block ids more left link none rest = λ l is.
       sym (r.more_are ∙ ap (λ (x : List ℕ). more ++ x) no_more ∙ append-nil more),
     )
 
-pub read_whole : {I : Type 0} (g : Ghosts I) (first now : Drafted I) (entry : ℤ) (block : List ℕ) (ids : List ℤ) (more : List ℕ) (count left link : ℕ)
+pub read_whole : {I : Type 0} (g : Ghosts I) (first now : Drafted I) (entry : ℤ) (block : List ℕ) (ids : List ℤ) (more : List ℕ)
+    (count left link : ℕ)
     → ReadSoFar g first now entry block ids more count left link → left ≡ 0
     → IfSome first.bytes (λ image. (l : PairList) → IsListed image entry block l → (ids ≡ l.ids) × (more ≡ l.more))
 read_whole g first now entry block ids more count left link s none = whole_so first.bytes entry block ids more left link none s.rest

@@ -14,7 +14,7 @@ use Rattle.prdb_entries.specs.State.{PrEntry}
 use Rattle.prdb_entries.proofs.BlockPlaces.{IsPut, put_block}
 use Rattle.prdb_entries.proofs.Changed.{by_id}
 use Rattle.prdb_entries.proofs.LaidOut.{count_is, zero_kind}
-use Rattle.prdb_members.specs.Layout.{AreLists, IsChain, IsDistinct, IsListed, PairList, link_to, more_block}
+use Rattle.prdb_members.specs.Layout.{AreLists, IsChain, IsDistinct, IsListed, PairList, link_to, more_block, IsSpelled}
 use Rattle.prdb_members.specs.Changes.{with_more}
 use Rattle.prdb_members.specs.Sides.{set_list}
 use Rattle.prdb_members.proofs.BlockIds.{kind_of_more, entry_of_more}
@@ -58,17 +58,21 @@ head_not k more distinct has = distinct 0 (suc has.0) k (omega arith) (omega (ar
 distinct_tail : (k : ℕ) (more : List ℕ) → IsDistinct (k ∷ more) → IsDistinct more
 distinct_tail k more distinct i j d less below = distinct (suc i) (suc j) d (omega arith) (omega arith)
 
-pub written : (entry : ℤ) (more : List ℕ) (ids : List ℤ) (image : List ℕ) (n : ℕ) → length image ≡ block_place n → All (λ k. k < n) more → IsDistinct more → IsFull more ids
+pub written : (entry : ℤ) (more : List ℕ) (ids : List ℤ) (image : List ℕ) (n : ℕ) → length image ≡ block_place n → All (λ k. k < n) more
+    → IsDistinct more → IsFull more ids
     → IsWritten entry more ids image (with_more entry more ids image) n
 unfolding with_more
 written entry [] ids image n size below distinct full = record { size = size; front = refl; chain = full; others = λ j less not. refl }
 written entry (k ∷ more) ids image n size below distinct full =
     let block = more_block entry (link_to more) (take 44 ids) in
     let here : k < n = below 0 0 (omega arith) in
-    let put : IsPut k block image (with_block k block image) n = put_block image block k n size (length-more entry (link_to more) (take 44 ids) (take_few 44 ids)) here in
+    let put : IsPut k block image (with_block k block image) n = put_block image block k n size
+    (length-more entry (link_to more) (take 44 ids) (take_few 44 ids)) here in
     let count : block_count image ≡ n = count_is image n size in
-    let rest = written entry more (drop 44 ids) (with_block k block image) n put.size (All-tail (λ j. j < n) k more below) (distinct_tail k more distinct) full.1 in
-    let last : block_count (with_more entry more (drop 44 ids) (with_block k block image)) ≡ n = count_is (with_more entry more (drop 44 ids) (with_block k block image)) n rest.size in
+    let rest = written entry more (drop 44 ids) (with_block k block image) n put.size (All-tail (λ j. j < n) k more below)
+    (distinct_tail k more distinct) full.1 in
+    let last : block_count (with_more entry more (drop 44 ids) (with_block k block image))
+    ≡ n = count_is (with_more entry more (drop 44 ids) (with_block k block image)) n rest.size in
     record {
       size = rest.size;
       front = rest.front ∙ put.head;
@@ -85,7 +89,8 @@ pub record IsMoreBlock (image : List ℕ) (entry : ℤ) (j : ℕ) : Type 0 where
   pub kind : kind_of (block_in image j) ≡ 2
   pub owner : signed_at (block_in image j) 4 ≡ entry
 
-pub chain_block : (image : List ℕ) (entry : ℤ) (more : List ℕ) (ids : List ℤ) → FitsSigned w32 entry → IsChain image entry more ids → (j : ℕ) → Contains more j
+pub chain_block : (image : List ℕ) (entry : ℤ) (more : List ℕ) (ids : List ℤ) → FitsSigned w32 entry → IsChain image entry more ids
+    → (j : ℕ) → Contains more j
     → IsMoreBlock image entry j
 chain_block image entry [] ids fits chain j has = absurd (omega (arith, has.1))
 chain_block image entry (k ∷ more) ids fits chain j has =
@@ -100,7 +105,8 @@ chain_block image entry (k ∷ more) ids fits chain j has =
 
 -- a list whose blocks stay
 pub chain_stays : (old new : List ℕ) (entry : ℤ) (more : List ℕ) (ids : List ℤ) → FitsSigned w32 entry
-    → ((j : ℕ) → IsMoreBlock old entry j → (j < block_count new) × (block_in new j ≡ block_in old j)) → IsChain old entry more ids → IsChain new entry more ids
+    → ((j : ℕ) → IsMoreBlock old entry j → (j < block_count new) × (block_in new j ≡ block_in old j)) → IsChain old entry more ids
+    → IsChain new entry more ids
 chain_stays old new entry [] ids fits same chain = chain
 chain_stays old new entry (k ∷ more) ids fits same chain =
     let s = same k (chain_block old entry (k ∷ more) ids fits chain k (0, omega arith, refl)) in
@@ -120,6 +126,7 @@ pub record IsSide (old new : List ℕ) (lists : ℤ → PairList) (x : ℤ) (k f
   pub here : block_in new k ≡ block
   pub same_entry : entry_in block ≡ entry_in (block_in old k)
   pub is_entry : IsEntryBlock block
+  pub is_spelled : IsSpelled block
   pub listed : IsListed new x block l
   pub others : (j : ℕ) → j < n → j ≢ k → (Contains l.more j → ⊥) → j ≢ f → block_in new j ≡ block_in old j
   pub spare : f < n → (Contains l.more f → ⊥) → block_in new f ≡ zeros 192
@@ -135,7 +142,8 @@ data Place (old new : List ℕ) (k f : ℕ) (more : List ℕ) (j : ℕ) : Type 0
   freed : block_in new j ≡ zeros 192 → Place old new k f more j
   untouched : j ≢ k → (Contains more j → ⊥) → j ≢ f → block_in new j ≡ block_in old j → Place old new k f more j
 
-place : (old new : List ℕ) (lists : ℤ → PairList) (x : ℤ) (k f n : ℕ) (block : List ℕ) (l : PairList) → IsSide old new lists x k f n block l → (j : ℕ) → j < n
+place : (old new : List ℕ) (lists : ℤ → PairList) (x : ℤ) (k f n : ℕ) (block : List ℕ) (l : PairList) → IsSide old new lists x k f n block l
+    → (j : ℕ) → j < n
     → Place old new k f l.more j
 place old new lists x k f n block l s j below =
     ⊎_elim (λ (same : j ≡ k). the_entry same)
@@ -143,19 +151,23 @@ place old new lists x k f n block l s j below =
       | inl has ↦ of_list has
       | inr not ↦
           ⊎_elim
-          (λ (same : j ≡ f). freed (ap (block_in new) same ∙ s.spare (subst (λ (i : ℕ). i < n) same below) (λ has. not (subst (Contains l.more) (sym same) has))))
+          (λ (same : j ≡ f).
+          freed (ap (block_in new) same
+          ∙ s.spare (subst (λ (i : ℕ). i < n) same below) (λ has. not (subst (Contains l.more) (sym same) has))))
           (λ (apart : j ≢ f). untouched other not apart (s.others j below other not apart))
           (cases_eq j f)
     ])
     (cases_eq j k)
 
 -- a block that is touched was free, or a continuation of the entry
-touched : (old new : List ℕ) (lists : ℤ → PairList) (x : ℤ) (k f n : ℕ) (block : List ℕ) (l : PairList) → IsSide old new lists x k f n block l
+touched : (old new : List ℕ) (lists : ℤ → PairList) (x : ℤ) (k f n : ℕ) (block : List ℕ) (l : PairList)
+    → IsSide old new lists x k f n block l
     → ((j : ℕ) → Contains (lists x).more j → IsMoreBlock old x j) → (j : ℕ) → j < n → Contains l.more j ⊎ (j ≡ f)
     → (kind_of (block_in old j) ≡ 0) ⊎ IsMoreBlock old x j
 touched old new lists x k f n block l s more j below is =
     let at_f : j ≡ f → (kind_of (block_in old j) ≡ 0) ⊎ IsMoreBlock old x j =
-    λ same. subst (λ (i : ℕ). (kind_of (block_in old i) ≡ 0) ⊎ IsMoreBlock old x i) (sym same) (elim (s.spare_was (subst (λ (i : ℕ). i < n) same below)) [
+    λ same. subst (λ (i : ℕ). (kind_of (block_in old i) ≡ 0) ⊎ IsMoreBlock old x i) (sym same)
+    (elim (s.spare_was (subst (λ (i : ℕ). i < n) same below)) [
       | inl free ↦ inl free
       | inr has ↦ inr (more f has)
     ]) in
@@ -165,25 +177,32 @@ touched old new lists x k f n block l s more j below is =
     ]
 
 -- the block of another entry, or a continuation of one, stays
-pub stays : (old new : List ℕ) (lists : ℤ → PairList) (x : ℤ) (k f n : ℕ) (block : List ℕ) (l : PairList) → IsSide old new lists x k f n block l
-    → ((j : ℕ) → Contains (lists x).more j → IsMoreBlock old x j) → (j : ℕ) → j < n → j ≢ k → kind_of (block_in old j) ≢ 0 → (IsMoreBlock old x j → ⊥)
+pub stays : (old new : List ℕ) (lists : ℤ → PairList) (x : ℤ) (k f n : ℕ) (block : List ℕ) (l : PairList)
+    → IsSide old new lists x k f n block l
+    → ((j : ℕ) → Contains (lists x).more j → IsMoreBlock old x j) → (j : ℕ) → j < n → j ≢ k → kind_of (block_in old j) ≢ 0
+    → (IsMoreBlock old x j → ⊥)
     → block_in new j ≡ block_in old j
 stays old new lists x k f n block l s more j below other used apart =
-    let not : Contains l.more j ⊎ (j ≡ f) → ⊥ = λ is. elim (touched old new lists x k f n block l s more j below is) [ inl free ↦ used free | inr mine ↦ apart mine ] in
+    let not : Contains l.more j ⊎ (j ≡ f)
+    → ⊥ = λ is. elim (touched old new lists x k f n block l s more j below is) [ inl free ↦ used free | inr mine ↦ apart mine ] in
     s.others j below other (λ has. not (inl has)) (λ same. not (inr same))
 
 -- the image is laid out for the same registry
-pub side_laid : (old new : List ℕ) (r : Registry) (lists : ℤ → PairList) (x : ℤ) (k f n : ℕ) (block : List ℕ) (l : PairList) → IsLaidOut old r
-    → IsSide old new lists x k f n block l → ((j : ℕ) → Contains (lists x).more j → IsMoreBlock old x j) → ((j : ℕ) → Contains l.more j → IsMoreBlock new x j)
+pub side_laid : (old new : List ℕ) (r : Registry) (lists : ℤ → PairList) (x : ℤ) (k f n : ℕ) (block : List ℕ) (l : PairList)
+    → IsLaidOut old r
+    → IsSide old new lists x k f n block l → ((j : ℕ) → Contains (lists x).more j → IsMoreBlock old x j)
+    → ((j : ℕ) → Contains l.more j → IsMoreBlock new x j)
     → IsLaidOut new r
 side_laid old new r lists x k f n block l laid s more new_more =
     let count : block_count old ≡ n = count_is old n s.was in
     let new_count : block_count new ≡ n = count_is new n s.size in
-    let kind_one : (j : ℕ) → j < n → kind_of (block_in new j) ≡ 1 → (kind_of (block_in old j) ≡ 1) × (entry_in (block_in new j) ≡ entry_in (block_in old j)) =
+    let kind_one : (j : ℕ) → j < n → kind_of (block_in new j) ≡ 1
+    → (kind_of (block_in old j) ≡ 1) × (entry_in (block_in new j) ≡ entry_in (block_in old j)) =
     λ j below kind. elim (place old new lists x k f n block l s j below) [
       | the_entry same ↦ (
         ap (λ (i : ℕ). kind_of (block_in old i)) same ∙ s.kind,
-        ap (λ (i : ℕ). entry_in (block_in new i)) same ∙ ap entry_in s.here ∙ s.same_entry ∙ ap (λ (i : ℕ). entry_in (block_in old i)) (sym same),
+        ap (λ (i : ℕ). entry_in (block_in new i)) same ∙ ap entry_in s.here ∙ s.same_entry
+            ∙ ap (λ (i : ℕ). entry_in (block_in old i)) (sym same),
       )
       | of_list has ↦ absurd (omega (arith, kind, (new_more j has).kind))
       | freed free ↦ absurd (omega (arith, kind, ap kind_of free, zero_kind))
@@ -214,7 +233,8 @@ side_laid old new r lists x k f n block l laid s more new_more =
             ap entry_in b ∙ s.same_entry ∙ ap (λ (i : ℕ). entry_in (block_in old i)) (sym same) ∙ o.3,
           ))
           (λ (other : o.0 ≢ k).
-          let b = stays old new lists x k f n block l s more o.0 in_n other (λ free. omega (arith, o.2)) (λ mine. omega (arith, o.2, mine.kind)) in
+          let b = stays old new lists x k f n block l s more o.0 in_n other (λ free. omega (arith, o.2))
+          (λ mine. omega (arith, o.2, mine.kind)) in
           (o.0, omega (arith, in_n, new_count), ap kind_of b ∙ o.2, ap entry_in b ∙ o.3))
           (cases_eq o.0 k);
       one = λ i j in_i in_j kind_i kind_j same.
@@ -233,8 +253,10 @@ pub set_other : (x id : ℤ) (l : PairList) (lists : ℤ → PairList) → id �
 set_other x id l lists other = ap (λ (b : Bool). cond b l (lists id)) (int_other id x other)
 
 -- and the lists are those with the new one
-pub side_lists : (old new : List ℕ) (r : Registry) (lists : ℤ → PairList) (x : ℤ) (k f n : ℕ) (block : List ℕ) (l : PairList) → IsLaidOut old r
-    → AreLists old r lists → IsSide old new lists x k f n block l → IsSome (r.entry x) → ((id : ℤ) → IsSome (r.entry id) → FitsSigned w32 id)
+pub side_lists : (old new : List ℕ) (r : Registry) (lists : ℤ → PairList) (x : ℤ) (k f n : ℕ) (block : List ℕ) (l : PairList)
+    → IsLaidOut old r
+    → AreLists old r lists → IsSide old new lists x k f n block l → IsSome (r.entry x)
+    → ((id : ℤ) → IsSome (r.entry id) → FitsSigned w32 id)
     → ((j : ℕ) → Contains (lists x).more j → IsMoreBlock old x j) → ((j : ℕ) → Contains l.more j → IsMoreBlock new x j)
     → AreLists new r (set_list x l lists)
 side_lists old new r lists x k f n block l laid are s there fits more new_more =
@@ -256,10 +278,13 @@ side_lists old new r lists x k f n block l laid are s there fits more new_more =
                 let old_kind : kind_of (block_in old j) ≡ 1 = ap kind_of (sym same) ∙ kind in
                 let in_old : j < block_count old = omega (arith, in_n, count) in
                 let y = (entry_in (block_in old j)).id in
-                let differs : (entry_in (block_in old j)).id ≢ x = λ is. other (laid.one j k in_old (omega (arith, s.within, count)) old_kind s.kind (is ∙ sym s.id)) in
-                let fit = fits (entry_in (block_in old j)).id (subst (λ (o : Option PrEntry). IsSome o) (sym (laid.there j in_old old_kind)) refl) in
+                let differs : (entry_in (block_in old j)).id ≢ x = λ is.
+                other (laid.one j k in_old (omega (arith, s.within, count)) old_kind s.kind (is ∙ sym s.id)) in
+                let fit = fits (entry_in (block_in old j)).id
+                (subst (λ (o : Option PrEntry). IsSome o) (sym (laid.there j in_old old_kind)) refl) in
                 let was = are.listed j in_old old_kind in
-                let chain = chain_stays old new (entry_in (block_in old j)).id (lists (entry_in (block_in old j)).id).more (drop 19 (lists (entry_in (block_in old j)).id).ids) fit
+                let chain = chain_stays old new (entry_in (block_in old j)).id (lists (entry_in (block_in old j)).id).more
+                (drop 19 (lists (entry_in (block_in old j)).id).ids) fit
                 (λ i mine.
                 let in_i : i < n = omega (arith, mine.below, count) in (
                   omega (arith, in_i, new_count),
@@ -271,13 +296,15 @@ side_lists old new r lists x k f n block l laid are s there fits more new_more =
                 let now : IsListed new (entry_in (block_in old j)).id (block_in old j) (lists (entry_in (block_in old j)).id) =
                 record { ascending = was.ascending; fits = was.fits; few = was.few; front = was.front; first = was.first; chain = chain } in
                 subst (λ (c : List ℕ). IsListed new (entry_in c).id c (set_list x l lists (entry_in c).id)) (sym same)
-                (subst (λ (m : PairList). IsListed new (entry_in (block_in old j)).id (block_in old j) m) (sym (set_other x (entry_in (block_in old j)).id l lists differs)) now)
+                (subst (λ (m : PairList). IsListed new (entry_in (block_in old j)).id (block_in old j) m)
+                (sym (set_other x (entry_in (block_in old j)).id l lists differs)) now)
           ];
       used = λ j below kind.
           let in_n : j < n = omega (arith, below, new_count) in
           elim (place old new lists x k f n block l s j in_n) [
             | the_entry same ↦
-                let one : kind_of (block_in new j) ≡ 1 = ap (λ (i : ℕ). kind_of (block_in new i)) same ∙ ap kind_of s.here ∙ s.is_entry.kind in
+                let one : kind_of (block_in new j) ≡ 1 = ap (λ (i : ℕ). kind_of (block_in new i)) same ∙ ap kind_of s.here
+                ∙ s.is_entry.kind in
                 absurd (omega (arith, one, kind))
             | of_list has ↦ (x, there, subst (λ (m : PairList). Contains m.more j) (sym (set_same x x l lists refl)) has)
             | freed free ↦ absurd (omega (arith, kind, ap kind_of free, zero_kind))
@@ -286,7 +313,8 @@ side_lists old new r lists x k f n block l laid are s there fits more new_more =
                   u.0,
                   u.1,
                   by_id u.0 x
-                      (λ is. elim (s.old_more j (subst (λ (y : ℤ). Contains (lists y).more j) is u.2)) [ inl has ↦ absurd (not has) | inr at_f ↦ absurd (apart at_f) ])
+                      (λ is. elim (s.old_more j (subst (λ (y : ℤ). Contains (lists y).more j) is u.2))
+                      [ inl has ↦ absurd (not has) | inr at_f ↦ absurd (apart at_f) ])
                       (λ differs. subst (λ (m : PairList). Contains m.more j) (sym (set_other x u.0 l lists differs)) u.2),
                 )
           ];
@@ -294,4 +322,13 @@ side_lists old new r lists x k f n block l laid are s there fits more new_more =
           by_id id x
           (λ is. subst (λ (m : PairList). IsDistinct m.more) (sym (set_same x id l lists is)) s.distinct)
           (λ differs. subst (λ (m : PairList). IsDistinct m.more) (sym (set_other x id l lists differs)) (are.once id is_there));
+      spelled = λ j below kind.
+          let in_n : j < n = omega (arith, below, new_count) in
+          elim (place old new lists x k f n block l s j in_n) [
+            | the_entry same ↦ subst IsSpelled (sym (ap (block_in new) same ∙ s.here)) s.is_spelled
+            | of_list has ↦ absurd (omega (arith, kind, (new_more j has).kind))
+            | freed free ↦ absurd (omega (arith, kind, ap kind_of free, zero_kind))
+            | untouched other not apart same ↦
+                subst IsSpelled (sym same) (are.spelled j (omega (arith, in_n, count)) (ap kind_of (sym same) ∙ kind))
+          ];
     }

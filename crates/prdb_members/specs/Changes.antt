@@ -2,10 +2,10 @@
 use Rattle.std.specs.Prelude.{ℕ, ℤ, zero, suc, ◌+◌, ◌-◌, List, [], ◌∷◌, ◌++◌, length, take, drop, min, nat_lt, if◌then◌else◌}
 use Rattle.std.specs.Int.{div_ceil}
 use Rattle.prdb_entries.specs.Blocks.{block_count}
-use Rattle.prdb_entries.specs.Bytes.{word_at, words, zeros}
+use Rattle.prdb_entries.specs.Bytes.{word_at, zeros}
 use Rattle.prdb_entries.specs.Records.{block_in, first_block, has_id, next_block, whole, with_block, with_count}
 use Rattle.prdb_members.specs.Blocks.{ids_in}
-use Rattle.prdb_members.specs.Layout.{PairList, id_field, link_to, more_block}
+use Rattle.prdb_members.specs.Layout.{PairList, id_field, link_to, list_words, more_block}
 use Rattle.prdb_members.specs.Lists.{ids_with, ids_without}
 use Rattle.prdb_members.specs.declared.layout.TheConstants.{BLOCK_LEN, PAIR_COUNT_AT, FIRST_MORE_AT, FIRST_IDS_AT, FIRST_IDS, NEXT_AT, MORE_IDS_AT, MORE_IDS}
 
@@ -37,12 +37,13 @@ list_in image block =
 -- an entry's block with another list of pairs
 unfoldable pub with_list : List ℕ → PairList → List ℕ
 with_list block l =
-    take 24 block ++ words (length l.ids ∷ link_to l.more ∷ []) ++ take 80 (drop 32 block) ++ id_field 80 (take 19 l.ids)
+    take 24 block ++ list_words l ++ take 80 (drop 32 block) ++ id_field 80 (take 19 l.ids)
 
 -- the continuation blocks of an entry with these ids in them, one after the other
 unfoldable pub with_more : (entry : ℤ) → List ℕ → List ℤ → List ℕ → List ℕ
 with_more entry [] ids image = image
-with_more entry (k ∷ more) ids image = with_more entry more (drop 44 ids) (with_block k (more_block entry (link_to more) (take 44 ids)) image)
+with_more entry (k ∷ more) ids image =
+    with_more entry more (drop 44 ids) (with_block k (more_block entry (link_to more) (take 44 ids)) image)
 
 -- an entry in a block, with another list in place of its own
 abbrev pub relisted : (k : ℕ) → (entry : ℤ) → (block : List ℕ) → PairList → List ℕ → List ℕ

@@ -22,4 +22,5 @@ HasPairCause held may fault = HasCause held (λ image. (r : Registry) × (m : Me
 -- where the old bytes hold pairs of which the change may be made, the new ones hold the pairs after it
 abbrev pub MakesPairs : {I : Type 0} → (Registry → Members → Type 0) → (Members → Members) → (old new : Drafted I) → Type 0
 MakesPairs may change old new =
-    IfSome old.bytes (λ image. (r : Registry) (m : Members) → HoldsPairs image r m → may r m → IsSomeAnd new.bytes (λ after. HoldsPairs after r (change m)))
+    IfSome old.bytes
+    (λ image. (r : Registry) (m : Members) → HoldsPairs image r m → may r m → IsSomeAnd new.bytes (λ after. HoldsPairs after r (change m)))

@@ -6,4 +6,5 @@ pub mod Layout
 pub mod Ends
 pub mod Sought
 pub mod Changes
+pub mod Moves
 pub mod Sides

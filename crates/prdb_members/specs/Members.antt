@@ -17,7 +17,8 @@ are_paired m a b = m.has a b || m.has b a
 
 -- The pairs of a registry: each is of a user and a group that are there.
 abbrev pub ArePairs : Registry → Members → Type 0
-ArePairs r m = (member group : ℤ) → m.has member group ≡ true → (pos 0 <ℤ member) × (group <ℤ pos 0) × IsSome (r.entry member) × IsSome (r.entry group)
+ArePairs r m =
+    (member group : ℤ) → m.has member group ≡ true → (pos 0 <ℤ member) × (group <ℤ pos 0) × IsSome (r.entry member) × IsSome (r.entry group)
 
 -- ---- what is found
 

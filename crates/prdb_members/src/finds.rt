@@ -12,7 +12,7 @@ ghost use Rattle.prdb_members.specs.Members.{Members, IsInList, IsOwned, are_pai
 use crate::id_lists::IdList;
 use crate::listed::find_list;
 use db_image::{Draft, ImageRead, RecordFault};
-use prdb_entries::next_id;
+use entry_scans::{EntryView, Sought, ids_where};
 use std::alloc::Global;
 
 /// The id of `system:anyuser`, in which each user is.
@@ -65,6 +65,21 @@ pub fn has_pair<I: ImageRead>(
     Ok(there)
 }
 
+/// The groups with this owner.
+#[derive(Clone, Copy)]
+struct OwnedBy(i32);
+
+impl Sought for OwnedBy {
+    ghost use Rattle.std.specs.Prelude.{◌&&◌, int_lt, pos};
+    ghost use Rattle.std.specs.Ordering.{int_eq};
+
+    ghost test = { λ s e. int_lt e.id (pos 0) && int_eq e.owner s.0 };
+
+    fn is_met(&self, e: EntryView<'_>) -> bool {
+        e.id < 0 && e.owner == self.0
+    }
+}
+
 /// The groups that an id owns; those without owner where it is 0.
 pub fn owned<I: ImageRead>(alloc: Global, d: &mut Draft<I>, id: i32) -> Result<IdList, RecordFault>
     requires { d.old.len < 2 ^ 31 }
@@ -72,21 +87,8 @@ pub fn owned<I: ImageRead>(alloc: Global, d: &mut Draft<I>, id: i32) -> Result<I
     ensures fault { IfErr result (HasCause d.old.bytes Holds) }
     ensures frame { OnlyLooks I.ImageRead d.old d.new (IsErrOf result RecordFault.DiskFault) }
 {
-    let mut ids = IdList::new(alloc);
-    let mut after = i32::MIN;
-    while let Some(e) = next_id(alloc, d, after)? {
-        if e.id <= after {
-            return Err(RecordFault::BadRecord { at: d.len() });
-        }
-        if e.id >= 0 {
-            break;
-        }
-        if e.owner == id {
-            ids.push(e.id)?;
-        }
-        after = e.id;
-    }
-    Ok(ids)
+    let ids = ids_where(alloc, d, &OwnedBy(id))?;
+    Ok(IdList::of_ascending(ids))
 }
 
 /// The list of ids under which an entry acts: for a user its own, its groups, and the groups in which each user is; for

@@ -8,6 +8,7 @@ mod id_lists;
 mod laws;
 mod layout;
 mod listed;
+mod moves;
 mod sides;
 mod writes;
 
@@ -15,12 +16,8 @@ pub use changes::{add_pair, remove_pair};
 pub use finds::{cps, elements, has_pair, owned};
 pub use id_lists::IdList;
 pub use laws::{
-    law_empty_holds_no_pairs, law_insert_keeps_pairs, law_join_adds_the_pair,
+    law_empty_holds_no_pairs, law_insert_keeps_pairs, law_join_adds_the_pair, law_move_keeps_pairs,
     law_part_takes_the_pair, law_remove_keeps_pairs, law_replace_keeps_pairs,
     law_set_maxima_keeps_pairs,
 };
-
-#[cfg(test)]
-mod change_tests;
-#[cfg(test)]
-mod tests;
+pub use moves::move_id;

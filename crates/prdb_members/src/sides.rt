@@ -11,7 +11,7 @@ ghost use Rattle.prdb_members.specs.Blocks.{AreWithin};
 ghost use Rattle.prdb_members.specs.Changes.{blocks_for, free_for, gained, lost, more_for, relisted, with_free};
 ghost use Rattle.prdb_members.specs.Layout.{PairList};
 ghost use Rattle.prdb_members.specs.Lists.{ids_with, ids_without};
-ghost use Rattle.prdb_members.specs.Sides.{HoldsEntry, HoldsLists, HoldsPlace, IsPlace};
+ghost use Rattle.prdb_members.specs.Sides.{HasEntry, HasLists, HoldsPlace, IsPlace};
 
 use crate::blocks::Sought;
 use crate::layout::{BLOCK_COUNT_AT, BLOCK_LEN, FIRST_IDS, HEAD_LEN, MAX_IDS, MORE_IDS};
@@ -36,13 +36,12 @@ pub(crate) fn find_place<I: ImageRead>(
     entry: i32,
 ) -> Result<Place, RecordFault>
     requires { d.old.len < 2 ^ 31 }
-    ensures found { IfOk result (λ p. IfSome d.old.bytes (λ image. (r : Registry) (lists : ℤ → PairList) → HoldsLists image r lists
+    ensures found { IfOk result (λ p. IfSome d.old.bytes (λ image. (r : Registry) (lists : ℤ → PairList) → HasLists image r lists
         → IsPlace image r lists p)) }
     ensures entry { IfOk result (λ p. p.entry ≡ entry) }
-    ensures told { IfOk result (λ p. IfSome d.old.bytes (λ image. length image ≡ d.old.len)) }
     ensures within { IfOk result (λ p. block_place HEAD_LEN p.found.number + BLOCK_LEN ≤ d.old.len) }
     ensures more { IfOk result (λ p. AreWithin d.old.len p.listed.more.items) }
-    ensures fault { IfErr result (HasCause d.old.bytes (HoldsEntry entry)) }
+    ensures fault { IfErr result (HasCause d.old.bytes (HasEntry entry)) }
     ensures frame { OnlyLooks I.ImageRead d.old d.new (IsErrOf result RecordFault.DiskFault) }
 {
     let end = d.len();
@@ -126,7 +125,7 @@ fn more_for<I: ImageRead>(
 }
 
 /// Writes a list of pairs in place of that of an entry. A bad record where there are too many ids to count.
-fn write_list<I: ImageRead>(
+pub(crate) fn write_list<I: ImageRead>(
     alloc: Global,
     d: &mut Draft<I>,
     place: &Place,

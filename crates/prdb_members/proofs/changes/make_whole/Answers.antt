@@ -8,9 +8,11 @@ returns-then-len-gt0-clause-bytes g c =
 
 pub returns-clause-bytes : goal.returns-clause-bytes
 returns-clause-bytes g c =
-    whole_made c.set_maxima-2.result c.args.d.now.bytes c.set_maxima.new.d.bytes c.set_maxima-2.new.d.bytes c.len.result (rw c.len.ensures.size c.len.ensures.told) (omega arith)
+    whole_made c.set_maxima-2.result c.args.d.now.bytes c.set_maxima.new.d.bytes c.set_maxima-2.new.d.bytes c.len.result
+    (rw c.len.ensures.size c.len.ensures.told) (omega arith)
     c.in_ok-set_maxima.ensures.bytes c.set_maxima-2.ensures.bytes
 
 pub returns-clause-fault : goal.returns-clause-fault
 returns-clause-fault g c =
-    second_fault c.set_maxima-2.result c.args.d.now.bytes c.set_maxima.new.d.bytes c.in_ok-set_maxima.ensures.bytes c.set_maxima-2.ensures.fault
+    second_fault c.set_maxima-2.result c.args.d.now.bytes c.set_maxima.new.d.bytes c.in_ok-set_maxima.ensures.bytes
+    c.set_maxima-2.ensures.fault

@@ -1,4 +1,4 @@
-use Rattle.std.proofs.Common.{◌∙◌, arith}
+use Rattle.std.proofs.Common.{◌∙◌}
 use Rattle.std.proofs.lemmas.Int.{to_z-of_z}
 use Rattle.std.proofs.lemmas.Result.{err_from_is_err_and}
 use Rattle.db_blocks.proofs.Scanned.{drafts_after}
@@ -22,7 +22,9 @@ returns-in_err-of_group-clause-fault g c =
     let raw = c.in_err-of_group.ensures.fault in
     let cause = simp to_z-of_z at raw in
     let p = err_from_is_err_and c.from_residual-in_err-of_group.result c.from_residual-in_err-of_group.ensures.1 in
-    rw (p.1, p.2) (part_group_fault c.args.d.now.bytes c.find_place.new.d.bytes c.args.member c.args.group c.in_err-of_group.field-0.0 c.find_place.ensures.frame.same.bytes cause)
+    rw (p.1, p.2)
+    (part_group_fault c.args.d.now.bytes c.find_place.new.d.bytes c.args.member c.args.group c.in_err-of_group.field-0.0
+    c.find_place.ensures.frame.same.bytes cause)
 
 pub returns-in_err-remove_id-clause-fault : goal.returns-in_err-remove_id-clause-fault
 returns-in_err-remove_id-clause-fault g c =
@@ -31,14 +33,17 @@ returns-in_err-remove_id-clause-fault g c =
     let raw = c.in_err-remove_id.ensures.fault in
     let cause = simp to_z-of_z at raw in
     let p = err_from_is_err_and c.from_residual-in_err-remove_id.result c.from_residual-in_err-remove_id.ensures.1 in
-    rw (p.1, p.2) (part_one_fault c.args.d.now.bytes c.find_place-2.new.d.bytes c.in_ok-of_member.of_member c.args.member c.args.group c.in_err-remove_id.field-0.0
+    rw (p.1, p.2)
+    (part_one_fault c.args.d.now.bytes c.find_place-2.new.d.bytes c.in_ok-of_member.of_member c.args.member c.args.group
+    c.in_err-remove_id.field-0.0
     (c.find_place-2.ensures.frame.same.bytes ∙ c.find_place.ensures.frame.same.bytes) c.in_ok-of_member.ensures.found cause)
 
 pub returns-in_err-remove_id-clause-frame : goal.returns-in_err-remove_id-clause-frame
 returns-in_err-remove_id-clause-frame g c =
     let p = err_from_is_err_and c.from_residual-in_err-remove_id.result c.from_residual-in_err-remove_id.ensures.1 in
     rw (p.1, p.2) (drafts_after g.I.ImageRead c.args.d.now c.find_place.new.d c.remove_id.new.d _ _ c.find_place.ensures.frame
-    (drafts_after g.I.ImageRead c.find_place.new.d c.find_place-2.new.d c.remove_id.new.d _ _ c.find_place-2.ensures.frame c.in_err-remove_id.ensures.frame))
+    (drafts_after g.I.ImageRead c.find_place.new.d c.find_place-2.new.d c.remove_id.new.d _ _ c.find_place-2.ensures.frame
+    c.in_err-remove_id.ensures.frame))
 
 pub returns-clause-fault : goal.returns-clause-fault
 returns-clause-fault g c =
@@ -50,10 +55,12 @@ returns-clause-fault g c =
     let one = simp to_z-of_z at one_raw in
     let first_raw = c.in_ok-of_member.ensures.entry in
     let second_raw = c.in_ok-of_group.ensures.entry in
-    part_two_err c.remove_id-2.result c.args.d.now.bytes c.find_place-2.new.d.bytes c.remove_id.new.d.bytes c.in_ok-of_member.of_member c.in_ok-of_group.of_group
+    part_two_err c.remove_id-2.result c.args.d.now.bytes c.find_place-2.new.d.bytes c.remove_id.new.d.bytes c.in_ok-of_member.of_member
+    c.in_ok-of_group.of_group
     c.args.member c.args.group (c.find_place-2.ensures.frame.same.bytes ∙ c.find_place.ensures.frame.same.bytes)
     (simp to_z-of_z at first_raw) (simp to_z-of_z at second_raw) c.in_ok-of_member.ensures.found
-    (stands_so c.args.d.now.bytes c.find_place.new.d.bytes c.in_ok-of_group.of_group c.find_place.ensures.frame.same.bytes c.in_ok-of_group.ensures.found) one err
+    (stands_so c.args.d.now.bytes c.find_place.new.d.bytes c.in_ok-of_group.of_group c.find_place.ensures.frame.same.bytes
+    c.in_ok-of_group.ensures.found) one err
 
 pub returns-clause-bytes : goal.returns-clause-bytes
 returns-clause-bytes g c =
@@ -66,11 +73,13 @@ returns-clause-bytes g c =
     let first_raw = c.in_ok-of_member.ensures.entry in
     let second_raw = c.in_ok-of_group.ensures.entry in
     parted_bytes c.remove_id-2.result c.args.d.now.bytes c.remove_id-2.new.d.bytes c.args.member c.args.group
-    (parted_ok c.remove_id-2.result c.args.d.now.bytes c.find_place-2.new.d.bytes c.remove_id.new.d.bytes c.remove_id-2.new.d.bytes c.in_ok-of_member.of_member c.in_ok-of_group.of_group
-    c.args.member c.args.group c.args.d.now.len (c.find_place-2.ensures.frame.same.bytes ∙ c.find_place.ensures.frame.same.bytes)
+    (parted_ok c.remove_id-2.result c.args.d.now.bytes c.find_place-2.new.d.bytes c.remove_id.new.d.bytes c.remove_id-2.new.d.bytes
+    c.in_ok-of_member.of_member c.in_ok-of_group.of_group
+    c.args.member c.args.group (c.find_place-2.ensures.frame.same.bytes ∙ c.find_place.ensures.frame.same.bytes)
     (simp to_z-of_z at first_raw) (simp to_z-of_z at second_raw) c.in_ok-of_member.ensures.found
-    (stands_so c.args.d.now.bytes c.find_place.new.d.bytes c.in_ok-of_group.of_group c.find_place.ensures.frame.same.bytes c.in_ok-of_group.ensures.found)
-    c.in_ok-of_member.ensures.told (omega arith) one two)
+    (stands_so c.args.d.now.bytes c.find_place.new.d.bytes c.in_ok-of_group.of_group c.find_place.ensures.frame.same.bytes
+    c.in_ok-of_group.ensures.found)
+    one two)
 
 pub returns-clause-holds : goal.returns-clause-holds
 returns-clause-holds g c =
@@ -83,14 +92,17 @@ returns-clause-holds g c =
     let first_raw = c.in_ok-of_member.ensures.entry in
     let second_raw = c.in_ok-of_group.ensures.entry in
     parted_holds c.remove_id-2.result c.args.d.now.bytes c.remove_id-2.new.d.bytes c.args.member c.args.group
-    (parted_ok c.remove_id-2.result c.args.d.now.bytes c.find_place-2.new.d.bytes c.remove_id.new.d.bytes c.remove_id-2.new.d.bytes c.in_ok-of_member.of_member c.in_ok-of_group.of_group
-    c.args.member c.args.group c.args.d.now.len (c.find_place-2.ensures.frame.same.bytes ∙ c.find_place.ensures.frame.same.bytes)
+    (parted_ok c.remove_id-2.result c.args.d.now.bytes c.find_place-2.new.d.bytes c.remove_id.new.d.bytes c.remove_id-2.new.d.bytes
+    c.in_ok-of_member.of_member c.in_ok-of_group.of_group
+    c.args.member c.args.group (c.find_place-2.ensures.frame.same.bytes ∙ c.find_place.ensures.frame.same.bytes)
     (simp to_z-of_z at first_raw) (simp to_z-of_z at second_raw) c.in_ok-of_member.ensures.found
-    (stands_so c.args.d.now.bytes c.find_place.new.d.bytes c.in_ok-of_group.of_group c.find_place.ensures.frame.same.bytes c.in_ok-of_group.ensures.found)
-    c.in_ok-of_member.ensures.told (omega arith) one two)
+    (stands_so c.args.d.now.bytes c.find_place.new.d.bytes c.in_ok-of_group.of_group c.find_place.ensures.frame.same.bytes
+    c.in_ok-of_group.ensures.found)
+    one two)
 
 pub returns-clause-frame : goal.returns-clause-frame
 returns-clause-frame g c =
     drafts_after g.I.ImageRead c.args.d.now c.find_place.new.d c.remove_id-2.new.d _ _ c.find_place.ensures.frame
     (drafts_after g.I.ImageRead c.find_place.new.d c.find_place-2.new.d c.remove_id-2.new.d _ _ c.find_place-2.ensures.frame
-    (drafts_then g.I.ImageRead c.find_place-2.new.d c.remove_id.new.d c.remove_id-2.new.d _ _ c.remove_id.ensures.frame c.remove_id-2.ensures.frame))
+    (drafts_then g.I.ImageRead c.find_place-2.new.d c.remove_id.new.d c.remove_id-2.new.d _ _ c.remove_id.ensures.frame
+    c.remove_id-2.ensures.frame))

@@ -23,4 +23,5 @@ returns-clause-found g c =
     let found = rw c.in-Some.is at first in
     let has_raw = c.contains-there.ensures in
     let has = simp to_z-of_z at has_raw in
-    has_of_list c.args.d.now.bytes c.args.member c.args.group c.contains-there.result c.in-Some.listed (λ low. omega (arith, ints)) has.0 has.1 (simp to_z-of_z at found)
+    has_of_list c.args.d.now.bytes c.args.member c.args.group c.contains-there.result c.in-Some.listed
+    (λ low. omega (arith, ints)) has.0 has.1 (simp to_z-of_z at found)

@@ -14,7 +14,9 @@ returns-then-len-eq0-clause-found g c =
 pub returns-in_err-found-clause-fault : goal.returns-in_err-found-clause-fault
 returns-in_err-found-clause-fault g c =
     let p = err_from_is_err_and c.from_residual.result c.from_residual.ensures.1 in
-    rw (p.1, p.2) (scan_fault c.args.d.now.bytes c.len.result c.in_err-found.field-0.0 (rw c.len.ensures.size c.len.ensures.told) (omega arith) c.in_err-found.ensures.fault)
+    rw (p.1, p.2)
+    (scan_fault c.args.d.now.bytes c.len.result c.in_err-found.field-0.0 (rw c.len.ensures.size c.len.ensures.told)
+    (omega arith) c.in_err-found.ensures.fault)
 
 pub returns-in_default-clause-found : goal.returns-in_default-clause-found
 returns-in_default-clause-found g c =
@@ -31,9 +33,12 @@ returns-in_err-listed-clause-fault g c =
     let raw = c.in_err-listed.ensures.fault in
     let cause : HasCause c.scan.new.d.bytes (Lists c.args.id c.in-Some.found.block) c.in_err-listed.field-0.0 = simp to_z-of_z at raw in
     let p = err_from_is_err_and c.from_residual-in_err-listed.result c.from_residual-in_err-listed.ensures.1 in
-    rw (p.1, p.2) (list_fault c.args.d.now.bytes c.len.result c.args.id c.in-Some.found c.in_err-listed.field-0.0 (rw c.len.ensures.size c.len.ensures.told) (omega arith)
+    rw (p.1, p.2)
+    (list_fault c.args.d.now.bytes c.len.result c.args.id c.in-Some.found c.in_err-listed.field-0.0
+    (rw c.len.ensures.size c.len.ensures.told) (omega arith)
     (simp to_z-of_z at found)
-    (subst (λ (b : Option (List ℕ)). HasCause b (Lists c.args.id c.in-Some.found.block) c.in_err-listed.field-0.0) c.scan.ensures.frame.same.bytes cause))
+    (subst (λ (b : Option (List ℕ)). HasCause b (Lists c.args.id c.in-Some.found.block) c.in_err-listed.field-0.0)
+    c.scan.ensures.frame.same.bytes cause))
 
 pub returns-clause-found : goal.returns-clause-found
 returns-clause-found g c =
@@ -42,7 +47,8 @@ returns-clause-found g c =
     let found = rw c.in-Some.is at first in
     let raw = c.in_ok-listed.ensures.found in
     let read = simp to_z-of_z at raw in
-    found_some c.args.d.now.bytes c.len.result c.args.id c.in-Some.found c.in_ok-listed.listed (rw c.len.ensures.size c.len.ensures.told) (omega arith)
+    found_some c.args.d.now.bytes c.len.result c.args.id c.in-Some.found c.in_ok-listed.listed (rw c.len.ensures.size c.len.ensures.told)
+    (omega arith)
     (simp to_z-of_z at found)
     (subst (λ (b : Option (List ℕ)). IfSome b (λ image. (p : PairList) → IsListed image c.args.id c.in-Some.found.block p
     → (c.in_ok-listed.listed.ids ≡ p.ids) × (c.in_ok-listed.listed.more.items ≡ p.more))) c.scan.ensures.frame.same.bytes read)

@@ -14,5 +14,6 @@ returns-in_err-count-clause-fault g c =
 pub returns-clause-bytes : goal.returns-clause-bytes
 unfolding zeros
 returns-clause-bytes g c =
-    added_so c.args.d.now.bytes c.put.new.self.bytes c.put-2.new.self.bytes c.in_ok-count.count c.block_place.result (zeros 192) c.to_be_bytes.result
+    added_so c.args.d.now.bytes c.put.new.self.bytes c.put-2.new.self.bytes c.in_ok-count.count c.block_place.result
+    (zeros 192) c.to_be_bytes.result
     c.block_place.ensures refl c.to_be_bytes.ensures c.in_ok-put.ensures.bytes c.in_ok-put-2.ensures.bytes

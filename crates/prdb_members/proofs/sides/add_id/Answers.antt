@@ -17,17 +17,21 @@ returns-clause-bytes g c =
     let fits = c.ranges.id in
     let placed_raw = c.in_ok-ids.ensures.placed in
     let placed = simp to_z-of_z at placed_raw in
-    gained_ok c.write_list.result c.args.d.now.bytes c.more_for.new.d.bytes c.write_list.new.d.bytes c.args.place.now.found.number c.args.place.now.entry c.args.place.now.found.block
+    gained_ok c.write_list.result c.args.d.now.bytes c.more_for.new.d.bytes c.write_list.new.d.bytes c.args.place.now.found.number
+    c.args.place.now.entry c.args.place.now.found.block
     (list_at c.args.place.now) c.args.id c.as_slice-ids.result.now c.as_slice.result.now c.in_ok-more.more.items c.as_slice-2.result.now
-    c.as_slice.ensures.value c.as_slice-2.ensures.value (λ fresh. c.as_slice-ids.ensures.value ∙ placed fresh) c.in_ok-more.ensures.more c.in_ok-more.ensures.bytes c.write_list.ensures.bytes
+    c.as_slice.ensures.value c.as_slice-2.ensures.value
+    (λ fresh. c.as_slice-ids.ensures.value ∙ placed fresh) c.in_ok-more.ensures.more c.in_ok-more.ensures.bytes c.write_list.ensures.bytes
 
 pub returns-clause-fault : goal.returns-clause-fault
 returns-clause-fault g c =
     let fits = c.ranges.id in
     let members_raw = c.in_ok-ids.ensures.members in
     let members = simp to_z-of_z at members_raw in
-    list_err c.write_list.result (free_for _ _) c.args.d.now.bytes c.more_for.new.d.bytes c.args.place.now c.args.id c.as_slice-ids.result.now c.in_ok-more.ensures.bytes
-    c.as_slice-ids.ensures.ascending (λ x has. (members x).0 (subst (λ (l : List ℤ). Contains l x) c.as_slice-ids.ensures.value has)) c.write_list.ensures.fault
+    list_err c.write_list.result
+    (free_for _ _) c.args.d.now.bytes c.more_for.new.d.bytes c.args.place.now c.args.id c.as_slice-ids.result.now c.in_ok-more.ensures.bytes
+    c.as_slice-ids.ensures.ascending
+    (λ x has. (members x).0 (subst (λ (l : List ℤ). Contains l x) c.as_slice-ids.ensures.value has)) c.write_list.ensures.fault
 
 pub returns-clause-frame : goal.returns-clause-frame
 returns-clause-frame g c =

@@ -29,7 +29,8 @@ returns-in_err-listed-clause-fault g c =
     let cause : HasCause c.scan.new.d.bytes (Lists c.args.entry c.in-Some.found.block) c.in_err-listed.field-0.0 = simp to_z-of_z at raw in
     let p = err_from_is_err_and c.from_residual-in_err-listed.result c.from_residual-in_err-listed.ensures.1 in
     rw (p.1, p.2) (listed_fault c.args.d.now.bytes c.args.entry c.in-Some.found c.in_err-listed.field-0.0 (simp to_z-of_z at found)
-    (subst (λ (b : Option (List ℕ)). HasCause b (Lists c.args.entry c.in-Some.found.block) c.in_err-listed.field-0.0) c.scan.ensures.frame.same.bytes cause))
+    (subst (λ (b : Option (List ℕ)). HasCause b (Lists c.args.entry c.in-Some.found.block) c.in_err-listed.field-0.0)
+    c.scan.ensures.frame.same.bytes cause))
 
 pub returns-clause-found : goal.returns-clause-found
 returns-clause-found g c =
@@ -38,10 +39,13 @@ returns-clause-found g c =
     let found = rw c.in-Some.is at first in
     let raw = c.in_ok-listed.ensures.found in
     let read = simp to_z-of_z at raw in
-    simp to_z-of_z (place_found c.args.d.now.bytes (record { entry = c.args.entry; found = c.in-Some.found; listed = c.in_ok-listed.listed }) (simp to_z-of_z at found)
+    simp to_z-of_z
+    (place_found c.args.d.now.bytes (record { entry = c.args.entry; found = c.in-Some.found; listed = c.in_ok-listed.listed })
+    (simp to_z-of_z at found)
     (subst (λ (b : Option (List ℕ)). IfSome b (λ image. (l : PairList) → IsListed image c.args.entry c.in-Some.found.block l
     → (c.in_ok-listed.listed.ids ≡ l.ids) × (c.in_ok-listed.listed.more.items ≡ l.more))) c.scan.ensures.frame.same.bytes read))
 
 pub returns-clause-more : goal.returns-clause-more
 returns-clause-more g c =
-    within_more_len c.scan.new.d.len c.args.d.now.len c.in_ok-listed.listed.more.items c.in_ok-listed.ensures.within (omega (arith, c.scan.ensures.frame.same.len))
+    within_more_len c.scan.new.d.len c.args.d.now.len c.in_ok-listed.listed.more.items c.in_ok-listed.ensures.within
+    (omega (arith, c.scan.ensures.frame.same.len))

@@ -24,13 +24,16 @@ pub returns-clause-bytes : goal.returns-clause-bytes
 returns-clause-bytes g c =
     let first = c.in_ok-found.ensures.found in
     let none = rw c.in_default.is at first in
-    last_bytes c.add_block.result c.args.d.now.bytes c.scan.new.d.bytes c.add_block.new.d.bytes c.scan.ensures.frame.same.bytes none c.add_block.ensures.told c.add_block.ensures.bytes
+    last_bytes c.add_block.result c.args.d.now.bytes c.scan.new.d.bytes c.add_block.new.d.bytes c.scan.ensures.frame.same.bytes none
+    c.add_block.ensures.told c.add_block.ensures.bytes
 
 pub returns-clause-within : goal.returns-clause-within
-returns-clause-within g c = last_within c.add_block.result c.scan.new.d.len c.add_block.new.d.len c.add_block.ensures.place c.add_block.ensures.len
+returns-clause-within g c =
+    last_within c.add_block.result c.scan.new.d.len c.add_block.new.d.len c.add_block.ensures.place c.add_block.ensures.len
 
 pub returns-clause-fault : goal.returns-clause-fault
-returns-clause-fault g c = err_same c.add_block.result c.args.d.now.bytes c.scan.new.d.bytes _ c.scan.ensures.frame.same.bytes c.add_block.ensures.fault
+returns-clause-fault g c =
+    err_same c.add_block.result c.args.d.now.bytes c.scan.new.d.bytes _ c.scan.ensures.frame.same.bytes c.add_block.ensures.fault
 
 pub returns-clause-frame : goal.returns-clause-frame
 returns-clause-frame g c =

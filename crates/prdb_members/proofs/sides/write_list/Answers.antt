@@ -12,7 +12,8 @@ pub put-requires : goal.put-requires
 put-requires g c =
     let long : length c.deref.result.now ≡ 192 =
     ap length c.deref.ensures.value
-    ∙ c.in_ok-block.ensures.len c.args.ids.now (omega arith) (c.split_at.ensures.front ∙ ap (λ (n : ℕ). take n c.args.ids.now) c.min.ensures ∙ take_most 19 c.args.ids.now) in
+    ∙ c.in_ok-block.ensures.len c.args.ids.now (omega arith)
+    (c.split_at.ensures.front ∙ ap (λ (n : ℕ). take n c.args.ids.now) c.min.ensures ∙ take_most 19 c.args.ids.now) in
     omega (arith, long, c.block_place-at.ensures, c.requires.within, c.requires.len)
 
 pub returns-clause-bytes : goal.returns-clause-bytes
@@ -20,17 +21,22 @@ returns-clause-bytes g c =
     let fits : FitsSigned w32 c.args.place.now.entry = search rules in
     let raw = c.in_ok-write_more.ensures.bytes in
     let bytes = simp to_z-of_z at raw in
-    relisted_ok c.put.result c.args.d.now.bytes c.write_more.new.d.bytes c.put.new.self.bytes c.args.place.now.found.number c.args.place.now.entry c.args.place.now.found.block
+    relisted_ok c.put.result c.args.d.now.bytes c.write_more.new.d.bytes c.put.new.self.bytes c.args.place.now.found.number
+    c.args.place.now.entry c.args.place.now.found.block
     c.args.ids.now c.split_at.result.1.now c.args.more.now c.deref.result.now c.block_place-at.result
     (c.split_at.ensures.back ∙ ap (λ (n : ℕ). drop n c.args.ids.now) c.min.ensures ∙ drop_most 19 c.args.ids.now)
-    (c.deref.ensures.value ∙ c.in_ok-block.ensures.made c.args.ids.now (omega arith) (c.split_at.ensures.front ∙ ap (λ (n : ℕ). take n c.args.ids.now) c.min.ensures ∙ take_most 19 c.args.ids.now))
+    (c.deref.ensures.value
+    ∙ c.in_ok-block.ensures.made c.args.ids.now (omega arith)
+    (c.split_at.ensures.front ∙ ap (λ (n : ℕ). take n c.args.ids.now) c.min.ensures ∙ take_most 19 c.args.ids.now))
     c.block_place-at.ensures bytes c.put.ensures.bytes
 
 pub returns-clause-len : goal.returns-clause-len
 returns-clause-len g c =
     let long : length c.deref.result.now ≡ 192 =
     ap length c.deref.ensures.value
-    ∙ c.in_ok-block.ensures.len c.args.ids.now (omega arith) (c.split_at.ensures.front ∙ ap (λ (n : ℕ). take n c.args.ids.now) c.min.ensures ∙ take_most 19 c.args.ids.now) in
-    put_len c.put.result c.write_more.new.d c.put.new.self (c.block_place-at.result + length c.deref.result.now) c.put.ensures.len c.put.ensures.same
+    ∙ c.in_ok-block.ensures.len c.args.ids.now (omega arith)
+    (c.split_at.ensures.front ∙ ap (λ (n : ℕ). take n c.args.ids.now) c.min.ensures ∙ take_most 19 c.args.ids.now) in
+    put_len c.put.result c.write_more.new.d c.put.new.self
+    (c.block_place-at.result + length c.deref.result.now) c.put.ensures.len c.put.ensures.same
     (omega (arith, long, c.block_place-at.ensures, c.requires.within, c.write_more.ensures.len))
     ∙ c.write_more.ensures.len

@@ -27,8 +27,11 @@ loop-blocks-preserved g c =
     let w = simp to_z-of_z at raw in
     let bytes_raw = c.in_ok-write_one.ensures.bytes in
     let bytes = simp to_z-of_z at bytes_raw in
-    simp to_z-of_z (writing_more g.I.ImageRead c.args.d.now c.loop-blocks.d c.write_one.new.d c.args.entry c.args.more.now c.loop-blocks.blocks.now c.args.ids.now c.loop-blocks.left.now
-    (get_or c.loop-blocks.blocks.now 0 0) (take (length c.loop-blocks.blocks.now - 1) (drop 1 c.loop-blocks.blocks.now)) c.split_at.result.0.now c.split_at.result.1.now _ w
+    simp to_z-of_z
+    (writing_more g.I.ImageRead c.args.d.now c.loop-blocks.d c.write_one.new.d c.args.entry c.args.more.now c.loop-blocks.blocks.now
+    c.args.ids.now c.loop-blocks.left.now
+    (get_or c.loop-blocks.blocks.now 0 0)
+    (take (length c.loop-blocks.blocks.now - 1) (drop 1 c.loop-blocks.blocks.now)) c.split_at.result.0.now c.split_at.result.1.now _ w
     (parts_of c.loop-blocks.blocks.now c.in-len1-up.len_at_least)
     (c.split_at.ensures.front ∙ ap (λ (n : ℕ). take n c.loop-blocks.left.now) c.min.ensures ∙ take_most 44 c.loop-blocks.left.now)
     (c.split_at.ensures.back ∙ ap (λ (n : ℕ). drop n c.loop-blocks.left.now) c.min.ensures ∙ drop_most 44 c.loop-blocks.left.now)
@@ -40,4 +43,5 @@ returns-clause-bytes g c =
     let raw = c.loop-blocks.invariant in
     let w = simp to_z-of_z at raw in
     let none : length c.loop-blocks.blocks.now ≡ 0 = omega arith in
-    writing_all g.I.ImageRead c.args.d.now c.loop-blocks.d c.args.entry c.args.more.now c.loop-blocks.blocks.now c.args.ids.now c.loop-blocks.left.now w none
+    writing_all g.I.ImageRead c.args.d.now c.loop-blocks.d c.args.entry c.args.more.now c.loop-blocks.blocks.now c.args.ids.now
+    c.loop-blocks.left.now w none

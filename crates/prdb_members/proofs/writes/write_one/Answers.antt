@@ -9,7 +9,8 @@ put-requires g c =
     let fits = c.ranges.entry in
     let raw = c.in_ok-block.ensures in
     let made = simp to_z-of_z at raw in
-    let long : length c.deref.result.now ≡ 192 = ap length (c.deref.ensures.value ∙ made) ∙ length-more c.args.entry c.link_to.result c.args.ids.now c.requires.ids in
+    let long : length c.deref.result.now ≡ 192 = ap length (c.deref.ensures.value ∙ made)
+    ∙ length-more c.args.entry c.link_to.result c.args.ids.now c.requires.ids in
     omega (arith, long, c.block_place.ensures, c.requires.within, c.requires.len)
 
 pub returns-clause-len : goal.returns-clause-len
@@ -17,6 +18,7 @@ returns-clause-len g c =
     let fits = c.ranges.entry in
     let raw = c.in_ok-block.ensures in
     let made = simp to_z-of_z at raw in
-    let long : length c.deref.result.now ≡ 192 = ap length (c.deref.ensures.value ∙ made) ∙ length-more c.args.entry c.link_to.result c.args.ids.now c.requires.ids in
+    let long : length c.deref.result.now ≡ 192 = ap length (c.deref.ensures.value ∙ made)
+    ∙ length-more c.args.entry c.link_to.result c.args.ids.now c.requires.ids in
     put_len c.put.result c.args.d.now c.put.new.self (c.block_place.result + length c.deref.result.now) c.put.ensures.len c.put.ensures.same
     (omega (arith, long, c.block_place.ensures, c.requires.within))

@@ -23,7 +23,9 @@ invariant_of-result c =
       | then-not-there+in_ok-push w ↦
           let pushed_raw = w.in_ok-push.ensures.items in
           let pushed : w.push.new.self.items ≡ c.extend_from_slice.new.self.items ++ c.args.id ∷ [] = simp to_z-of_z at pushed_raw in
-          rw w.ids-is (is_ascending_with c.args.self.now c.split_at.result.0.now c.split_at.result.1.now w.push.new.self.items c.args.id c.rank.result rises rank front back
+          rw w.ids-is
+          (is_ascending_with c.args.self.now c.split_at.result.0.now c.split_at.result.1.now w.push.new.self.items c.args.id c.rank.result
+          rises rank front back
           (λ yes. let there : ◌≡◌ {A = Bool} c.contains-there.result true = has.1 yes in let not = w.if-not-there.true in absurd cc)
           (pushed ∙ ap (λ (l : List ℤ). l ++ c.args.id ∷ []) first))
       | else-not-there w ↦
@@ -49,11 +51,14 @@ returns-clause-members c =
       | then-not-there+in_ok-push w ↦
           let pushed_raw = w.in_ok-push.ensures.items in
           let pushed : w.push.new.self.items ≡ c.extend_from_slice.new.self.items ++ c.args.id ∷ [] = simp to_z-of_z at pushed_raw in
-          rw w.ids-is (members_with c.args.self.now c.split_at.result.0.now c.split_at.result.1.now w.push.new.self.items c.args.id c.rank.result front back
+          rw w.ids-is
+          (members_with c.args.self.now c.split_at.result.0.now c.split_at.result.1.now w.push.new.self.items c.args.id c.rank.result front
+          back
           (pushed ∙ ap (λ (l : List ℤ). l ++ c.args.id ∷ []) first))
       | else-not-there w ↦
           rw w.ids-is (subst (λ (l : List ℤ). IsWith c.args.self.now c.args.id (l ++ c.split_at.result.1.now)) (sym first)
-          (members_same c.args.self.now c.split_at.result.0.now c.split_at.result.1.now c.args.id c.rank.result front back (has.0 w.if-not-there.false)))
+          (members_same c.args.self.now c.split_at.result.0.now c.split_at.result.1.now c.args.id c.rank.result front back
+          (has.0 w.if-not-there.false)))
     ])
 
 pub returns-clause-placed : goal.returns-clause-placed
@@ -72,7 +77,9 @@ returns-clause-placed c = λ fresh.
       | then-not-there+in_ok-push w ↦
           let pushed_raw = w.in_ok-push.ensures.items in
           let pushed : w.push.new.self.items ≡ c.extend_from_slice.new.self.items ++ c.args.id ∷ [] = simp to_z-of_z at pushed_raw in
-          rw w.ids-is (placed c.args.self.now c.split_at.result.0.now c.split_at.result.1.now w.push.new.self.items c.args.id c.rank.result rank front back
+          rw w.ids-is
+          (placed c.args.self.now c.split_at.result.0.now c.split_at.result.1.now w.push.new.self.items c.args.id c.rank.result rank front
+          back
           (pushed ∙ ap (λ (l : List ℤ). l ++ c.args.id ∷ []) first))
       | else-not-there w ↦ absurd (fresh (has.0 w.if-not-there.false))
     ])
