@@ -1,3 +1,4 @@
+pub mod Above
 pub mod Counted
 pub mod Ended
 pub mod Many

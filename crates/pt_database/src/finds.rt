@@ -17,7 +17,7 @@ use pt_calls::PtEntry;
 use std::alloc::Global;
 
 /// The entry of an id.
-pub(crate) fn entry_of<I: ImageRead>(
+pub fn entry_of<I: ImageRead>(
     alloc: Global,
     d: &mut Draft<I>,
     id: i32,
@@ -32,7 +32,7 @@ pub(crate) fn entry_of<I: ImageRead>(
 }
 
 /// The entry with the least id above one.
-pub(crate) fn entry_behind<I: ImageRead>(
+pub fn entry_behind<I: ImageRead>(
     alloc: Global,
     d: &mut Draft<I>,
     after: i32,
@@ -48,7 +48,7 @@ pub(crate) fn entry_behind<I: ImageRead>(
 }
 
 /// Whether a user is in a group.
-pub(crate) fn is_in<I: ImageRead>(
+pub fn is_in<I: ImageRead>(
     alloc: Global,
     d: &mut Draft<I>,
     member: i32,

@@ -5,8 +5,8 @@ mod finds;
 mod looks;
 mod pages;
 
-pub use looks::{get_cps, is_member_of, list_elements, list_entry, list_owned};
+pub use finds::{entry_behind, entry_of, is_in};
+pub use looks::{
+    get_cps, is_member_of, is_unknown, list_elements, list_entry, list_owned, pair_fault,
+};
 pub use pages::list_entries;
-
-#[cfg(test)]
-mod tests;

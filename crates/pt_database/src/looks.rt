@@ -53,7 +53,11 @@ pub fn list_entry<I: ImageRead>(
 }
 
 /// Whether no entry has an id.
-fn is_unknown<I: ImageRead>(alloc: Global, d: &mut Draft<I>, id: i32) -> Result<bool, RecordFault>
+pub fn is_unknown<I: ImageRead>(
+    alloc: Global,
+    d: &mut Draft<I>,
+    id: i32,
+) -> Result<bool, RecordFault>
     requires { d.old.len ≤ 16777216 }
     ensures found { IfOk result (λ unknown. OfStates d.old.bytes (λ s. unknown ≡ is_none (s.registry.entry id))) }
     ensures fault { IfErr result (HasItsCause d.old.bytes) }
@@ -135,7 +139,7 @@ pub fn list_owned<I: ImageRead>(
 }
 
 /// The rule by which a call on a pair is refused, whatever pairs are there: both are entries, the second a group and the first a user.
-pub(crate) fn pair_fault<I: ImageRead>(
+pub fn pair_fault<I: ImageRead>(
     alloc: Global,
     d: &mut Draft<I>,
     member: i32,

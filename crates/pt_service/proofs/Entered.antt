@@ -16,7 +16,7 @@ use Rattle.prdb_entries.specs.Registry.{Registry, AreMaxima, IsRecord, IsRegistr
 use Rattle.prdb_entries.specs.State.{PrEntry, administrators, anonymous, fixed_entries, front_of}
 use Rattle.pt_calls.specs.declared.answers.PtAnswer.TheVariants as answer
 use Rattle.pt_calls.specs.Meaning.{id_named, ids_to, is_named}
-use Rattle.pt_calls.specs.ServiceLaws.{not_named}
+use Rattle.pt_calls.specs.NameLaws.{none_named}
 use Rattle.pt_service.specs.Entering.{kind_of}
 use Rattle.pt_service.specs.Meaning.{Enter, Makes, Refuses, entry_made, enters, first_unused, given_owner, ids_behind, made, new_entry, new_entry_of_id, next_id, of_owner, owner_by_front, owner_for, owner_named, owner_of, raised, unless_taken, with_given, with_next}
 use Rattle.pt_service.specs.Names.{has_colon, is_name_of, system}
@@ -234,9 +234,9 @@ owner_there : (r : Registry) (name : List ℕ) (given owner : ℤ) → IsRegistr
 owner_there r name given owner valid is =
     by_given r name given owner (int_eq given (pos 0)) valid (sym (owner_is r name given (int_eq given (pos 0)) (has_colon name) refl refl) ∙ is)
 
-none_named : (o : Option ℤ) → is_some o ≡ false → o ≡ None
-none_named None is = refl
-none_named (Some id) is = absurd cc
+none_found : (o : Option ℤ) → is_some o ≡ false → o ≡ None
+none_found None is = refl
+none_found (Some id) is = absurd cc
 
 untaken : (taken : Bool) (o : Result ℤ ℕ) (owner : ℤ) → unless_taken taken o ≡ Ok owner → (o ≡ Ok owner) × (taken ≡ false)
 untaken taken (Err rule) owner is = absurd cc
@@ -248,7 +248,7 @@ owned_by_form : (r : Registry) (name : List ℕ) (given owner : ℤ) (form : Boo
 owned_by_form r name given owner false is = absurd cc
 owned_by_form r name given owner true is =
     let p = untaken (is_some (id_named r name)) (owner_of r name given) owner is in
-    (p.0, none_named (id_named r name) p.1)
+    (p.0, none_found (id_named r name) p.1)
 
 pub may_enter : (r : Registry) (group : Bool) (name : List ℕ) (given owner id : ℤ) (e : PrEntry) → IsRegistry r → Ok owner ≡ owner_for r group name given
     → r.entry id ≡ None → e ≡ made group name id owner → MayBeAdded e r
@@ -258,7 +258,7 @@ may_enter r group name given owner id e valid good unused so =
     let x = made group name id owner in
     subst (λ (f : PrEntry). MayBeAdded f r) (sym so) (record {
       id = unused;
-      name = not_named r name valid p.1;
+      name = none_named r name valid p.1;
       among = record { owner = inr (some_with r x owner (owner_there r name given owner valid p.0)); creator = anonymous_fixed };
     })
 

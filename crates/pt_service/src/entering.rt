@@ -103,7 +103,7 @@ fn made(group: bool, name: Bytes, id: i32, owner: i32) -> PrEntry
 }
 
 /// The maxima with an id that comes in, where it is past one of them.
-fn raised(user: i32, group: i32, id: i32) -> (i32, i32)
+pub fn raised(user: i32, group: i32, id: i32) -> (i32, i32)
     ensures { result ≡ raised user group id }
 {
     if is_group(id) {

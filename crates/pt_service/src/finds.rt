@@ -22,7 +22,7 @@ pub fn is_group(id: i32) -> bool
 }
 
 /// Whether a number is an id of a group, or of a user.
-pub(crate) fn is_id(group: bool, id: i32) -> bool
+pub fn is_id(group: bool, id: i32) -> bool
     ensures { result ≡ is_id group id }
 {
     if group {
@@ -77,7 +77,7 @@ pub fn entry_of_id<I: ImageRead>(
 }
 
 /// The entry of a name, which is in lower case.
-pub(crate) fn entry_of_name<I: ImageRead>(
+pub fn entry_of_name<I: ImageRead>(
     alloc: Global,
     d: &mut Draft<I>,
     name: &[u8],

@@ -12,13 +12,13 @@ use std::alloc::Global;
 use ubik_types::NoMemory;
 
 /// The most bytes of a name.
-pub(crate) const MAX_NAME: usize = 63;
+pub const MAX_NAME: usize = 63;
 
 /// What stands before the `:` in the names of the system's groups, and is no entry's name itself.
 const SYSTEM: &[u8] = b"system";
 
 /// A name as it is stored and looked up: ASCII capitals are lowered.
-pub(crate) fn lowered(alloc: Global, name: &[u8]) -> Result<Vec<u8>, NoMemory>
+pub fn lowered(alloc: Global, name: &[u8]) -> Result<Vec<u8>, NoMemory>
     ensures { IfOk result (λ v. v.items ≡ lowered name.now) }
 {
     Ok(name.to_ascii_lowercase(alloc)?)
@@ -50,7 +50,7 @@ fn colon(name: &[u8]) -> Option<usize>
     name.iter().position(|b| *b == b':')
 }
 
-pub(crate) fn has_colon(name: &[u8]) -> bool
+pub fn has_colon(name: &[u8]) -> bool
     ensures { result ≡ has_colon name.now }
 {
     name.iter().any(|b| *b == b':')
@@ -64,7 +64,7 @@ fn front_len(name: &[u8]) -> usize
 }
 
 /// What stands before the first `:` of a name; all of it where it has none.
-pub(crate) fn front_of(name: &[u8]) -> &[u8]
+pub fn front_of(name: &[u8]) -> &[u8]
     ensures { result.now ≡ front_of name.now }
 {
     &name[..front_len(name)]
@@ -91,7 +91,7 @@ fn is_group_name(name: &[u8]) -> bool
 }
 
 /// Whether a name in lower case has the form of a group's name, or of a user's.
-pub(crate) fn is_name_of(group: bool, name: &[u8]) -> bool
+pub fn is_name_of(group: bool, name: &[u8]) -> bool
     ensures { result ≡ is_name_of group name.now }
 {
     if group {

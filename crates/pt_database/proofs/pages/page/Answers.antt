@@ -6,7 +6,7 @@ use Rattle.std.proofs.lemmas.Result.{err_from_is_err_and}
 use Rattle.prdb_entries.specs.RecordEnds.{seen}
 use Rattle.prdb_entries.proofs.Scanned.{looks_then}
 use Rattle.prdb_members.specs.Ends.{HasItsCause}
-use Rattle.prdb_members.proofs.OwnedSeen.{left_less}
+use Rattle.pt_database.proofs.Above.{left_less}
 use Rattle.pt_database.proofs.Paged.{paging_full, paging_last, paging_more, paging_none, paging_passed}
 use Rattle.pt_database.proofs.States.{looked_then}
 use Rattle.pt_database.proofs.pages.page.Goals as goal

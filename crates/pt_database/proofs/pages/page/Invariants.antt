@@ -1,5 +1,5 @@
 use Rattle.pt_database.proofs.Paged.{Paging}
-use Rattle.prdb_members.proofs.OwnedSeen.{left_above}
+use Rattle.pt_database.proofs.Above.{left_above}
 use Rattle.pt_database.proofs.pages.page.Given as goal
 
 abbrev pub decreases-loop-alloc : goal.decreases-loop-alloc
