@@ -1,0 +1,57 @@
+-- What a call leaves of a draft that it looks at twice before it changes it.
+use Rattle.db_image.specs.Draft.{Drafted}
+use Rattle.db_image.specs.declared.images.ImageRead.{Ghosts}
+use Rattle.db_blocks.specs.Ends.{OnlyDrafts as BlockDrafts}
+use Rattle.prdb_entries.specs.RecordEnds.{OnlyDrafts, OnlyLooks}
+use Rattle.prdb_entries.proofs.Scanned.{drafts_after, drafts_then, looks_then}
+use Rattle.pt_service.proofs.Frames.{drafted, looked}
+
+pub looked_two : {I : Type 0} (g : Ghosts I) (a b c : Drafted I) (first second failed : Type 0) → OnlyLooks g a b first
+    → OnlyLooks g b c second → (failed → second)
+    → OnlyDrafts g a c failed
+looked_two g a b c first second failed r s so = looked g a c second failed (looks_then g a b c first second r s) so
+
+pub drafted_two : {I : Type 0} (g : Ghosts I) (a b c d : Drafted I) (first second third failed : Type 0) → OnlyLooks g a b first
+    → OnlyLooks g b c second
+    → BlockDrafts g c d third → (failed → third) → OnlyDrafts g a d failed
+drafted_two g a b c d first second third failed r s t so =
+    let changes : OnlyDrafts g c d third = record { layout = t.layout; reads = t.reads } in
+    drafted g a c d second third failed (looks_then g a b c first second r s) changes so
+
+pub drafts_so : {I : Type 0} (g : Ghosts I) (a b : Drafted I) (first failed : Type 0) → OnlyDrafts g a b first → (failed → first)
+    → OnlyDrafts g a b failed
+drafts_so g a b first failed r so = record {
+  layout = r.layout;
+  reads = record {
+    held = r.reads.held;
+    size = r.reads.size;
+    came = r.reads.came;
+    never_falls = r.reads.never_falls;
+    cause = λ h. r.reads.cause (so h);
+  };
+}
+
+-- a look, a change, a look, and two changes more
+pub looked_then_changed : {I : Type 0} (g : Ghosts I) (a b c d : Drafted I) (first second third failed : Type 0) → OnlyLooks g a b first
+    → OnlyDrafts g b c second
+    → OnlyLooks g c d third → (failed → third) → OnlyDrafts g a d failed
+looked_then_changed g a b c d first second third failed r s t so =
+    drafts_so g a d third failed (drafts_then g a c d second third (drafts_after g a b c first second r s)
+    (looked g c d third third t (λ h. h))) so
+
+pub changed_twice : {I : Type 0} (g : Ghosts I) (a b c d e : Drafted I) (first second third fourth failed : Type 0) → OnlyLooks g a b first
+    → OnlyDrafts g b c second
+    → OnlyLooks g c d third → OnlyDrafts g d e fourth → (failed → fourth) → OnlyDrafts g a e failed
+changed_twice g a b c d e first second third fourth failed r s t u so =
+    drafts_so g a e fourth failed
+    (drafts_then g a d e third fourth (looked_then_changed g a b c d first second third third r s t (λ h. h)) u) so
+
+pub changed_thrice : {I : Type 0} (g : Ghosts I) (a b c d e f : Drafted I) (first second third fourth fifth failed : Type 0)
+    → OnlyLooks g a b first → OnlyDrafts g b c second
+    → OnlyLooks g c d third → OnlyDrafts g d e fourth → OnlyDrafts g e f fifth → (failed → fifth) → OnlyDrafts g a f failed
+changed_thrice g a b c d e f first second third fourth fifth failed r s t u v so =
+    drafts_so g a f fifth failed (drafts_then g a e f fourth fifth
+    (changed_twice g a b c d e first second third fourth fourth r s t u (λ h. h)) v) so
+
+pub as_drafts : {I : Type 0} (g : Ghosts I) (a b : Drafted I) (failed : Type 0) → BlockDrafts g a b failed → OnlyDrafts g a b failed
+as_drafts g a b failed drafts = record { layout = drafts.layout; reads = drafts.reads }
