@@ -1,0 +1,15 @@
+pub mod Anyone
+pub mod Decided
+pub mod Equal
+pub mod Fronted
+pub mod Fronting
+pub mod Fronts
+pub mod Kept
+pub mod Looked
+pub mod Named
+pub mod Renamed
+pub mod Renumbered
+pub mod Shared
+pub mod Steps
+pub mod Turned
+pub mod Whole

@@ -1,0 +1,4 @@
+pub mod Deciding
+pub mod Standing
+pub mod Turning
+pub mod Under

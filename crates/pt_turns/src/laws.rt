@@ -1,0 +1,13 @@
+//! Laws of the definitions that the contracts cite.
+ghost use Rattle.std.specs.Prelude.{ℕ, ℤ, List};
+ghost use Rattle.prdb_entries.specs.State.{PrEntry};
+ghost use Rattle.pt_service.specs.State.{State};
+ghost use Rattle.pt_service.specs.Turning.{with_turned};
+ghost use Rattle.pt_database.specs.States.{HoldsState};
+ghost use Rattle.pt_turns.specs.Turning.{MayTurn, after_turn};
+
+/// The image after an entry got another name, owner or id holds the state after it.
+pub fn law_turn_leaves_the_state_after_it()
+    ensures { (image : List ℕ) (s : State) (e : PrEntry) (name : List ℕ) (owner id : ℤ) → HoldsState image s → MayTurn e name owner id s.registry
+        → HoldsState (after_turn e name owner id s image) (with_turned e name owner id s) }
+{}
