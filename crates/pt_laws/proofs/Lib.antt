@@ -1,0 +1,13 @@
+pub mod Grown
+pub mod GrownByTurns
+pub mod Made
+pub mod Possible
+pub mod Refilled
+pub mod Sound
+pub mod SoundEntries
+pub mod SoundFields
+pub mod SoundPairs
+pub mod SoundTurns
+pub mod Stays
+pub mod ToldStates
+pub mod TurnStays

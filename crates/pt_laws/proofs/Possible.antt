@@ -1,0 +1,56 @@
+-- What a change needs of the state in which it is made.
+use Rattle.std.proofs.Common.{◌≡◌, ℕ, ℤ, Bool, true, false, cond, List, Option, Some, None, IsSome, refl}
+use Rattle.prdb_entries.specs.Registry.{AreMaxima, IsRecord, MayBeAdded, MayReplace}
+use Rattle.prdb_entries.specs.State.{PrEntry}
+use Rattle.prdb_members.specs.Members.{MayJoin, MayLeave}
+use Rattle.pt_service.specs.Meaning.{Answers, Change, Enter, Join, Leave, Makes, Maxima, NoCall, Part, Refit, Refuses, Turn, Verdict, of_entry}
+use Rattle.pt_service.specs.State.{State}
+use Rattle.pt_service.specs.Turning.{is_fixed}
+use Rattle.pt_database.specs.States.{members_of}
+use Rattle.pt_turns.specs.Turning.{MayTurn}
+
+-- ---- changes that may be made
+
+pub record CanEnter (s : State) (e : PrEntry) (user group : ℤ) : Type 0 where
+  pub good : IsRecord e
+  pub may : MayBeAdded e s.registry
+  pub maxima : AreMaxima user group
+
+pub record CanRefit (s : State) (e : PrEntry) : Type 0 where
+  pub good : IsRecord e
+  pub may : MayReplace e.id e s.registry
+
+pub record CanLeave (s : State) (gone : ℤ) : Type 0 where
+  pub there : IsSome (s.registry.entry gone)
+  pub not_fixed : is_fixed gone ≡ false
+
+pub record CanTurn (s : State) (e : PrEntry) (name : List ℕ) (owner id user group : ℤ) : Type 0 where
+  pub may : MayTurn e name owner id s.registry
+  pub maxima : AreMaxima user group
+
+abbrev pub CanMake : State → Change → Type 0
+CanMake s (Maxima user group) = AreMaxima user group
+CanMake s (Enter e user group) = CanEnter s e user group
+CanMake s (Refit e) = CanRefit s e
+CanMake s (Leave id) = CanLeave s id
+CanMake s (Turn e name owner id user group) = CanTurn s e name owner id user group
+CanMake s (Join user group) = MayJoin user group s.registry (members_of s)
+CanMake s (Part user group) = MayLeave user group (members_of s)
+
+-- what is decided of a call can be made
+abbrev pub IsSound : State → Verdict → Type 0
+IsSound s NoCall = Unit {0}
+IsSound s (Refuses rule) = Unit {0}
+IsSound s (Answers a) = Unit {0}
+IsSound s (Makes a change) = CanMake s change
+
+-- ---- verdicts that are put together
+
+pub either : (s : State) (b : Bool) (v w : Verdict) → (b ≡ true → IsSound s v) → (b ≡ false → IsSound s w) → IsSound s (cond b v w)
+either s true v w here there = here refl
+either s false v w here there = there refl
+
+pub of_one : (s : State) (o : Option PrEntry) (goes : PrEntry → Verdict) → ((e : PrEntry) → o ≡ Some e → IsSound s (goes e))
+    → IsSound s (of_entry o goes)
+of_one s None goes so = tt
+of_one s (Some e) goes so = so e refl
