@@ -387,7 +387,7 @@ asked_at script_db c choice id call None = Err why.Number
 asked_at script_db c choice id call (Some number) = at_up c number (λ k. stepped script_db c choice (Asking k id call))
 
 abbrev pub asked_in : ScriptDatabase → Cell → Choice → ℕ → List (List ℕ) → Option ℕ → Option (List ℕ) → Run_or_why
-asked_in script_db c choice id words server None = if script_db.words.is_unbuilt words then Err why.Unbuilt else Err why.Syntax
+asked_in script_db c choice id words server None = Err why.Syntax
 asked_in script_db c choice id words server (Some call) = asked_at script_db c choice id call server
 
 -- the words of the call come first, and then the number of the server

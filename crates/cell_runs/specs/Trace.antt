@@ -163,7 +163,6 @@ why_word why.Server = codes "server"
 why_word why.State = codes "state"
 why_word why.Packet = codes "packet"
 why_word why.Skew = codes "skew"
-why_word why.Unbuilt = codes "unbuilt"
 
 abbrev pub which_word : Which → List ℕ
 which_word which.Lines = codes "lines"

@@ -290,7 +290,6 @@ fn why_word(why: Why) -> &'static str
         Why::State => "state",
         Why::Packet => "packet",
         Why::Skew => "skew",
-        Why::Unbuilt => "unbuilt",
     }
 }
 

@@ -19,8 +19,8 @@ pub const MAX_TICK: u32 = 50_000;
 /// The most changing calls of a disk that a `stop` lets pass.
 pub const MAX_STOP: u32 = 1_000_000;
 
-/// Why a line of a script is refused: the first of these that holds, in the order syntax, unbuilt, number, cell,
-/// server, state, packet, skew.
+/// Why a line of a script is refused: the first of these that holds, in the order syntax, number, cell, server,
+/// state, packet, skew.
 #[derive(Clone, Copy, Debug, PartialEq, Eq)]
 pub enum Why {
     /// The line has no meaning: its first word or the kind of its cell is none, it has another count of words, a
@@ -38,8 +38,6 @@ pub enum Why {
     Packet,
     /// Two clocks would part by more than 7 seconds.
     Skew,
-    /// The line is one of the language that this stage does not build yet.
-    Unbuilt,
 }
 
 /// What a database is of.

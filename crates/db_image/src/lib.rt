@@ -1,8 +1,8 @@
-//! What a database makes of a call, over its whole image: the form in which the rules of a server and the
-//! single copy take a database's meaning. And images that are read a part at a time.
+//! Databases as a server sees them: what they make of a call, over images that are read a part at a time and drafts of what
+//! comes after.
 #![tactic(auto)]
 
-mod blocks;
+mod changes;
 mod draft_services;
 mod drafts;
 mod faults;
@@ -12,13 +12,13 @@ mod places;
 mod services;
 mod words;
 
-pub use blocks::{changes_between, law_changes_lead, too_large};
+pub use changes::{law_changes_lead, too_large};
 pub use draft_services::{CallEnd, DraftService};
 pub use drafts::Draft;
 pub use faults::RecordFault;
 pub use images::{ImageRead, ReadEnd, VecImage};
-pub use services::{CallReply, Layout, Service};
-pub use words::{DraftWords, WordForms};
+pub use services::{CallReply, Layout};
+pub use words::DraftWords;
 
 #[cfg(test)]
 mod draft_tests;

@@ -1,31 +1,8 @@
-//! Changes and limits worked by hand.
+//! Limits worked by hand.
 use super::*;
 use std::alloc::Global;
 use std::test::Fail;
 use ubik_types::{Bytes, Change, Changes, MAX_IMAGE, NoMemory, changes_new, changes_push};
-
-/// A put: its position and its bytes.
-type Put = (u32, &'static [u8]);
-
-/// Two images, and the puts that lead from the one to the other.
-type Led = (&'static [u8], &'static [u8], &'static [Put]);
-
-const SMALL: Layout = Layout { head: 4, block: 3 };
-
-const LED: [Led; 9] = [
-    // A first write: the head, a whole block, and a last one that is shorter.
-    (b"", b"HEADabcde", &[(0, b"HEAD"), (4, b"abc"), (7, b"de")]),
-    (b"", b"", &[]),
-    (b"HEADabcde", b"HEADabcde", &[]),
-    // One byte is another one.
-    (b"HEADabcde", b"HEaDabcde", &[(0, b"HEaD")]),
-    (b"HEADabcdefg", b"HEADabcdEfg", &[(7, b"dEf")]),
-    (b"HEADabcde", b"HEADabcdf", &[(7, b"df")]),
-    // A longer image: its last block grows, or another one follows.
-    (b"HEADabcd", b"HEADabcde", &[(7, b"de")]),
-    (b"HEADabc", b"HEADabcd", &[(7, b"d")]),
-    (b"HE", b"HEA", &[(0, b"HEA")]),
-];
 
 /// The length of an image, the position and the length of each put over it, and what is too large.
 type Sized = (usize, &'static [(u32, usize)], Option<u64>);
@@ -52,36 +29,6 @@ const SIZED: [Sized; 12] = [
     // Where both are passed, it is the sum that is told.
     (16_777_216, &[(16_777_216, 1_048_577)], Some(1_048_577)),
 ];
-
-fn is_put(change: &Change, put: Put) -> bool {
-    match change {
-        Change::Put { at, bytes } => *at == put.0 && bytes.as_slice() == put.1,
-        Change::Cut { .. } => false,
-    }
-}
-
-fn are_puts(changes: &Changes, puts: &[Put]) -> bool {
-    let changes = changes.as_slice();
-    changes.len() == puts.len() && changes.iter().zip(puts).all(|(c, put)| is_put(c, *put))
-}
-
-#[test]
-fn whole_blocks_are_put(rt: HostRuntime) -> Result<(), Fail> {
-    for (old, new, puts) in LED {
-        assert!(rt; old.len() <= MAX_IMAGE && new.len() <= MAX_IMAGE);
-        let changes = changes_between(rt.alloc(), old, new, SMALL)?;
-        assert!(rt; are_puts(&changes, puts), "from {old:?} to {new:?}");
-    }
-    Ok(())
-}
-
-#[test]
-fn a_layout_without_head(rt: HostRuntime) -> Result<(), Fail> {
-    let layout = Layout { head: 0, block: 2 };
-    let changes = changes_between(rt.alloc(), b"", b"abc", layout)?;
-    assert!(rt; are_puts(&changes, &[(0, b"ab"), (2, b"c")]));
-    Ok(())
-}
 
 fn push_put(alloc: Global, changes: &mut Changes, at: u32, len: usize) -> Result<(), NoMemory> {
     let bytes = Bytes::new(vec![in alloc; 0; len]?);

@@ -17,7 +17,7 @@ mod transfers;
 use bench_calls::{Asked, Idle, Task, call_of, task_of};
 use disk_base::{DiskEnd, FileNo, MemDisk, RoomEnd, StopDisk};
 use page_file::MAX_DATABASE_LEN;
-use pt_calls::PtService;
+use pt_protection::PtService;
 use std::alloc::Global;
 use std::env;
 use std::env::Args;

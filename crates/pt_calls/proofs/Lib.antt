@@ -1,14 +1,10 @@
 pub mod AnswerLaws
-pub mod AnswerTexts
 pub mod Again
-pub mod BuiltKinds
-pub mod Done
 pub mod ItemsTaken
 pub mod Loop
 pub mod Taken
 pub mod WordCalls
 pub mod WordLoop
 pub mod Skipped
-pub mod States
 pub mod Steps
 pub mod NewUsers

@@ -1,24 +1,7 @@
--- Which calls are built, and which of them write.
-use Rattle.std.specs.Prelude.{ℕ, pos, ◌==◌, ◌&&◌, Bool, true, false, List, Option, Some, None, if◌then◌else◌}
-use Rattle.std.specs.Ordering.{int_eq}
+-- Which calls write.
+use Rattle.std.specs.Prelude.{Bool, true, false}
 use Rattle.pt_calls.specs.declared.calls.PtCall.{PtCall}
 use Rattle.pt_calls.specs.declared.calls.PtCall.TheVariants as call
-use Rattle.pt_calls.specs.Reading.{call_of}
-
--- newentry of a user without a given owner, nametoid and listmax
-abbrev pub is_built : PtCall → Bool
-is_built (call.NewEntry name kind owner) = kind == 0 && int_eq owner (pos 0)
-is_built (call.NameToId names) = true
-is_built call.ListMax = true
-is_built _ = false
-
-abbrev pub built : Option PtCall → Option PtCall
-built None = None
-built (Some c) = if is_built c then Some c else None
-
--- the call that bytes are, of those that are built
-unfoldable pub built_call : List ℕ → Option PtCall
-built_call bytes = built (call_of bytes)
 
 -- a call that may change the database
 abbrev pub is_write : PtCall → Bool

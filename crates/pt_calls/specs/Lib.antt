@@ -4,10 +4,7 @@ pub mod Calls
 pub mod Laws
 pub mod Meaning
 pub mod NameLaws
-pub mod Plans
 pub mod Reading
-pub mod ServiceLaws
-pub mod ServiceWords
 pub mod Shapes
 pub mod Standing
 pub mod Words

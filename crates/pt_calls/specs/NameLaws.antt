@@ -98,3 +98,10 @@ pub id_found : (bytes : Option (List ℕ)) (name searched : List ℕ) (o : Optio
 id_found None name searched o z low is found = tt
 id_found (Some image) name searched o z low is found = λ r holds.
     is ∙ ap (λ (i : Option ℤ). unwrap_or i anonymous) (sym (named_is r searched o holds.valid (found r holds)) ∙ ap (id_named r) low)
+
+-- no entry has a name that is none's
+pub none_named : (r : Registry) (name : List ℕ) → IsRegistry r → id_named r name ≡ None → (id : ℤ) (e : PrEntry) → r.entry id ≡ Some e → e.name ≡ name → ⊥
+none_named r name valid none id e there same =
+    let own : r.entry e.id ≡ Some e = ap r.entry (valid.ids id e there) ∙ there in
+    let found = named_is r name (Some e) valid (own, same) in
+    cc

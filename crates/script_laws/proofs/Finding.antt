@@ -133,7 +133,7 @@ module _ (script_db : ScriptDatabase) where
 
     call_finds : (choice : Choice) (id : ℕ) (words : List (List ℕ)) (server : Option ℕ) (call : Option (List ℕ)) → IsHeard choice
         → MayFind (asked_in script_db c choice id words server call)
-    call_finds choice id words server None heard = if_finds (script_db.words.is_unbuilt words) (Err why.Unbuilt) (Err why.Syntax) tt tt
+    call_finds choice id words server None heard = tt
     call_finds choice id words None (Some call) heard = tt
     call_finds choice id words (Some number) (Some call) heard =
         up_finds number (λ k. stepped script_db c choice (Asking k id call))

@@ -207,8 +207,7 @@ module _ (calls : Type 0) (law : PacketsHavePlaces) (script_db : ScriptDatabase)
       (choice : Choice) (words : List (List ℕ)) where
     call_part : (server : Option ℕ) (call : Option (List ℕ)) → script_db.words.call_of words ≡ call
         → MayPart (asks + 1) (asked_in script_db c choice (asks + 1) words server call)
-    call_part server None is =
-        cond_both (script_db.words.is_unbuilt words) (Err why.Unbuilt) (Err why.Syntax) (MayPart (asks + 1)) (λ _. tt) (λ _. tt)
+    call_part server None is = tt
     call_part server (Some call) is =
         at_part (asks + 1) (asks + 1) (omega arith) (omega arith) choice call (λ named. names named words call is) server
 

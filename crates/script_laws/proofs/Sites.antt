@@ -169,7 +169,7 @@ module _ (script_db : ScriptDatabase) where
 
     call_has : (choice : Choice) (id : ℕ) (words : List (List ℕ)) (server : Option ℕ) (call : Option (List ℕ))
         → MayHave (asked_in script_db c choice id words server call)
-    call_has choice id words server None = if_has (script_db.words.is_unbuilt words) (Err why.Unbuilt) (Err why.Syntax) tt tt
+    call_has choice id words server None = tt
     call_has choice id words None (Some call) = tt
     call_has choice id words (Some number) (Some call) =
         up_has number (λ k. stepped script_db c choice (Asking k id call)) (λ k. stepped_has c choice (Asking k id call) has)

@@ -1,5 +1,5 @@
 //! Laws of scripts of one server: each is the clause of a call that does nothing.
-ghost use Rattle.pt_calls.specs.Standing.{pt_standing};
+ghost use Rattle.pt_protection.specs.Service.{protection_standing};
 ghost use Rattle.vl_database.specs.Service.{vl_standing};
 ghost use Rattle.script_laws.specs.Runs.{NamesCalls};
 ghost use Rattle.script_promises.specs.Databases.{databases};
@@ -10,8 +10,9 @@ use cell_model::{
     law_acknowledged_stay, law_announcements_grow, law_ok_is_acknowledged, law_replies_are_single,
     law_sites_are_single,
 };
-use pt_calls::{
-    an_image_stands_for_one_state, calls_are_answered, calls_are_meant, words_name_calls,
+use pt_protection::{
+    an_image_holds_one_protection_state, protection_calls_are_answered, protection_calls_are_meant,
+    protection_words_name_calls,
 };
 use script_laws::law_scripts_are_runs;
 use vl_database::{
@@ -21,11 +22,11 @@ use vl_database::{
 
 /// The calls of the protection database make of images what they mean.
 pub fn law_protection_is_lawful()
-    ensures { IsLawful pt_standing }
+    ensures { IsLawful protection_standing }
 {
-    calls_are_meant();
-    calls_are_answered();
-    an_image_stands_for_one_state();
+    protection_calls_are_meant();
+    protection_calls_are_answered();
+    an_image_holds_one_protection_state();
 }
 
 /// So do those of the location database.
@@ -41,7 +42,7 @@ pub fn law_location_is_lawful()
 pub fn law_words_are_calls()
     ensures { NamesCalls databases }
 {
-    words_name_calls();
+    protection_words_name_calls();
     location_words_name_calls();
 }
 

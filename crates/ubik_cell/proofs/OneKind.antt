@@ -108,7 +108,7 @@ module _ (script_db : ScriptDatabase) where
     ask_stays choice id words server = by server (script_db.words.call_of words)
       where
         by : (server : Option ℕ) (call : Option (List ℕ)) → MayStay (asked_in script_db c choice id words server call)
-        by server None = if_stays (script_db.words.is_unbuilt words) (Err why.Unbuilt) (Err why.Syntax) tt tt
+        by server None = tt
         by None (Some call) = tt
         by (Some number) (Some call) =
             up_stays number (λ k. stepped script_db c choice (Asking k id call)) (λ k. stepped_stays c choice (Asking k id call))

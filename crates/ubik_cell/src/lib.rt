@@ -10,6 +10,3 @@ pub use cell_runs::{Ending, Which};
 pub use cell_script::Why;
 pub use cells::{CellEnd, CellKind};
 pub use tops::cell_top;
-
-#[cfg(test)]
-mod tests;

@@ -1,5 +1,5 @@
 //! The lines of a script, run one after the other.
-ghost use Rattle.std.specs.Prelude.{◌≡◌, ◌≢◌, ◌+◌, ◌-◌, ◌<◌, ◌≤◌, ◌++◌, ℕ, List, [], length, Some, None, Ok, Err, All, IfOk, OnErr, OnOk, Option, take, vec_len, vec_capacity, drop, if◌then◌else◌};
+ghost use Rattle.std.specs.Prelude.{◌≡◌, ◌≢◌, ◌+◌, ◌-◌, ◌<◌, ◌≤◌, ◌++◌, ℕ, List, [], length, Some, None, Ok, Err, All, IfOk, OnErr, OnOk, Option, take, vec_len, vec_capacity, drop};
 ghost use Rattle.std.specs.String.{string_bytes};
 ghost use Rattle.disk_base.specs.Crash.{IsSettled};
 ghost use Rattle.disk_base.specs.Files.{no_files};
@@ -9,7 +9,6 @@ ghost use Rattle.ubik_types.specs.Moment.{IsMoment};
 ghost use Rattle.cell_script.specs.Meaning.{HasBounds};
 ghost use Rattle.cell_script.specs.declared.lines.Kind.{Kind};
 ghost use Rattle.cell_script.specs.declared.lines.Line.TheVariants as line;
-ghost use Rattle.cell_script.specs.declared.lines.Why.TheVariants as Why;
 ghost use Rattle.cell_script.specs.declared.lines.TheConstants.{MAX_CLOCK, MAX_TICK};
 ghost use Rattle.cell_script.specs.declared.readers.TheConstants.{MAX_LINE};
 ghost use Rattle.cell_runs.specs.declared.limits.TheConstants.{MAX_LINES};
@@ -188,7 +187,7 @@ impl<D: SteadyDisk + StopDisk, V: DraftWords> CellRun<D, V> {
             return Err(server.map_or(Why::Number, |_| Why::Cell).into());
         };
         let Some(call) = V::call_words(self.alloc, words.as_slice())? else {
-            return Err(why_no_call::<V>(words).into());
+            return Err(Why::Syntax.into());
         };
         let server = server.ok_or(Why::Number)?;
         let id = self.asks + 1;
@@ -371,16 +370,5 @@ fn run_in_cell<D: SteadyDisk + StopDisk, V: DraftWords>(
         } => Ok(cell.stop(*server, *calls, *fill)?),
         Line::Crash { server } => Ok(cell.crash(*server)?),
         Line::Restart { server } => cell.restart(*server, text),
-    }
-}
-
-/// Why words that name no call are refused.
-fn why_no_call<V: DraftWords>(words: &Words) -> Why
-    ensures { result ≡ (if V.words.is_unbuilt words.now then Why.Unbuilt else Why.Syntax) }
-{
-    if V::is_unbuilt(words.as_slice()) {
-        Why::Unbuilt
-    } else {
-        Why::Syntax
     }
 }

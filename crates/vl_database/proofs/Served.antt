@@ -3,6 +3,7 @@ use Rattle.std.proofs.Common.{◌≡◌, ℕ, ℤ, suc, ◌<◌, ◌^◌, Bool, 
 use Rattle.std.specs.Prelude.{nat_lt}
 use Rattle.std.specs.List.{list_all}
 use Rattle.std.proofs.lemmas.Bool.{and_from, lt-ltb}
+use Rattle.call_grammar.proofs.Fitting.{bytes_fit}
 use Rattle.call_grammar.specs.Laws.{IsBytes}
 use Rattle.db_image.specs.Database.{Outcome}
 use Rattle.db_image.specs.Ends.{EndsBy, IsShort, end_of}
@@ -74,10 +75,6 @@ look_ok (Ok ended) (Some image) after v w same look is told = λ s holds.
     subst (λ (x : Verdict). IsDone x s image ended after) (sym (is s)) (looked (Some image) after v ended same look told s holds)
 
 -- ---- the call that bytes are
-
-pub bytes_fit : (bytes : List ℕ) → IsBytes bytes → list_all (λ b. nat_lt b 256) bytes ≡ true
-bytes_fit [] are = refl
-bytes_fit (b ∷ bytes) are = and_from (nat_lt b 256) (list_all (λ x. nat_lt x 256) bytes) (lt-ltb b 256 (are 0)) (bytes_fit bytes (λ i. are (suc i)))
 
 pub asked_is : (now : ℕ) (bytes : List ℕ) → now < 2 ^ 32 → IsBytes bytes → asked now bytes ≡ call_of bytes
 asked_is now bytes low are =

@@ -1,26 +1,10 @@
 -- The calls of the location database and its answers in words, as scripts have them (own).
-use Rattle.std.specs.Prelude.{ℕ, false, List, [], ◌∷◌, Option, Some, None, nat_lt, if◌then◌else◌}
-use Rattle.std.specs.List.{list_all}
+use Rattle.call_grammar.specs.Shown.{shown_of, only_bytes}
 use Rattle.db_image.specs.CallWords.{CallWords}
 use Rattle.vl_calls.specs.Words.{call_of_words, reply_in_words}
-
--- the words of an answer, joined by blanks, where each byte is an ASCII one; nothing where there are none
-abbrev pub shown : List ℕ → List (List ℕ)
-shown [] = []
-shown (b ∷ bytes) = if list_all (λ x. nat_lt x 128) (b ∷ bytes) then (b ∷ bytes) ∷ [] else []
-
-abbrev pub shown_of : Option (List ℕ) → List (List ℕ)
-shown_of None = []
-shown_of (Some words) = shown words
-
--- bytes as a call has them
-abbrev pub only_bytes : Option (List ℕ) → Option (List ℕ)
-only_bytes None = None
-only_bytes (Some bytes) = if list_all (λ b. nat_lt b 256) bytes then Some bytes else None
 
 abbrev pub vl_words : CallWords
 vl_words = record {
   call_of = λ words. only_bytes (call_of_words words);
-  is_unbuilt = λ words. false;
   answer_of = λ call answer. shown_of (reply_in_words call answer);
 }

@@ -3,13 +3,9 @@
 
 mod laws;
 mod service;
-mod words;
 
 pub use laws::{
     an_image_holds_one_location, location_calls_are_answered, location_calls_are_meant,
     location_words_name_calls,
 };
 pub use service::VlService;
-
-#[cfg(test)]
-mod tests;

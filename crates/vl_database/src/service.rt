@@ -13,7 +13,7 @@ ghost use Rattle.vl_service.specs.Meaning.{asked, verdict};
 ghost use Rattle.vl_service.specs.Standing.{IsDecidedEnd, IsDone};
 ghost use Rattle.vl_database.specs.Service.{is_write};
 
-use crate::words::{bytes_fit, push_words};
+use call_grammar::{bytes_fit, push_words};
 use db_blocks::BLOCK_LEN;
 use db_image::{CallEnd, Draft, DraftService, DraftWords, ImageRead, RecordFault};
 use std::alloc::Global;
@@ -169,10 +169,6 @@ impl DraftWords for VlService {
                 Ok(Some(bytes))
             }
         }
-    }
-
-    fn is_unbuilt(_call: &[Bytes]) -> bool {
-        false
     }
 
     fn tell_answer(text: &mut String, call: &[u8], answer: &[u8]) -> Result<(), NoMemory> {

@@ -3,10 +3,10 @@ use Rattle.script_promises.proofs.laws.law_protection_is_lawful.Goals as goal
 
 pub returns : goal.returns
 returns c = record {
-  first = c.an_image_stands_for_one_state.ensures.first;
-  means = c.calls_are_meant.ensures.meant;
-  leaves = c.calls_are_meant.ensures.leaves;
-  answers = c.calls_are_answered.ensures;
-  never_shrinks = c.calls_are_meant.ensures.longer;
+  first = c.an_image_holds_one_protection_state.ensures.first;
+  means = c.protection_calls_are_meant.ensures.meant;
+  leaves = c.protection_calls_are_meant.ensures.leaves;
+  answers = c.protection_calls_are_answered.ensures;
+  never_shrinks = c.protection_calls_are_meant.ensures.longer;
   block = omega arith;
 }

@@ -9,4 +9,4 @@ NamesOf k =
     (words : List (List ℕ)) (call : List ℕ) → (databases k).words.call_of words ≡ Some call → IsSome ((databases k).database.writes call)
 
 pub returns : goal.returns
-returns c = by_kind NamesOf c.words_name_calls.ensures.alone c.location_words_name_calls.ensures
+returns c = by_kind NamesOf c.protection_words_name_calls.ensures c.location_words_name_calls.ensures

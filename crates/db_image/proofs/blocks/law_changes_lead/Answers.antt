@@ -1,8 +1,0 @@
-use Rattle.db_image.proofs.Laid.{changes_lead, changes_none}
-use Rattle.db_image.proofs.blocks.law_changes_lead.Goals as goal
-
-pub returns-clause-leads : goal.returns-clause-leads
-returns-clause-leads c = changes_lead
-
-pub returns-clause-none : goal.returns-clause-none
-returns-clause-none c = changes_none

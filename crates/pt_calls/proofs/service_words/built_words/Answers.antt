@@ -1,5 +1,0 @@
-use Rattle.pt_calls.proofs.WordLoop.{named_has_spelling}
-use Rattle.pt_calls.proofs.service_words.built_words.Goals as goal
-
-pub spell_call-requires : goal.spell_call-requires
-spell_call-requires c = named_has_spelling c.args.words.now c.in-Ok.call c.in-Ok.ensures

@@ -1,5 +1,0 @@
-use Rattle.pt_calls.proofs.NewUsers.{taken_is}
-use Rattle.pt_calls.proofs.users.is_taken.Goals as goal
-
-pub returns-clause-found : goal.returns-clause-found
-returns-clause-found g c = taken_is c.args.d.now.bytes c.args.name.now c.in_ok-find_name.field-0 c.is_some.result c.is_some.ensures c.in_ok-find_name.ensures.found

@@ -1,0 +1,114 @@
+-- The laws of the protection database.
+use Rattle.std.proofs.Common.{◌≡◌, ◌≢◌, ℕ, ℤ, pos, negsuc, Bool, true, false, not, ◌&&◌, ◌||◌, cond, List, Option, Some, None, IsSome, refl, sym, ap, subst, ◌∙◌}
+use Rattle.std.specs.Prelude.{is_none, is_some, nat_lt}
+use Rattle.std.specs.List.{list_all}
+use Rattle.std.specs.Option.{option_map}
+use Rattle.std.specs.Ordering.{int_eq}
+use Rattle.db_image.specs.declared.services.CallReply.TheVariants as reply
+use Rattle.prdb_entries.specs.Names.{lowered}
+use Rattle.prdb_entries.specs.Records.{whole}
+use Rattle.prdb_entries.specs.Registry.{Registry}
+use Rattle.prdb_entries.specs.State.{PrEntry}
+use Rattle.pt_calls.specs.declared.calls.PtCall.{PtCall}
+use Rattle.pt_calls.specs.declared.calls.PtCall.TheVariants as call
+use Rattle.pt_calls.specs.Calls.{call_kind, spelling}
+use Rattle.pt_calls.specs.Reading.{call_of}
+use Rattle.pt_calls.specs.Words.{call_in_words}
+use Rattle.pt_calls.proofs.Again.{spelling_again}
+use Rattle.pt_calls.proofs.WordLoop.{named_is_call}
+use Rattle.pt_service.specs.Meaning.{Answers, Makes, NoCall, Refuses, Verdict, are_bad_fields, are_kinds, asked, is_maximum, joins, of_entry, of_pair, parts, protection_meaning, reply_by, verdict}
+use Rattle.pt_service.specs.State.{State}
+use Rattle.pt_service.specs.Turning.{is_fixed, turn_fault}
+use Rattle.pt_database.specs.States.{HoldsState}
+use Rattle.pt_protection.specs.Laws.{AnswersCalls, HoldsOne, LeavesStates, NamesCalls}
+use Rattle.pt_protection.specs.Service.{is_write, protection_database}
+use Rattle.pt_protection.specs.ServiceLaws.{database_is_meant}
+use Rattle.pt_protection.proofs.Changing.{by_test, of_both, of_given, of_new, of_one, unless_one}
+use Rattle.pt_laws.specs.Told.{state_in}
+use Rattle.call_grammar.specs.Shown.{only_bytes}
+use Rattle.pt_laws.proofs.ToldStates.{holds_one as one_state}
+
+-- ---- images and states
+
+pub holds_one : HoldsOne
+holds_one = one_state
+
+pub leaves_states : LeavesStates
+leaves_states image s now bytes holds same =
+    let after = (protection_meaning.call s now bytes).state in
+    holds_one image after s (subst (λ (i : List ℕ). HoldsState i after) same (database_is_meant image s now bytes holds).stands) holds
+
+-- ---- a call is answered as one
+
+abbrev IsAnswer : Verdict → Type 0
+IsAnswer NoCall = ⊥
+IsAnswer _ = Unit {0}
+
+one_answers : (o : Option PrEntry) (goes : PrEntry → Verdict) → ((e : PrEntry) → IsAnswer (goes e)) → IsAnswer (of_entry o goes)
+one_answers o goes each = of_one IsAnswer o goes (λ rule. tt) each
+
+pair_answers : (r : Registry) (user group : ℤ) (goes : Verdict) → IsAnswer goes → IsAnswer (of_pair r user group goes)
+pair_answers r user group goes is = of_both IsAnswer r user group goes (λ rule. tt) is
+
+call_answers : (s : State) (c : PtCall) → IsAnswer (verdict s (Some c))
+unfolding verdict
+call_answers s (call.NewEntry name kind owner) = of_new IsAnswer s.registry (lowered name) kind owner (λ rule. tt) (λ a e. tt)
+call_answers s (call.INewEntry name id owner) = of_given IsAnswer s.registry (lowered name) id owner (λ rule. tt) (λ a e. tt)
+call_answers s (call.NameToId names) = tt
+call_answers s (call.IdToName given) = tt
+call_answers s (call.Delete id) = one_answers (s.registry.entry id) _ (λ e. by_test IsAnswer (is_fixed e.id) _ _ tt tt)
+call_answers s (call.AddToGroup user group) =
+    pair_answers s.registry user group (joins s user group)
+    (by_test IsAnswer (int_eq group (negsuc 100) || int_eq group (negsuc 101)) _ _ tt (by_test IsAnswer (s.is_in user group) _ _ tt tt))
+call_answers s (call.RemoveFromGroup user group) = pair_answers s.registry user group (parts s user group) (by_test IsAnswer (s.is_in user group) _ _ tt tt)
+call_answers s (call.GetCps id) = one_answers (s.registry.entry id) _ (λ e. tt)
+call_answers s call.ListMax = tt
+call_answers s (call.SetMax id group) = by_test IsAnswer (is_maximum group id) _ _ tt tt
+call_answers s (call.ListEntry id) = one_answers (s.registry.entry id) _ (λ e. tt)
+call_answers s (call.ListEntries kinds after) = by_test IsAnswer (are_kinds kinds) _ _ tt tt
+call_answers s (call.ChangeEntry id name owner new_id) =
+    one_answers (s.registry.entry id) _ (λ e. unless_one IsAnswer (turn_fault s.registry e (lowered name) owner new_id) _ (λ rule. tt) tt)
+call_answers s (call.SetFields id mask flags quota) = one_answers (s.registry.entry id) _ (λ e. by_test IsAnswer (are_bad_fields mask flags quota) _ _ tt tt)
+call_answers s (call.ListElements id) = one_answers (s.registry.entry id) _ (λ e. tt)
+call_answers s (call.IsMemberOf user group) = pair_answers s.registry user group _ tt
+call_answers s (call.ListOwned id) = by_test IsAnswer (not (int_eq id (pos 0)) && is_none (s.registry.entry id)) _ _ tt tt
+
+not_malformed : (v : Verdict) → IsAnswer v → reply_by v ≢ reply.Malformed
+not_malformed NoCall is = λ e. is
+not_malformed (Refuses rule) is = λ e. cc
+not_malformed (Answers a) is = λ e. cc
+not_malformed (Makes a change) is = λ e. cc
+
+answered : (s : State) (o : Option PtCall) → IsSome (option_map is_write (option_map call_kind o)) → reply_by (verdict s o) ≢ reply.Malformed
+answered s None is = absurd cc
+answered s (Some c) is = not_malformed (verdict s (Some c)) (call_answers s c)
+
+pub answers_calls : AnswersCalls
+answers_calls image now bytes is = answered (state_in (whole image)) (asked bytes) is
+
+-- ---- words name calls
+
+fit_bytes : (bytes : List ℕ) (c : PtCall) (b : Bool) → list_all (λ x. nat_lt x 256) bytes ≡ b → call_of bytes ≡ Some c
+    → (named : List ℕ) → cond b (Some bytes) None ≡ Some named → IsSome (protection_database.writes named)
+fit_bytes bytes c true fit read named e =
+    let same : bytes ≡ named = cc in
+    let there : asked bytes ≡ Some c = ap (λ (b : Bool). cond b (call_of bytes) None) fit ∙ read in
+    subst (λ (l : List ℕ). IsSome (protection_database.writes l)) same
+    (ap is_some (ap (λ (o : Option PtCall). option_map is_write (option_map call_kind o)) there))
+fit_bytes bytes c false fit read named e = absurd cc
+
+named_by : (words : List (List ℕ)) (read : Option PtCall) (bytes : List ℕ) → call_in_words words ≡ read
+    → only_bytes (option_map spelling read) ≡ Some bytes → IsSome (protection_database.writes bytes)
+named_by words None bytes is e = absurd cc
+named_by words (Some c) bytes is e =
+    fit_bytes (spelling c) c (list_all (λ x. nat_lt x 256) (spelling c)) refl (spelling_again c (named_is_call words c is)) bytes e
+
+pub names_calls : NamesCalls
+names_calls words bytes e = named_by words (call_in_words words) bytes refl e
+
+-- bytes that have their range stay
+pub only_these : (o : Option (List ℕ)) (bytes : List ℕ) → o ≡ Some bytes → list_all (λ x. nat_lt x 256) bytes ≡ true → Some bytes ≡ only_bytes o
+only_these None bytes is fit = absurd cc
+only_these (Some other) bytes is fit =
+    let same : bytes ≡ other = cc in
+    subst (λ (l : List ℕ). Some bytes ≡ only_bytes (Some l)) same (sym (ap (λ (b : Bool). cond b (Some bytes) None) fit))

@@ -1,0 +1,3 @@
+pub mod Changing
+pub mod Lawful
+pub mod Served

@@ -1,0 +1,223 @@
+-- What the service answers is what was decided of the call.
+use Rattle.std.proofs.Common.{◌≡◌, ℕ, Bool, cond, List, Option, Some, None, IfSome, Result, Ok, Err, IfOk, refl, sym, ap, subst, ◌∙◌}
+use Rattle.call_grammar.proofs.Fitting.{bytes_fit}
+use Rattle.call_grammar.specs.Laws.{IsBytes}
+use Rattle.db_image.specs.Database.{Outcome}
+use Rattle.db_image.specs.Ends.{EndsBy, IsShort, end_of}
+use Rattle.db_image.specs.Images.{OnlyReads}
+use Rattle.db_image.specs.declared.draft_services.CallEnd.{CallEnd}
+use Rattle.db_image.specs.declared.draft_services.CallEnd.TheVariants as end
+use Rattle.db_image.specs.declared.faults.RecordFault.{RecordFault}
+use Rattle.db_image.specs.declared.images.ImageRead.{Ghosts}
+use Rattle.prdb_entries.specs.Registry.{Registry}
+use Rattle.pt_calls.specs.declared.calls.PtCall.{PtCall}
+use Rattle.pt_calls.specs.Reading.{call_of}
+use Rattle.pt_calls.specs.Standing.{IsDecided}
+use Rattle.pt_service.specs.Meaning.{Answers, Enter, Join, Leave, Makes, Maxima, NoCall, Part, Refit, Refuses, Turn, Verdict, asked, reply_by, verdict}
+use Rattle.pt_service.specs.Standing as registry
+use Rattle.pt_service.specs.State.{State}
+use Rattle.pt_service.specs.Told.{IsMeant}
+use Rattle.pt_database.specs.States.{HoldsState, IsToldOf}
+use Rattle.pt_changes.specs.Standing as pairs
+use Rattle.pt_turns.specs.Standing as turns
+use Rattle.pt_laws.specs.Standing.{IsDone, IsMeantOf, image_by}
+use Rattle.pt_protection.specs.Service.{protection_database}
+use Rattle.pt_laws.proofs.ToldStates.{state_told}
+
+-- ---- calls that only look
+
+-- nothing is changed by it
+abbrev pub IsLook : Verdict → Type 0
+IsLook NoCall = Unit {0}
+IsLook (Refuses rule) = Unit {0}
+IsLook (Answers a) = Unit {0}
+IsLook (Makes a change) = ⊥
+
+image_same : (v : Verdict) (s : State) (image : List ℕ) → IsLook v → image_by v s image ≡ image
+image_same NoCall s image is = refl
+image_same (Refuses rule) s image is = refl
+image_same (Answers a) s image is = refl
+image_same (Makes a change) s image is = absurd is
+
+-- the call is this one
+as_asked : (bytes after : Option (List ℕ)) (call p : PtCall) (ended : CallEnd) → call ≡ p → IsMeantOf bytes (λ s. verdict s (Some p)) ended after
+    → IsMeantOf bytes (λ s. verdict s (Some call)) ended after
+as_asked bytes after call p ended is done = subst (λ (q : PtCall). IsMeantOf bytes (λ s. verdict s (Some q)) ended after) (sym is) done
+
+looked : (bytes after : Option (List ℕ)) (v : State → Verdict) (ended : CallEnd) → after ≡ bytes → ((s : State) → IsLook (v s))
+    → IsToldOf bytes v ended → IsMeantOf bytes v ended after
+looked None after v ended same look told = tt
+looked (Some image) after v ended same look told = λ s holds. record {
+  reply = told s holds;
+  leaves = same ∙ ap Some (sym (image_same (v s) s image (look s)));
+}
+
+pub look_ok : (r : Result CallEnd RecordFault) (bytes after : Option (List ℕ)) (call p : PtCall) → call ≡ p → after ≡ bytes
+    → ((s : State) → IsLook (verdict s (Some p))) → IfOk r (IsToldOf bytes (λ s. verdict s (Some p)))
+    → IfOk r (λ ended. IsMeantOf bytes (λ s. verdict s (Some call)) ended after)
+look_ok (Err fault) bytes after call p is same look told = tt
+look_ok (Ok ended) bytes after call p is same look told =
+    as_asked bytes after call p ended is (looked bytes after (λ s. verdict s (Some p)) ended same look told)
+
+-- ---- calls that touch no pair
+
+-- the change is not one of pairs
+abbrev pub IsPlain : Verdict → Type 0
+IsPlain (Makes a (Maxima user group)) = Unit {0}
+IsPlain (Makes a (Enter e user group)) = Unit {0}
+IsPlain (Makes a (Refit e)) = Unit {0}
+IsPlain (Makes a change) = ⊥
+IsPlain v = Unit {0}
+
+image_plain : (v : Verdict) (s : State) (image : List ℕ) → IsPlain v → registry.image_by v image ≡ Some (image_by v s image)
+image_plain NoCall s image is = refl
+image_plain (Refuses rule) s image is = refl
+image_plain (Answers a) s image is = refl
+image_plain (Makes a (Maxima user group)) s image is = refl
+image_plain (Makes a (Enter e user group)) s image is = refl
+image_plain (Makes a (Refit e)) s image is = refl
+image_plain (Makes a (Leave id)) s image is = absurd is
+image_plain (Makes a (Turn e name owner id user group)) s image is = absurd is
+image_plain (Makes a (Join user group)) s image is = absurd is
+image_plain (Makes a (Part user group)) s image is = absurd is
+
+plain : (bytes after : Option (List ℕ)) (v : Registry → Verdict) (w : State → Verdict) (ended : CallEnd) → ((r : Registry) → IsPlain (v r))
+    → ((s : State) → w s ≡ v s.registry) → IsMeant bytes v ended after → IsMeantOf bytes w ended after
+plain None after v w ended kind of done = tt
+plain (Some image) after v w ended kind of done = λ s holds.
+    let d = done s.registry holds.holds in
+    subst (λ (x : Verdict). IsDone x s image ended after) (sym (of s))
+    (record { reply = d.reply; leaves = d.leaves ∙ image_plain (v s.registry) s image (kind s.registry) })
+
+pub plain_ok : (r : Result CallEnd RecordFault) (bytes after : Option (List ℕ)) (v : Registry → Verdict) (call p : PtCall) → call ≡ p
+    → ((q : Registry) → IsPlain (v q)) → ((s : State) → verdict s (Some p) ≡ v s.registry) → IfOk r (λ ended. IsMeant bytes v ended after)
+    → IfOk r (λ ended. IsMeantOf bytes (λ s. verdict s (Some call)) ended after)
+plain_ok (Err fault) bytes after v call p is kind of done = tt
+plain_ok (Ok ended) bytes after v call p is kind of done =
+    as_asked bytes after call p ended is (plain bytes after v (λ s. verdict s (Some p)) ended kind of done)
+
+-- ---- calls that change pairs, and one that lets an entry leave
+
+-- the change is one of pairs, or an entry that leaves
+abbrev pub IsPaired : Verdict → Type 0
+IsPaired (Makes a (Leave id)) = Unit {0}
+IsPaired (Makes a (Join user group)) = Unit {0}
+IsPaired (Makes a (Part user group)) = Unit {0}
+IsPaired (Makes a change) = ⊥
+IsPaired v = Unit {0}
+
+image_paired : (v : Verdict) (s : State) (image : List ℕ) → IsPaired v → pairs.image_by v s image ≡ Some (image_by v s image)
+image_paired NoCall s image is = refl
+image_paired (Refuses rule) s image is = refl
+image_paired (Answers a) s image is = refl
+image_paired (Makes a (Maxima user group)) s image is = absurd is
+image_paired (Makes a (Enter e user group)) s image is = absurd is
+image_paired (Makes a (Refit e)) s image is = absurd is
+image_paired (Makes a (Leave id)) s image is = refl
+image_paired (Makes a (Turn e name owner id user group)) s image is = absurd is
+image_paired (Makes a (Join user group)) s image is = refl
+image_paired (Makes a (Part user group)) s image is = refl
+
+paired : (bytes after : Option (List ℕ)) (v : State → Verdict) (ended : CallEnd) → ((s : State) → IsPaired (v s))
+    → pairs.IsMeantOf bytes v ended after → IsMeantOf bytes v ended after
+paired None after v ended kind done = tt
+paired (Some image) after v ended kind done = λ s holds.
+    let d = done s holds in record { reply = d.reply; leaves = d.leaves ∙ image_paired (v s) s image (kind s) }
+
+pub paired_ok : (r : Result CallEnd RecordFault) (bytes after : Option (List ℕ)) (call p : PtCall) → call ≡ p
+    → ((s : State) → IsPaired (verdict s (Some p))) → IfOk r (λ ended. pairs.IsMeantOf bytes (λ s. verdict s (Some p)) ended after)
+    → IfOk r (λ ended. IsMeantOf bytes (λ s. verdict s (Some call)) ended after)
+paired_ok (Err fault) bytes after call p is kind done = tt
+paired_ok (Ok ended) bytes after call p is kind done =
+    as_asked bytes after call p ended is (paired bytes after (λ s. verdict s (Some p)) ended kind done)
+
+-- ---- a call that lets an entry turn
+
+-- the change is an entry that turns
+abbrev pub IsTurned : Verdict → Type 0
+IsTurned (Makes a (Turn e name owner id user group)) = Unit {0}
+IsTurned (Makes a change) = ⊥
+IsTurned v = Unit {0}
+
+image_turned : (v : Verdict) (s : State) (image : List ℕ) → IsTurned v → turns.image_by v s image ≡ Some (image_by v s image)
+image_turned NoCall s image is = refl
+image_turned (Refuses rule) s image is = refl
+image_turned (Answers a) s image is = refl
+image_turned (Makes a (Maxima user group)) s image is = absurd is
+image_turned (Makes a (Enter e user group)) s image is = absurd is
+image_turned (Makes a (Refit e)) s image is = absurd is
+image_turned (Makes a (Leave id)) s image is = absurd is
+image_turned (Makes a (Turn e name owner id user group)) s image is = refl
+image_turned (Makes a (Join user group)) s image is = absurd is
+image_turned (Makes a (Part user group)) s image is = absurd is
+
+turned : (bytes after : Option (List ℕ)) (v : State → Verdict) (ended : CallEnd) → ((s : State) → IsTurned (v s))
+    → turns.IsMeantOf bytes v ended after → IsMeantOf bytes v ended after
+turned None after v ended kind done = tt
+turned (Some image) after v ended kind done = λ s holds.
+    let d = done s holds in record { reply = d.reply; leaves = d.leaves ∙ image_turned (v s) s image (kind s) }
+
+pub turned_ok : (r : Result CallEnd RecordFault) (bytes after : Option (List ℕ)) (call p : PtCall) → call ≡ p
+    → ((s : State) → IsTurned (verdict s (Some p))) → IfOk r (λ ended. turns.IsMeantOf bytes (λ s. verdict s (Some p)) ended after)
+    → IfOk r (λ ended. IsMeantOf bytes (λ s. verdict s (Some call)) ended after)
+turned_ok (Err fault) bytes after call p is kind done = tt
+turned_ok (Ok ended) bytes after call p is kind done =
+    as_asked bytes after call p ended is (turned bytes after (λ s. verdict s (Some p)) ended kind done)
+
+-- ---- the call that bytes are
+
+pub asked_is : (bytes : List ℕ) → IsBytes bytes → asked bytes ≡ call_of bytes
+asked_is bytes are = ap (λ (b : Bool). cond b (call_of bytes) None) (bytes_fit bytes are)
+
+pub no_call_done : (bytes : Option (List ℕ)) (o : Option PtCall) → o ≡ None → IsMeantOf bytes (λ s. verdict s o) end.Malformed bytes
+unfolding verdict
+no_call_done None o none = tt
+no_call_done (Some image) o none = λ s holds.
+    subst (λ (x : Option PtCall). IsDone (verdict s x) s image end.Malformed (Some image)) (sym none) (record { reply = refl; leaves = refl })
+
+pub call_done : (r : Result CallEnd RecordFault) (bytes after : Option (List ℕ)) (o p : Option PtCall) → o ≡ p
+    → IfOk r (λ ended. IsMeantOf bytes (λ s. verdict s p) ended after) → IfOk r (λ ended. IsMeantOf bytes (λ s. verdict s o) ended after)
+call_done r bytes after o p same done =
+    subst (λ (x : Option PtCall). IfOk r (λ ended. IsMeantOf bytes (λ s. verdict s x) ended after)) (sym same) done
+
+-- ---- the service
+
+-- a call that was decided gives a short answer, and no fault
+pub decided_short : (ended : CallEnd) → IsDecided ended → IsShort ended
+decided_short (end.Done told) h = h
+decided_short (end.Rule fault) h = tt
+decided_short end.Malformed h = tt
+decided_short (end.BadRecord at) h = tt
+decided_short end.DiskFault h = tt
+decided_short end.NoMemory h = tt
+
+pub decided_reads : {I : Type 0} (g : Ghosts I) (old new : I) (failed : Type 0) (ended : CallEnd) → IsDecided ended → OnlyReads g old new failed
+    → OnlyReads g old new (ended ≡ end.DiskFault)
+decided_reads g old new failed ended h r = record {
+  held = r.held;
+  size = r.size;
+  came = r.came;
+  never_falls = r.never_falls;
+  cause = λ fault. absurd (subst IsDecided fault h);
+}
+
+ends_by : (o : Outcome) (ended : CallEnd) (after : Option (List ℕ)) → ended ≡ end_of o.reply → after ≡ Some o.image → EndsBy o ended after
+ends_by o (end.Done told) after reply leaves = (reply, leaves)
+ends_by o (end.Rule fault) after reply leaves = (reply, leaves)
+ends_by o end.Malformed after reply leaves = (reply, leaves)
+ends_by o (end.BadRecord at) after reply leaves = (reply, leaves)
+ends_by o end.DiskFault after reply leaves = tt
+ends_by o end.NoMemory after reply leaves = tt
+
+abbrev EndsIn : (image bytes : List ℕ) → CallEnd → Option (List ℕ) → State → Type 0
+EndsIn image bytes ended after s =
+    EndsBy (record { reply = reply_by (verdict s (asked bytes)); image = image_by (verdict s (asked bytes)) s image }) ended after
+
+pub meant : (held after : Option (List ℕ)) (now : ℕ) (bytes : List ℕ) (ended : CallEnd) → IsMeantOf held (λ s. verdict s (asked bytes)) ended after
+    → IfSome held (λ image. (s : State) → HoldsState image s → EndsBy (protection_database.call image now bytes) ended after)
+meant None after now bytes ended done = tt
+meant (Some image) after now bytes ended done = λ s holds.
+    let d = done s holds in
+    let v = verdict s (asked bytes) in
+    subst (EndsIn image bytes ended after) (state_told image s holds)
+    (ends_by (record { reply = reply_by v; image = image_by v s image }) ended after d.reply d.leaves)

@@ -1,0 +1,5 @@
+pub mod Answers
+pub mod Laws
+pub mod Service
+pub mod ServiceLaws
+pub mod Words

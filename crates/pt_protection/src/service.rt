@@ -1,0 +1,177 @@
+//! The protection database as a service.
+#![tactic(auto, unfolding(pt_service::specs::Meaning::verdict))]
+
+ghost use Rattle.std.specs.Prelude.{◌≡◌, ◌≤◌, Some, IfOk, IfErr, IsErrOf};
+ghost use Rattle.std.specs.Option.{option_map};
+ghost use Rattle.prdb_entries.specs.RecordEnds.{OnlyDrafts};
+ghost use Rattle.prdb_members.specs.Ends.{HasItsCause};
+ghost use Rattle.pt_calls.specs.Calls.{HasSpelling, call_kind};
+ghost use Rattle.pt_calls.specs.Reading.{call_of};
+ghost use Rattle.pt_calls.specs.Standing.{IsDecided};
+ghost use Rattle.pt_service.specs.Meaning.{asked, verdict};
+ghost use Rattle.pt_laws.specs.Standing.{IsMeantOf};
+ghost use Rattle.pt_protection.specs.Service.{is_write};
+
+use crate::answers::reply_words;
+use call_grammar::{bytes_fit, push_words};
+use db_image::{CallEnd, Draft, DraftService, DraftWords, ImageRead, RecordFault};
+use prdb_entries::draft_over;
+use pt_calls::{CallKind, PtCall, call_words, kind_of, read_call};
+use pt_changes::{add_to_group, delete, remove_from_group};
+use pt_database::{get_cps, is_member_of, list_elements, list_entries, list_entry, list_owned};
+use pt_service::{
+    id_to_name, list_max, name_to_id, new_entry, new_entry_of_id, set_fields, set_max,
+};
+use pt_turns::change_entry;
+use std::alloc::Global;
+use ubik_types::{Bytes, NoMemory};
+
+/// Whether a call of a kind may change the database.
+fn is_write(kind: CallKind) -> bool
+    ensures { result ≡ is_write kind }
+{
+    match kind {
+        CallKind::NameToId
+        | CallKind::IdToName
+        | CallKind::GetCps
+        | CallKind::ListMax
+        | CallKind::ListEntry
+        | CallKind::ListEntries
+        | CallKind::ListElements
+        | CallKind::IsMemberOf
+        | CallKind::ListOwned => false,
+        _ => true,
+    }
+}
+
+/// Whether a call's bytes are one that may change the database; none where they are no call.
+fn writes(call: &[u8]) -> Option<bool>
+    ensures { result ≡ option_map is_write (option_map call_kind (call_of call.now)) }
+{
+    match kind_of(call) {
+        Some(kind) => Some(is_write(kind)),
+        None => None,
+    }
+}
+
+/// Makes a call.
+fn answer<I: ImageRead>(
+    alloc: Global,
+    d: &mut Draft<I>,
+    call: PtCall,
+) -> Result<CallEnd, RecordFault>
+    requires len { d.old.len ≤ 16777216 }
+    requires call { HasSpelling call }
+    ensures meant { IfOk result (λ end. IsMeantOf d.old.bytes (λ s. verdict s (Some call)) end d.new.bytes) }
+    ensures longer { d.old.len ≤ d.new.len }
+    ensures short { IfOk result IsDecided }
+    ensures fault { IfErr result (HasItsCause d.old.bytes) }
+    ensures frame { OnlyDrafts I.ImageRead d.old d.new (IsErrOf result RecordFault.DiskFault) }
+{
+    match call {
+        PtCall::NewEntry { name, kind, owner } => new_entry(alloc, d, name.as_slice(), kind, owner),
+        PtCall::INewEntry { name, id, owner } => {
+            new_entry_of_id(alloc, d, name.as_slice(), id, owner)
+        }
+        PtCall::NameToId { names } => name_to_id(alloc, d, names.as_slice()),
+        PtCall::IdToName { ids } => id_to_name(alloc, d, ids.as_slice()),
+        PtCall::Delete { id } => delete(alloc, d, id),
+        PtCall::AddToGroup { member, group } => add_to_group(alloc, d, member, group),
+        PtCall::RemoveFromGroup { member, group } => remove_from_group(alloc, d, member, group),
+        PtCall::GetCps { id } => get_cps(alloc, d, id),
+        PtCall::ListMax => list_max(alloc, d),
+        PtCall::SetMax { id, is_group } => set_max(alloc, d, id, is_group),
+        PtCall::ListEntry { id } => list_entry(alloc, d, id),
+        PtCall::ListEntries { kinds, after } => list_entries(alloc, d, kinds, after),
+        PtCall::ChangeEntry {
+            id,
+            name,
+            owner,
+            new_id,
+        } => change_entry(alloc, d, id, name.as_slice(), owner, new_id),
+        PtCall::SetFields {
+            id,
+            mask,
+            flags,
+            quota,
+        } => set_fields(alloc, d, id, mask, flags, quota),
+        PtCall::ListElements { id } => list_elements(alloc, d, id),
+        PtCall::IsMemberOf { member, group } => is_member_of(alloc, d, member, group),
+        PtCall::ListOwned { id } => list_owned(alloc, d, id),
+    }
+}
+
+/// Makes the call that bytes are.
+fn evaluate<I: ImageRead>(
+    alloc: Global,
+    d: &mut Draft<I>,
+    bytes: &[u8],
+) -> Result<CallEnd, RecordFault>
+    requires { d.old.len ≤ 16777216 }
+    ensures meant { IfOk result (λ end. IsMeantOf d.old.bytes (λ s. verdict s (asked bytes.now)) end d.new.bytes) }
+    ensures longer { d.old.len ≤ d.new.len }
+    ensures short { IfOk result IsDecided }
+    ensures fault { IfErr result (HasItsCause d.old.bytes) }
+    ensures frame { OnlyDrafts I.ImageRead d.old d.new (IsErrOf result RecordFault.DiskFault) }
+{
+    let Some(call) = read_call(alloc, bytes)? else {
+        return Ok(CallEnd::Malformed);
+    };
+    answer(alloc, d, call)
+}
+
+/// The protection database.
+#[derive(Drop)]
+pub struct PtService;
+
+impl DraftService for PtService {
+    ghost use Rattle.pt_protection.specs.Service.{protection_standing};
+    ghost use Rattle.pt_protection.specs.ServiceLaws.{database_is_meant, database_never_shrinks, empty_stands};
+
+    ghost standing = { protection_standing };
+
+    ghost empty_is_first = { empty_stands };
+
+    ghost is_meant = { database_is_meant };
+
+    ghost never_shrinks = { database_never_shrinks };
+
+    fn writes(call: &[u8]) -> Option<bool> {
+        writes(call)
+    }
+
+    fn call<I: ImageRead>(alloc: Global, image: &mut Draft<I>, _now: u32, call: &[u8]) -> CallEnd {
+        match evaluate(alloc, image, call) {
+            Ok(end) => end,
+            Err(fault) => fault.into(),
+        }
+    }
+
+    fn draft<I: ImageRead>(alloc: Global, image: I) -> Draft<I> {
+        draft_over(alloc, image)
+    }
+}
+
+impl DraftWords for PtService {
+    ghost use Rattle.pt_protection.specs.Words.{protection_words};
+
+    ghost words = { protection_words };
+
+    fn call_words(alloc: Global, call: &[Bytes]) -> Result<Option<Bytes>, NoMemory> {
+        match call_words(alloc, call)? {
+            None => Ok(None),
+            Some(bytes) => {
+                bytes_fit(bytes.as_slice());
+                Ok(Some(bytes))
+            }
+        }
+    }
+
+    fn tell_answer(text: &mut String, call: &[u8], answer: &[u8]) -> Result<(), NoMemory> {
+        let alloc = *text.allocator();
+        match reply_words(alloc, call, answer)? {
+            Some(words) => push_words(text, words.as_slice()),
+            None => Ok(()),
+        }
+    }
+}
