@@ -26,8 +26,8 @@ use Rattle.cell_runs.specs.Trace.{Tells, fault_count, trace}
 use Rattle.write_laws.specs.Spreads.{WritesSpread}
 use Rattle.ubik_node.specs.declared.nodes.Node.{Node}
 use Rattle.ubik_node.specs.Disk.{IsArmed, IsRevived, StandsAs}
-use Rattle.ubik_node.specs.declared.state.State.{State}
-use Rattle.ubik_node.specs.State.{member_of, server_of}
+use Rattle.server_state.specs.declared.state.State.{State}
+use Rattle.server_state.specs.State.{member_of, server_of}
 use Rattle.ubik_node.specs.Node.{IsStored, node_of, own_member, up_server}
 use Rattle.cell_sites.specs.declared.cells.OpenCell.{OpenCell}
 use Rattle.cell_sites.specs.declared.openings.OpenEnd.{OpenEnd}

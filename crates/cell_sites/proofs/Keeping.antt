@@ -13,9 +13,9 @@ use Rattle.write_laws.specs.Keeping.{IsCellPacket, IsKeeping}
 use Rattle.write_laws.specs.Lines.{unanswered}
 use Rattle.write_laws.specs.Spreads.{WritesSpread}
 use Rattle.ubik_node.specs.declared.nodes.Node.{Node}
-use Rattle.ubik_node.specs.declared.state.State.{State}
+use Rattle.server_state.specs.declared.state.State.{State}
 use Rattle.ubik_node.specs.Node.{node_of, up_server}
-use Rattle.ubik_node.specs.State.{server_of}
+use Rattle.server_state.specs.State.{server_of}
 use Rattle.cell_sites.specs.declared.cells.OpenCell.{OpenCell}
 use Rattle.cell_sites.specs.declared.sites.Server.{Server}
 use Rattle.cell_sites.specs.declared.sites.Server.TheVariants.{Down, Up}

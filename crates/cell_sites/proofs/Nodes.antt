@@ -19,8 +19,8 @@ use Rattle.ubik_node.specs.declared.nodes.StepEnd.{StepEnd}
 use Rattle.ubik_node.specs.declared.nodes.StepEnd.TheVariants.{Done, Halted, NoMemory}
 use Rattle.ubik_node.specs.Disk.{IsRevived, LeavesWithin, TakenCutNoPut}
 use Rattle.ubik_node.specs.Node.{Calls, IsStored, Steps, last_after, node_of, own_member, up_server}
-use Rattle.ubik_node.specs.declared.state.State.{State}
-use Rattle.ubik_node.specs.State.{member_of, server_of}
+use Rattle.server_state.specs.declared.state.State.{State}
+use Rattle.server_state.specs.State.{member_of, server_of}
 use Rattle.cell_sites.specs.declared.steps.SiteEnd.TheVariants as ended
 use Rattle.cell_sites.specs.Sound.{IsSoundDisk, IsSoundNode}
 use Rattle.cell_sites.specs.Stepped.{NodeStepped}

@@ -3,9 +3,9 @@ use Rattle.std.proofs.Common.{◌≡◌, ◌<◌, ℕ, Bool, List, [], ◌∷◌
 use Rattle.ubik_types.specs.declared.hosts.Host.{Host}
 use Rattle.ubik_types.specs.Lease.{is_in_lease}
 use Rattle.cell_model.specs.Step.{Member, leased}
-use Rattle.ubik_node.specs.declared.state.State.{State}
-use Rattle.ubik_node.specs.Beacons.{alone}
-use Rattle.ubik_node.specs.State.{member_of, server_of}
+use Rattle.server_state.specs.declared.state.State.{State}
+use Rattle.server_state.specs.Beacons.{alone}
+use Rattle.server_state.specs.State.{member_of, server_of}
 
 abbrev member : List Host → ℕ → Member
 member hosts me = record { hosts = hosts; me = me }

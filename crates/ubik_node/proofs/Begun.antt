@@ -1,9 +1,9 @@
 -- The write that another server began.
 use Rattle.std.specs.Option.{ForSome}
-use Rattle.std.proofs.Common.{◌≡◌, ◌≢◌, ◌⊎◌, ◌∙◌, ◌++◌, ⊎_elim, Bool, true, false, cond, Option, Some, None, List, [], length, ℕ, Result, Ok, Err, refl, sym, ap, subst, arith}
+use Rattle.std.proofs.Common.{◌≡◌, ◌≢◌, ◌⊎◌, ◌∙◌, ◌++◌, ⊎_elim, Bool, true, false, cond, Option, Some, None, List, [], length, ℕ, Result, refl, sym, ap, subst, arith}
 use Rattle.std.proofs.lemmas.Bool.Decides.{nat_tests}
 use Rattle.std.proofs.lemmas.List.{append-nil}
-use Rattle.std.specs.Prelude.{◌&&◌, is_none, nat_le, OnOk, OnErr}
+use Rattle.std.specs.Prelude.{◌&&◌, is_none, nat_le}
 use Rattle.disk_base.specs.declared.disks.Disk.{Ghosts}
 use Rattle.ubik_types.specs.declared.images.Change.{Change}
 use Rattle.ubik_types.specs.declared.hosts.Host.{Host}
@@ -19,11 +19,10 @@ use Rattle.cell_model.specs.declared.events.Output.{Output}
 use Rattle.cell_model.specs.Node.{KeptWrite, Server}
 use Rattle.cell_model.specs.Receiver.{answers_version_kept, begin_received, commit_received, committed_by, empty_write, is_sending, kept_with, put_piece_received, whole_changes, whole_write, write_taken}
 use Rattle.cell_model.specs.Step.{Member, Stepped, followed, quiet}
-use Rattle.ubik_node.specs.Keeping.{IsKeptOver}
+use Rattle.server_state.specs.Keeping.{IsKeptOver}
 use Rattle.ubik_store.proofs.Telling.{ok_map}
 use Rattle.ubik_node.specs.Node.{Ends, Held, IsMade}
-use Rattle.ubik_node.specs.State.{ShowsBehind}
-use Rattle.ubik_write.specs.Pending.{with_piece_at}
+use Rattle.server_state.specs.State.{ShowsBehind}
 
 -- ---- rules that show nothing
 
@@ -146,16 +145,3 @@ commit_ended g v old new (BadLabel len head) newer cause failed refused = ⊎_el
 commit_ended g v old new (TooLarge bytes) newer cause failed refused = ⊎_elim (λ is. absurd cc) (λ is. absurd cc) cause
 commit_ended g v old new (NotNewer own given) newer cause failed refused = ⊎_elim (λ is. absurd cc) (λ is. absurd cc) cause
 commit_ended g v old new NoMemory newer cause failed refused = (newer, refused (λ is. absurd cc))
-
--- ---- a piece
-
--- whether it was taken or memory lacked, the write is of the same version
-pub same_new : {E : Type 0} (r : Result (Unit {0}) E) (number : ℕ) (bytes : List ℕ) (before after : KeptWrite) → OnOk r (after ≡ with_piece_at number bytes before) → OnErr r (after ≡ before) → after.new ≡ before.new
-same_new (Ok done) number bytes before after ok err = ap (λ (w : KeptWrite). w.new) ok
-same_new (Err e) number bytes before after ok err = ap (λ (w : KeptWrite). w.new) err
-
-pub still_over : (own : Version) (before after : KeptWrite) → after.new ≡ before.new → IsKeptOver own before → ForSome (Some after) (IsKeptOver own)
-still_over own before after same over = λ w is.
-    let it : after ≡ w = cc in
-    let new : before.new ≡ w.new = sym same ∙ ap (λ (x : KeptWrite). x.new) it in
-    record { version = subst IsVersion new over.version; newer = subst (λ (v : Version). version_lt own v ≡ true) new over.newer }

@@ -1,5 +1,5 @@
 -- What a writing call leads to at its turn.
-use Rattle.std.proofs.Common.{◌≡◌, ◌<◌, ◌≤◌, ◌+◌, ◌/◌, ℕ, zero, suc, Bool, true, false, cond, eqb, Option, Some, None, IfSome, IsSome, List, [], ◌∷◌, ◌++◌, length, replicate, take, refl, sym, ap, subst, ◌∙◌, append_assoc, arith}
+use Rattle.std.proofs.Common.{◌≡◌, ◌<◌, ◌≤◌, ◌+◌, ◌/◌, ℕ, zero, suc, Bool, true, false, cond, eqb, Option, Some, None, IfSome, IsSome, List, [], ◌∷◌, length, replicate, take, refl, sym, ap, subst, ◌∙◌, arith}
 use Rattle.std.proofs.lemmas.Bool.{false≢true}
 use Rattle.std.proofs.lemmas.Bool.Decides.{nat_tests}
 use Rattle.std.proofs.lemmas.List.{append-nil}
@@ -32,19 +32,13 @@ use Rattle.ubik_recovery.specs.Rules.{recovering}
 use Rattle.ubik_write.specs.Flight.{FlightRecord, IsFlightOf, Undoes}
 use Rattle.disk_base.specs.Files.{Files}
 use Rattle.ubik_store.specs.Store.{image_in}
-use Rattle.ubik_node.specs.Beacons.{alone}
+use Rattle.server_state.specs.Beacons.{alone}
 use Rattle.ubik_node.specs.Verdict.{Leads}
-use Rattle.ubik_node.specs.Writing.{write_begun}
+use Rattle.server_state.specs.Writing.{write_begun}
 use Rattle.ubik_node.proofs.Durables.{IsThere}
 use Rattle.ubik_node.proofs.Relabelled.{sends_same}
 
 module _ (db : Database) (m : Member) (s : Server) (now id : ℕ) (call : List ℕ) where
-  -- a call that changes nothing
-  pub unchanged : (answer image : List ℕ) → changes_of db s.image image ≡ [] → Leads (written db m s now id call answer image) s (output.Reply id (reply.Ok answer) ∷ []) []
-  unchanged answer image none =
-      let P : List Change → Type 0 = λ cs. Leads (written_within m s now id call answer image cs (too_large 0 (length s.image) cs)) s (output.Reply id (reply.Ok answer) ∷ []) [] in
-      subst P (sym none) (record { server = refl; outputs = refl; calls = refl })
-
   -- a call that the database refuses
   pub refused : (image : List ℕ) (given : CallReply) (told : Reply) → ((answer : List ℕ) → given ≡ Done answer → ⊥) → ((id : ℕ) (e : Evaluation) → (read_reply id e given).output ≡ output.Reply id told)
       → Leads (turned db m s now id call image given) s (output.Reply id told ∷ []) []

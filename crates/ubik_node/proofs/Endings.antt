@@ -15,10 +15,10 @@ use Rattle.cell_model.specs.declared.events.Output.{Output}
 use Rattle.cell_model.specs.Durable.{Durable, Made}
 use Rattle.cell_model.specs.Node.{Server, halted_from}
 use Rattle.cell_model.specs.Step.{Member, Shown, Stepped, outputs_of}
-use Rattle.ubik_node.specs.declared.state.State.{State}
+use Rattle.server_state.specs.declared.state.State.{State}
 use Rattle.ubik_node.specs.Disk.{FailsIn, Serves}
 use Rattle.ubik_node.specs.Node.{CallsSo, Ends, HasFailedStore, Held, IsKept, IsMade, durable_in}
-use Rattle.ubik_node.specs.State.{Keeps, ShowsBehind, member_of, server_of}
+use Rattle.server_state.specs.State.{Keeps, ShowsBehind, member_of, server_of}
 use Rattle.ubik_node.proofs.Durables.{IsThere, fails_reads, serves_reads}
 
 no_fault : ◌≡◌ {A = Result (Unit {0}) StoreFault} (Ok tt) (Err DiskFault) → ⊥

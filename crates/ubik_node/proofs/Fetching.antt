@@ -29,11 +29,11 @@ use Rattle.ubik_recovery.specs.Record.{RecoveryRecord, adopted, best_of, host_of
 use Rattle.ubik_recovery.specs.Rules.{recovering}
 use Rattle.ubik_recovery.specs.declared.texts.TextSource.{TextSource}
 use Rattle.ubik_recovery.specs.Text.{IsNext, received_bytes, with_piece}
-use Rattle.ubik_node.specs.Held.{held_image}
-use Rattle.ubik_node.specs.declared.state.State.{State}
-use Rattle.ubik_node.specs.Receiving.{fetched, front_taken}
-use Rattle.ubik_node.specs.Recovering.{IsOfCell}
-use Rattle.ubik_node.specs.State.{announced, server_of, server_with}
+use Rattle.server_state.specs.Held.{held_image}
+use Rattle.server_state.specs.declared.state.State.{State}
+use Rattle.server_state.specs.Receiving.{fetched, front_taken}
+use Rattle.server_state.specs.Recovering.{IsOfCell}
+use Rattle.server_state.specs.State.{announced, server_of, server_with}
 use Rattle.ubik_node.proofs.Received.{held_text, piece_end}
 use Rattle.ubik_node.proofs.Relabelled.{sends_as}
 

@@ -20,11 +20,11 @@ use Rattle.ubik_recovery.specs.declared.texts.TextSource.{TextSource}
 use Rattle.ubik_recovery.specs.Record.{RecoveryRecord, phase_record, record_in, with_text}
 use Rattle.ubik_recovery.specs.Rules.{recovering}
 use Rattle.ubik_recovery.specs.Text.{IsNext, received_bytes, text_of}
-use Rattle.ubik_node.specs.declared.state.State.{State}
+use Rattle.server_state.specs.declared.state.State.{State}
 use Rattle.ubik_node.specs.Disk.{FailsIn, Serves}
 use Rattle.ubik_node.specs.Node.{Ends, Held, IsKept, durable_in}
-use Rattle.ubik_node.specs.Receiving.{front_back, front_taken}
-use Rattle.ubik_node.specs.State.{announced, server_of, server_with}
+use Rattle.server_state.specs.Receiving.{front_back, front_taken}
+use Rattle.server_state.specs.State.{announced, server_of, server_with}
 use Rattle.ubik_node.proofs.Endings.{fault_is, kept_with, ok_not, short_ends}
 use Rattle.ubik_node.proofs.Received.{front_of}
 

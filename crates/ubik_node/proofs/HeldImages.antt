@@ -10,7 +10,7 @@ use Rattle.disk_base.specs.Files.{Files}
 use Rattle.page_file.specs.Pages.{Known, AgreesIn}
 use Rattle.ubik_store.specs.declared.stores.Store.{Store}
 use Rattle.ubik_store.specs.Store.{IsReady, image_in}
-use Rattle.ubik_node.specs.Held.{held_image}
+use Rattle.server_state.specs.Held.{held_image}
 
 long_held : (files : Option Files) (pages : Known) (len : ℕ) → AgreesIn pages files → pages.len ≡ len → length (held_image files len) ≡ len
 long_held None pages len agrees long = length-replicate {A = ℕ} len 0

@@ -1,14 +1,13 @@
 -- Changes from one image to another: how long the other one is, and when there are none.
-use Rattle.std.proofs.Common.{◌≡◌, ◌<◌, ◌≤◌, ◌+◌, ◌-◌, max, min, ℕ, zero, suc, Bool, cond, Option, Some, None, List, [], ◌∷◌, ◌++◌, length, refl, ap, ◌∙◌, inl, inr, arith}
+use Rattle.std.proofs.Common.{◌≡◌, ◌<◌, ◌≤◌, ◌+◌, ◌-◌, max, min, ℕ, zero, Option, Some, None, List, [], ◌∷◌, length, refl, ap, ◌∙◌, inl, inr, arith}
 use Rattle.std.proofs.lemmas.Bool.{cases_lt}
 use Rattle.std.proofs.lemmas.Grind.{common_steps}
 use Rattle.std.proofs.lemmas.Bool.Decides.{nat_tests}
-use Rattle.std.proofs.lemmas.Slice.Eq.{bytes_eq-Decides}
 use Rattle.ubik_types.specs.declared.images.Change.{Change}
 use Rattle.ubik_types.specs.declared.images.Change.TheVariants.{Put, Cut}
 use Rattle.ubik_types.specs.Image.{changed, effect}
 use Rattle.ubik_types.specs.Logged.{passed_limit, first_of_two, too_large}
-use Rattle.db_image.specs.Blocks.{block_at, block_change, block_changes, changes_between}
+use Rattle.db_image.specs.Blocks.{changes_between}
 use Rattle.db_image.proofs.Laid.{changes_lead}
 
 -- a limit that is not passed
@@ -47,14 +46,3 @@ image_within head block old new some fits none =
           let bound = effect_within (changes_between head block old new) old 0 (length old) refl fits none in
           omega (arith, bound, ap length lead)
     ]
-
--- an image has no changes to itself
-no_block : (image : List ℕ) (at size : ℕ) → block_change image image at size ≡ []
-no_block image at size = ap (λ (b : Bool). cond b [] (Put at (block_at image at size) ∷ [])) ((bytes_eq-Decides (block_at image at size) (block_at image at size)).1 refl)
-
-no_blocks : (image : List ℕ) (at size count : ℕ) → block_changes image image at size count ≡ []
-no_blocks image at size zero = refl
-no_blocks image at size (suc count) = ap (λ (c : List Change). c ++ block_changes image image (at + size) size count) (no_block image at size) ∙ no_blocks image (at + size) size count
-
-pub no_changes : (head block : ℕ) (image : List ℕ) → changes_between head block image image ≡ []
-no_changes head block image = ap (λ (c : List Change). c ++ block_changes image image head block (length image)) (no_block image 0 head) ∙ no_blocks image head block (length image)

@@ -1,17 +1,16 @@
 -- What a step needs of the server that the lapse leaves.
-use Rattle.std.proofs.Common.{◌≡◌, ◌⊎◌, inl, inr, ⊎_elim, ◌<◌, ◌+◌, ℕ, Bool, true, false, cond, nat_lt, Option, Some, None, List, IsSome, IfSome, Result, Ok, Err, IfErr, length, refl, sym, ap, subst, ◌∙◌}
+use Rattle.std.proofs.Common.{◌≡◌, ◌⊎◌, inl, inr, ⊎_elim, ◌<◌, ◌+◌, ℕ, Bool, true, false, cond, nat_lt, Option, Some, None, List, IsSome, refl, sym, subst}
 use Rattle.ubik_types.specs.declared.limits.TheConstants.{SMALLTIME}
 use Rattle.disk_base.specs.Files.{Files}
 use Rattle.db_image.specs.Standing.{Standing}
-use Rattle.ubik_calls.specs.declared.packets.Body.{Body}
 use Rattle.cell_model.specs.declared.events.NodeEvent.{NodeEvent}
 use Rattle.cell_model.specs.declared.events.NodeEvent.TheVariants as event
 use Rattle.cell_model.specs.Lapse.{lapsed, phase_dropped, write_given_up, write_lapsed}
 use Rattle.cell_model.specs.Node.{Flight, Server}
 use Rattle.cell_model.specs.Node as model
-use Rattle.cell_model.specs.Step.{Member, Stepped, cell_size, leased, quiet}
+use Rattle.cell_model.specs.Step.{Member, cell_size, leased, quiet}
 use Rattle.cell_model.specs.Writes.{announced_image}
-use Rattle.ubik_node.specs.Node.{AreMeantIn, IsMeantIn, Needs, NeedsFiles}
+use Rattle.ubik_node.specs.Node.{IsMeantIn, Needs, NeedsFiles}
 
 -- the lapse leaves the announced image, or with the write in flight drops it
 image_given : (m : Member) (s : Server) (now : ℕ) (late : Bool)

@@ -1,7 +1,6 @@
 -- What is known of a store that was lent to an image.
 use Rattle.std.proofs.Common.{◌≡◌, ◌∙◌, ℕ, Bool, true, false, List, Option, Some, None, IfSome, IsSome, IfErr, IsErrOf, refl, sym, subst, arith}
 use Rattle.std.specs.Prelude.{Result, Ok, Err}
-use Rattle.std.specs.Option.{option_map}
 use Rattle.std.specs.Borrow.{MutBor}
 use Rattle.std.proofs.lemmas.Bool.{false≢true}
 use Rattle.disk_base.specs.declared.disks.Disk.{Ghosts}
@@ -50,12 +49,6 @@ pub made_in : (d : Standing) (files : Option Files) (tells : Bool) (now : ℕ) (
     → IsMadeOf d (told_image tells files) now call e → IsMadeOf d (image_in files) now call e
 made_in d None tells now call e told made = tt
 made_in d (Some fs) tells now call e told made = subst (λ (b : Bool). IsMadeOf d (told_image b (Some fs)) now call e) (told refl) made
-
--- so over an image that comes from it
-pub made_before_in : (d : Standing) (files : Option Files) (tells : Bool) (change : List ℕ → List ℕ) (now : ℕ) (call : List ℕ) (e : Evaluation) → (IsSome files → tells ≡ true)
-    → IsMadeOf d (option_map change (told_image tells files)) now call e → IsMadeOf d (option_map change (image_in files)) now call e
-made_before_in d None tells change now call e told made = tt
-made_before_in d (Some fs) tells change now call e told made = subst (λ (b : Bool). IsMadeOf d (option_map change (told_image b (Some fs))) now call e) (told refl) made
 
 -- what is so of the image that a disk tells is so of the one in its files
 pub told_so : (files : Option Files) (tells : Bool) (P : List ℕ → Type 0) → (IsSome files → tells ≡ true) → IfSome (told_image tells files) P → IfSome (image_in files) P

@@ -9,7 +9,6 @@ pub mod Cut
 pub mod Durables
 pub mod Endings
 pub mod Fetching
-pub mod WritePackets
 pub mod Fronts
 pub mod Gapless
 pub mod HeldImages
@@ -19,13 +18,11 @@ pub mod Lending
 pub mod Logging
 pub mod Made
 pub mod Places
-pub mod Polled
 pub mod Putting
 pub mod Reading
 pub mod Received
 pub mod Relabelled
 pub mod Rested
-pub mod Sending
 pub mod Served
 pub mod Spread
 pub mod Stepping
@@ -34,4 +31,3 @@ pub mod Turning
 pub mod Turns
 pub mod TwoCalls
 pub mod Voted
-pub mod Writes

@@ -9,11 +9,11 @@ use Rattle.cell_model.specs.Step.{Member}
 use Rattle.cell_model.specs.Writes.{turned, write_turn}
 use Rattle.ubik_store.specs.Store.{image_in}
 use Rattle.ubik_node.specs.declared.evaluations.Evaluation.{Evaluation}
-use Rattle.ubik_node.specs.declared.state.State.{State}
+use Rattle.server_state.specs.declared.state.State.{State}
 use Rattle.ubik_node.specs.declared.verdicts.Verdict.{Verdict}
 use Rattle.ubik_node.specs.Evaluation.{IsMadeOf, IsOutcome}
 use Rattle.ubik_node.specs.Node.{IsMeantIn}
-use Rattle.ubik_node.specs.State.{server_of}
+use Rattle.server_state.specs.State.{server_of}
 use Rattle.ubik_node.specs.Verdict.{Judges}
 use Rattle.ubik_node.proofs.Durables.{IsThere}
 

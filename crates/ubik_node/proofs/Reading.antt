@@ -25,7 +25,7 @@ use Rattle.ubik_node.specs.declared.evaluations.Evaluation as code
 use Rattle.ubik_node.specs.Evaluation.{IsMadeOf, IsOutcome}
 use Rattle.ubik_node.specs.Node.{Held, IsKept, IsMeantIn}
 use Rattle.ubik_node.specs.Serving.{IsReadReply, ReadsFrom}
-use Rattle.ubik_node.specs.State.{ShowsBehind}
+use Rattle.server_state.specs.State.{ShowsBehind}
 use Rattle.cell_model.specs.Node.{Server}
 use Rattle.ubik_node.proofs.Calling.{stored_read}
 use Rattle.ubik_node.proofs.Durables.{IsThere}

@@ -21,8 +21,8 @@ use Rattle.cell_model.specs.Step.{Member, followed, is_fetch, quiet, sends_to, s
 use Rattle.ubik_recovery.specs.declared.texts.TextSource.{TextSource}
 use Rattle.ubik_recovery.specs.Record.{RecoveryRecord, phase_record, record_in}
 use Rattle.ubik_recovery.specs.Text.{IsNext, received_bytes, text_of, with_piece}
-use Rattle.ubik_node.specs.Held.{held_image}
-use Rattle.ubik_node.specs.Spreading.{IsSpreading}
+use Rattle.server_state.specs.Held.{held_image}
+use Rattle.server_state.specs.Spreading.{IsSpreading}
 
 not_true : (b : Bool) → (IsTrue b ↔ ⊥) → false ≡ b
 not_true true says = absurd (says.0 refl)

@@ -16,8 +16,8 @@ use Rattle.cell_model.specs.Recovery.{spread_answer}
 use Rattle.cell_model.specs.Step.{Member, Shown, announcing, cell_size, is_fetch, outputs_of, quiet, sends_from, sends_to_each, showing, with_database, with_phase}
 use Rattle.cell_model.specs.declared.events.Output.{Output}
 use Rattle.cell_model.specs.Writes.{ended_write, settled, settled_in}
-use Rattle.ubik_node.specs.declared.spreading.Given.{Given}
-use Rattle.ubik_node.specs.Spreading.{given_bodies}
+use Rattle.server_state.specs.declared.spreading.Given.{Given}
+use Rattle.server_state.specs.Spreading.{given_bodies}
 
 neither : {A : Type 0} (b : Bool) → ◌≡◌ {A = Option A} (cond b None None) None
 neither true = refl

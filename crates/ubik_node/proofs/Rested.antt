@@ -11,13 +11,13 @@ use Rattle.cell_model.specs.Durable.{Made}
 use Rattle.cell_model.specs.Lapse.{lapsed}
 use Rattle.cell_model.specs.Node.{HaltedServer, ReceivedText, Server, halted_from}
 use Rattle.cell_model.specs.NodeRule.{step_of, handled}
-use Rattle.cell_model.specs.Step.{Member, Shown, Stepped, followed, is_reply, short_after}
+use Rattle.cell_model.specs.Step.{Member, Shown, Stepped, is_reply}
 use Rattle.ubik_recovery.specs.Record.{RecoveryRecord, is_fetch, phase_record, record_in, restored, with_text}
-use Rattle.ubik_node.specs.declared.lapse.Dropped.{Dropped}
-use Rattle.ubik_node.specs.declared.state.State.{State}
-use Rattle.ubik_node.specs.Lapsing.{returned}
-use Rattle.ubik_node.specs.State.{server_of}
-use Rattle.ubik_node.specs.Writing.{announced_of, flight_of, own_of, waiting_of}
+use Rattle.server_state.specs.declared.lapse.Dropped.{Dropped}
+use Rattle.server_state.specs.declared.state.State.{State}
+use Rattle.server_state.specs.Lapsing.{returned}
+use Rattle.server_state.specs.State.{server_of}
+use Rattle.server_state.specs.Writing.{announced_of, flight_of, own_of, waiting_of}
 
 -- the choices of a step whose lapse shows this: its refusals found memory, and then those of the rule
 abbrev pub short_behind : List Shown → List Bool → List Bool

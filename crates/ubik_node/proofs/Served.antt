@@ -4,8 +4,8 @@ use Rattle.db_image.specs.Database.{Database}
 use Rattle.cell_model.specs.Asks.{allows_reads, asked_as, read, write_asked}
 use Rattle.cell_model.specs.Writes.{announced_image}
 use Rattle.cell_model.specs.Step.{Member, Announced_image, Beacon_image, Stepped, is_ready, leased, told_version}
-use Rattle.ubik_node.specs.declared.state.State.{State}
-use Rattle.ubik_node.specs.State.{server_of}
+use Rattle.server_state.specs.declared.state.State.{State}
+use Rattle.server_state.specs.State.{server_of}
 
 by_lease : (b r w : Bool) (x y z u : Stepped) → b ≡ true → r ≡ true → w ≡ false → cond b (cond r (cond w x y) z) u ≡ y
 by_lease b r w x y z u held ready reads = rw (held, ready, reads) refl

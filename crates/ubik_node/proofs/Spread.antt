@@ -10,7 +10,7 @@ use Rattle.cell_model.specs.Node.{Server, halted_from}
 use Rattle.cell_model.specs.Recovery.{held_by, holder_added, version_kept_received}
 use Rattle.cell_model.specs.Step.{Member, quiet, with_phase}
 use Rattle.ubik_recovery.specs.Record.{RecoveryRecord, phase_record, record_in}
-use Rattle.ubik_node.specs.Spreading.{IsSpreading}
+use Rattle.server_state.specs.Spreading.{IsSpreading}
 
 pub kept_counts : (db : Database) (m : Member) (s : Server) (now k : ℕ) (version : Version) (short : List Bool) (v : Version) (r : RecoveryRecord) → IsSpreading r.phase → version_eq version s.version ≡ true
     → version_kept_received db m s now k version short (phase_record v r) ≡ holder_added db m s now k short

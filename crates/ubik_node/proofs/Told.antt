@@ -1,5 +1,5 @@
 -- What a server tells of its database, and hears of those of others.
-use Rattle.std.proofs.Common.{◌≡◌, ◌++◌, ◌==◌, ◌&&◌, ◌||◌, ◌⊎◌, inl, inr, ℕ, Bool, true, false, nat_lt, Option, Some, None, is_some, List, [], length, refl, ap, ◌∙◌}
+use Rattle.std.proofs.Common.{◌≡◌, ◌++◌, ◌==◌, ◌&&◌, ◌||◌, ◌⊎◌, inl, inr, ℕ, Bool, true, false, nat_lt, Option, Some, None, is_some, List, length, refl, ap, ◌∙◌}
 use Rattle.std.specs.Option.{option_map}
 use Rattle.ubik_types.specs.declared.hosts.Host.{Host}
 use Rattle.ubik_types.specs.declared.phases.Phase.{Phase}
@@ -17,7 +17,7 @@ use Rattle.cell_model.specs.Recovery.{fetch_refused, holder_added, lacking_sent,
 use Rattle.cell_model.specs.Step.{Member, outputs_of, quiet, sends_to, showing}
 use Rattle.site_writes.specs.OwnWrite.{OwnRecord}
 use Rattle.ubik_recovery.specs.Record.{RecoveryRecord, best_of, host_of, phase_record, polled_of, record_in, spread_of}
-use Rattle.ubik_node.specs.Spreading.{IsSpreading, answer_heard}
+use Rattle.server_state.specs.Spreading.{IsSpreading, answer_heard}
 
 pub sent_as : (m : Member) (host : Host) (first last : List Output) (b c : Body) → last ≡ first ++ outputs_of (sends_to m host b) → b ≡ c → last ≡ first ++ outputs_of (sends_to m host c)
 sent_as m host first last b c sent same =

@@ -8,7 +8,7 @@ use Rattle.ubik_types.specs.declared.phases.Phase.TheVariants as phase
 use Rattle.ubik_types.specs.declared.versions.Version.{Version}
 use Rattle.ubik_types.specs.declared.limits.TheConstants.{SMALLTIME}
 use Rattle.ubik_types.specs.Phase as model
-use Rattle.ubik_types.specs.Phase.{Polled, PhaseRecord}
+use Rattle.ubik_types.specs.Phase.{Polled}
 use Rattle.ubik_types.specs.Quorum.{IsMajority, is_majority, marked}
 use Rattle.ubik_calls.specs.declared.packets.Body.{Body}
 use Rattle.ubik_calls.specs.declared.packets.Body.TheVariants as body
@@ -16,7 +16,7 @@ use Rattle.ubik_types.specs.Version.{version_lt}
 use Rattle.cell_model.specs.Node.{Server, ReceivedText}
 use Rattle.cell_model.specs.Polls.{entry_at, is_marked, new_poll, only_at, polling, with_answer}
 use Rattle.cell_model.specs.Recovery as rule
-use Rattle.cell_model.specs.Recovery.{asks_versions, bytes_received, has_answered, fetched_from, first_of_epoch, polled, polled_best, poll_asked, relabelled, relabelled_to}
+use Rattle.cell_model.specs.Recovery.{asks_versions, bytes_received, has_answered, fetched_from, first_of_epoch, polled, poll_asked, relabelled, relabelled_to}
 use Rattle.cell_model.specs.Step.{Member, cell_size, followed, host_at, leased, quiet, sends_to, showing, with_phase}
 use Rattle.cell_model.specs.Writes.{settled}
 use Rattle.ubik_recovery.specs.Record.{RecoveryRecord, adopted, answered_by, best_of, host_of, is_fetch, phase_record, poll_begun, polled_of, record_in, with_text}

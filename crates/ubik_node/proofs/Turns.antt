@@ -1,7 +1,7 @@
 -- The turns of those that wait.
-use Rattle.std.proofs.Common.{◌≡◌, ◌≢◌, ◌++◌, ◌⊎◌, inl, inr, ⊎_elim, ℕ, zero, suc, ◌+◌, ◌<◌, ◌≤◌, Bool, true, false, cond, eqb, Option, Some, None, List, [], ◌∷◌, length, drop, take, replicate, slice_get, IfErr, IfSome, IsErrAnd, IsErrOf, IsOk, IsSome, Result, Ok, Err, refl, sym, ap, subst, ◌∙◌, append_assoc, arith}
+use Rattle.std.proofs.Common.{◌≡◌, ◌≢◌, ◌++◌, ◌⊎◌, inl, inr, ⊎_elim, ℕ, zero, suc, ◌+◌, ◌<◌, ◌≤◌, Bool, true, false, cond, eqb, Option, Some, None, List, [], ◌∷◌, length, drop, take, replicate, slice_get, IfErr, IsErrAnd, IsErrOf, IsOk, IsSome, Result, Ok, Err, refl, sym, ap, subst, ◌∙◌, append_assoc, arith}
 use Rattle.std.specs.Option.{option_map}
-use Rattle.std.specs.Prelude.{OnErr, OnOk, count_by}
+use Rattle.std.specs.Prelude.{OnErr, count_by}
 use Rattle.std.proofs.lemmas.Bool.{false≢true}
 use Rattle.std.proofs.lemmas.List.{append-nil, map-append, take_all}
 use Rattle.ubik_types.specs.declared.images.Change.{Change}
@@ -17,22 +17,20 @@ use Rattle.disk_base.proofs.Runs.{widened}
 use Rattle.db_image.specs.declared.services.CallReply.{CallReply}
 use Rattle.db_image.specs.declared.services.CallReply.TheVariants as call_reply
 use Rattle.db_image.specs.Database.{Database, changes_of}
-use Rattle.db_image.specs.Standing.{Standing}
 use Rattle.ubik_store.specs.declared.faults.StoreFault.{StoreFault}
 use Rattle.ubik_store.specs.declared.faults.StoreFault.TheVariants.{DiskFault}
 use Rattle.ubik_store.proofs.Telling.{of_told, ok_map, told}
 use Rattle.cell_model.specs.declared.events.Output.{Output}
 use Rattle.cell_model.specs.Durable.{Durable, Made, durable_after_all}
 use Rattle.cell_model.specs.Node.{Flight, Server, Waiting, halted_from}
-use Rattle.cell_model.specs.Polls.{only_holder}
 use Rattle.cell_model.specs.Step.{Member, Shown, Stepped, announcing, cell_size, followed, is_ready, is_reply, is_short, outputs_of, quiet, short_after, showing, with_phase}
-use Rattle.cell_model.specs.Writes.{ended_write, flight_settled, is_free, is_free_in, last_counter, next_turns, own_write_begun, settled, settled_in, settled_with_turns, turned, write_turn, written, written_changes, written_in, written_within}
+use Rattle.cell_model.specs.Writes.{ended_write, flight_settled, is_free, is_free_in, last_counter, next_turns, settled, settled_in, settled_with_turns, turned, write_turn, written_in, written_within}
 use Rattle.site_writes.specs.OwnWrite.{OwnRecord}
 use Rattle.ubik_node.specs.Disk.{FailsIn, Serves, StandsAs, StandsBetween, StandsWithin, calls_made, has_label}
-use Rattle.ubik_node.specs.Node.{Ends, EndsSo, Held, IsKept, IsMade, IsMeantIn, durable_in}
+use Rattle.ubik_node.specs.Node.{Ends, Held, IsMade, durable_in}
 use Rattle.ubik_node.specs.Serving.{IsRepliedTo}
-use Rattle.ubik_node.specs.State.{ShowsBehind}
-use Rattle.ubik_node.specs.Writing.{without_first}
+use Rattle.server_state.specs.State.{ShowsBehind}
+use Rattle.server_state.specs.Writing.{without_first}
 use Rattle.ubik_node.proofs.Calling.{after_reads, ended, known_so}
 use Rattle.ubik_node.proofs.Committing.{one_is_few}
 use Rattle.ubik_node.proofs.Endings.{fault_is, same_ends}

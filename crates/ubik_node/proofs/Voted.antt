@@ -1,5 +1,5 @@
 -- A packet, from the rule of its kind.
-use Rattle.std.proofs.Common.{◌≡◌, ℕ, Bool, Option, Some, None, List, [], Result, sym, subst}
+use Rattle.std.proofs.Common.{◌≡◌, ℕ, Bool, Option, Some, None, List, Result, sym, subst}
 use Rattle.disk_base.specs.declared.disks.Disk.{Ghosts}
 use Rattle.ubik_calls.specs.declared.packets.Body.{Body}
 use Rattle.ubik_calls.specs.declared.packets.Packet.{Packet}
@@ -8,7 +8,7 @@ use Rattle.db_image.specs.Database.{Database}
 use Rattle.cell_model.specs.declared.events.Output.{Output}
 use Rattle.cell_model.specs.NodeRule.{place_of, received_packet, received_from}
 use Rattle.cell_model.specs.Node as model
-use Rattle.cell_model.specs.Step.{Member, Stepped, quiet}
+use Rattle.cell_model.specs.Step.{Member, quiet}
 use Rattle.ubik_node.specs.Node.{Ends, Held, NeedsFiles}
 
 module _ {D : Type 0} (g : Ghosts D) (db : Database) (m : Member) (s : model.Server) (now : ℕ) (p : Packet) (short : List Bool) (tells meant : Type 0) {before after : List Output} {n k : Held D} {r : Result (Unit {0}) StoreFault} where

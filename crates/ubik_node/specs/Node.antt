@@ -1,5 +1,5 @@
 -- What a node stands for, and what a step of it is.
-use Rattle.std.specs.Prelude.{◌≡◌, ◌≢◌, ◌<◌, ◌++◌, ℕ, Bool, true, false, if◌then◌else◌, None, IfSome, IsSome, Option, List, [], length, Result, Ok, Err, OnOk, OnErr, IfErr, IsErrOf}
+use Rattle.std.specs.Prelude.{◌≡◌, ◌≢◌, ◌<◌, ◌++◌, ℕ, Bool, true, false, if◌then◌else◌, None, IfSome, IsSome, Option, List, [], length, Result, Ok, Err, OnOk, IfErr, IsErrOf}
 use Rattle.disk_base.specs.declared.disks.Disk.{Ghosts}
 use Rattle.disk_base.specs.Files.{Files}
 use Rattle.disk_base.specs.Runs.{OnlyReads}
@@ -25,7 +25,7 @@ use Rattle.ubik_node.specs.declared.nodes.Node.{Node}
 use Rattle.ubik_node.specs.declared.nodes.StepEnd.{StepEnd}
 use Rattle.ubik_node.specs.declared.nodes.StepEnd.TheVariants.{Done, Halted, NoMemory}
 use Rattle.ubik_node.specs.Disk.{FailsIn, Serves}
-use Rattle.ubik_node.specs.State.{server_of, member_of}
+use Rattle.server_state.specs.State.{server_of, member_of}
 
 -- the server of a node that is not halted
 abbrev pub up_server : {D V : Type 0} → Node D V → model.Server
@@ -56,9 +56,6 @@ IsStored g n = IsStoredAs g n.store n.state.version n.state.image n.halted
 pub record HasFailedStore {D : Type 0} (g : Ghosts D) (store : Store D) : Type 0 where
   pub sound : IsSound g store
   pub failed : store.failed ≡ true
-
-abbrev pub IsStoredBut : {D V : Type 0} → Ghosts D → Node D V → Type 0
-IsStoredBut g n = HasFailedStore g n.store
 
 -- a run of calls of a disk, however many: a stop in it makes it fail, and a failure has its cause
 abbrev pub CallsSo : {D : Type 0} → Ghosts D → (old new : D) → Type 0 → Type 0

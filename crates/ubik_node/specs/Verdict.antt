@@ -9,23 +9,17 @@ use Rattle.cell_model.specs.declared.events.Output.{Output}
 use Rattle.cell_model.specs.declared.events.Output.TheVariants as output
 use Rattle.cell_model.specs.Durable.{Made}
 use Rattle.cell_model.specs.Node.{Server}
-use Rattle.cell_model.specs.Step.{Member, Stepped, outputs_of, with_database}
-use Rattle.cell_model.specs.Writes.{last_counter, next_version, own_commit, written_in}
+use Rattle.cell_model.specs.Step.{Member, Stepped, outputs_of}
+use Rattle.cell_model.specs.Writes.{last_counter, written_in}
 use Rattle.ubik_store.specs.Gaps.{CutsNoPut}
 use Rattle.ubik_node.specs.declared.verdicts.Verdict.{Verdict}
 use Rattle.ubik_node.specs.declared.verdicts.Verdict.TheVariants as verdict
-use Rattle.ubik_recovery.specs.Record.{RecoveryRecord, held_alone, with_text}
-use Rattle.ubik_recovery.specs.Rules.{recovering}
 
 -- a step leads to this server, puts this out, and makes these durable calls
 pub record Leads (t : Stepped) (after : Server) (out : List Output) (made : List Made) : Type 0 where
   pub server : t.server ≡ after
   pub outputs : outputs_of t.shown ≡ out
   pub calls : t.calls ≡ made
-
--- a server after a commit that a majority has at once: only it has the version, and nothing of another image is received
-abbrev pub committed : Server → RecoveryRecord → List ℕ → Server
-committed s r image = recovering (next_version s.version) (with_text (held_alone r 0) None) (with_database s (next_version s.version) image)
 
 -- what may be committed over an image: changes within the limits, which lead to the new image
 pub record IsWritten (old new : List ℕ) (changes : List Change) : Type 0 where

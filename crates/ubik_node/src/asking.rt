@@ -3,21 +3,20 @@ ghost use Rattle.std.specs.Prelude.{◌≡◌, ◌<◌, ◌≤◌, ◌+◌, ◌+
 ghost use Rattle.ubik_types.specs.declared.versions.TheConstants.{MAX_COUNTER};
 ghost use Rattle.ubik_types.specs.Logged.{too_large};
 ghost use Rattle.cell_model.specs.declared.events.Output.TheVariants as outputs;
-ghost use Rattle.ubik_node.specs.Recovering.{IsServing};
+ghost use Rattle.server_state.specs.Recovering.{IsServing};
 ghost use Rattle.ubik_node.specs.Serving.{IsReadReply};
 ghost use Rattle.ubik_calls.specs.declared.replies.Reply.{Reply};
-ghost use Rattle.ubik_node.specs.Writing.{own_of, waiting_of};
+ghost use Rattle.server_state.specs.Writing.{own_of, waiting_of};
 
 use crate::database::commit_all;
 use crate::evaluations::{Evaluation, evaluate, evaluate_before};
-use crate::held_images::HeldImage;
 use crate::nodes::Node;
-use crate::outputs::Outputs;
 use crate::serving::{Turn, reply_of, turn_of};
 use crate::steady_disks::SteadyDisk;
 use crate::verdicts::{Verdict, verdict_of};
 use cell_model::Output;
 use db_image::DraftService;
+use server_state::{HeldImage, Outputs};
 use ubik_calls::Reply;
 use ubik_store::StoreFault;
 use ubik_types::{Bytes, Changes, Version};

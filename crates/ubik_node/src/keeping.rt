@@ -1,73 +1,19 @@
 //! The writes that another server began: they are kept until their commit comes. All memory is taken before the disk is changed.
-ghost use Rattle.std.specs.Prelude.{◌≡◌, ◌≤◌, ◌<◌, [], length, true, false, None, Some, IsSome, OnOk, OnErr};
+ghost use Rattle.std.specs.Prelude.{◌≡◌, ◌≤◌, ◌<◌, [], length, true, false, None, IsSome};
 ghost use Rattle.ubik_types.specs.Logged.{too_large};
 ghost use Rattle.ubik_types.specs.Version.{IsVersion, version_lt};
-ghost use Rattle.cell_model.specs.Receiver.{abort_received, begin_received, committed_by, commit_received, kept_with, put_piece_received, whole_write};
-ghost use Rattle.cell_model.specs.Step.{quiet};
-ghost use Rattle.ubik_node.specs.Keeping.{IsKeptOver};
-ghost use Rattle.ubik_node.specs.Recovering.{IsServing};
+ghost use Rattle.cell_model.specs.Receiver.{begin_received, committed_by, commit_received, put_piece_received};
+ghost use Rattle.server_state.specs.Recovering.{IsServing};
 
 use crate::database::commit_all;
-use crate::held_images::HeldImage;
 use crate::nodes::Node;
-use crate::outputs::Outputs;
-use crate::state::State;
 use crate::steady_disks::SteadyDisk;
 use db_image::{DraftService, too_large};
+use server_state::{HeldImage, Outputs};
 use ubik_calls::{Body, MAX_PIECES};
 use ubik_store::StoreFault;
 use ubik_types::{Changes, Host, NoMemory, Version};
 use ubik_write::{Pending, PendingEnd};
-
-impl State {
-    ghost use Rattle.ubik_node.specs.State.{server_of, member_of, Keeps};
-    ghost use Rattle.ubik_write.specs.Pending.{EndsBy};
-
-    /// Keeps a write that another server began, in place of the one before.
-    fn keep_write(&mut self, write: Pending)
-        requires { IsKeptOver self.old.version write }
-        ensures after { server_of self.new ≡ record (server_of self.old) { kept = Some write } }
-        ensures kept { Keeps self.old self.new }
-    {
-        self.pending = Some(write);
-    }
-
-    /// Takes a piece of the write of a version in, where that write is kept.
-    fn keep_write_piece(&mut self, new: Version, number: u32, bytes: &[u8]) -> Result<(), NoMemory>
-        ensures after { OnOk result (server_of self.new ≡ record (server_of self.old) { kept = kept_with new number bytes.now self.old.pending }) }
-        ensures kept { Keeps self.old self.new }
-        ensures err { OnErr result (self.new ≡ self.old) }
-    {
-        let Some(write) = &mut self.pending else {
-            return Ok(());
-        };
-        if write.versions().1 != new {
-            return Ok(());
-        }
-        write.piece(number, bytes)
-    }
-
-    /// The changes of the write of a version: they are missing where that write is not kept.
-    fn kept_changes(&self, new: Version) -> PendingEnd
-        ensures { EndsBy (whole_write new self.now.pending) result }
-    {
-        match &self.pending {
-            Some(write) if write.versions().1 == new => write.finish(),
-            _ => PendingEnd::Missing,
-        }
-    }
-
-    /// Abort: the write of a version is given up.
-    pub fn abort_received(&mut self, new: Version)
-        ensures rests { abort_received (server_of self.old) new ≡ quiet (server_of self.new) }
-        ensures kept { Keeps self.old self.new }
-    {
-        let kept = matches!(&self.pending, Some(write) if write.versions().1 == new);
-        if kept && !self.is_spreading() {
-            self.pending = None;
-        }
-    }
-}
 
 impl<D: SteadyDisk, V: DraftService> Node<D, V> {
     ghost use Rattle.ubik_node.specs.Node.{Ends, held, IsStored, own_member, up_server};

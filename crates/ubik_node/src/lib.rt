@@ -5,32 +5,24 @@
 #![tactic(auto)]
 
 mod asking;
-mod beacons;
 mod database;
 mod evaluations;
 mod flights;
-mod held_images;
 mod keeping;
-mod lapse;
 mod lines;
 mod nodes;
-mod outputs;
 mod pieces;
-mod polling;
 mod receiving;
 mod relabelling;
 mod serving;
-mod spreading;
-mod state;
 mod steady_disks;
 mod store_images;
 mod telling;
 mod verdicts;
-mod voting;
 
 pub use cell_model::{NodeEvent, Output};
 pub use nodes::{Node, StepEnd};
-pub use outputs::Outputs;
+pub use server_state::Outputs;
 pub use steady_disks::SteadyDisk;
 pub use ubik_calls::{Body, DebugIs, Packet, Reply};
 pub use ubik_store::StoreFault;

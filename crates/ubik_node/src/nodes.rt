@@ -1,5 +1,5 @@
 //! A server of a cell, one step at a time.
-ghost use Rattle.std.specs.Prelude.{◌≡◌, IsErrOf, ◌⊎◌, ◌≢◌, ◌↔◌, IsTrue, ◌+◌, ◌<◌, ◌≤◌, ℕ, Bool, List, [], length, Ok, Err, IfOk, IfErr, IfSome, IsOk, IsSome, OnErr, MatchResult, None, true, false};
+ghost use Rattle.std.specs.Prelude.{◌≡◌, IsErrOf, ◌⊎◌, ◌≢◌, ◌↔◌, IsTrue, ◌+◌, ◌<◌, ◌≤◌, ℕ, [], length, Ok, Err, IfOk, IfErr, IfSome, IsOk, IsSome, MatchResult, None, true, false};
 ghost use Rattle.ubik_types.specs.declared.hosts.Host.{Host};
 ghost use Rattle.ubik_types.specs.Moment.{IsMoment};
 ghost use Rattle.disk_base.specs.Crash.{IsSettled};
@@ -8,17 +8,13 @@ ghost use Rattle.cell_model.specs.Node as model;
 ghost use Rattle.cell_model.specs.NodeRule.{handled, place_of, received_packet, refusals};
 ghost use Rattle.cell_model.specs.Step.{outputs_of, cell_size};
 ghost use Rattle.ubik_node.specs.Built.{BodyTakesNoMemory, IsBuilt, IsBuiltBody, TakesNoMemory};
-ghost use Rattle.ubik_node.specs.Recovering.{IsOfCell};
+ghost use Rattle.server_state.specs.Recovering.{IsOfCell};
 
-use crate::held_images::HeldImage;
-use crate::lapse::Dropped;
-use crate::outputs::Outputs;
-use crate::state::State;
 use crate::steady_disks::SteadyDisk;
-use crate::voting::Heard;
 use cell_model::{NodeEvent, Output};
 use db_image::DraftService;
 use disk_base::{Fill, Refused, StopDisk};
+use server_state::{Dropped, Heard, HeldImage, Outputs, State};
 use std::alloc::Global;
 use std::marker::PhantomData;
 use ubik_calls::{Body, DebugIs, Packet, Reply};
@@ -70,7 +66,7 @@ impl<D: SteadyDisk, V: DraftService> Node<D, V> {
     ghost use Rattle.ubik_store.specs.Opening.{IsOpening, OpensIn, RefusesFiles};
     ghost use Rattle.cell_model.specs.Durable.{Durable};
     ghost use Rattle.ubik_node.specs.Disk.{StandsAs};
-    ghost use Rattle.ubik_node.specs.Lapsing.{IsDroppedOf, returned};
+    ghost use Rattle.server_state.specs.Lapsing.{IsDroppedOf, returned};
     ghost use Rattle.ubik_node.specs.Node.{Calls, Closes, EndsSo, held, IsMeantIn, IsStored, Needs, NeedsFiles, Steps, last_after, node_of, own_member, up_server};
 
     /// Opens a server over its disk, on which nothing is pending, at a moment in seconds: the server at a place of the cell. An

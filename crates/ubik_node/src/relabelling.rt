@@ -1,19 +1,18 @@
 //! Relabelling: the database gets the first version of a moment past its epoch, and goes to the servers that answered the poll. All memory is
 //! taken before the disk is changed.
-ghost use Rattle.std.specs.Prelude.{◌≡◌, ◌+◌, ◌≤◌, ◌<◌, [], length, nat_lt, false};
+ghost use Rattle.std.specs.Prelude.{◌≡◌, ◌+◌, ◌≤◌, ◌<◌, length, nat_lt, false};
 ghost use Rattle.ubik_types.specs.declared.limits.TheConstants.{SMALLTIME};
 ghost use Rattle.ubik_types.specs.Moment.{IsMoment};
 ghost use Rattle.cell_model.specs.Recovery.{polled, poll_asked, poll_begun, recovery_turn, relabelled};
 ghost use Rattle.ubik_recovery.specs.Record.{adopted, is_fetch, polled_of};
-ghost use Rattle.ubik_node.specs.State.{server_with};
-ghost use Rattle.ubik_node.specs.Recovering.{IsOfCell, IsServing};
+ghost use Rattle.server_state.specs.State.{server_with};
+ghost use Rattle.server_state.specs.Recovering.{IsOfCell, IsServing};
 
 use crate::nodes::Node;
-use crate::outputs::Outputs;
 use crate::pieces::first_piece;
-use crate::spreading::Given;
 use crate::steady_disks::SteadyDisk;
 use db_image::DraftService;
+use server_state::{Given, Outputs};
 use ubik_recovery::Recovery;
 use ubik_store::StoreFault;
 use ubik_types::{Phase, SMALLTIME, Version, majority};

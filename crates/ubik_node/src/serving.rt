@@ -6,13 +6,13 @@ ghost use Rattle.cell_model.specs.Asks.{asked_as, allows_reads, not_served, read
 ghost use Rattle.cell_model.specs.Step.{Evaluation};
 ghost use Rattle.cell_model.specs.declared.events.Output.TheVariants as outputs;
 ghost use Rattle.ubik_node.specs.Serving.{TurnsTo, IsWait, IsWrite};
-ghost use Rattle.ubik_node.specs.Beacons.{beacon_of};
-ghost use Rattle.ubik_node.specs.State.{server_of, member_of};
-ghost use Rattle.ubik_node.specs.Recovering.{IsServing};
-ghost use Rattle.ubik_node.specs.Writing.{own_of};
+ghost use Rattle.server_state.specs.Beacons.{beacon_of};
+ghost use Rattle.server_state.specs.State.{server_of, member_of};
+ghost use Rattle.server_state.specs.Recovering.{IsServing};
+ghost use Rattle.server_state.specs.Writing.{own_of};
 
-use crate::state::State;
 use db_image::CallReply;
+use server_state::State;
 use ubik_calls::Reply;
 use ubik_types::{Applied, Phase, SMALLTIME};
 

@@ -2,9 +2,8 @@
 ghost use Rattle.std.specs.Prelude.{◌≡◌, IfOk};
 ghost use Rattle.disk_base.specs.Crash.{IsSettled};
 ghost use Rattle.cell_model.specs.Step.{cell_size};
-ghost use Rattle.ubik_node.specs.Appending.{appending};
 ghost use Rattle.ubik_node.specs.Built.{IsBuilt};
-ghost use Rattle.ubik_node.specs.Node.{IsStored, node_of, own_member};
+ghost use Rattle.ubik_node.specs.Node.{IsStored, own_member};
 
 use super::*;
 use crate::tests::{

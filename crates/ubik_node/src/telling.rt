@@ -1,76 +1,21 @@
 //! What a server tells of its database, and what it hears of those of others.
-ghost use Rattle.std.specs.Prelude.{◌≡◌, ◌≤◌, ◌<◌, ◌↔◌, ◌⊎◌, ◌==◌, ◌&&◌, ◌||◌, not, nat_lt, length, false, IsErrOf, IsOk, IsSome, IsTrue};
+ghost use Rattle.std.specs.Prelude.{◌≡◌, ◌≤◌, ◌<◌, ◌⊎◌, ◌==◌, length, false, IsErrOf, IsOk, IsSome};
 ghost use Rattle.ubik_types.specs.Moment.{IsMoment};
-ghost use Rattle.ubik_types.specs.Version.{IsVersion, version_eq};
+ghost use Rattle.ubik_types.specs.Version.{IsVersion};
 ghost use Rattle.cell_model.specs.Receiver.{get_piece_received};
-ghost use Rattle.cell_model.specs.Recovery.{fetch_refused, holder_added, lacking_sent, piece_kept_received, sent_piece, told_to_spread, version_is_received, version_kept_received};
-ghost use Rattle.cell_model.specs.Step.{quiet, sends_to, showing};
-ghost use Rattle.ubik_recovery.specs.Record.{best_of, host_of, polled_of, spread_of};
-ghost use Rattle.ubik_node.specs.Recovering.{IsServing};
-ghost use Rattle.ubik_node.specs.Spreading.{IsSpreading, answer_heard};
+ghost use Rattle.cell_model.specs.Recovery.{holder_added, lacking_sent, piece_kept_received, sent_piece, told_to_spread, version_is_received, version_kept_received};
+ghost use Rattle.cell_model.specs.Step.{sends_to, showing};
+ghost use Rattle.ubik_recovery.specs.Record.{polled_of, spread_of};
+ghost use Rattle.server_state.specs.Spreading.{IsSpreading, answer_heard};
 
 use crate::nodes::Node;
-use crate::outputs::Outputs;
 use crate::pieces::read_piece;
-use crate::state::State;
 use crate::steady_disks::SteadyDisk;
 use db_image::DraftService;
+use server_state::Outputs;
 use ubik_calls::Body;
 use ubik_store::StoreFault;
 use ubik_types::{Host, Phase, Version};
-
-impl State {
-    ghost use Rattle.ubik_node.specs.State.{server_of, member_of, Keeps};
-
-    /// Whether the own database goes to the others, and those that have it are counted.
-    pub fn is_spreading(&self) -> bool
-        ensures { IsTrue result ↔ IsSpreading self.now.recovery.phase }
-    {
-        matches!(self.recovery.phase(), Phase::Send | Phase::Ready)
-    }
-
-    /// Whether the own image is of a version, and a piece of it begins at an offset.
-    fn has_piece(&self, version: Version, offset: u32) -> bool
-        ensures { result ≡ (version_eq self.now.version version && (offset == 0 || nat_lt offset (length self.now.image))) }
-    {
-        self.version == version && (offset == 0 || offset < self.image.len())
-    }
-
-    /// Whether the own image is of a version, and goes on past an offset.
-    fn goes_on(&self, version: Version, next: u32) -> bool
-        ensures { result ≡ (version_eq version self.now.version && nat_lt next (length self.now.image)) }
-    {
-        version == self.version && next < self.image.len()
-    }
-
-    /// Whether a version is the one before the relabelling, which no commit has followed.
-    fn is_before(&self, version: Version) -> bool
-        ensures { result ≡ (self.now.version.counter == 1 && version_eq version self.now.recovery.old_version) }
-    {
-        self.version.counter == 1 && version == self.recovery.old()
-    }
-
-    /// Whether the server from which the best version is fetched has another one.
-    fn is_refused(&self, from: usize, version: Version) -> bool
-        ensures { result ≡ (from == host_of self.now.recovery && not (version_eq version (best_of self.now.recovery))) }
-    {
-        let (best, server) = self.recovery.best();
-        from == server && version != best
-    }
-
-    /// Version told in a fetch: where the server that is asked has another one a new poll begins.
-    fn hear_fetched(&mut self, now: u32, from: usize, version: Version)
-        requires { ¬ IsServing self.old.recovery }
-        ensures server { (fetch_refused (member_of self.old) (server_of self.old) now (host_of self.old.recovery) (best_of self.old.recovery) from version)
-            ≡ quiet (server_of self.new) }
-        ensures kept { Keeps self.old self.new }
-    {
-        let refused = self.is_refused(from, version);
-        if refused {
-            self.begin_poll(now);
-        }
-    }
-}
 
 impl<D: SteadyDisk, V: DraftService> Node<D, V> {
     ghost use Rattle.ubik_node.specs.Node.{Ends, EndsSo, held, IsMeantIn, IsStored, Knows, own_member, up_server};

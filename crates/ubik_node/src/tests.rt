@@ -1,5 +1,5 @@
 //! A server over a disk in memory, with a small database: alone in its cell, and one of three.
-ghost use Rattle.std.specs.Prelude.{◌≡◌, ◌≢◌, ◌<◌, ◌≤◌, ◌↔◌, IsTrue, IfOk, IfErr, IfSome, IsErrOf, MatchResult, Some, length, true};
+ghost use Rattle.std.specs.Prelude.{◌≡◌, ◌≢◌, ◌<◌, ◌≤◌, IfOk, IfErr, IfSome, IsErrOf, Some, true};
 ghost use Rattle.disk_base.specs.Crash.{IsSettled};
 ghost use Rattle.cell_model.specs.Step.{cell_size};
 ghost use Rattle.db_image.specs.Ends.{EndsBy, IsShort};

@@ -2,9 +2,8 @@
 ghost use Rattle.std.specs.Prelude.{◌≡◌, IfOk, IsTrue};
 ghost use Rattle.disk_base.specs.Crash.{IsSettled};
 ghost use Rattle.ubik_types.specs.Version.{IsVersion};
-ghost use Rattle.ubik_node.specs.Appending.{appending};
 ghost use Rattle.ubik_node.specs.Built.{IsBuilt, IsBuiltBody};
-ghost use Rattle.ubik_node.specs.Node.{IsStored, node_of, own_member};
+ghost use Rattle.ubik_node.specs.Node.{IsStored};
 
 use super::*;
 use crate::tests::{Server, ask, filled, is_announcement, is_answer, revived, step, version};

@@ -3,13 +3,13 @@ ghost use Rattle.std.specs.Prelude.{◌≡◌, ℕ, List, ◌<◌, ◌≤◌, le
 ghost use Rattle.db_image.specs.Database.{changes_of};
 ghost use Rattle.cell_model.specs.Step.{Member};
 ghost use Rattle.cell_model.specs.Writes.{turned, written};
-ghost use Rattle.ubik_node.specs.State.{server_of};
+ghost use Rattle.server_state.specs.State.{server_of};
 ghost use Rattle.ubik_node.specs.Verdict.{CanBeMade, Judges};
 
 use crate::evaluations::Evaluation;
 use crate::serving::reply_of;
-use crate::state::State;
 use db_image::{CallReply, DraftService, too_large};
+use server_state::State;
 use ubik_calls::Reply;
 use ubik_types::{Bytes, Changes, MAX_COUNTER};
 

@@ -1,4 +1,4 @@
-use Rattle.std.proofs.Common.{◌≡◌, List, ℕ, refl, rules, arith}
+use Rattle.std.proofs.Common.{List, ℕ, refl, rules, arith}
 use Rattle.ubik_write.specs.Flight.{Undoes}
 use Rattle.ubik_node.proofs.Lending.{lent_reads, no_disk_fault, told_so}
 use Rattle.ubik_node.proofs.flights.flight_over.Goals as goal

@@ -1,14 +1,14 @@
-use Rattle.std.proofs.Common.{◌≡◌, Bool, true, false, Option, is_some, sym, ap, ◌∙◌}
+use Rattle.std.proofs.Common.{◌≡◌, true, false, Option, is_some, sym, ap, ◌∙◌}
 use Rattle.cell_model.specs.Asks.{write_asked}
 use Rattle.cell_model.specs.Node.{Flight}
 use Rattle.cell_model.specs.Step.{Announced_image, Beacon_image, told_version}
 use Rattle.ubik_recovery.specs.Record.{phase_record}
-use Rattle.ubik_node.specs.State.{announced, member_of, server_of}
-use Rattle.ubik_node.specs.Writing.{own_of}
+use Rattle.server_state.specs.State.{announced, member_of, server_of}
+use Rattle.server_state.specs.Writing.{own_of}
 use Rattle.ubik_node.proofs.Alone.{leased_here}
-use Rattle.ubik_node.proofs.Polled.{ready_phase}
+use Rattle.server_state.proofs.Polled.{ready_phase}
 use Rattle.ubik_node.proofs.Served.{reads_announced, reads_own, waits_or_writes}
-use Rattle.ubik_node.proofs.Writes.{none_in_flight}
+use Rattle.server_state.proofs.Writes.{none_in_flight}
 use Rattle.ubik_node.proofs.serving.turn_of.Goals as goal
 use Rattle.ubik_node.proofs.serving.turn_of.Goals.{then-leased+then-writes+else-is_writing, then-leased+else-writes, else-leased, then-leased-2+else-writes-2, else-leased-2}
 

@@ -1,4 +1,4 @@
-use Rattle.ubik_node.specs.State.{server_of}
+use Rattle.server_state.specs.State.{server_of}
 use Rattle.ubik_node.proofs.Committing.{refused}
 use Rattle.ubik_node.proofs.verdicts.verdict_of.Goals as goal
 

@@ -6,7 +6,7 @@ use Rattle.ubik_types.specs.Logged.{logged, too_large}
 use Rattle.db_image.specs.Database.{changes_of}
 use Rattle.db_image.proofs.Laid.{changes_lead}
 use Rattle.ubik_store.specs.Gaps.{CutsNoPut}
-use Rattle.ubik_node.specs.State.{server_of}
+use Rattle.server_state.specs.State.{server_of}
 use Rattle.ubik_node.proofs.Committing.{commits, polls_again}
 use Rattle.ubik_node.proofs.Gapless.{kept_between, uncut_between}
 use Rattle.ubik_node.proofs.Images.{image_within}

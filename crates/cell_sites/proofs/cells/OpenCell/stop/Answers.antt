@@ -5,8 +5,8 @@ use Rattle.std.proofs.lemmas.Result.{err_from_is_err_and}
 use Rattle.cell_runs.specs.ScriptDatabase.{script_database}
 use Rattle.cell_runs.specs.Script.{Cell_run, resting, run_in}
 use Rattle.cell_script.specs.declared.lines.Line.TheVariants as line
-use Rattle.ubik_node.specs.declared.state.State.{State}
-use Rattle.ubik_node.specs.State.{server_of}
+use Rattle.server_state.specs.declared.state.State.{State}
+use Rattle.server_state.specs.State.{server_of}
 use Rattle.cell_sites.proofs.Behind.{runs_on}
 use Rattle.cell_sites.proofs.AtPlace.{rises_same}
 use Rattle.cell_sites.proofs.Downtimes.{arm_disk, arm_node, arm_told, sound_at_place}

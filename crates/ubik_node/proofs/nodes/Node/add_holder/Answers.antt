@@ -1,10 +1,10 @@
-use Rattle.std.proofs.Common.{◌≡◌, ◌∙◌, List, ℕ, refl, sym, ap, subst}
+use Rattle.std.proofs.Common.{◌≡◌, ◌∙◌, List, ℕ, sym, ap, subst}
 use Rattle.cell_model.specs.Node.{Server, halted_from}
 use Rattle.cell_model.specs.Recovery.{holder_added}
 use Rattle.cell_model.specs.Step.{Member}
 use Rattle.cell_model.specs.Writes.{settled_with_turns}
 use Rattle.ubik_node.specs.Node.{IsMeantIn, durable_in, held}
-use Rattle.ubik_node.specs.State.{member_of, server_of}
+use Rattle.server_state.specs.State.{member_of, server_of}
 use Rattle.ubik_node.proofs.Endings.{begun_ends, known_ends, same_ends}
 use Rattle.ubik_node.proofs.Spread.{holder_keeps}
 use Rattle.ubik_node.proofs.nodes.Node.add_holder.Goals as goal

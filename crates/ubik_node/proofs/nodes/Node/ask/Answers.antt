@@ -3,8 +3,8 @@ use Rattle.cell_model.specs.Asks.{asked_as, put_into_line}
 use Rattle.cell_model.specs.Node.{Flight}
 use Rattle.cell_model.specs.Step.{is_short}
 use Rattle.ubik_node.specs.Node.{held}
-use Rattle.ubik_node.specs.State.{member_of, server_of}
-use Rattle.ubik_node.specs.Writing.{own_of}
+use Rattle.server_state.specs.State.{member_of, server_of}
+use Rattle.server_state.specs.Writing.{own_of}
 use Rattle.ubik_node.proofs.Endings.{known_ends, rests_ends, same_ends, shown_ends}
 use Rattle.ubik_node.proofs.Reading.{in_flight_so, line_shows}
 use Rattle.ubik_node.proofs.nodes.Node.ask.Goals as goal

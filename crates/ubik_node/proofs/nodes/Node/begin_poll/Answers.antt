@@ -1,11 +1,11 @@
-use Rattle.std.proofs.Common.{◌≡◌, [], None, ap, sym, subst, ◌∙◌, length, arith}
+use Rattle.std.proofs.Common.{◌≡◌, None, ap, sym, subst, ◌∙◌, length, arith}
 use Rattle.ubik_recovery.specs.Record.{RecoveryRecord, adopted, poll_begun, polled_of, with_text}
 use Rattle.cell_model.specs.Recovery.{poll_asked}
 use Rattle.ubik_node.specs.Node.{Ends, Knows, held}
-use Rattle.ubik_node.specs.Recovering.{IsOfCell}
-use Rattle.ubik_node.specs.State.{announced, member_of, server_of, server_with}
+use Rattle.server_state.specs.Recovering.{IsOfCell}
+use Rattle.server_state.specs.State.{announced, member_of, server_of, server_with}
 use Rattle.ubik_node.proofs.Endings.{same_ends}
-use Rattle.ubik_node.proofs.Polled.{of_begun, of_marks}
+use Rattle.server_state.proofs.Polled.{of_begun, of_marks}
 use Rattle.ubik_node.proofs.Turning.{begun_asked}
 use Rattle.ubik_types.specs.Version.{IsVersion}
 use Rattle.ubik_node.proofs.nodes.Node.begin_poll.Goals as goal

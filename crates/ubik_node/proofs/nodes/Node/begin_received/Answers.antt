@@ -3,9 +3,9 @@ use Rattle.std.specs.Prelude.{Some, nat_le}
 use Rattle.std.proofs.lemmas.Bool.Decides.{nat_tests}
 use Rattle.ubik_calls.specs.declared.packets.TheConstants.{MAX_PIECES}
 use Rattle.cell_model.specs.Node.{KeptWrite}
-use Rattle.ubik_node.specs.Keeping.{IsKeptOver}
+use Rattle.server_state.specs.Keeping.{IsKeptOver}
 use Rattle.ubik_node.specs.Node.{held}
-use Rattle.ubik_node.specs.State.{announced, server_of}
+use Rattle.server_state.specs.State.{announced, server_of}
 use Rattle.ubik_node.proofs.Begun.{begin_ignored, begin_kept, begin_long, begin_other, newer_than}
 use Rattle.ubik_node.proofs.Endings.{rests_ends, same_ends, shown_ends}
 use Rattle.ubik_node.proofs.Received.{sending_is}

@@ -19,12 +19,12 @@ use Rattle.ubik_store.specs.declared.faults.StoreFault.TheVariants.{DiskFault}
 use Rattle.ubik_store.specs.DurableCall.{Commits, IsDurable, IsNeverLong}
 use Rattle.ubik_store.specs.Gaps.{CutsNoPut}
 use Rattle.ubik_node.specs.Node.{held}
-use Rattle.ubik_node.specs.State.{announced, member_of, server_of}
+use Rattle.server_state.specs.State.{announced, member_of, server_of}
 use Rattle.ubik_write.specs.Flight.{IsFlightOf}
 use Rattle.ubik_write.specs.Undo.{image_before}
 use Rattle.ubik_types.specs.Quorum.{marked}
 use Rattle.ubik_node.specs.Verdict.{IsWritten}
-use Rattle.ubik_node.specs.Writing.{write_begun}
+use Rattle.server_state.specs.Writing.{write_begun}
 use Rattle.ubik_node.proofs.Begun.{commit_ended}
 use Rattle.ubik_node.proofs.Calling.{ended, held_as, known_call_failed, known_call_made, short_ends_read, stored_read, unread_ends}
 use Rattle.ubik_node.proofs.Committing.{flown, next_is_newer, spread_to_each, undone_here, written_begun}

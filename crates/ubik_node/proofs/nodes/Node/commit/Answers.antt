@@ -7,7 +7,6 @@ use Rattle.ubik_types.specs.Version.{version_lt}
 use Rattle.ubik_calls.specs.declared.replies.Reply.TheVariants as reply
 use Rattle.cell_model.specs.declared.events.Output.{Output}
 use Rattle.cell_model.specs.declared.events.Output.TheVariants as output
-use Rattle.cell_model.specs.Durable.{Transaction}
 use Rattle.cell_model.specs.Node.{Server}
 use Rattle.cell_model.specs.Step.{with_database}
 use Rattle.cell_model.specs.Writes.{own_commit}
@@ -17,14 +16,14 @@ use Rattle.ubik_store.specs.declared.faults.StoreFault.TheVariants.{DiskFault}
 use Rattle.ubik_store.specs.DurableCall.{Commits, IsDurable, IsNeverLong}
 use Rattle.ubik_store.specs.Gaps.{CutsNoPut}
 use Rattle.ubik_node.specs.Node.{held}
-use Rattle.ubik_node.specs.State.{announced, member_of, server_of}
+use Rattle.server_state.specs.State.{announced, member_of, server_of}
 use Rattle.ubik_node.proofs.Alone.{is_alone}
 use Rattle.ubik_node.proofs.Begun.{commit_ended}
 use Rattle.ubik_node.proofs.Calling.{ended, known_call_failed, known_call_made}
 use Rattle.ubik_node.proofs.Committing.{next_is_newer, written_alone}
 use Rattle.ubik_node.proofs.Endings.{handed_ends, ok_not, reads_none}
 use Rattle.ubik_node.proofs.HeldImages.{held_after, held_length, held_there}
-use Rattle.ubik_node.proofs.Writes.{no_own}
+use Rattle.server_state.proofs.Writes.{no_own}
 use Rattle.ubik_node.proofs.nodes.Node.commit.Goals as goal
 
 pub returns-in_err-commit_all-clause-ends : goal.returns-in_err-commit_all-clause-ends

@@ -8,7 +8,7 @@ use Rattle.ubik_calls.specs.declared.packets.Body.TheVariants as body
 use Rattle.cell_model.specs.Receiver.{committed_by}
 use Rattle.cell_model.specs.Step.{Member, outputs_of, sends_to}
 use Rattle.ubik_node.specs.Node.{held}
-use Rattle.ubik_node.specs.State.{announced, member_of, server_of}
+use Rattle.server_state.specs.State.{announced, member_of, server_of}
 use Rattle.ubik_node.proofs.Begun.{commit_had, commit_ignored, commit_large, commit_missing, commit_other, commit_taken, whole_over}
 use Rattle.ubik_node.proofs.Endings.{handed_ends, rests_ends, same_ends, short_ends}
 use Rattle.ubik_node.proofs.Fronts.{fails_so, goes_on}

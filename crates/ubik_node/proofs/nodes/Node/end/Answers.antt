@@ -1,9 +1,9 @@
 use Rattle.std.proofs.Common.{◌∙◌, true, refl, ap}
 use Rattle.cell_model.specs.Node.{Server}
 use Rattle.cell_model.specs.Step.{Member}
-use Rattle.ubik_node.specs.Lapsing.{returned}
+use Rattle.server_state.specs.Lapsing.{returned}
 use Rattle.ubik_node.specs.Node.{held}
-use Rattle.ubik_node.specs.State.{member_of, server_of}
+use Rattle.server_state.specs.State.{member_of, server_of}
 use Rattle.ubik_node.proofs.Closing.{closes_done, closes_failed, closes_short}
 use Rattle.ubik_node.proofs.nodes.Node.end.Goals as goal
 

@@ -7,7 +7,7 @@ use Rattle.ubik_recovery.specs.Text.{received_bytes, with_piece}
 use Rattle.cell_model.specs.Durable.{durable}
 use Rattle.cell_model.specs.Node.{halted_from}
 use Rattle.ubik_node.specs.Node.{IsStoredAs, durable_in, held}
-use Rattle.ubik_node.specs.State.{announced, member_of, server_of}
+use Rattle.server_state.specs.State.{announced, member_of, server_of}
 use Rattle.ubik_node.proofs.Endings.{same_ends}
 use Rattle.ubik_node.proofs.Fetching.{fetched_front, front_phase}
 use Rattle.ubik_node.proofs.Fronts.{back_kept, taken_kept, failed_from, front_cut, front_image, front_restored, made_from, next_within, on_err, on_fine, short_back}

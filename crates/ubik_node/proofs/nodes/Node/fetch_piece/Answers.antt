@@ -3,9 +3,9 @@ use Rattle.std.proofs.lemmas.List.{append-nil}
 use Rattle.std.proofs.lemmas.Bool.{false≢true}
 use Rattle.ubik_recovery.specs.Record.{with_text}
 use Rattle.ubik_recovery.specs.Text.{with_piece}
-use Rattle.ubik_node.specs.declared.state.State.{State}
+use Rattle.server_state.specs.declared.state.State.{State}
 use Rattle.ubik_node.specs.Node.{held}
-use Rattle.ubik_node.specs.State.{announced, member_of, server_of}
+use Rattle.server_state.specs.State.{announced, member_of, server_of}
 use Rattle.ubik_node.proofs.Endings.{handed_ends, rests_ends, same_ends, shown_ends}
 use Rattle.ubik_node.proofs.Fetching.{asked_goes, asked_text, asks_next, fits_of, piece_ends, piece_goes, piece_ignored, piece_unasked, piece_unfetched, whole_at}
 use Rattle.ubik_node.proofs.Fronts.{short_back, text_put}

@@ -1,6 +1,5 @@
 use Rattle.std.proofs.Common.{◌≡◌, ◌∙◌, true, false, nat_lt, List, [], IsSome, None, length, Ok, Err, refl, sym, ap, subst, rules, arith}
 use Rattle.std.proofs.lemmas.List.{append-nil}
-use Rattle.cell_model.specs.declared.events.Output.{Output}
 use Rattle.cell_model.specs.Recovery.{installed, relabelled}
 use Rattle.cell_model.specs.Step.{Member, followed, with_phase}
 use Rattle.ubik_types.specs.declared.hosts.Host.{Host}
@@ -10,12 +9,12 @@ use Rattle.ubik_types.specs.Phase.{Polled, Relabel}
 use Rattle.ubik_types.specs.Version.{IsVersion, version_lt}
 use Rattle.ubik_recovery.specs.Record.{RecoveryRecord, adopted, best_of, in_phase, is_fetch, polled_of, with_text}
 use Rattle.ubik_node.specs.Node.{Ends, Knows, held}
-use Rattle.ubik_node.specs.Recovering.{IsOfCell}
-use Rattle.ubik_node.specs.State.{announced, member_of, server_of, server_with}
+use Rattle.server_state.specs.Recovering.{IsOfCell}
+use Rattle.server_state.specs.State.{announced, member_of, server_of, server_with}
 use Rattle.ubik_node.proofs.Endings.{handed_ends, known_ends, same_ends}
 use Rattle.ubik_node.proofs.Fetching.{fetched_new, fetched_relabels, fetched_waits, of_relabelling, waits_at}
 use Rattle.ubik_node.proofs.Fronts.{fails_so, goes_on}
-use Rattle.ubik_node.proofs.Polled.{version_best}
+use Rattle.server_state.proofs.Polled.{version_best}
 use Rattle.ubik_node.proofs.nodes.Node.fetched.Goals as goal
 
 pub relabelled-requires-clause-of_cell : goal.relabelled-requires-clause-of_cell

@@ -2,7 +2,7 @@ use Rattle.std.proofs.Common.{◌≡◌, ◌∙◌, inr, ℕ, List, [], refl, sy
 use Rattle.cell_model.specs.declared.events.NodeEvent.TheVariants as event
 use Rattle.ubik_node.specs.Built.{IsBuilt, TakesNoMemory}
 use Rattle.ubik_node.specs.Node.{held}
-use Rattle.ubik_node.specs.State.{member_of, server_of}
+use Rattle.server_state.specs.State.{member_of, server_of}
 use Rattle.ubik_node.proofs.Closing.{event_ends}
 use Rattle.ubik_node.proofs.Endings.{shown_ends}
 use Rattle.ubik_node.proofs.nodes.Node.handle.Goals as goal

@@ -5,10 +5,10 @@ use Rattle.cell_model.specs.Recovery.{polled}
 use Rattle.cell_model.specs.Step.{Stepped, quiet}
 use Rattle.ubik_recovery.specs.Record.{RecoveryRecord, adopted, answered_by, polled_of, with_text}
 use Rattle.ubik_node.specs.Node.{Ends, Knows, held}
-use Rattle.ubik_node.specs.Recovering.{IsOfCell}
-use Rattle.ubik_node.specs.State.{announced, member_of, server_of, server_with}
+use Rattle.server_state.specs.Recovering.{IsOfCell}
+use Rattle.server_state.specs.State.{announced, member_of, server_of, server_with}
 use Rattle.ubik_node.proofs.Endings.{rests_ends, same_ends}
-use Rattle.ubik_node.proofs.Polled.{of_answered, of_marks}
+use Rattle.server_state.proofs.Polled.{of_answered, of_marks}
 use Rattle.ubik_node.proofs.Turning.{answer_polled}
 use Rattle.ubik_node.proofs.nodes.Node.hear_answer.Goals as goal
 

@@ -1,9 +1,9 @@
-use Rattle.std.proofs.Common.{◌≡◌, ◌∙◌, inr, List, [], true, false, refl, rules, sym}
+use Rattle.std.proofs.Common.{◌≡◌, ◌∙◌, [], true, false, refl, rules, sym}
 use Rattle.std.proofs.lemmas.Bool.{false≢true}
 use Rattle.std.proofs.lemmas.List.{append-nil}
 use Rattle.ubik_types.specs.Version.{version_eq}
 use Rattle.ubik_node.specs.Node.{held}
-use Rattle.ubik_node.specs.State.{announced, member_of, server_of}
+use Rattle.server_state.specs.State.{announced, member_of, server_of}
 use Rattle.ubik_node.proofs.Endings.{rests_ends, same_ends}
 use Rattle.ubik_node.proofs.Spread.{kept_counts, kept_not}
 use Rattle.ubik_node.proofs.nodes.Node.hear_kept.Goals as goal

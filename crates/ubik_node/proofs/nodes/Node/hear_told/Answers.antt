@@ -1,10 +1,8 @@
-use Rattle.std.proofs.Common.{◌≡◌, ◌==◌, List, [], true, false, refl, rules, ap, length, arith, subst, sym}
+use Rattle.std.proofs.Common.{◌≡◌, ◌==◌, [], true, false, refl, rules, arith, sym}
 use Rattle.std.proofs.lemmas.List.{append-nil}
 use Rattle.ubik_types.specs.Version.{version_eq}
-use Rattle.cell_model.specs.declared.events.Output.{Output}
-use Rattle.cell_model.specs.Recovery.{holder_added}
 use Rattle.ubik_node.specs.Node.{held}
-use Rattle.ubik_node.specs.State.{announced, ShowsBehind, member_of, server_of}
+use Rattle.server_state.specs.State.{announced, member_of, server_of}
 use Rattle.ubik_node.proofs.Endings.{known_ends, rests_ends, same_ends}
 use Rattle.ubik_node.proofs.Told.{told_other, told_same, told_uncounted}
 use Rattle.ubik_node.proofs.nodes.Node.hear_told.Goals as goal

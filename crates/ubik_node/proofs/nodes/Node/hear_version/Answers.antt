@@ -1,7 +1,7 @@
-use Rattle.std.proofs.Common.{◌∙◌, List, [], refl, rules, sym}
+use Rattle.std.proofs.Common.{◌∙◌, [], refl, rules, sym}
 use Rattle.std.proofs.lemmas.List.{append-nil}
 use Rattle.ubik_node.specs.Node.{held}
-use Rattle.ubik_node.specs.State.{announced, member_of, server_of}
+use Rattle.server_state.specs.State.{announced, member_of, server_of}
 use Rattle.ubik_node.proofs.Endings.{known_ends, rests_ends, same_ends, shown_ends}
 use Rattle.ubik_node.proofs.Told.{heard_fetch, heard_none, heard_poll, heard_spread}
 use Rattle.ubik_node.proofs.nodes.Node.hear_version.Goals as goal

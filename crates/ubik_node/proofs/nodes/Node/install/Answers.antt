@@ -6,9 +6,9 @@ use Rattle.ubik_store.specs.DurableCall.{whole_image}
 use Rattle.ubik_store.specs.Store.{IsTooLong}
 use Rattle.ubik_types.specs.Phase.{phase_of}
 use Rattle.cell_model.specs.Node.{Server}
-use Rattle.ubik_node.specs.declared.state.State.{State}
+use Rattle.server_state.specs.declared.state.State.{State}
 use Rattle.ubik_node.specs.Node.{held}
-use Rattle.ubik_node.specs.State.{announced, member_of, server_of}
+use Rattle.server_state.specs.State.{announced, member_of, server_of}
 use Rattle.ubik_node.proofs.Calling.{call_failed, call_made}
 use Rattle.ubik_node.proofs.Endings.{handed_ends, ok_not, reads_none}
 use Rattle.ubik_node.proofs.HeldImages.{held_length, held_there}

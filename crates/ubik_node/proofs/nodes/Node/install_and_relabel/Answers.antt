@@ -1,4 +1,4 @@
-use Rattle.std.proofs.Common.{◌≡◌, ◌∙◌, ◌++◌, ◌∷◌, ℕ, List, length, Err, refl, sym, ap, subst, arith, rules, length-take}
+use Rattle.std.proofs.Common.{◌≡◌, ◌∙◌, ◌∷◌, ℕ, List, length, Err, refl, sym, ap, subst, arith, rules, length-take}
 use Rattle.std.specs.Result.{is_err}
 use Rattle.std.proofs.lemmas.Bool.{false≢true}
 use Rattle.ubik_types.specs.declared.versions.Version.{Version}
@@ -8,17 +8,16 @@ use Rattle.ubik_types.specs.Version.{version_lt}
 use Rattle.ubik_recovery.specs.Record.{polled_of}
 use Rattle.ubik_store.specs.DurableCall.{whole_image}
 use Rattle.ubik_store.specs.Store.{IsTooLong}
-use Rattle.cell_model.specs.declared.events.Output.{Output}
 use Rattle.cell_model.specs.Durable as durable
 use Rattle.cell_model.specs.Durable.{Made, Received}
 use Rattle.cell_model.specs.Node.{Server}
-use Rattle.cell_model.specs.Polls.{entry_at, only_holder}
-use Rattle.cell_model.specs.Recovery.{first_of_epoch, own_relabelling, relabelled_to, spread_answer}
-use Rattle.cell_model.specs.Step.{Member, outputs_of, sends_to_each, with_database, with_phase}
+use Rattle.cell_model.specs.Polls.{only_holder}
+use Rattle.cell_model.specs.Recovery.{first_of_epoch, own_relabelling, relabelled_to}
+use Rattle.cell_model.specs.Step.{Member, with_database, with_phase}
 use Rattle.cell_model.specs.Writes.{settled}
 use Rattle.ubik_node.specs.Node.{held}
-use Rattle.ubik_node.specs.Recovering.{IsOfCell}
-use Rattle.ubik_node.specs.State.{ShowsBehind, member_of, server_of}
+use Rattle.server_state.specs.Recovering.{IsOfCell}
+use Rattle.server_state.specs.State.{ShowsBehind, member_of, server_of}
 use Rattle.ubik_node.proofs.Endings.{handed_ends, same_ends, short_ends}
 use Rattle.ubik_node.proofs.Fetching.{first_of, held_twice, installed_comes, later_epoch, past_newer}
 use Rattle.ubik_node.proofs.HeldImages.{held_length, held_there}

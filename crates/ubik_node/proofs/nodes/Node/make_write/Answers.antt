@@ -1,4 +1,4 @@
-use Rattle.std.proofs.Common.{◌≡◌, ◌++◌, ◌∙◌, List, ℕ, [], ◌∷◌, true, false, length, IsSome, refl, sym, ap, length-append, arith}
+use Rattle.std.proofs.Common.{◌≡◌, ◌++◌, ◌∙◌, List, [], ◌∷◌, true, false, length, IsSome, refl, sym, ap, length-append, arith}
 use Rattle.std.specs.Result.{is_err}
 use Rattle.std.proofs.lemmas.Bool.{false≢true}
 use Rattle.cell_model.specs.declared.events.Output.{Output}
@@ -10,8 +10,8 @@ use Rattle.ubik_store.proofs.Telling.{ok_map}
 use Rattle.ubik_node.specs.declared.verdicts.Verdict.TheVariants as verdict
 use Rattle.ubik_node.specs.Node.{held, IsMeantIn, up_server}
 use Rattle.ubik_node.specs.Serving.{IsRepliedTo}
-use Rattle.ubik_node.specs.State.{member_of, server_of}
-use Rattle.ubik_node.specs.Writing.{own_of}
+use Rattle.server_state.specs.State.{member_of, server_of}
+use Rattle.server_state.specs.Writing.{own_of}
 use Rattle.ubik_node.proofs.Calling.{after_reads, known_read_ends, known_so, stored_read, unread_ends}
 use Rattle.ubik_node.proofs.Endings.{handed_ends, kept_with, reads_as, told_still}
 use Rattle.ubik_node.proofs.Made.{judged_here}

@@ -11,10 +11,10 @@ use Rattle.ubik_store.specs.Files.{StandsFor}
 use Rattle.ubik_store.specs.Rest.{RestsAs}
 use Rattle.ubik_store.proofs.Telling.{told, of_told}
 use Rattle.ubik_node.specs.Disk.{StandsAs}
-use Rattle.ubik_node.specs.Held.{held_image}
+use Rattle.server_state.specs.Held.{held_image}
 use Rattle.ubik_node.proofs.HeldImages.{held_length, held_there}
-use Rattle.ubik_node.specs.Recovering.{IsOfCell}
-use Rattle.ubik_node.proofs.Polled.{of_none}
+use Rattle.server_state.specs.Recovering.{IsOfCell}
+use Rattle.server_state.proofs.Polled.{of_none}
 use Rattle.ubik_node.proofs.Stepping.{opened_is}
 use Rattle.ubik_node.proofs.nodes.Node.open.Goals as goal
 

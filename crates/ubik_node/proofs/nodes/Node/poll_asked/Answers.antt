@@ -1,11 +1,10 @@
 use Rattle.std.proofs.Common.{◌++◌, ℕ, List, ap, ◌∙◌, length, arith}
 use Rattle.ubik_types.specs.Quorum.{marked}
 use Rattle.ubik_recovery.specs.Record.{polled_of}
-use Rattle.cell_model.specs.declared.events.Output.{Output}
 use Rattle.cell_model.specs.Polls.{is_marked}
 use Rattle.cell_model.specs.Recovery.{asks_versions, has_answered}
 use Rattle.cell_model.specs.Step.{Shown, outputs_of}
-use Rattle.ubik_node.specs.State.{member_of}
+use Rattle.server_state.specs.State.{member_of}
 use Rattle.ubik_node.proofs.Endings.{behind_ends}
 use Rattle.ubik_node.proofs.Turning.{asks_answered}
 use Rattle.ubik_node.proofs.nodes.Node.poll_asked.Goals as goal

@@ -3,7 +3,7 @@ use Rattle.std.proofs.lemmas.List.{append-nil}
 use Rattle.ubik_types.specs.Version.{version_lt}
 use Rattle.ubik_recovery.specs.Record.{adopted, best_of}
 use Rattle.ubik_node.specs.Node.{held}
-use Rattle.ubik_node.specs.State.{announced, member_of, server_of}
+use Rattle.server_state.specs.State.{announced, member_of, server_of}
 use Rattle.ubik_node.proofs.Endings.{same_ends, shown_ends}
 use Rattle.ubik_node.proofs.Turning.{known_is, polled_fetches, polled_relabels, polled_rests}
 use Rattle.ubik_recovery.specs.Record.{is_fetch}

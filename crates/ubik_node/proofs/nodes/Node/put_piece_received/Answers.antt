@@ -1,7 +1,7 @@
 use Rattle.std.proofs.Common.{◌≡◌, ◌∙◌, true, false, refl, rules, sym, ap}
-use Rattle.ubik_node.specs.declared.state.State.{State}
+use Rattle.server_state.specs.declared.state.State.{State}
 use Rattle.ubik_node.specs.Node.{held}
-use Rattle.ubik_node.specs.State.{announced, member_of, server_of}
+use Rattle.server_state.specs.State.{announced, member_of, server_of}
 use Rattle.ubik_node.proofs.Begun.{put_ignored, put_taken}
 use Rattle.ubik_node.proofs.Endings.{handed_ends, rests_ends, same_ends, shown_ends}
 use Rattle.ubik_node.proofs.Fronts.{short_back}

@@ -8,7 +8,7 @@ use Rattle.ubik_write.specs.Flight.{FlightRecord}
 use Rattle.ubik_write.specs.Undo as undo
 use Rattle.ubik_node.specs.Node.{held, up_server}
 use Rattle.ubik_node.specs.Serving.{ReadsFrom}
-use Rattle.ubik_node.specs.Writing.{own_of}
+use Rattle.server_state.specs.Writing.{own_of}
 use Rattle.ubik_node.proofs.Reading.{made_from, read_ended, replied_as}
 use Rattle.ubik_node.proofs.nodes.Node.read.Goals as goal
 

@@ -1,4 +1,4 @@
-use Rattle.std.proofs.Common.{◌≡◌, ◌<◌, ◌∙◌, inr, ℕ, Bool, Some, List, [], length, slice_get, refl, sym, ap, subst, arith}
+use Rattle.std.proofs.Common.{◌≡◌, ◌<◌, ◌∙◌, inr, ℕ, Some, List, [], length, slice_get, refl, sym, ap, subst, arith}
 use Rattle.std.proofs.lemmas.List.{append-nil}
 use Rattle.std.proofs.lemmas.Option.{slice_get_within}
 use Rattle.ubik_types.specs.declared.hosts.Host.{Host}
@@ -6,7 +6,7 @@ use Rattle.ubik_calls.specs.declared.packets.Body.TheVariants as body
 use Rattle.cell_model.specs.Step.{Stepped}
 use Rattle.ubik_node.specs.Built.{BodyTakesNoMemory, IsBuiltBody}
 use Rattle.ubik_node.specs.Node.{held}
-use Rattle.ubik_node.specs.State.{member_of, server_of}
+use Rattle.server_state.specs.State.{member_of, server_of}
 use Rattle.ubik_node.proofs.Endings.{rests_ends, shown_ends}
 use Rattle.ubik_node.proofs.Begun.{quiet_ends, quietly}
 use Rattle.ubik_node.proofs.Places.{placed}

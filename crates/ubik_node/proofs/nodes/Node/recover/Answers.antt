@@ -1,19 +1,18 @@
-use Rattle.std.proofs.Common.{◌≡◌, ◌≤◌, ◌∙◌, ℕ, List, true, false, length, refl, rules, sym, ap, subst, arith}
+use Rattle.std.proofs.Common.{◌≡◌, ◌≤◌, ◌∙◌, ℕ, true, false, length, refl, rules, sym, ap, subst, arith}
 use Rattle.std.proofs.lemmas.List.{append-nil}
 use Rattle.ubik_types.specs.declared.phases.Phase.TheVariants as phase
-use Rattle.cell_model.specs.Recovery.{poll_asked, recovered, relabelled}
+use Rattle.cell_model.specs.Recovery.{poll_asked, relabelled}
 use Rattle.ubik_recovery.specs.Record.{RecoveryRecord, adopted, is_fetch, polled_of}
 use Rattle.ubik_node.specs.Node.{held}
-use Rattle.ubik_node.specs.Recovering.{IsOfCell}
-use Rattle.ubik_node.specs.State.{announced, ShowsBehind, member_of, server_of, server_with}
+use Rattle.server_state.specs.Recovering.{IsOfCell}
+use Rattle.server_state.specs.State.{announced, member_of, server_of, server_with}
 use Rattle.ubik_node.proofs.Alone.{leased_here}
-use Rattle.ubik_node.specs.declared.state.State.{State}
+use Rattle.server_state.specs.declared.state.State.{State}
 use Rattle.ubik_node.proofs.Endings.{handed_ends, rests_ends, same_ends}
 use Rattle.ubik_node.proofs.Fronts.{short_back}
-use Rattle.ubik_node.proofs.Polled.{of_marks}
+use Rattle.server_state.proofs.Polled.{of_marks}
 use Rattle.ubik_node.proofs.Turning.{marks_back, turn_begins, turn_fetch_over, turn_in, turn_rests}
 use Rattle.ubik_calls.specs.declared.packets.Body.TheVariants as body
-use Rattle.cell_model.specs.declared.events.Output.{Output}
 use Rattle.cell_model.specs.Recovery.{bytes_received}
 use Rattle.cell_model.specs.Step.{host_at}
 use Rattle.ubik_recovery.specs.Record.{best_of, host_of}

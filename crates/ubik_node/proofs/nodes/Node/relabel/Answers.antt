@@ -16,7 +16,7 @@ use Rattle.cell_model.specs.Recovery.{first_of_epoch, own_relabelling, relabelle
 use Rattle.cell_model.specs.Step.{Member}
 use Rattle.cell_model.specs.Writes.{settled}
 use Rattle.ubik_node.specs.Node.{held}
-use Rattle.ubik_node.specs.State.{announced, ShowsBehind, member_of, server_of, server_with}
+use Rattle.server_state.specs.State.{announced, ShowsBehind, member_of, server_of, server_with}
 use Rattle.ubik_node.proofs.Calling.{call_failed, call_made, short_ends_read, stored_read, unread_ends}
 use Rattle.ubik_node.proofs.Durables.{IsThere, image_then}
 use Rattle.ubik_node.proofs.Endings.{handed_ends, ok_not, same_ends}

@@ -2,7 +2,7 @@ use Rattle.std.proofs.Common.{◌≡◌, false, nat_lt, refl, rules, sym}
 use Rattle.std.proofs.lemmas.List.{append-nil}
 use Rattle.ubik_recovery.specs.Record.{adopted}
 use Rattle.ubik_node.specs.Node.{held}
-use Rattle.ubik_node.specs.State.{announced, member_of, server_of}
+use Rattle.server_state.specs.State.{announced, member_of, server_of}
 use Rattle.ubik_node.proofs.Endings.{same_ends, shown_ends}
 use Rattle.ubik_node.proofs.Turning.{relabelling_waits}
 use Rattle.ubik_node.proofs.nodes.Node.relabelled.Goals as goal

@@ -1,10 +1,10 @@
-use Rattle.std.proofs.Common.{◌∙◌, ℕ, length, refl, sym, ap, arith}
+use Rattle.std.proofs.Common.{◌∙◌, ℕ, refl, sym, ap, arith}
 use Rattle.std.proofs.lemmas.List.{append-nil}
 use Rattle.ubik_types.specs.declared.versions.Version.{Version}
 use Rattle.ubik_calls.specs.declared.packets.Body.TheVariants as body
 use Rattle.ubik_node.specs.Node.{held}
-use Rattle.ubik_node.specs.State.{announced, member_of, server_of}
-use Rattle.ubik_node.specs.Writing.{own_of}
+use Rattle.server_state.specs.State.{announced, member_of, server_of}
+use Rattle.server_state.specs.Writing.{own_of}
 use Rattle.ubik_node.proofs.Endings.{rests_ends, same_ends}
 use Rattle.ubik_node.proofs.Told.{flight_none, flight_some, lacks_free, lacks_held, lacks_image, lacks_version, sent_as}
 use Rattle.ubik_node.proofs.nodes.Node.send_lacking.Goals as goal

@@ -5,8 +5,8 @@ use Rattle.std.proofs.lemmas.Bool.Decides.{nat_tests}
 use Rattle.ubik_types.specs.declared.versions.Version.{Version}
 use Rattle.ubik_types.specs.Version.{version_eq}
 use Rattle.ubik_node.specs.Node.{held}
-use Rattle.ubik_node.specs.State.{announced, member_of, server_of}
-use Rattle.ubik_node.specs.Writing.{own_of}
+use Rattle.server_state.specs.State.{announced, member_of, server_of}
+use Rattle.server_state.specs.Writing.{own_of}
 use Rattle.ubik_node.proofs.Endings.{rests_ends, same_ends}
 use Rattle.ubik_node.proofs.Told.{flight_none, flight_some, next_goes, next_held, next_ignored, next_over}
 use Rattle.ubik_node.proofs.nodes.Node.send_next.Goals as goal

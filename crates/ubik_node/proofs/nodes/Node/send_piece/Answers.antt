@@ -4,7 +4,7 @@ use Rattle.std.proofs.lemmas.Bool.{false≢true}
 use Rattle.ubik_calls.specs.declared.packets.Body.TheVariants as body
 use Rattle.cell_model.specs.Recovery.{sent_piece}
 use Rattle.ubik_node.specs.Node.{held}
-use Rattle.ubik_node.specs.State.{member_of, server_of}
+use Rattle.server_state.specs.State.{member_of, server_of}
 use Rattle.ubik_node.proofs.Calling.{stored_read, unread_ends}
 use Rattle.ubik_node.proofs.Endings.{handed_ends, read_ends}
 use Rattle.ubik_node.proofs.Relabelled.{piece_known}

@@ -12,7 +12,7 @@ use Rattle.cell_model.specs.Step.{Member, outputs_of, sends_to}
 use Rattle.ubik_store.specs.DurableCall.{IsNeverLong}
 use Rattle.ubik_store.specs.Store.{image_in}
 use Rattle.ubik_node.specs.Node.{held}
-use Rattle.ubik_node.specs.State.{announced, member_of, server_of}
+use Rattle.server_state.specs.State.{announced, member_of, server_of}
 use Rattle.ubik_node.proofs.Calling.{call_failed, call_made}
 use Rattle.ubik_node.proofs.Durables.{image_then}
 use Rattle.ubik_node.proofs.Endings.{handed_ends, ok_not, reads_none, rests_ends, same_ends}

@@ -1,4 +1,4 @@
-use Rattle.std.proofs.Common.{◌≡◌, ◌∙◌, ◌++◌, ℕ, List, [], false, replicate, IsErrOf, sym, ap, subst}
+use Rattle.std.proofs.Common.{◌≡◌, ◌∙◌, ◌++◌, ℕ, List, false, replicate, IsErrOf, sym, ap, subst}
 use Rattle.std.specs.Result.{is_ok}
 use Rattle.std.proofs.lemmas.Bool.{false≢true}
 use Rattle.ubik_types.specs.declared.versions.Version.{Version}
@@ -8,9 +8,9 @@ use Rattle.cell_model.specs.Node.{Server, halted_from}
 use Rattle.cell_model.specs.Step.{Member}
 use Rattle.cell_model.specs.Writes.{next_turns, settled}
 use Rattle.ubik_node.specs.Node.{durable_in, held, IsMeantIn}
-use Rattle.ubik_node.specs.State.{announced, member_of, server_of}
+use Rattle.server_state.specs.State.{announced, member_of, server_of}
 use Rattle.ubik_node.proofs.Endings.{behind_ends, kept_with, known_ends, same_ends}
-use Rattle.ubik_node.proofs.Polled.{ready_phase}
+use Rattle.server_state.proofs.Polled.{ready_phase}
 use Rattle.ubik_node.proofs.Turns.{replies, settled_comes, settled_halts, settled_line, went_on}
 use Rattle.ubik_node.proofs.nodes.Node.settle_with_turns.Goals as goal
 

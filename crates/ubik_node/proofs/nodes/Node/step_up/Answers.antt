@@ -1,19 +1,17 @@
-use Rattle.std.proofs.Common.{◌≡◌, ◌≢◌, ◌∙◌, ◌++◌, [], List, ℕ, IfSome, IsSome, length, refl, sym, ap, subst, rules, arith}
+use Rattle.std.proofs.Common.{◌≡◌, ◌∙◌, ◌++◌, [], List, IfSome, length, refl, sym, ap, subst}
 use Rattle.ubik_types.specs.declared.versions.Version.{Version}
-use Rattle.cell_model.specs.declared.events.NodeEvent.{NodeEvent}
 use Rattle.cell_model.specs.declared.events.Output.{Output}
 use Rattle.cell_model.specs.Durable.{durable}
 use Rattle.cell_model.specs.Lapse.{lapsed}
 use Rattle.cell_model.specs.Node as model
-use Rattle.cell_model.specs.NodeRule.{handled, step_of}
+use Rattle.cell_model.specs.NodeRule.{handled}
 use Rattle.cell_model.specs.Step.{Member, Stepped, cell_size, outputs_of}
-use Rattle.ubik_node.specs.declared.nodes.StepEnd.TheVariants.{Halted}
-use Rattle.ubik_node.specs.declared.lapse.Dropped.{Dropped}
-use Rattle.ubik_node.specs.declared.state.State.{State}
-use Rattle.ubik_node.specs.Lapsing.{IsDroppedOf, returned}
-use Rattle.ubik_node.specs.Node.{Needs, durable_in, held, node_of}
-use Rattle.ubik_node.specs.Recovering.{IsOfCell}
-use Rattle.ubik_node.specs.State.{Keeps, member_of, server_of}
+use Rattle.server_state.specs.declared.lapse.Dropped.{Dropped}
+use Rattle.server_state.specs.declared.state.State.{State}
+use Rattle.server_state.specs.Lapsing.{IsDroppedOf, returned}
+use Rattle.ubik_node.specs.Node.{Needs, durable_in, held}
+use Rattle.server_state.specs.Recovering.{IsOfCell}
+use Rattle.server_state.specs.State.{Keeps, member_of, server_of}
 use Rattle.ubik_node.proofs.Closing.{closed_calls, closed_halts, closed_memory, closed_place, closed_step, closed_stored, closed_told, err_map, some_map}
 use Rattle.ubik_node.proofs.Endings.{behind_ends, kept_with}
 use Rattle.ubik_node.proofs.Lapsed.{needs_lapsed}

@@ -7,9 +7,9 @@ use Rattle.cell_model.specs.Recovery.{installed, text_with}
 use Rattle.cell_model.specs.Step.{Member, is_fetch, outputs_of, sends_to}
 use Rattle.ubik_calls.specs.declared.packets.Body.TheVariants as body
 use Rattle.ubik_recovery.specs.Text.{with_piece}
-use Rattle.ubik_node.specs.declared.state.State.{State}
+use Rattle.server_state.specs.declared.state.State.{State}
 use Rattle.ubik_node.specs.Node.{held}
-use Rattle.ubik_node.specs.State.{announced, member_of, server_of}
+use Rattle.server_state.specs.State.{announced, member_of, server_of}
 use Rattle.ubik_node.proofs.Endings.{handed_ends, rests_ends, same_ends, shown_ends}
 use Rattle.ubik_node.proofs.Fetching.{sent_from, busy_is, fetching_is, fits_of, newer_from, none_of, whole_at}
 use Rattle.ubik_node.proofs.Fronts.{fails_so, goes_on, short_back, text_put}

@@ -5,8 +5,8 @@ use Rattle.cell_model.specs.Node.{Server, Waiting}
 use Rattle.cell_model.specs.Step.{Member, is_short}
 use Rattle.cell_model.specs.Writes.{is_free, write_turn}
 use Rattle.ubik_node.specs.Node.{held, IsMeantIn}
-use Rattle.ubik_node.specs.State.{member_of, server_of}
-use Rattle.ubik_node.specs.Writing.{waiting_of}
+use Rattle.server_state.specs.State.{member_of, server_of}
+use Rattle.server_state.specs.Writing.{waiting_of}
 use Rattle.ubik_node.proofs.Endings.{handed_ends, known_ends, ok_not, rests_ends, same_ends, shown_ends}
 use Rattle.ubik_node.proofs.Turns.{handed_fine, handed_not, line_first, line_none, named_as, nobody_left, several, turn_goes, turn_over, turns_rest}
 use Rattle.ubik_node.proofs.nodes.Node.take_turns.Goals as goal

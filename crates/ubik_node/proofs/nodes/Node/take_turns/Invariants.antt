@@ -4,7 +4,7 @@ use Rattle.ubik_store.specs.declared.faults.StoreFault.TheVariants.{DiskFault}
 use Rattle.cell_model.specs.declared.events.Output.{Output}
 use Rattle.cell_model.specs.Writes.{is_free, next_turns}
 use Rattle.ubik_node.specs.Node.{EndsSo, Held, held, IsMeantIn, IsStored, own_member, up_server}
-use Rattle.ubik_node.specs.Writing.{waiting_of}
+use Rattle.server_state.specs.Writing.{waiting_of}
 use Rattle.ubik_node.proofs.nodes.Node.take_turns.Given as goal
 
 abbrev pub invariant-loop-self : goal.invariant-loop-self

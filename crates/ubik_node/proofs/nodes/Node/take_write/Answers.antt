@@ -10,7 +10,7 @@ use Rattle.cell_model.specs.Step.{with_database}
 use Rattle.ubik_store.specs.declared.faults.StoreFault.TheVariants.{DiskFault}
 use Rattle.ubik_store.specs.DurableCall.{Commits, IsDurable, IsNeverLong}
 use Rattle.ubik_node.specs.Node.{held}
-use Rattle.ubik_node.specs.State.{member_of, server_of}
+use Rattle.server_state.specs.State.{member_of, server_of}
 use Rattle.ubik_node.proofs.Begun.{commit_ended}
 use Rattle.ubik_node.proofs.Calling.{call_failed, call_made, ended}
 use Rattle.ubik_node.proofs.Endings.{handed_ends, ok_not, reads_none}

@@ -7,7 +7,7 @@ use Rattle.ubik_types.specs.Version.{version_eq}
 use Rattle.ubik_calls.specs.declared.packets.Body.TheVariants as body
 use Rattle.cell_model.specs.Pieces.{piece_from}
 use Rattle.ubik_node.specs.Node.{held}
-use Rattle.ubik_node.specs.State.{member_of, server_of}
+use Rattle.server_state.specs.State.{member_of, server_of}
 use Rattle.ubik_node.proofs.Calling.{stored_read, unread_ends}
 use Rattle.ubik_node.proofs.Endings.{handed_ends, read_ends, rests_ends, same_ends}
 use Rattle.ubik_node.proofs.Relabelled.{piece_known}

@@ -1,4 +1,4 @@
-use Rattle.std.proofs.Common.{◌≡◌, ◌≢◌, ◌++◌, ◌∙◌, [], ◌∷◌, true, ℕ, List, length, take, refl, sym, ap, length-append, arith}
+use Rattle.std.proofs.Common.{◌≢◌, ◌++◌, ◌∙◌, [], ◌∷◌, true, ℕ, List, length, take, refl, sym, ap, length-append, arith}
 use Rattle.ubik_calls.specs.declared.replies.Reply.TheVariants as reply
 use Rattle.ubik_store.specs.declared.faults.StoreFault.TheVariants.{DiskFault}
 use Rattle.cell_model.specs.declared.events.Output.{Output}

@@ -1,0 +1,5 @@
+pub mod KeptWrites
+pub mod Polled
+pub mod Sending
+pub mod WritePackets
+pub mod Writes

@@ -1,0 +1,9 @@
+pub mod Beacons
+pub mod Held
+pub mod Keeping
+pub mod Lapsing
+pub mod Receiving
+pub mod Recovering
+pub mod Spreading
+pub mod State
+pub mod Writing
