@@ -16,6 +16,3 @@ mod values;
 
 pub use running::run_pts;
 pub use tool_base::ToolEnd;
-
-#[cfg(test)]
-mod tests;

@@ -12,10 +12,3 @@ mod transactions;
 
 pub use faults::StoreFault;
 pub use stores::Store;
-
-#[cfg(test)]
-mod opening_tests;
-#[cfg(test)]
-mod stop_tests;
-#[cfg(test)]
-mod tests;

@@ -29,6 +29,3 @@ pub use shapes::Shape;
 pub use skipping::kind_of;
 pub use words::{call_words, reply_words};
 pub use writing::spell_call;
-
-#[cfg(test)]
-mod tests;

@@ -19,6 +19,3 @@ pub use finds::{find_id, find_name, next_entry};
 pub use heads::{addresses, next_volume};
 pub use layout::PLACES;
 pub use listings::{Listing, next_listed};
-
-#[cfg(test)]
-mod tests;

@@ -18,6 +18,3 @@ mod texts;
 mod volumes;
 
 pub use commands::{PORT, run_vos};
-
-#[cfg(test)]
-mod tests;

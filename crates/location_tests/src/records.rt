@@ -2,15 +2,15 @@
 ghost use Rattle.std.specs.Prelude.{◌<◌, ◌^◌, IfOk, length};
 ghost use Rattle.vldb_records.specs.Location.{IsRecord};
 
-use crate::{
-    VlEntry, VlSite, addresses, find_id, find_name, has_equal_ids, insert, is_name, next_entry,
-    next_volume, remove, repeats, replace, set_addresses, set_next_volume, sites_of,
-};
 use db_image::{Draft, ImageRead, VecImage};
 use std::alloc::Global;
 use std::process::Abort;
 use std::test::Fail;
 use ubik_types::{Bytes, NoMemory, bytes_of};
+use vldb_records::{
+    VlEntry, VlSite, addresses, find_id, find_name, has_equal_ids, insert, is_name, next_entry,
+    next_volume, remove, repeats, replace, set_addresses, set_next_volume, sites_of,
+};
 
 const HEAD: u32 = 3132;
 

@@ -1,8 +1,8 @@
 //! Commands over a link in memory. Memory is ample.
-use crate::run_pts;
 use afs_words::{Tool, read_words};
 use disk_base::MemSink;
 use io_base::{Answer, MemAnswer, MemLink};
+use pts_tool::run_pts;
 use std::alloc::Global;
 use std::process::Abort;
 use std::test::Fail;

@@ -1,12 +1,12 @@
 //! Openings of files that a crash may have left: of each front of a committed log, each stopped in each of its changing calls.
 ghost use Rattle.disk_base.specs.Crash.{IsSettled};
 
-use super::*;
-use crate::tests::{fresh, holds, label, laid, opened, version};
+use crate::commits::{fresh, holds, label, laid, opened, version};
 use disk_base::{Disk, Fill, Refused, StopDisk};
 use std::alloc::Global;
 use std::process::Abort;
 use std::test::Fail;
+use ubik_store::*;
 
 /// "abcd" at position 2, and then a cut to 5, under version 2000.7.
 const LOG: [u8; 48] = [

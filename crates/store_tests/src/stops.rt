@@ -4,12 +4,12 @@ ghost use Rattle.std.specs.Prelude.{◌≡◌, None};
 ghost use Rattle.disk_base.specs.Crash.{IsSettled};
 ghost use Rattle.ubik_store.specs.Store.{IsSound};
 
-use super::*;
-use crate::tests::{BEFORE, Call, Edit, NEXT, fresh, holds, installed, make, opened, version};
+use crate::commits::{BEFORE, Call, Edit, NEXT, fresh, holds, installed, make, opened, version};
 use disk_base::{Disk, Fill, MemDisk, StopDisk};
 use std::alloc::Global;
 use std::process::Abort;
 use std::test::Fail;
+use ubik_store::*;
 
 const FILLS: [Fill; 6] = [
     Fill::Old,

@@ -1,14 +1,14 @@
 //! Calls over an image in memory that was laid out by hand.
-use crate::{
-    all_addresses, change_address, create_entry, delete_entry, entry_by_id, entry_by_name,
-    list_entries, release_lock, replace_entry, set_lock, take_volume_ids,
-};
 use db_image::{CallEnd, Draft, ImageRead, VecImage};
 use std::alloc::Global;
 use std::process::Abort;
 use std::test::Fail;
 use ubik_types::{NoMemory, bytes_of};
 use vl_calls::GivenEntry;
+use vl_service::{
+    all_addresses, change_address, create_entry, delete_entry, entry_by_id, entry_by_name,
+    list_entries, release_lock, replace_entry, set_lock, take_volume_ids,
+};
 use vldb_records::{VlSite, sites_of};
 
 /// The answer of a call that took place, or nothing.

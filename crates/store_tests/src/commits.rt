@@ -5,13 +5,13 @@ ghost use Rattle.disk_base.specs.MemDisk.{now_of, disk_may_leave};
 ghost use Rattle.ubik_types.specs.Version.{IsVersion};
 ghost use Rattle.ubik_store.specs.Store.{IsSound};
 
-use super::*;
 use disk_base::{Disk, DiskEnd, FileDisk, FileNo, MemDisk, Refused, RoomEnd, StopDisk};
 use page_file::LABEL_LEN;
 use std::alloc::Global;
 use std::process::Abort;
 use std::test::Fail;
 use std::{env, fs, process};
+use ubik_store::*;
 use ubik_types::{MAX_CHANGES, MAX_IMAGE, NoMemory, Version};
 
 /// The image before a call of the tests, and its version.

@@ -2,7 +2,6 @@
 mod listings;
 mod sessions;
 
-use super::*;
 use afs_words::{Tool, read_words};
 use disk_base::MemSink;
 use io_base::{Answer, MemAnswer, MemLink};
@@ -12,6 +11,7 @@ use std::process::Abort;
 use std::test::Fail;
 use ubik_types::{Bytes, Host, bytes_of};
 use vl_calls::call_words;
+use vos_tool::*;
 use xdr_base::XdrWriter;
 
 /// 10.0.0.1.

@@ -1,8 +1,8 @@
 //! Spellings worked by hand from RFC 4506, and words, both ways.
-use super::*;
 use std::alloc::Global;
 use std::test::Fail;
 use ubik_types::{Bytes, bytes_of};
+use vl_calls::*;
 
 /// `createentry` of `root.cell` with one site.
 const CREATE: &[u8] =

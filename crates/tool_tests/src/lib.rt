@@ -1,0 +1,7 @@
+//! Tests of the commands `vos` and `pts`, through their public calls.
+#![tactic(auto)]
+
+#[cfg(test)]
+mod pts;
+#[cfg(test)]
+mod vos;
