@@ -7,8 +7,6 @@ mod matching;
 mod reading;
 mod switches;
 mod tables;
-#[cfg(test)]
-mod tests;
 mod values;
 
 pub use faults::WordsFault;

@@ -6,8 +6,6 @@ mod laws;
 mod lines;
 mod readers;
 mod splits;
-#[cfg(test)]
-mod tests;
 mod writers;
 
 pub use laws::{line_has_its_words, text_has_its_lines, text_has_its_whole_lines};

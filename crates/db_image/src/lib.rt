@@ -19,8 +19,3 @@ pub use faults::RecordFault;
 pub use images::{ImageRead, ReadEnd, VecImage};
 pub use services::{CallReply, Layout};
 pub use words::DraftWords;
-
-#[cfg(test)]
-mod draft_tests;
-#[cfg(test)]
-mod tests;

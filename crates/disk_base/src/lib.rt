@@ -23,10 +23,3 @@ pub use memory_disks::MemDisk;
 pub use memory_streams::{MemSink, MemSource};
 pub use sinks::{Sink, Wrote};
 pub use sources::{Got, Source};
-
-#[cfg(test)]
-mod replay_tests;
-#[cfg(test)]
-mod run_tests;
-#[cfg(test)]
-mod tests;

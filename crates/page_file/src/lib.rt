@@ -12,10 +12,3 @@ pub use faults::PageFault;
 pub use label::{LABEL_LEN, MAX_DATABASE_LEN, label_bytes, read_label, version_of_file};
 pub use pages::Pages;
 pub use reads::PAGE_LEN;
-
-#[cfg(test)]
-mod call_tests;
-#[cfg(test)]
-mod label_tests;
-#[cfg(test)]
-mod tests;

@@ -13,6 +13,3 @@ pub use names::is_user_name;
 pub use records::{
     PrEntry, draft_over, find_id, find_name, insert, maxima, next_id, remove, replace, set_maxima,
 };
-
-#[cfg(test)]
-mod record_tests;

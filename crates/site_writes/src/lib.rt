@@ -8,6 +8,3 @@ mod sites;
 pub use laws::law_calls_are_steps;
 pub use own_writes::OwnWrite;
 pub use sites::{Asked, SiteWrites, WaitFault};
-
-#[cfg(test)]
-mod tests;

@@ -13,6 +13,3 @@ pub use hearing::{Heard, after_silence};
 pub use stops::{Refusal, Stop, ToolEnd};
 pub use texts::{at_left, at_right, joined, number_text, signed_text};
 pub use writing::{say, say_end};
-
-#[cfg(test)]
-mod tests;

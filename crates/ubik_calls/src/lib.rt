@@ -21,6 +21,3 @@ pub use packets::{Body, MAX_PIECE, MAX_PIECES, Packet};
 pub use reading::decode;
 pub use replies::{DebugIs, Reply};
 pub use writing::encode;
-
-#[cfg(test)]
-mod tests;

@@ -17,8 +17,3 @@ pub use laws::{
     short_log_is_discarded, zero_word_is_discarded,
 };
 pub use states::LogState;
-
-#[cfg(test)]
-mod disk_tests;
-#[cfg(test)]
-mod tests;

@@ -26,14 +26,3 @@ pub use server_state::Outputs;
 pub use steady_disks::SteadyDisk;
 pub use ubik_calls::{Body, DebugIs, Packet, Reply};
 pub use ubik_store::StoreFault;
-
-#[cfg(test)]
-mod keeping_tests;
-#[cfg(test)]
-mod stop_tests;
-#[cfg(test)]
-mod tests;
-#[cfg(test)]
-mod transfer_tests;
-#[cfg(test)]
-mod write_tests;

@@ -10,6 +10,3 @@ mod texts;
 pub use laws::law_calls_are_steps;
 pub use records::Recovery;
 pub use texts::TextSource;
-
-#[cfg(test)]
-mod tests;

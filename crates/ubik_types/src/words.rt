@@ -17,18 +17,3 @@ pub fn first_word(bytes: &[u8]) -> Option<(u32, &[u8])>
         _ => None,
     }
 }
-
-#[cfg(test)]
-mod tests {
-    use super::*;
-
-    #[test]
-    fn the_high_byte_comes_first(rt: HostRuntime) {
-        assert_eq!(rt;
-            first_word(&[0, 1, 2, 3, 9]),
-            Some((66_051, [9].as_slice()))
-        );
-        assert_eq!(rt; first_word(&[255; 4]), Some((4_294_967_295, [].as_slice())));
-        assert_eq!(rt; first_word(&[0; 3]), None);
-    }
-}

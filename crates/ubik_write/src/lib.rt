@@ -13,6 +13,3 @@ pub use flights::{Flight, FlightFault};
 pub use pendings::{Pending, PendingEnd};
 pub use texts::text_len;
 pub use undo::law_undo_gives_the_old_image;
-
-#[cfg(test)]
-mod tests;

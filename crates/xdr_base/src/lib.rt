@@ -14,6 +14,3 @@ pub use faults::XdrFault;
 pub use laws::{change_text_has_one_reading, no_item_begins_another};
 pub use readers::XdrReader;
 pub use writers::XdrWriter;
-
-#[cfg(test)]
-mod tests;

@@ -1,9 +1,0 @@
-use Rattle.ubik_node.specs.Node.{IsStored}
-use Rattle.ubik_node.proofs.transfer_tests.all_come.Given as goal
-
--- each server's store is its own
-abbrev pub invariant-loop-turn : goal.invariant-loop-turn
-invariant-loop-turn g l = record {
-  first : IsStored g.D.Disk l.pair.first;
-  second : IsStored g.D.Disk l.pair.second;
-}
