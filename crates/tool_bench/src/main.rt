@@ -1,112 +1,101 @@
-//! Runs a command of `vos` or `pts` over a link in memory, for `bench/tool_texts`. Its words are those of the command, behind its name;
-//! the frames that come back are on standard input, one behind the other. Its status is that of the command, whose texts nobody
-//! sees. Without words it does nothing, and reads nothing.
+//! Runs a command of `vos` or `pts` over a link in memory, which the scripts of `bench/` time. The first word names the command, and those
+//! behind it are the command's; the frames that come back are on standard input. Without words two short listings are made.
 #![tactic(auto)]
 
-ghost use Rattle.std.specs.Prelude.{◌≡◌, ◌≤◌, ◌++◌, IfOk, IfSome, length};
-ghost use Rattle.tool_bench.specs.Frames.{replies_of};
+mod frames;
+mod measures;
 
-use afs_words::{Tool, read_words};
-use disk_base::MemSink;
-use io_base::{Answer, MemAnswer, MemLink};
-use pts_tool::run_pts;
+use frames::{ONE_USER, ONE_VOLUME};
+use measures::{Fault, HELP, Measure};
 use std::alloc::Global;
 use std::env::{self, Args};
-use std::io::Read;
+use std::io::{self, Read};
 use std::process::ExitCode;
-use tool_base::ToolEnd;
-use ubik_types::{Host, NoMemory, bytes_of};
-use vos_tool::run_vos;
+use ubik_types::NoMemory;
 
-/// Standard input failed or is no list of frames, or memory ran out.
-const FAILED: u8 = 5;
-
-/// The words are none of those that the program takes.
-const WORDS: u8 = 7;
-
-/// The host of each answer: 10.0.0.1.
-const HOST: Host = Host(0x0a00_0001);
-
-/// The first frame of some bytes, with the length in front of it, and what stands behind it; none where it is not whole.
-fn first_frame(bytes: &[u8]) -> Option<(&[u8], &[u8])>
-    ensures parts { IfSome result (λ parts. parts.0.now ++ parts.1.now ≡ bytes.now) }
-    ensures len { IfSome result (λ parts. 4 ≤ length parts.0.now) }
-{
-    let (head, _) = bytes.split_first_chunk::<4>()?;
-    let len = u32::from_be_bytes(*head) as usize;
-    bytes.split_at_checked(len.checked_add(4)?)
+/// What the words of the program ask.
+#[derive(Drop)]
+enum Asked {
+    /// The short listings.
+    All,
+    /// The text that tells the words.
+    Help,
+    /// A command with its words.
+    One(Measure, Vec<String>),
 }
 
-/// The frames of some bytes, one behind the other, as answers of the host; none where the last is not whole.
-fn answers_in(alloc: Global, bytes: &[u8]) -> Result<Option<Vec<MemAnswer>>, NoMemory>
-    ensures { IfOk result (λ found. IfSome found (λ answers. replies_of answers.items ≡ bytes.now)) }
-{
-    let mut answers = Vec::new(alloc);
-    let mut rest = bytes;
-    while !rest.is_empty() {
-        let Some((frame, behind)) = first_frame(rest) else {
-            return Ok(None);
-        };
-        answers.push(MemAnswer {
-            host: HOST,
-            answer: Answer::Got,
-            reply: bytes_of(alloc, frame)?,
-        })?;
-        rest = behind;
-    }
-    Ok(Some(answers))
-}
-
-/// The command whose name stands first, and the words behind it.
-fn command_in(alloc: Global, mut args: Args) -> Result<Option<(Tool, Vec<String>)>, NoMemory> {
-    let _program = args.next();
-    let Some(name) = args.next() else {
-        return Ok(None);
-    };
-    let tool = match name.as_str() {
-        "vos" => Tool::Vos,
-        "pts" => Tool::Pts,
-        _ => return Ok(None),
-    };
+/// All words that are left.
+fn rest_of(alloc: Global, args: Args) -> Result<Vec<String>, NoMemory> {
     let mut words = Vec::new(alloc);
     for word in args {
         words.push(word)?;
     }
-    Ok(Some((tool, words)))
+    Ok(words)
 }
 
-/// Runs a command over these answers; none where its words have no meaning, or memory ran out.
-fn end_of(alloc: Global, tool: Tool, words: &[String], answers: Vec<MemAnswer>) -> Option<ToolEnd> {
-    let words = read_words(alloc, tool, words).ok()?;
-    let mut link = MemLink::new(answers);
-    let mut out = MemSink::new(alloc, &[]).ok()?;
-    let mut err = MemSink::new(alloc, &[]).ok()?;
-    Some(match tool {
-        Tool::Vos => run_vos(alloc, &words, &[HOST], &mut link, &mut out, &mut err),
-        Tool::Pts => run_pts(alloc, &words, &[HOST], &mut link, &mut out, &mut err),
-    })
+/// What the words ask, which stand behind the name of the program.
+fn asked_by(alloc: Global, mut words: Args) -> Result<Asked, Fault> {
+    let Some(name) = words.nth(1) else {
+        return Ok(Asked::All);
+    };
+    if name.as_str() == "--help" {
+        return Ok(Asked::Help);
+    }
+    let Some(measure) = Measure::read(name.as_str()) else {
+        return Err(Fault::Words);
+    };
+    Ok(Asked::One(measure, rest_of(alloc, words)?))
+}
+
+/// Runs a command, tells its end, and gives its status.
+fn tell(rt: &HostRuntime, measure: Measure, words: &[String], frames: &[u8]) -> Result<u8, Fault> {
+    let ended = measure.run(rt.alloc(), words, frames)?;
+    let (name, status, told) = (measure.name(), ended.status, ended.told);
+    println!(rt; "{name}: status {status}, {told} bytes told").map_err(|_| Fault::Output)?;
+    Ok(status)
+}
+
+/// Runs a command of one word over frames that are known; its status.
+fn short(rt: &HostRuntime, measure: Measure, word: &str, frames: &[u8]) -> Result<u8, Fault> {
+    let word = String::from_str(rt.alloc(), word).map_err(|_| Fault::NoMemory)?;
+    let words = vec![in rt.alloc(); word].map_err(|_| Fault::NoMemory)?;
+    tell(rt, measure, &words, frames)
+}
+
+/// What standard input gives.
+fn given_frames(rt: &HostRuntime) -> Result<Vec<u8>, Fault> {
+    let mut frames = Vec::new(rt.alloc());
+    rt.reader()
+        .read_to_end(&mut frames)
+        .map_err(|_| Fault::Input)?;
+    Ok(frames)
+}
+
+/// Does what the words ask; the status.
+fn answer(rt: &HostRuntime, words: io::Result<Args>) -> Result<u8, Fault> {
+    let Ok(words) = words else {
+        return Err(Fault::Words);
+    };
+    match asked_by(rt.alloc(), words)? {
+        Asked::Help => {
+            rt.print(HELP).map_err(|_| Fault::Output)?;
+            Ok(0)
+        }
+        Asked::One(measure, words) => tell(rt, measure, &words, &given_frames(rt)?),
+        Asked::All => {
+            let volumes = short(rt, Measure::Vos, "listvldb", ONE_VOLUME)?;
+            let users = short(rt, Measure::Pts, "listentries", ONE_USER)?;
+            Ok(volumes.max(users))
+        }
+    }
 }
 
 fn main(rt: HostRuntime) -> ExitCode {
-    let alloc = rt.alloc();
-    let Ok(args) = env::args(&rt) else {
-        return ExitCode::from(WORDS);
-    };
-    if args.len() < 2 {
-        return ExitCode::SUCCESS;
-    }
-    let Ok(Some((tool, words))) = command_in(alloc, args) else {
-        return ExitCode::from(WORDS);
-    };
-    let mut frames = Vec::new(alloc);
-    if rt.reader().read_to_end(&mut frames).is_err() {
-        return ExitCode::from(FAILED);
-    }
-    let Ok(Some(answers)) = answers_in(alloc, &frames) else {
-        return ExitCode::from(FAILED);
-    };
-    match end_of(alloc, tool, &words, answers) {
-        Some(end) => ExitCode::from(end.status),
-        None => ExitCode::from(WORDS),
+    match answer(&rt, env::args(&rt)) {
+        Ok(status) => ExitCode::from(status),
+        Err(fault) => {
+            let _ = eprintln!(rt; "tool_bench: {fault}");
+            ExitCode::from(fault.status())
+        }
     }
 }

@@ -1,0 +1,5 @@
+pub mod Asks
+pub mod Blocks
+pub mod Numbers
+pub mod Puts
+pub mod Steps

@@ -1,0 +1,4 @@
+pub mod Blocks
+pub mod LongAsk
+pub mod Numbers
+pub mod Puts

@@ -1,5 +1,0 @@
-use Rattle.std.proofs.Common.{length}
-use Rattle.node_bench.proofs.transfers.send.Given as goal
-
-abbrev pub decreases-loop-output : goal.decreases-loop-output
-decreases-loop-output l = length l.out
