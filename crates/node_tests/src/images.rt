@@ -1,0 +1,291 @@
+//! Images that go over in pieces: those that a sync site fetches and sends, and those that another server takes. A piece gets lost, one
+//! comes twice, and one comes late.
+ghost use Rattle.std.specs.Prelude.{IfOk};
+ghost use Rattle.ubik_node.specs.Node.{IsStored};
+
+use crate::servers::{
+    LAID, Said, Server, ask, bytes, comes, filled, is_announcement, is_answer, meaning, only,
+    opened, revived, step, version,
+};
+use crate::writes::reads;
+use disk_base::{MemDisk, StopDisk};
+use std::alloc::Global;
+use std::process::Abort;
+use std::test::Fail;
+use ubik_node::{Body, NodeEvent, SteadyDisk, StepEnd};
+use ubik_types::{Host, Phase, Version, bytes_of};
+
+/// How long the images are that go over.
+const LENGTHS: [u32; 5] = [0, 1, 8192, 8193, 40_000];
+
+/// The bytes of a piece.
+const PIECE: u32 = 8192;
+
+/// A cell of two.
+const TWO: [Host; 2] = [Host(1), Host(2)];
+
+/// From the second host to the first one, at 2026.
+const BACK: (u32, Host, Host) = (2026, Host(2), Host(1));
+
+/// What a sync site announces that fetched or laid an image.
+const FIRST: Version = Version {
+    epoch: 2026,
+    counter: 1,
+};
+
+/// The end of the piece that begins at a place.
+fn end_of(len: u32, offset: u32) -> u32 {
+    offset.saturating_add(PIECE).min(len)
+}
+
+/// The piece of an image that begins at a place, of a poll.
+fn fetched_piece(rt: &impl Abort, alloc: Global, image: &[u8], offset: u32) -> Result<Body, Fail> {
+    let total = image.len() as u32;
+    let (from, to) = (offset as usize, end_of(total, offset) as usize);
+    assert!(rt; from <= to && to <= image.len());
+    Ok(Body::Piece {
+        poll: 2026,
+        version: LAID,
+        total,
+        offset,
+        bytes: bytes_of(alloc, &image[from..to])?,
+    })
+}
+
+/// The same piece, as a sync site sends it.
+fn sent_piece(rt: &impl Abort, alloc: Global, image: &[u8], offset: u32) -> Result<Body, Fail> {
+    match fetched_piece(rt, alloc, image, offset)? {
+        Body::Piece {
+            poll,
+            total,
+            offset,
+            bytes,
+            ..
+        } => Ok(Body::SendPiece {
+            poll,
+            version: FIRST,
+            total,
+            offset,
+            bytes,
+        }),
+        _ => panic!(rt; "no piece"),
+    }
+}
+
+/// Whether a sync site sends the piece that begins at a place.
+fn is_piece(body: &Body, image: &[u8], place: u32) -> bool {
+    match body {
+        Body::SendPiece {
+            poll: 2026,
+            version,
+            total,
+            offset,
+            bytes,
+        } => {
+            let rest = image.get(place as usize..).unwrap_or(&[]);
+            let piece = rest.get(..PIECE as usize).unwrap_or(rest);
+            *version == FIRST
+                && *total as usize == image.len()
+                && *offset == place
+                && bytes.as_slice() == piece
+        }
+        _ => false,
+    }
+}
+
+/// A sync site in lease by its own vote, which has polled the second host: that has this version.
+fn polled<D: SteadyDisk + StopDisk + Drop>(
+    rt: &impl Abort,
+    alloc: Global,
+    disk: D,
+    told: Version,
+) -> Result<(Server<D>, Body), Fail>
+    ensures stored { IfOk result (λ polled. IsStored D.Disk polled.0) }
+{
+    let mut node = opened(rt, alloc, (&TWO, 0), revived(disk), 1950)?;
+    let _ = step(
+        rt,
+        alloc,
+        &mut node,
+        2026,
+        NodeEvent::BeaconTurn,
+        StepEnd::Done,
+    )?;
+    let out = step(
+        rt,
+        alloc,
+        &mut node,
+        2026,
+        NodeEvent::RecoverTurn,
+        StepEnd::Done,
+    )?;
+    assert_eq!(rt; meaning(&only(rt, out)), Said::AsksVersion);
+    let told = Body::VersionIs {
+        poll: 2026,
+        version: told,
+    };
+    let out = comes(rt, alloc, &mut node, BACK, told)?;
+    Ok((node, only(rt, out)))
+}
+
+/// The second host keeps the version, which is announced then, and the image is read.
+fn serves<D: SteadyDisk>(
+    rt: &impl Abort,
+    alloc: Global,
+    node: &mut Server<D>,
+    image: &[u8],
+) -> Result<(), Fail>
+    requires stored { IsStored D.Disk node.old }
+    ensures stored { IsStored D.Disk node.new }
+{
+    assert_eq!(rt; node.phase(), Phase::Send);
+    let kept = Body::VersionKept { version: FIRST };
+    let mut out = comes(rt, alloc, node, BACK, kept)?;
+    assert!(rt; is_announcement(&out.take(), FIRST));
+    assert_eq!(rt; node.phase(), Phase::Ready);
+    let mut out = ask(rt, alloc, node, (2026, 1, b""), StepEnd::Done)?;
+    assert!(rt; is_answer(&out.take(), 1, image));
+    Ok(())
+}
+
+/// An image is fetched. Before each piece the question gets lost, and is asked again; behind each, it comes once more, to no effect.
+fn is_fetched<D: SteadyDisk + StopDisk + Drop>(
+    rt: &impl Abort,
+    alloc: Global,
+    disk: D,
+    len: u32,
+) -> Result<(), Fail> {
+    let image = bytes(alloc, len)?;
+    let version = LAID;
+    let (mut node, first) = polled(rt, alloc, disk, version)?;
+    let mut asked = meaning(&first);
+    let mut offset = 0;
+    for _piece in 0..1 + len / PIECE {
+        assert_eq!(rt; asked, Said::AsksPiece { version, offset });
+        let out = step(
+            rt,
+            alloc,
+            &mut node,
+            2026,
+            NodeEvent::RecoverTurn,
+            StepEnd::Done,
+        )?;
+        assert_eq!(rt; meaning(&only(rt, out)), asked);
+        let piece = fetched_piece(rt, alloc, &image, offset)?;
+        let out = comes(rt, alloc, &mut node, BACK, piece)?;
+        asked = meaning(&only(rt, out));
+        let piece = fetched_piece(rt, alloc, &image, offset)?;
+        let mut out = comes(rt, alloc, &mut node, BACK, piece)?;
+        assert!(rt; out.take().is_none());
+        offset = end_of(len, offset);
+        if offset == len {
+            break;
+        }
+    }
+    // The last piece has led to the relabelling.
+    assert_eq!(rt;
+        asked,
+        Said::Sets {
+            old: version,
+            new: FIRST
+        }
+    );
+    serves(rt, alloc, &mut node, &image)
+}
+
+/// An image is sent. Each piece gets lost once: the first one is sent again at a poll, and another one where the answer to the one before
+/// comes again.
+fn is_sent<D: SteadyDisk + StopDisk + Drop>(
+    rt: &impl Abort,
+    alloc: Global,
+    disk: D,
+    len: u32,
+) -> Result<(), Fail> {
+    let image = bytes(alloc, len)?;
+    let disk = filled(rt, alloc, disk, &image)?;
+    let (mut node, first) = polled(rt, alloc, disk, version(0, 0))?;
+    assert!(rt; is_piece(&first, &image, 0));
+    let out = step(
+        rt,
+        alloc,
+        &mut node,
+        2026,
+        NodeEvent::RecoverTurn,
+        StepEnd::Done,
+    )?;
+    assert_eq!(rt; meaning(&only(rt, out)), Said::AsksVersion);
+    let told = Body::VersionIs {
+        poll: 2026,
+        version: version(0, 0),
+    };
+    let out = comes(rt, alloc, &mut node, BACK, told)?;
+    assert!(rt; is_piece(&only(rt, out), &image, 0));
+    let mut next = end_of(len, 0);
+    for _piece in 0..1 + len / PIECE {
+        if next == len {
+            break;
+        }
+        for _time in 0..2 {
+            let kept = Body::PieceKept {
+                poll: 2026,
+                version: FIRST,
+                next,
+            };
+            let out = comes(rt, alloc, &mut node, BACK, kept)?;
+            assert!(rt; is_piece(&only(rt, out), &image, next));
+        }
+        next = end_of(len, next);
+    }
+    serves(rt, alloc, &mut node, &image)
+}
+
+/// An image is taken by another server. Each piece but the last comes twice: the first one begins the text anew, and another one does not go on
+/// where it ends.
+fn is_taken<D: SteadyDisk + StopDisk + Drop>(
+    rt: &impl Abort,
+    alloc: Global,
+    disk: D,
+    len: u32,
+) -> Result<(), Fail> {
+    let image = bytes(alloc, len)?;
+    let way = (2026, Host(1), Host(2));
+    let version = FIRST;
+    let mut node = opened(rt, alloc, (&TWO, 1), revived(disk), 1950)?;
+    let mut offset = 0;
+    for _piece in 0..1 + len / PIECE {
+        let out = comes(
+            rt,
+            alloc,
+            &mut node,
+            way,
+            sent_piece(rt, alloc, &image, offset)?,
+        )?;
+        let answer = meaning(&only(rt, out));
+        let next = end_of(len, offset);
+        if next == len {
+            assert_eq!(rt; answer, Said::Keeps { version });
+            break;
+        }
+        assert_eq!(rt; answer, Said::KeepsPiece { version, next });
+        let mut out = comes(
+            rt,
+            alloc,
+            &mut node,
+            way,
+            sent_piece(rt, alloc, &image, offset)?,
+        )?;
+        assert_eq!(rt; out.take().is_some(), offset == 0);
+        offset = next;
+    }
+    reads(rt, alloc, &mut node, (version, &image))
+}
+
+#[test]
+fn images_are_fetched_and_sent_and_taken_in_pieces(rt: HostRuntime) -> Result<(), Fail> {
+    for len in LENGTHS {
+        is_fetched(&rt, rt.alloc(), MemDisk::new(rt.alloc(), &[])?, len)?;
+        is_sent(&rt, rt.alloc(), MemDisk::new(rt.alloc(), &[])?, len)?;
+        is_taken(&rt, rt.alloc(), MemDisk::new(rt.alloc(), &[])?, len)?;
+    }
+    Ok(())
+}
