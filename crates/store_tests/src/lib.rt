@@ -1,9 +1,9 @@
-//! Tests of `ubik_store`, through its public calls.
+//! Tests of the disks and the store that are no rows of a session: readers and writers that fail, folders, calls over any disk.
 #![tactic(auto)]
 
 #[cfg(test)]
-mod commits;
+mod disks;
 #[cfg(test)]
-mod openings;
+mod folders;
 #[cfg(test)]
-mod stops;
+mod streams;

@@ -1,0 +1,158 @@
+//! Calls of pages over a database file. An opening asks for the length of the file once more.
+ghost use Rattle.page_file.specs.Pages.{AgreesIn};
+ghost use Rattle.ubik_types.specs.Version.{IsVersion};
+
+use crate::answers::Answer;
+use crate::bytes::Names;
+use crate::devices::{Device, PagedDisk};
+use crate::faults::Fault;
+use crate::words::{number_of, version_of};
+use disk_base::{Disk, FileNo, LenEnd, MemDisk};
+use page_file::{LABEL_LEN, PageFault, Pages};
+use std::alloc::Global;
+use ubik_types::Version;
+
+/// Reads length and label of a database file.
+pub fn open_pages(alloc: Global, disk: MemDisk) -> Result<(Device, Answer), Fault> {
+    let mut disk = disk;
+    match Pages::open(&mut disk) {
+        Ok(pages) => hold(alloc, disk, pages),
+        Err(fault) => Ok((Device::Disk(disk), refusal(alloc, &fault)?)),
+    }
+}
+
+/// Reads the length of a database file, and no label.
+pub fn open_over(alloc: Global, disk: MemDisk) -> Result<(Device, Answer), Fault> {
+    let mut disk = disk;
+    match Pages::over(&mut disk) {
+        Ok(pages) => hold(alloc, disk, pages),
+        Err(fault) => Ok((Device::Disk(disk), refusal(alloc, &fault)?)),
+    }
+}
+
+/// Why a database file is not taken.
+fn refusal(alloc: Global, fault: &PageFault) -> Result<Answer, Fault> {
+    match fault {
+        PageFault::DiskFault => Answer::failed(alloc),
+        PageFault::BadLabel { len, head } => Answer::bad_label(alloc, *len, head),
+        PageFault::NoMemory => Err(Fault::NoMemory),
+    }
+}
+
+/// Keeps the pages, where the file has room for a label.
+fn hold(alloc: Global, disk: MemDisk, pages: Pages) -> Result<(Device, Answer), Fault>
+    requires agrees { AgreesIn pages (⟦<MemDisk as Disk>⟧.files disk) }
+{
+    let answer = Answer::state(alloc, pages.version(), pages.len())?;
+    let mut disk = disk;
+    match disk.len(FileNo::Database) {
+        LenEnd::Known(len) if len >= LABEL_LEN as u64 => {
+            Ok((Device::Pages(PagedDisk { disk, pages }), answer))
+        }
+        LenEnd::Known(_) => Ok((Device::Disk(disk), answer)),
+        LenEnd::Failed => Ok((Device::Disk(disk), Answer::failed(alloc)?)),
+    }
+}
+
+/// Makes a call of pages. After one that fails only the disk is left.
+pub fn call_pages(
+    alloc: Global,
+    names: &Names,
+    paged: PagedDisk,
+    words: &[&str],
+) -> Result<(Device, Answer), Fault> {
+    match words {
+        ["put", at, bytes] => put(alloc, paged, number_of(at)?, &names.bytes_of(bytes)?),
+        ["read", at, len] => read(alloc, paged, number_of(at)?, number_of(len)?),
+        ["truncate", len] => truncate(alloc, paged, number_of(len)?),
+        ["label", version] => label(alloc, paged, version_of(version)?),
+        ["sync"] => sync(alloc, paged),
+        _ => Err(Fault::NoCall),
+    }
+}
+
+/// A call that was done answers with the version and the length that the pages have.
+fn done(alloc: Global, paged: PagedDisk) -> Result<(Device, Answer), Fault> {
+    let answer = Answer::state(alloc, paged.pages.version(), paged.pages.len())?;
+    Ok((Device::Pages(paged), answer))
+}
+
+/// So does one that failed.
+fn failed(alloc: Global, disk: MemDisk, pages: &Pages) -> Result<(Device, Answer), Fault> {
+    let Version { epoch, counter } = pages.version();
+    let len = pages.len();
+    let text = format!(in alloc; "failed {epoch}.{counter} {len}")?;
+    Ok((Device::Disk(disk), Answer::Text(text)))
+}
+
+fn put(alloc: Global, paged: PagedDisk, at: u32, bytes: &[u8]) -> Result<(Device, Answer), Fault> {
+    let PagedDisk {
+        mut disk,
+        mut pages,
+    } = paged;
+    let end = u64::from(at) + bytes.len() as u64;
+    if at > pages.len() || end > u64::from(u32::MAX) {
+        return Err(Fault::NoCall);
+    }
+    pages.reserve(&mut disk, end as u32)?;
+    match pages.write_range(&mut disk, at, bytes) {
+        Ok(()) => done(alloc, PagedDisk { disk, pages }),
+        Err(_) => failed(alloc, disk, &pages),
+    }
+}
+
+fn read(alloc: Global, paged: PagedDisk, at: u32, len: u32) -> Result<(Device, Answer), Fault> {
+    let PagedDisk {
+        mut disk,
+        mut pages,
+    } = paged;
+    if u64::from(at) + u64::from(len) > u64::from(pages.len()) {
+        return Err(Fault::NoCall);
+    }
+    let mut bytes = vec![in alloc; 0u8; len as usize]?;
+    match pages.read_range(&mut disk, at, &mut bytes) {
+        Ok(()) => Ok((
+            Device::Pages(PagedDisk { disk, pages }),
+            Answer::Bytes(bytes),
+        )),
+        Err(_) => failed(alloc, disk, &pages),
+    }
+}
+
+fn truncate(alloc: Global, paged: PagedDisk, len: u32) -> Result<(Device, Answer), Fault> {
+    let PagedDisk {
+        mut disk,
+        mut pages,
+    } = paged;
+    if len > pages.len() {
+        return Err(Fault::NoCall);
+    }
+    match pages.cut(&mut disk, len) {
+        Ok(()) => done(alloc, PagedDisk { disk, pages }),
+        Err(_) => failed(alloc, disk, &pages),
+    }
+}
+
+fn label(alloc: Global, paged: PagedDisk, version: Version) -> Result<(Device, Answer), Fault>
+    requires { IsVersion version }
+{
+    let PagedDisk {
+        mut disk,
+        mut pages,
+    } = paged;
+    match pages.set_label(&mut disk, version) {
+        Ok(()) => done(alloc, PagedDisk { disk, pages }),
+        Err(_) => failed(alloc, disk, &pages),
+    }
+}
+
+fn sync(alloc: Global, paged: PagedDisk) -> Result<(Device, Answer), Fault> {
+    let PagedDisk {
+        mut disk,
+        mut pages,
+    } = paged;
+    match pages.sync(&mut disk) {
+        Ok(()) => done(alloc, PagedDisk { disk, pages }),
+        Err(_) => failed(alloc, disk, &pages),
+    }
+}

@@ -1,0 +1,169 @@
+//! The rows of a session: its lines, once for each choice of values for the words that stand in braces.
+use crate::bytes::Names;
+use crate::calls::make;
+use crate::devices::Device;
+use crate::disks::planned;
+use crate::faults::Fault;
+use crate::words::long_of;
+use std::alloc::Global;
+
+/// A line of the input, and its number.
+#[derive(Drop)]
+pub struct Line<'a> {
+    pub number: u32,
+    pub text: &'a str,
+}
+
+/// A word that stands in braces, and the values that it has in turn.
+#[derive(Drop)]
+struct Variable<'a> {
+    name: &'a str,
+    values: Vec<String>,
+}
+
+/// A session: a name, the words in braces, and the lines.
+#[derive(Drop)]
+pub struct Session<'a> {
+    alloc: Global,
+    name: &'a str,
+    variables: Vec<Variable<'a>>,
+    lines: Vec<Line<'a>>,
+}
+
+/// How a call of a row differs from what its line says.
+#[derive(Drop)]
+pub struct Difference {
+    pub line: u32,
+    pub expected: String,
+    pub found: String,
+}
+
+impl<'a> Session<'a> {
+    pub fn new(alloc: Global, name: &'a str) -> Session<'a> {
+        Session {
+            alloc,
+            name,
+            variables: Vec::new(alloc),
+            lines: Vec::new(alloc),
+        }
+    }
+
+    /// Adds a line.
+    pub fn add(&mut self, line: Line<'a>) -> Result<(), Fault> {
+        self.lines.push(line)?;
+        Ok(())
+    }
+
+    /// Adds a word in braces, as `NAME A..B`, both included, or `NAME VALUE VALUE ..`.
+    pub fn vary(&mut self, text: &'a str) -> Result<(), Fault> {
+        let (name, rest) = text.split_once(' ').ok_or(Fault::NoLine)?;
+        let mut values = Vec::new(self.alloc);
+        for word in rest.split(' ') {
+            match word.split_once("..") {
+                None => values.push(String::from_str(self.alloc, word)?)?,
+                Some((from, to)) => {
+                    for number in long_of(from)?..=long_of(to)? {
+                        values.push(format!(in self.alloc; "{number}")?)?;
+                    }
+                }
+            }
+        }
+        self.variables.push(Variable { name, values })?;
+        Ok(())
+    }
+
+    /// How many rows it has.
+    pub fn rows(&self) -> u64 {
+        let mut rows: u64 = 1;
+        for variable in &self.variables {
+            rows = rows.saturating_mul(variable.values.len() as u64);
+        }
+        rows
+    }
+
+    /// A text with the values of a row in place of the words in braces.
+    fn filled(&self, row: u64, text: &str) -> Result<String, Fault> {
+        let mut filled = String::new(self.alloc);
+        let mut is_first = true;
+        for piece in text.split('{') {
+            if is_first {
+                filled.push_str(piece)?;
+                is_first = false;
+            } else {
+                let (name, rest) = piece.split_once('}').ok_or(Fault::NoLine)?;
+                filled.push_str(self.value(row, name)?)?;
+                filled.push_str(rest)?;
+            }
+        }
+        Ok(filled)
+    }
+
+    /// The value that a word in braces has in a row. The last word changes first.
+    fn value(&self, row: u64, name: &str) -> Result<&str, Fault> {
+        let mut rest = row;
+        for variable in self.variables.iter().rev() {
+            let count = variable.values.len() as u64;
+            if count == 0 {
+                return Err(Fault::NoLine);
+            }
+            if variable.name == name {
+                let at = (rest % count) as usize;
+                return Ok(variable.values[at].as_str());
+            }
+            rest /= count;
+        }
+        Err(Fault::NoLine)
+    }
+
+    /// The name of a row: that of the session, and its values.
+    pub fn row_name(&self, row: u64) -> Result<String, Fault> {
+        let mut name = String::from_str(self.alloc, self.name)?;
+        for variable in &self.variables {
+            name.push_str(" ")?;
+            name.push_str(variable.name)?;
+            name.push_str("=")?;
+            name.push_str(self.value(row, variable.name)?)?;
+        }
+        Ok(name)
+    }
+
+    /// Runs a row up to the first line that does not go as it says. After a fault `at` is the number of its line.
+    pub fn run(&self, names: &Names, row: u64, at: &mut u32) -> Result<Option<Difference>, Fault> {
+        let mut device = planned(self.alloc, &[])?;
+        for line in &self.lines {
+            *at = line.number;
+            let text = self.filled(row, line.text)?;
+            let (next, differs) = run_line(self.alloc, names, device, line.number, text.as_str())?;
+            if differs.is_some() {
+                return Ok(differs);
+            }
+            device = next;
+        }
+        Ok(None)
+    }
+}
+
+/// Runs a line, `CALL -> ANSWER`, or a call alone that is to be done.
+fn run_line(
+    alloc: Global,
+    names: &Names,
+    device: Device,
+    number: u32,
+    text: &str,
+) -> Result<(Device, Option<Difference>), Fault> {
+    let (call, expected) = text.split_once(" -> ").unwrap_or((text, "done"));
+    let mut words = Vec::new(alloc);
+    for word in call.split(' ') {
+        words.push(word)?;
+    }
+    let (device, answer) = make(alloc, names, device, &words)?;
+    if answer.is(names, expected) {
+        return Ok((device, None));
+    }
+    let differs = Difference {
+        line: number,
+        expected: String::from_str(alloc, expected)?,
+        found: answer.told(alloc)?,
+    };
+    Ok((device, Some(differs)))
+}

@@ -1,0 +1,178 @@
+//! Calls of a store. An opening opens the files of its disk anew, and may arm a stop before it.
+ghost use Rattle.std.specs.Prelude.{IsSome};
+ghost use Rattle.disk_base.specs.Crash.{IsSettled};
+
+use crate::answers::Answer;
+use crate::bytes::Names;
+use crate::devices::{Device, HeldStore};
+use crate::faults::Fault;
+use crate::words::{fill_of, number_of, version_of};
+use disk_base::{Fill, MemDisk, Refused, StopDisk};
+use std::alloc::Global;
+use ubik_store::{Store, StoreFault};
+use ubik_types::Version;
+
+/// In which changing call a disk is to stop, and what is left.
+#[derive(Clone, Copy)]
+pub struct Stop {
+    pub calls: u32,
+    pub fill: Fill,
+}
+
+/// Opens the files of a disk anew.
+fn revived<D: StopDisk>(disk: D) -> D
+    ensures settled { IsSettled (D.files result) (D.may_leave result) }
+{
+    let mut disk = disk;
+    disk.revive();
+    disk
+}
+
+/// Has a disk stop, where it is to.
+fn armed<D: StopDisk>(disk: D, stop: Option<Stop>) -> D
+    requires settled { IsSettled (D.files disk) (D.may_leave disk) }
+    ensures settled { IsSettled (D.files result) (D.may_leave result) }
+{
+    let Some(Stop { calls, fill }) = stop else {
+        return disk;
+    };
+    let mut disk = disk;
+    disk.arm(calls, fill);
+    disk
+}
+
+/// Opens a store.
+pub fn open_store(
+    alloc: Global,
+    disk: MemDisk,
+    stop: Option<Stop>,
+) -> Result<(Device, Answer), Fault> {
+    let disk = armed(revived(disk), stop);
+    match Store::open(alloc, disk) {
+        Ok(store) => {
+            let answer = Answer::state(alloc, store.version(), store.len())?;
+            Ok((Device::Store(HeldStore { store }), answer))
+        }
+        Err(Refused { disk, why }) => Ok((Device::Disk(disk), refusal(alloc, &why)?)),
+    }
+}
+
+/// Why a call of a store was not done.
+fn refusal(alloc: Global, fault: &StoreFault) -> Result<Answer, Fault> {
+    match fault {
+        StoreFault::DiskFault => Answer::failed(alloc),
+        StoreFault::BadLabel { len, head } => Answer::bad_label(alloc, *len, head),
+        StoreFault::TooLarge { bytes } => {
+            Ok(Answer::Text(format!(in alloc; "too large {bytes}")?))
+        }
+        StoreFault::NotNewer { own, given } => {
+            let (epoch, counter) = (own.epoch, own.counter);
+            let Version {
+                epoch: to,
+                counter: as_given,
+            } = *given;
+            let text = format!(in alloc; "not newer {epoch}.{counter} {to}.{as_given}")?;
+            Ok(Answer::Text(text))
+        }
+        StoreFault::NoMemory => Err(Fault::NoMemory),
+    }
+}
+
+fn ended(alloc: Global, end: Result<(), StoreFault>) -> Result<Answer, Fault> {
+    match end {
+        Ok(()) => Answer::done(alloc),
+        Err(fault) => refusal(alloc, &fault),
+    }
+}
+
+/// Makes a call of a store.
+pub fn call_store(
+    alloc: Global,
+    names: &Names,
+    held: &mut HeldStore,
+    words: &[&str],
+) -> Result<Answer, Fault> {
+    match words {
+        ["version"] => Answer::state(alloc, held.store.version(), held.store.len()),
+        ["image"] => image(alloc, held),
+        ["stop", calls, fill] => {
+            held.store.arm(number_of(calls)?, fill_of(fill)?);
+            Answer::done(alloc)
+        }
+        ["stopped"] => Answer::yes_or_no(alloc, held.store.stopped()),
+        ["begun"] => Answer::yes_or_no(alloc, held.store.begun()),
+        ["abort"] => {
+            held.store.abort();
+            Answer::done(alloc)
+        }
+        _ => call_changing(alloc, names, held, words),
+    }
+}
+
+/// Makes a call that changes a store, where changes were begun or none were.
+fn call_changing(
+    alloc: Global,
+    names: &Names,
+    held: &mut HeldStore,
+    words: &[&str],
+) -> Result<Answer, Fault> {
+    if held.store.begun() {
+        return call_begun(alloc, names, held, words);
+    }
+    call_at_rest(alloc, names, held, words)
+}
+
+/// Makes a call of a store where changes were begun.
+fn call_begun(
+    alloc: Global,
+    names: &Names,
+    held: &mut HeldStore,
+    words: &[&str],
+) -> Result<Answer, Fault>
+    requires { IsSome held.old.store.begun }
+{
+    match words {
+        ["put", at, bytes] => {
+            let (at, bytes) = (number_of(at)?, names.bytes_of(bytes)?);
+            if u64::from(at) + bytes.len() as u64 > u64::from(u32::MAX) {
+                return Err(Fault::NoCall);
+            }
+            ended(alloc, held.store.put(at, &bytes))
+        }
+        ["truncate", len] => ended(alloc, held.store.truncate(number_of(len)?)),
+        ["commit", version] => ended(alloc, held.store.commit(version_of(version)?)),
+        _ => Err(Fault::NoCall),
+    }
+}
+
+/// Makes a call of a store where none were.
+fn call_at_rest(
+    alloc: Global,
+    names: &Names,
+    held: &mut HeldStore,
+    words: &[&str],
+) -> Result<Answer, Fault> {
+    // Nothing was begun, so this drops nothing: it says so to the calls below.
+    held.store.abort();
+    match words {
+        ["begin"] => {
+            held.store.begin();
+            Answer::done(alloc)
+        }
+        ["relabel", version] => ended(alloc, held.store.relabel(version_of(version)?)),
+        ["install", bytes, version] => {
+            let (image, version) = (names.bytes_of(bytes)?, version_of(version)?);
+            ended(alloc, held.store.install(&image, version))
+        }
+        _ => Err(Fault::NoCall),
+    }
+}
+
+/// Reads the image whole.
+fn image(alloc: Global, held: &mut HeldStore) -> Result<Answer, Fault> {
+    let mut bytes = vec![in alloc; 0u8; held.store.len() as usize]?;
+    match held.store.read(0, &mut bytes) {
+        Ok(()) => Ok(Answer::Bytes(bytes)),
+        Err(fault) => refusal(alloc, &fault),
+    }
+}
