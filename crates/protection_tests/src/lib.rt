@@ -1,25 +1,14 @@
-//! Tests of the crates of the protection database, through their public calls.
+//! Tests of the crates of the protection database that no row of `protection_sessions` can show: reads that fail, calls of the lower
+//! crates that no call of the service makes so, and images in memory.
 #![tactic(auto)]
 
 #[cfg(test)]
-mod calls;
+mod faults;
 #[cfg(test)]
-mod changes;
+mod images;
 #[cfg(test)]
-mod layout;
-#[cfg(test)]
-mod looks;
-#[cfg(test)]
-mod moves;
-#[cfg(test)]
-mod pair_changes;
-#[cfg(test)]
-mod pairs;
+mod limits;
 #[cfg(test)]
 mod passes;
 #[cfg(test)]
-mod service;
-#[cfg(test)]
-mod turns;
-#[cfg(test)]
-mod words;
+mod records;

@@ -91,24 +91,24 @@ fn some_entries(rt: &impl Abort, alloc: Global) -> Result<Draft<VecImage>, Fail>
     Ok(draft)
 }
 
-#[test]
-fn the_empty_image_is_read_as_the_first(rt: HostRuntime) -> Result<(), Fail> {
-    let mut draft = empty_draft(rt.alloc())?;
+/// The empty image is read as the first one.
+fn the_empty_image(rt: &impl Abort, alloc: Global) -> Result<(), Fail> {
+    let mut draft = empty_draft(alloc)?;
     assert!(rt; draft.len() == 0);
-    let groups = ids_where(rt.alloc(), &mut draft, &Groups)?;
+    let groups = ids_where(alloc, &mut draft, &Groups)?;
     assert_eq!(rt;
         groups.as_slice(),
         [-205, -204, -203, -102, -101].as_slice()
     );
     assert!(rt; draft.len() == 0);
-    let owned = ids_where(rt.alloc(), &mut draft, &OwnedBy(-204))?;
+    let owned = ids_where(alloc, &mut draft, &OwnedBy(-204))?;
     assert_eq!(rt;
         owned.as_slice(),
         [-205, -204, -203, -102, -101, 32_766].as_slice()
     );
     for owner in [0, -205] {
         assert!(rt; draft.len() == 0);
-        assert!(rt; ids_where(rt.alloc(), &mut draft, &OwnedBy(owner))?.is_empty());
+        assert!(rt; ids_where(alloc, &mut draft, &OwnedBy(owner))?.is_empty());
     }
     for (name, there) in [
         (b"anonymous".as_slice(), true),
@@ -117,26 +117,26 @@ fn the_empty_image_is_read_as_the_first(rt: HostRuntime) -> Result<(), Fail> {
         (b"", false),
     ] {
         assert!(rt; draft.len() == 0);
-        assert_eq!(rt; has_entry(rt.alloc(), &mut draft, &Named(name))?, there);
+        assert_eq!(rt; has_entry(alloc, &mut draft, &Named(name))?, there);
     }
     assert!(rt; draft.len() == 0);
     Ok(())
 }
 
-#[test]
-fn ids_ascend_whatever_the_order_of_the_blocks(rt: HostRuntime) -> Result<(), Fail> {
-    let mut draft = some_entries(&rt, rt.alloc())?;
+/// Ids ascend whatever the order of the blocks.
+fn ids_ascend(rt: &impl Abort, alloc: Global) -> Result<(), Fail> {
+    let mut draft = some_entries(rt, alloc)?;
     for (owner, ids) in [
         (7, [-300, 3].as_slice()),
         (-204, &[-205, -204, -203, -102, -101, 7, 32_766]),
         (3, &[]),
     ] {
         assert!(rt; draft.len() < 10_000);
-        let owned = ids_where(rt.alloc(), &mut draft, &OwnedBy(owner))?;
+        let owned = ids_where(alloc, &mut draft, &OwnedBy(owner))?;
         assert_eq!(rt; owned.as_slice(), ids);
         assert!(rt; draft.len() < 10_000);
         assert_eq!(rt;
-            has_entry(rt.alloc(), &mut draft, &OwnedBy(owner))?,
+            has_entry(alloc, &mut draft, &OwnedBy(owner))?,
             !ids.is_empty()
         );
     }
@@ -147,53 +147,59 @@ fn ids_ascend_whatever_the_order_of_the_blocks(rt: HostRuntime) -> Result<(), Fa
         (b"smith:", &[]),
     ] {
         assert!(rt; draft.len() < 10_000);
-        let named = ids_where(rt.alloc(), &mut draft, &Named(name))?;
+        let named = ids_where(alloc, &mut draft, &Named(name))?;
         assert_eq!(rt; named.as_slice(), ids);
     }
     Ok(())
 }
 
-#[test]
-fn an_entry_that_is_gone_is_not_found(rt: HostRuntime) -> Result<(), Fail> {
-    let mut draft = some_entries(&rt, rt.alloc())?;
-    put_block(&rt, &mut draft, 10, [0; 6], b"")?;
+/// An entry that is gone is not found.
+fn an_entry_is_gone(rt: &impl Abort, alloc: Global) -> Result<(), Fail> {
+    let mut draft = some_entries(rt, alloc)?;
+    put_block(rt, &mut draft, 10, [0; 6], b"")?;
     assert!(rt; draft.len() < 10_000);
-    let owned = ids_where(rt.alloc(), &mut draft, &OwnedBy(7))?;
+    let owned = ids_where(alloc, &mut draft, &OwnedBy(7))?;
     assert_eq!(rt; owned.as_slice(), [-300].as_slice());
     assert!(rt; draft.len() < 10_000);
-    assert!(rt; !has_entry(rt.alloc(), &mut draft, &Named(b"jones"))?);
+    assert!(rt; !has_entry(alloc, &mut draft, &Named(b"jones"))?);
     Ok(())
 }
 
-#[test]
-fn a_damaged_image_is_a_bad_record(rt: HostRuntime) -> Result<(), Fail> {
-    let mut draft = some_entries(&rt, rt.alloc())?;
+/// A block that is damaged is told, where the pass gets there.
+fn a_block_is_damaged(rt: &impl Abort, alloc: Global) -> Result<(), Fail> {
+    let mut draft = some_entries(rt, alloc)?;
     // An id that stands in two blocks is told once.
-    put_block(&rt, &mut draft, 8, [1, 131_072, 3, 7, 7, 20], b"adams")?;
+    put_block(rt, &mut draft, 8, [1, 131_072, 3, 7, 7, 20], b"adams")?;
     assert!(rt; draft.len() < 10_000);
-    let owned = ids_where(rt.alloc(), &mut draft, &OwnedBy(7))?;
+    let owned = ids_where(alloc, &mut draft, &OwnedBy(7))?;
     assert_eq!(rt; owned.as_slice(), [-300, 3].as_slice());
     // A block of no kind, which a pass that ends before it does not see.
-    put_block(&rt, &mut draft, 8, [3, 131_072, 4, 7, 7, 20], b"adams")?;
+    put_block(rt, &mut draft, 8, [3, 131_072, 4, 7, 7, 20], b"adams")?;
     let bad = RecordFault::BadRecord {
         at: HEAD + 8 * BLOCK,
     };
     assert!(rt; draft.len() < 10_000);
-    assert!(rt; ids_where(rt.alloc(), &mut draft, &Groups).is_err_and(|fault| fault == bad));
+    assert!(rt; ids_where(alloc, &mut draft, &Groups).is_err_and(|fault| fault == bad));
     assert!(rt; draft.len() < 10_000);
-    assert!(rt;
-        has_entry(rt.alloc(), &mut draft, &Named(b"jones")).is_err_and(|fault| fault == bad)
-    );
+    assert!(rt; has_entry(alloc, &mut draft, &Named(b"jones")).is_err_and(|fault| fault == bad));
     assert!(rt; draft.len() < 10_000);
-    assert!(rt; has_entry(rt.alloc(), &mut draft, &Named(b"smith"))?);
+    assert!(rt; has_entry(alloc, &mut draft, &Named(b"smith"))?);
     // No whole blocks.
     let bad = RecordFault::BadRecord {
         at: HEAD + 11 * BLOCK + 1,
     };
     draft.put(HEAD + 11 * BLOCK, &[0])?;
     assert!(rt; draft.len() < 10_000);
-    assert!(rt; ids_where(rt.alloc(), &mut draft, &Groups).is_err_and(|fault| fault == bad));
+    assert!(rt; ids_where(alloc, &mut draft, &Groups).is_err_and(|fault| fault == bad));
     assert!(rt; draft.len() < 10_000);
-    assert!(rt; has_entry(rt.alloc(), &mut draft, &Groups).is_err_and(|fault| fault == bad));
+    assert!(rt; has_entry(alloc, &mut draft, &Groups).is_err_and(|fault| fault == bad));
     Ok(())
+}
+
+#[test]
+fn passes_find_entries(rt: HostRuntime) -> Result<(), Fail> {
+    the_empty_image(&rt, rt.alloc())?;
+    ids_ascend(&rt, rt.alloc())?;
+    an_entry_is_gone(&rt, rt.alloc())?;
+    a_block_is_damaged(&rt, rt.alloc())
 }

@@ -1,0 +1,125 @@
+//! Rows that tell how calls and answers are spelled.
+use crate::damage::call_of;
+use crate::faults::Fault;
+use crate::tokens::{first_of, parted, read_bytes, words_of};
+use db_image::DraftService;
+use pt_calls::{call_words, kind_of, read_answer, read_call, spell_answer, spell_call};
+use pt_protection::{PtService, reply_words};
+use std::alloc::Global;
+use std::str;
+
+/// The longest call of which each part is tried, in bytes.
+const MAX_TRIED: usize = 255;
+
+/// What is found where `BYTES` is to be the call that words name: the words, or what differs.
+pub fn found_call(alloc: Global, bytes: &str, words: &str) -> Result<String, Fault> {
+    let bytes = read_bytes(alloc, bytes)?;
+    let found = call_fault(alloc, bytes.as_slice(), words)?.unwrap_or(words);
+    Ok(String::from_str(alloc, found)?)
+}
+
+/// What differs where these bytes are to be the call that words name.
+fn call_fault(alloc: Global, bytes: &[u8], words: &str) -> Result<Option<&'static str>, Fault> {
+    let Some(call) = read_call(alloc, bytes)? else {
+        return Ok(Some("no call"));
+    };
+    if spell_call(alloc, &call)?.as_slice() != bytes {
+        return Ok(Some("a call of other bytes"));
+    }
+    let (name, _) = first_of(words);
+    if call.kind().word() != name.as_bytes() {
+        return Ok(Some("a call of another kind"));
+    }
+    if call_of(alloc, words)?.as_slice() != bytes {
+        return Ok(Some("words of another call"));
+    }
+    if is_call_without_name(alloc, words)? {
+        return Ok(Some("words behind the first that are a call"));
+    }
+    if has_call_inside(alloc, bytes)? {
+        return Ok(Some("a part that is a call"));
+    }
+    Ok(None)
+}
+
+/// Whether the words behind the first one name a call.
+fn is_call_without_name(alloc: Global, words: &str) -> Result<bool, Fault> {
+    let words = words_of(alloc, words)?;
+    let fewer = match words.as_slice() {
+        [_, fewer @ ..] => fewer,
+        [] => &[],
+    };
+    Ok(call_words(alloc, fewer)?.is_some())
+}
+
+/// Whether bytes that are cut off, or have one more behind them, are a call.
+fn has_call_inside(alloc: Global, bytes: &[u8]) -> Result<bool, Fault> {
+    if bytes.len() <= MAX_TRIED {
+        for len in 0..bytes.len() {
+            if read_call(alloc, &bytes[..len])?.is_some() {
+                return Ok(true);
+            }
+        }
+    }
+    let mut longer = bytes.to_vec(alloc)?;
+    longer.push(0)?;
+    Ok(read_call(alloc, longer.as_slice())?.is_some())
+}
+
+/// What bytes are: `none` where they are no call, or its name.
+pub fn found_name(alloc: Global, bytes: &str) -> Result<String, Fault> {
+    let bytes = read_bytes(alloc, bytes)?;
+    let is_call = read_call(alloc, bytes.as_slice())?.is_some();
+    let found = match kind_of(bytes.as_slice()) {
+        Some(kind) if is_call => str::from_utf8(kind.word()).unwrap_or(""),
+        None if !is_call => "none",
+        _ => "a call without a kind",
+    };
+    Ok(String::from_str(alloc, found)?)
+}
+
+/// What words name: `none`, or `call`.
+pub fn found_words(alloc: Global, words: &str) -> Result<String, Fault> {
+    let words = words_of(alloc, words)?;
+    let found = match call_words(alloc, words.as_slice())? {
+        Some(_) => "call",
+        None => "none",
+    };
+    Ok(String::from_str(alloc, found)?)
+}
+
+/// Whether a call writes or reads, which is given in words, or as bytes behind `bytes`.
+pub fn found_access(alloc: Global, call: &str) -> Result<String, Fault> {
+    let writes = match first_of(call) {
+        ("bytes", bytes) => PtService::writes(read_bytes(alloc, bytes)?.as_slice()),
+        _ => PtService::writes(call_of(alloc, call)?.as_slice()),
+    };
+    let found = match writes {
+        Some(true) => "writes",
+        Some(false) => "reads",
+        None => "none",
+    };
+    Ok(String::from_str(alloc, found)?)
+}
+
+/// What is found where bytes are to be the answer to a call, `CALL : BYTES`: the words of the answer, `none` where they are none, or what differs.
+pub fn found_answer(alloc: Global, row: &str) -> Result<String, Fault> {
+    let (call, bytes) = row.split_once(" : ").ok_or(Fault::NoLine)?;
+    let call = call_of(alloc, call)?;
+    let bytes = read_bytes(alloc, bytes)?;
+    let kind = kind_of(call.as_slice()).ok_or(Fault::NoCall)?;
+    let Some(answer) = read_answer(alloc, kind, bytes.as_slice())? else {
+        return Ok(String::from_str(alloc, "none")?);
+    };
+    if spell_answer(alloc, &answer)?.as_slice() != bytes.as_slice() {
+        return Ok(String::from_str(alloc, "an answer of other bytes")?);
+    }
+    let words = reply_words(alloc, call.as_slice(), bytes.as_slice())?.ok_or(Fault::NoBytes)?;
+    let mut found = String::from_str(alloc, "ok")?;
+    let words = str::from_utf8(words.as_slice()).map_err(|_| Fault::NoBytes)?;
+    if !words.is_empty() {
+        found.push_str(" ")?;
+        found.push_str(words)?;
+    }
+    Ok(found)
+}
