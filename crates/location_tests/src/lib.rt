@@ -2,10 +2,8 @@
 #![tactic(auto)]
 
 #[cfg(test)]
-mod calls;
+mod database;
 #[cfg(test)]
 mod records;
 #[cfg(test)]
 mod service;
-#[cfg(test)]
-mod words;

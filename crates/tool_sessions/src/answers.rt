@@ -1,7 +1,8 @@
 //! What stands behind a call: the answer, in words. `ok` comes with the fields of the answer, `rule`, `noquorum`, `notsync`,
 //! `linefull`, `toolarge` and `badrecord` with the numbers of the reply. `othernumber` stands before a reply that has the number of
 //! another call, `garbage` for bytes that are no frame, `debug` for a frame of another kind. `notsent`, `noanswer` and `lacks` are
-//! the ends of an ask without a frame; at the last, memory ran out before anything was sent.
+//! the ends of an ask without a frame; at the last, memory ran out before anything was sent. `bytes` comes with a frame as it is.
+use crate::bytes::bytes_in;
 use crate::faults::Fault;
 use crate::frames::{DEBUG, REPLY, frame_of};
 use io_base::Answer;
@@ -26,6 +27,7 @@ pub fn answer_to(
         "notsent" => Ok((Answer::NotSent, Bytes::new(Vec::new(alloc)))),
         "noanswer" => Ok((Answer::NoAnswer, Bytes::new(Vec::new(alloc)))),
         "lacks" => Ok((Answer::NoMemory, Bytes::new(Vec::new(alloc)))),
+        "bytes" => Ok((Answer::Got, bytes_in(alloc, rest)?)),
         "garbage" => Ok((Answer::Got, bytes_of(alloc, b"garbage")?)),
         "debug" => Ok((Answer::Got, frame_of(alloc, DEBUG, number, &[])?)),
         "othernumber" => {
@@ -62,11 +64,11 @@ fn reply_fields(alloc: Global, call: &str, answer: &str) -> Result<Bytes, Fault>
         "diskfault" => fields.out.put_u32(7)?,
         "nomemory" => fields.out.put_u32(8)?,
         "badrecord" => fields.put_tagged(9, 1)?,
-        _ => return Err(Fault::NoLine),
+        _ => return Err(Fault::Form),
     }
     let Fields { rest, out } = fields;
     if !rest.is_empty() {
-        return Err(Fault::NoLine);
+        return Err(Fault::Form);
     }
     Ok(out.finish())
 }
@@ -81,7 +83,7 @@ struct Fields<'a> {
 impl<'a> Fields<'a> {
     fn word(&mut self) -> Result<&'a str, Fault> {
         if self.rest.is_empty() {
-            return Err(Fault::NoLine);
+            return Err(Fault::Form);
         }
         let (word, rest) = self.rest.split_once(' ').unwrap_or((self.rest, ""));
         self.rest = rest;
@@ -93,7 +95,7 @@ impl<'a> Fields<'a> {
         let word = self.word()?.as_bytes();
         let number = match signed_number(word) {
             Some(number) => number.cast_unsigned(),
-            None => number_within(word, 0, u32::MAX).ok_or(Fault::NoLine)?,
+            None => number_within(word, 0, u32::MAX).ok_or(Fault::Form)?,
         };
         self.out.put_u32(number)?;
         Ok(number)
@@ -109,7 +111,7 @@ impl<'a> Fields<'a> {
     fn put_name(&mut self) -> Result<(), Fault> {
         let name = self.word()?.as_bytes();
         if name.len() > MAX_NAME {
-            return Err(Fault::NoLine);
+            return Err(Fault::Form);
         }
         self.out.put_bytes(name)?;
         Ok(())
@@ -123,7 +125,7 @@ impl<'a> Fields<'a> {
 
     /// Spells that an image would have so many bytes, a number of 64 bits.
     fn put_too_large(&mut self) -> Result<(), Fault> {
-        let bytes = number(self.word()?.as_bytes()).ok_or(Fault::NoLine)?;
+        let bytes = number(self.word()?.as_bytes()).ok_or(Fault::Form)?;
         self.out.put_u32(5)?;
         self.out.put_u32((bytes >> 32) as u32)?;
         self.out.put_u32((bytes & 0xffff_ffff) as u32)?;

@@ -1,5 +1,7 @@
 //! A command of a session, and how it is replayed.
 use crate::answers::answer_to;
+use crate::bytes::bytes_in;
+use crate::differences::{Difference, byte_difference, text_difference};
 use crate::faults::Fault;
 use crate::frames::{ASK, frame_of};
 use afs_words::{Tool, Words, WordsFault, address, read_words};
@@ -37,20 +39,26 @@ pub struct Command {
     answers: Vec<MemAnswer>,
     out: String,
     errors: String,
+    frames: Option<Difference>,
 }
 
 impl Command {
     /// The command of these words, of which the first is its name.
     pub fn of(alloc: Global, line: &str) -> Result<Command, Fault> {
-        let (name, rest) = line.split_once(' ').ok_or(Fault::NoLine)?;
+        let (name, rest) = match line.split_once(' ') {
+            Some((name, rest)) => (name, Some(rest)),
+            None => (line, None),
+        };
         let tool = match name {
             "vos" => Tool::Vos,
             "pts" => Tool::Pts,
-            _ => return Err(Fault::NoLine),
+            _ => return Err(Fault::Form),
         };
         let mut words = Vec::new(alloc);
-        for word in rest.split(' ') {
-            words.push(String::from_str(alloc, meant(word))?)?;
+        if let Some(rest) = rest {
+            for word in rest.split(' ') {
+                words.push(String::from_str(alloc, meant(word))?)?;
+            }
         }
         let mut hosts = Vec::new(alloc);
         hosts.push(FIRST_HOST)?;
@@ -63,6 +71,7 @@ impl Command {
             answers: Vec::new(alloc),
             out: String::new(alloc),
             errors: String::new(alloc),
+            frames: None,
         })
     }
 
@@ -72,9 +81,10 @@ impl Command {
             "@" => self.add_host(line),
             "." => self.add_call(alloc, line),
             "," => self.add_ask(alloc, line),
+            "f" => self.add_frames(alloc, line),
             "1" => add_line(&mut self.out, line),
             "2" => add_line(&mut self.errors, line),
-            _ => Err(Fault::NoLine),
+            _ => Err(Fault::Form),
         }
     }
 
@@ -92,9 +102,9 @@ impl Command {
 
     /// Takes `HOST PORT CALL -> ANSWER` of the last call.
     fn add_ask(&mut self, alloc: Global, line: &str) -> Result<(), Fault> {
-        let (asked, answer) = line.split_once(" -> ").ok_or(Fault::NoLine)?;
-        let (host, rest) = asked.split_once(' ').ok_or(Fault::NoLine)?;
-        let (port, call) = rest.split_once(' ').ok_or(Fault::NoLine)?;
+        let (asked, answer) = line.split_once(" -> ").ok_or(Fault::Form)?;
+        let (host, rest) = asked.split_once(' ').ok_or(Fault::Form)?;
+        let (port, call) = rest.split_once(' ').ok_or(Fault::Form)?;
         let (host, port) = (host_of(host)?, port_of(port)?);
         let frame = ask_frame(alloc, self.tool, self.number, call)?;
         let (answer, reply) = answer_to(alloc, self.number, call, answer)?;
@@ -110,8 +120,24 @@ impl Command {
         Ok(())
     }
 
-    /// Runs the command over a link that gives its answers, and compares.
-    pub fn replay(self, alloc: Global, status: &str) -> Result<(), Fault> {
+    /// Takes the frames of the last call and of its answer, as bytes, and compares them with those that its words name.
+    fn add_frames(&mut self, alloc: Global, line: &str) -> Result<(), Fault> {
+        let (ask, reply) = line.split_once(" -> ").ok_or(Fault::Form)?;
+        let (ask, reply) = (bytes_in(alloc, ask)?, bytes_in(alloc, reply)?);
+        let asked = self.asked.last().ok_or(Fault::Form)?;
+        let answer = self.answers.last().ok_or(Fault::Form)?;
+        let differs = match byte_difference(alloc, ask.as_slice(), asked.frame.as_slice())? {
+            Some(difference) => Some(difference),
+            None => byte_difference(alloc, reply.as_slice(), answer.reply.as_slice())?,
+        };
+        if differs.is_some() {
+            self.frames = differs;
+        }
+        Ok(())
+    }
+
+    /// Runs the command over a link that gives its answers: what differs from what it is to ask and to write.
+    pub fn replay(self, alloc: Global, status: &str) -> Result<Option<Difference>, Fault> {
         let Command {
             tool,
             words,
@@ -120,8 +146,12 @@ impl Command {
             answers,
             out,
             errors,
+            frames,
             ..
         } = self;
+        if frames.is_some() {
+            return Ok(frames);
+        }
         let mut link = MemLink::new(answers);
         let mut told = MemSink::new(alloc, &[])?;
         let mut refused = MemSink::new(alloc, &[])?;
@@ -137,16 +167,19 @@ impl Command {
             ),
             Err(fault) => refuse(alloc, tool, &fault, &mut refused)?,
         };
-        if told.written() != out.as_bytes() {
-            return Err(Fault::Output);
+        let ended = format!(in alloc; "status {ended}\n")?;
+        let status = format!(in alloc; "status {status}\n")?;
+        for (expected, found) in [
+            (out.as_bytes(), told.written()),
+            (errors.as_bytes(), refused.written()),
+            (status.as_bytes(), ended.as_bytes()),
+        ] {
+            let differs = text_difference(alloc, expected, found)?;
+            if differs.is_some() {
+                return Ok(differs);
+            }
         }
-        if refused.written() != errors.as_bytes() {
-            return Err(Fault::Errors);
-        }
-        if number_within(status.as_bytes(), 0, 255) != Some(u32::from(ended)) {
-            return Err(Fault::Status);
-        }
-        compare_calls(link.exchanges(), asked.as_slice())
+        call_difference(alloc, asked.as_slice(), link.exchanges())
     }
 }
 
@@ -165,12 +198,12 @@ fn add_line(text: &mut String, line: &str) -> Result<(), Fault> {
 }
 
 fn host_of(word: &str) -> Result<Host, Fault> {
-    Ok(Host(address(word.as_bytes()).ok_or(Fault::NoLine)?))
+    Ok(Host(address(word.as_bytes()).ok_or(Fault::Form)?))
 }
 
 fn port_of(word: &str) -> Result<u16, Fault> {
-    let port = number_within(word.as_bytes(), 0, 65_535).ok_or(Fault::NoLine)?;
-    u16::try_from(port).map_err(|_| Fault::NoLine)
+    let port = number_within(word.as_bytes(), 0, 65_535).ok_or(Fault::Form)?;
+    u16::try_from(port).map_err(|_| Fault::Form)
 }
 
 /// The frame of a call, which these words name.
@@ -183,7 +216,7 @@ fn ask_frame(alloc: Global, tool: Tool, number: u32, call: &str) -> Result<Bytes
         Tool::Vos => vl_calls::call_words(alloc, words.as_slice())?,
         Tool::Pts => pt_calls::call_words(alloc, words.as_slice())?,
     };
-    let call = named.ok_or(Fault::NoLine)?;
+    let call = named.ok_or(Fault::Form)?;
     frame_of(alloc, ASK, number, call.as_slice())
 }
 
@@ -221,16 +254,27 @@ fn refuse(
     }
 }
 
-/// Whether the calls that were made are those that were to be made.
-fn compare_calls(made: &[Exchange], asked: &[Asked]) -> Result<(), Fault> {
-    if made.len() != asked.len() {
-        return Err(Fault::Calls);
-    }
-    for (made, asked) in made.iter().zip(asked) {
-        let same_place = made.host == asked.host && made.port == asked.port;
-        if !same_place || made.frame.as_slice() != asked.frame.as_slice() {
-            return Err(Fault::Calls);
+/// The first call that is another one than was to be made, or how many were made.
+fn call_difference(
+    alloc: Global,
+    asked: &[Asked],
+    made: &[Exchange],
+) -> Result<Option<Difference>, Fault> {
+    for (asked, made) in asked.iter().zip(made) {
+        if asked.host != made.host || asked.port != made.port {
+            let expected = format!(in alloc; "host {} port {}", asked.host.0, asked.port)?;
+            let found = format!(in alloc; "host {} port {}", made.host.0, made.port)?;
+            return Ok(Some(Difference { expected, found }));
+        }
+        let differs = byte_difference(alloc, asked.frame.as_slice(), made.frame.as_slice())?;
+        if differs.is_some() {
+            return Ok(differs);
         }
     }
-    Ok(())
+    if asked.len() == made.len() {
+        return Ok(None);
+    }
+    let expected = format!(in alloc; "{} calls", asked.len())?;
+    let found = format!(in alloc; "{} calls", made.len())?;
+    Ok(Some(Difference { expected, found }))
 }

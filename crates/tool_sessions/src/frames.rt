@@ -15,7 +15,7 @@ pub const DEBUG: u32 = 3;
 
 /// A frame: its length, its kind, the number of its call, and what is left of it.
 pub fn frame_of(alloc: Global, kind: u32, number: u32, fields: &[u8]) -> Result<Bytes, Fault> {
-    let len = u32::try_from(fields.len()).map_err(|_| Fault::NoLine)?;
+    let len = u32::try_from(fields.len()).map_err(|_| Fault::Form)?;
     let mut head = XdrWriter::new(alloc);
     head.put_u32(len.wrapping_add(8))?;
     head.put_u32(kind)?;

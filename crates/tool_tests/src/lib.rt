@@ -1,7 +1,7 @@
-//! Tests of the commands `vos` and `pts`, through their public calls.
+//! Tests of the commands `vos` and `pts` and of what they have in common, through their public calls.
 #![tactic(auto)]
 
 #[cfg(test)]
-mod pts;
+mod commands;
 #[cfg(test)]
-mod vos;
+mod ends;
