@@ -105,6 +105,9 @@ apart() {
     if command -v setsid >/dev/null; then exec setsid "$@"; else exec "$@"; fi
 }
 
+# How many seconds an unproved run may take, once it is compiled.
+try_seconds=60
+
 # Runs the program of a crate from its sources by rt try, which proves nothing, with standard input from file
 # descriptor 3. What the program wrote is then in ROOM/stdout and ROOM/stderr, and status is its exit status. Fails
 # where there is no answer; ROOM/stderr then has what rt said. child is the process to end at an interrupt.
@@ -113,7 +116,7 @@ try_program() {
     try_folder=$1
     room=$2
     shift 2
-    (cd "$try_folder" && apart rt try -- "$@") <&3 >"$room/stdout" 2>"$room/stderr" &
+    (cd "$try_folder" && apart rt try --seconds "$try_seconds" -- "$@") <&3 >"$room/stdout" 2>"$room/stderr" &
     child=$!
     wait "$child"
     try_status=$?
