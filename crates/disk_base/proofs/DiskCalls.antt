@@ -21,11 +21,11 @@ use Rattle.disk_base.proofs.Idle.{Torn-idle, CutShort-idle, Follows-idle, Leaves
 use Rattle.disk_base.proofs.Left.{torn-left, cut-left}
 
 -- what may be left of a file after a call that takes each of these states to this one
-Steps : (List ℕ → List ℕ → Type 0) → FileState → FileState → Type 0
+unfoldable pub Steps : (List ℕ → List ℕ → Type 0) → FileState → FileState → Type 0
 Steps step old new = (c : List ℕ) → MayBe new.synced new.touches c → (d : List ℕ) × MayBe old.synced old.touches d × step d c
 
 -- a call that changes one file
-follows : (step : List ℕ → List ℕ → Type 0) (pending : Pending) (f : FileNo) (state : FileState) → Steps step (file_state pending f) state
+pub follows : (step : List ℕ → List ℕ → Type 0) (pending : Pending) (f : FileNo) (state : FileState) → Steps step (file_state pending f) state
     → Follows (InFile f step) (MayLeave pending) (MayLeave (with_state pending f state))
 unfolding Steps
 follows step pending Database state steps = λ c left.
@@ -98,7 +98,7 @@ Follows-cut old begun new f len result same ok err =
     called (CutShort len) (CutShort-idle len) (Cut len) f old begun new result (cut-follows old f len) same ok err
 
 -- another state of one file, of which something may be left, as before
-others : (pending : Pending) (f : FileNo) (state : FileState) → LeavesOthers f (MayLeave pending) (MayLeave (with_state pending f state))
+pub others : (pending : Pending) (f : FileNo) (state : FileState) → LeavesOthers f (MayLeave pending) (MayLeave (with_state pending f state))
 unfolding LeavesOthers
 others pending Database state =
     let old = MayBe-synced pending.database.synced pending.database.touches in
@@ -147,7 +147,7 @@ only-rest bytes c left =
     let high = left.no_longer in
     ext_get_or 0 c bytes (omega arith) (λ k h. left.untouched k h refl)
 
-only_in_rest : (pending : Pending) (f : FileNo) (bytes : List ℕ) → OnlyIn f bytes (MayLeave (with_state pending f (at_rest bytes)))
+pub only_in_rest : (pending : Pending) (f : FileNo) (bytes : List ℕ) → OnlyIn f bytes (MayLeave (with_state pending f (at_rest bytes)))
 only_in_rest pending Database bytes = λ c left. only-rest bytes c.database left.database
 only_in_rest pending Log bytes = λ c left. only-rest bytes c.log left.log
 only_in_rest pending Incoming bytes = λ c left. only-rest bytes c.incoming left.incoming
@@ -162,7 +162,7 @@ OnlyIn-synced old files new f same is =
     (only_in_rest (pending_in old) f (file_of (now_in old) f))
 
 -- files whose three contents are the same
-same_files : (c fs : Files) → c.database ≡ fs.database → c.log ≡ fs.log → c.incoming ≡ fs.incoming → c ≡ fs
+pub same_files : (c fs : Files) → c.database ≡ fs.database → c.log ≡ fs.log → c.incoming ≡ fs.incoming → c ≡ fs
 same_files c fs database log incoming =
     ap (λ (bytes : List ℕ). with_file c Database bytes) database
     ∙ ap (λ (bytes : List ℕ). with_file (with_file c Database fs.database) Log bytes) log

@@ -1,9 +1,13 @@
+pub mod Beneath
 pub mod DiskCalls
 pub mod Fills
+pub mod Heads
 pub mod Idle
 pub mod Left
+pub mod Mirroring
 pub mod Runs
 pub mod Stopping
 pub mod Times
+pub mod Told
 pub mod Touched
 pub mod Undoing

@@ -7,7 +7,7 @@ use Rattle.disk_base.specs.declared.disks.FileNo.TheVariants.{Database, Log, Inc
 use Rattle.disk_base.specs.Files.{Files, file_of, with_file, laid}
 use Rattle.disk_base.specs.Count.{HasCause}
 use Rattle.disk_base.specs.Crash.{Torn, InFile, Elapses, LeavesOnly, LeavesSame, LeavesOthers, After}
-use Rattle.disk_base.specs.Stops.{DiskStop, IsStopped}
+use Rattle.disk_base.specs.Stops.{DiskStop, IsStopped, CountsOwn}
 use Rattle.disk_base.specs.Runs.{OnlyReads, OnlyReserves, OneChange, Writes, Cuts, Syncs, ChangesAtMost, AnyIn, SameOthers}
 use Rattle.disk_base.proofs.Idle.{same_file, Torn-idle}
 use Rattle.disk_base.proofs.Stopping.{advances_none, advances_one, advances_joined}
@@ -105,7 +105,40 @@ cause_joined a b c F G first second = record {
   rose = λ failed. let rose = second.rose failed in omega (arith, first.never_falls, rose);
 }
 
+pub own_joined : (a b c : ℕ) (mid new : DiskStop) (F G : Type 0) → CountsOwn a b mid F → ¬ F → CountsOwn b c new G → CountsOwn a c new G
+own_joined a b c mid new F G first went second =
+    let same = first.kept went in record {
+      raised = λ failed runs. let rose = second.raised failed runs in omega (arith, same, rose);
+      brought = λ failed is. second.brought failed is ∙ same;
+      kept = λ not. second.kept not ∙ same;
+    }
+
+pub own_as : (a b : ℕ) (stop : DiskStop) (F G : Type 0) → (F → G) → (G → F) → CountsOwn a b stop F → CountsOwn a b stop G
+own_as a b stop F G to from own = record {
+  raised = λ failed runs. own.raised (from failed) runs;
+  brought = λ failed is. own.brought (from failed) is;
+  kept = λ not. own.kept (λ failed. not (to failed));
+}
+
+pub own_none : (a b : ℕ) (stop : DiskStop) (F : Type 0) → ¬ F → b ≡ a → CountsOwn a b stop F
+own_none a b stop F went same = record { raised = λ failed _. absurd (went failed); brought = λ failed _. absurd (went failed); kept = λ _. same }
+
 module _ {D : Type 0} {g : Ghosts D} where
+  -- no call at all
+  pub reads_nothing : (disk : D) → OnlyReads g disk disk ⊥
+  reads_nothing disk = record {
+    files = λ _. refl;
+    kept = λ _. refl;
+    room = λ f. omega arith;
+    steps = refl;
+    crash = record { no_more = λ c left. left; no_less = λ c left. left; since_no_more = λ t c left. left; since_no_less = λ t c left. left };
+    stop = refl;
+    pending = refl;
+    tells = refl;
+    cause = record { never_falls = omega arith; rose = λ none. absurd none };
+    own = own_none (g.own_faults disk) (g.own_faults disk) (g.stop disk) ⊥ (λ none. none) refl;
+  }
+
   -- a call of two, of which the first did not fail
   pub reads_joined : {old mid new : D} {F G : Type 0} → OnlyReads g old mid F → ¬ F → OnlyReads g mid new G → OnlyReads g old new G
   reads_joined {old} {mid} {new} {F} {G} first went second = record {
@@ -123,11 +156,12 @@ module _ {D : Type 0} {g : Ghosts D} where
     pending = second.pending ∙ first.pending;
     tells = second.tells ∙ first.tells;
     cause = cause_joined (g.faults old) (g.faults mid) (g.faults new) F G first.cause second.cause;
+    own = own_joined (g.own_faults old) (g.own_faults mid) (g.own_faults new) (g.stop mid) (g.stop new) F G first.own went second.own;
   }
 
   -- a failure that is said in other words
   pub reads_as : {old new : D} {F G : Type 0} → (F → G) → (G → F) → OnlyReads g old new F → OnlyReads g old new G
-  reads_as to from reads = record {
+  reads_as {old} {new} {F} {G} to from reads = record {
     files = λ not. reads.files (λ failed. not (to failed));
     kept = reads.kept;
     room = reads.room;
@@ -137,6 +171,7 @@ module _ {D : Type 0} {g : Ghosts D} where
     pending = reads.pending;
     tells = reads.tells;
     cause = record { never_falls = reads.cause.never_falls; rose = λ failed. reads.cause.rose (from failed) };
+    own = own_as (g.own_faults old) (g.own_faults new) (g.stop new) F G to from reads.own;
   }
 
   -- a call that made room, and cannot have failed
@@ -151,6 +186,7 @@ module _ {D : Type 0} {g : Ghosts D} where
     pending = made.pending;
     tells = made.tells;
     cause = record { never_falls = omega (arith, made.faults); rose = λ failed. absurd failed };
+    own = own_none _ _ _ ⊥ (λ none. none) made.own;
   }
 
   -- no changing call
@@ -166,6 +202,7 @@ module _ {D : Type 0} {g : Ghosts D} where
         (λ c left. (c, left, same_file c f));
     tells = reads.tells;
     cause = reads.cause;
+    own = reads.own;
   }
 
   -- one of them
@@ -182,6 +219,7 @@ module _ {D : Type 0} {g : Ghosts D} where
         (λ c left. (c, left, same_file c f)) change.others.no_more;
     tells = change.tells;
     cause = change.cause;
+    own = change.own;
   }
 
   pub write_changes : {f : FileNo} {at : ℕ} {bytes : List ℕ} {old new : D} {F : Type 0} → Writes g f at bytes old new F → ChangesAtMost g f 1 old new F
@@ -211,11 +249,12 @@ module _ {D : Type 0} {g : Ghosts D} where
         (λ c left. let a = first.others.no_more left.0 left.1 in (a.0, a.1, any_joined f a.0 left.0 c a.2 left.2)) second.moments);
     tells = second.tells ∙ first.tells;
     cause = cause_joined (g.faults old) (g.faults mid) (g.faults new) F G first.cause second.cause;
+    own = own_joined (g.own_faults old) (g.own_faults mid) (g.own_faults new) (g.stop mid) (g.stop new) F G first.own went second.own;
   }
 
   -- fewer of them, and a failure that is said in other words
   pub changes_as : {f : FileNo} {m n : ℕ} {old new : D} {F G : Type 0} → m ≤ n → (F → G) → (G → F) → ChangesAtMost g f m old new F → ChangesAtMost g f n old new G
-  changes_as fewer to from run = record {
+  changes_as {f} {m} {n} {old} {new} {F} {G} fewer to from run = record {
     at_most = (run.at_most.0, omega (arith, fewer, run.at_most.1));
     advances = run.advances;
     stopped = λ is. ⊎_elim (λ was. inl was) (λ failed. inr (to failed)) (run.stopped is);
@@ -225,4 +264,5 @@ module _ {D : Type 0} {g : Ghosts D} where
     moments = run.moments;
     tells = run.tells;
     cause = record { never_falls = run.cause.never_falls; rose = λ failed. run.cause.rose (from failed) };
+    own = own_as (g.own_faults old) (g.own_faults new) (g.stop new) F G to from run.own;
   }

@@ -17,7 +17,7 @@ step_on [] n t c left = left
 step_on (moment ∷ earlier) n t c (inl left) = inl (omega (arith, left.0), left.1)
 step_on (moment ∷ earlier) n t c (inr left) = inr (step_on earlier n (t + 1) c left)
 
-elapses : (moments : List Pending) (n : ℕ) (now : Pending)
+pub elapses : (moments : List Pending) (n : ℕ) (now : Pending)
     → Elapses n (LeftSince moments n) (LeftSince (now ∷ moments) (n + 1)) (MayLeave now)
 elapses moments n now = record {
   nothing_else = λ t c within left. elim left [ inl here ↦ inr here.1 | inr before ↦ inl (step_back moments n t c before) ];

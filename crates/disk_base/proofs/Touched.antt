@@ -58,7 +58,7 @@ pub length-laid : (file bytes : List ℕ) (at : ℕ) → at ≤ length file → 
 length-laid file bytes at begins = grind (arith, common_steps)
 
 -- a position that a write does not cover lies before it or past it
-uncovered : (at len k : ℕ) → covers (Wrote at len) k ≡ false → (k < at) ⊎ (at + len ≤ k)
+pub uncovered : (at len k : ℕ) → covers (Wrote at len) k ≡ false → (k < at) ⊎ (at + len ≤ k)
 uncovered at len k out = elim (cases_lt k at) [ inl before ↦ inl before | inr from ↦ inr (grind (arith, nat_tests)) ]
 
 pub laid-before : (file bytes : List ℕ) (at k : ℕ) → at ≤ length file → k < at → get_or (laid file at bytes) k 0 ≡ get_or file k 0

@@ -16,6 +16,10 @@ pub record Files : Type 0 where
 abbrev pub no_files : Files
 no_files = record { database = []; log = []; incoming = [] }
 
+-- files of these contents
+abbrev pub three_files : (database log incoming : List ℕ) → Files
+three_files database log incoming = record { database = database; log = log; incoming = incoming }
+
 abbrev pub file_of : Files → FileNo → List ℕ
 file_of fs Database = fs.database
 file_of fs Log = fs.log

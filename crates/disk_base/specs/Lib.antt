@@ -10,11 +10,15 @@ pub mod MemFile
 pub mod MemLaws
 pub mod MemSink
 pub mod MemSource
+pub mod Mirror
+pub mod MirrorLaws
+pub mod Mirrored
 pub mod Pending
 pub mod Plan
 pub mod Runs
 pub mod Sink
 pub mod Source
 pub mod Stops
+pub mod Taking
 pub mod Touches
 pub mod Undos

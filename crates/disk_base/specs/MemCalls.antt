@@ -46,3 +46,4 @@ passage_of calls = passage (stop_of calls) (fails_next calls.plan)
 pub record KeepsTallies (before after : MemCalls) : Type 0 where
   pub steps : after.steps ≡ before.steps
   pub faults : after.faults ≡ before.faults
+  pub own_faults : after.own_faults ≡ before.own_faults

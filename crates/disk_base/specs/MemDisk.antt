@@ -58,6 +58,10 @@ disk_steps disk = disk.calls.steps
 abbrev pub disk_faults : MemDisk → ℕ
 disk_faults disk = disk.calls.faults
 
+-- how often a call has failed that no stop brought
+abbrev pub disk_own_faults : MemDisk → ℕ
+disk_own_faults disk = disk.calls.own_faults
+
 -- it tells its files
 abbrev pub disk_tells : MemDisk → Bool
 disk_tells disk = true

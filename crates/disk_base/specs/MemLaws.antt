@@ -16,7 +16,7 @@ pub counts_now : (disk : MemDisk) (t : ℕ) (c : Files) → t ≤ disk_steps dis
 counts_now disk t c since now = inl (since, now)
 
 -- there was none since a count that is not reached yet
-none_later : (moments : List Pending) (steps since : ℕ) (c : Files) → steps < since → ¬ LeftSince moments steps since c
+pub none_later : (moments : List Pending) (steps since : ℕ) (c : Files) → steps < since → ¬ LeftSince moments steps since c
 none_later [] steps since c later left = left
 none_later (moment ∷ earlier) steps since c later (inl left) = not-le_of_lt later left.0
 none_later (moment ∷ earlier) steps since c later (inr left) =

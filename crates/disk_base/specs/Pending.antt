@@ -37,6 +37,10 @@ touched state touch = record state { touches = state.touches ++ touch ∷ [] }
 abbrev pub at_rest : List ℕ → FileState
 at_rest bytes = record { synced = bytes; touches = [] }
 
+-- what is pending after one more changing call of a file
+abbrev pub after_touch : FileNo → Touch → Pending → Pending
+after_touch f touch p = with_state p f (touched (file_state p f) touch)
+
 -- what is pending after a write of so many bytes of a file, from a position on
 abbrev pub after_write : FileNo → (at len : ℕ) → Pending → Pending
 after_write f at len p = with_state p f (touched (file_state p f) (Wrote at len))

@@ -8,7 +8,7 @@ use Rattle.disk_base.specs.Files.{Files, file_of, with_file, laid, KeepsRoom}
 use Rattle.disk_base.specs.Count.{HasCause}
 use Rattle.disk_base.specs.Crash.{Torn, CutShort, InFile, Follows, Narrows, OnlyIn, Elapses, LeavesSame, LeavesOthers, LeavesOnly, After, RisesAtMost}
 use Rattle.disk_base.specs.Pending.{after_write, after_cut, after_sync}
-use Rattle.disk_base.specs.Stops.{IsStopped, after_change, Advances, StopsNext, Keeps, IsWritten}
+use Rattle.disk_base.specs.Stops.{IsStopped, CountsOwn, after_change, Advances, Keeps, IsWritten, IsCut}
 
 -- the call only read the disk: of one that tells what is pending also reads give what they gave, failed or not
 pub record OnlyReads {D : Type 0} (g : Ghosts D) (old new : D) (failed : Type 0) : Type 0 where
@@ -21,6 +21,7 @@ pub record OnlyReads {D : Type 0} (g : Ghosts D) (old new : D) (failed : Type 0)
   pub pending : g.pending new ≡ g.pending old
   pub tells : g.tells new ≡ g.tells old
   pub cause : HasCause (g.faults old) (g.faults new) failed
+  pub own : CountsOwn (g.own_faults old) (g.own_faults new) (g.stop new) failed
 
 -- the call changed nothing, but may have made room
 pub record OnlyReserves {D : Type 0} (g : Ghosts D) (old new : D) : Type 0 where
@@ -32,6 +33,7 @@ pub record OnlyReserves {D : Type 0} (g : Ghosts D) (old new : D) : Type 0 where
   pub pending : g.pending new ≡ g.pending old
   pub tells : g.tells new ≡ g.tells old
   pub faults : g.faults new ≡ g.faults old
+  pub own : g.own_faults new ≡ g.own_faults old
 
 -- what each changing call does, of whatever kind: it is one step, of this file
 pub record OneChange {D : Type 0} (g : Ghosts D) (f : FileNo) (old new : D) (failed : Type 0) : Type 0 where
@@ -43,6 +45,7 @@ pub record OneChange {D : Type 0} (g : Ghosts D) (f : FileNo) (old new : D) (fai
   pub stopped : IsStopped (g.stop new) → failed
   pub tells : g.tells new ≡ g.tells old
   pub cause : HasCause (g.faults old) (g.faults new) failed
+  pub own : CountsOwn (g.own_faults old) (g.own_faults new) (g.stop new) failed
 
 -- the call made one write, of these bytes
 pub record Writes {D : Type 0} (g : Ghosts D) (f : FileNo) (at : ℕ) (bytes : List ℕ) (old new : D) (failed : Type 0) : Type 0 where
@@ -51,7 +54,7 @@ pub record Writes {D : Type 0} (g : Ghosts D) (f : FileNo) (at : ℕ) (bytes : L
   pub pending : ¬ failed → g.pending new ≡ option_map (after_write f at (length bytes)) (g.pending old)
   pub crash : Follows (InFile f (Torn at (length bytes))) (g.may_leave old) (g.may_leave new)
   pub kept : IsSome (g.pending old) → failed → Keeps (g.files old) (g.files new) (g.pending old) (g.pending new)
-      ⊎ (StopsNext (g.stop old) × IsWritten f at bytes (g.files old) (g.files new) (g.pending old) (g.pending new))
+      ⊎ IsWritten f at bytes (g.files old) (g.files new) (g.pending old) (g.pending new)
 
 -- the call made one cut, to this length
 pub record Cuts {D : Type 0} (g : Ghosts D) (f : FileNo) (len : ℕ) (old new : D) (failed : Type 0) : Type 0 where
@@ -60,6 +63,7 @@ pub record Cuts {D : Type 0} (g : Ghosts D) (f : FileNo) (len : ℕ) (old new : 
   pub pending : ¬ failed → g.pending new ≡ option_map (after_cut f len) (g.pending old)
   pub crash : Follows (InFile f (CutShort len)) (g.may_leave old) (g.may_leave new)
   pub kept : IsSome (g.pending old) → failed → Keeps (g.files old) (g.files new) (g.pending old) (g.pending new)
+      ⊎ IsCut f len (g.files old) (g.files new) (g.pending old) (g.pending new)
 
 -- the call made one sync
 pub record Syncs {D : Type 0} (g : Ghosts D) (f : FileNo) (old new : D) (failed : Type 0) : Type 0 where
@@ -90,3 +94,4 @@ pub record ChangesAtMost {D : Type 0} (g : Ghosts D) (f : FileNo) (most : ℕ) (
   pub moments : LeavesOnly g.steps g.left_since old new (After (AnyIn f) (g.may_leave old))
   pub tells : g.tells new ≡ g.tells old
   pub cause : HasCause (g.faults old) (g.faults new) failed
+  pub own : CountsOwn (g.own_faults old) (g.own_faults new) (g.stop new) failed

@@ -9,8 +9,12 @@ pub record Moves (n : ℕ) (before after : Option (List ℕ)) (buf : List ℕ) :
   pub within : n ≤ length buf
   pub told : IfSome before (λ left. (n ≤ length left) × (take n buf ≡ take n left) × (after ≡ Some (drop n left)))
 
+-- what was told stays
+abbrev pub Stays : Option (List ℕ) → Option (List ℕ) → Type 0
+Stays before after = IfSome before (λ told. after ≡ Some told)
+
 -- what is left before and after a read that ended so, with this buffer after it
 abbrev pub Reads : Got → Option (List ℕ) → Option (List ℕ) → List ℕ → Type 0
 Reads (Bytes n) before after buf = Moves n before after buf
 Reads End before after buf = IfSome before (λ left. (left ≡ []) × (after ≡ Some []))
-Reads Failed before after buf = after ≡ before
+Reads Failed before after buf = Stays before after

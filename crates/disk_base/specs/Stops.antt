@@ -1,11 +1,11 @@
 -- When a disk stops, and what a stop leaves.
-use Rattle.std.specs.Prelude.{◌≡◌, ℕ, zero, suc, ◌+◌, ◌-◌, ◌==◌, if◌then◌else◌, List, length, Option}
+use Rattle.std.specs.Prelude.{◌≡◌, ℕ, zero, suc, ◌+◌, ◌-◌, ◌==◌, if◌then◌else◌, List, length, take, Option}
 use Rattle.std.specs.Option.{option_map}
 use Rattle.disk_base.specs.declared.disks.FileNo.{FileNo}
 use Rattle.disk_base.specs.declared.disks.Fill.{Fill}
 use Rattle.disk_base.specs.declared.disks.Fill.TheVariants.{Old, New, Byte}
 use Rattle.disk_base.specs.Files.{Files, file_of, with_file, laid}
-use Rattle.disk_base.specs.Pending.{FileState, Pending, after_write}
+use Rattle.disk_base.specs.Pending.{FileState, Pending, after_write, after_cut}
 use Rattle.disk_base.specs.Touches.{IsFilled}
 
 -- whether a disk is to stop, after how many changing calls, and what it then leaves
@@ -66,6 +66,12 @@ pub record IsLeftBy (fill : Fill) (p : Pending) (now after : Files) : Type 0 whe
   pub log : IsLeft fill p.log now.log after.log
   pub incoming : IsLeft fill p.incoming now.incoming after.incoming
 
+-- a count of the failures that no stop brought: it rose by one exactly where the call failed and the disk is not stopped after it
+pub record CountsOwn (before after : ℕ) (stop : DiskStop) (failed : Type 0) : Type 0 where
+  pub raised : failed → ¬ IsStopped stop → after ≡ before + 1
+  pub brought : failed → IsStopped stop → after ≡ before
+  pub kept : ¬ failed → after ≡ before
+
 -- what reads give stays, and what is pending
 pub record Keeps (fs fs' : Option Files) (before after : Option Pending) : Type 0 where
   pub files : fs' ≡ fs
@@ -75,3 +81,8 @@ pub record Keeps (fs fs' : Option Files) (before after : Option Pending) : Type 
 pub record IsWritten (f : FileNo) (at : ℕ) (bytes : List ℕ) (fs fs' : Option Files) (before after : Option Pending) : Type 0 where
   pub files : fs' ≡ option_map (λ files. with_file files f (laid (file_of files f) at bytes)) fs
   pub pending : after ≡ option_map (after_write f at (length bytes)) before
+
+-- a cut counts as done, and is pending
+pub record IsCut (f : FileNo) (len : ℕ) (fs fs' : Option Files) (before after : Option Pending) : Type 0 where
+  pub files : fs' ≡ option_map (λ files. with_file files f (take len (file_of files f))) fs
+  pub pending : after ≡ option_map (after_cut f len) before

@@ -1,6 +1,6 @@
-//! A source and a sink over readers and writers of std. They tell no content, and count each error.
-ghost use Rattle.std.specs.Prelude.{◌≡◌, ◌<◌, None, length};
-ghost use Rattle.disk_base.specs.Adapters.{reader_faults, reader_of, TakesKnown, writer_faults, writer_of, GivesKnown};
+//! A source and a sink over readers and writers of std. They tell what std tells of these, and count each error.
+ghost use Rattle.std.specs.Prelude.{◌≡◌, ◌<◌, length};
+ghost use Rattle.disk_base.specs.Adapters.{reader_faults, reader_of, writer_faults, writer_of};
 ghost use Rattle.disk_base.specs.Count.{HasCause};
 ghost use Rattle.disk_base.specs.Sink.{Appends};
 ghost use Rattle.disk_base.specs.Source.{Reads};
@@ -30,16 +30,14 @@ impl<R: Read + Drop> ReaderSource<R> {
 }
 
 impl<R: Read + Drop> Source for ReaderSource<R> {
-    ghost left = { λ source. None };
+    ghost left = { λ source. R.remaining (reader_of source) };
 
     ghost faults = { λ source. reader_faults source };
 
     fn read(&mut self, buf: &mut [u8]) -> Got
         requires { 0 < length buf.old }
-        ensures moved { Reads result None None buf.new }
+        ensures moved { Reads result (R.remaining (reader_of self.old)) (R.remaining (reader_of self.new)) buf.new }
         ensures cause { HasCause (reader_faults self.old) (reader_faults self.new) (result ≡ Got.Failed) }
-        ensures known { TakesKnown result
-            (R.remaining (reader_of self.old)) (R.remaining (reader_of self.new)) buf.new }
     {
         match self.reader.read(buf) {
             Ok(0) => Got::End,
@@ -80,16 +78,14 @@ impl<W: Write + Drop> WriterSink<W> {
 }
 
 impl<W: Write + Drop> Sink for WriterSink<W> {
-    ghost written = { λ sink. None };
+    ghost written = { λ sink. W.contents (writer_of sink) };
 
     ghost faults = { λ sink. writer_faults sink };
 
     fn write(&mut self, bytes: &[u8]) -> Wrote
         requires { 0 < length bytes.now }
-        ensures appended { Appends result None None bytes.now }
+        ensures appended { Appends result (W.contents (writer_of self.old)) (W.contents (writer_of self.new)) bytes.now }
         ensures cause { HasCause (writer_faults self.old) (writer_faults self.new) (result ≡ Wrote.Failed) }
-        ensures known { GivesKnown result
-            (W.contents (writer_of self.old)) (W.contents (writer_of self.new)) bytes.now }
     {
         match self.writer.write(bytes) {
             Ok(count) if count > 0 => Wrote::Bytes(count),

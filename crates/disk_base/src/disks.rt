@@ -3,7 +3,7 @@ ghost use Rattle.std.specs.Prelude.{◌≡◌, ◌+◌, ◌<◌, ◌≤◌, ◌�
 ghost use Rattle.std.specs.Option.{option_map};
 ghost use Rattle.disk_base.specs.Files.{Files, file_of, with_file, laid, OnDone, OnKnown, KeepsRoom};
 ghost use Rattle.disk_base.specs.Stops.DiskStop.{Unarmed};
-ghost use Rattle.disk_base.specs.Stops.{DiskStop, IsStopped, after_change, armed, fill_left, StopsNext, IsLeftBy, Keeps, IsWritten};
+ghost use Rattle.disk_base.specs.Stops.{DiskStop, IsStopped, CountsOwn, after_change, armed, fill_left, IsLeftBy, Keeps, IsWritten, IsCut};
 ghost use Rattle.disk_base.specs.Count.{HasCause};
 ghost use Rattle.disk_base.specs.Crash.{Torn, CutShort, InFile, Follows, LeavesOthers, Narrows, Only, OnlyIn, Elapses, LeavesSame, BeginsAnew};
 ghost use Rattle.disk_base.specs.Pending.{Pending, MayLeave, after_write, after_cut, after_sync, all_at_rest};
@@ -57,7 +57,7 @@ pub struct Refused<D, F> {
 }
 
 /// Three files. After `Failed` nothing more is promised of what a read gives, until the files are opened anew. A
-/// disk that tells what is pending promises that such a call has changed nothing, but for a write in which it stops.
+/// disk that tells what is pending promises that such a call has changed nothing, or counts as made and is pending.
 /// A disk that was told to stop fails in the changing call in which it stops, and in each call after it. Whether a call
 /// is done or fails, what a crash may leave of the files that it does not name is as before.
 pub trait Disk {
@@ -72,6 +72,10 @@ pub trait Disk {
 
     /// How often a call has failed. It never falls.
     ghost faults: { Self → ℕ };
+
+    /// How often a call has failed that no stop brought: the disk is not stopped after it. Nobody who holds the disk can
+    /// raise it, by arming a stop either.
+    ghost own_faults: { Self → ℕ };
 
     /// Whether it is to stop in one of its next calls of `write_at`, `cut` and `sync`, or has stopped.
     ghost stop: { Self → DiskStop };
@@ -121,7 +125,8 @@ pub trait Disk {
         ensures pending { pending self.new ≡ pending self.old }
         ensures failed { IsSome (pending self.old) → files self.new ≡ files self.old }
         ensures tells { tells self.new ≡ tells self.old }
-        ensures cause { HasCause (faults self.old) (faults self.new) (result ≡ LenEnd.Failed) };
+        ensures cause { HasCause (faults self.old) (faults self.new) (result ≡ LenEnd.Failed) }
+        ensures own { CountsOwn (own_faults self.old) (own_faults self.new) (stop self.new) (result ≡ LenEnd.Failed) };
 
     /// Makes room for the first `len` bytes of a file. It takes no memory where there is room. For want of memory
     /// nothing changes.
@@ -135,7 +140,8 @@ pub trait Disk {
         ensures stop { stop self.new ≡ stop self.old }
         ensures pending { pending self.new ≡ pending self.old }
         ensures tells { tells self.new ≡ tells self.old }
-        ensures faults { faults self.new ≡ faults self.old };
+        ensures faults { faults self.new ≡ faults self.old }
+        ensures own { own_faults self.new ≡ own_faults self.old };
 
     /// Reads the bytes of a file from a position on, which lie within its length.
     fn read(&mut self, f: FileNo, at: u64, buf: &mut [u8]) -> DiskEnd
@@ -150,7 +156,8 @@ pub trait Disk {
         ensures pending { pending self.new ≡ pending self.old }
         ensures failed { IsSome (pending self.old) → files self.new ≡ files self.old }
         ensures tells { tells self.new ≡ tells self.old }
-        ensures cause { HasCause (faults self.old) (faults self.new) (result ≡ DiskEnd.Failed) };
+        ensures cause { HasCause (faults self.old) (faults self.new) (result ≡ DiskEnd.Failed) }
+        ensures own { CountsOwn (own_faults self.old) (own_faults self.new) (stop self.new) (result ≡ DiskEnd.Failed) };
 
     /// Writes bytes over a file from a position on, at most its length, and within its room.
     fn write_at(&mut self, f: FileNo, at: u64, bytes: &[u8]) -> DiskEnd
@@ -167,9 +174,10 @@ pub trait Disk {
         ensures pending { OnDone result (pending self.new ≡ option_map (after_write f at (length bytes.now)) (pending self.old)) }
         ensures failed { IsSome (pending self.old) → result ≡ DiskEnd.Failed
             → Keeps (files self.old) (files self.new) (pending self.old) (pending self.new)
-            ⊎ (StopsNext (stop self.old) × IsWritten f at bytes.now (files self.old) (files self.new) (pending self.old) (pending self.new)) }
+            ⊎ IsWritten f at bytes.now (files self.old) (files self.new) (pending self.old) (pending self.new) }
         ensures tells { tells self.new ≡ tells self.old }
-        ensures cause { HasCause (faults self.old) (faults self.new) (result ≡ DiskEnd.Failed) };
+        ensures cause { HasCause (faults self.old) (faults self.new) (result ≡ DiskEnd.Failed) }
+        ensures own { CountsOwn (own_faults self.old) (own_faults self.new) (stop self.new) (result ≡ DiskEnd.Failed) };
 
     /// Keeps the first `len` bytes of a file, at most its length.
     fn cut(&mut self, f: FileNo, len: u64) -> DiskEnd
@@ -183,9 +191,12 @@ pub trait Disk {
         ensures stop { stop self.new ≡ after_change (stop self.old) }
         ensures stopped { IsStopped (stop self.new) → result ≡ DiskEnd.Failed }
         ensures pending { OnDone result (pending self.new ≡ option_map (after_cut f len) (pending self.old)) }
-        ensures failed { IsSome (pending self.old) → result ≡ DiskEnd.Failed → Keeps (files self.old) (files self.new) (pending self.old) (pending self.new) }
+        ensures failed { IsSome (pending self.old) → result ≡ DiskEnd.Failed
+            → Keeps (files self.old) (files self.new) (pending self.old) (pending self.new)
+            ⊎ IsCut f len (files self.old) (files self.new) (pending self.old) (pending self.new) }
         ensures tells { tells self.new ≡ tells self.old }
-        ensures cause { HasCause (faults self.old) (faults self.new) (result ≡ DiskEnd.Failed) };
+        ensures cause { HasCause (faults self.old) (faults self.new) (result ≡ DiskEnd.Failed) }
+        ensures own { CountsOwn (own_faults self.old) (own_faults self.new) (stop self.new) (result ≡ DiskEnd.Failed) };
 
     /// After it a crash leaves of the file what a read gives.
     fn sync(&mut self, f: FileNo) -> DiskEnd
@@ -201,7 +212,8 @@ pub trait Disk {
         ensures pending { OnDone result (IfSome (files self.old) (λ fs. pending self.new ≡ option_map (after_sync f (file_of fs f)) (pending self.old))) }
         ensures failed { IsSome (pending self.old) → result ≡ DiskEnd.Failed → Keeps (files self.old) (files self.new) (pending self.old) (pending self.new) }
         ensures tells { tells self.new ≡ tells self.old }
-        ensures cause { HasCause (faults self.old) (faults self.new) (result ≡ DiskEnd.Failed) };
+        ensures cause { HasCause (faults self.old) (faults self.new) (result ≡ DiskEnd.Failed) }
+        ensures own { CountsOwn (own_faults self.old) (own_faults self.new) (stop self.new) (result ≡ DiskEnd.Failed) };
 }
 
 /// A disk that can be told to stop in one of its next changing calls.
@@ -216,7 +228,8 @@ pub trait StopDisk: Disk {
         ensures pending { Self.pending self.new ≡ Self.pending self.old }
         ensures crash { LeavesSame (Self.may_leave self.old) (Self.may_leave self.new) (Self.left_since self.old) (Self.left_since self.new) }
         ensures tells { Self.tells self.new ≡ Self.tells self.old }
-        ensures faults { Self.faults self.new ≡ Self.faults self.old };
+        ensures faults { Self.faults self.new ≡ Self.faults self.old }
+        ensures own { Self.own_faults self.new ≡ Self.own_faults self.old };
 
     /// Whether it has stopped.
     fn stopped(&self) -> bool
@@ -234,5 +247,6 @@ pub trait StopDisk: Disk {
         ensures begins_anew { BeginsAnew (Self.left_since self.new) (Self.may_leave self.new) }
         ensures tells { Self.tells self.new ≡ Self.tells self.old }
         ensures steps { Self.steps self.new ≡ Self.steps self.old }
-        ensures faults { Self.faults self.new ≡ Self.faults self.old };
+        ensures faults { Self.faults self.new ≡ Self.faults self.old }
+        ensures own { Self.own_faults self.new ≡ Self.own_faults self.old };
 }

@@ -1,21 +1,24 @@
 //! A disk over a folder. It tells no content, and counts each error.
 ghost use Rattle.std.specs.Prelude.{◌≡◌, ◌+◌, ◌^◌, false, None, IfOk, OnOk, OnErr};
 ghost use Rattle.disk_base.specs.Count.{HasCause};
+ghost use Rattle.disk_base.specs.Stops.{CountsOwn};
+ghost use Rattle.disk_base.specs.Stops.DiskStop.{Unarmed};
 
+use crate::folders::{Folder, open_folder};
 use crate::{Disk, DiskEnd, FileNo, LenEnd, RoomEnd};
 use ghost_values::Tally;
 use std::alloc::Global;
-use std::fs::{File, OpenOptions};
+use std::fs::File;
 use std::io;
 use std::os::unix::fs::FileExt;
-use std::path::Path;
 use std::rt::Files;
 use thiserror::Error;
 
 /// Why the files of a folder were not opened.
 #[derive(Clone, Copy, Debug, PartialEq, Eq, Error)]
 pub enum OpenFault {
-    /// The system refused.
+    /// The system refused, another server has the folder open, or its database is missing beside a log or an incoming
+    /// file that is not empty.
     #[error("the folder and its files cannot be opened")]
     Failed,
     /// Memory ran out, here or in the system.
@@ -42,9 +45,7 @@ impl From<io::Error> for OpenFault {
 /// end. A write that failed may be done in part.
 #[derive(Drop)]
 pub struct FileDisk {
-    database: File,
-    log: File,
-    incoming: File,
+    folder: Folder,
     steps: Tally,
     faults: Tally,
 }
@@ -52,8 +53,9 @@ pub struct FileDisk {
 impl FileDisk {
     ghost use Rattle.disk_base.specs.FileDisk.{file_steps, file_faults};
 
-    /// Opens the files `database`, `log` and `incoming` of a folder, and makes those that are not there. Their
-    /// names are then synced, with the folder.
+    /// Opens the files `database`, `log` and `incoming` of a folder, and makes those that are not there. The folder is
+    /// locked first, until the disk is dropped, and what it has is made durable before it is handed out: each file is
+    /// copied into a new one, which is synced and put in its place.
     pub fn open<R: Files<File = File>>(
         rt: &R,
         alloc: Global,
@@ -62,22 +64,18 @@ impl FileDisk {
         ensures steps { IfOk result (λ disk. file_steps disk ≡ 0) }
         ensures faults { IfOk result (λ disk. file_faults disk ≡ 0) }
     {
-        let disk = FileDisk {
-            database: open_file(rt, alloc, folder, "database")?,
-            log: open_file(rt, alloc, folder, "log")?,
-            incoming: open_file(rt, alloc, folder, "incoming")?,
+        Ok(FileDisk {
+            folder: open_folder(rt, alloc, folder)?,
             steps: Tally::new(),
             faults: Tally::new(),
-        };
-        File::open(rt, folder)?.sync_all()?;
-        Ok(disk)
+        })
     }
 
     fn file(&self, f: FileNo) -> &File {
         match f {
-            FileNo::Database => &self.database,
-            FileNo::Log => &self.log,
-            FileNo::Incoming => &self.incoming,
+            FileNo::Database => &self.folder.database,
+            FileNo::Log => &self.folder.log,
+            FileNo::Incoming => &self.folder.incoming,
         }
     }
 
@@ -94,6 +92,7 @@ impl FileDisk {
         ensures ok { OnOk done (result ≡ DiskEnd.Done) }
         ensures err { OnErr done (result ≡ DiskEnd.Failed) }
         ensures cause { HasCause (file_faults self.old) (file_faults self.new) (result ≡ DiskEnd.Failed) }
+        ensures own { CountsOwn (file_faults self.old) (file_faults self.new) Unarmed (result ≡ DiskEnd.Failed) }
         ensures steps { file_steps self.new ≡ file_steps self.old }
     {
         match done {
@@ -106,23 +105,7 @@ impl FileDisk {
     }
 }
 
-/// Opens a file of a folder to be read and written, and makes it where it is not there.
-fn open_file<R: Files<File = File>>(
-    rt: &R,
-    alloc: Global,
-    folder: &str,
-    name: &str,
-) -> io::Result<File> {
-    let path = Path::new(folder).join(alloc, name)?;
-    OpenOptions::new()
-        .read(true)
-        .write(true)
-        .create(true)
-        .open(rt, path.as_path())
-}
-
 impl Disk for FileDisk {
-    ghost use Rattle.disk_base.specs.Stops.DiskStop.{Unarmed};
     ghost use Rattle.disk_base.specs.FileDisk.{file_steps, file_faults};
 
     ghost files = { λ disk. None };
@@ -132,6 +115,8 @@ impl Disk for FileDisk {
     ghost steps = { file_steps };
 
     ghost faults = { file_faults };
+
+    ghost own_faults = { file_faults };
 
     ghost stop = { λ disk. Unarmed };
 

@@ -2,7 +2,7 @@
 ghost use Rattle.std.specs.Prelude.{◌≡◌, ◌≢◌, ◌+◌, ◌<◌, ◌≤◌, IfOk, IsTrue, ◌↔◌};
 ghost use Rattle.disk_base.specs.Plan.{IsFresh, after_call};
 ghost use Rattle.disk_base.specs.Count.{HasCause};
-ghost use Rattle.disk_base.specs.Stops.{IsStopped, after_change, armed, fill_left};
+ghost use Rattle.disk_base.specs.Stops.{IsStopped, CountsOwn, after_change, armed, fill_left};
 ghost use Rattle.disk_base.specs.Stops.DiskStop.{Unarmed};
 ghost use Rattle.disk_base.specs.MemCalls.{stop_of, fails_now, passage_of, unless, KeepsTallies};
 
@@ -37,6 +37,8 @@ pub(crate) struct MemCalls {
     stop: StopState,
     steps: Tally,
     faults: Tally,
+    /// The faults that no stop brought.
+    own_faults: Tally,
 }
 
 impl MemCalls {
@@ -46,12 +48,14 @@ impl MemCalls {
         ensures stop { IfOk result (λ calls. stop_of calls ≡ Unarmed) }
         ensures steps { IfOk result (λ calls. calls.steps ≡ 0) }
         ensures faults { IfOk result (λ calls. calls.faults ≡ 0) }
+        ensures own { IfOk result (λ calls. calls.own_faults ≡ 0) }
     {
         Ok(MemCalls {
             plan: Plan::new(alloc, fails)?,
             stop: StopState::Unarmed,
             steps: Tally::new(),
             faults: Tally::new(),
+            own_faults: Tally::new(),
         })
     }
 
@@ -93,11 +97,16 @@ impl MemCalls {
     /// One more fault.
     pub(crate) fn fail(&mut self)
         ensures faults { self.new.faults ≡ self.old.faults + 1 }
+        ensures own { ¬ IsStopped (stop_of self.old) → self.new.own_faults ≡ self.old.own_faults + 1 }
+        ensures brought { IsStopped (stop_of self.old) → self.new.own_faults ≡ self.old.own_faults }
         ensures steps { self.new.steps ≡ self.old.steps }
         ensures stop { stop_of self.new ≡ stop_of self.old }
         ensures plan { self.new.plan ≡ self.old.plan }
     {
         self.faults = self.faults.next();
+        if !self.stopped() {
+            self.own_faults = self.own_faults.next();
+        }
     }
 
     /// Begins a call that changes no file, and says whether it fails.
@@ -105,6 +114,7 @@ impl MemCalls {
         ensures fails { result ≡ fails_now self.old }
         ensures stopped { IsStopped (stop_of self.old) → IsTrue result }
         ensures cause { HasCause self.old.faults self.new.faults (IsTrue result) }
+        ensures own { CountsOwn self.old.own_faults self.new.own_faults (stop_of self.new) (IsTrue result) }
         ensures steps { self.new.steps ≡ self.old.steps }
         ensures stop { stop_of self.new ≡ stop_of self.old }
         ensures plan { self.new.plan ≡ after_call self.old.plan }
@@ -122,6 +132,7 @@ impl MemCalls {
         ensures passage { result ≡ passage_of self.old }
         ensures stopped { IsStopped (stop_of self.new) → result ≢ Passage.Passes }
         ensures cause { HasCause self.old.faults self.new.faults (result ≢ Passage.Passes) }
+        ensures own { CountsOwn self.old.own_faults self.new.own_faults (stop_of self.new) (result ≢ Passage.Passes) }
         ensures steps { self.new.steps ≡ self.old.steps + 1 }
         ensures stop { stop_of self.new ≡ after_change (stop_of self.old) }
         ensures plan { self.new.plan ≡ after_call self.old.plan }

@@ -138,8 +138,8 @@ impl Drop for MemDisk {
 impl MemDisk {
     ghost use Rattle.disk_base.specs.Pending.{all_at_rest};
     ghost use Rattle.disk_base.specs.Plan.{IsFresh, after_call};
-    ghost use Rattle.disk_base.specs.Stops.{after_change};
-    ghost use Rattle.disk_base.specs.MemDisk.{now_of, pending_of, disk_may_leave, disk_passage, disk_stop, disk_plan, disk_steps, disk_faults, disk_tells};
+    ghost use Rattle.disk_base.specs.Stops.{CountsOwn, after_change};
+    ghost use Rattle.disk_base.specs.MemDisk.{now_of, pending_of, disk_may_leave, disk_passage, disk_stop, disk_plan, disk_steps, disk_faults, disk_own_faults, disk_tells};
 
     /// A disk of three empty files, unarmed. Its call number k fails where k is in `fails`; calls of `len`, `read`,
     /// `write_at`, `cut` and `sync` are counted, from 1. A call that fails by its number changes no file.
@@ -152,6 +152,7 @@ impl MemDisk {
         ensures stop { IfOk result (λ disk. disk_stop disk ≡ Unarmed) }
         ensures steps { IfOk result (λ disk. disk_steps disk ≡ 0) }
         ensures faults { IfOk result (λ disk. disk_faults disk ≡ 0) }
+        ensures own { IfOk result (λ disk. disk_own_faults disk ≡ 0) }
     {
         Ok(MemDisk {
             files: MemFiles::new(alloc),
@@ -165,6 +166,7 @@ impl MemDisk {
         ensures passage { result ≡ disk_passage self.old }
         ensures stopped { IsStopped (disk_stop self.new) → result ≢ Passage.Passes }
         ensures cause { HasCause (disk_faults self.old) (disk_faults self.new) (result ≢ Passage.Passes) }
+        ensures own { CountsOwn (disk_own_faults self.old) (disk_own_faults self.new) (disk_stop self.new) (result ≢ Passage.Passes) }
         ensures files { self.new.files ≡ self.old.files }
         ensures moments { self.new.moments ≡ pending_of self.old ∷ self.old.moments }
         ensures steps { disk_steps self.new ≡ disk_steps self.old + 1 }
@@ -180,6 +182,7 @@ impl MemDisk {
         ensures ok { OnOk done (result ≡ DiskEnd.Done) }
         ensures err { OnErr done (result ≡ DiskEnd.Failed) }
         ensures cause { HasCause (disk_faults self.old) (disk_faults self.new) (result ≡ DiskEnd.Failed) }
+        ensures own { CountsOwn (disk_own_faults self.old) (disk_own_faults self.new) (disk_stop self.new) (result ≡ DiskEnd.Failed) }
         ensures files { self.new.files ≡ self.old.files }
         ensures moments { self.new.moments ≡ self.old.moments }
         ensures steps { disk_steps self.new ≡ disk_steps self.old }
@@ -198,9 +201,9 @@ impl MemDisk {
 
 impl Disk for MemDisk {
     ghost use Rattle.disk_base.specs.Plan.{after_call};
-    ghost use Rattle.disk_base.specs.Stops.{after_change, StopsNext, Keeps, IsWritten};
+    ghost use Rattle.disk_base.specs.Stops.{CountsOwn, after_change, StopsNext, Keeps, IsWritten};
     ghost use Rattle.disk_base.specs.Pending.{after_write, after_cut, after_sync};
-    ghost use Rattle.disk_base.specs.MemDisk.{now_of, pending_of, disk_room, disk_stop, disk_plan, disk_steps, disk_faults};
+    ghost use Rattle.disk_base.specs.MemDisk.{now_of, pending_of, disk_room, disk_stop, disk_plan, disk_steps, disk_faults, disk_own_faults};
     ghost use Rattle.disk_base.specs.MemDisk.{disk_may_leave, disk_left_since, disk_tells};
     ghost use Rattle.disk_base.specs.MemDisk.{disk_fails, disk_passage, done_unless, known_unless, end_of, FailsUnlessPassed};
     ghost use Rattle.disk_base.specs.MemLaws.{counts_now, only_now, may_be_read, has_room, tells_both, tells_now, leaves_pending};
@@ -212,6 +215,8 @@ impl Disk for MemDisk {
     ghost steps = { disk_steps };
 
     ghost faults = { disk_faults };
+
+    ghost own_faults = { disk_own_faults };
 
     ghost stop = { disk_stop };
 
@@ -247,6 +252,7 @@ impl Disk for MemDisk {
         ensures failed { Some (now_of self.new) ≡ Some (now_of self.old) }
         ensures tells { disk_tells self.new ≡ disk_tells self.old }
         ensures cause { HasCause (disk_faults self.old) (disk_faults self.new) (result ≡ LenEnd.Failed) }
+        ensures own { CountsOwn (disk_own_faults self.old) (disk_own_faults self.new) (disk_stop self.new) (result ≡ LenEnd.Failed) }
         ensures exact { result ≡ known_unless (disk_fails self.old) (length (file_of (now_of self.old) f)) }
         ensures stop { disk_stop self.new ≡ disk_stop self.old }
         ensures stopped { IsStopped (disk_stop self.old) → result ≡ LenEnd.Failed }
@@ -268,6 +274,7 @@ impl Disk for MemDisk {
         ensures pending { Some (pending_of self.new) ≡ Some (pending_of self.old) }
         ensures tells { disk_tells self.new ≡ disk_tells self.old }
         ensures faults { disk_faults self.new ≡ disk_faults self.old }
+        ensures own { disk_own_faults self.new ≡ disk_own_faults self.old }
         ensures stop { disk_stop self.new ≡ disk_stop self.old }
         ensures counted { disk_plan self.new ≡ disk_plan self.old }
     {
@@ -289,6 +296,7 @@ impl Disk for MemDisk {
         ensures failed { Some (now_of self.new) ≡ Some (now_of self.old) }
         ensures tells { disk_tells self.new ≡ disk_tells self.old }
         ensures cause { HasCause (disk_faults self.old) (disk_faults self.new) (result ≡ DiskEnd.Failed) }
+        ensures own { CountsOwn (disk_own_faults self.old) (disk_own_faults self.new) (disk_stop self.new) (result ≡ DiskEnd.Failed) }
         ensures exact { result ≡ done_unless (disk_fails self.old) }
         ensures stop { disk_stop self.new ≡ disk_stop self.old }
         ensures stopped { IsStopped (disk_stop self.old) → result ≡ DiskEnd.Failed }
@@ -316,6 +324,7 @@ impl Disk for MemDisk {
             ⊎ (StopsNext (disk_stop self.old) × IsWritten f at bytes.now (Some (now_of self.old)) (Some (now_of self.new)) (Some (pending_of self.old)) (Some (pending_of self.new))) }
         ensures tells { disk_tells self.new ≡ disk_tells self.old }
         ensures cause { HasCause (disk_faults self.old) (disk_faults self.new) (result ≡ DiskEnd.Failed) }
+        ensures own { CountsOwn (disk_own_faults self.old) (disk_own_faults self.new) (disk_stop self.new) (result ≡ DiskEnd.Failed) }
         ensures fails { FailsUnlessPassed (disk_passage self.old) result }
         ensures stop { disk_stop self.new ≡ after_change (disk_stop self.old) }
         ensures stopped { IsStopped (disk_stop self.new) → result ≡ DiskEnd.Failed }
@@ -345,6 +354,7 @@ impl Disk for MemDisk {
         ensures failed { result ≡ DiskEnd.Failed → Keeps (Some (now_of self.old)) (Some (now_of self.new)) (Some (pending_of self.old)) (Some (pending_of self.new)) }
         ensures tells { disk_tells self.new ≡ disk_tells self.old }
         ensures cause { HasCause (disk_faults self.old) (disk_faults self.new) (result ≡ DiskEnd.Failed) }
+        ensures own { CountsOwn (disk_own_faults self.old) (disk_own_faults self.new) (disk_stop self.new) (result ≡ DiskEnd.Failed) }
         ensures fails { FailsUnlessPassed (disk_passage self.old) result }
         ensures stop { disk_stop self.new ≡ after_change (disk_stop self.old) }
         ensures stopped { IsStopped (disk_stop self.new) → result ≡ DiskEnd.Failed }
@@ -369,6 +379,7 @@ impl Disk for MemDisk {
         ensures failed { result ≡ DiskEnd.Failed → Keeps (Some (now_of self.old)) (Some (now_of self.new)) (Some (pending_of self.old)) (Some (pending_of self.new)) }
         ensures tells { disk_tells self.new ≡ disk_tells self.old }
         ensures cause { HasCause (disk_faults self.old) (disk_faults self.new) (result ≡ DiskEnd.Failed) }
+        ensures own { CountsOwn (disk_own_faults self.old) (disk_own_faults self.new) (disk_stop self.new) (result ≡ DiskEnd.Failed) }
         ensures exact { result ≡ end_of (disk_passage self.old) }
         ensures stop { disk_stop self.new ≡ after_change (disk_stop self.old) }
         ensures stopped { IsStopped (disk_stop self.new) → result ≡ DiskEnd.Failed }
@@ -386,7 +397,7 @@ impl Disk for MemDisk {
 impl StopDisk for MemDisk {
     ghost use Rattle.disk_base.specs.Stops.{armed, fill_left, IsLeftBy};
     ghost use Rattle.disk_base.specs.Pending.{all_at_rest};
-    ghost use Rattle.disk_base.specs.MemDisk.{now_of, pending_of, disk_room, disk_stop, disk_plan, disk_steps, disk_faults};
+    ghost use Rattle.disk_base.specs.MemDisk.{now_of, pending_of, disk_room, disk_stop, disk_plan, disk_steps, disk_faults, disk_own_faults};
     ghost use Rattle.disk_base.specs.MemDisk.{disk_may_leave, disk_left_since, disk_tells};
 
     fn arm(&mut self, calls: u32, fill: Fill)
@@ -398,6 +409,7 @@ impl StopDisk for MemDisk {
         ensures crash { LeavesSame (disk_may_leave self.old) (disk_may_leave self.new) (disk_left_since self.old) (disk_left_since self.new) }
         ensures tells { disk_tells self.new ≡ disk_tells self.old }
         ensures faults { disk_faults self.new ≡ disk_faults self.old }
+        ensures own { disk_own_faults self.new ≡ disk_own_faults self.old }
         ensures counted { disk_plan self.new ≡ disk_plan self.old }
     {
         self.calls.arm(calls, fill);
@@ -411,6 +423,7 @@ impl StopDisk for MemDisk {
         ensures unarmed { disk_stop self.new ≡ Unarmed }
         ensures steps { disk_steps self.new ≡ disk_steps self.old }
         ensures faults { disk_faults self.new ≡ disk_faults self.old }
+        ensures own { disk_own_faults self.new ≡ disk_own_faults self.old }
         ensures left { disk_may_leave self.old (now_of self.new) × Only (now_of self.new) (disk_may_leave self.new) }
         ensures by_fill { IsLeftBy (fill_left (disk_stop self.old)) (pending_of self.old) (now_of self.old) (now_of self.new) }
         ensures at_rest { Some (pending_of self.new) ≡ Some (all_at_rest (now_of self.new)) }

@@ -3,6 +3,7 @@ ghost use Rattle.std.specs.Prelude.{List, ◌≡◌, [], ◌∷◌};
 ghost use Rattle.disk_base.specs.Pending.{Pending};
 
 use crate::memory_disks::MemFiles;
+use crate::unsynced::Unsynced;
 use ghost_values::{Ghost, Says};
 use std::marker::Model;
 
@@ -42,6 +43,12 @@ impl<'a> Says<(&'a Moments, &'a MemFiles), History> for OneMore {
     ghost says = { λ now. pending_in now.1.now ∷ now.0.now };
 }
 
+struct OneMoreOf;
+
+impl<'a> Says<(&'a Moments, &'a Unsynced), History> for OneMoreOf {
+    ghost says = { λ now. now.1.now ∷ now.0.now };
+}
+
 impl Moments {
     ghost use Rattle.disk_base.specs.MemDisk.{pending_in};
 
@@ -60,6 +67,15 @@ impl Moments {
     {
         Moments {
             earlier: Ghost::of::<(&Moments, &MemFiles), OneMore>(&(self, files)),
+        }
+    }
+
+    /// A moment at which this was pending is one more earlier one.
+    pub(crate) fn then(&self, now: &Unsynced) -> Moments
+        ensures { result ≡ now.now ∷ self.now }
+    {
+        Moments {
+            earlier: Ghost::of::<(&Moments, &Unsynced), OneMoreOf>(&(self, now)),
         }
     }
 }

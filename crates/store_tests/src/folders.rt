@@ -4,8 +4,10 @@ ghost use Rattle.ubik_store.specs.Store.{IsSound};
 ghost use Rattle.disk_base.specs.Crash.{IsSettled};
 
 use crate::disks::{expect_file, put};
-use disk_base::{Disk, DiskEnd, FileDisk, FileNo, LenEnd, MemDisk, MemSink, MemSource};
+use disk_base::{Disk, DiskEnd, FileDisk, FileNo, LenEnd, MemDisk, MemSink, MemSource, OpenFault};
 use std::alloc::Global;
+use std::os::unix::fs::PermissionsExt;
+use std::path::Path;
 use std::process::Abort;
 use std::test::Fail;
 use std::{env, fs, process};
@@ -13,7 +15,7 @@ use ubik_store::{Store, StoreFault};
 use ubik_types::Version;
 
 /// A folder of this process alone, with nothing in it.
-fn empty_folder(rt: &HostRuntime, prefix: &str) -> Result<String, Fail> {
+pub(crate) fn empty_folder(rt: &HostRuntime, prefix: &str) -> Result<String, Fail> {
     let name = format!(in rt.alloc(); "{prefix}-{}", process::id(rt.process()))?;
     let folder = env::temp_dir(rt)?.join(rt.alloc(), name.as_str())?;
     let folder = folder.into_string();
@@ -54,19 +56,51 @@ fn expect_cut<D: Disk>(rt: &impl Abort, disk: &mut D, f: FileNo, len: u64) {
     }
 }
 
+/// The permission bits of a file of a folder.
+fn mode_of(rt: &HostRuntime, folder: &str, name: &str) -> Result<u32, Fail> {
+    let path = Path::new(folder).join(rt.alloc(), name)?;
+    Ok(fs::metadata(rt, path.as_path())?.permissions().mode() & 0o777)
+}
+
 #[test]
 fn a_folder_keeps_what_was_written(rt: HostRuntime) -> Result<(), Fail> {
     let folder = empty_folder(&rt, "disk_base")?;
-    let mut disk = FileDisk::open(&rt, rt.alloc(), folder.as_str())?;
-    crosses(&disk);
-    expect_kept(&rt, rt.alloc(), &mut disk)?;
+    {
+        let mut disk = FileDisk::open(&rt, rt.alloc(), folder.as_str())?;
+        crosses(&disk);
+        expect_kept(&rt, rt.alloc(), &mut disk)?;
+    }
     let mut again = FileDisk::open(&rt, rt.alloc(), folder.as_str())?;
     expect_file(&rt, rt.alloc(), &mut again, FileNo::Log, b"abcXY")?;
     expect_file(&rt, rt.alloc(), &mut again, FileNo::Database, b"12")?;
     let mut buf = [0; 3];
     assert_eq!(rt; again.read(FileNo::Database, 1, &mut buf), DiskEnd::Failed);
+    for name in ["database", "log", "incoming", "lock"] {
+        assert_eq!(rt; mode_of(&rt, folder.as_str(), name)?, 0o600, "{name}");
+    }
     fs::remove_dir_all(&rt, folder.as_str())?;
-    assert!(rt; FileDisk::open(&rt, rt.alloc(), folder.as_str()).is_err());
+    Ok(())
+}
+
+#[test]
+fn a_folder_is_refused_as_another_servers_without_its_database_and_where_there_is_none(
+    rt: HostRuntime,
+) -> Result<(), Fail> {
+    let folder = empty_folder(&rt, "refused")?;
+    {
+        let mut disk = FileDisk::open(&rt, rt.alloc(), folder.as_str())?;
+        let second = FileDisk::open(&rt, rt.alloc(), folder.as_str()).err();
+        assert_eq!(rt; second, Some(OpenFault::Failed));
+        expect_kept(&rt, rt.alloc(), &mut disk)?;
+    }
+    let database = Path::new(folder.as_str()).join(rt.alloc(), "database")?;
+    fs::remove_file(&rt, database.as_path())?;
+    let lost = FileDisk::open(&rt, rt.alloc(), folder.as_str()).err();
+    assert_eq!(rt; lost, Some(OpenFault::Failed));
+    assert!(rt; !fs::exists(&rt, database.as_path())?);
+    fs::remove_dir_all(&rt, folder.as_str())?;
+    let none = FileDisk::open(&rt, rt.alloc(), folder.as_str()).err();
+    assert_eq!(rt; none, Some(OpenFault::Failed));
     Ok(())
 }
 
@@ -92,7 +126,11 @@ fn opened<D: Disk + Drop>(alloc: Global, disk: D) -> Result<Store<D>, StoreFault
 }
 
 /// Commits two puts to a store on an empty disk.
-fn expect_committed<D: Disk + Drop>(rt: &impl Abort, alloc: Global, disk: D) -> Result<(), Fail>
+pub(crate) fn expect_committed<D: Disk + Drop>(
+    rt: &impl Abort,
+    alloc: Global,
+    disk: D,
+) -> Result<(), Fail>
     requires settled { IsSettled (D.files disk) (D.may_leave disk) }
 {
     let mut store = opened(alloc, disk)?;
@@ -106,7 +144,11 @@ fn expect_committed<D: Disk + Drop>(rt: &impl Abort, alloc: Global, disk: D) -> 
 }
 
 /// A store has the version and the image after them.
-fn expect_held<D: Disk + Drop>(rt: &impl Abort, alloc: Global, disk: D) -> Result<(), Fail>
+pub(crate) fn expect_held<D: Disk + Drop>(
+    rt: &impl Abort,
+    alloc: Global,
+    disk: D,
+) -> Result<(), Fail>
     requires settled { IsSettled (D.files disk) (D.may_leave disk) }
 {
     let mut store = opened(alloc, disk)?;

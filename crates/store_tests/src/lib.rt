@@ -6,4 +6,6 @@ mod disks;
 #[cfg(test)]
 mod folders;
 #[cfg(test)]
+mod mirrors;
+#[cfg(test)]
 mod streams;

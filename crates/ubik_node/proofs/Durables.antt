@@ -10,7 +10,7 @@ use Rattle.disk_base.specs.Crash.{LeavesOnly, Narrows, Only, RisesAtMost}
 use Rattle.disk_base.specs.Files.{Files}
 use Rattle.disk_base.specs.Runs.{OnlyReads}
 use Rattle.disk_base.specs.Stops.{IsStopped, after_changes}
-use Rattle.disk_base.proofs.Runs.{widened, rested}
+use Rattle.disk_base.proofs.Runs.{widened, rested, reads_nothing}
 use Rattle.page_file.specs.Pages.{image_of}
 use Rattle.ubik_log.proofs.Gates.{short_log_is_discarded}
 use Rattle.ubik_store.specs.declared.faults.StoreFault.{StoreFault}
@@ -140,18 +140,7 @@ module _ {D : Type 0} (g : Ghosts D) (s : Store D) (d : Durable) where
   -- or left alone
   pub serves_none : IsReady g s → IsThere d.image (image_in (g.files s.disk)) → s.version ≡ d.version → Serves g d s.disk s.disk []
   serves_none ready there version =
-      let reads : OnlyReads g s.disk s.disk ⊥ = record {
-        files = λ _. refl;
-        kept = λ _. refl;
-        room = λ file. omega arith;
-        steps = refl;
-        crash = record { no_more = λ c left. left; no_less = λ c left. left; since_no_more = λ t c left. left; since_no_less = λ t c left. left };
-        stop = refl;
-        pending = refl;
-        tells = refl;
-        cause = record { never_falls = omega arith; rose = λ none. absurd none };
-      } in
-      serves_reads ready there version reads
+      serves_reads ready there version (reads_nothing s.disk)
 
 take_none : (calls : List Made) → take 0 calls ≡ []
 take_none [] = refl

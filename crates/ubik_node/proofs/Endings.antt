@@ -5,7 +5,7 @@ use Rattle.disk_base.specs.declared.disks.Disk.{Ghosts}
 use Rattle.disk_base.specs.declared.disks.FileNo.TheVariants.{Database}
 use Rattle.disk_base.specs.Files.{Files}
 use Rattle.disk_base.specs.Runs.{OnlyReads}
-use Rattle.disk_base.proofs.Runs.{reads_change_none}
+use Rattle.disk_base.proofs.Runs.{reads_change_none, reads_nothing, reads_as as said_as}
 use Rattle.ubik_store.specs.declared.faults.StoreFault.{StoreFault}
 use Rattle.ubik_store.specs.declared.faults.StoreFault.TheVariants.{DiskFault, NoMemory}
 use Rattle.ubik_store.specs.Store.{IsReady, image_in}
@@ -40,31 +40,11 @@ not_short is = cc
 
 module _ {D : Type 0} (g : Ghosts D) where
   pub reads_none : (d : D) → OnlyReads g d d ⊥
-  reads_none d = record {
-    files = λ _. refl;
-    kept = λ _. refl;
-    room = λ file. omega arith;
-    steps = refl;
-    crash = record { no_more = λ c left. left; no_less = λ c left. left; since_no_more = λ t c left. left; since_no_less = λ t c left. left };
-    stop = refl;
-    pending = refl;
-    tells = refl;
-    cause = record { never_falls = omega arith; rose = λ none. absurd none };
-  }
+  reads_none d = reads_nothing d
 
   -- a failure that is said in other words
   pub reads_as : {old new : D} {F G : Type 0} → (F → G) → (G → F) → OnlyReads g old new F → OnlyReads g old new G
-  reads_as to from reads = record {
-    files = λ not. reads.files (λ failed. not (to failed));
-    kept = reads.kept;
-    room = reads.room;
-    steps = reads.steps;
-    crash = reads.crash;
-    stop = reads.stop;
-    pending = reads.pending;
-    tells = reads.tells;
-    cause = record { never_falls = reads.cause.never_falls; rose = λ failed. reads.cause.rose (from failed) };
-  }
+  reads_as to from reads = said_as to from reads
 
   -- a disk that was read tells its files as before
   pub told_still : {old new : D} {F : Type 0} → OnlyReads g old new F → ¬ F → IsSome (g.files old) → IsSome (g.files new)

@@ -6,7 +6,7 @@ use Rattle.std.proofs.lemmas.Bool.{false≢true}
 use Rattle.disk_base.specs.declared.disks.Disk.{Ghosts}
 use Rattle.disk_base.specs.Files.{Files}
 use Rattle.disk_base.specs.Runs.{OnlyReads}
-use Rattle.disk_base.proofs.Runs.{reads_as}
+use Rattle.disk_base.proofs.Runs.{reads_as, reads_nothing}
 use Rattle.db_image.specs.Standing.{Standing}
 use Rattle.ubik_store.specs.declared.faults.StoreFault.{StoreFault}
 use Rattle.ubik_store.specs.declared.faults.StoreFault.TheVariants.{DiskFault, NoMemory}
@@ -22,17 +22,7 @@ lent_first g s fresh = record {
   version = refl;
   len = refl;
   begun = refl;
-  reads = record {
-    files = λ _. refl;
-    kept = λ _. refl;
-    room = λ file. omega arith;
-    steps = refl;
-    crash = record { no_more = λ c left. left; no_less = λ c left. left; since_no_more = λ t c left. left; since_no_less = λ t c left. left };
-    stop = refl;
-    pending = refl;
-    tells = refl;
-    cause = record { never_falls = omega arith; rose = λ failed. absurd (false≢true (sym fresh ∙ failed)) };
-  };
+  reads = reads_as (λ none. absurd none) (λ failed. absurd (false≢true (sym fresh ∙ failed))) (reads_nothing s.now.disk);
 }
 
 -- the disk of a store that is known again was only read

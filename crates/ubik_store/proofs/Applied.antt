@@ -5,8 +5,8 @@ use Rattle.ubik_types.specs.declared.images.Change.{Change}
 use Rattle.disk_base.specs.declared.disks.Disk.{Ghosts}
 use Rattle.disk_base.specs.declared.disks.FileNo.{FileNo}
 use Rattle.disk_base.specs.Files.{Files}
-use Rattle.disk_base.specs.Runs.{OnlyReads, ChangesAtMost}
-use Rattle.disk_base.proofs.Runs.{reads_change_none}
+use Rattle.disk_base.specs.Runs.{ChangesAtMost}
+use Rattle.disk_base.proofs.Runs.{reads_change_none, reads_nothing, own_as, own_joined, own_none}
 use Rattle.disk_base.proofs.Stopping.{advances_none, advances_joined}
 use Rattle.ubik_store.specs.Calls.{CallsAtMost}
 use Rattle.ubik_store.specs.Moments.{with_database, changed_file, applied}
@@ -39,23 +39,13 @@ module _ {D : Type 0} {g : Ghosts D} where
     room = run.room;
     tells = run.tells;
     cause = run.cause;
+    own = run.own;
   }
 
   -- no change of a file
   pub no_changes : (f : FileNo) (disk : D) → ChangesAtMost g f 0 disk disk ⊥
   no_changes f disk =
-      let reads : OnlyReads g disk disk ⊥ = record {
-        files = λ _. refl;
-        kept = λ _. refl;
-        room = λ file. omega arith;
-        steps = refl;
-        crash = record { no_more = λ c left. left; no_less = λ c left. left; since_no_more = λ t c left. left; since_no_less = λ t c left. left };
-        stop = refl;
-        pending = refl;
-        tells = refl;
-        cause = record { never_falls = omega arith; rose = λ none. absurd none };
-      } in
-      reads_change_none reads
+      reads_change_none (reads_nothing disk)
 
   -- none at all
   pub no_calls : (disk : D) (F : Type 0) → ¬ F → CallsAtMost g 0 disk disk F
@@ -66,6 +56,7 @@ module _ {D : Type 0} {g : Ghosts D} where
     room = λ f. omega arith;
     tells = refl;
     cause = record { never_falls = omega arith; rose = λ failed. absurd (not failed) };
+    own = own_none (g.own_faults disk) (g.own_faults disk) (g.stop disk) F not refl;
   }
 
   -- calls of two runs, of which the first did not fail
@@ -80,15 +71,17 @@ module _ {D : Type 0} {g : Ghosts D} where
       never_falls = omega (arith, first.cause.never_falls, second.cause.never_falls);
       rose = λ failed. let rose = second.cause.rose failed in omega (arith, first.cause.never_falls, rose);
     };
+    own = own_joined (g.own_faults old) (g.own_faults mid) (g.own_faults new) (g.stop mid) (g.stop new) F G first.own went second.own;
   }
 
   -- fewer of them, and a failure that is said in other words
   pub calls_as : {m n : ℕ} {old new : D} {F G : Type 0} → m ≤ n → (F → G) → (G → F) → CallsAtMost g m old new F → CallsAtMost g n old new G
-  calls_as fewer to from run = record {
+  calls_as {m} {n} {old} {new} {F} {G} fewer to from run = record {
     at_most = (run.at_most.0, omega (arith, fewer, run.at_most.1));
     advances = run.advances;
     stopped = λ is. ⊎_elim (λ was. inl was) (λ failed. inr (to failed)) (run.stopped is);
     room = run.room;
     tells = run.tells;
     cause = record { never_falls = run.cause.never_falls; rose = λ failed. run.cause.rose (from failed) };
+    own = own_as (g.own_faults old) (g.own_faults new) (g.stop new) F G to from run.own;
   }

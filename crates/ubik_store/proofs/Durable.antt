@@ -8,6 +8,7 @@ use Rattle.disk_base.specs.Crash.{Narrows, LeavesOnly, Only, IsSettled}
 use Rattle.disk_base.specs.Files.{Files}
 use Rattle.disk_base.specs.Runs.{OnlyReserves}
 use Rattle.disk_base.specs.Stops.{IsStopped}
+use Rattle.disk_base.proofs.Runs.{own_none}
 use Rattle.disk_base.proofs.Stopping.{advances_none}
 use Rattle.page_file.specs.Label.{version_of_database}
 use Rattle.page_file.specs.Pages.{image_of}
@@ -26,13 +27,14 @@ KeepsPlain g old new fs = IsPlain fs → LeavesOnly g.steps g.left_since old new
 
 module _ {D : Type 0} (g : Ghosts D) where
   calls_reserved : {old new : D} {F : Type 0} → OnlyReserves g old new → ¬ F → CallsAtMost g 0 old new F
-  calls_reserved made not = record {
+  calls_reserved {old} {new} {F} made not = record {
     at_most = (omega (arith, made.steps), omega (arith, made.steps));
     advances = advances_none made.steps made.stop;
     stopped = λ is. inl (subst IsStopped made.stop is);
     room = made.room;
     tells = made.tells;
     cause = record { never_falls = omega (arith, made.faults); rose = λ failed. absurd (not failed) };
+    own = own_none (g.own_faults old) (g.own_faults new) (g.stop new) F not made.own;
   }
 
   calls_first : {n : ℕ} {old mid new : D} {F : Type 0} → OnlyReserves g old mid → CallsAtMost g n mid new F → CallsAtMost g n old new F

@@ -12,6 +12,7 @@ use Rattle.disk_base.specs.Count.{HasCause}
 use Rattle.disk_base.specs.Files.{Files, OnKnown, KeepsRoom}
 use Rattle.disk_base.specs.Crash.{Torn, CutShort, InFile, Narrows, Follows, LeavesOnly, LeavesSame}
 use Rattle.disk_base.specs.Runs.{OneChange, OnlyReads, Syncs}
+use Rattle.disk_base.specs.Stops.{CountsOwn}
 use Rattle.disk_base.proofs.Runs.{called, rested, joined}
 use Rattle.page_file.specs.declared.label.TheConstants.{MAX_DATABASE_LEN}
 use Rattle.page_file.specs.Pages.{image_of}
@@ -111,11 +112,12 @@ module _ {D : Type 0} (g : Ghosts D) where
   -- a call of the length only reads
   pub len_reads : {old new : D} (r : LenEnd) → OnKnown r (λ _. g.files new ≡ g.files old) → KeepsRoom (g.room old) (g.room new) → g.steps new ≡ g.steps old
       → LeavesSame (g.may_leave old) (g.may_leave new) (g.left_since old) (g.left_since new) → g.stop new ≡ g.stop old → g.pending new ≡ g.pending old
-      → (IsSome (g.pending old) → g.files new ≡ g.files old) → g.tells new ≡ g.tells old → HasCause (g.faults old) (g.faults new) (r ≡ lens.Failed) → OnlyReads g old new (r ≡ lens.Failed)
-  len_reads (lens.Known n) files room steps crash stop pending kept tells cause =
-      record { files = λ _. files; kept = kept; room = room; steps = steps; crash = crash; stop = stop; pending = pending; tells = tells; cause = cause }
-  len_reads lens.Failed files room steps crash stop pending kept tells cause =
-      record { files = λ not. absurd (not refl); kept = kept; room = room; steps = steps; crash = crash; stop = stop; pending = pending; tells = tells; cause = cause }
+      → (IsSome (g.pending old) → g.files new ≡ g.files old) → g.tells new ≡ g.tells old → HasCause (g.faults old) (g.faults new) (r ≡ lens.Failed)
+      → CountsOwn (g.own_faults old) (g.own_faults new) (g.stop new) (r ≡ lens.Failed) → OnlyReads g old new (r ≡ lens.Failed)
+  len_reads (lens.Known n) files room steps crash stop pending kept tells cause own =
+      record { files = λ _. files; kept = kept; room = room; steps = steps; crash = crash; stop = stop; pending = pending; tells = tells; cause = cause; own = own }
+  len_reads lens.Failed files room steps crash stop pending kept tells cause own =
+      record { files = λ not. absurd (not refl); kept = kept; room = room; steps = steps; crash = crash; stop = stop; pending = pending; tells = tells; cause = cause; own = own }
 
   -- calls that only read went before
   pub rested_first : {old mid new : D} (P : Files → Type 0) → g.steps mid ≡ g.steps old → LeavesSame (g.may_leave old) (g.may_leave mid) (g.left_since old) (g.left_since mid)

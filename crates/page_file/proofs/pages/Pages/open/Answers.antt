@@ -1,5 +1,6 @@
 use Rattle.std.proofs.Common.{sym, refl, ◌∙◌, arith}
 use Rattle.std.proofs.lemmas.Bool.{false≢true}
+use Rattle.disk_base.proofs.Runs.{reads_as, reads_joined}
 use Rattle.page_file.specs.Label.{IsHeadOf}
 use Rattle.page_file.proofs.Opening.{moved, empty_version, found_version, refused_head, found_agrees}
 use Rattle.page_file.proofs.pages.Pages.open.Goals as goal
@@ -24,3 +25,11 @@ returns-in-None-clause-refused g c =
     refused_head _ _ _ (omega arith) c.in_ok-len.ensures.len
     (moved (λ fs. IsHeadOf c.in_ok-head.head fs.database) _ _ (c.in_ok-len.ensures.reads.files false≢true) c.in_ok-head.ensures.head)
     (sym c.version_of_file.ensures.version ∙ c.in-None.is)
+
+pub returns-in-Some-clause-reads : goal.returns-in-Some-clause-reads
+returns-in-Some-clause-reads g c =
+    reads_as (λ failed. absurd (false≢true failed)) (λ failed. absurd cc) (reads_joined c.in_ok-len.ensures.reads false≢true c.in_ok-head.ensures.reads)
+
+pub returns-in-None-clause-reads : goal.returns-in-None-clause-reads
+returns-in-None-clause-reads g c =
+    reads_as (λ failed. absurd (false≢true failed)) (λ failed. absurd cc) (reads_joined c.in_ok-len.ensures.reads false≢true c.in_ok-head.ensures.reads)
