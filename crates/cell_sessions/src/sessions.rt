@@ -28,6 +28,11 @@ pub struct Sessions {
     report: String,
 }
 
+/// The first word of a text, and what stands behind its blank.
+fn split_word(text: &str) -> (&str, &str) {
+    text.split_once(' ').unwrap_or((text, ""))
+}
+
 impl Sessions {
     pub fn new(alloc: Global) -> Sessions {
         Sessions {
@@ -87,7 +92,7 @@ impl Sessions {
         if self.is_ended {
             return Err(Fault::Form);
         }
-        let (mark, rest) = text.split_once(' ').unwrap_or((text, ""));
+        let (mark, rest) = split_word(text);
         match (mark, &mut self.row) {
             ("=", Some(_)) => self.end_row(rest),
             ("#" | "@" | "?" | "end", Some(_)) => Err(Fault::Form),
@@ -124,7 +129,7 @@ impl Sessions {
         let mut row = Row::new(self.alloc);
         for front in &self.front {
             let text = front.text.as_str();
-            let (mark, rest) = text.split_once(' ').unwrap_or((text, ""));
+            let (mark, rest) = split_word(text);
             row.add(front.line, mark, rest)?;
         }
         Ok(row)
@@ -161,23 +166,23 @@ impl Sessions {
         Ok(())
     }
 
-    /// Runs a line in each place: words say what it does there, and a `-` that it is not tried.
+    /// Runs a line in each place: words say what it does there.
     fn run_places(&mut self, words: &str) -> Result<(), Fault> {
-        let mut rest = words;
-        let mut wanted = [""; 3];
-        for word in &mut wanted {
-            let (first, behind) = rest.split_once(' ').unwrap_or((rest, ""));
-            *word = first;
-            rest = behind;
+        let (first, rest) = split_word(words);
+        let (up, rest) = split_word(rest);
+        let (down, line) = split_word(rest);
+        self.run_place(Place::First, first, line)?;
+        self.run_place(Place::Up, up, line)?;
+        self.run_place(Place::Down, down, line)
+    }
+
+    /// Runs a line in a place, unless its word is `-`.
+    fn run_place(&mut self, place: Place, word: &str, line: &str) -> Result<(), Fault> {
+        if word == "-" {
+            return Ok(());
         }
-        let [first, up, down] = wanted;
-        for (place, word) in [(Place::First, first), (Place::Up, up), (Place::Down, down)] {
-            if word != "-" {
-                let (row, end) = row_of(self.alloc, place, rest, self.line, word)?;
-                self.run(row, &end)?;
-            }
-        }
-        Ok(())
+        let (row, end) = row_of(self.alloc, place, line, self.line, word)?;
+        self.run(row, &end)
     }
 
     fn end(&mut self, words: &str) -> Result<(), Fault> {
