@@ -1,4 +1,6 @@
 //! Each call of the service once, over an image in memory.
+ghost use Rattle.std.specs.Prelude.{◌<◌};
+
 use db_image::{CallEnd, Draft, ImageRead, VecImage};
 use std::alloc::Global;
 use std::process::Abort;
