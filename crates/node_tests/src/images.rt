@@ -38,9 +38,19 @@ fn end_of(len: u32, offset: u32) -> u32 {
     offset.saturating_add(PIECE).min(len)
 }
 
-/// The piece of an image that begins at a place, of a poll.
-fn fetched_piece(rt: &impl Abort, alloc: Global, image: &[u8], offset: u32) -> Result<Body, Fail> {
-    let total = image.len() as u32;
+/// How many pieces an image has: one of no bytes has one.
+fn pieces_of(len: u32) -> u32 {
+    1 + len.saturating_sub(1) / PIECE
+}
+
+/// The piece of an image of this length that begins at a place, of a poll.
+fn fetched_piece(
+    rt: &impl Abort,
+    alloc: Global,
+    image: &[u8],
+    total: u32,
+    offset: u32,
+) -> Result<Body, Fail> {
     let (from, to) = (offset as usize, end_of(total, offset) as usize);
     assert!(rt; from <= to && to <= image.len());
     Ok(Body::Piece {
@@ -53,8 +63,14 @@ fn fetched_piece(rt: &impl Abort, alloc: Global, image: &[u8], offset: u32) -> R
 }
 
 /// The same piece, as a sync site sends it.
-fn sent_piece(rt: &impl Abort, alloc: Global, image: &[u8], offset: u32) -> Result<Body, Fail> {
-    match fetched_piece(rt, alloc, image, offset)? {
+fn sent_piece(
+    rt: &impl Abort,
+    alloc: Global,
+    image: &[u8],
+    total: u32,
+    offset: u32,
+) -> Result<Body, Fail> {
+    match fetched_piece(rt, alloc, image, total, offset)? {
         Body::Piece {
             poll,
             total,
@@ -160,7 +176,7 @@ fn is_fetched<D: SteadyDisk + StopDisk + Drop>(
     let (mut node, first) = polled(rt, alloc, disk, version)?;
     let mut asked = meaning(&first);
     let mut offset = 0;
-    for _piece in 0..1 + len / PIECE {
+    for _piece in 0..pieces_of(len) {
         assert_eq!(rt; asked, Said::AsksPiece { version, offset });
         let out = step(
             rt,
@@ -171,16 +187,13 @@ fn is_fetched<D: SteadyDisk + StopDisk + Drop>(
             StepEnd::Done,
         )?;
         assert_eq!(rt; meaning(&only(rt, out)), asked);
-        let piece = fetched_piece(rt, alloc, &image, offset)?;
+        let piece = fetched_piece(rt, alloc, &image, len, offset)?;
         let out = comes(rt, alloc, &mut node, BACK, piece)?;
         asked = meaning(&only(rt, out));
-        let piece = fetched_piece(rt, alloc, &image, offset)?;
+        let piece = fetched_piece(rt, alloc, &image, len, offset)?;
         let mut out = comes(rt, alloc, &mut node, BACK, piece)?;
         assert!(rt; out.take().is_none());
         offset = end_of(len, offset);
-        if offset == len {
-            break;
-        }
     }
     // The last piece has led to the relabelling.
     assert_eq!(rt;
@@ -252,29 +265,19 @@ fn is_taken<D: SteadyDisk + StopDisk + Drop>(
     let version = FIRST;
     let mut node = opened(rt, alloc, (&TWO, 1), revived(disk), 1950)?;
     let mut offset = 0;
-    for _piece in 0..1 + len / PIECE {
-        let out = comes(
-            rt,
-            alloc,
-            &mut node,
-            way,
-            sent_piece(rt, alloc, &image, offset)?,
-        )?;
+    for _piece in 0..pieces_of(len) {
+        let piece = sent_piece(rt, alloc, &image, len, offset)?;
+        let out = comes(rt, alloc, &mut node, way, piece)?;
         let answer = meaning(&only(rt, out));
         let next = end_of(len, offset);
         if next == len {
             assert_eq!(rt; answer, Said::Keeps { version });
-            break;
+        } else {
+            assert_eq!(rt; answer, Said::KeepsPiece { version, next });
+            let piece = sent_piece(rt, alloc, &image, len, offset)?;
+            let mut out = comes(rt, alloc, &mut node, way, piece)?;
+            assert_eq!(rt; out.take().is_some(), offset == 0);
         }
-        assert_eq!(rt; answer, Said::KeepsPiece { version, next });
-        let mut out = comes(
-            rt,
-            alloc,
-            &mut node,
-            way,
-            sent_piece(rt, alloc, &image, offset)?,
-        )?;
-        assert_eq!(rt; out.take().is_some(), offset == 0);
         offset = next;
     }
     reads(rt, alloc, &mut node, (version, &image))

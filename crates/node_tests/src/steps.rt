@@ -318,6 +318,7 @@ fn nothing_comes_of_an_armed_disk_of_a_halted_server(rt: HostRuntime) -> Result<
     node.arm(3, Fill::Old);
     assert!(rt; node.stopped());
     halts(&rt, alloc, &mut node, (1077, 1, b""))?;
+    assert!(rt; node.halted());
     node.revive();
     assert!(rt; !node.stopped());
     halts(&rt, alloc, &mut node, (1078, 2, b"ab"))?;
