@@ -3,19 +3,17 @@ ghost use Rattle.std.specs.Prelude.{◌≡◌, ◌<◌, ◌≤◌, ◌^◌, IfOk
 ghost use Rattle.vl_calls.specs.Calls.{spelling};
 ghost use Rattle.server_bench.specs.Entries.{call_of_entry};
 
-use call_grammar::Items;
 use db_image::{CallEnd, Draft, DraftService, ImageRead, VecImage};
 use std::alloc::Global;
 use ubik_types::{Bytes, MAX_IMAGE, NoMemory, bytes_of};
-use vl_calls::{GivenEntry, VlCall, spell_call};
+use vl_calls::{VlCall, call_words, spell_call};
 use vl_database::VlService;
-use vldb_records::VlSite;
 
 /// The moment of each call.
 const MOMENT: u32 = 1076;
 
 /// The host of the first entry's site: 10.0.0.1.
-const HOST: u32 = 0x0a00_0001;
+const HOST: &str = "167772161";
 
 /// What is asked again and again of an entry.
 #[derive(Clone, Copy)]
@@ -91,21 +89,27 @@ fn called_often<I: ImageRead>(alloc: Global, d: &mut Draft<I>, plan: Plan) -> Re
 
 /// Makes an entry with this read-write id and one site; whether that took place.
 fn is_made<I: ImageRead>(alloc: Global, d: &mut Draft<I>, id: u32) -> Result<bool, NoMemory> {
-    let site = VlSite {
-        host: HOST,
-        partition: 0,
-        flags: 4,
+    let id = format!(in alloc; "{id}")?;
+    let words = [
+        "createentry",
+        "volume",
+        "4096",
+        id.as_str(),
+        "0",
+        "0",
+        "0",
+        "1",
+        HOST,
+        "0",
+        "4",
+    ];
+    let mut given = Vec::new(alloc);
+    for word in words {
+        given.push(bytes_of(alloc, word.as_bytes())?)?;
+    }
+    let Some(call) = call_words(alloc, &given)? else {
+        return Ok(false);
     };
-    let entry = GivenEntry {
-        name: bytes_of(alloc, b"volume")?,
-        flags: 0x1000,
-        rw: id,
-        ro: 0,
-        backup: 0,
-        clone_id: 0,
-        sites: Items::new(vec![in alloc; site]?),
-    };
-    let call = spell_call(alloc, &VlCall::CreateEntry { entry })?;
     if d.len() as usize > MAX_IMAGE {
         return Ok(false);
     }

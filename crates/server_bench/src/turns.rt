@@ -69,24 +69,24 @@ fn call_of_turn(alloc: Global, asked: Asked, turn: u16) -> Result<PtCall, NoMemo
     ensures asked { IfOk result (λ call. call ≡ call_of_turn asked turn) }
     ensures short { IfOk result HasSpelling }
 {
-    Ok(match asked {
-        Asked::NewEntry => PtCall::NewEntry {
+    match asked {
+        Asked::NewEntry => Ok(PtCall::NewEntry {
             name: user_name(alloc, turn)?,
             kind: 0,
             owner: 0,
-        },
+        }),
         Asked::NameToId => {
             let nobody = bytes_of(alloc, NOBODY)?;
-            PtCall::NameToId {
+            Ok(PtCall::NameToId {
                 names: Items::new(vec![in alloc; nobody]?),
-            }
+            })
         }
-        Asked::AddToGroup => PtCall::AddToGroup {
+        Asked::AddToGroup => Ok(PtCall::AddToGroup {
             member: i32::from(turn) + 1,
             group: GROUP,
-        },
-        Asked::ListElements => PtCall::ListElements { id: GROUP },
-    })
+        }),
+        Asked::ListElements => Ok(PtCall::ListElements { id: GROUP }),
+    }
 }
 
 /// The bytes of the call of a turn.
