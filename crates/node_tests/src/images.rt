@@ -252,8 +252,37 @@ fn is_sent<D: SteadyDisk + StopDisk + Drop>(
     serves(rt, alloc, &mut node, &image)
 }
 
-/// An image is taken by another server. Each piece but the last comes twice: the first one begins the text anew, and another one does not go on
-/// where it ends.
+/// A piece comes to another server that takes an image: it keeps the version once the last one has come. Another one than the last comes twice:
+/// the first one begins the text anew, and another one does not go on where it ends.
+fn takes_piece<D: SteadyDisk>(
+    rt: &impl Abort,
+    alloc: Global,
+    node: &mut Server<D>,
+    image: &[u8],
+    len: u32,
+    offset: u32,
+) -> Result<(), Fail>
+    requires stored { IsStored D.Disk node.old }
+    ensures stored { IsStored D.Disk node.new }
+{
+    let way = (2026, Host(1), Host(2));
+    let version = FIRST;
+    let piece = sent_piece(rt, alloc, image, len, offset)?;
+    let out = comes(rt, alloc, node, way, piece)?;
+    let answer = meaning(&only(rt, out));
+    let next = end_of(len, offset);
+    if next == len {
+        assert_eq!(rt; answer, Said::Keeps { version });
+        return Ok(());
+    }
+    assert_eq!(rt; answer, Said::KeepsPiece { version, next });
+    let piece = sent_piece(rt, alloc, image, len, offset)?;
+    let mut out = comes(rt, alloc, node, way, piece)?;
+    assert_eq!(rt; out.take().is_some(), offset == 0);
+    Ok(())
+}
+
+/// An image is taken by another server, piece by piece.
 fn is_taken<D: SteadyDisk + StopDisk + Drop>(
     rt: &impl Abort,
     alloc: Global,
@@ -261,26 +290,13 @@ fn is_taken<D: SteadyDisk + StopDisk + Drop>(
     len: u32,
 ) -> Result<(), Fail> {
     let image = bytes(alloc, len)?;
-    let way = (2026, Host(1), Host(2));
-    let version = FIRST;
     let mut node = opened(rt, alloc, (&TWO, 1), revived(disk), 1950)?;
     let mut offset = 0;
     for _piece in 0..pieces_of(len) {
-        let piece = sent_piece(rt, alloc, &image, len, offset)?;
-        let out = comes(rt, alloc, &mut node, way, piece)?;
-        let answer = meaning(&only(rt, out));
-        let next = end_of(len, offset);
-        if next == len {
-            assert_eq!(rt; answer, Said::Keeps { version });
-        } else {
-            assert_eq!(rt; answer, Said::KeepsPiece { version, next });
-            let piece = sent_piece(rt, alloc, &image, len, offset)?;
-            let mut out = comes(rt, alloc, &mut node, way, piece)?;
-            assert_eq!(rt; out.take().is_some(), offset == 0);
-        }
-        offset = next;
+        takes_piece(rt, alloc, &mut node, &image, len, offset)?;
+        offset = end_of(len, offset);
     }
-    reads(rt, alloc, &mut node, (version, &image))
+    reads(rt, alloc, &mut node, (FIRST, &image))
 }
 
 #[test]
