@@ -1,5 +1,4 @@
 pub mod Answers
-pub mod Built
 pub mod Calls
 pub mod Laws
 pub mod Meaning
@@ -8,4 +7,5 @@ pub mod Reading
 pub mod Shapes
 pub mod Standing
 pub mod Words
+pub mod Writes
 pub mod Writing

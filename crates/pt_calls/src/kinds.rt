@@ -2,6 +2,7 @@
 ghost use Rattle.std.specs.Prelude.{◌≡◌, IfSome};
 ghost use Rattle.pt_calls.specs.Calls.{kind_number, kind_numbered};
 ghost use Rattle.pt_calls.specs.Words.{kind_named, kind_word};
+ghost use Rattle.pt_calls.specs.Writes.{is_write};
 
 /// All kinds, in the order of their numbers.
 pub const KINDS: [CallKind; 17] = [
@@ -47,6 +48,32 @@ pub enum CallKind {
 }
 
 impl CallKind {
+    /// Whether a call of this kind may change the database. Only the sync site takes such a call, and nobody asks it anew where
+    /// no answer came.
+    pub fn is_write(self) -> bool
+        ensures { result ≡ is_write self }
+    {
+        match self {
+            CallKind::NameToId
+            | CallKind::IdToName
+            | CallKind::GetCps
+            | CallKind::ListMax
+            | CallKind::ListEntry
+            | CallKind::ListEntries
+            | CallKind::ListElements
+            | CallKind::IsMemberOf
+            | CallKind::ListOwned => false,
+            CallKind::NewEntry
+            | CallKind::INewEntry
+            | CallKind::Delete
+            | CallKind::AddToGroup
+            | CallKind::RemoveFromGroup
+            | CallKind::SetMax
+            | CallKind::ChangeEntry
+            | CallKind::SetFields => true,
+        }
+    }
+
     /// The number with which a call of this kind begins.
     pub fn number(self) -> u32
         ensures { result ≡ kind_number self }

@@ -15,7 +15,7 @@ use Rattle.pt_service.specs.Meaning.{maxima_with, maximum_set, new_entry, new_en
 use Rattle.pt_service.specs.Meaning.{owner_for, page, parts, turns, unless, verdict, with_given, with_next}
 use Rattle.pt_service.specs.State.{State, is_group, is_id}
 use Rattle.pt_service.specs.Turning.{is_fixed, turn_fault}
-use Rattle.pt_protection.specs.Service.{is_write}
+use Rattle.pt_calls.specs.Writes.{is_write}
 use Rattle.pt_protection.proofs.Served.{IsLook, IsPaired, IsPlain, IsTurned}
 
 -- ---- verdicts that are put together

@@ -21,7 +21,8 @@ use Rattle.pt_service.specs.State.{State}
 use Rattle.pt_service.specs.Turning.{is_fixed, turn_fault}
 use Rattle.pt_database.specs.States.{HoldsState}
 use Rattle.pt_protection.specs.Laws.{AnswersCalls, HoldsOne, LeavesStates, NamesCalls}
-use Rattle.pt_protection.specs.Service.{is_write, protection_database}
+use Rattle.pt_calls.specs.Writes.{is_write}
+use Rattle.pt_protection.specs.Service.{protection_database}
 use Rattle.pt_protection.specs.ServiceLaws.{database_is_meant}
 use Rattle.pt_protection.proofs.Changing.{by_test, of_both, of_given, of_new, of_one, unless_one}
 use Rattle.pt_laws.specs.Told.{state_in}

@@ -1,38 +1,16 @@
 -- The protection database as a service over images (layout of format 1).
-use Rattle.std.specs.Prelude.{Bool, true, false}
 use Rattle.std.specs.Option.{option_map}
 use Rattle.db_image.specs.Database.{Database}
 use Rattle.db_image.specs.Standing.{Standing}
 use Rattle.prdb_entries.specs.Records.{whole}
 use Rattle.prdb_entries.specs.declared.blocks.TheConstants.{HEAD_LEN, BLOCK_LEN}
 use Rattle.pt_calls.specs.Calls.{call_kind}
-use Rattle.pt_calls.specs.declared.kinds.CallKind.{CallKind}
-use Rattle.pt_calls.specs.declared.kinds.CallKind.TheVariants as kinds
+use Rattle.pt_calls.specs.Writes.{is_write}
 use Rattle.pt_service.specs.Meaning.{asked, protection_meaning, reply_by, verdict}
 use Rattle.pt_service.specs.State.{State}
 use Rattle.pt_database.specs.States.{HoldsState}
 use Rattle.pt_laws.specs.Standing.{image_by}
 use Rattle.pt_laws.specs.Told.{state_in}
-
--- the calls that may change the database
-abbrev pub is_write : CallKind → Bool
-is_write kinds.NewEntry = true
-is_write kinds.INewEntry = true
-is_write kinds.NameToId = false
-is_write kinds.IdToName = false
-is_write kinds.Delete = true
-is_write kinds.AddToGroup = true
-is_write kinds.RemoveFromGroup = true
-is_write kinds.GetCps = false
-is_write kinds.ListMax = false
-is_write kinds.SetMax = true
-is_write kinds.ListEntry = false
-is_write kinds.ListEntries = false
-is_write kinds.ChangeEntry = true
-is_write kinds.SetFields = true
-is_write kinds.ListElements = false
-is_write kinds.IsMemberOf = false
-is_write kinds.ListOwned = false
 
 abbrev pub protection_database : Database
 protection_database = record {

@@ -8,15 +8,15 @@ ghost use Rattle.prdb_members.specs.Ends.{HasItsCause};
 ghost use Rattle.pt_calls.specs.Calls.{HasSpelling, call_kind};
 ghost use Rattle.pt_calls.specs.Reading.{call_of};
 ghost use Rattle.pt_calls.specs.Standing.{IsDecided};
+ghost use Rattle.pt_calls.specs.Writes.{is_write};
 ghost use Rattle.pt_service.specs.Meaning.{asked, verdict};
 ghost use Rattle.pt_laws.specs.Standing.{IsMeantOf};
-ghost use Rattle.pt_protection.specs.Service.{is_write};
 
 use crate::answers::reply_words;
 use call_grammar::{bytes_fit, push_words};
 use db_image::{CallEnd, Draft, DraftService, DraftWords, ImageRead, RecordFault};
 use prdb_entries::draft_over;
-use pt_calls::{CallKind, PtCall, call_words, kind_of, read_call};
+use pt_calls::{PtCall, call_words, kind_of, read_call};
 use pt_changes::{add_to_group, delete, remove_from_group};
 use pt_database::{get_cps, is_member_of, list_elements, list_entries, list_entry, list_owned};
 use pt_service::{
@@ -26,30 +26,12 @@ use pt_turns::change_entry;
 use std::alloc::Global;
 use ubik_types::{Bytes, NoMemory};
 
-/// Whether a call of a kind may change the database.
-fn is_write(kind: CallKind) -> bool
-    ensures { result ≡ is_write kind }
-{
-    match kind {
-        CallKind::NameToId
-        | CallKind::IdToName
-        | CallKind::GetCps
-        | CallKind::ListMax
-        | CallKind::ListEntry
-        | CallKind::ListEntries
-        | CallKind::ListElements
-        | CallKind::IsMemberOf
-        | CallKind::ListOwned => false,
-        _ => true,
-    }
-}
-
 /// Whether a call's bytes are one that may change the database; none where they are no call.
 fn writes(call: &[u8]) -> Option<bool>
     ensures { result ≡ option_map is_write (option_map call_kind (call_of call.now)) }
 {
     match kind_of(call) {
-        Some(kind) => Some(is_write(kind)),
+        Some(kind) => Some(kind.is_write()),
         None => None,
     }
 }

@@ -4,4 +4,5 @@ pub mod Entries
 pub mod Reading
 pub mod Shapes
 pub mod Words
+pub mod Writes
 pub mod Writing

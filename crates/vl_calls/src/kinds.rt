@@ -2,6 +2,7 @@
 ghost use Rattle.std.specs.Prelude.{◌≡◌};
 ghost use Rattle.vl_calls.specs.Calls.{kind_number, kind_numbered};
 ghost use Rattle.vl_calls.specs.Words.{kind_named, kind_word};
+ghost use Rattle.vl_calls.specs.Writes.{is_write};
 
 /// All kinds, in the order of their numbers.
 pub const KINDS: [CallKind; 12] = [
@@ -37,6 +38,27 @@ pub enum CallKind {
 }
 
 impl CallKind {
+    /// Whether a call of this kind may change the database. Only the sync site takes such a call, and nobody asks it anew where
+    /// no answer came.
+    pub fn is_write(self) -> bool
+        ensures { result ≡ is_write self }
+    {
+        match self {
+            CallKind::GetEntryById
+            | CallKind::GetEntryByName
+            | CallKind::ListAttributes
+            | CallKind::GetAddrs
+            | CallKind::Probe => false,
+            CallKind::GetNewVolumeId
+            | CallKind::CreateEntry
+            | CallKind::DeleteEntry
+            | CallKind::ReplaceEntry
+            | CallKind::SetLock
+            | CallKind::ReleaseLock
+            | CallKind::ChangeAddr => true,
+        }
+    }
+
     /// The number with which a call of this kind begins.
     pub fn number(self) -> u32
         ensures { result ≡ kind_number self }

@@ -16,7 +16,8 @@ use Rattle.vl_service.specs.Meaning.{Answers, Change, Makes, NoCall, Refuses, Ve
 use Rattle.vl_service.specs.Told.{location_in}
 use Rattle.vl_service.proofs.ToldLocations.{location_told}
 use Rattle.vl_database.specs.Laws.{AnswersCalls, HoldsOne, LeavesStates, NamesCalls}
-use Rattle.vl_database.specs.Service.{is_write, location_meaning, moment_word, spelled_call, vl_database}
+use Rattle.vl_calls.specs.Writes.{is_write}
+use Rattle.vl_database.specs.Service.{location_meaning, moment_word, spelled_call, vl_database}
 use Rattle.vl_database.specs.ServiceLaws.{database_is_meant}
 use Rattle.call_grammar.specs.Shown.{only_bytes}
 use Rattle.vl_database.proofs.NamedCalls.{named_again}

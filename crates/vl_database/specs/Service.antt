@@ -1,5 +1,5 @@
 -- The location database as a service over images (layout of format 1).
-use Rattle.std.specs.Prelude.{ℕ, Bool, true, false, List, Option, nat_lt, if◌then◌else◌}
+use Rattle.std.specs.Prelude.{ℕ, List, Option, nat_lt, if◌then◌else◌}
 use Rattle.std.specs.Option.{option_map}
 use Rattle.db_image.specs.Database.{Database}
 use Rattle.db_image.specs.Meaning.{Meaning}
@@ -9,27 +9,11 @@ use Rattle.vldb_records.specs.Records.{Holds, whole}
 use Rattle.vldb_records.specs.declared.layout.TheConstants.{HEAD_LEN}
 use Rattle.db_blocks.specs.declared.blocks.TheConstants.{BLOCK_LEN}
 use Rattle.vl_calls.specs.declared.calls.VlCall.{VlCall}
-use Rattle.vl_calls.specs.declared.kinds.CallKind.{CallKind}
-use Rattle.vl_calls.specs.declared.kinds.CallKind.TheVariants as kinds
 use Rattle.vl_calls.specs.Calls.{call_kind}
+use Rattle.vl_calls.specs.Writes.{is_write}
 use Rattle.vl_service.specs.Meaning.{asked, reply_by, verdict, vl_meaning}
 use Rattle.vl_service.specs.Standing.{image_by}
 use Rattle.vl_service.specs.Told.{location_in}
-
--- the calls that may change the database
-abbrev pub is_write : CallKind → Bool
-is_write kinds.GetNewVolumeId = true
-is_write kinds.CreateEntry = true
-is_write kinds.DeleteEntry = true
-is_write kinds.GetEntryById = false
-is_write kinds.GetEntryByName = false
-is_write kinds.ReplaceEntry = true
-is_write kinds.SetLock = true
-is_write kinds.ReleaseLock = true
-is_write kinds.ListAttributes = false
-is_write kinds.GetAddrs = false
-is_write kinds.ChangeAddr = true
-is_write kinds.Probe = false
 
 -- a moment as a call has it, which is a word; the clock of no cell is another number
 abbrev pub moment_word : ℕ → ℕ

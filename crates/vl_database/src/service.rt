@@ -9,16 +9,16 @@ ghost use Rattle.vldb_records.specs.Location.{Location};
 ghost use Rattle.vldb_records.specs.Records.{Holds};
 ghost use Rattle.vl_calls.specs.Calls.{call_kind};
 ghost use Rattle.vl_calls.specs.Reading.{call_of};
+ghost use Rattle.vl_calls.specs.Writes.{is_write};
 ghost use Rattle.vl_service.specs.Meaning.{asked, verdict};
 ghost use Rattle.vl_service.specs.Standing.{IsDecidedEnd, IsDone};
-ghost use Rattle.vl_database.specs.Service.{is_write};
 
 use call_grammar::{bytes_fit, push_words};
 use db_blocks::BLOCK_LEN;
 use db_image::{CallEnd, Draft, DraftService, DraftWords, ImageRead, RecordFault};
 use std::alloc::Global;
 use ubik_types::{Bytes, NoMemory};
-use vl_calls::{CallKind, VlCall, call_words, kind_of, read_call, reply_words};
+use vl_calls::{VlCall, call_words, kind_of, read_call, reply_words};
 use vl_service::{
     all_addresses, change_address, create_entry, delete_entry, entry_by_id, entry_by_name,
     list_entries, probe, release_lock, replace_entry, set_lock, take_volume_ids,
@@ -27,26 +27,12 @@ use vl_service::{
 /// The length of an image's head, in bytes.
 const HEAD_LEN: u32 = 3132;
 
-/// Whether a call of a kind may change the database.
-fn is_write(kind: CallKind) -> bool
-    ensures { result ≡ is_write kind }
-{
-    match kind {
-        CallKind::GetEntryById
-        | CallKind::GetEntryByName
-        | CallKind::ListAttributes
-        | CallKind::GetAddrs
-        | CallKind::Probe => false,
-        _ => true,
-    }
-}
-
 /// Whether a call's bytes are one that may change the database; none where they are no call.
 fn writes(call: &[u8]) -> Option<bool>
     ensures { result ≡ option_map is_write (option_map call_kind (call_of call.now)) }
 {
     match kind_of(call) {
-        Some(kind) => Some(is_write(kind)),
+        Some(kind) => Some(kind.is_write()),
         None => None,
     }
 }

@@ -2,7 +2,7 @@ use Rattle.std.proofs.Common.{Option, ap, sym, ◌∙◌, arith}
 use Rattle.std.specs.Option.{option_map}
 use Rattle.pt_calls.specs.Calls.{call_kind}
 use Rattle.pt_calls.specs.declared.calls.PtCall.{PtCall}
-use Rattle.pt_protection.specs.Service.{is_write}
+use Rattle.pt_calls.specs.Writes.{is_write}
 use Rattle.pt_protection.proofs.Served.{asked_is}
 use Rattle.pt_protection.proofs.service.PtServiceDraftService.writes.Goals as goal
 

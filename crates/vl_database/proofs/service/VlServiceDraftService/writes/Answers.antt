@@ -2,7 +2,7 @@ use Rattle.std.proofs.Common.{Option, ap, sym, ◌∙◌, arith}
 use Rattle.std.specs.Option.{option_map}
 use Rattle.vl_calls.specs.Calls.{call_kind}
 use Rattle.vl_calls.specs.declared.calls.VlCall.{VlCall}
-use Rattle.vl_database.specs.Service.{is_write}
+use Rattle.vl_calls.specs.Writes.{is_write}
 use Rattle.vl_database.proofs.Served.{asked_is}
 use Rattle.vl_database.proofs.service.VlServiceDraftService.writes.Goals as goal
 
