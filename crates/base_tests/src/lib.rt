@@ -8,6 +8,8 @@ mod links;
 #[cfg(test)]
 mod locks;
 #[cfg(test)]
+mod nets;
+#[cfg(test)]
 mod recoveries;
 #[cfg(test)]
 mod scripts;

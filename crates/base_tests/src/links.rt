@@ -1,10 +1,12 @@
 //! Links in memory, and over sockets of this machine.
-use io_base::{Answer, Exchange, Link, MemAnswer, MemLink, TcpLink};
+use io_base::{Answer, CONNECT_SECONDS, Exchange, Link, MemAnswer, MemLink, TcpLink, Waits};
 use std::alloc::Global;
 use std::io::{Read, Write};
 use std::net::{Ipv4Addr, Net, SocketAddr, TcpListener, TcpStream};
 use std::process::Abort;
+use std::sync::atomic::{AtomicBool, AtomicU64, Ordering};
 use std::test::Fail;
+use std::time::{Clock, Duration, Instant};
 use std::{io, thread};
 use ubik_types::{Host, bytes_of};
 
@@ -196,5 +198,203 @@ fn asks_over_the_loopback(rt: HostRuntime) -> Result<(), Fail> {
         let told: &[u8] = if *end == Answer::Got { &FRAME } else { &[] };
         expect_exchange(&rt, exchange, (LOOPBACK, port), &FRAME, (*end, told));
     }
+    Ok(())
+}
+
+/// How a server answers.
+#[derive(Clone, Copy, Debug, PartialEq, Eq)]
+enum Manner {
+    /// After a moment.
+    Late,
+    /// It closes in the middle of a frame.
+    Cut,
+    /// It claims a frame of 4 GiB, and waits for the peer to close.
+    Long,
+    /// A byte each moment, of a frame that would take a minute.
+    Drips,
+}
+
+/// In milliseconds, as those below.
+const MOMENT: u64 = 50;
+
+/// How long a reply may take.
+const REPLY: u64 = 500;
+
+/// Longer than an ask takes, on a machine that has much else to do, and shorter than a hundred moments.
+const SOON: u64 = 4_000;
+
+fn drip(clock: &impl Clock, stream: &mut TcpStream) -> io::Result<()> {
+    stream.write_all(&[0, 0, 4, 176])?;
+    for _ in 0..100 {
+        thread::sleep(clock, Duration::from_millis(MOMENT));
+        stream.write_all(&[7])?;
+    }
+    Ok(())
+}
+
+fn serve_in(clock: &impl Clock, listener: &TcpListener, manner: Manner) -> io::Result<()> {
+    let (mut stream, _) = listener.accept()?;
+    let mut frame = [0; 8];
+    stream.read_exact(&mut frame)?;
+    match manner {
+        Manner::Late => {
+            thread::sleep(clock, Duration::from_millis(MOMENT));
+            stream.write_all(&frame)
+        }
+        Manner::Cut => stream.write_all(&frame[..6]),
+        Manner::Long => {
+            stream.write_all(&[255; 4])?;
+            let _ = stream.read(&mut frame)?;
+            Ok(())
+        }
+        Manner::Drips => drip(clock, &mut stream),
+    }
+}
+
+/// Asks once, and gives how long that took.
+fn ask_timed<L: Link>(
+    clock: &impl Clock,
+    link: &mut L,
+    port: u16,
+    reply: &mut Vec<u8>,
+) -> io::Result<(Answer, Duration)> {
+    let start = Instant::now(clock)?;
+    let answer = link.ask(LOOPBACK, port, &FRAME, reply);
+    Ok((answer, start.elapsed(clock)?))
+}
+
+#[test]
+fn servers_that_are_slow_or_break_off(rt: HostRuntime) -> Result<(), Fail> {
+    let (listener, port) = listen(&rt)?;
+    let waits = Waits {
+        connect: Duration::from_millis(SOON),
+        reply: Duration::from_millis(REPLY),
+    };
+    let mut link = TcpLink::with_waits(rt, rt.alloc(), waits);
+    let mut reply = Vec::new(rt.alloc());
+    let rows = [
+        (Manner::Late, Answer::Got),
+        (Manner::Cut, Answer::NoAnswer),
+        (Manner::Long, Answer::NoAnswer),
+        (Manner::Drips, Answer::NoAnswer),
+    ];
+    for (manner, end) in rows {
+        let (near, peer, asked, told) = (&rt, &listener, &mut link, &mut reply);
+        let (_, asked) = thread::join(
+            near,
+            move || serve_in(near, peer, manner),
+            move || ask_timed(near, asked, port, told),
+        );
+        let (answer, took) = asked?;
+        assert_eq!(rt; answer, end, "{manner:?}");
+        assert!(rt;
+            took < Duration::from_millis(SOON),
+            "{manner:?} took {took:?}"
+        );
+        let got: &[u8] = if end == Answer::Got { &FRAME } else { &[] };
+        assert_eq!(rt; reply.as_slice(), got);
+    }
+    Ok(())
+}
+
+/// A net that counts how often a connection is tried, and over which none comes while it is down.
+#[derive(Drop)]
+struct CountedNet<R> {
+    rt: R,
+    down: AtomicBool,
+    tries: AtomicU64,
+    /// How long the last try had, in seconds.
+    wait: AtomicU64,
+}
+
+impl<R: Net<Listener = TcpListener, Stream = TcpStream>> Net for CountedNet<R> {
+    type Stream = TcpStream;
+
+    type Listener = TcpListener;
+
+    fn bind(&self, addr: SocketAddr) -> io::Result<TcpListener> {
+        self.rt.bind(addr)
+    }
+
+    fn connect(&self, addr: SocketAddr) -> io::Result<TcpStream> {
+        self.rt.connect(addr)
+    }
+
+    fn connect_timeout(&self, addr: SocketAddr, timeout: Duration) -> io::Result<TcpStream> {
+        self.tries.fetch_add(1, Ordering::SeqCst);
+        self.wait.store(timeout.as_secs(), Ordering::SeqCst);
+        if self.down.load(Ordering::SeqCst) {
+            return Err(io::Error::from(io::ErrorKind::TimedOut));
+        }
+        self.rt.connect_timeout(addr, timeout)
+    }
+}
+
+impl<R: Clock> Clock for CountedNet<R> {
+    fn monotonic(&self) -> io::Result<Duration> {
+        self.rt.monotonic()
+    }
+
+    fn since_1970(&self) -> io::Result<Duration> {
+        self.rt.since_1970()
+    }
+}
+
+/// Answers so many asks over one connection.
+fn serve_many(listener: &TcpListener, count: u32) -> io::Result<()> {
+    let (mut stream, _) = listener.accept()?;
+    for _ in 0..count {
+        echo_once(&mut stream)?;
+    }
+    Ok(())
+}
+
+/// How many of so many asks are answered.
+fn ask_many<L: Link>(link: &mut L, port: u16, count: u32, reply: &mut Vec<u8>) -> u32 {
+    let mut answered = 0u32;
+    for _ in 0..count {
+        if link.ask(LOOPBACK, port, &FRAME, reply) == Answer::Got {
+            answered = answered.saturating_add(1);
+        }
+    }
+    answered
+}
+
+/// A host that takes no connection is tried once a command, and one connection serves a thousand asks.
+#[test]
+fn connections_are_tried_once_and_kept(rt: HostRuntime) -> Result<(), Fail> {
+    let (listener, port) = listen(&rt)?;
+    let net = CountedNet {
+        rt,
+        down: AtomicBool::new(true),
+        tries: AtomicU64::new(0),
+        wait: AtomicU64::new(0),
+    };
+    let mut link = TcpLink::make(&net, rt.alloc());
+    let mut reply = Vec::new(rt.alloc());
+    for _ in 0..3 {
+        let answer = link.ask(LOOPBACK, port, &FRAME, &mut reply);
+        assert_eq!(rt; answer, Answer::NotSent);
+        assert_eq!(rt; net.tries.load(Ordering::SeqCst), 1);
+        net.down.store(false, Ordering::SeqCst);
+    }
+    assert_eq!(rt; net.wait.load(Ordering::SeqCst), u64::from(CONNECT_SECONDS));
+    assert_eq!(rt; link.exchanges().len(), 3);
+    link.begin_command();
+    assert_eq!(rt; link.exchanges().len(), 0);
+    let (near, peer, asked, told) = (&rt, &listener, &mut link, &mut reply);
+    let (served, answered) = thread::join(
+        near,
+        move || serve_many(peer, 1_000),
+        move || {
+            let first = ask_many(asked, port, 500, told);
+            asked.begin_command();
+            first.saturating_add(ask_many(asked, port, 500, told))
+        },
+    );
+    served?;
+    assert_eq!(rt; answered, 1_000);
+    assert_eq!(rt; net.tries.load(Ordering::SeqCst), 2);
+    assert_eq!(rt; link.exchanges().len(), 500);
     Ok(())
 }

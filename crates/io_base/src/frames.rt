@@ -1,5 +1,6 @@
 //! Whole frames over a stream of bytes.
-ghost use Rattle.std.specs.Prelude.{◌≡◌, ◌≤◌, [], OnOk, length};
+ghost use Rattle.std.specs.Prelude.{◌≡◌, ◌+◌, ◌<◌, ◌≤◌, [], OnOk, length, max};
+ghost use Rattle.std.specs.Io.{StartsWith, appended_bytes};
 ghost use Rattle.std.specs.Io.KnownBytes.{Appends, Consumes, Keeps};
 ghost use Rattle.io_base.specs.Frame.{IsWhole};
 
@@ -9,6 +10,9 @@ use ubik_types::WORD_LEN;
 
 /// The longest frame, in bytes, its length in front counted (own).
 pub const MAX_FRAME: usize = 2_097_152;
+
+/// The room for a frame that is read grows by so many bytes at first.
+const FIRST_PIECE: usize = 4_096;
 
 /// How much of a frame a writer took.
 #[derive(Clone, Copy, Debug, PartialEq, Eq)]
@@ -33,7 +37,9 @@ pub(crate) fn send<W: Write>(writer: &mut W, frame: &[u8]) -> Sent
     }
 }
 
-/// Reads one frame. Its length tells where it ends, so nothing behind it is read.
+/// Reads one frame. Its length tells where it ends, so nothing behind it is read. The room for it grows with what
+/// has come, and not with what its length claims.
+#[tactic(auto, using(crate::proofs::Pieces::front_stays, crate::proofs::Pieces::next_piece))]
 pub(crate) fn receive<R: Read>(reader: &mut R, frame: &mut Vec<u8>) -> io::Result<()>
     requires { frame.old.items ≡ [] }
     ensures whole { OnOk result (IsWhole frame.new.items) }
@@ -47,6 +53,26 @@ pub(crate) fn receive<R: Read>(reader: &mut R, frame: &mut Vec<u8>) -> io::Resul
         return Err(io::Error::from(io::ErrorKind::InvalidData));
     }
     frame.extend_from_slice(&head)?;
-    frame.resize(WORD_LEN + behind, 0)?;
-    reader.read_exact(&mut frame[WORD_LEN..])
+    let len = WORD_LEN + behind;
+    while frame.len() < len {
+        read_piece(reader, frame, len)?;
+    }
+    Ok(())
+}
+
+/// Reads the next piece of a frame of this length, in bytes: as much as there is already, and 4 KiB at least.
+fn read_piece<R: Read>(reader: &mut R, frame: &mut Vec<u8>, len: usize) -> io::Result<()>
+    requires { length frame.old.items < len }
+    ensures more { OnOk result (length frame.old.items < length frame.new.items) }
+    ensures bound { length frame.new.items ≤ len }
+    ensures doubles { length frame.new.items
+        ≤ length frame.old.items + max (length frame.old.items) FIRST_PIECE }
+    ensures begins { OnOk result (StartsWith frame.new.items frame.old.items) }
+    ensures read { OnOk result (Consumes (R.remaining reader.old) (R.remaining reader.new)
+        (appended_bytes frame.old.items frame.new.items)) }
+{
+    let had = frame.len();
+    let piece = had.max(FIRST_PIECE).min(len - had);
+    frame.resize(had + piece, 0)?;
+    reader.read_exact(&mut frame[had..])
 }
