@@ -1,5 +1,4 @@
 pub mod Asked
-pub mod Hosts
 pub mod Named
 pub mod Paged
 pub mod Spelling

@@ -2,7 +2,7 @@
 use Rattle.std.specs.Prelude.{ℕ, ◌&&◌, nat_le, Bool, true, if◌then◌else◌, List, length, Option, option_and_then}
 use Rattle.std.specs.List.{list_all}
 use Rattle.pt_calls.specs.Answers.{answer_of, asked_for}
-use Rattle.pt_calls.specs.Built.{is_write}
+use Rattle.pt_calls.specs.Writes.{is_write}
 use Rattle.pt_calls.specs.Calls.{call_kind, spelling}
 use Rattle.pt_calls.specs.declared.answers.PtAnswer.{PtAnswer}
 use Rattle.pt_calls.specs.declared.calls.PtCall.{PtCall}
@@ -33,4 +33,4 @@ taken_from take call bytes = option_and_then take (answer_of (asked_for (call_ki
 -- a call that has a spelling is asked; another is refused as each server would refuse it
 unfoldable pub asks : {A : Type 0} → (PtCall → PtAnswer → Option A) → PtCall → Course A
 asks take call =
-    if has_spelling call then asks_call (is_write call) (taken_from (take call) call) (spelling call) else stops (Refused Malformed)
+    if has_spelling call then asks_call (is_write (call_kind call)) (taken_from (take call) call) (spelling call) else stops (Refused Malformed)

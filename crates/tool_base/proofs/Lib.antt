@@ -1,5 +1,6 @@
 pub mod Calling
 pub mod Commanding
+pub mod Hosts
 pub mod Listening
 pub mod Saying
 pub mod Walking

@@ -56,6 +56,19 @@ impl<'a> Client<'a> {
         self.hosts
     }
 
+    pub fn port(&self) -> u16
+        ensures { result ≡ self.now.port }
+    {
+        self.port
+    }
+
+    /// The number of the last call.
+    pub fn number(&self) -> u32
+        ensures { result ≡ self.now.number }
+    {
+        self.number
+    }
+
     /// Counts one call more.
     pub fn count(&mut self)
         ensures { self.new ≡ counted self.old }

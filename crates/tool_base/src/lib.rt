@@ -4,12 +4,14 @@
 
 mod asking;
 mod hearing;
+mod settling;
 mod stops;
 mod texts;
 mod writing;
 
 pub use asking::{Client, MAX_CALL};
 pub use hearing::{Heard, after_silence};
+pub use settling::Reads;
 pub use stops::{Refusal, Stop, ToolEnd};
 pub use texts::{at_left, at_right, joined, number_text, signed_text};
 pub use writing::{say, say_end};

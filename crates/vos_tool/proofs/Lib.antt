@@ -1,5 +1,4 @@
 pub mod Args
-pub mod Asked
 pub mod Attempting
 pub mod Given
 pub mod Items

@@ -6,6 +6,7 @@ ghost use Rattle.vldb_records.specs.declared.entries.VlEntry.{VlEntry};
 ghost use Rattle.vos_tool.specs.Answers.{IsAnyDone, IsEntry, IsId, IsPage, ascend, done_in, entry_in, hosts_in, id_in, if_good, is_entry, is_page, is_site, page_in};
 
 use std::alloc::Global;
+use tool_base::Reads;
 use ubik_types::NoMemory;
 use vl_calls::{CallKind, Entries, Hosts, VlAnswer, read_answer};
 use vldb_records::{VlEntry, VlSite};
@@ -21,20 +22,6 @@ pub const MAX_PARTITION: u32 = 255;
 
 /// The highest id that is given to a volume: those of its read-only and its backup volume come behind it.
 pub const MAX_ID: u32 = 2_147_483_645;
-
-/// How the answers to a call are read.
-pub trait Reads<A> {
-    /// The answer that bytes spell.
-    ghost reads: { Self → List ℕ → Option A };
-
-    /// The limits that an answer has.
-    ghost keeps: { Self → A → Type 0 };
-
-    /// The answer that these bytes spell; none where they spell none, or one past its limits.
-    fn read(&self, alloc: Global, bytes: &[u8]) -> Result<Option<A>, NoMemory>
-        ensures exact { IfOk result (λ found. found ≡ reads self.now bytes.now) }
-        ensures limits { IfOk result (λ found. IfSome found (keeps self.now)) };
-}
 
 /// The answer that tells only that the call took place.
 #[derive(Drop)]

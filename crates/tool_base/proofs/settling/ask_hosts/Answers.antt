@@ -1,7 +1,7 @@
 use Rattle.std.proofs.Common.{arith, rules}
 use Rattle.tool_base.proofs.Walking.{led_start}
-use Rattle.vos_tool.proofs.Asked.{ended_at, gave_at, next_at, none_left, stopped_at}
-use Rattle.vos_tool.proofs.asking.ask_hosts.Goals as goal
+use Rattle.tool_base.proofs.Hosts.{ended_at, gave_at, next_at, none_left, stopped_at}
+use Rattle.tool_base.proofs.settling.ask_hosts.Goals as goal
 
 pub loop-host-init : goal.loop-host-init
 loop-host-init g c = led_start _ _ _

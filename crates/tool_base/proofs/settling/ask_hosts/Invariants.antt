@@ -1,7 +1,7 @@
 use Rattle.std.proofs.Common.{[], drop}
 use Rattle.tool_base.specs.Asking.{asks_hosts}
 use Rattle.tool_base.specs.Running.{Led}
-use Rattle.vos_tool.proofs.asking.ask_hosts.Given as goal
+use Rattle.tool_base.proofs.settling.ask_hosts.Given as goal
 
 abbrev pub invariant-loop-host : goal.invariant-loop-host
 invariant-loop-host g l =

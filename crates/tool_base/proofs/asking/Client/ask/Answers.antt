@@ -1,6 +1,6 @@
 use Rattle.std.proofs.Common.{◌∙◌}
 use Rattle.tool_base.proofs.Calling.{asked_call}
-use Rattle.vos_tool.proofs.asking.ask_bytes.Goals as goal
+use Rattle.tool_base.proofs.asking.Client.ask.Goals as goal
 
 pub returns-clause-ran : goal.returns-clause-ran
 returns-clause-ran g c =
