@@ -1,4 +1,5 @@
 pub mod KeptWrites
+pub mod Plain
 pub mod Polled
 pub mod Sending
 pub mod WritePackets

@@ -34,6 +34,7 @@ pub written_free : (n : ℕ) (image other : List ℕ) (writes : Option SiteRecor
 written_free n image other writes free are = record {
   others = are.others;
   undone = λ write is. let none : ◌≡◌ {A = Option OwnRecord} None (Some write) = sym free ∙ is in absurd cc;
+  plain = are.plain;
   room = are.room;
   alone = are.alone;
 }
@@ -42,6 +43,7 @@ pub written_empty : (n : ℕ) (image : List ℕ) → AreOfCell n image (Some no_
 written_empty n image = record {
   others = λ is. absurd cc;
   undone = λ write is. absurd cc;
+  plain = λ write is. absurd cc;
   room = omega arith;
   alone = λ one. refl;
 }
@@ -51,6 +53,7 @@ pub written_next : (n : ℕ) (image : List ℕ) (site : SiteRecord) → AreOfCel
 written_next n image site are = record {
   others = are.others;
   undone = are.undone;
+  plain = are.plain;
   room = omega (arith, length-drop 1 site.waiting, are.room);
   alone = λ one. ap (drop 1) (are.alone one);
 }
@@ -63,6 +66,7 @@ written_waits (Ok done) n id call image site new some ok err full are =
     subst (λ (s : SiteRecord). AreOfCell n image (Some s)) (sym ok) (record {
       others = are.others;
       undone = are.undone;
+      plain = are.plain;
       room = omega (arith, length-append site.waiting (record { id = id; call = call } ∷ []), room);
       alone = λ one. let others : 1 < n = are.others some in absurd (omega arith);
     })
@@ -71,9 +75,9 @@ written_waits (Err why) n id call image site new some ok err full are = subst (�
 -- a place is taken, or not
 pub written_held : (r : Result (Unit {0}) NoMemory) (n id : ℕ) (image : List ℕ) (site mid new : SiteRecord) → mid ≡ without_place site → OnOk r (new ≡ with_place mid id) → OnErr r (new ≡ mid) → AreOfCell n image (Some site) → AreOfCell n image (Some new)
 written_held (Ok done) n id image site mid new released ok err are =
-    subst (λ (s : SiteRecord). AreOfCell n image (Some s)) (sym (ok ∙ ap (λ (x : SiteRecord). with_place x id) released)) (record { others = are.others; undone = are.undone; room = are.room; alone = are.alone })
+    subst (λ (s : SiteRecord). AreOfCell n image (Some s)) (sym (ok ∙ ap (λ (x : SiteRecord). with_place x id) released)) (record { others = are.others; undone = are.undone; plain = are.plain; room = are.room; alone = are.alone })
 written_held (Err why) n id image site mid new released ok err are =
-    subst (λ (s : SiteRecord). AreOfCell n image (Some s)) (sym (err ∙ released)) (record { others = are.others; undone = are.undone; room = are.room; alone = are.alone })
+    subst (λ (s : SiteRecord). AreOfCell n image (Some s)) (sym (err ∙ released)) (record { others = are.others; undone = are.undone; plain = are.plain; room = are.room; alone = are.alone })
 
 pub line_held : (r : Result (Unit {0}) NoMemory) (id : ℕ) (site mid new : SiteRecord) → mid ≡ without_place site → OnOk r (new ≡ with_place mid id) → OnErr r (new ≡ mid) → new.waiting ≡ site.waiting
 line_held (Ok done) id site mid new released ok err = ap (λ (x : SiteRecord). x.waiting) ok ∙ ap (λ (x : SiteRecord). x.waiting) released

@@ -2,8 +2,10 @@ pub mod Beacons
 pub mod Held
 pub mod Keeping
 pub mod Lapsing
+pub mod Plain
 pub mod Receiving
 pub mod Recovering
+pub mod Spelled
 pub mod Spreading
 pub mod State
 pub mod Writing

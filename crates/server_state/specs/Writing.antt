@@ -6,6 +6,7 @@ use Rattle.ubik_types.specs.declared.hosts.Host.{Host}
 use Rattle.ubik_types.specs.declared.limits.TheConstants.{MAX_IMAGE, SMALLTIME}
 use Rattle.ubik_types.specs.declared.versions.Version.{Version}
 use Rattle.ubik_types.specs.Phase.{Polled, Spread}
+use Rattle.ubik_types.specs.Version.{IsVersion}
 use Rattle.ubik_calls.specs.declared.packets.Body.{Body}
 use Rattle.cell_model.specs.Node.{Flight, Server, Waiting}
 use Rattle.cell_model.specs.Step.{Member, Shown, Stepped, packet_to, quiet, sent}
@@ -16,6 +17,7 @@ use Rattle.ubik_recovery.specs.Record.{RecoveryRecord, with_text}
 use Rattle.ubik_recovery.specs.Rules.{recovering}
 use Rattle.ubik_write.specs.Flight.{FlightRecord}
 use Rattle.ubik_write.specs.Undo.{image_before}
+use Rattle.server_state.specs.Plain.{IsAnswer}
 
 abbrev pub writes_of : Option SiteRecord → SiteRecord
 writes_of None = no_writes
@@ -42,11 +44,17 @@ pub record IsUndoneOf (image : List ℕ) (write : OwnRecord) : Type 0 where
   pub bytes : write.flight.old_image ≡ image_before write.kept.undo write.kept.old_len image
   pub fits : write.kept.old_len ≤ MAX_IMAGE
 
+-- what is said of a write has a spelling: the version before it is a version, and its answer is no longer than one may be
+pub record IsPlainWrite (write : OwnRecord) : Type 0 where
+  pub before : IsVersion write.kept.old_version
+  pub answer : IsAnswer write.flight.answer
+
 -- The writes of a server in a cell of so many, over this image. One that is in flight has others to go to, and those wait that find room; a
 -- server that is alone has every write at once.
 pub record AreOfCell (n : ℕ) (image : List ℕ) (writes : Option SiteRecord) : Type 0 where
   pub others : IsSome (own_of writes) → 1 < n
   pub undone : ForSome (own_of writes) (IsUndoneOf image)
+  pub plain : ForSome (own_of writes) IsPlainWrite
   pub room : length (waiting_of writes) ≤ MAX_WAITING
   pub alone : n ≡ 1 → waiting_of writes ≡ []
 

@@ -65,7 +65,7 @@ pub fn own_write(
 
 impl State {
     ghost use Rattle.server_state.specs.State.{server_of, member_of, Keeps, ShowsBehind};
-    ghost use Rattle.server_state.specs.Writing.{HasPlace, IsUndoneOf, announced_of, flight_of, flight_packets, write_begun, write_over};
+    ghost use Rattle.server_state.specs.Writing.{HasPlace, IsPlainWrite, IsUndoneOf, announced_of, flight_of, flight_packets, write_begun, write_over};
 
     /// Takes the place of a write for a call, so that it can begin without memory. One that was taken for a write that did not begin is free again.
     pub fn hold_place(&mut self, alloc: Global, id: u32) -> Result<(), NoMemory>
@@ -95,6 +95,8 @@ impl State {
         to: Host,
         out: &mut Outputs,
     ) -> Result<(), NoMemory>
+        requires before { IsVersion flight.now.old_version }
+        requires after { IsVersion new }
         ensures sent { OnOk result (out.new ≡ out.old ++ outputs_of (flight_packets (member_of self.now) to new flight.now)) }
         ensures front { take (length out.old) out.new ≡ out.old }
         ensures len { length out.old ≤ length out.new }
@@ -126,6 +128,8 @@ impl State {
         but: &Marks,
         out: &mut Outputs,
     ) -> Result<(), NoMemory>
+        requires before { IsVersion flight.now.old_version }
+        requires after { IsVersion new }
         ensures sent { OnOk result (out.new ≡ out.old ++ outputs_of (sends_to_each (member_of self.now)
             (λ k. if is_marked (marked (length self.now.cell) but.now.set) k then [] else write_bodies flight.now.old_version new flight.now.text))) }
         ensures front { take (length out.old) out.new ≡ out.old }
@@ -145,6 +149,7 @@ impl State {
         requires others { 1 < length self.old.cell }
         requires place { HasPlace write.flight.id self.old.writes }
         requires undone { IsUndoneOf image write }
+        requires plain { IsPlainWrite write }
         requires version { IsVersion version }
         requires fits { length image ≤ MAX_IMAGE }
         ensures after { server_of self.new ≡ write_begun write (held_alone self.old.recovery self.old.me) (with_database (server_of self.old) version image) }

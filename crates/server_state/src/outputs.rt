@@ -1,5 +1,6 @@
 //! The list that a step leaves.
-ghost use Rattle.std.specs.Prelude.{◌≡◌, ◌<◌, ◌++◌, ◌∷◌, [], length, take, IfOk, IsNone, OnOk, OnErr, option_copied, option_to_list, slice_get};
+ghost use Rattle.std.specs.Prelude.{◌≡◌, ◌<◌, ◌++◌, ◌∷◌, [], length, take, IfOk, IfSome, IsNone, OnOk, OnErr, option_copied, option_to_list, slice_get};
+ghost use Rattle.server_state.specs.Spelled.{IsSpelled};
 
 use cell_model::Output;
 use std::alloc::Global;
@@ -11,7 +12,8 @@ use ubik_types::NoMemory;
 const PLACES: usize = 200;
 
 /// What a step put out, in order. Contracts see the list. It has room for the outputs of a step from the
-/// start, so that putting one out takes no memory; only the packets of a write can be more.
+/// start, so that putting one out takes no memory; only the packets of a write can be more. Each packet and each reply in
+/// it has a spelling on the wire, whatever images and disks hold.
 #[derive(Drop)]
 pub struct Outputs {
     list: VecDeque<Output>,
@@ -19,6 +21,7 @@ pub struct Outputs {
 
 impl Model for Outputs {
     ghost use Rattle.std.specs.Prelude.{List, ◌≤◌};
+    ghost use Rattle.server_state.specs.Spelled.{AreSpelled};
     ghost use Rattle.std.specs.VecDeque.{deque_capacity};
     ghost use Rattle.cell_model.specs.declared.events.Output.{Output};
 
@@ -26,7 +29,7 @@ impl Model for Outputs {
 
     ghost view = { λ o. o.list.items };
 
-    ghost invariant = { λ o. 200 ≤ deque_capacity o.list };
+    ghost invariant = { λ o. (200 ≤ deque_capacity o.list) × AreSpelled o.list.items };
 }
 
 impl Outputs {
@@ -42,6 +45,7 @@ impl Outputs {
     pub fn take(&mut self) -> Option<Output>
         ensures first { self.old ≡ option_to_list result ++ self.new }
         ensures none { IsNone result → self.old ≡ [] }
+        ensures spelled { IfSome result IsSpelled }
     {
         self.list.pop_front()
     }
@@ -55,7 +59,8 @@ impl Outputs {
 
     /// The output at a place, counted from 0; none behind the last.
     pub fn get(&self, place: usize) -> Option<&Output>
-        ensures { option_copied result ≡ slice_get self.now place }
+        ensures place { option_copied result ≡ slice_get self.now place }
+        ensures spelled { IfSome result (λ output. IsSpelled output.now) }
     {
         self.list.get(place)
     }
@@ -76,7 +81,8 @@ impl Outputs {
 
     /// Adds an output at the end of fewer than 200.
     pub fn put(&mut self, output: Output)
-        requires { length self.old < 200 }
+        requires room { length self.old < 200 }
+        requires spelled { IsSpelled output }
         ensures { self.new ≡ self.old ++ output ∷ [] }
     {
         let _ = self.list.push_back(output);
@@ -84,6 +90,7 @@ impl Outputs {
 
     /// Adds an output at the end of any number. For want of memory the list is as before.
     pub fn push(&mut self, output: Output) -> Result<(), NoMemory>
+        requires spelled { IsSpelled output }
         ensures ok { OnOk result (self.new ≡ self.old ++ output ∷ []) }
         ensures err { OnErr result (self.new ≡ self.old) }
     {

@@ -5,7 +5,8 @@ ghost use Rattle.cell_model.specs.Recovery.{held_by, recovered};
 ghost use Rattle.cell_model.specs.Step.{outputs_of, sends_to_each, with_database, with_phase};
 ghost use Rattle.ubik_recovery.specs.Record.{polled_of};
 ghost use Rattle.ubik_types.specs.Phase as phases;
-ghost use Rattle.server_state.specs.Spreading.{IsSpreading, given_bodies};
+ghost use Rattle.server_state.specs.Plain.{IsPlainBody};
+ghost use Rattle.server_state.specs.Spreading.{IsPlainGiven, IsSpreading, given_bodies};
 ghost use Rattle.ubik_types.specs.Version.{IsVersion};
 ghost use Rattle.server_state.specs.Recovering.{IsOfCell, IsServing};
 
@@ -33,7 +34,9 @@ impl Given {
 
     /// What a server gets that answered a version: the new version alone, where it has the old one, else the first piece.
     fn body(&self, alloc: Global, answer: Version) -> Result<Body, NoMemory>
-        ensures { IfOk result (λ body. body ≡ given_body self.now answer) }
+        requires plain { IsPlainGiven self.now }
+        ensures body { IfOk result (λ body. body ≡ given_body self.now answer) }
+        ensures plain { IfOk result IsPlainBody }
     {
         if answer == self.old {
             return Ok(Body::SetVersion {
@@ -65,6 +68,7 @@ impl State {
         out: &mut Outputs,
     ) -> Result<(), NoMemory>
         requires few { length out.old ≤ 120 }
+        requires plain { IsPlainGiven given.now }
         ensures given { OnOk result (out.new ≡ out.old ++ outputs_of (sends_to_each (member_of self.now) (λ k. given_bodies given.now (entry_at next.now.answers k)))) }
         ensures few { OnOk result (length out.new ≤ length out.old + 20) }
     {

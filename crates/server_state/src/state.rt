@@ -6,10 +6,14 @@ ghost use Rattle.ubik_types.specs.declared.limits.TheConstants.{MAX_IMAGE};
 ghost use Rattle.ubik_types.specs.declared.versions.TheConstants.{MAX_COUNTER};
 ghost use Rattle.cell_model.specs.Lapse.{no_quorum};
 ghost use Rattle.cell_model.specs.Step.{outputs_of, packet_to, sends_to, with_database};
+ghost use Rattle.ubik_calls.specs.declared.frames.Frame.TheVariants as frames;
+ghost use Rattle.ubik_calls.specs.WireGrammar.{HasSpelling};
 ghost use Rattle.ubik_recovery.specs.Record.{held_alone, with_text};
 ghost use Rattle.ubik_recovery.specs.Rules.{recovering};
 ghost use Rattle.server_state.specs.Keeping.{IsKeptOver};
+ghost use Rattle.server_state.specs.Plain.{IsPlainBody};
 ghost use Rattle.server_state.specs.Recovering.{IsOfCell, IsServing};
+ghost use Rattle.server_state.specs.Spelled.{IsSpelledReply};
 ghost use Rattle.server_state.specs.Writing.{AreOfCell, announced_of, own_of, waiting_of};
 
 use crate::beacons::ReadyBeacon;
@@ -55,7 +59,8 @@ impl State {
 
     /// The refusal of a server behind which no quorum stands, with its phase, and whether the call may have been made.
     pub fn no_quorum(&self, now: u32, phase: Phase, applied: Applied) -> Reply
-        ensures { result ≡ no_quorum (member_of self.now) (server_of self.now) now phase applied }
+        ensures reply { result ≡ no_quorum (member_of self.now) (server_of self.now) now phase applied }
+        ensures spelled { IsSpelledReply result }
     {
         Reply::NoQuorum {
             now,
@@ -84,7 +89,8 @@ impl State {
 
     /// The version that is announced: during a write in flight the one before it.
     pub(crate) fn announced(&self) -> Version
-        ensures { result ≡ announced_of self.now.version (own_of self.now.writes) }
+        ensures announced { result ≡ announced_of self.now.version (own_of self.now.writes) }
+        ensures version { IsVersion result }
     {
         match self.in_flight() {
             Some(write) => write.versions().0,
@@ -94,7 +100,8 @@ impl State {
 
     /// Sends one packet to a host.
     pub fn send(&self, to: Host, body: Body, out: &mut Outputs)
-        requires { length out.old ≤ 180 }
+        requires few { length out.old ≤ 180 }
+        requires plain { IsPlainBody body }
         ensures sent { out.new ≡ out.old ++ outputs_of (sends_to (member_of self.now) to body) }
         ensures len { length out.new ≡ length out.old + 1 }
     {
@@ -151,7 +158,9 @@ impl State {
 
     /// A packet of this server to a host.
     pub(crate) fn packet_to(&self, to: Host, body: Body) -> Packet
-        ensures { result ≡ packet_to (member_of self.now) to body }
+        requires plain { IsPlainBody body }
+        ensures packet { result ≡ packet_to (member_of self.now) to body }
+        ensures spelled { HasSpelling (frames.Packet result) }
     {
         let from = self.cell.host(self.me);
         Packet { from, to, body }

@@ -2,6 +2,7 @@
 ghost use Rattle.std.specs.Prelude.{◌≡◌, ◌<◌, ◌≤◌, ◌++◌, length};
 ghost use Rattle.ubik_types.specs.Moment.{IsMoment};
 ghost use Rattle.cell_model.specs.Step.{outputs_of, quiet, sends_to_all};
+ghost use Rattle.server_state.specs.Plain.{IsPlainBody};
 ghost use Rattle.cell_model.specs.Voting.{own_beacon, beacon_turn, beacon_received, vote_received};
 
 use crate::beacons::{ReadyBeacon, kept_beacon};
@@ -78,7 +79,8 @@ impl State {
 
     /// The beacon that this server sends.
     fn own_beacon(&self, now: u32, claim: bool) -> Body
-        ensures { result ≡ own_beacon (server_of self.now) now claim }
+        ensures beacon { result ≡ own_beacon (server_of self.now) now claim }
+        ensures plain { IsPlainBody result }
     {
         let ready = claim && self.recovery.phase() == Phase::Ready;
         let version = if ready {

@@ -14,6 +14,7 @@ pub mod Gapless
 pub mod HeldImages
 pub mod Images
 pub mod Lapsed
+pub mod Least
 pub mod Lending
 pub mod Logging
 pub mod Made
@@ -23,6 +24,7 @@ pub mod Reading
 pub mod Received
 pub mod Relabelled
 pub mod Rested
+pub mod Senders
 pub mod Served
 pub mod Spread
 pub mod Stepping

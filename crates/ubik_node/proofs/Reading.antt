@@ -11,7 +11,7 @@ use Rattle.db_image.specs.Standing.{Standing}
 use Rattle.ubik_calls.specs.declared.replies.Reply.{Reply}
 use Rattle.ubik_calls.specs.declared.replies.Reply.TheVariants as reply
 use Rattle.ubik_store.specs.declared.faults.StoreFault.{StoreFault}
-use Rattle.ubik_store.specs.declared.faults.StoreFault.TheVariants.{DiskFault, NoMemory}
+use Rattle.ubik_store.specs.declared.faults.StoreFault.TheVariants.{DiskFault}
 use Rattle.ubik_store.specs.declared.stores.Store.{Store}
 use Rattle.ubik_store.specs.DurableCall.{HasFailed}
 use Rattle.ubik_store.specs.Store.{IsSound, StaysAsItWas, image_in}

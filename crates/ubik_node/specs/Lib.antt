@@ -8,4 +8,6 @@ pub mod Node
 pub mod Serving
 pub mod Steady
 pub mod StoreImages
+pub mod Taking
+pub mod Unanswered
 pub mod Verdict

@@ -17,6 +17,7 @@ use Rattle.ubik_node.specs.declared.evaluations.Evaluation as code
 use Rattle.ubik_node.specs.declared.serving.Turn.{Turn}
 use Rattle.ubik_node.specs.declared.serving.Turn.TheVariants as turn
 use Rattle.ubik_node.specs.Node.{Ends, Held, IsMeantIn}
+use Rattle.server_state.specs.Plain.{IsPlainReply}
 
 -- what a call leads to
 abbrev pub TurnsTo : Database → Member → Server → ℕ → ℕ → List ℕ → Bool → Turn → Stepped → Type 0
@@ -25,6 +26,11 @@ TurnsTo db m s now id call short turn.Read t = (basis : Basis) × (t ≡ read db
 TurnsTo db m s now id call short turn.ReadOwn t = (basis : Basis) × (t ≡ read db s now id call s.image basis short)
 TurnsTo db m s now id call short turn.Wait t = IfSome s.flight (λ f. t ≡ put_into_line s id call short f)
 TurnsTo db m s now id call short turn.Write t = t ≡ write_turn db m s now id call short
+
+-- a refusal has a spelling
+abbrev pub IsPlainTurn : Turn → Type 0
+IsPlainTurn (turn.Refuse r) = IsPlainReply r
+IsPlainTurn _ = Unit {0}
 
 abbrev pub IsWait : Turn → Type 0
 IsWait turn.Wait = Unit {0}

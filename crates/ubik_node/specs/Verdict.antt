@@ -12,6 +12,7 @@ use Rattle.cell_model.specs.Node.{Server}
 use Rattle.cell_model.specs.Step.{Member, Stepped, outputs_of}
 use Rattle.cell_model.specs.Writes.{last_counter, written_in}
 use Rattle.ubik_store.specs.Gaps.{CutsNoPut}
+use Rattle.server_state.specs.Plain.{IsAnswer, IsPlainReply}
 use Rattle.ubik_node.specs.declared.verdicts.Verdict.{Verdict}
 use Rattle.ubik_node.specs.declared.verdicts.Verdict.TheVariants as verdict
 
@@ -29,11 +30,11 @@ pub record IsWritten (old new : List ℕ) (changes : List Change) : Type 0 where
   pub fits : length new ≤ MAX_IMAGE
   pub puts : CutsNoPut changes
 
--- changes are to be made only where there is a next counter, and within the limits, whatever they lead to
+-- a reply has a spelling; changes are to be made only where there is a next counter, and within the limits, whatever they lead to
 abbrev pub CanBeMade : Server → Verdict → Type 0
-CanBeMade s (verdict.Reply r) = Unit {0}
+CanBeMade s (verdict.Reply r) = IsPlainReply r
 CanBeMade s verdict.NewPoll = Unit {0}
-CanBeMade s (verdict.Commit answer changes) = (s.version.counter < MAX_COUNTER) × (too_large 0 (length s.image) changes ≡ None)
+CanBeMade s (verdict.Commit answer changes) = (s.version.counter < MAX_COUNTER) × (too_large 0 (length s.image) changes ≡ None) × IsAnswer answer
 
 -- the step at a turn, given the verdict on its call, which leads to this image
 abbrev pub Judges : Member → Server → (now id : ℕ) → (call image : List ℕ) → Verdict → Stepped → Type 0

@@ -1,9 +1,11 @@
 //! Calls that a server is asked: they are read, written, put into the line of those that wait, or refused.
-ghost use Rattle.std.specs.Prelude.{◌≡◌, ◌<◌, ◌≤◌, ◌+◌, ◌++◌, ◌∷◌, ◌⊎◌, ◌↔◌, ℕ, List, None, [], false, true, length, take, IsErrOf, IsOk, IsSome, OnErr, OnOk};
+ghost use Rattle.std.specs.Prelude.{◌≡◌, ◌<◌, ◌≤◌, ◌+◌, ◌++◌, ◌∷◌, ◌⊎◌, ◌↔◌, ℕ, List, None, [], false, true, length, take, IfOk, IsErrOf, IsOk, IsSome, OnErr, OnOk};
 ghost use Rattle.ubik_types.specs.declared.versions.TheConstants.{MAX_COUNTER};
 ghost use Rattle.ubik_types.specs.Logged.{too_large};
 ghost use Rattle.cell_model.specs.declared.events.Output.TheVariants as outputs;
 ghost use Rattle.server_state.specs.Recovering.{IsServing};
+ghost use Rattle.server_state.specs.Plain.{IsAnswer, IsPlainReply};
+ghost use Rattle.ubik_node.specs.Evaluation.{IsShortReply};
 ghost use Rattle.ubik_node.specs.Serving.{IsReadReply};
 ghost use Rattle.ubik_calls.specs.declared.replies.Reply.{Reply};
 ghost use Rattle.server_state.specs.Writing.{own_of, waiting_of};
@@ -188,6 +190,7 @@ impl<D: SteadyDisk, V: DraftService> Node<D, V> {
         requires counter { self.old.state.version.counter < MAX_COUNTER }
         requires alone { length self.old.state.cell ≡ 1 }
         requires within { too_large 0 (length self.old.state.image) changes.now ≡ None }
+        requires answer { IsAnswer answer }
         requires few { length out.old ≤ 180 }
         ensures ends { (now : ℕ) (call image : List ℕ) → Ends D.Disk (IsSome (D.files self.old.store.disk) × IsWritten self.old.state.image image changes.now)
             (written_in (own_member self.old) (up_server self.old) now id call answer image changes.now (up_server self.old).phase)
@@ -223,6 +226,7 @@ fn answer_read(
     out: &mut Outputs,
 ) -> Result<(), StoreFault>
     requires few { length out.old ≤ 100 }
+    requires short { IfOk made (λ made. IsShortReply made.reply) }
     ensures fault { IsErrOf result StoreFault.DiskFault ↔ IsErrOf made StoreFault.DiskFault }
     ensures memory { IsErrOf result StoreFault.DiskFault ⊎ IsOk result }
     ensures out { OnErr result (out.new ≡ out.old) }
@@ -237,8 +241,10 @@ fn answer_read(
 }
 
 /// Puts a reply out.
-fn put_reply(out: &mut Outputs, id: u32, reply: Reply)
-    requires { length out.old < 200 }
+#[tactic(auto, using(server_state::proofs::Plain::spelled_reply))]
+pub(crate) fn put_reply(out: &mut Outputs, id: u32, reply: Reply)
+    requires room { length out.old < 200 }
+    requires plain { IsPlainReply reply }
     ensures { out.new ≡ out.old ++ outputs.Reply id reply ∷ [] }
 {
     out.put(Output::Reply { id, reply });

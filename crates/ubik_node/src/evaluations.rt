@@ -6,7 +6,7 @@ ghost use Rattle.db_image.specs.Images as images;
 ghost use Rattle.ubik_write.specs.Undo.{image_before};
 ghost use Rattle.ubik_store.specs.DurableCall.{HasFailed};
 ghost use Rattle.ubik_store.specs.Store.{IsSound, StaysAsItWas, image_in};
-ghost use Rattle.ubik_node.specs.Evaluation.{IsMadeOf};
+ghost use Rattle.ubik_node.specs.Evaluation.{IsMadeOf, IsShortReply};
 
 use crate::steady_disks::SteadyDisk;
 use crate::store_images::StoreImage;
@@ -35,6 +35,7 @@ fn evaluate_over<I: ImageRead, V: DraftService>(
     requires { I.size image ≤ 16777216 }
     ensures made { IfOk result.1 (IsMadeOf V.standing (I.held image) now call.now) }
     ensures len { IfOk result.1 (λ made. made.len ≡ I.size image) }
+    ensures short { IfOk result.1 (λ made. IsShortReply made.reply) }
     ensures block { 0 < V.standing.database.block }
     ensures reads { images.OnlyReads I.ImageRead image result.0 ⊥ }
 {
@@ -69,6 +70,7 @@ pub fn evaluate<D: SteadyDisk, V: DraftService>(
     ensures made { IfOk result (IsMadeOf V.standing (image_in (D.files store.old.disk)) now call.now) }
     ensures len { IfOk result (λ made. made.len ≡ store.old.len) }
     ensures block { 0 < V.standing.database.block }
+    ensures short { IfOk result (λ made. IsShortReply made.reply) }
     ensures sound { IsSound D.Disk store.new }
     ensures same { ¬ IsErrOf result StoreFault.DiskFault → StaysAsItWas store.old store.new }
     ensures failed { IsErrOf result StoreFault.DiskFault → HasFailed store.old store.new }
@@ -102,6 +104,7 @@ pub fn evaluate_before<D: SteadyDisk, V: DraftService>(
     requires fresh { store.old.failed ≡ false }
     requires fits { flight.now.old_len ≤ 16777216 }
     ensures made { IfOk result (IsMadeOf V.standing (option_map (image_before flight.now.undo flight.now.old_len) (image_in (D.files store.old.disk))) now call.now) }
+    ensures short { IfOk result (λ made. IsShortReply made.reply) }
     ensures sound { IsSound D.Disk store.new }
     ensures same { ¬ IsErrOf result StoreFault.DiskFault → StaysAsItWas store.old store.new }
     ensures failed { IsErrOf result StoreFault.DiskFault → HasFailed store.old store.new }

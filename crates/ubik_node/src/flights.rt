@@ -7,6 +7,7 @@ ghost use Rattle.site_writes.specs.OwnWrite.{own_write};
 ghost use Rattle.ubik_store.specs.DurableCall.{HasFailed};
 ghost use Rattle.ubik_store.specs.Store.{IsSound, StaysAsItWas, image_in};
 ghost use Rattle.ubik_write.specs.Flight.{IsFlightOf, Undoes};
+ghost use Rattle.server_state.specs.Plain.{IsAnswer};
 ghost use Rattle.server_state.specs.Recovering.{IsServing};
 ghost use Rattle.server_state.specs.Writing.{own_of, waiting_of};
 
@@ -84,6 +85,7 @@ impl<D: SteadyDisk, V: DraftService> Node<D, V> {
         requires counter { self.old.state.version.counter < MAX_COUNTER }
         requires others { 1 < length self.old.state.cell }
         requires within { too_large 0 (length self.old.state.image) changes.now ≡ None }
+        requires answer { IsAnswer answer }
         ensures ends { (image : List ℕ) → Ends D.Disk (IsSome (D.files self.old.store.disk) × IsWritten self.old.state.image image changes.now)
             (written_in (own_member self.old) (up_server self.old) now id call.now answer image changes.now (up_server self.old).phase)
             out.old out.new (held self.old) (held self.new) result }

@@ -17,7 +17,10 @@ mod relabelling;
 mod serving;
 mod steady_disks;
 mod store_images;
+mod taking;
 mod telling;
+mod threads;
+mod unanswered;
 mod verdicts;
 
 pub use cell_model::{NodeEvent, Output};

@@ -1,5 +1,5 @@
 //! A server of a cell, one step at a time.
-ghost use Rattle.std.specs.Prelude.{◌≡◌, IsErrOf, ◌⊎◌, ◌≢◌, ◌↔◌, IsTrue, ◌+◌, ◌<◌, ◌≤◌, ℕ, [], length, Ok, Err, IfOk, IfErr, IfSome, IsOk, IsSome, MatchResult, None, true, false};
+ghost use Rattle.std.specs.Prelude.{◌≡◌, IsErrOf, ◌⊎◌, ◌≢◌, ◌↔◌, IsTrue, ◌+◌, ◌<◌, ◌≤◌, ◌^◌, ℕ, [], length, Ok, Err, IfOk, IfErr, IfSome, IsOk, IsSome, MatchResult, None, true, false};
 ghost use Rattle.ubik_types.specs.declared.hosts.Host.{Host};
 ghost use Rattle.ubik_types.specs.Moment.{IsMoment};
 ghost use Rattle.disk_base.specs.Crash.{IsSettled};
@@ -7,11 +7,14 @@ ghost use Rattle.disk_base.specs.Stops.{IsStopped};
 ghost use Rattle.cell_model.specs.Node as model;
 ghost use Rattle.cell_model.specs.NodeRule.{handled, place_of, received_packet, refusals};
 ghost use Rattle.cell_model.specs.Step.{outputs_of, cell_size};
+ghost use Rattle.ubik_calls.specs.declared.frames.Frame.TheVariants as frames;
+ghost use Rattle.ubik_calls.specs.WireGrammar.{HasSpelling};
 ghost use Rattle.ubik_node.specs.Built.{BodyTakesNoMemory, IsBuilt, IsBuiltBody, TakesNoMemory};
 ghost use Rattle.server_state.specs.Recovering.{IsOfCell};
 
+use crate::asking::put_reply;
 use crate::steady_disks::SteadyDisk;
-use cell_model::{NodeEvent, Output};
+use cell_model::NodeEvent;
 use db_image::DraftService;
 use disk_base::{Fill, Refused, StopDisk};
 use server_state::{Dropped, Heard, HeldImage, Outputs, State};
@@ -140,10 +143,31 @@ impl<D: SteadyDisk, V: DraftService> Node<D, V> {
         ensures calls { Calls D.Disk self.old self.new result }
         ensures last { self.new.last ≡ last_after result self.old.last now }
     {
+        self.step_on(now, &event, out)
+    }
+
+    /// `step` at an event that the caller keeps: after a step that ended for want of memory it can be taken again.
+    pub fn step_on(&mut self, now: u32, event: &NodeEvent, out: &mut Outputs) -> StepEnd
+        requires moment { IsMoment now }
+        requires order { self.old.last ≤ now }
+        requires built { IsBuilt event.now }
+        requires empty { out.old ≡ [] }
+        requires stored { IsStored D.Disk self.old }
+        ensures step { Needs V.standing (own_member self.old) (node_of self.old) event.now (D.files self.old.store.disk)
+            → Steps D.Disk V.standing.database (own_member self.old) result event.now now (node_of self.old) (node_of self.new) out.new
+            self.old.store.disk self.new.store.disk }
+        ensures member { own_member self.new ≡ own_member self.old }
+        ensures stored { IsStored D.Disk self.new }
+        ensures memory { TakesNoMemory event.now → result ≢ StepEnd.NoMemory }
+        ensures halts { (result ≡ StepEnd.Halted) ↔ (self.new.halted ≡ true) }
+        ensures told { result ≢ StepEnd.Halted → IsSome (D.files self.old.store.disk) → IsSome (D.files self.new.store.disk) }
+        ensures calls { Calls D.Disk self.old self.new result }
+        ensures last { self.new.last ≡ last_after result self.old.last now }
+    {
         let end = if self.halted {
-            refuse(&event, out)
+            refuse(event, out)
         } else {
-            self.step_up(now, &event, out)
+            self.step_up(now, event, out)
         };
         if end != StepEnd::NoMemory {
             self.last = now;
@@ -153,7 +177,8 @@ impl<D: SteadyDisk, V: DraftService> Node<D, V> {
 
     /// What the server tells of itself at a moment in seconds. A halted one tells what it kept.
     pub fn debug(&self, now: u32) -> DebugIs
-        ensures { result ≡ debug_of (own_member self.now) (model.halted_from (up_server self.now)) now }
+        ensures told { result ≡ debug_of (own_member self.now) (model.halted_from (up_server self.now)) now }
+        ensures spelled { (number : ℕ) → number < 2 ^ 32 → HasSpelling (frames.DebugIs number result) }
     {
         let (voted, voted_at) = self.state.votes.last_yes();
         let sync = self.state.votes.sync_heard(now);
@@ -452,10 +477,7 @@ fn refuse(event: &NodeEvent, out: &mut Outputs) -> StepEnd
     ensures out { out.new ≡ outputs_of (refusals event.now) }
 {
     if let NodeEvent::Ask { id, .. } = event {
-        out.put(Output::Reply {
-            id: *id,
-            reply: Reply::DiskFault,
-        });
+        put_reply(out, *id, Reply::DiskFault);
     }
     StepEnd::Halted
 }

@@ -4,6 +4,7 @@ ghost use Rattle.disk_base.specs.Runs.{OnlyReads};
 ghost use Rattle.cell_model.specs.Pieces.{piece_from};
 ghost use Rattle.ubik_store.specs.DurableCall.{HasFailed};
 ghost use Rattle.ubik_store.specs.Store.{IsSound, StaysAsItWas, image_in};
+ghost use Rattle.server_state.specs.Plain.{IsPiece};
 
 use disk_base::Disk;
 use std::alloc::Global;
@@ -29,6 +30,7 @@ fn read_bytes<D: Disk>(
     requires fresh { store.old.failed ≡ false }
     requires within { at + len ≤ store.old.len }
     ensures bytes { IfOk result (λ bytes. IfSome (image_in (D.files store.old.disk)) (λ image. bytes.items ≡ take len (drop at image))) }
+    ensures len { IfOk result (λ bytes. length bytes.items ≡ len) }
     ensures sound { IsSound D.Disk store.new }
     ensures same { ¬ IsErrOf result StoreFault.DiskFault → StaysAsItWas store.old store.new }
     ensures failed { IsErrOf result StoreFault.DiskFault → HasFailed store.old store.new }
@@ -50,6 +52,7 @@ pub fn read_piece<D: Disk>(
     requires fresh { store.old.failed ≡ false }
     requires within { at ≤ store.old.len }
     ensures piece { IfOk result (λ piece. IfSome (image_in (D.files store.old.disk)) (λ image. piece ≡ piece_from image at)) }
+    ensures short { IfOk result IsPiece }
     ensures sound { IsSound D.Disk store.new }
     ensures same { ¬ IsErrOf result StoreFault.DiskFault → StaysAsItWas store.old store.new }
     ensures failed { IsErrOf result StoreFault.DiskFault → HasFailed store.old store.new }
@@ -70,6 +73,7 @@ pub fn first_piece<D: Disk>(
     requires sound { IsSound D.Disk store.old }
     requires fresh { store.old.failed ≡ false }
     ensures piece { IfOk result (λ piece. 1 < servers → IfSome (image_in (D.files store.old.disk)) (λ image. piece ≡ piece_from image 0)) }
+    ensures short { IfOk result IsPiece }
     ensures sound { IsSound D.Disk store.new }
     ensures same { ¬ IsErrOf result StoreFault.DiskFault → StaysAsItWas store.old store.new }
     ensures failed { IsErrOf result StoreFault.DiskFault → HasFailed store.old store.new }

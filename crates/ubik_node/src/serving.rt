@@ -5,8 +5,10 @@ ghost use Rattle.db_image.specs.Database.{Database};
 ghost use Rattle.cell_model.specs.Asks.{asked_as, allows_reads, not_served, read_reply};
 ghost use Rattle.cell_model.specs.Step.{Evaluation};
 ghost use Rattle.cell_model.specs.declared.events.Output.TheVariants as outputs;
-ghost use Rattle.ubik_node.specs.Serving.{TurnsTo, IsWait, IsWrite};
+ghost use Rattle.ubik_node.specs.Evaluation.{IsShortReply};
+ghost use Rattle.ubik_node.specs.Serving.{TurnsTo, IsPlainTurn, IsWait, IsWrite};
 ghost use Rattle.server_state.specs.Beacons.{beacon_of};
+ghost use Rattle.server_state.specs.Plain.{IsPlainReply};
 ghost use Rattle.server_state.specs.State.{server_of, member_of};
 ghost use Rattle.server_state.specs.Recovering.{IsServing};
 ghost use Rattle.server_state.specs.Writing.{own_of};
@@ -39,6 +41,7 @@ pub fn turn_of(state: &State, now: u32, writes: bool) -> Turn
     ensures serving { IsWrite result → IsServing state.now.recovery }
     ensures writing { IsWait result → IsSome (own_of state.now.writes) }
     ensures free { IsWrite result → own_of state.now.writes ≡ None }
+    ensures plain { IsPlainTurn result }
 {
     let leased = state.votes.in_lease(now);
     match state.recovery.phase() {
@@ -63,7 +66,8 @@ fn allows_reads(state: &State, now: u32) -> bool
 
 /// The refusal of a server that is not in lease: another one's claim, or that no quorum stands behind it.
 fn not_served(state: &State, now: u32) -> Reply
-    ensures { result ≡ not_served (member_of state.now) (server_of state.now) now (sync_heard now state.now.votes.votes) }
+    ensures reply { result ≡ not_served (member_of state.now) (server_of state.now) now (sync_heard now state.now.votes.votes) }
+    ensures plain { IsPlainReply result }
 {
     match state.votes.sync_heard(now) {
         Some((server, heard)) if server != state.me => Reply::NotSync {
@@ -76,7 +80,8 @@ fn not_served(state: &State, now: u32) -> Reply
 
 /// The reply to a call that the database has evaluated, where nothing is to be written.
 pub fn reply_of(reply: CallReply) -> Reply
-    ensures { (id : ℕ) (e : Evaluation) → (read_reply id e reply).output ≡ outputs.Reply id result }
+    ensures reply { (id : ℕ) (e : Evaluation) → (read_reply id e reply).output ≡ outputs.Reply id result }
+    ensures plain { IsShortReply reply → IsPlainReply result }
 {
     match reply {
         CallReply::Done(answer) => Reply::Ok(answer),

@@ -4,6 +4,8 @@ ghost use Rattle.db_image.specs.Database.{changes_of};
 ghost use Rattle.cell_model.specs.Step.{Member};
 ghost use Rattle.cell_model.specs.Writes.{turned, written};
 ghost use Rattle.server_state.specs.State.{server_of};
+ghost use Rattle.server_state.specs.Plain.{IsAnswer};
+ghost use Rattle.ubik_node.specs.Evaluation.{IsShortReply};
 ghost use Rattle.ubik_node.specs.Verdict.{CanBeMade, Judges};
 
 use crate::evaluations::Evaluation;
@@ -27,6 +29,7 @@ pub enum Verdict {
 /// The verdict on what the database made of a call over the image.
 pub fn verdict_of<V: DraftService>(state: &State, made: Evaluation) -> Verdict
     requires len { made.len ≡ length state.now.image }
+    requires short { IsShortReply made.reply }
     requires block { 0 < V.standing.database.block }
     ensures judged { (image : List ℕ) → length state.now.image ≤ length image
         → made.changes ≡ changes_of V.standing.database state.now.image image → (m : Member) (now id : ℕ) (call : List ℕ)
@@ -53,6 +56,7 @@ fn verdict_of_write<V: DraftService>(
     changes: Changes,
 ) -> Verdict
     requires len { len ≡ length state.now.image }
+    requires answer { IsAnswer answer }
     requires block { 0 < V.standing.database.block }
     ensures judged { (image : List ℕ) → length state.now.image ≤ length image
         → changes ≡ changes_of V.standing.database state.now.image image → (m : Member) (now id : ℕ) (call : List ℕ)

@@ -48,4 +48,5 @@ returns-else-state-eq-MAX_COUNTER-clause-can g c =
     let apart : c.args.state.now.version.counter ≢ 2147483647 = c.if-state-eq-MAX_COUNTER.false in (
       omega (arith, c.args.state.now.counter_fits, apart),
       rw c.requires.len at (sym c.too_large.ensures ∙ c.in_default.is),
+      c.requires.answer,
     )

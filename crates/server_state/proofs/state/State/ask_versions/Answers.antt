@@ -28,7 +28,7 @@ loop-k-preserved c =
     elim c.if-k-self.branch [
       | then-k-self+then-not-is_in w ↦
           let out : c.if-k-self.out ≡ c.loop-k.out ++ Send (packet_to m w.host.result (body.GetVersion c.args.poll)) ∷ [] =
-          w.out-is ∙ w.put.ensures ∙ ap (λ (p : Packet). c.loop-k.out ++ Send p ∷ []) w.packet_to-question.ensures in
+          w.out-is ∙ w.put.ensures ∙ ap (λ (p : Packet). c.loop-k.out ++ Send p ∷ []) w.packet_to-question.ensures.packet in
           let none : w.is_in.result ≡ false = search rules in
           record {
             few = omega (arith, ap length out, length-append c.loop-k.out (Send (packet_to m w.host.result (body.GetVersion c.args.poll)) ∷ []), c.loop-k.invariant.few);

@@ -38,7 +38,7 @@ loop-k-preserved c =
           let body = given_body given w.in-Some.answer in
           let out : c.match-answered_version.out ≡ c.loop-k.out ++ Send (packet_to m w.host.result body) ∷ [] =
           w.out-is ∙ w.put.ensures
-          ∙ ap (λ (p : Packet). c.loop-k.out ++ Send p ∷ []) (w.packet_to.ensures ∙ ap (λ (b : Body). packet_to m w.host.result b) w.in_ok-body.ensures) in
+          ∙ ap (λ (p : Packet). c.loop-k.out ++ Send p ∷ []) (w.packet_to.ensures.packet ∙ ap (λ (b : Body). packet_to m w.host.result b) w.in_ok-body.ensures.body) in
           record {
             few = omega (arith, ap length out, length-append c.loop-k.out (Send (packet_to m w.host.result body) ∷ []), c.loop-k.invariant.few);
             rest =

@@ -1,4 +1,4 @@
-use Rattle.std.proofs.Common.{◌≡◌, ◌+◌, ◌-◌, ◌<◌, ◌∷◌, [], ◌++◌, ℕ, List, length, take, ap, ◌∙◌, length-append, arith}
+use Rattle.std.proofs.Common.{◌≡◌, ◌+◌, ◌-◌, ◌<◌, ◌∷◌, [], ◌++◌, ℕ, List, length, take, drop, ap, ◌∙◌, ◌*◌, length-append, length-take, arith}
 use Rattle.ubik_calls.specs.declared.packets.Body.TheVariants as body
 use Rattle.ubik_calls.specs.declared.packets.Packet.{Packet}
 use Rattle.cell_model.specs.declared.events.Output.{Output}
@@ -21,9 +21,19 @@ loop-number-preserved c =
     let inside : number < count = omega arith in
     let out : c.push-in-loop-number.new.self ≡ c.loop-number.out ++ piece =
     c.in_ok-push-2.ensures.ok
-    ∙ ap (λ (p : Packet). c.loop-number.out ++ Send p ∷ []) (c.packet_to-in-loop-number.ensures ∙ ap (λ (bytes : List ℕ). packet_to m c.args.to (body.PutPiece c.args.new number bytes)) (c.in_ok-bytes.ensures ∙ c.piece.ensures)) in
+    ∙ ap (λ (p : Packet). c.loop-number.out ++ Send p ∷ []) (c.packet_to-in-loop-number.ensures.packet ∙ ap (λ (bytes : List ℕ). packet_to m c.args.to (body.PutPiece c.args.new number bytes)) (c.in_ok-bytes.ensures ∙ c.piece.ensures)) in
     record {
       long = omega (arith, ap length out, length-append c.loop-number.out piece, c.loop-number.invariant.long);
       front = ap (λ (o : List Output). take (length old) o) out ∙ front_stays old c.loop-number.out piece c.loop-number.invariant.long c.loop-number.invariant.front;
       rest = ap (λ (o : List Output). o ++ pieces_left m c.args.to c.args.new text (number + 1) (count - (number + 1))) out ∙ piece_put m c.args.to c.args.new text number count c.loop-number.out all inside c.loop-number.invariant.rest;
+    }
+
+pub packet_to-requires-in-loop-number : goal.packet_to-requires-in-loop-number
+packet_to-requires-in-loop-number c =
+    let text = c.args.flight.now.text in
+    record {
+      plain = (
+        c.requires.after,
+        omega (arith, ap length (c.in_ok-bytes.ensures ∙ c.piece.ensures), length-take 8192 (drop (c.loop-number.number * 8192) text)),
+      );
     }

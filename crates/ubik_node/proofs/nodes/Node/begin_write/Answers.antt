@@ -30,6 +30,9 @@ use Rattle.ubik_node.proofs.Calling.{ended, held_as, known_call_failed, known_ca
 use Rattle.ubik_node.proofs.Committing.{flown, next_is_newer, spread_to_each, undone_here, written_begun}
 use Rattle.ubik_node.proofs.Endings.{handed_ends, ok_not, told_still}
 use Rattle.ubik_node.proofs.HeldImages.{held_after, held_length, held_there}
+use Rattle.ubik_types.specs.Version.{IsVersion}
+use Rattle.server_state.specs.Plain.{IsAnswer}
+use Rattle.server_state.proofs.Plain.{own_version}
 use Rattle.ubik_node.proofs.nodes.Node.begin_write.Goals as goal
 
 pub returns-in_err-flight-clause-ends : goal.returns-in_err-flight-clause-ends
@@ -143,3 +146,19 @@ pub begin_flight-requires-clause-fits : goal.begin_flight-requires-clause-fits
 begin_flight-requires-clause-fits g c =
     let later = c.commit_all.new.store in
     omega (arith, c.commit_all.ensures.sound.len, ap length c.of-image.ensures, held_length g.D.Disk later (c.commit_all.ensures.sound.ready c.in_ok-commit_all.ensures.done.failed))
+
+pub spread_write-requires-clause-before : goal.spread_write-requires-clause-before
+spread_write-requires-clause-before g c = subst IsVersion (sym c.in_ok-flight.ensures.flight.old_version) (own_version c.args.self.now.state)
+
+pub spread_write-requires-clause-after : goal.spread_write-requires-clause-after
+spread_write-requires-clause-after g c =
+    let st = c.args.self.now.state in
+    subst IsVersion (sym c.next_version-next.ensures) (record { epoch = omega (arith, st.epoch_fits); counter = omega (arith, c.requires.counter) })
+
+pub begin_flight-requires-clause-plain : goal.begin_flight-requires-clause-plain
+begin_flight-requires-clause-plain g c =
+    let value = sym c.own_write-write.ensures.value in
+    record {
+      before = subst (λ (w : OwnRecord). IsVersion w.kept.old_version) value (subst IsVersion (sym c.in_ok-flight.ensures.flight.old_version) (own_version c.args.self.now.state));
+      answer = subst (λ (w : OwnRecord). IsAnswer w.flight.answer) value c.requires.answer;
+    }

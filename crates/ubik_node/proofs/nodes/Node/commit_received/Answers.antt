@@ -14,6 +14,7 @@ use Rattle.ubik_node.proofs.Endings.{handed_ends, rests_ends, same_ends, short_e
 use Rattle.ubik_node.proofs.Fronts.{fails_so, goes_on}
 use Rattle.ubik_node.proofs.Received.{sending_is}
 use Rattle.ubik_node.proofs.Told.{sent_as}
+use Rattle.server_state.proofs.Plain.{own_version}
 use Rattle.ubik_node.proofs.nodes.Node.commit_received.Goals as goal
 
 pub returns-then-spreads : goal.returns-then-spreads
@@ -123,8 +124,14 @@ pub take_write-requires-clause-newer : goal.take_write-requires-clause-newer
 take_write-requires-clause-newer g c =
     let st = c.args.self.now.state in (whole_over st.version c.args.new st.pending c.in-Whole.changes st.begun c.in-Whole.ensures).1
 
-pub send-requires : goal.send-requires
-send-requires g c = omega (arith, c.requires.few)
+pub send-requires-clause-few : goal.send-requires-clause-few
+send-requires-clause-few g c = omega (arith, c.requires.few)
 
-pub send-requires-2 : goal.send-requires-2
-send-requires-2 g c = omega (arith, c.requires.few)
+pub send-requires-2-clause-few : goal.send-requires-2-clause-few
+send-requires-2-clause-few g c = omega (arith, c.requires.few)
+
+pub send-requires-clause-plain : goal.send-requires-clause-plain
+send-requires-clause-plain g c = own_version c.args.self.now.state
+
+pub send-requires-2-clause-plain : goal.send-requires-2-clause-plain
+send-requires-2-clause-plain g c = let st = c.args.self.now.state in (whole_over st.version c.args.new st.pending c.in-Whole.changes st.begun c.in-Whole.ensures).0

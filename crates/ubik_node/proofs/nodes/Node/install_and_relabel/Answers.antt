@@ -119,8 +119,8 @@ returns g c =
           (λ more. first_of text c.in_ok-bytes_of.field-0 c.min.result (omega (arith, c.min.ensures)) c.in_ok-bytes_of.ensures) c.in_ok-give.ensures.given shows.outputs,
     )))
 
-pub give-requires : goal.give-requires
-give-requires g c = record { few = omega (arith, c.requires.few) }
+pub give-requires-clause-few : goal.give-requires-clause-few
+give-requires-clause-few g c = omega (arith, c.requires.few)
 
 pub install-requires-clause-sound : goal.install-requires-clause-sound
 install-requires-clause-sound g c = c.requires.stored.sound
@@ -163,3 +163,6 @@ overflow_cast-given g c = omega (arith, c.requires.fits)
 
 pub same-next : goal.same-next
 same-next g c = search rules
+
+pub give-requires-clause-plain : goal.give-requires-clause-plain
+give-requires-clause-plain g c = record { old = c.requires.version; new = record { epoch = omega (arith, c.requires.moment.fits); counter = omega arith }; piece = omega (arith, ap length c.in_ok-bytes_of.ensures, length-take c.min.result c.args.text.now, c.min.ensures) }

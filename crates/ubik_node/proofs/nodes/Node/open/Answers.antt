@@ -82,5 +82,5 @@ invariant_of-state g c =
       begun = λ w is. absurd cc;
       serving = λ writes. absurd (false≢true writes);
       line = λ rests. refl;
-      written = record { others = λ writes. absurd (false≢true writes); undone = λ w is. absurd cc; room = omega arith; alone = λ one. refl };
+      written = record { others = λ writes. absurd (false≢true writes); undone = λ w is. absurd cc; plain = λ w is. absurd cc; room = omega arith; alone = λ one. refl };
     }

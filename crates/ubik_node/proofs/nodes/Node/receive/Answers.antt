@@ -12,6 +12,7 @@ use Rattle.ubik_node.proofs.Begun.{quiet_ends, quietly}
 use Rattle.ubik_node.proofs.Places.{placed}
 use Rattle.ubik_node.proofs.Told.{sent_as}
 use Rattle.ubik_node.proofs.Voted.{ignored_ends, placed_ends}
+use Rattle.server_state.proofs.Plain.{own_version}
 use Rattle.ubik_node.proofs.nodes.Node.receive.Goals as goal
 
 inside : (hosts : List Host) (k : ℕ) (host : Host) → slice_get hosts k ≡ Some host → k < length hosts
@@ -233,8 +234,8 @@ take_piece-requires-clause-version g c = subst IsBuiltBody c.in-SendPiece.is c.r
 pub hear_vote-requires : goal.hear_vote-requires
 hear_vote-requires g c = inside c.args.self.now.state.cell c.in-Some.from c.args.packet.now.from c.in-Some.ensures.found
 
-pub send-requires : goal.send-requires
-send-requires g c = omega (arith, c.requires.few)
+pub send-requires-clause-few : goal.send-requires-clause-few
+send-requires-clause-few g c = omega (arith, c.requires.few)
 
 pub returns-in-Beacon-clause-memory : goal.returns-in-Beacon-clause-memory
 returns-in-Beacon-clause-memory g c = λ takes. inr refl
@@ -322,3 +323,6 @@ commit_received-requires-clause-stored g c = c.requires.stored
 
 pub commit_received-requires-clause-few : goal.commit_received-requires-clause-few
 commit_received-requires-clause-few g c = c.requires.few
+
+pub send-requires-clause-plain : goal.send-requires-clause-plain
+send-requires-clause-plain g c = own_version c.args.self.now.state

@@ -22,6 +22,7 @@ use Rattle.ubik_node.proofs.Durables.{IsThere, image_then}
 use Rattle.ubik_node.proofs.Endings.{handed_ends, ok_not, same_ends}
 use Rattle.ubik_node.proofs.Relabelled.{piece_known, relabel_outputs, sends_as, settled_calls}
 use Rattle.ubik_node.proofs.Turning.{relabelling_comes}
+use Rattle.server_state.proofs.Plain.{own_version}
 use Rattle.ubik_node.proofs.nodes.Node.relabel.Goals as goal
 
 newer_epoch : (own : Version) (now : ℕ) → own.epoch < now → version_lt own (first_of_epoch now) ≡ true
@@ -102,8 +103,8 @@ first_piece-requires-clause-sound g c = c.requires.stored.sound
 pub first_piece-requires-clause-fresh : goal.first_piece-requires-clause-fresh
 first_piece-requires-clause-fresh g c = c.requires.stored.failed ∙ c.requires.not_halted
 
-pub give-requires : goal.give-requires
-give-requires g c = record { few = c.requires.few }
+pub give-requires-clause-few : goal.give-requires-clause-few
+give-requires-clause-few g c = c.requires.few
 
 pub relabel-requires-clause-sound : goal.relabel-requires-clause-sound
 relabel-requires-clause-sound g c = c.first_piece.ensures.sound
@@ -125,3 +126,6 @@ settle-requires g c = record { few = omega (arith, c.in_ok-give.ensures.few, c.r
 
 pub begin_sending-requires-clause-resting : goal.begin_sending-requires-clause-resting
 begin_sending-requires-clause-resting g c = c.requires.resting
+
+pub give-requires-clause-plain : goal.give-requires-clause-plain
+give-requires-clause-plain g c = record { old = own_version c.args.self.now.state; new = record { epoch = omega (arith, c.requires.moment.fits); counter = omega arith }; piece = c.in_ok-piece.ensures.short }

@@ -1,4 +1,4 @@
-use Rattle.std.proofs.Common.{◌∙◌, ℕ, refl, sym, ap, arith}
+use Rattle.std.proofs.Common.{◌∙◌, ℕ, refl, sym, ap, subst, arith}
 use Rattle.std.proofs.lemmas.List.{append-nil}
 use Rattle.ubik_types.specs.declared.versions.Version.{Version}
 use Rattle.ubik_calls.specs.declared.packets.Body.TheVariants as body
@@ -7,6 +7,8 @@ use Rattle.server_state.specs.State.{announced, member_of, server_of}
 use Rattle.server_state.specs.Writing.{own_of}
 use Rattle.ubik_node.proofs.Endings.{rests_ends, same_ends}
 use Rattle.ubik_node.proofs.Told.{flight_none, flight_some, lacks_free, lacks_held, lacks_image, lacks_version, sent_as}
+use Rattle.server_state.proofs.Plain.{own_version}
+use Rattle.ubik_types.specs.Version.{IsVersion}
 use Rattle.ubik_node.proofs.nodes.Node.send_lacking.Goals as goal
 
 pub returns-then-writes : goal.returns-then-writes
@@ -49,5 +51,8 @@ send_piece-requires-clause-few g c = c.requires.few
 pub send_piece-requires-clause-within : goal.send_piece-requires-clause-within
 send_piece-requires-clause-within g c = omega arith
 
-pub send-requires : goal.send-requires
-send-requires g c = omega (arith, c.requires.few)
+pub send-requires-clause-few : goal.send-requires-clause-few
+send-requires-clause-few g c = omega (arith, c.requires.few)
+
+pub send-requires-clause-plain : goal.send-requires-clause-plain
+send-requires-clause-plain g c = (let st = c.args.self.now.state in subst IsVersion (sym c.old.ensures) st.of_cell.old, own_version c.args.self.now.state)

@@ -9,6 +9,7 @@ use Rattle.ubik_node.proofs.Calling.{stored_read, unread_ends}
 use Rattle.ubik_node.proofs.Endings.{handed_ends, read_ends}
 use Rattle.ubik_node.proofs.Relabelled.{piece_known}
 use Rattle.ubik_node.proofs.Told.{sent_as}
+use Rattle.server_state.proofs.Plain.{own_version}
 use Rattle.ubik_node.proofs.nodes.Node.send_piece.Goals as goal
 
 pub read_piece-requires-clause-within : goal.read_piece-requires-clause-within
@@ -44,5 +45,8 @@ read_piece-requires-clause-sound g c = c.requires.stored.sound
 pub read_piece-requires-clause-fresh : goal.read_piece-requires-clause-fresh
 read_piece-requires-clause-fresh g c = c.requires.stored.failed ∙ c.requires.not_halted
 
-pub send-requires : goal.send-requires
-send-requires g c = omega (arith, c.requires.few)
+pub send-requires-clause-few : goal.send-requires-clause-few
+send-requires-clause-few g c = omega (arith, c.requires.few)
+
+pub send-requires-clause-plain : goal.send-requires-clause-plain
+send-requires-clause-plain g c = (own_version c.args.self.now.state, c.in_ok-bytes.ensures.short)

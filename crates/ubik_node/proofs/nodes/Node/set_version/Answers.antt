@@ -18,6 +18,7 @@ use Rattle.ubik_node.proofs.Durables.{image_then}
 use Rattle.ubik_node.proofs.Endings.{handed_ends, ok_not, reads_none, rests_ends, same_ends}
 use Rattle.ubik_node.proofs.Received.{sending_is, set_had, set_ignored, set_made, set_refused}
 use Rattle.ubik_node.proofs.Told.{sent_as}
+use Rattle.server_state.proofs.Plain.{own_version}
 use Rattle.ubik_node.proofs.nodes.Node.set_version.Goals as goal
 
 pub returns-then-spreads : goal.returns-then-spreads
@@ -107,11 +108,20 @@ relabel-requires-clause-version g c = c.requires.version
 pub relabel-requires-2-clause-version : goal.relabel-requires-2-clause-version
 relabel-requires-2-clause-version g c = c.requires.version
 
-pub send-requires : goal.send-requires
-send-requires g c = omega (arith, c.requires.few)
+pub send-requires-clause-few : goal.send-requires-clause-few
+send-requires-clause-few g c = omega (arith, c.requires.few)
 
-pub send-requires-then-not-lacks : goal.send-requires-then-not-lacks
-send-requires-then-not-lacks g c = omega (arith, c.requires.few)
+pub send-requires-then-not-lacks-clause-few : goal.send-requires-then-not-lacks-clause-few
+send-requires-then-not-lacks-clause-few g c = omega (arith, c.requires.few)
 
-pub send-requires-2 : goal.send-requires-2
-send-requires-2 g c = omega (arith, c.requires.few)
+pub send-requires-2-clause-few : goal.send-requires-2-clause-few
+send-requires-2-clause-few g c = omega (arith, c.requires.few)
+
+pub send-requires-clause-plain : goal.send-requires-clause-plain
+send-requires-clause-plain g c = own_version c.args.self.now.state
+
+pub send-requires-then-not-lacks-clause-plain : goal.send-requires-then-not-lacks-clause-plain
+send-requires-then-not-lacks-clause-plain g c = own_version c.args.self.now.state
+
+pub send-requires-2-clause-plain : goal.send-requires-2-clause-plain
+send-requires-2-clause-plain g c = c.requires.version

@@ -15,6 +15,7 @@ use Rattle.ubik_node.proofs.Fetching.{sent_from, busy_is, fetching_is, fits_of, 
 use Rattle.ubik_node.proofs.Fronts.{fails_so, goes_on, short_back, text_put}
 use Rattle.ubik_node.proofs.Received.{piece_end, send_goes, send_had, send_ignored, send_late, sending_is, text_goes, text_ignored, text_whole}
 use Rattle.ubik_node.proofs.Told.{sent_as}
+use Rattle.server_state.proofs.Plain.{own_version}
 use Rattle.ubik_node.proofs.nodes.Node.take_piece.Goals as goal
 
 pub returns-then-spreads : goal.returns-then-spreads
@@ -213,17 +214,17 @@ returns g c =
           (ap (λ (k : ℕ). body.PieceKept c.args.poll source.version k) (sym (piece_end source at bytes st.recovery.text next)));
     }))
 
-pub send-requires : goal.send-requires
-send-requires g c = omega (arith, c.requires.few)
+pub send-requires-clause-few : goal.send-requires-clause-few
+send-requires-clause-few g c = omega (arith, c.requires.few)
 
-pub send-requires-then-late : goal.send-requires-then-late
-send-requires-then-late g c = omega (arith, c.requires.few)
+pub send-requires-then-late-clause-few : goal.send-requires-then-late-clause-few
+send-requires-then-late-clause-few g c = omega (arith, c.requires.few)
 
-pub send-requires-then-whole : goal.send-requires-then-whole
-send-requires-then-whole g c = omega (arith, c.requires.few)
+pub send-requires-then-whole-clause-few : goal.send-requires-then-whole-clause-few
+send-requires-then-whole-clause-few g c = omega (arith, c.requires.few)
 
-pub send-requires-2 : goal.send-requires-2
-send-requires-2 g c = omega (arith, c.requires.few)
+pub send-requires-2-clause-few : goal.send-requires-2-clause-few
+send-requires-2-clause-few g c = omega (arith, c.requires.few)
 
 pub take_last-requires-clause-not_halted : goal.take_last-requires-clause-not_halted
 take_last-requires-clause-not_halted g c = c.requires.not_halted
@@ -265,3 +266,15 @@ overflow_add-next g c =
 
 pub take_last-requires-clause-whole : goal.take_last-requires-clause-whole
 take_last-requires-clause-whole g c = omega arith
+
+pub send-requires-clause-plain : goal.send-requires-clause-plain
+send-requires-clause-plain g c = own_version c.args.self.now.state
+
+pub send-requires-then-late-clause-plain : goal.send-requires-then-late-clause-plain
+send-requires-then-late-clause-plain g c = own_version c.args.self.now.state
+
+pub send-requires-then-whole-clause-plain : goal.send-requires-then-whole-clause-plain
+send-requires-then-whole-clause-plain g c = c.requires.version
+
+pub send-requires-2-clause-plain : goal.send-requires-2-clause-plain
+send-requires-2-clause-plain g c = c.requires.version

@@ -1,4 +1,4 @@
-use Rattle.std.proofs.Common.{◌≡◌, ◌≤◌, ◌∙◌, ◌&&◌, ◌||◌, ℕ, List, true, nat_lt, ◌==◌, length, refl, sym, ap, arith}
+use Rattle.std.proofs.Common.{◌≡◌, ◌≤◌, ◌∙◌, ◌&&◌, ◌||◌, ℕ, Bool, List, true, nat_lt, ◌==◌, length, refl, sym, ap, arith}
 use Rattle.std.specs.Result.{is_err}
 use Rattle.std.proofs.lemmas.Bool.{false≢true}
 use Rattle.std.proofs.lemmas.Bool.Decides.{nat_tests}
@@ -12,6 +12,8 @@ use Rattle.ubik_node.proofs.Calling.{stored_read, unread_ends}
 use Rattle.ubik_node.proofs.Endings.{handed_ends, read_ends, rests_ends, same_ends}
 use Rattle.ubik_node.proofs.Relabelled.{piece_known}
 use Rattle.ubik_node.proofs.Told.{piece_not, piece_told, sent_as}
+use Rattle.server_state.proofs.Plain.{own_version}
+use Rattle.ubik_types.specs.Version.{IsVersion}
 use Rattle.ubik_node.proofs.nodes.Node.tell_piece.Goals as goal
 
 pub returns-then-not-has : goal.returns-then-not-has
@@ -56,11 +58,11 @@ read_piece-requires-clause-sound g c = c.requires.stored.sound
 pub read_piece-requires-clause-fresh : goal.read_piece-requires-clause-fresh
 read_piece-requires-clause-fresh g c = c.requires.stored.failed ∙ c.requires.not_halted
 
-pub send-requires : goal.send-requires
-send-requires g c = omega (arith, c.requires.few)
+pub send-requires-clause-few : goal.send-requires-clause-few
+send-requires-clause-few g c = omega (arith, c.requires.few)
 
-pub send-requires-2 : goal.send-requires-2
-send-requires-2 g c = omega (arith, c.requires.few)
+pub send-requires-2-clause-few : goal.send-requires-2-clause-few
+send-requires-2-clause-few g c = omega (arith, c.requires.few)
 
 inside : (own v : Version) (at len long : ℕ) → len ≡ long → (version_eq own v && (at == 0 || nat_lt at long)) ≡ true → at ≤ len
 inside own v at len long same is = grind (arith, nat_tests)
@@ -69,3 +71,16 @@ pub read_piece-requires-clause-within : goal.read_piece-requires-clause-within
 read_piece-requires-clause-within g c =
     let st = c.args.self.now.state in
     inside st.version c.args.version c.args.offset c.args.self.now.store.len (length st.image) (c.requires.stored.len c.requires.not_halted) (sym c.has_piece-has.ensures ∙ c.if-not-has.false)
+
+pub send-requires-clause-plain : goal.send-requires-clause-plain
+send-requires-clause-plain g c = own_version c.args.self.now.state
+
+same_version : (own v : Version) (more : Bool) → (version_eq own v && more) ≡ true → IsVersion own → IsVersion v
+same_version own v more is fits = record { epoch = grind (arith, nat_tests); counter = grind (arith, nat_tests) }
+
+pub send-requires-2-clause-plain : goal.send-requires-2-clause-plain
+send-requires-2-clause-plain g c =
+    let st = c.args.self.now.state in (
+      same_version st.version c.args.version (c.args.offset == 0 || nat_lt c.args.offset (length st.image)) (sym c.has_piece-has.ensures ∙ c.if-not-has.false) (own_version st),
+      c.in_ok-bytes.ensures.short,
+    )
