@@ -1,0 +1,6 @@
+pub mod Asking
+pub mod Bits
+pub mod Building
+pub mod Fitting
+pub mod Recording
+pub mod Sending

@@ -1,0 +1,135 @@
+//! A server whose steps are recorded.
+ghost use Rattle.std.specs.Prelude.{◌≡◌, ◌+◌, ◌<◌, ◌≤◌, ◌^◌, [], length, max};
+ghost use Rattle.ubik_types.specs.Moment.{IsMoment};
+ghost use Rattle.std.proofs.Props.{props};
+ghost use Rattle.ubik_node.specs.Node.{IsStored};
+ghost use Rattle.server_station.specs.Fit.{IsFit};
+ghost use Rattle.server_station.specs.Recording.{refused_by};
+ghost use Rattle.server_station.specs.Lone.{IsSeamless-prop, IsWithinImage-prop};
+
+use crate::shorts::shorts_in;
+use db_image::DraftService;
+use server_journal::{Full, JournalItem, Keeper, Opening, Seat, Shares};
+use std::sync::ledger::Blank;
+use ubik_node::{Node, NodeEvent, Outputs, SteadyDisk, StepEnd};
+
+/// How a step of a station ended.
+#[derive(Clone, Copy, Debug, PartialEq, Eq)]
+pub enum StationEnd {
+    /// The step was made.
+    Done,
+    /// The server's disk failed, now or before; of a call the step put out a fault of the disk.
+    Halted,
+    /// The journal has no room for the step, which was not made. It would then have so many entries, and so many bytes.
+    JournalFull { entries: u64, bytes: u64 },
+    /// Memory ran out, and the step was not made.
+    NoMemory,
+}
+
+/// How a step ends that its journal does not take.
+fn refused(full: Full) -> StationEnd
+    ensures { result ≡ refused_by full }
+{
+    match full {
+        Full::Limit { entries, bytes } => StationEnd::JournalFull { entries, bytes },
+        Full::NoMemory => StationEnd::NoMemory,
+    }
+}
+
+/// A node with the journal of its steps, which are counted over those who made them.
+pub(crate) struct Recorded<D: SteadyDisk, V: DraftService, L: Opening, J: Keeper> {
+    pub(crate) node: Node<D, V>,
+    pub(crate) journal: J,
+    pub(crate) shares: Shares<L>,
+    ghost stored: { IsStored D.Disk node } by { Prim.hlevel (props, IsSeamless-prop, IsWithinImage-prop) },
+    ghost begun: { 0 < node.last },
+    ghost moment: { node.last < 2 ^ 31 },
+    ghost counted: { shares.total.total ≡ length (J.items journal) },
+}
+
+// Derived, it would be spelled out for each field wherever a caller lets one go.
+impl<D: SteadyDisk + Drop, V: DraftService, L: Opening, J: Keeper> Drop for Recorded<D, V, L, J> {
+    fn drop(self) {
+        let Self {
+            node: _,
+            journal: _,
+            shares: _,
+        } = self;
+    }
+}
+
+impl<D: SteadyDisk, V: DraftService, L: Opening, J: Keeper> Recorded<D, V, L, J> {
+    ghost use Rattle.server_station.specs.Recording.{Records};
+
+    /// The moment of a step that is to be made at `now`: time does not go back.
+    pub(crate) fn moment(&self, now: u32) -> u32
+        requires { IsMoment now }
+        ensures later { result ≡ max self.now.node.last now }
+        ensures moment { IsMoment result }
+    {
+        let last = self.node.last();
+        last.max(now)
+    }
+
+    /// Makes a step at a moment, and then keeps its item. Where that does not end with Done or Halted nothing is made, and nothing put out.
+    #[tactic(auto, using(crate::proofs::Building::fit_built, crate::proofs::Fitting::fit_light, crate::proofs::Recording::cleared))]
+    pub(crate) fn step(
+        &mut self,
+        seat: &mut Seat<L>,
+        now: u32,
+        event: NodeEvent,
+        out: &mut Outputs,
+    ) -> StationEnd
+        requires all { L.all ≡ L.parts }
+        requires moment { IsMoment now }
+        requires order { self.old.node.last ≤ now }
+        requires fit { IsFit event }
+        requires empty { out.old ≡ [] }
+        ensures records { Records D.Disk V.standing (J.limits self.old.journal) result event now self.old.node self.new.node
+            (J.items self.old.journal) (J.items self.new.journal) out.new }
+        ensures limits { J.limits self.new.journal ≡ J.limits self.old.journal }
+        ensures share { seat.new.share.amount + length (J.items self.old.journal) ≡ seat.old.share.amount + length (J.items self.new.journal) }
+        ensures lent { self.new.shares.lent ≡ self.old.shares.lent }
+    {
+        let Recorded {
+            node,
+            journal,
+            shares,
+        } = self;
+        if let Err(full) = journal.admit(&event) {
+            return refused(full);
+        }
+        let end = node.step_on(now, &event, out);
+        let made = match end {
+            StepEnd::Done => StationEnd::Done,
+            StepEnd::Halted => StationEnd::Halted,
+            StepEnd::NoMemory => {
+                out.clear();
+                return StationEnd::NoMemory;
+            }
+        };
+        let short = shorts_in(out);
+        let halted = node.halted();
+        journal.keep(JournalItem {
+            now,
+            event,
+            short,
+            halted,
+        });
+        shares.count(seat);
+        made
+    }
+
+    /// Takes the node down, and gives its disk and its journal out.
+    pub(crate) fn close(self) -> (D, J)
+        ensures disk { result.0 ≡ self.node.store.disk }
+        ensures journal { result.1 ≡ self.journal }
+    {
+        let Self {
+            node,
+            journal,
+            shares: _,
+        } = self;
+        (node.close(), journal)
+    }
+}
