@@ -1,0 +1,2 @@
+-- What a server shows of its files.
+pub mod Showing

@@ -1,0 +1,168 @@
+//! A server from its opening to its end: the node, the station, and the workers in threads of one scope.
+ghost use Rattle.std.specs.Prelude.{◌≡◌, ◌≢◌, ◌<◌, [], length, Option, IfSome, IsNone};
+ghost use Rattle.ubik_types.specs.Moment.{IsMoment};
+ghost use Rattle.disk_base.specs.Crash.{IsSettled};
+ghost use Rattle.disk_base.specs.Files.{Files};
+ghost use Rattle.ubik_node.specs.Node.{IsStored};
+ghost use Rattle.ubik_store.specs.Opening.{RefusesFiles};
+ghost use Rattle.node_server.specs.Ends.{IsNotRun, ShowsFiles, kind_of_end, kind_of_fault};
+
+use crate::benches::{StationBench, Whole, lend};
+use crate::ends::ServerRun;
+use db_image::DraftService;
+use disk_base::Refused;
+use io_base::{Clock, Gate, Net, Spawner};
+use server_crew::{CrewEnd, Outside, run_crew};
+use server_station::{Keeper, Opening, Station};
+use server_texts::{ServerKind, ServerWords};
+use std::alloc::Global;
+use std::marker::Brand;
+use std::sync::Wait;
+use std::sync::ledger::Blank;
+use std::thread::Threads;
+use ubik_node::{Node, SteadyDisk, StoreFault};
+
+/// How a server ended, with its disk and, where it was opened, its run.
+pub(crate) struct Served<D, J> {
+    pub(crate) kind: ServerKind,
+    pub(crate) disk: D,
+    pub(crate) run: Option<ServerRun<J>>,
+}
+
+/// Opens a server of one of the databases over its disk, and runs it to its end.
+pub(crate) fn open_and_serve<
+    D: SteadyDisk + Drop + Send,
+    V: DraftService + Send,
+    J: Keeper + Send,
+    N: Net,
+    C: Clock,
+    P: Spawner,
+    G: Gate,
+    R: Threads + Wait + Sync,
+>(
+    rt: &R,
+    alloc: Global,
+    words: ServerWords,
+    disk: D,
+    journal: J,
+    outside: &Outside<N, C, P, G>,
+) -> Served<D, J>
+    requires settled { IsSettled (D.files disk) (D.may_leave disk) }
+    requires empty { J.items journal ≡ [] }
+    requires me { words.me < length words.cell }
+    ensures closed { result.kind ≡ ServerKind.Closed → N.may_close outside.now.net.now }
+    ensures refused { result.kind ≡ ServerKind.NoThread → P.may_refuse outside.now.spawner.now }
+    ensures bad_files { IfSome (D.files disk) (λ fs. ShowsFiles fs result.kind) }
+    ensures run { IsNone result.run → IsNotRun result.kind }
+{
+    let now = outside.clock.now();
+    let ServerWords { cell, me, .. } = words;
+    match Node::<D, V>::open(alloc, cell, me, disk, now) {
+        Ok(node) => serve_as::<D, V, Brand, J, N, C, P, G, R>(
+            rt,
+            alloc,
+            Blank::new(7),
+            node,
+            now,
+            journal,
+            outside,
+        ),
+        Err(Refused { disk, why }) => Served {
+            kind: kind_of_fault(why),
+            disk,
+            run: None,
+        },
+    }
+}
+
+/// How a server ends that its store refuses.
+#[tactic(auto, using(crate::proofs::Showing::shows_refused))]
+fn kind_of_fault(why: StoreFault) -> ServerKind
+    ensures kind { result ≡ kind_of_fault why }
+    ensures shown { (files : Option Files) → IfSome files (λ fs. RefusesFiles fs why) → IfSome files (λ fs. ShowsFiles fs result) }
+    ensures run { IsNotRun result }
+    ensures closed { result ≢ ServerKind.Closed }
+    ensures refused { result ≢ ServerKind.NoThread }
+{
+    match why {
+        StoreFault::BadLabel { len, head } => ServerKind::BadFiles { len, head },
+        StoreFault::DiskFault => ServerKind::DiskFault,
+        StoreFault::TooLarge { .. } | StoreFault::NotNewer { .. } | StoreFault::NoMemory => {
+            ServerKind::NoMemory
+        }
+    }
+}
+
+/// How a server ends whose crew ended so.
+#[tactic(auto, using(crate::proofs::Showing::shows_nothing))]
+fn kind_of_end(end: CrewEnd) -> ServerKind
+    ensures kind { result ≡ kind_of_end end }
+    ensures files { (files : Option Files) → IfSome files (λ fs. ShowsFiles fs result) }
+    ensures closed { result ≡ ServerKind.Closed → end ≡ CrewEnd.Closed }
+    ensures refused { result ≡ ServerKind.NoThread → end ≡ CrewEnd.NoThread }
+{
+    match end {
+        CrewEnd::Closed => ServerKind::Closed,
+        CrewEnd::NoThread => ServerKind::NoThread,
+        CrewEnd::JournalFull { entries, bytes } => ServerKind::JournalFull { entries, bytes },
+        CrewEnd::Halted => ServerKind::DiskFault,
+        CrewEnd::NoMemory => ServerKind::NoMemory,
+    }
+}
+
+/// Runs an opened server to its end.
+#[tactic(auto, using(crate::proofs::Showing::shows_unit))]
+fn serve_as<
+    D: SteadyDisk + Drop + Send,
+    V: DraftService + Send,
+    L: Opening + Send + Sync,
+    J: Keeper + Send,
+    N: Net,
+    C: Clock,
+    P: Spawner,
+    G: Gate,
+    R: Threads + Wait + Sync,
+>(
+    rt: &R,
+    alloc: Global,
+    blank: Blank,
+    node: Node<D, V>,
+    opened: u32,
+    journal: J,
+    outside: &Outside<N, C, P, G>,
+) -> Served<D, J>
+    requires name { blank.name ≡ L.name }
+    requires parts { (blank.parts ≡ L.parts) × (L.all ≡ L.parts) × (L.all ≡ 7) }
+    requires stored { IsStored D.Disk node }
+    requires moment { IsMoment node.last }
+    requires empty { J.items journal ≡ [] }
+    ensures closed { result.kind ≡ ServerKind.Closed → N.may_close outside.now.net.now }
+    ensures refused { result.kind ≡ ServerKind.NoThread → P.may_refuse outside.now.spawner.now }
+    ensures files { (files : Option Files) → IfSome files (λ fs. ShowsFiles fs result.kind) }
+    ensures run { IsNone result.run → IsNotRun result.kind }
+{
+    let station = match Station::<D, V, L, J>::make(alloc, node, journal, blank) {
+        Ok(station) => station,
+        Err(Refused { disk: node, .. }) => {
+            return Served {
+                kind: ServerKind::NoMemory,
+                disk: node.close(),
+                run: None,
+            };
+        }
+    };
+    let mut station = station;
+    let seats = lend(&mut station);
+    let bench = StationBench {
+        station,
+        whole: Whole::new(),
+    };
+    let (bench, end) = run_crew(rt, alloc, bench, seats, outside);
+    let StationBench { station, whole: _ } = bench;
+    let (disk, journal) = station.close();
+    Served {
+        kind: kind_of_end(end),
+        disk,
+        run: Some(ServerRun { opened, journal }),
+    }
+}
