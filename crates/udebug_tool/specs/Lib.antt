@@ -1,0 +1,4 @@
+pub mod Kinds
+pub mod Looking
+pub mod Seen
+pub mod Texts
