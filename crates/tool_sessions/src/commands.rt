@@ -4,21 +4,16 @@ use crate::bytes::bytes_in;
 use crate::differences::{Difference, byte_difference, text_difference};
 use crate::faults::Fault;
 use crate::frames::{ASK, frame_of};
-use afs_words::{Tool, Words, WordsFault, address, read_words};
-use cell_script::write_whole;
+use afs_client::client_top;
+use afs_words::{Tool, address};
 use disk_base::MemSink;
 use io_base::{Answer, Exchange, MemAnswer, MemLink};
-use pts_tool::run_pts;
 use script_words::number_within;
 use std::alloc::Global;
 use ubik_types::{Bytes, Host, bytes_of};
-use vos_tool::run_vos;
 
-/// The first host of each command, 10.0.0.1.
-const FIRST_HOST: Host = Host(0x0a00_0001);
-
-/// The status of a command whose words mean nothing.
-const FAULTY_WORDS: u8 = 2;
+/// The first host of each command.
+const FIRST_HOST: &str = "10.0.0.1";
 
 /// A call that a command is to make: where it goes, and its frame.
 #[derive(Drop)]
@@ -28,12 +23,13 @@ struct Asked {
     frame: Bytes,
 }
 
-/// A command: its words, its hosts, the number of its last call, where its calls go, what is answered, and what it is to write.
+/// A command: the words of the program behind its hosts, the word of its hosts, the number of its last call, where its calls go, what is
+/// answered, and what it is to write.
 #[derive(Drop)]
 pub struct Command {
     tool: Tool,
     words: Vec<String>,
-    hosts: Vec<Host>,
+    hosts: Option<String>,
     number: u32,
     asked: Vec<Asked>,
     answers: Vec<MemAnswer>,
@@ -43,27 +39,25 @@ pub struct Command {
 }
 
 impl Command {
-    /// The command of these words, of which the first is its name.
+    /// The command of these words, of which the first is its name; behind `afs_client` stand all words of the program.
     pub fn of(alloc: Global, line: &str) -> Result<Command, Fault> {
         let (name, rest) = match line.split_once(' ') {
             Some((name, rest)) => (name, Some(rest)),
             None => (line, None),
         };
-        let tool = match name {
-            "vos" => Tool::Vos,
-            "pts" => Tool::Pts,
-            _ => return Err(Fault::Form),
-        };
         let mut words = Vec::new(alloc);
+        let mut hosts = None;
+        if name != "afs_client" {
+            words.push(String::from_str(alloc, name)?)?;
+            hosts = Some(String::from_str(alloc, FIRST_HOST)?);
+        }
         if let Some(rest) = rest {
             for word in rest.split(' ') {
                 words.push(String::from_str(alloc, meant(word))?)?;
             }
         }
-        let mut hosts = Vec::new(alloc);
-        hosts.push(FIRST_HOST)?;
         Ok(Command {
-            tool,
+            tool: tool_of(name)?,
             words,
             hosts,
             number: 0,
@@ -90,7 +84,9 @@ impl Command {
 
     /// Takes a host that is asked behind those before it.
     fn add_host(&mut self, word: &str) -> Result<(), Fault> {
-        self.hosts.push(host_of(word)?)?;
+        let hosts = self.hosts.as_mut().ok_or(Fault::Form)?;
+        hosts.push_str(",")?;
+        hosts.push_str(word)?;
         Ok(())
     }
 
@@ -139,8 +135,7 @@ impl Command {
     /// Runs the command over a link that gives its answers: what differs from what it is to ask and to write.
     pub fn replay(self, alloc: Global, status: &str) -> Result<Option<Difference>, Fault> {
         let Command {
-            tool,
-            words,
+            mut words,
             hosts,
             asked,
             answers,
@@ -152,21 +147,13 @@ impl Command {
         if frames.is_some() {
             return Ok(frames);
         }
+        if let Some(hosts) = hosts {
+            words.insert(0, hosts)?;
+        }
         let mut link = MemLink::new(answers);
         let mut told = MemSink::new(alloc, &[])?;
         let mut refused = MemSink::new(alloc, &[])?;
-        let ended = match read_words(alloc, tool, words.as_slice()) {
-            Ok(words) => run(
-                alloc,
-                tool,
-                &words,
-                &hosts,
-                &mut link,
-                &mut told,
-                &mut refused,
-            ),
-            Err(fault) => refuse(alloc, tool, &fault, &mut refused)?,
-        };
+        let ended = client_top(alloc, &words, &mut link, &mut told, &mut refused);
         let ended = format!(in alloc; "status {ended}\n")?;
         let status = format!(in alloc; "status {status}\n")?;
         for (expected, found) in [
@@ -197,6 +184,15 @@ fn add_line(text: &mut String, line: &str) -> Result<(), Fault> {
     Ok(())
 }
 
+/// The tool whose calls the lines below a command name.
+fn tool_of(name: &str) -> Result<Tool, Fault> {
+    match name {
+        "vos" | "afs_client" => Ok(Tool::Vos),
+        "pts" => Ok(Tool::Pts),
+        _ => Err(Fault::Form),
+    }
+}
+
 fn host_of(word: &str) -> Result<Host, Fault> {
     Ok(Host(address(word.as_bytes()).ok_or(Fault::Form)?))
 }
@@ -218,40 +214,6 @@ fn ask_frame(alloc: Global, tool: Tool, number: u32, call: &str) -> Result<Bytes
     };
     let call = named.ok_or(Fault::Form)?;
     frame_of(alloc, ASK, number, call.as_slice())
-}
-
-fn run(
-    alloc: Global,
-    tool: Tool,
-    words: &Words,
-    hosts: &[Host],
-    link: &mut MemLink,
-    out: &mut MemSink,
-    errors: &mut MemSink,
-) -> u8 {
-    let end = match tool {
-        Tool::Vos => run_vos(alloc, words, hosts, link, out, errors),
-        Tool::Pts => run_pts(alloc, words, hosts, link, out, errors),
-    };
-    end.status
-}
-
-/// Tells why words mean nothing, as the command does.
-fn refuse(
-    alloc: Global,
-    tool: Tool,
-    fault: &WordsFault,
-    errors: &mut MemSink,
-) -> Result<u8, Fault> {
-    let name = match tool {
-        Tool::Vos => "vos",
-        Tool::Pts => "pts",
-    };
-    let text = format!(in alloc; "{name}: {fault}\n")?;
-    match write_whole(errors, text.as_bytes()) {
-        Ok(()) => Ok(FAULTY_WORDS),
-        Err(_) => Err(Fault::NoMemory),
-    }
 }
 
 /// The first call that is another one than was to be made, or how many were made.

@@ -1,0 +1,4 @@
+pub mod Client
+pub mod Debugs
+pub mod Hosts
+pub mod Requests

@@ -1,0 +1,120 @@
+//! The program over its words, the real streams and the net.
+ghost use Rattle.std.specs.Prelude.{◌≡◌, IfOk, drop};
+ghost use Rattle.std.specs.Vec.Iter.{into_iter_items};
+
+use crate::texts::{NO_TEXT, asked_text, message_of};
+use afs_client::{client_top, debug_top};
+use disk_base::{Sink, WriterSink};
+use io_base::{Link, TcpLink};
+use std::alloc::Global;
+use std::env::Args;
+use std::io::{self, BufWriter, ErrorKind, Write};
+use tool_base::{Stop, say};
+use ubik_types::NoMemory;
+
+/// The status of words that mean nothing.
+const BAD_WORDS: u8 = 2;
+
+/// Standard output or standard error, since a command takes both as one kind.
+#[derive(Drop)]
+enum Stream<A: Write + Drop, B: Write + Drop> {
+    Output(A),
+    Errors(B),
+}
+
+impl<A: Write + Drop, B: Write + Drop> Write for Stream<A, B> {
+    fn write(&mut self, buf: &[u8]) -> io::Result<usize> {
+        match self {
+            Stream::Output(writer) => writer.write(buf),
+            Stream::Errors(writer) => writer.write(buf),
+        }
+    }
+
+    fn flush(&mut self) -> io::Result<()> {
+        match self {
+            Stream::Output(writer) => writer.flush(),
+            Stream::Errors(writer) => writer.flush(),
+        }
+    }
+}
+
+/// The exit status of the program, which is given these words and its name before them. A word that is not UTF-8
+/// is invalid data.
+pub fn status(rt: &HostRuntime, given: io::Result<Args>) -> u8 {
+    let args = match given {
+        Ok(args) => args,
+        Err(error) if error.kind() == ErrorKind::InvalidData => {
+            let _ = say(&mut WriterSink::new(rt.stderr()), NO_TEXT.as_bytes());
+            return BAD_WORDS;
+        }
+        Err(_) => return Stop::NoMemory.status(),
+    };
+    match behind_name(rt.alloc(), args) {
+        Ok(words) => answer(rt, &words),
+        Err(NoMemory) => Stop::NoMemory.status(),
+    }
+}
+
+/// Says on standard error what no line says of an exit status.
+pub fn explain(rt: &HostRuntime, status: u8) {
+    if let Some(line) = message_of(status) {
+        let _ = say(&mut WriterSink::new(rt.stderr()), line.as_bytes());
+    }
+}
+
+/// The words behind the name of the program, which is the first of these.
+fn behind_name(alloc: Global, mut args: Args) -> Result<Vec<String>, NoMemory>
+    ensures { IfOk result (λ words. words.items ≡ drop 1 (into_iter_items args)) }
+{
+    let _name = args.next();
+    let mut words = Vec::new(alloc);
+    for word in args {
+        words.push(word)?;
+    }
+    Ok(words)
+}
+
+/// Writes the text for which the words ask, or runs their command; the status.
+fn answer(rt: &HostRuntime, words: &[String]) -> u8 {
+    match asked_text(words) {
+        Some(text) => say_text(&mut WriterSink::new(io::writer(rt)), text),
+        None => run(rt, words),
+    }
+}
+
+fn say_text<K: Sink>(out: &mut K, text: &str) -> u8 {
+    match say(out, text.as_bytes()) {
+        Ok(()) => 0,
+        Err(stop) => stop.status(),
+    }
+}
+
+/// Runs the command of these words over the net, with a buffer before standard output.
+fn run(rt: &HostRuntime, words: &[String]) -> u8 {
+    let alloc = rt.alloc();
+    let Ok(writer) = BufWriter::new(alloc, io::writer(rt)) else {
+        return Stop::NoMemory.status();
+    };
+    let mut out = WriterSink::new(Stream::Output(writer));
+    let mut errors = WriterSink::new(Stream::Errors(rt.stderr()));
+    let mut link = TcpLink::make(*rt, alloc);
+    let status = top(alloc, words, &mut link, &mut out, &mut errors);
+    match out.into_inner().flush() {
+        Ok(()) => status,
+        Err(_) => Stop::WriteFault.status(),
+    }
+}
+
+/// Runs `udebug` where the second word names it, else what the words ask for; the status.
+fn top<L: Link, K: Sink>(
+    alloc: Global,
+    words: &[String],
+    link: &mut L,
+    out: &mut K,
+    err: &mut K,
+) -> u8 {
+    match words {
+        [_, name, ..] if name.as_str() == "udebug" => debug_top(alloc, words, link, out, err),
+        _ => client_top(alloc, words, link, out, err),
+    }
+}
