@@ -1,0 +1,4 @@
+pub mod Reader
+pub mod Lines
+pub mod LineSteps
+pub mod Cuts

@@ -1,0 +1,5 @@
+pub mod Sentences
+pub mod ValueNames
+pub mod Usages
+pub mod Asked
+pub mod Answers
