@@ -1,9 +1,7 @@
-//! Tests of the commands `vos`, `pts` and `udebug` and of what they have in common, through their public calls.
+//! Tests of the commands `vos` and `pts` and of what they have in common, through their public calls.
 #![tactic(auto)]
 
 #[cfg(test)]
 mod commands;
 #[cfg(test)]
 mod ends;
-#[cfg(test)]
-mod udebugs;
