@@ -1,4 +1,0 @@
-pub mod Reader
-pub mod Lines
-pub mod LineSteps
-pub mod Cuts
