@@ -1,7 +1,6 @@
 -- The reading of a line, byte by byte.
 use Rattle.std.specs.Prelude.{◌≡◌, ◌≢◌, ◌<◌, ℕ, Bool, true, false, List, [], ◌∷◌, ◌++◌, length, Option, Some, None}
 use Rattle.cell_script.specs.Lines.{HasNoLf}
-use Rattle.cell_script.specs.declared.readers.TheConstants.{MAX_LINE}
 use Rattle.cell_script.specs.declared.readers.LineEnd.{LineEnd}
 use Rattle.cell_script.specs.declared.readers.LineEnd.TheVariants.{Line, TooLong, End, Failed}
 use Rattle.cell_script.specs.declared.readers.Next.{Next}
@@ -26,11 +25,11 @@ pub record AddsByte (text : List ℕ) (after : Option (List ℕ)) (old new : Lis
   pub added : new ≡ old ++ byte ∷ []
   pub taken : TakesFirst byte text after
 
--- a byte other than LF was taken beyond a full line
-pub record Overflows (text : List ℕ) (after : Option (List ℕ)) (line : List ℕ) : Type 0 where
+-- a byte other than LF was taken beyond a line that has as many bytes as the limit
+pub record Overflows (limit : ℕ) (text : List ℕ) (after : Option (List ℕ)) (line : List ℕ) : Type 0 where
   pub byte : ℕ
   pub no_lf : byte ≢ 10
-  pub full : length line ≡ MAX_LINE
+  pub full : length line ≡ limit
   pub taken : TakesFirst byte text after
 
 -- an LF was taken, or the source ended behind a line that is not empty
@@ -38,13 +37,13 @@ abbrev pub EndsLine : Bool → List ℕ → Option (List ℕ) → List ℕ → T
 EndsLine false text after line = TakesFirst 10 text after
 EndsLine true text after line = (text ≡ []) × (after ≡ Some []) × (0 < length line)
 
--- one step of the reading of a line, after which the source has ended or not
-abbrev pub Extends : Option LineEnd → List ℕ → Option (List ℕ) → List ℕ → List ℕ → Bool → Type 0
-Extends None text after old new ended = AddsByte text after old new
-Extends (Some Line) text after old new ended = (new ≡ old) × EndsLine ended text after old
-Extends (Some TooLong) text after old new ended = (ended ≡ false) × Overflows text after old
-Extends (Some End) text after old new ended = (ended ≡ true) × (old ≡ []) × (text ≡ []) × (after ≡ Some [])
-Extends (Some Failed) text after old new ended = (ended ≡ false) × (after ≡ Some text)
+-- one step of the reading of a line within a limit, after which the source has ended or not
+abbrev pub Extends : ℕ → Option LineEnd → List ℕ → Option (List ℕ) → List ℕ → List ℕ → Bool → Type 0
+Extends limit None text after old new ended = AddsByte text after old new
+Extends limit (Some Line) text after old new ended = (new ≡ old) × EndsLine ended text after old
+Extends limit (Some TooLong) text after old new ended = (ended ≡ false) × Overflows limit text after old
+Extends limit (Some End) text after old new ended = (ended ≡ true) × (old ≡ []) × (text ≡ []) × (after ≡ Some [])
+Extends limit (Some Failed) text after old new ended = (ended ≡ false) × (after ≡ Some text)
 
 -- a part of a line was read from a text
 pub record HasRead (text : List ℕ) (after : Option (List ℕ)) (line : List ℕ) : Type 0 where

@@ -14,13 +14,17 @@ abbrev pub IsFirstLine : Bool → List ℕ → List ℕ → List ℕ → Type 0
 IsFirstLine false text line rest = text ≡ line ++ 10 ∷ rest
 IsFirstLine true text line rest = (text ≡ line) × (rest ≡ []) × (0 < length line)
 
--- a line of at most 1024 bytes was read, and with it maybe the end of the text
-pub record TakesLine (text : List ℕ) (after : Option (List ℕ)) (line : List ℕ) (ended : Bool) : Type 0 where
+-- a line of no more bytes than the limit was read, and with it maybe the end of the text
+pub record TakesLineWithin (limit : ℕ) (text : List ℕ) (after : Option (List ℕ)) (line : List ℕ) (ended : Bool) : Type 0 where
   pub rest : List ℕ
   pub no_lf : HasNoLf line
-  pub bound : length line ≤ MAX_LINE
+  pub bound : length line ≤ limit
   pub read : IsFirstLine ended text line rest
   pub left : after ≡ Some rest
+
+-- the same of a line of a script
+abbrev pub TakesLine : List ℕ → Option (List ℕ) → List ℕ → Bool → Type 0
+TakesLine text after line ended = TakesLineWithin MAX_LINE text after line ended
 
 -- a part of a line was read
 pub record TakesPart (text : List ℕ) (after : Option (List ℕ)) : Type 0 where
@@ -30,13 +34,13 @@ pub record TakesPart (text : List ℕ) (after : Option (List ℕ)) : Type 0 wher
   pub read : text ≡ part ++ rest
   pub left : after ≡ Some rest
 
--- what the reading of a line that ended so took from a text, and whether that met the end of it: all of a line, 1025
--- bytes of one, nothing of the empty text, or at most 1024 bytes of a line
-abbrev pub ReadsLine : LineEnd → List ℕ → Option (List ℕ) → List ℕ → Bool → Type 0
-ReadsLine Line text after line ended = TakesLine text after line ended
-ReadsLine TooLong text after line ended = (ended ≡ false) × (taken : TakesPart text after) × (length taken.part ≡ MAX_LINE + 1)
-ReadsLine End text after line ended = (ended ≡ true) × (text ≡ []) × (after ≡ Some [])
-ReadsLine Failed text after line ended = (ended ≡ false) × (taken : TakesPart text after) × (length taken.part ≤ MAX_LINE)
+-- what the reading of a line within a limit, which ended so, took from a text, and whether that met the end of it: all of a
+-- line, one byte more of it than the limit, nothing of the empty text, or no more bytes of a line than the limit
+abbrev pub ReadsLine : ℕ → LineEnd → List ℕ → Option (List ℕ) → List ℕ → Bool → Type 0
+ReadsLine limit Line text after line ended = TakesLineWithin limit text after line ended
+ReadsLine limit TooLong text after line ended = (ended ≡ false) × (taken : TakesPart text after) × (length taken.part ≡ limit + 1)
+ReadsLine limit End text after line ended = (ended ≡ true) × (text ≡ []) × (after ≡ Some [])
+ReadsLine limit Failed text after line ended = (ended ≡ false) × (taken : TakesPart text after) × (length taken.part ≤ limit)
 
 -- the lines of a text; the last may lack its LF
 abbrev pub lines_of : List ℕ → List (List ℕ)
