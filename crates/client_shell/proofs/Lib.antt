@@ -1,0 +1,4 @@
+pub mod Telling
+pub mod Lines
+pub mod Turning
+pub mod Naming

@@ -1,0 +1,5 @@
+pub mod Sinks
+pub mod Standing
+pub mod Runs
+pub mod Sources
+pub mod Turns
