@@ -1,15 +1,14 @@
 //! The program over its words, the real streams and the net.
-ghost use Rattle.std.specs.Prelude.{◌≡◌, IfOk, drop};
-ghost use Rattle.std.specs.Vec.Iter.{into_iter_items};
-
 use crate::texts::{NO_TEXT, asked_text, message_of};
 use afs_client::{client_top, debug_top};
+use client_plans::client_help;
+use client_shell::{behind_name, say_said};
 use disk_base::{Sink, WriterSink};
 use io_base::{Link, TcpLink};
-use std::alloc::Global;
 use std::env::Args;
 use std::io::{self, BufWriter, ErrorKind, Write};
 use tool_base::{Stop, say};
+use tool_help::Said;
 use ubik_types::NoMemory;
 
 /// The status of words that mean nothing.
@@ -62,24 +61,28 @@ pub fn explain(rt: &HostRuntime, status: u8) {
     }
 }
 
-/// The words behind the name of the program, which is the first of these.
-fn behind_name(alloc: Global, mut args: Args) -> Result<Vec<String>, NoMemory>
-    ensures { IfOk result (λ words. words.items ≡ drop 1 (into_iter_items args)) }
-{
-    let _name = args.next();
-    let mut words = Vec::new(alloc);
-    for word in args {
-        words.push(word)?;
-    }
-    Ok(words)
-}
-
 /// Writes the text for which the words ask, or runs their command; the status.
 fn answer(rt: &HostRuntime, words: &[String]) -> u8 {
     match asked_text(words) {
         Some(text) => say_text(&mut WriterSink::new(io::writer(rt)), text),
-        None => run(rt, words),
+        None => help_or_run(rt, words),
     }
+}
+
+/// Says what is asked of the commands, or runs one; the status.
+fn help_or_run(rt: &HostRuntime, words: &[String]) -> u8 {
+    match client_help(rt.alloc(), words) {
+        Ok(Some(said)) => help(rt, &said),
+        Ok(None) => run(rt, words),
+        Err(NoMemory) => Stop::NoMemory.status(),
+    }
+}
+
+/// Says what was asked of the commands: at status 0 on standard output, else on standard error.
+fn help(rt: &HostRuntime, said: &Said) -> u8 {
+    let mut out = WriterSink::new(Stream::Output(io::writer(rt)));
+    let mut errors = WriterSink::new(Stream::Errors(rt.stderr()));
+    say_said(said, &mut out, &mut errors)
 }
 
 fn say_text<K: Sink>(out: &mut K, text: &str) -> u8 {

@@ -12,7 +12,8 @@ afs_client runs a command of vos, pts or udebug over the net.
 
 HOSTS are 1 to 20 dotted addresses, joined by commas; each call is asked of them
 in this order. vos asks the location database, at port 7003, and pts the
-protection database, at port 7002. docs/FORMATS.md lists the words of both.
+protection database, at port 7002. WORDS of help lists the operations, and
+help OPERATION says how one is typed; docs/FORMATS.md has the words of both.
 udebug asks each host what its server of that kind says of itself.
 One word alone: --help prints this, --version the version.
 
