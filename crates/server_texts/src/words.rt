@@ -1,10 +1,12 @@
 //! The words of the program: the database, the folder of its files, the own address, and the addresses of the cell.
-ghost use Rattle.std.specs.Prelude.{◌≡◌, ◌==◌, ◌<◌, ◌≤◌, length, option_map, position, IfOk, IfErr, IfSome, OnOk};
-ghost use Rattle.server_texts.specs.Words.{address_of, octet_of, split_dot, IsRefusal};
+ghost use Rattle.std.specs.Prelude.{◌≡◌, ◌==◌, ◌<◌, length, map, option_map, position, string_bytes, IfOk, IfErr, IsPermutation, List, Some, true};
+ghost use Rattle.std.specs.List.{list_all};
+ghost use Rattle.ubik_types.specs.declared.hosts.Host.{Host};
+ghost use Rattle.server_texts.specs.Words.{IsNoAddress, Means, MeansCell, address_of, behind_folder, behind_hosts, behind_kind, behind_own, cell_hosts, database_of, fault_of, hosts_of, is_address, meaning_of, named_hosts, octet_of, parts_of, split_dot};
 
 use script_words::number_within;
 use std::alloc::Global;
-use ubik_types::{Cell, CellFault, Host, MAXSERVERS, NoMemory};
+use ubik_types::{Cell, CellFault, Host, NoMemory};
 
 /// Which database a server serves.
 #[derive(Clone, Copy, Debug, PartialEq, Eq)]
@@ -32,11 +34,15 @@ impl Database {
         }
     }
 
-    fn named(word: &[u8]) -> Option<Database> {
-        match word {
-            b"vlserver" => Some(Database::Location),
-            b"ptserver" => Some(Database::Protection),
-            _ => None,
+    fn named(word: &[u8]) -> Option<Database>
+        ensures { result ≡ database_of word.now }
+    {
+        if word == b"vlserver".as_slice() {
+            Some(Database::Location)
+        } else if word == b"ptserver".as_slice() {
+            Some(Database::Protection)
+        } else {
+            None
         }
     }
 }
@@ -60,6 +66,11 @@ pub enum WordsFault {
 }
 
 impl From<NoMemory> for WordsFault {
+    ghost use Rattle.std.specs.Prelude.{◌≡◌};
+    ghost use Rattle.server_texts.specs.declared.words.WordsFault.TheVariants as fault;
+
+    ghost from_gives = { λ _ e. e ≡ fault.NoMemory };
+
     fn from(_: NoMemory) -> Self {
         WordsFault::NoMemory
     }
@@ -67,65 +78,151 @@ impl From<NoMemory> for WordsFault {
 
 /// Reads the words KIND FOLDER ME HOSTS. The first that does not fit is refused; one that is missing has the place after the last.
 pub fn read_words(alloc: Global, words: &[String]) -> Result<ServerWords, WordsFault>
-    ensures four { IfOk result (λ read. length words.now ≡ 4) }
+    ensures meaning { Means (meaning_of (map string_bytes words.now)) result }
     ensures me { IfOk result (λ read. read.me < length read.cell) }
-    ensures place { IfErr result (λ fault. IsRefusal fault) }
 {
-    let database = Database::named(word_at(words, 1)?).ok_or(WordsFault::Word { place: 1 })?;
-    word_at(words, 2)?;
-    let own = Host(address(word_at(words, 3)?).ok_or(WordsFault::Word { place: 3 })?);
-    let cell = read_cell(alloc, word_at(words, 4)?)?;
-    let me = place_in(&cell, own).ok_or(WordsFault::Word { place: 3 })?;
-    if words.len() > 4 {
-        return Err(WordsFault::Word { place: 5 });
-    }
-    Ok(ServerWords { database, cell, me })
-}
-
-/// The word at a place from 1 to 4.
-fn word_at(words: &[String], place: u32) -> Result<&[u8], WordsFault>
-    requires { (0 < place) × (place ≤ 4) }
-    ensures there { OnOk result (place ≤ length words.now) }
-    ensures missing { IfErr result IsRefusal }
-{
-    match words.get((place as usize).saturating_sub(1)) {
-        Some(word) => Ok(word.as_bytes()),
-        None => Err(WordsFault::Word {
-            place: (words.len() as u32).saturating_add(1),
-        }),
+    let [kind, rest @ ..] = words else {
+        return Err(WordsFault::Word { place: 1 });
+    };
+    match Database::named(kind.as_bytes()) {
+        Some(database) => read_behind_kind(alloc, database, rest),
+        None => Err(WordsFault::Word { place: 1 }),
     }
 }
 
-/// The place of a host in a cell.
-fn place_in(cell: &Cell, host: Host) -> Option<usize>
-    ensures { IfSome result (λ place. place < length cell.now) }
+/// Reads FOLDER ME HOSTS.
+fn read_behind_kind(
+    alloc: Global,
+    database: Database,
+    words: &[String],
+) -> Result<ServerWords, WordsFault>
+    ensures meaning { Means (behind_kind (map string_bytes words.now) (Some database)) result }
+    ensures me { IfOk result (λ read. read.me < length read.cell) }
 {
-    let place = cell.index(host)?;
-    if place < cell.len() {
-        Some(place)
-    } else {
-        None
+    let [_folder, rest @ ..] = words else {
+        return Err(WordsFault::Word { place: 2 });
+    };
+    read_behind_folder(alloc, database, rest)
+}
+
+/// Reads ME HOSTS.
+fn read_behind_folder(
+    alloc: Global,
+    database: Database,
+    words: &[String],
+) -> Result<ServerWords, WordsFault>
+    ensures meaning { Means (behind_folder database (map string_bytes words.now)) result }
+    ensures me { IfOk result (λ read. read.me < length read.cell) }
+{
+    let [own, rest @ ..] = words else {
+        return Err(WordsFault::Word { place: 3 });
+    };
+    match address(own.as_bytes()) {
+        Some(number) => read_behind_own(alloc, database, number, rest),
+        None => Err(WordsFault::Word { place: 3 }),
     }
 }
 
-/// The cell of addresses that commas separate.
+/// Reads HOSTS, behind which no word may stand.
+fn read_behind_own(
+    alloc: Global,
+    database: Database,
+    own: u32,
+    words: &[String],
+) -> Result<ServerWords, WordsFault>
+    ensures meaning { Means (behind_own database (map string_bytes words.now) (Some own)) result }
+    ensures me { IfOk result (λ read. read.me < length read.cell) }
+{
+    let [hosts, rest @ ..] = words else {
+        return Err(WordsFault::Word { place: 4 });
+    };
+    read_hosts(alloc, database, Host(own), hosts.as_bytes(), rest)
+}
+
+/// Reads the text of HOSTS, behind which no word may stand.
+fn read_hosts(
+    alloc: Global,
+    database: Database,
+    own: Host,
+    text: &[u8],
+    words: &[String],
+) -> Result<ServerWords, WordsFault>
+    ensures meaning { Means (behind_hosts database own (map string_bytes words.now) (hosts_of text.now)) result }
+    ensures me { IfOk result (λ read. read.me < length read.cell) }
+{
+    match read_cell(alloc, text) {
+        Ok(cell) => read_end(database, own, cell, words),
+        Err(fault) => Err(fault),
+    }
+}
+
+/// The words of a server of this cell, behind which no word may stand.
+fn read_end(
+    database: Database,
+    own: Host,
+    cell: Cell,
+    words: &[String],
+) -> Result<ServerWords, WordsFault>
+    ensures meaning { (hosts : List Host) → IsPermutation hosts cell → Means (behind_hosts database own (map string_bytes words.now) (Some hosts)) result }
+    ensures me { IfOk result (λ read. read.me < length read.cell) }
+{
+    let Some(me) = cell.index(own) else {
+        return Err(WordsFault::Word { place: 3 });
+    };
+    match words {
+        [] => Ok(ServerWords { database, cell, me }),
+        [_, ..] => Err(WordsFault::Word { place: 5 }),
+    }
+}
+
+/// The cell of addresses that commas join.
 fn read_cell(alloc: Global, text: &[u8]) -> Result<Cell, WordsFault>
-    ensures { IfErr result IsRefusal }
+    ensures { MeansCell (hosts_of text.now) result }
 {
-    let refused = WordsFault::Word { place: 4 };
+    match addresses(alloc, text) {
+        Ok(hosts) => cell_of(alloc, hosts.as_slice()),
+        Err(fault) => Err(fault),
+    }
+}
+
+/// The cell of these hosts.
+fn cell_of(alloc: Global, hosts: &[Host]) -> Result<Cell, WordsFault>
+    ensures { MeansCell (cell_hosts hosts.now) result }
+{
+    match Cell::new(alloc, hosts) {
+        Ok(cell) => Ok(cell),
+        Err(why) => Err(fault_of(why)),
+    }
+}
+
+/// How words are refused whose hosts make no cell.
+fn fault_of(why: CellFault) -> WordsFault
+    ensures { result ≡ fault_of why }
+{
+    match why {
+        CellFault::NoMemory => WordsFault::NoMemory,
+        CellFault::Empty | CellFault::TooMany { .. } | CellFault::Repeated { .. } => {
+            WordsFault::Word { place: 4 }
+        }
+    }
+}
+
+/// The hosts of the parts between commas, each of which must be a dotted address.
+fn addresses(alloc: Global, text: &[u8]) -> Result<Vec<Host>, WordsFault>
+    ensures addresses { IfOk result (λ hosts. list_all is_address (parts_of text.now) ≡ true) }
+    ensures named { IfOk result (λ hosts. hosts.items ≡ named_hosts text.now) }
+    ensures refused { IfErr result (λ fault. IsNoAddress text.now fault) }
+{
     let mut hosts = Vec::new(alloc);
     for part in text.split(|byte| *byte == b',') {
-        if hosts.len() > MAXSERVERS {
-            return Err(refused);
+        let Some(number) = address(part) else {
+            return Err(WordsFault::Word { place: 4 });
+        };
+        if hosts.push(Host(number)).is_err() {
+            return Err(WordsFault::NoMemory);
         }
-        let host = address(part).ok_or(refused)?;
-        hosts.push(Host(host)).map_err(|_| WordsFault::NoMemory)?;
     }
-    match Cell::new(alloc, &hosts) {
-        Ok(cell) => Ok(cell),
-        Err(CellFault::NoMemory) => Err(WordsFault::NoMemory),
-        Err(_) => Err(refused),
-    }
+    Ok(hosts)
 }
 
 /// The number of a dotted address: four decimals from 0 to 255, the first the highest byte.

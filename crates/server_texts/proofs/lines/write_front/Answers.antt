@@ -1,4 +1,4 @@
-use Rattle.std.proofs.Common.{length, length-drop, ◌≡◌, arith}
+use Rattle.std.proofs.Common.{length-drop, arith}
 use Rattle.std.proofs.lemmas.List.{take_rest}
 use Rattle.server_texts.proofs.Writing.{appended_more}
 use Rattle.server_texts.proofs.lines.write_front.Goals as goal
