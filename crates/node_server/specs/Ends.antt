@@ -1,10 +1,14 @@
 -- How a server ends: why its workers have ended, or why it was not opened (own).
+use Rattle.std.specs.Prelude.{◌≡◌, ◌≢◌, Result, Ok, Err}
 use Rattle.disk_base.specs.Files.{Files}
 use Rattle.server_crew.specs.declared.running.CrewEnd.{CrewEnd}
 use Rattle.server_crew.specs.declared.running.CrewEnd.TheVariants as crew
 use Rattle.ubik_store.specs.declared.faults.StoreFault.{StoreFault}
 use Rattle.ubik_store.specs.declared.faults.StoreFault.TheVariants as fault
 use Rattle.ubik_store.specs.Opening.{RefusesFiles}
+use Rattle.server_texts.specs.Words.{Named}
+use Rattle.server_texts.specs.declared.words.WordsFault.{WordsFault}
+use Rattle.server_texts.specs.declared.words.WordsFault.TheVariants.{Word, NoMemory}
 use Rattle.server_texts.specs.declared.kinds.ServerKind.{ServerKind}
 use Rattle.server_texts.specs.declared.kinds.ServerKind.TheVariants as kind
 
@@ -36,8 +40,17 @@ IsNotRun kind.DiskFault = Unit {0}
 IsNotRun kind.NoMemory = Unit {0}
 IsNotRun _ = ⊥
 
--- the ends of a server whose words are refused
-abbrev pub IsUnread : ServerKind → Type 0
-IsUnread (kind.Words place) = Unit {0}
-IsUnread kind.NoMemory = Unit {0}
-IsUnread _ = ⊥
+-- the ends of a server whose words fit
+abbrev pub IsNotForWords : ServerKind → Type 0
+IsNotForWords (kind.Words place) = ⊥
+IsNotForWords _ = Unit {0}
+
+-- how a server ends whose words are refused
+abbrev pub kind_of_words : WordsFault → ServerKind
+kind_of_words (Word place) = kind.Words place
+kind_of_words NoMemory = kind.NoMemory
+
+-- A server ends for its words exactly where they mean nothing, and names the first place that does not fit. Want of memory is free.
+abbrev pub FollowsWords : Result Named WordsFault → ServerKind → Type 0
+FollowsWords (Ok named) ended = IsNotForWords ended
+FollowsWords (Err fault) ended = ended ≢ kind.NoMemory → ended ≡ kind_of_words fault

@@ -5,7 +5,7 @@ ghost use Rattle.disk_base.specs.Crash.{IsSettled};
 ghost use Rattle.disk_base.specs.Files.{Files};
 ghost use Rattle.ubik_node.specs.Node.{IsStored};
 ghost use Rattle.ubik_store.specs.Opening.{RefusesFiles};
-ghost use Rattle.node_server.specs.Ends.{IsNotRun, ShowsFiles, kind_of_end, kind_of_fault};
+ghost use Rattle.node_server.specs.Ends.{IsNotForWords, IsNotRun, ShowsFiles, kind_of_end, kind_of_fault};
 
 use crate::benches::{StationBench, Whole, lend};
 use crate::ends::ServerRun;
@@ -50,6 +50,7 @@ pub(crate) fn open_and_serve<
     requires settled { IsSettled (D.files disk) (D.may_leave disk) }
     requires empty { J.items journal ≡ [] }
     requires me { words.me < length words.cell }
+    ensures words { IsNotForWords result.kind }
     ensures closed { result.kind ≡ ServerKind.Closed → N.may_close outside.now.net.now }
     ensures refused { result.kind ≡ ServerKind.NoThread → P.may_refuse outside.now.spawner.now }
     ensures bad_files { IfSome (D.files disk) (λ fs. ShowsFiles fs result.kind) }
@@ -81,6 +82,7 @@ fn kind_of_fault(why: StoreFault) -> ServerKind
     ensures kind { result ≡ kind_of_fault why }
     ensures shown { (files : Option Files) → IfSome files (λ fs. RefusesFiles fs why) → IfSome files (λ fs. ShowsFiles fs result) }
     ensures run { IsNotRun result }
+    ensures words { IsNotForWords result }
     ensures closed { result ≢ ServerKind.Closed }
     ensures refused { result ≢ ServerKind.NoThread }
 {
@@ -98,6 +100,7 @@ fn kind_of_fault(why: StoreFault) -> ServerKind
 fn kind_of_end(end: CrewEnd) -> ServerKind
     ensures kind { result ≡ kind_of_end end }
     ensures files { (files : Option Files) → IfSome files (λ fs. ShowsFiles fs result) }
+    ensures words { IsNotForWords result }
     ensures closed { result ≡ ServerKind.Closed → end ≡ CrewEnd.Closed }
     ensures refused { result ≡ ServerKind.NoThread → end ≡ CrewEnd.NoThread }
 {
@@ -136,6 +139,7 @@ fn serve_as<
     requires stored { IsStored D.Disk node }
     requires moment { IsMoment node.last }
     requires empty { J.items journal ≡ [] }
+    ensures words { IsNotForWords result.kind }
     ensures closed { result.kind ≡ ServerKind.Closed → N.may_close outside.now.net.now }
     ensures refused { result.kind ≡ ServerKind.NoThread → P.may_refuse outside.now.spawner.now }
     ensures files { (files : Option Files) → IfSome files (λ fs. ShowsFiles fs result.kind) }

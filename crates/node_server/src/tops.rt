@@ -1,9 +1,10 @@
 //! The top calls: a server from its words to its status.
-ghost use Rattle.std.specs.Prelude.{◌≡◌, ◌≢◌, ◌<◌, [], length, Option, IfSome, IsNone};
+ghost use Rattle.std.specs.Prelude.{◌≡◌, ◌≢◌, ◌<◌, [], length, map, string_bytes, Option, IfSome, IsNone};
 ghost use Rattle.disk_base.specs.Crash.{IsSettled};
 ghost use Rattle.disk_base.specs.Files.{Files};
-ghost use Rattle.node_server.specs.Ends.{IsNotRun, IsUnread, ShowsFiles};
+ghost use Rattle.node_server.specs.Ends.{FollowsWords, IsNotForWords, IsNotRun, ShowsFiles, kind_of_words};
 ghost use Rattle.server_texts.specs.Ends.{status_of};
+ghost use Rattle.server_texts.specs.Words.{meaning_of};
 
 use crate::ends::ServerEnd;
 use crate::openings::{Served, open_and_serve};
@@ -51,6 +52,7 @@ pub fn server_top<
 ) -> ServerEnd<D, Journal>
     requires { IsSettled (D.files disk) (D.may_leave disk) }
     ensures status { result.status ≡ status_of result.kind }
+    ensures words { FollowsWords (meaning_of (map string_bytes words.now)) result.kind }
     ensures closed { result.kind ≡ ServerKind.Closed → N.may_close net.now }
     ensures refused { result.kind ≡ ServerKind.NoThread → P.may_refuse spawner.now }
     ensures bad_files { IfSome (D.files disk) (λ fs. ShowsFiles fs result.kind) }
@@ -87,6 +89,7 @@ pub fn server_over<
     requires settled { IsSettled (D.files disk) (D.may_leave disk) }
     requires empty { J.items journal ≡ [] }
     ensures status { result.status ≡ status_of result.kind }
+    ensures words { FollowsWords (meaning_of (map string_bytes words.now)) result.kind }
     ensures closed { result.kind ≡ ServerKind.Closed → N.may_close net.now }
     ensures refused { result.kind ≡ ServerKind.NoThread → P.may_refuse spawner.now }
     ensures bad_files { IfSome (D.files disk) (λ fs. ShowsFiles fs result.kind) }
@@ -127,6 +130,7 @@ fn read_and_serve<
 ) -> Served<D, J>
     requires settled { IsSettled (D.files disk) (D.may_leave disk) }
     requires empty { J.items journal ≡ [] }
+    ensures words { FollowsWords (meaning_of (map string_bytes words.now)) result.kind }
     ensures closed { result.kind ≡ ServerKind.Closed → N.may_close outside.now.net.now }
     ensures refused { result.kind ≡ ServerKind.NoThread → P.may_refuse outside.now.spawner.now }
     ensures bad_files { IfSome (D.files disk) (λ fs. ShowsFiles fs result.kind) }
@@ -145,7 +149,7 @@ fn read_and_serve<
 /// How a server ends whose words are refused.
 #[tactic(auto, using(crate::proofs::Showing::shows_unit))]
 fn kind_of_words(fault: WordsFault) -> ServerKind
-    ensures unread { IsUnread result }
+    ensures kind { result ≡ kind_of_words fault }
     ensures files { (files : Option Files) → IfSome files (λ fs. ShowsFiles fs result) }
     ensures run { IsNotRun result }
     ensures closed { result ≢ ServerKind.Closed }
@@ -177,6 +181,7 @@ fn serve<
     requires settled { IsSettled (D.files disk) (D.may_leave disk) }
     requires empty { J.items journal ≡ [] }
     requires me { words.me < length words.cell }
+    ensures words { IsNotForWords result.kind }
     ensures closed { result.kind ≡ ServerKind.Closed → N.may_close outside.now.net.now }
     ensures refused { result.kind ≡ ServerKind.NoThread → P.may_refuse outside.now.spawner.now }
     ensures bad_files { IfSome (D.files disk) (λ fs. ShowsFiles fs result.kind) }

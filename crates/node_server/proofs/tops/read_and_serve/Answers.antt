@@ -1,0 +1,13 @@
+use Rattle.std.proofs.Common.{map, string_bytes}
+use Rattle.server_texts.specs.Words.{meaning_of}
+use Rattle.node_server.proofs.Wording.{follows_read, follows_refused}
+use Rattle.node_server.proofs.tops.read_and_serve.Goals as goal
+
+pub returns-in-Ok-clause-words : goal.returns-in-Ok-clause-words
+returns-in-Ok-clause-words g c =
+    follows_read (meaning_of (map string_bytes c.args.words.now)) c.in-Ok.words c.serve.result.kind c.in-Ok.ensures.meaning c.serve.ensures.words
+
+pub returns-in-Err-clause-words : goal.returns-in-Err-clause-words
+returns-in-Err-clause-words g c =
+    follows_refused (meaning_of (map string_bytes c.args.words.now)) c.in-Err.fault c.kind_of_words.result c.in-Err.ensures.meaning
+    c.kind_of_words.ensures.kind
