@@ -1,2 +1,10 @@
+pub mod Asked
 pub mod Debugging
+pub mod Explaining
+pub mod Giving
+pub mod Looking
 pub mod Running
+pub mod Sounding
+pub mod Users
+pub mod Volumes
+pub mod Words

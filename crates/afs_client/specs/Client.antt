@@ -10,8 +10,11 @@ use Rattle.tool_base.specs.declared.stops.Stop.{Stop}
 use Rattle.tool_base.specs.declared.stops.Stop.TheVariants.{WriteFault, NoMemory}
 use Rattle.pts_tool.specs.Courses.{pts_course}
 use Rattle.vos_tool.specs.Command.{vos_course}
+use Rattle.afs_client.specs.Debugs.{Looked}
 use Rattle.afs_client.specs.Requests.{fault_text, tool_name}
+use Rattle.afs_client.specs.declared.requests.CommandRequest.{CommandRequest}
 use Rattle.afs_client.specs.declared.requests.Request.{Request}
+use Rattle.afs_client.specs.declared.requests.Request.TheVariants as request
 use Rattle.afs_client.specs.declared.requests.RequestFault.{RequestFault}
 
 -- the calls and texts of a command
@@ -25,8 +28,8 @@ port_of Vos = 7003
 port_of Pts = 7002
 
 -- who asks, before the first call
-abbrev pub asker_of : Request → Asker
-asker_of request = record { hosts = request.hosts; port = port_of request.tool; number = 0 }
+abbrev pub asker_of : CommandRequest → Asker
+asker_of r = record { hosts = r.hosts; port = port_of r.tool; number = 0 }
 
 abbrev pub fault_line : RequestFault → List ℕ
 fault_line fault = fault_text fault ++ 10 ∷ []
@@ -49,10 +52,21 @@ pub record Declined (line : List ℕ) (before after : List Exchange) (status : �
   pub out_is : Appended out out_after []
   pub err_is : Declines line status err err_after
 
--- What the words ask for is a command, which is its course over the exchanges that were made, or they are refused.
+-- A command is its course over the exchanges that were made; for `udebug` the hosts were asked of themselves, and nothing was written beside.
+abbrev pub RequestRan : Request → List Exchange → List Exchange → ℕ
+    → Option (List ℕ) → Option (List ℕ) → Option (List ℕ) → Option (List ℕ) → Type 0
+RequestRan (request.Command r) before after status out out_after err err_after =
+    Commanded (tool_name r.tool) (course_of r.tool r.words) (asker_of r) before after status out out_after err err_after
+RequestRan (request.Debug r) before after status out out_after err err_after = Looked r before after status out out_after × (err_after ≡ err)
+
+-- What the words ask for was run, or they are refused.
 abbrev pub ClientRan : Result Request RequestFault → List Exchange → List Exchange → ℕ
     → Option (List ℕ) → Option (List ℕ) → Option (List ℕ) → Option (List ℕ) → Type 0
-ClientRan (Ok request) before after status out out_after err err_after =
-    Commanded (tool_name request.tool) (course_of request.tool request.words) (asker_of request) before after status out out_after err err_after
+ClientRan (Ok request) before after status out out_after err err_after = RequestRan request before after status out out_after err err_after
 ClientRan (Err fault) before after status out out_after err err_after =
     Declined (fault_line fault) before after status out out_after err err_after
+
+-- Status 2 is that of words that mean nothing, and of no others: these have no other status but that of a sink that failed, or of want of memory.
+abbrev pub WordsJudged : Result Request RequestFault → ℕ → Type 0
+WordsJudged (Ok request) status = status ≡ 2 → ⊥
+WordsJudged (Err fault) status = (status ≡ 2) ⊎ ((status ≡ 4) ⊎ (status ≡ 5))

@@ -9,8 +9,10 @@ use Rattle.afs_words.specs.Texts as words
 use Rattle.afs_words.specs.declared.faults.WordsFault.{WordsFault}
 use Rattle.afs_words.specs.declared.tables.Tool.{Tool}
 use Rattle.afs_words.specs.declared.tables.Tool.TheVariants.{Vos, Pts}
+use Rattle.afs_client.specs.Debugs.{debug_of}
 use Rattle.afs_client.specs.Hosts.{hosts_of}
 use Rattle.afs_client.specs.declared.requests.Request.{Request}
+use Rattle.afs_client.specs.declared.requests.Request.TheVariants as request
 use Rattle.afs_client.specs.declared.requests.RequestFault.{RequestFault}
 use Rattle.afs_client.specs.declared.requests.RequestFault.TheVariants.{BadWord, BadCommand, NoMemory}
 
@@ -22,7 +24,7 @@ abbrev pub tool_of : List ℕ → Option Tool
 tool_of word = if bytes_eq word (codes "vos") then Some Vos else (if bytes_eq word (codes "pts") then Some Pts else None)
 
 abbrev pub with_command : List Host → Tool → Result Command WordsFault → Result Request RequestFault
-with_command hosts tool (Ok command) = Ok (record { hosts = hosts; tool = tool; words = command })
+with_command hosts tool (Ok command) = Ok (request.Command (record { hosts = hosts; tool = tool; words = command }))
 with_command hosts tool (Err fault) = Err (BadCommand tool fault)
 
 abbrev pub with_tool : List Host → List (List ℕ) → Option Tool → Result Request RequestFault
@@ -33,7 +35,8 @@ with_tool hosts words (Some tool) = with_command hosts tool (meaning_of tool wor
 abbrev pub behind_hosts : List (List ℕ) → Option (List Host) → Result Request RequestFault
 behind_hosts words None = Err (BadWord 1)
 behind_hosts [] (Some hosts) = Err (BadWord 2)
-behind_hosts (word ∷ words) (Some hosts) = with_tool hosts words (tool_of word)
+behind_hosts (word ∷ words) (Some hosts) =
+    if bytes_eq word (codes "udebug") then debug_of hosts words else with_tool hosts words (tool_of word)
 
 -- the words of the program: the hosts, the name of a command, and its words
 abbrev pub request_of : List (List ℕ) → Result Request RequestFault

@@ -1,11 +1,13 @@
 //! The program, from its words to its status.
 ghost use Rattle.std.specs.Prelude.{◌≡◌, ◌+◌, map, string_bytes, IfOk, Err};
 ghost use Rattle.disk_base.specs.Count.{HasCause};
-ghost use Rattle.afs_client.specs.Client.{ClientRan, Declines, SaysFault, asker_of, course_of, fault_line};
+ghost use Rattle.afs_client.specs.Client.{ClientRan, Declines, RequestRan, SaysFault, WordsJudged, asker_of, course_of, fault_line};
+ghost use Rattle.afs_client.specs.Explained.{IsExplained};
 ghost use Rattle.afs_client.specs.Requests.{request_of, tool_name};
 ghost use Rattle.tool_base.specs.Ending.{Commanded};
 
-use crate::requests::{Request, RequestFault, read_request};
+use crate::debugs::look;
+use crate::requests::{CommandRequest, Request, RequestFault, read_request};
 use afs_words::Tool;
 use disk_base::Sink;
 use io_base::Link;
@@ -19,11 +21,11 @@ use vos_tool::run_vos;
 const BAD_WORDS: u8 = 2;
 
 /// Runs the program with these words: the hosts that are asked, in their order, then `vos` or `pts` and the words of that
-/// command. Texts go to `out`; the line of a refusal, of hosts of which none took a call, of an unknown outcome, and of
-/// words that mean nothing goes to `err`.
+/// command, or `udebug` and the kind of server. Texts go to `out`; the line of a refusal, of hosts of which none took a call, of an
+/// unknown outcome, and of words that mean nothing goes to `err`.
 ///
-/// Statuses: 0 the command is done, 1 it is refused, 2 the words mean nothing, 3 no host took a call, 4 a sink failed, 5
-/// memory ran out, 6 a call that writes may have taken place. What was written before stays.
+/// Statuses: 0 the command is done, 1 it is refused, 2 the words mean nothing, 3 no host took a call, or answered `udebug`, 4 a sink
+/// failed, 5 memory ran out, 6 a call that writes may have taken place. What was written before stays.
 pub fn client_top<L: Link, K: Sink>(
     alloc: Global,
     words: &[String],
@@ -33,6 +35,9 @@ pub fn client_top<L: Link, K: Sink>(
 ) -> u8
     ensures ran { ClientRan (request_of (map string_bytes words.now)) (L.exchanges link.old) (L.exchanges link.new) result
         (K.written out.old) (K.written out.new) (K.written err.old) (K.written err.new) }
+    ensures bad_words { WordsJudged (request_of (map string_bytes words.now)) result }
+    ensures explained { IfOk (request_of (map string_bytes words.now))
+        (λ request. IsExplained request (L.exchanges link.old) (L.exchanges link.new) result) }
     ensures write_fault { HasCause (K.faults out.old + K.faults err.old) (K.faults out.new + K.faults err.new) (result ≡ 4) }
 {
     answer(alloc, words, link, out, err)
@@ -57,10 +62,28 @@ fn answer<L: Link, K: Sink>(
     }
 }
 
-/// Runs the command of a request.
+/// Runs what is asked for; the status.
 fn run<L: Link, K: Sink>(
     alloc: Global,
     request: &Request,
+    link: &mut L,
+    out: &mut K,
+    err: &mut K,
+) -> u8
+    ensures ran { RequestRan request.now (L.exchanges link.old) (L.exchanges link.new) result
+        (K.written out.old) (K.written out.new) (K.written err.old) (K.written err.new) }
+    ensures write_fault { HasCause (K.faults out.old + K.faults err.old) (K.faults out.new + K.faults err.new) (result ≡ 4) }
+{
+    match request {
+        Request::Command(command) => run_command(alloc, command, link, out, err),
+        Request::Debug(question) => look(alloc, question, link, out),
+    }
+}
+
+/// Runs a command of `vos` or `pts`; the status.
+fn run_command<L: Link, K: Sink>(
+    alloc: Global,
+    request: &CommandRequest,
     link: &mut L,
     out: &mut K,
     err: &mut K,
@@ -78,7 +101,7 @@ fn run<L: Link, K: Sink>(
 }
 
 /// Writes why the words are refused; the status.
-pub(crate) fn refuse<K: Sink>(alloc: Global, fault: &RequestFault, err: &mut K) -> u8
+fn refuse<K: Sink>(alloc: Global, fault: &RequestFault, err: &mut K) -> u8
     ensures said { Declines (fault_line fault.now) result (K.written err.old) (K.written err.new) }
     ensures write_fault { HasCause (K.faults err.old) (K.faults err.new) (result ≡ 4) }
 {

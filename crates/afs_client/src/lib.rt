@@ -7,6 +7,5 @@ mod hosts;
 mod requests;
 
 pub use client::client_top;
-pub use debugs::{DebugRequest, debug_top, read_debug};
 pub use hosts::{Hosts, HostsFault};
-pub use requests::{Request, RequestFault, read_request};
+pub use requests::{CommandRequest, DebugRequest, Request, RequestFault, read_request};

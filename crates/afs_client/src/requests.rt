@@ -2,18 +2,35 @@
 ghost use Rattle.std.specs.Prelude.{◌≡◌, ◌≢◌, map, string_bytes, option_map, Err};
 ghost use Rattle.afs_client.specs.Requests.{behind_hosts, request_of, tool_name, tool_of, with_tool};
 
+use crate::debugs::read_kind;
 use crate::hosts::{Hosts, HostsFault};
 use afs_words::{Tool, Words, WordsFault, read_words};
 use std::alloc::Global;
 use std::error::Error;
 use std::fmt;
+use udebug_tool::ServerKind;
 
-/// A command, and the hosts that are asked its calls.
+/// A command of `vos` or `pts`, and the hosts that are asked its calls.
 #[derive(Drop)]
-pub struct Request {
+pub struct CommandRequest {
     pub hosts: Hosts,
     pub tool: Tool,
     pub words: Words,
+}
+
+/// The hosts that are asked of themselves, and the kind of server that is meant.
+#[derive(Drop)]
+pub struct DebugRequest {
+    pub hosts: Hosts,
+    pub kind: ServerKind,
+}
+
+/// What is to be run.
+#[derive(Drop)]
+pub enum Request {
+    Command(CommandRequest),
+    /// `udebug`.
+    Debug(DebugRequest),
 }
 
 /// Why the words of the program are refused.
@@ -56,7 +73,8 @@ pub fn tool_name(tool: Tool) -> &'static str
     }
 }
 
-/// What the words of the program ask for: the hosts, `vos` or `pts`, and the words of that command.
+/// What the words of the program ask for: the hosts, and then `vos` or `pts` with the words of that command, or `udebug` with a kind
+/// of server.
 pub fn read_request(alloc: Global, words: &[String]) -> Result<Request, RequestFault>
     ensures { result ≢ Err RequestFault.NoMemory → result ≡ request_of (map string_bytes words.now) }
 {
@@ -64,19 +82,22 @@ pub fn read_request(alloc: Global, words: &[String]) -> Result<Request, RequestF
         return Err(RequestFault::BadWord { place: 1 });
     };
     match Hosts::parse(alloc, word.as_bytes()) {
-        Ok(hosts) => read_tool(alloc, hosts, rest),
+        Ok(hosts) => read_name(alloc, hosts, rest),
         Err(HostsFault::Malformed) => Err(RequestFault::BadWord { place: 1 }),
         Err(HostsFault::NoMemory) => Err(RequestFault::NoMemory),
     }
 }
 
 /// What the words behind the hosts ask for.
-fn read_tool(alloc: Global, hosts: Hosts, words: &[String]) -> Result<Request, RequestFault>
+fn read_name(alloc: Global, hosts: Hosts, words: &[String]) -> Result<Request, RequestFault>
     ensures { result ≢ Err RequestFault.NoMemory → result ≡ behind_hosts (map string_bytes words.now) (Some hosts) }
 {
     let [word, rest @ ..] = words else {
         return Err(RequestFault::BadWord { place: 2 });
     };
+    if word.as_str() == "udebug" {
+        return read_kind(hosts, rest);
+    }
     match tool_of(word.as_str()) {
         Some(tool) => read_command(alloc, hosts, tool, rest),
         None => Err(RequestFault::BadWord { place: 2 }),
@@ -103,7 +124,7 @@ fn read_command(
     ensures { result ≢ Err RequestFault.NoMemory → result ≡ with_tool hosts (map string_bytes words.now) (Some tool) }
 {
     match read_words(alloc, tool, words) {
-        Ok(words) => Ok(Request { hosts, tool, words }),
+        Ok(words) => Ok(Request::Command(CommandRequest { hosts, tool, words })),
         Err(WordsFault::NoMemory) => Err(RequestFault::NoMemory),
         Err(fault) => Err(RequestFault::BadCommand { tool, fault }),
     }

@@ -1,5 +1,5 @@
 use Rattle.afs_client.proofs.Running.{ran_pts, ran_vos}
-use Rattle.afs_client.proofs.client.run.Goals as goal
+use Rattle.afs_client.proofs.client.run_command.Goals as goal
 
 pub returns-in-Vos-clause-ran : goal.returns-in-Vos-clause-ran
 returns-in-Vos-clause-ran g c =
