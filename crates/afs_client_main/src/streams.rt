@@ -1,10 +1,10 @@
 //! The program over its words, the real streams and the net.
 use crate::texts::{NO_TEXT, asked_text, message_of};
-use afs_client::{client_top, debug_top};
+use afs_client::client_top;
 use client_plans::client_help;
 use client_shell::{behind_name, say_said};
 use disk_base::{Sink, WriterSink};
-use io_base::{Link, TcpLink};
+use io_base::TcpLink;
 use std::env::Args;
 use std::io::{self, BufWriter, ErrorKind, Write};
 use tool_base::{Stop, say};
@@ -101,23 +101,9 @@ fn run(rt: &HostRuntime, words: &[String]) -> u8 {
     let mut out = WriterSink::new(Stream::Output(writer));
     let mut errors = WriterSink::new(Stream::Errors(rt.stderr()));
     let mut link = TcpLink::make(*rt, alloc);
-    let status = top(alloc, words, &mut link, &mut out, &mut errors);
+    let status = client_top(alloc, words, &mut link, &mut out, &mut errors);
     match out.into_inner().flush() {
         Ok(()) => status,
         Err(_) => Stop::WriteFault.status(),
-    }
-}
-
-/// Runs `udebug` where the second word names it, else what the words ask for; the status.
-fn top<L: Link, K: Sink>(
-    alloc: Global,
-    words: &[String],
-    link: &mut L,
-    out: &mut K,
-    err: &mut K,
-) -> u8 {
-    match words {
-        [_, name, ..] if name.as_str() == "udebug" => debug_top(alloc, words, link, out, err),
-        _ => client_top(alloc, words, link, out, err),
     }
 }
