@@ -27,6 +27,7 @@ pub mod Plainly
 pub mod Reading
 pub mod Running
 pub mod Serving
+pub mod Settling
 pub mod Showing
 pub mod Sited
 pub mod Soundly

@@ -158,6 +158,7 @@ pub one_emptied : {D V : Type 0} (g : Ghosts D) (hosts : List Host) (me clock : 
 one_emptied g hosts me clock disk s end empty one = record {
   never_falls = one.never_falls;
   empty = one.stands;
+  settled = one.sound.settled;
   few = (one.calls.rise, rises_short (is_cut_short end) one.calls.rise (first_calls g (is_cut_short end) disk (server_disk s) empty one.calls), one.calls.is);
 }
 

@@ -1,6 +1,7 @@
 -- What the disks of a running cell read as, how often they failed, and how many changing calls they got.
-use Rattle.std.specs.Prelude.{◌≤◌, ℕ, ◌+◌, Option, IsSomeAnd, List, [], ◌∷◌, map}
+use Rattle.std.specs.Prelude.{◌≤◌, ℕ, ◌+◌, Option, IsSomeAnd, All, List, [], ◌∷◌, map}
 use Rattle.disk_base.specs.declared.disks.Disk.{Ghosts}
+use Rattle.disk_base.specs.Crash.{IsSettled}
 use Rattle.disk_base.specs.Files.{Files}
 use Rattle.cell_model.specs.World.{Site}
 use Rattle.cell_runs.specs.Trace.{TraceItem, fault_count}
@@ -27,6 +28,10 @@ abbrev pub AreReadBy : List Site → List Held → Type 0
 AreReadBy [] [] = Unit {0}
 AreReadBy (site ∷ sites) (disk ∷ disks) = IsReadBy site disk × AreReadBy sites disks
 AreReadBy _ _ = ⊥
+
+-- nothing is pending on any of these disks: a crash leaves of each what a read gives, and nothing else
+abbrev pub AreSettled : {D : Type 0} → Ghosts D → List D → Type 0
+AreSettled g disks = All (λ disk. IsSettled (g.files disk) (g.may_leave disk)) disks
 
 -- each disk failed at least as often as is told of its server, from server k on
 abbrev pub AreCauses : ℕ → List TraceItem → List Held → Type 0

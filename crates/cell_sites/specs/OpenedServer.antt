@@ -1,6 +1,7 @@
 -- The opening of one server of a cell.
 use Rattle.std.specs.Prelude.{◌≡◌, ◌≤◌, ◌<◌, ◌+◌, ℕ, Bool, true, false, IsSomeAnd, Some, List, [], ◌∷◌, length}
 use Rattle.disk_base.specs.declared.disks.Disk.{Ghosts}
+use Rattle.disk_base.specs.Crash.{IsSettled}
 use Rattle.disk_base.specs.Files.{Files}
 use Rattle.disk_base.specs.Stops.DiskStop.{Unarmed}
 use Rattle.ubik_types.specs.Version.{IsVersion}
@@ -57,8 +58,9 @@ pub record ServerOpens {D V : Type 0} (g : Ghosts D) (m : Member) (clock : ℕ) 
   pub never_falls : g.faults disk ≤ g.faults (server_disk server)
   pub is : ServerIs g m clock d end disk server
 
--- a disk stands for no database still, and made no more changing calls than an opening over empty files does
+-- A disk stands for no database still, nothing is pending on it, and it made no more changing calls than an opening over empty files does.
 pub record IsEmptied {D : Type 0} (g : Ghosts D) (before after : D) : Type 0 where
   pub never_falls : g.faults before ≤ g.faults after
   pub empty : IsSomeAnd (g.files after) (StandsAs no_database)
+  pub settled : IsSettled (g.files after) (g.may_leave after)
   pub few : (rise : ℕ) × OpensFirst true rise × (g.steps after ≡ g.steps before + rise)

@@ -8,10 +8,10 @@ ghost use Rattle.cell_runs.specs.Trace.{Tells, trace};
 ghost use Rattle.cell_runs.specs.Script.{Cell, run_in};
 ghost use Rattle.cell_script.specs.declared.lines.Line.TheVariants as line;
 ghost use Rattle.cell_script.specs.declared.lines.Why.{Why as AWhy};
-ghost use Rattle.cell_sites.specs.Disks.{AreRises};
+ghost use Rattle.cell_sites.specs.Disks.{AreRises, AreSettled};
 ghost use Rattle.cell_sites.specs.Places.{IsDownAt};
 ghost use Rattle.cell_sites.specs.Reopened.{SiteReopened, reopened_marks};
-ghost use Rattle.cell_sites.specs.Sites.{IsModelledBy, helds};
+ghost use Rattle.cell_sites.specs.Sites.{IsModelledBy, disks_of, helds};
 ghost use Rattle.cell_sites.specs.Sound.{Bounds, IsSound};
 ghost use Rattle.cell_sites.specs.Stepped.{TakenDown};
 ghost use Rattle.cell_sites.specs.Told.{CellTold, IsRefused, IsShort};
@@ -92,6 +92,7 @@ impl<D: SteadyDisk + StopDisk, V: DraftWords> OpenCell<D, V> {
         ensures sound { result ≡ Ok tt → (bounds : Bounds) → IsSound D.Disk V.standing.database bounds self.old →
             IsSound D.Disk V.standing.database bounds self.new }
         ensures never_falls { AreRises 0 [] (helds D.Disk self.old) (helds D.Disk self.new) }
+        ensures settled { AreSettled D.Disk (disks_of self.new) }
         ensures same { length self.new.sites.items ≡ length self.old.sites.items }
     {
         law_cells_go_on();

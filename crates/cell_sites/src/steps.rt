@@ -12,9 +12,9 @@ ghost use Rattle.cell_runs.specs.ScriptDatabase.{script_database};
 ghost use Rattle.cell_runs.specs.Script.{Cell, first_choice, stepped, run_in, asked_at};
 ghost use Rattle.cell_script.specs.declared.lines.Line.TheVariants as line;
 ghost use Rattle.cell_script.specs.declared.lines.Why.{Why as AWhy};
-ghost use Rattle.cell_sites.specs.Disks.{AreRises};
+ghost use Rattle.cell_sites.specs.Disks.{AreRises, AreSettled};
 ghost use Rattle.cell_sites.specs.Places.{IsUpAt};
-ghost use Rattle.cell_sites.specs.Sites.{IsModelledBy, helds};
+ghost use Rattle.cell_sites.specs.Sites.{IsModelledBy, disks_of, helds};
 ghost use Rattle.cell_sites.specs.Sound.{Bounds, IsSound, IsSoundDisk, IsSoundNode, IsSteady, Keeps};
 ghost use Rattle.cell_sites.specs.Stepped.{NodeStepped, SiteStepped, UpStepped, member_at};
 ghost use Rattle.cell_sites.specs.Taken.{CutsNone};
@@ -61,6 +61,7 @@ impl<D: SteadyDisk + StopDisk, V: DraftWords> OpenCell<D, V> {
         ensures sound { result ≡ Ok tt → (bounds : Bounds) → IsSound D.Disk V.standing.database bounds self.old →
             IsSound D.Disk V.standing.database bounds self.new }
         ensures never_falls { AreRises 0 [] (helds D.Disk self.old) (helds D.Disk self.new) }
+        ensures settled { AreSettled D.Disk (disks_of self.new) }
         ensures same { length self.new.sites.items ≡ length self.old.sites.items }
     {
         law_cells_go_on();
@@ -90,6 +91,7 @@ impl<D: SteadyDisk + StopDisk, V: DraftWords> OpenCell<D, V> {
         ensures sound { result ≡ Ok tt → (bounds : Bounds) → IsSound D.Disk V.standing.database bounds self.old →
             IsSound D.Disk V.standing.database bounds self.new }
         ensures never_falls { AreRises 0 [] (helds D.Disk self.old) (helds D.Disk self.new) }
+        ensures settled { AreSettled D.Disk (disks_of self.new) }
         ensures same { length self.new.sites.items ≡ length self.old.sites.items }
     {
         law_cells_go_on();
@@ -126,6 +128,7 @@ impl<D: SteadyDisk + StopDisk, V: DraftWords> OpenCell<D, V> {
         ensures sound { result ≡ Ok tt → (bounds : Bounds) → bounds.asks < id → IsSound D.Disk V.standing.database bounds self.old →
             IsSound D.Disk V.standing.database (record bounds { asks = id }) self.new }
         ensures never_falls { AreRises 0 [] (helds D.Disk self.old) (helds D.Disk self.new) }
+        ensures settled { AreSettled D.Disk (disks_of self.new) }
         ensures same { length self.new.sites.items ≡ length self.old.sites.items }
     {
         law_cells_go_on();
@@ -177,6 +180,7 @@ impl<D: SteadyDisk + StopDisk, V: DraftWords> OpenCell<D, V> {
         ensures keeps { result ≡ Ok tt → Keeps V.standing.database self.new }
         ensures calls { self.new.calls.items ≡ self.old.calls.items }
         ensures never_falls { AreRises 0 [] (helds D.Disk self.old) (helds D.Disk self.new) }
+        ensures settled { AreSettled D.Disk (disks_of self.new) }
         ensures same { length self.new.sites.items ≡ length self.old.sites.items }
     {
         law_writes_spread();

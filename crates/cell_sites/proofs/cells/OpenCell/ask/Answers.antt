@@ -8,9 +8,9 @@ use Rattle.cell_runs.specs.ScriptDatabase.{script_database}
 use Rattle.cell_runs.specs.Script.{Cell_run, Choices, asked_at, first_choice, stepped}
 use Rattle.cell_sites.specs.Calls.{StandsUnder}
 use Rattle.cell_sites.specs.Counts.{HoldRun}
-use Rattle.cell_sites.specs.Disks.{AreRises}
+use Rattle.cell_sites.specs.Disks.{AreRises, AreSettled}
 use Rattle.cell_sites.specs.Places.{IsUpAt}
-use Rattle.cell_sites.specs.Sites.{IsModelledBy, helds}
+use Rattle.cell_sites.specs.Sites.{IsModelledBy, disks_of, helds}
 use Rattle.cell_sites.specs.Sound.{IsSound, IsSteady}
 use Rattle.cell_sites.specs.Told.{CellTold, IsShort}
 use Rattle.cell_sites.specs.declared.cells.OpenCell.{OpenCell}
@@ -20,6 +20,7 @@ use Rattle.cell_sites.proofs.Behind.{asked_on}
 use Rattle.cell_sites.proofs.AtPlace.{rises_same}
 use Rattle.cell_sites.proofs.Lining.{short_as, size_of, told_as}
 use Rattle.cell_sites.proofs.Reading.{nothing_done}
+use Rattle.cell_sites.proofs.Settling.{sound_settled}
 use Rattle.cell_sites.proofs.cells.OpenCell.ask.Goals as goal
 
 pub returns-in_err-k-clause-refused : goal.returns-in_err-k-clause-refused
@@ -158,3 +159,16 @@ returns-clause-never_falls g c =
 
 pub returns-clause-same : goal.returns-clause-same
 returns-clause-same g c = c.step.ensures.same ∙ ap (λ (r : OpenCell _ _). length r.sites.items) c.in_ok-keep.ensures.same
+
+-- ---- nothing stays pending
+
+pub returns-in_err-k-clause-settled : goal.returns-in_err-k-clause-settled
+returns-in_err-k-clause-settled g c = sound_settled g.D.Disk c.requires.sound.0.clock c.args.self.now c.requires.sound.1.steady
+
+pub returns-in_err-asked-clause-settled : goal.returns-in_err-asked-clause-settled
+returns-in_err-asked-clause-settled g c = sound_settled g.D.Disk c.requires.sound.0.clock c.args.self.now c.requires.sound.1.steady
+
+pub returns-in_err-keep-clause-settled : goal.returns-in_err-keep-clause-settled
+returns-in_err-keep-clause-settled g c =
+    subst (λ (r : OpenCell _ _). AreSettled g.D.Disk (disks_of r)) (sym c.in_err-keep.ensures.same)
+    (sound_settled g.D.Disk c.requires.sound.0.clock c.args.self.now c.requires.sound.1.steady)

@@ -11,6 +11,7 @@ use Rattle.cell_sites.specs.Sound.{IsSound}
 use Rattle.cell_sites.specs.Traffic.{Traffic}
 use Rattle.cell_sites.proofs.Delivering.{with_packets}
 use Rattle.cell_sites.proofs.Following.{Follows, all_followed, follows_more, follows_none, fuel_followed, is_waiting, limit_there, rises_both, short_there}
+use Rattle.cell_sites.proofs.Settling.{sound_settled}
 use Rattle.cell_sites.proofs.cells.OpenCell.deliver_all.Goals as goal
 
 pub loop-init : goal.loop-init
@@ -96,3 +97,11 @@ returns-clause-told g c = λ ok given cell stands.
     fuel_followed g.D.Disk db MAX_PACKETS (MAX_PACKETS - c.loop.counter) c.args.self.now c.loop.self (string_bytes c.args.text.now) (string_bytes c.loop.text)
     c.loop.invariant
     refl (omega (arith, c.loop-test.false)) given cell stands
+
+pub returns-in_default-clause-settled : goal.returns-in_default-clause-settled
+returns-in_default-clause-settled g c =
+    sound_settled g.D.Disk c.requires.0.clock c.loop.self (c.loop.invariant.sound c.requires.0 c.requires.1).steady
+
+pub returns-clause-settled : goal.returns-clause-settled
+returns-clause-settled g c =
+    sound_settled g.D.Disk c.requires.0.clock c.loop.self (c.loop.invariant.sound c.requires.0 c.requires.1).steady

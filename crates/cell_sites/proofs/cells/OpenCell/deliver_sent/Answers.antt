@@ -13,6 +13,7 @@ use Rattle.cell_sites.proofs.Delivering.{all_at, handed_cell, keeps_with, lost, 
 use Rattle.cell_sites.proofs.Reading.{nothing_done}
 use Rattle.cell_sites.proofs.Behind.{delivered_on, handed_on}
 use Rattle.cell_sites.proofs.Soundly.{host_count}
+use Rattle.cell_sites.proofs.Settling.{sound_settled}
 use Rattle.cell_sites.proofs.cells.OpenCell.deliver_sent.Goals as goal
 
 pub is_up-requires : goal.is_up-requires
@@ -133,3 +134,12 @@ returns-clause-sound g c = λ ok bounds still. record {
       c.law_cells_go_on.ensures c.requires.some c.requires.sent still.run (returns-clause-told g c ok still.run.given still.run.cell still.run.stands);
   blocks = still.blocks;
 }
+
+pub returns-in_err-packet-clause-settled : goal.returns-in_err-packet-clause-settled
+returns-in_err-packet-clause-settled g c = sound_settled g.D.Disk c.requires.sound.0.clock c.args.self.now c.requires.sound.1.steady
+
+pub returns-in_err-tell_mark-clause-settled : goal.returns-in_err-tell_mark-clause-settled
+returns-in_err-tell_mark-clause-settled g c = sound_settled g.D.Disk c.requires.sound.0.clock c.args.self.now c.requires.sound.1.steady
+
+pub returns-clause-settled : goal.returns-clause-settled
+returns-clause-settled g c = sound_settled g.D.Disk c.requires.sound.0.clock c.args.self.now c.requires.sound.1.steady

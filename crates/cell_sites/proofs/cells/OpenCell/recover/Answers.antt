@@ -8,6 +8,7 @@ use Rattle.cell_script.specs.declared.lines.Line.TheVariants as line
 use Rattle.cell_sites.proofs.Behind.{runs_on}
 use Rattle.cell_sites.proofs.AtPlace.{rises_same}
 use Rattle.cell_sites.proofs.Lining.{short_as, size_of, told_as}
+use Rattle.cell_sites.proofs.Settling.{sound_settled}
 use Rattle.cell_sites.proofs.cells.OpenCell.recover.Goals as goal
 
 pub returns-in_err-k-clause-refused : goal.returns-in_err-k-clause-refused
@@ -61,3 +62,6 @@ returns-clause-sound g c = λ ok bounds still. record {
       (returns-clause-told g c ok still.run.given still.run.cell still.run.stands);
   blocks = still.blocks;
 }
+
+pub returns-in_err-k-clause-settled : goal.returns-in_err-k-clause-settled
+returns-in_err-k-clause-settled g c = sound_settled g.D.Disk c.requires.0.clock c.args.self.now c.requires.1.steady

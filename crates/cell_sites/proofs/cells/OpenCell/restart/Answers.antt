@@ -9,6 +9,7 @@ use Rattle.cell_sites.proofs.Behind.{runs_on, some_stands}
 use Rattle.cell_sites.proofs.AtPlace.{rises_same}
 use Rattle.cell_sites.proofs.Downtimes.{reopen_keeps, reopen_line, reopen_many, reopen_rises, reopen_short, reopen_sound}
 use Rattle.cell_sites.proofs.Lining.{short_as, size_of, told_as}
+use Rattle.cell_sites.proofs.Settling.{reopened_settled, sound_settled}
 use Rattle.cell_sites.proofs.cells.OpenCell.restart.Goals as goal
 
 pub returns-in_err-k-clause-refused : goal.returns-in_err-k-clause-refused
@@ -86,4 +87,19 @@ pub returns-clause-same : goal.returns-clause-same
 returns-clause-same g c =
     reopen_many g.D.Disk (script_database g.V.DraftService.standing.database g.V.DraftWords.words) c.args.self.now c.reopen.new.self c.in_ok-k.k (Ok tt)
     (string_bytes c.args.text.now) (string_bytes c.reopen.new.text) c.requires.0.clock c.requires.1.steady c.in_ok-reopen.ensures
+    (some_stands g.D.Disk g.V.DraftService.standing.database c.requires.0.asks c.args.self.now c.in_ok-k.k _ c.requires.1.run c.in_ok-reopen.ensures.there)
+
+pub returns-in_err-k-clause-settled : goal.returns-in_err-k-clause-settled
+returns-in_err-k-clause-settled g c = sound_settled g.D.Disk c.requires.0.clock c.args.self.now c.requires.1.steady
+
+pub returns-in_err-reopen-clause-settled : goal.returns-in_err-reopen-clause-settled
+returns-in_err-reopen-clause-settled g c =
+    reopened_settled g.D.Disk (script_database g.V.DraftService.standing.database g.V.DraftWords.words) c.in_ok-k.k _ c.requires.0.clock
+    c.args.self.now c.reopen.new.self (string_bytes c.args.text.now) (string_bytes c.reopen.new.text) c.requires.1.steady c.in_err-reopen.ensures
+    (some_stands g.D.Disk g.V.DraftService.standing.database c.requires.0.asks c.args.self.now c.in_ok-k.k _ c.requires.1.run c.in_err-reopen.ensures.there)
+
+pub returns-clause-settled : goal.returns-clause-settled
+returns-clause-settled g c =
+    reopened_settled g.D.Disk (script_database g.V.DraftService.standing.database g.V.DraftWords.words) c.in_ok-k.k (Ok tt) c.requires.0.clock
+    c.args.self.now c.reopen.new.self (string_bytes c.args.text.now) (string_bytes c.reopen.new.text) c.requires.1.steady c.in_ok-reopen.ensures
     (some_stands g.D.Disk g.V.DraftService.standing.database c.requires.0.asks c.args.self.now c.in_ok-k.k _ c.requires.1.run c.in_ok-reopen.ensures.there)

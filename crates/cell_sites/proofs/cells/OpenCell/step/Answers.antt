@@ -11,6 +11,7 @@ use Rattle.cell_sites.proofs.Joined.{all_may_tell, all_sent, as_many, found_halt
 use Rattle.cell_sites.proofs.Joined.{tells_halts, tells_made, told_line}
 use Rattle.cell_sites.proofs.Made.{laws_of}
 use Rattle.cell_sites.proofs.Soundly.{here, host_count, none_sent}
+use Rattle.cell_sites.proofs.Settling.{stepped_settled}
 use Rattle.cell_sites.proofs.cells.OpenCell.step.Goals as goal
 
 pub tell_step-requires : goal.tell_step-requires
@@ -72,6 +73,8 @@ returns-in-Made g c =
           c.tell_step.new.self (laws_of c.law_writes_spread.ensures c.law_replies_tell_memory.ensures) c.args.k c.args.event c.step_site.result
           c.requires.sound.0.clock c.requires.sound.1.steady c.requires.sound.1.keeps
           c.requires.brought c.requires.asks c.step_site.ensures hosts sites;
+      settled = stepped_settled g.D.Disk g.V.DraftService.standing.database c.args.k c.args.event c.step_site.result c.requires.sound.0.clock
+          c.args.self.now c.step_site.new.self c.tell_step.new.self c.requires.sound.1.steady c.step_site.ensures sites;
       same = as_many g.D.Disk (script_database g.V.DraftService.standing.database g.V.DraftWords.words) c.args.self.now c.step_site.new.self
           c.tell_step.new.self (laws_of c.law_writes_spread.ensures c.law_replies_tell_memory.ensures) c.args.k c.args.event c.step_site.result
           c.requires.sound.0.clock c.requires.sound.1.steady c.requires.sound.1.keeps
@@ -139,6 +142,8 @@ returns-in-Halts g c =
           c.tell_step-in-Halts.new.self (laws_of c.law_writes_spread.ensures c.law_replies_tell_memory.ensures) c.args.k c.args.event c.step_site.result
           c.requires.sound.0.clock c.requires.sound.1.steady c.requires.sound.1.keeps
           c.requires.brought c.requires.asks c.step_site.ensures hosts sites;
+      settled = stepped_settled g.D.Disk g.V.DraftService.standing.database c.args.k c.args.event c.step_site.result c.requires.sound.0.clock
+          c.args.self.now c.step_site.new.self c.tell_step-in-Halts.new.self c.requires.sound.1.steady c.step_site.ensures sites;
       same = as_many g.D.Disk (script_database g.V.DraftService.standing.database g.V.DraftWords.words) c.args.self.now c.step_site.new.self
           c.tell_step-in-Halts.new.self (laws_of c.law_writes_spread.ensures c.law_replies_tell_memory.ensures) c.args.k c.args.event c.step_site.result
           c.requires.sound.0.clock c.requires.sound.1.steady c.requires.sound.1.keeps
@@ -256,3 +261,18 @@ returns-in_err-tell_mark-in-Stops-clause-calls g c = c.step_site.ensures.calls
 
 pub returns-in_ok-tell_mark-in-Stops-clause-calls : goal.returns-in_ok-tell_mark-in-Stops-clause-calls
 returns-in_ok-tell_mark-in-Stops-clause-calls g c = c.step_site.ensures.calls
+
+pub returns-in-NoMemory-clause-settled : goal.returns-in-NoMemory-clause-settled
+returns-in-NoMemory-clause-settled g c =
+    stepped_settled g.D.Disk g.V.DraftService.standing.database c.args.k c.args.event c.step_site.result c.requires.sound.0.clock c.args.self.now
+    c.step_site.new.self c.step_site.new.self c.requires.sound.1.steady c.step_site.ensures refl
+
+pub returns-in_err-tell_mark-in-Stops-clause-settled : goal.returns-in_err-tell_mark-in-Stops-clause-settled
+returns-in_err-tell_mark-in-Stops-clause-settled g c =
+    stepped_settled g.D.Disk g.V.DraftService.standing.database c.args.k c.args.event c.step_site.result c.requires.sound.0.clock c.args.self.now
+    c.step_site.new.self c.step_site.new.self c.requires.sound.1.steady c.step_site.ensures refl
+
+pub returns-in_ok-tell_mark-in-Stops-clause-settled : goal.returns-in_ok-tell_mark-in-Stops-clause-settled
+returns-in_ok-tell_mark-in-Stops-clause-settled g c =
+    stepped_settled g.D.Disk g.V.DraftService.standing.database c.args.k c.args.event c.step_site.result c.requires.sound.0.clock c.args.self.now
+    c.step_site.new.self c.step_site.new.self c.requires.sound.1.steady c.step_site.ensures refl
