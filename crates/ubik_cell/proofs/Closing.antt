@@ -4,15 +4,10 @@ use Rattle.std.proofs.lemmas.List.{map-append, drop_at}
 use Rattle.disk_base.specs.declared.disks.Disk.{Ghosts}
 use Rattle.ubik_types.specs.declared.limits.TheConstants.{MAXSERVERS}
 use Rattle.cell_sites.specs.Disks.{Held, all_held, held}
-use Rattle.cell_sites.specs.Sites.{disks_of, site_disk}
+use Rattle.cell_sites.specs.Sites.{site_disk}
 use Rattle.cell_sites.specs.declared.cells.OpenCell.{OpenCell}
 use Rattle.cell_sites.specs.declared.sites.Site.{Site}
-use Rattle.ubik_cell.specs.Lines.{cell_helds, sites_in}
-
--- the disks of a cell, if one stands
-abbrev pub cell_disks : {D V : Type 0} → Option (OpenCell D V) → List D
-cell_disks None = []
-cell_disks (Some running) = disks_of running
+use Rattle.ubik_cell.specs.Lines.{cell_disks, cell_helds, sites_in}
 
 module _ {D V : Type 0} (g : Ghosts D) where
   helds_of : (sites : List (Site D V)) → map (held g) (map site_disk sites) ≡ map (λ (site : Site D V). held g (site_disk site)) sites

@@ -2,6 +2,8 @@
 use Rattle.std.proofs.Common.{◌≡◌, ℕ, List, [], ◌++◌, Option, Some, None, IfSome, refl, subst, ◌⊎◌}
 use Rattle.disk_base.specs.declared.disks.Disk.{Ghosts}
 use Rattle.cell_runs.specs.Script.{Cell, LineRead, told}
+use Rattle.cell_sites.specs.Disks.{AreSettled, all_held}
+use Rattle.cell_sites.specs.Opened.{counts_of}
 use Rattle.script_laws.specs.Runs.{FindsMemory, MemoryIsFound, NamesCalls, ScriptsAreRuns}
 use Rattle.cell_promises.specs.Promises.{CellsKeepPromises}
 use Rattle.script_promises.specs.Databases.{databases, standing_of}
@@ -13,7 +15,8 @@ use Rattle.ubik_cell.specs.declared.cells.CellKind.{CellKind}
 use Rattle.ubik_cell.specs.declared.cells.CellKind.TheVariants as kind
 use Rattle.ubik_cell.specs.Headline.{Headline, OfOne, untold_of}
 use Rattle.ubik_cell.specs.Runs.{Runs, read_lines}
-use Rattle.ubik_cell.specs.Turns.{RanOver, more_of}
+use Rattle.ubik_cell.specs.Turns.{RanOver, is_short, more_of}
+use Rattle.ubik_cell.proofs.OnDisk.{on_disk}
 
 -- ---- a cell of one server
 
@@ -44,8 +47,8 @@ untold_more (kind.Words place) readings script left before after run = refl
 
 pub headline : ScriptsAreRuns → MemoryIsFound → NamesCalls databases → ScriptsKeepPromises → CellsKeepPromises → {D : Type 0} (g : Ghosts D) (k : CellKind) (script : List ℕ) (left : Option (List ℕ)) (before : List ℕ) (after : Option (List ℕ))
     (disks_before disks_after : List D) → RanOver g k databases script left before after disks_before disks_after
-    → Headline g k script left before after disks_before disks_after
-headline runs memory names promises every g k script left before after disks_before disks_after over =
+    → AreSettled g disks_after → Headline g k script left before after disks_before disks_after
+headline runs memory names promises every g k script left before after disks_before disks_after over settled =
     let ran = over.ran in
     let readings : List LineRead = ran.readings in
     let with_more : List LineRead = readings ++ ran.more in
@@ -71,5 +74,6 @@ headline runs memory names promises every g k script left before after disks_bef
         every_cell = every with_more;
         kept = of_one (λ c. IsKept (standing_of c) c) (λ c has. has.kept) (told databases with_more).stage.cell (promises with_more);
       };
+      on_disk = on_disk g databases (counts_of g disks_before) (is_short k) (told databases with_more).stage.cell disks_after ran.held.holds settled;
       others = record { reached = over.reached; stay = over.stay; exact = ran.servers };
     }

@@ -9,11 +9,13 @@ pub mod KeptHosts
 pub mod Lifting
 pub mod LineDisks
 pub mod LineReads
+pub mod OnDisk
 pub mod OneKind
 pub mod Opened
 pub mod Opening
 pub mod Refusing
 pub mod ScriptKinds
+pub mod Settling
 pub mod Starting
 pub mod Telling
 pub mod Turning

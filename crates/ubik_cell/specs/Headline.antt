@@ -11,6 +11,7 @@ use Rattle.cell_promises.specs.Promises.{HasMeaning}
 use Rattle.cell_sites.specs.Disks.{Held, all_held}
 use Rattle.cell_sites.specs.Opened.{counts_of}
 use Rattle.ubik_cell.specs.Lines.{HeldCauses, HoldStage}
+use Rattle.ubik_cell.specs.OnDisk.{IsOnDisk}
 use Rattle.ubik_cell.specs.Runs.{Runs, read_lines}
 use Rattle.ubik_cell.specs.Turns.{is_short}
 use Rattle.ubik_cell.specs.declared.cells.CellKind.{CellKind}
@@ -50,7 +51,7 @@ pub record OthersStay {D : Type 0} (k : CellKind) (servers : ℕ) (before after 
 -- One run: its bytes are those that were written, each line was run to its end, it is a run of the world; in a cell of any size, of either database, its committed transactions have one
 -- order, what was acknowledged is kept, and its replies are those of the single copy. In a cell of one server they are those of the order
 -- before their event, at its moment, and nothing is seen that such a cell cannot show. Each stop, halt and failed opening that it tells
--- is a fault of that server's disk; and the disks hold the run.
+-- is a fault of that server's disk; the disks hold the run; and all of that is on disk: a crash after the end leaves it.
 pub record Headline {D : Type 0} (g : Ghosts D) (k : CellKind) (script : List ℕ) (left : Option (List ℕ))
     (before : List ℕ) (after : Option (List ℕ)) (disks_before disks_after : List D) : Type 0 where
   pub readings : List LineRead
@@ -64,4 +65,5 @@ pub record Headline {D : Type 0} (g : Ghosts D) (k : CellKind) (script : List �
   pub single_copy : OfOneAfter (λ c. HasSingleReplies (standing_of c) c) readings
   pub causes : HeldCauses (told databases readings).stage.cell (told databases readings).items (all_held g disks_after)
   pub disks : DisksHold readings (untold_of k readings script left before after run) (counts_of g disks_before) (is_short k) (all_held g disks_after)
+  pub on_disk : IsOnDisk g (told databases (readings ++ disks.more)).stage.cell disks_after
   pub others : OthersStay k (servers_of (told databases readings).stage.cell) disks_before disks_after

@@ -19,7 +19,7 @@ use Rattle.cell_sites.specs.declared.cells.OpenCell.{OpenCell}
 use Rattle.cell_sites.specs.Counts.{HoldRun, OpensFirst}
 use Rattle.cell_sites.specs.Disks.{Held, all_held, AreCauses}
 use Rattle.cell_sites.specs.Opened.{counts_of}
-use Rattle.cell_sites.specs.Sites.{IsModelledBy, helds}
+use Rattle.cell_sites.specs.Sites.{IsModelledBy, disks_of, helds}
 use Rattle.cell_sites.specs.Sound.{Bounds, IsSound}
 use Rattle.ubik_node.specs.Disk.{StandsAs}
 use Rattle.ubik_cell.specs.declared.scripts.CellRun.{CellRun}
@@ -73,7 +73,15 @@ CellStandsFor g dbs given (Some running) (Some c) =
     IsModelledBy g (database_in dbs c) (take (length running.sites.items) given) running c
 CellStandsFor g dbs given _ _ = ⊥
 
--- what the disks of a run read as: those of the cell in their order, and then the others
+-- the disks of a run: those of the cell in their order, and then the others
+abbrev pub cell_disks : {D V : Type 0} → Option (OpenCell D V) → List D
+cell_disks None = []
+cell_disks (Some running) = disks_of running
+
+abbrev pub run_disks : {D V : Type 0} → CellRun D V → List D
+run_disks run = cell_disks run.cell ++ run.spare.items
+
+-- what they read as
 abbrev pub cell_helds : {D V : Type 0} → Ghosts D → Option (OpenCell D V) → List Held
 cell_helds g None = []
 cell_helds g (Some running) = helds g running

@@ -15,7 +15,7 @@ use Rattle.ubik_cell.specs.declared.runs.ScriptRun.{ScriptRun}
 use Rattle.ubik_cell.specs.declared.runs.ScriptRun.TheVariants as over
 use Rattle.ubik_cell.specs.declared.scripts.CellRun.{CellRun}
 use Rattle.ubik_cell.specs.declared.scripts.RunEnd.{RunEnd}
-use Rattle.ubik_cell.specs.Lines.{AreHeld, IsAt, IsSoundRun, ToldLine, only, run_helds, sites_in}
+use Rattle.ubik_cell.specs.Lines.{AreHeld, IsAt, IsSoundRun, ToldLine, only, run_disks, run_helds, sites_in}
 
 -- the kind of the cell that a line opens, if it opens one
 abbrev pub kind_in : Result Line Why → Option Kind
@@ -45,6 +45,10 @@ script_sites (over.Location run) = sites_in run.cell
 abbrev pub script_spare : {D : Type 0} → ScriptRun D → List D
 script_spare (over.Protection run) = run.spare.items
 script_spare (over.Location run) = run.spare.items
+
+abbrev pub script_disks : {D : Type 0} → ScriptRun D → List D
+script_disks (over.Protection run) = run_disks run
+script_disks (over.Location run) = run_disks run
 
 abbrev pub script_helds : {D : Type 0} → Ghosts D → ScriptRun D → List Held
 script_helds g (over.Protection run) = run_helds g run

@@ -7,11 +7,11 @@ ghost use Rattle.disk_base.specs.Stops.DiskStop.{Unarmed};
 ghost use Rattle.ubik_types.specs.declared.limits.TheConstants.{MAXSERVERS};
 ghost use Rattle.cell_script.specs.declared.readers.TheConstants.{MAX_LINE};
 ghost use Rattle.cell_runs.specs.Script.{Told, first_told};
-ghost use Rattle.cell_sites.specs.Disks.{all_held};
+ghost use Rattle.cell_sites.specs.Disks.{AreSettled, all_held};
 ghost use Rattle.cell_sites.specs.Opened.{counts_of};
 ghost use Rattle.script_promises.specs.Databases.{databases};
 ghost use Rattle.ubik_cell.specs.Lines.{ShortLine};
-ghost use Rattle.ubik_cell.specs.ScriptRuns.{HasNoCell, IsEmptyScript, IsSoundScript, OpensItsKind, ScriptTold, StandsAt, script_helds, script_kind_opened, script_lines, script_sites, script_spare};
+ghost use Rattle.ubik_cell.specs.ScriptRuns.{HasNoCell, IsEmptyScript, IsSoundScript, OpensItsKind, ScriptTold, StandsAt, script_disks, script_helds, script_kind_opened, script_lines, script_sites, script_spare};
 
 use crate::scripts::{CellRun, RunEnd};
 use cell_script::Kind;
@@ -64,6 +64,7 @@ impl<D: SteadyDisk + StopDisk> ScriptRun<D> {
         requires count { script_sites self + length (script_spare self) ≡ MAXSERVERS }
         requires empty { disks.old.items ≡ [] }
         requires room { MAXSERVERS ≤ vec_capacity disks.old }
+        ensures disks { disks.new.items ≡ script_disks self }
         ensures held { all_held D.Disk disks.new.items ≡ script_helds D.Disk self }
         ensures others { drop (script_sites self) disks.new.items ≡ script_spare self }
         ensures twenty { vec_len disks.new ≡ MAXSERVERS }
@@ -152,6 +153,7 @@ impl<D: SteadyDisk + StopDisk> ScriptRun<D> {
         ensures longer { result ≡ Ok tt → script_lines self.new ≡ script_lines self.old + 1 }
         ensures disks { script_sites self.new + length (script_spare self.new) ≡ MAXSERVERS }
         ensures spare { script_spare self.new ≡ drop (script_sites self.new - script_sites self.old) (script_spare self.old) }
+        ensures settled { AreSettled D.Disk (script_disks self.new) }
     {
         match self {
             ScriptRun::Protection(run) => run.line(line, text),
@@ -170,6 +172,7 @@ impl<D: SteadyDisk + StopDisk> ScriptRun<D> {
         ensures longer { result ≡ Ok tt → script_lines self.new ≡ script_lines self.old + 1 }
         ensures disks { script_sites self.new + length (script_spare self.new) ≡ MAXSERVERS }
         ensures spare { script_spare self.new ≡ drop (script_sites self.new - script_sites self.old) (script_spare self.old) }
+        ensures settled { AreSettled D.Disk (script_disks self.new) }
     {
         match self.turn_for(line) {
             Ok(()) => self.own_line(line, text),

@@ -15,13 +15,13 @@ ghost use Rattle.cell_runs.specs.declared.limits.TheConstants.{MAX_LINES};
 ghost use Rattle.cell_runs.specs.Script.{LineRead, Stage, Told, first_told, line_result, run_in};
 ghost use Rattle.cell_runs.specs.Trace.{ending_text};
 ghost use Rattle.cell_runs.specs.ScriptDatabase.{Databases, script_database};
-ghost use Rattle.cell_sites.specs.Disks.{all_held};
+ghost use Rattle.cell_sites.specs.Disks.{AreSettled, all_held};
 ghost use Rattle.cell_sites.specs.Opened.{ArePartOpened, HasRoom, counts_of};
-ghost use Rattle.cell_sites.specs.Sites.{helds};
+ghost use Rattle.cell_sites.specs.Sites.{disks_of, helds};
 ghost use Rattle.cell_sites.specs.Sound.{Bounds, IsSound};
 ghost use Rattle.ubik_cell.specs.LineRuns.{CellDone, KeepsCell, KeepsRun, LineDone, ReadDone};
 ghost use Rattle.ubik_cell.specs.ScriptRuns.{kind_opened};
-ghost use Rattle.ubik_cell.specs.Lines.{IsAt, IsSoundRun, LineTold, LineShort, AreUnwritten, only, run_helds, sites_in};
+ghost use Rattle.ubik_cell.specs.Lines.{IsAt, IsSoundRun, LineTold, LineShort, AreUnwritten, only, run_disks, run_helds, sites_in};
 
 use cell_runs::{Ending, MAX_LINES, Which, tell_ending};
 use cell_script::{Kind, Line, Why, Words, line_meaning};
@@ -130,6 +130,7 @@ impl<D: SteadyDisk + StopDisk, V: DraftWords> CellRun<D, V> {
         requires count { sites_in self.cell + length self.spare.items ≡ MAXSERVERS }
         requires empty { disks.old.items ≡ [] }
         requires room { MAXSERVERS ≤ vec_capacity disks.old }
+        ensures disks { disks.new.items ≡ run_disks self }
         ensures held { all_held D.Disk disks.new.items ≡ run_helds D.Disk self }
         ensures others { drop (sites_in self.cell) disks.new.items ≡ self.spare.items }
         ensures twenty { vec_len disks.new ≡ MAXSERVERS }
@@ -157,6 +158,7 @@ impl<D: SteadyDisk + StopDisk, V: DraftWords> CellRun<D, V> {
         ensures done { (k : Kind) → LineDone D.Disk (script_database V.standing.database V.words) (line.Cell servers clock k) result
             self.old self.new (string_bytes text.old) (string_bytes text.new) }
         ensures kept { KeepsRun D.Disk V.standing result self.old self.new }
+        ensures settled { AreSettled D.Disk (run_disks self.new) }
     {
         if self.cell.is_some() {
             return Err(Why::Cell.into());
@@ -182,6 +184,7 @@ impl<D: SteadyDisk + StopDisk, V: DraftWords> CellRun<D, V> {
         ensures done { LineDone D.Disk (script_database V.standing.database V.words) (line.Ask server words.now) result
             self.old self.new (string_bytes text.old) (string_bytes text.new) }
         ensures kept { KeepsRun D.Disk V.standing result self.old self.new }
+        ensures settled { AreSettled D.Disk (run_disks self.new) }
     {
         let Some(cell) = &mut self.cell else {
             return Err(server.map_or(Why::Number, |_| Why::Cell).into());
@@ -204,6 +207,7 @@ impl<D: SteadyDisk + StopDisk, V: DraftWords> CellRun<D, V> {
         ensures done { LineDone D.Disk (script_database V.standing.database V.words) line.now result
             self.old self.new (string_bytes text.old) (string_bytes text.new) }
         ensures kept { KeepsRun D.Disk V.standing result self.old self.new }
+        ensures settled { AreSettled D.Disk (run_disks self.new) }
     {
         match line {
             Line::Nothing => Ok(()),
@@ -233,6 +237,7 @@ impl<D: SteadyDisk + StopDisk, V: DraftWords> CellRun<D, V> {
         ensures done { ReadDone D.Disk (script_database V.standing.database V.words) line.now result
             self.old self.new (string_bytes text.old) (string_bytes text.new) }
         ensures kept { KeepsRun D.Disk V.standing result self.old self.new }
+        ensures settled { AreSettled D.Disk (run_disks self.new) }
     {
         if self.lines >= MAX_LINES {
             return Err(LineFault::Limit(Which::Lines));
@@ -253,6 +258,7 @@ impl<D: SteadyDisk + StopDisk, V: DraftWords> CellRun<D, V> {
         ensures longer { result ≡ Ok tt → self.new.lines ≡ self.old.lines + 1 }
         ensures disks { sites_in self.new.cell + length self.new.spare.items ≡ MAXSERVERS }
         ensures spare { self.new.spare.items ≡ drop (sites_in self.new.cell - sites_in self.old.cell) self.old.spare.items }
+        ensures settled { AreSettled D.Disk (run_disks self.new) }
     {
         match self.read_line(line, text) {
             Ok(()) => {
@@ -326,6 +332,7 @@ fn open_servers<D: SteadyDisk + StopDisk, V: DraftWords>(
     ensures all { OnOk result (length cell.new.sites.items ≡ servers) }
     ensures spare { spare.new.items ≡ drop (length cell.new.sites.items) spare.old.items }
     ensures unwritten { AreUnwritten (counts_of D.Disk (take (length cell.new.sites.items) spare.old.items)) (helds D.Disk cell.new) }
+    ensures settled { AreSettled D.Disk (disks_of cell.new) }
     ensures room { HasRoom cell.new }
     ensures hosts { cell.new.hosts.items ≡ cell.old.hosts.items }
     ensures few { length cell.new.sites.items ≤ servers }
@@ -349,6 +356,7 @@ fn run_in_cell<D: SteadyDisk + StopDisk, V: DraftWords>(
         (λ c choices. run_in (script_database V.standing.database V.words) c choices line.now) result
         cell.old cell.new (string_bytes text.old) (string_bytes text.new) }
     ensures kept { KeepsCell D.Disk V.standing result cell.old cell.new }
+    ensures settled { AreSettled D.Disk (disks_of cell.new) }
 {
     match line {
         Line::Nothing => Ok(()),

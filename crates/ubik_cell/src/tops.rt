@@ -7,11 +7,12 @@ ghost use Rattle.disk_base.specs.Files.{no_files};
 ghost use Rattle.disk_base.specs.Stops.DiskStop.{Unarmed};
 ghost use Rattle.ubik_types.specs.declared.limits.TheConstants.{MAXSERVERS};
 ghost use Rattle.cell_script.specs.Write.{AppendsPart};
+ghost use Rattle.cell_sites.specs.Disks.{AreSettled};
 ghost use Rattle.script_promises.specs.Databases.{databases};
 ghost use Rattle.ubik_cell.specs.Disks.{AllFresh};
 ghost use Rattle.ubik_cell.specs.Headline.{Headline};
 ghost use Rattle.ubik_cell.specs.Runs.{IsDoneOrShort, IsInside, kind_at, status_of};
-ghost use Rattle.ubik_cell.specs.ScriptRuns.{IsSoundScript, script_helds, script_lines, script_sites, script_spare};
+ghost use Rattle.ubik_cell.specs.ScriptRuns.{IsSoundScript, script_disks, script_helds, script_lines, script_sites, script_spare};
 ghost use Rattle.ubik_cell.specs.Turns.{Ran, RanOver, SoFar, end_after};
 
 use crate::cells::{CellEnd, CellKind};
@@ -87,6 +88,7 @@ fn turn<S: Source, K: Sink, D: SteadyDisk + StopDisk>(
     ensures longer { result ≡ None → script_lines run.new ≡ script_lines run.old + 1 }
     ensures disks { script_sites run.new + length (script_spare run.new) ≡ MAXSERVERS }
     ensures spare { script_spare run.new ≡ drop (script_sites run.new - script_sites run.old) (script_spare run.old) }
+    ensures settled { AreSettled D.Disk (script_disks run.new) }
     ensures read_cause { HasCause (S.faults input.old) (S.faults input.new) (result ≡ Some CellKind.ReadFault) }
     ensures write_cause { HasCause (K.faults out.old) (K.faults out.new) (result ≡ Some CellKind.WriteFault) }
     ensures no_words { (place : ℕ) → result ≢ Some (CellKind.Words place) }
@@ -124,6 +126,7 @@ fn run_script<S: Source, K: Sink, D: SteadyDisk + StopDisk>(
     ensures read_cause { HasCause (S.faults input.old) (S.faults input.new) (result ≡ CellKind.ReadFault) }
     ensures write_cause { HasCause (K.faults out.old) (K.faults out.new) (result ≡ CellKind.WriteFault) }
     ensures no_words { (place : ℕ) → result ≢ CellKind.Words place }
+    ensures settled { AreSettled D.Disk disks.new.items }
     ensures twenty { vec_len disks.new ≡ MAXSERVERS }
 {
     let Ok(mut reader) = LineReader::new(alloc) else {
@@ -143,7 +146,7 @@ fn run_script<S: Source, K: Sink, D: SteadyDisk + StopDisk>(
 
 /// Runs the script that the source gives, one line after the other, and writes its exact trace. It takes no
 /// words: where one is given, nothing is read or written. There are 20 disks; disk i is that of server i + 1, and
-/// each stands in its place at every end.
+/// each stands in its place at every end, with nothing pending on it.
 pub fn cell_top<S: Source, K: Sink, D: SteadyDisk + StopDisk>(
     alloc: Global,
     words: &[String],
@@ -164,6 +167,7 @@ pub fn cell_top<S: Source, K: Sink, D: SteadyDisk + StopDisk>(
     ensures words { 0 < length words.now → result.kind ≡ CellKind.Words 1 }
     ensures word_cause { (place : ℕ) → result.kind ≡ CellKind.Words place →
         (0 < length words.now) × (input.new ≡ input.old) × (out.new ≡ out.old) × (disks.new ≡ disks.old) }
+    ensures settled { AreSettled D.Disk disks.new.items }
     ensures twenty { vec_len disks.new ≡ 20 }
 {
     law_scripts_are_runs();

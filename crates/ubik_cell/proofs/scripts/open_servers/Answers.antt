@@ -5,6 +5,7 @@ use Rattle.cell_sites.specs.Opened.{ArePartOpened, counts_of}
 use Rattle.cell_sites.specs.Sites.{helds}
 use Rattle.ubik_cell.specs.Lines.{AreUnwritten}
 use Rattle.ubik_cell.proofs.Opening.{added_unwritten, counts-push, next_left, next_taken, none_unwritten}
+use Rattle.ubik_cell.proofs.Settling.{added_settled, none_settled}
 use Rattle.ubik_cell.proofs.scripts.open_servers.Goals as goal
 
 pub loop-init : goal.loop-init
@@ -13,6 +14,7 @@ loop-init g c = record {
   count = ap length c.requires.none;
   left = search rules;
   number = omega arith;
+  settled = none_settled g.D.Disk c.args.cell.now c.requires.none;
   unwritten = none_unwritten g.D.Disk c.args.cell.now c.requires.none;
   room = c.requires.room;
   hosts = refl;
@@ -31,6 +33,10 @@ returns-in_err-open_next-clause-unwritten g c =
     ∙ counts-push g.D.Disk (take n given) disk in
     subst (λ l. AreUnwritten l (helds g.D.Disk c.open_next.new.self)) (sym taken)
     (added_unwritten g.D.Disk before disk c.loop.cell c.open_next.new.self c.open_next.ensures.added c.loop.invariant.unwritten)
+
+pub returns-in_err-open_next-clause-settled : goal.returns-in_err-open_next-clause-settled
+returns-in_err-open_next-clause-settled g c =
+    added_settled g.D.Disk c.remove-disk.result c.loop.cell c.open_next.new.self c.open_next.ensures.added c.loop.invariant.settled
 
 pub returns-clause-unwritten : goal.returns-clause-unwritten
 returns-clause-unwritten g c =
@@ -53,6 +59,7 @@ loop-preserved g c =
       count = c.open_next.ensures.count ∙ ap (λ n. n + 1) c.loop.invariant.count;
       left = next_left given c.loop.spare.items c.remove-disk.new.self.items c.loop.counter left c.remove-disk.ensures.items;
       number = omega (arith, c.remove-disk.ensures.len, c.loop.invariant.number, c.loop.spare.ok.0, c.remove-disk.new.self.ok.0);
+      settled = added_settled g.D.Disk disk c.loop.cell c.open_next.new.self c.open_next.ensures.added c.loop.invariant.settled;
       unwritten = subst (λ l. AreUnwritten l (helds g.D.Disk c.open_next.new.self)) (sym counts)
           (added_unwritten g.D.Disk (counts_of g.D.Disk (take c.loop.counter given)) disk c.loop.cell c.open_next.new.self
           c.open_next.ensures.added c.loop.invariant.unwritten);

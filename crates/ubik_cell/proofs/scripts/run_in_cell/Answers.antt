@@ -2,6 +2,8 @@ use Rattle.std.proofs.Common.{refl, subst}
 use Rattle.cell_script.specs.Meaning.{HasBounds}
 use Rattle.cell_runs.specs.ScriptDatabase.{script_database}
 use Rattle.ubik_cell.proofs.CellLines.{done_of, kept_of, kept_same, kept_still, nothing_told, refused_of, told_of}
+use Rattle.cell_sites.proofs.Settling.{sound_settled}
+use Rattle.ubik_cell.proofs.Settling.{stays_settled}
 use Rattle.ubik_cell.proofs.scripts.run_in_cell.Goals as goal
 
 pub returns-in-Nothing-clause-done : goal.returns-in-Nothing-clause-done
@@ -166,3 +168,61 @@ pub returns-in-Restart-clause-kept : goal.returns-in-Restart-clause-kept
 returns-in-Restart-clause-kept g c =
     kept_still g.D.Disk c.args.cell.now c.restart.new.self c.restart.result c.restart.ensures.sound
     c.restart.ensures.never_falls c.restart.ensures.same
+
+-- ---- nothing stays pending
+
+pub returns-in-Nothing-clause-settled : goal.returns-in-Nothing-clause-settled
+returns-in-Nothing-clause-settled g c = sound_settled g.D.Disk _ c.args.cell.now c.requires.sound.1.steady
+
+pub returns-in-Cell-clause-settled : goal.returns-in-Cell-clause-settled
+returns-in-Cell-clause-settled g c = sound_settled g.D.Disk _ c.args.cell.now c.requires.sound.1.steady
+
+pub returns-in-Ask-clause-settled : goal.returns-in-Ask-clause-settled
+returns-in-Ask-clause-settled g c = sound_settled g.D.Disk _ c.args.cell.now c.requires.sound.1.steady
+
+pub returns-in-Show-clause-settled : goal.returns-in-Show-clause-settled
+returns-in-Show-clause-settled g c = sound_settled g.D.Disk _ c.args.cell.now c.requires.sound.1.steady
+
+pub returns-in_ok-tick-in-Tick-clause-settled : goal.returns-in_ok-tick-in-Tick-clause-settled
+returns-in_ok-tick-in-Tick-clause-settled g c =
+    sound_settled g.D.Disk _ c.tick.new.self (c.in_ok-tick-in-Tick.ensures.sound refl c.requires.sound.0 c.requires.sound.1).steady
+
+pub returns-in_err-tick-in-Tick-clause-settled : goal.returns-in_err-tick-in-Tick-clause-settled
+returns-in_err-tick-in-Tick-clause-settled g c =
+    stays_settled g.D.Disk c.requires.sound.0 c.args.cell.now c.tick.new.self (c.tick.ensures.refused _ c.in_err-tick-in-Tick.was).0 c.requires.sound.1
+
+pub returns-in_ok-drop_packet-in-Drop-clause-settled : goal.returns-in_ok-drop_packet-in-Drop-clause-settled
+returns-in_ok-drop_packet-in-Drop-clause-settled g c =
+    sound_settled g.D.Disk _ c.drop_packet.new.self (c.drop_packet.ensures.sound c.requires.sound.0 c.requires.sound.1).steady
+
+pub returns-in_err-drop_packet-in-Drop-clause-settled : goal.returns-in_err-drop_packet-in-Drop-clause-settled
+returns-in_err-drop_packet-in-Drop-clause-settled g c =
+    stays_settled g.D.Disk c.requires.sound.0 c.args.cell.now c.drop_packet.new.self (c.drop_packet.ensures.refused _ c.in_err-drop_packet-in-Drop.was).0 c.requires.sound.1
+
+pub returns-in_ok-drop_all-in-DropAll-clause-settled : goal.returns-in_ok-drop_all-in-DropAll-clause-settled
+returns-in_ok-drop_all-in-DropAll-clause-settled g c =
+    sound_settled g.D.Disk _ c.drop_all.new.self (c.drop_all.ensures.sound c.requires.sound.0 c.requires.sound.1).steady
+
+pub returns-in_err-drop_all-in-DropAll-clause-settled : goal.returns-in_err-drop_all-in-DropAll-clause-settled
+returns-in_err-drop_all-in-DropAll-clause-settled g c =
+    stays_settled g.D.Disk c.requires.sound.0 c.args.cell.now c.drop_all.new.self (c.drop_all.ensures.refused _ c.in_err-drop_all-in-DropAll.was).0 c.requires.sound.1
+
+pub returns-in_ok-stop-in-Stop-clause-settled : goal.returns-in_ok-stop-in-Stop-clause-settled
+returns-in_ok-stop-in-Stop-clause-settled g c =
+    sound_settled g.D.Disk _ c.stop.new.self (c.stop.ensures.sound c.requires.sound.0 c.requires.sound.1).steady
+
+pub returns-in_err-stop-in-Stop-clause-settled : goal.returns-in_err-stop-in-Stop-clause-settled
+returns-in_err-stop-in-Stop-clause-settled g c =
+    stays_settled g.D.Disk c.requires.sound.0 c.args.cell.now c.stop.new.self (c.stop.ensures.refused _ c.in_err-stop-in-Stop.was).0 c.requires.sound.1
+
+pub returns-in_ok-crash-in-Crash-clause-settled : goal.returns-in_ok-crash-in-Crash-clause-settled
+returns-in_ok-crash-in-Crash-clause-settled g c =
+    sound_settled g.D.Disk _ c.crash.new.self (c.crash.ensures.sound c.requires.sound.0 c.requires.sound.1).steady
+
+pub returns-in_err-crash-in-Crash-clause-settled : goal.returns-in_err-crash-in-Crash-clause-settled
+returns-in_err-crash-in-Crash-clause-settled g c =
+    stays_settled g.D.Disk c.requires.sound.0 c.args.cell.now c.crash.new.self (c.crash.ensures.refused _ c.in_err-crash-in-Crash.was).0 c.requires.sound.1
+
+pub returns-in-TickAll-clause-settled : goal.returns-in-TickAll-clause-settled
+returns-in-TickAll-clause-settled g c =
+    sound_settled g.D.Disk _ c.tick_all.new.self (c.tick_all.ensures.sound c.requires.sound.0 c.requires.sound.1).steady

@@ -1,6 +1,5 @@
 use Rattle.std.proofs.Common.{◌≡◌, Some, refl, arith}
 use Rattle.std.proofs.lemmas.List.Elements.{All-weaker}
-use Rattle.disk_base.specs.Crash.{IsSettled}
 use Rattle.disk_base.specs.Files.{no_files}
 use Rattle.disk_base.specs.Stops.DiskStop.{Unarmed}
 use Rattle.script_promises.specs.Databases.{databases}
@@ -11,6 +10,7 @@ use Rattle.ubik_cell.specs.Runs.{IsDoneOrShort, IsInside}
 use Rattle.ubik_cell.specs.Turns.{RanOver}
 use Rattle.ubik_cell.proofs.Completeness.{complete}
 use Rattle.ubik_cell.proofs.Headlines.{headline}
+use Rattle.ubik_cell.proofs.Settling.{fresh_settled}
 use Rattle.ubik_cell.proofs.Starting.{at_once, of_both, over_both}
 use Rattle.ubik_cell.proofs.tops.cell_top.Goals as goal
 
@@ -23,12 +23,14 @@ returns-then-not-is_empty-clause-headline g c =
     (at_once g.D.Disk databases (kind.Words 1) script (Some script) before (Some before) disks
     (All-weaker (λ d. IsFresh g.D.Disk.files g.D.Disk.may_leave g.D.Disk.stop g.D.Disk.faults d)
     (λ d. g.D.Disk.files d ≡ Some no_files) (λ d fresh. fresh.empty) disks c.requires.fresh)
-    (record { none = refl; unread = refl; unwritten = refl })))
+    (record { none = refl; unread = refl; unwritten = refl }))
+    (fresh_settled g.D.Disk disks c.requires.fresh))
+
+pub returns-then-not-is_empty-clause-settled : goal.returns-then-not-is_empty-clause-settled
+returns-then-not-is_empty-clause-settled g c = fresh_settled g.D.Disk c.args.disks.now.items c.requires.fresh
 
 pub run_script-kind-requires-clause-settled : goal.run_script-kind-requires-clause-settled
-run_script-kind-requires-clause-settled g c =
-    All-weaker (λ d. IsFresh g.D.Disk.files g.D.Disk.may_leave g.D.Disk.stop g.D.Disk.faults d)
-    (λ d. IsSettled (g.D.Disk.files d) (g.D.Disk.may_leave d)) (λ d fresh. fresh.settled) c.args.disks.now.items c.requires.fresh
+run_script-kind-requires-clause-settled g c = fresh_settled g.D.Disk c.args.disks.now.items c.requires.fresh
 
 pub run_script-kind-requires-clause-unarmed : goal.run_script-kind-requires-clause-unarmed
 run_script-kind-requires-clause-unarmed g c =
@@ -45,7 +47,7 @@ returns-clause-headline g c =
     over_both (λ script before. RanOver g.D.Disk k databases script left before after disks later)
     (λ script before. Headline g.D.Disk k script left before after disks later) _ _ c.run_script-kind.ensures.ran
     (λ script before ran. headline c.law_scripts_are_runs.ensures c.law_memory_is_found.ensures c.law_words_are_calls.ensures c.law_scripts_keep_promises.ensures c.law_cells_keep_promises.ensures
-    g.D.Disk k script left before after disks later ran)
+    g.D.Disk k script left before after disks later ran c.run_script-kind.ensures.settled)
 
 pub returns-clause-complete : goal.returns-clause-complete
 returns-clause-complete g c = λ empty read wrote sound.

@@ -7,6 +7,7 @@ use Rattle.ubik_cell.specs.ScriptRuns.{script_helds, script_sites}
 use Rattle.ubik_cell.specs.Turns.{Ran, RanOver, SoFar}
 use Rattle.ubik_cell.proofs.ScriptKinds.{sound_disks, sound_few}
 use Rattle.ubik_cell.proofs.Starting.{closed, first_so_far, of_both, over_both, short_at_once, so_far_on, unreached}
+use Rattle.cell_sites.specs.Disks.{AreSettled}
 use Rattle.ubik_cell.proofs.tops.run_script.Goals as goal
 
 pub returns-in_default-clause-ran : goal.returns-in_default-clause-ran
@@ -80,3 +81,10 @@ loop-kind-preserved g c =
       read = omega (arith, l.invariant.read, c.turn.ensures.read_cause.never_falls);
       wrote = omega (arith, l.invariant.wrote, c.turn.ensures.write_cause.never_falls);
     }
+
+pub returns-in_default-new-clause-settled : goal.returns-in_default-new-clause-settled
+returns-in_default-new-clause-settled g c =
+    subst (AreSettled g.D.Disk) (sym (ap (λ d. d.items) c.in_default-new.ensures.kept)) c.requires.settled
+
+pub returns-in-Some-clause-settled : goal.returns-in-Some-clause-settled
+returns-in-Some-clause-settled g c = subst (AreSettled g.D.Disk) (sym c.close.ensures.disks) c.turn.ensures.settled

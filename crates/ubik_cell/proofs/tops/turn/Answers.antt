@@ -10,6 +10,7 @@ use Rattle.ubik_cell.specs.ScriptRuns.{script_helds, script_sites}
 use Rattle.ubik_cell.specs.Turns.{Ran, SoFar}
 use Rattle.ubik_cell.proofs.Ends.{ends_line, goes_line, retold, as_written}
 use Rattle.ubik_cell.proofs.Turning.{at_line, at_long, ran_to_fault, ran_to_the_end, was_going}
+use Rattle.ubik_cell.proofs.Settling.{script_settled}
 use Rattle.ubik_cell.proofs.tops.turn.Goals as goal
 
 line_is_no_end : line_end.Line ≢ line_end.End
@@ -141,3 +142,12 @@ returns-in-Line-clause-ends g c =
       short = λ none. subst (λ (l : List ℕ). ShortLine databases given l (told databases at.at.readings) (script_helds g.D.Disk next)) (sym at.bound)
           (c.line-told.ensures.short none given (told databases at.at.readings) at.at.at at.at.good);
     })
+
+pub returns-in-End-clause-settled : goal.returns-in-End-clause-settled
+returns-in-End-clause-settled g c = script_settled g.D.Disk c.args.run.now c.requires.sound
+
+pub returns-in-Failed-clause-settled : goal.returns-in-Failed-clause-settled
+returns-in-Failed-clause-settled g c = script_settled g.D.Disk c.args.run.now c.requires.sound
+
+pub returns-in-TooLong-clause-settled : goal.returns-in-TooLong-clause-settled
+returns-in-TooLong-clause-settled g c = script_settled g.D.Disk c.args.run.now c.requires.sound

@@ -9,6 +9,7 @@ use Rattle.ubik_cell.specs.LineRuns.{CellDone, LineDone}
 use Rattle.ubik_cell.specs.Lines.{CellIsSound, bounds_after, clock_bound}
 use Rattle.ubik_cell.proofs.CellLines.{cell_done, handed_on, raised}
 use Rattle.ubik_cell.proofs.Lifting.{asked_err, asked_ok, kept_run, same_again, short_same, with_cell}
+use Rattle.ubik_cell.proofs.Settling.{here_settled, joined_settled, run_settled}
 use Rattle.ubik_cell.proofs.scripts.CellRun.ask.Goals as goal
 
 pub ask-requires-clause-next : goal.ask-requires-clause-next
@@ -66,3 +67,29 @@ returns-clause-kept g c =
     kept_run g.D.Disk (Ok tt) run c.in-Some.cell c.ask.new.self (run.asks + 1) c.in-Some.is c.requires.sound c.requires.room (omega (arith, c.requires.sound.asks)) c.ask.ensures.same
     (λ done is. raised g.D.Disk g.V.DraftService.standing.database (bounds_after run.lines (run.asks + 1)) (clock_bound (run.lines + 1)) c.ask.new.self
     (omega arith) (c.in_ok-ask.ensures.sound refl (bounds_after run.lines run.asks) (omega arith) is))
+
+-- ---- nothing stays pending
+
+pub returns-in_default-clause-settled : goal.returns-in_default-clause-settled
+returns-in_default-clause-settled g c = run_settled g.D.Disk c.args.self.now c.requires.sound
+
+pub returns-in_err-call-clause-settled : goal.returns-in_err-call-clause-settled
+returns-in_err-call-clause-settled g c =
+    joined_settled g.D.Disk (Some c.in-Some.cell) c.args.self.now.spare.items
+    (here_settled g.D.Disk c.args.self.now c.in-Some.cell c.in-Some.is c.requires.sound) c.requires.sound.settled
+
+pub returns-in_default-2-clause-settled : goal.returns-in_default-2-clause-settled
+returns-in_default-2-clause-settled g c =
+    joined_settled g.D.Disk (Some c.in-Some.cell) c.args.self.now.spare.items
+    (here_settled g.D.Disk c.args.self.now c.in-Some.cell c.in-Some.is c.requires.sound) c.requires.sound.settled
+
+pub returns-in_err-server-clause-settled : goal.returns-in_err-server-clause-settled
+returns-in_err-server-clause-settled g c =
+    joined_settled g.D.Disk (Some c.in-Some.cell) c.args.self.now.spare.items
+    (here_settled g.D.Disk c.args.self.now c.in-Some.cell c.in-Some.is c.requires.sound) c.requires.sound.settled
+
+pub returns-in_err-ask-clause-settled : goal.returns-in_err-ask-clause-settled
+returns-in_err-ask-clause-settled g c = joined_settled g.D.Disk (Some c.ask.new.self) c.args.self.now.spare.items c.ask.ensures.settled c.requires.sound.settled
+
+pub returns-clause-settled : goal.returns-clause-settled
+returns-clause-settled g c = joined_settled g.D.Disk (Some c.ask.new.self) c.args.self.now.spare.items c.ask.ensures.settled c.requires.sound.settled

@@ -11,6 +11,7 @@ use Rattle.ubik_cell.proofs.CellLines.{handed_on}
 use Rattle.ubik_cell.proofs.Lifting.{short_same}
 use Rattle.ubik_cell.proofs.LineDisks.{hosts_count}
 use Rattle.ubik_cell.proofs.Opened.{opened_keeps, opened_line, opened_short, rest_empty, taken_count}
+use Rattle.ubik_cell.proofs.Settling.{opened_settled, run_settled}
 use Rattle.ubik_cell.proofs.scripts.CellRun.open.Goals as goal
 
 pub returns-in_err-cell-clause-done : goal.returns-in_err-cell-clause-done
@@ -78,3 +79,21 @@ returns-clause-kept g c =
     opened_keeps g.D.Disk db c.args.servers c.args.clock Protection run c.open_servers-opened.new.cell after c.replace.ensures.after none refl refl
     (Ok tt) c.requires.sound c.requires.room (omega (arith, c.open_servers-opened.ensures.few, c.requires.few)) c.open_servers-opened.ensures.spare
     (λ done. opened.sound) c.requires.early
+
+-- ---- nothing stays pending
+
+pub returns-then-is_some-clause-settled : goal.returns-then-is_some-clause-settled
+returns-then-is_some-clause-settled g c = run_settled g.D.Disk c.args.self.now c.requires.sound
+
+pub returns-in_err-cell-clause-settled : goal.returns-in_err-cell-clause-settled
+returns-in_err-cell-clause-settled g c = run_settled g.D.Disk c.args.self.now c.requires.sound
+
+pub returns-in_err-opened-in-None-clause-settled : goal.returns-in_err-opened-in-None-clause-settled
+returns-in_err-opened-in-None-clause-settled g c =
+    opened_settled g.D.Disk c.replace.new.self c.open_servers-opened.new.cell c.args.self.now.spare.items c.open_servers-opened.new.spare.items _
+    c.replace.ensures.after c.open_servers-opened.ensures.settled c.open_servers-opened.ensures.spare c.requires.sound.settled
+
+pub returns-clause-settled : goal.returns-clause-settled
+returns-clause-settled g c =
+    opened_settled g.D.Disk c.replace.new.self c.open_servers-opened.new.cell c.args.self.now.spare.items c.open_servers-opened.new.spare.items _
+    c.replace.ensures.after c.open_servers-opened.ensures.settled c.open_servers-opened.ensures.spare c.requires.sound.settled

@@ -6,6 +6,7 @@ use Rattle.cell_sites.specs.declared.faults.LineFault.TheVariants.{NoMemory, Ref
 use Rattle.ubik_cell.specs.LineRuns.{ReadDone}
 use Rattle.ubik_cell.proofs.CellLines.{handed_on}
 use Rattle.ubik_cell.proofs.LineReads.{ended_meaning, read_done, short_read}
+use Rattle.ubik_cell.proofs.Settling.{run_settled}
 use Rattle.ubik_cell.proofs.scripts.CellRun.read_line.Goals as goal
 
 pub returns-in_err-meaning-clause-done : goal.returns-in_err-meaning-clause-done
@@ -36,3 +37,12 @@ returns-clause-done g c =
     sym c.in_ok-meaning.ensures.meaning ∙ c.in_ok-line.was in
     read_done g.D.Disk db c.args.line.now run c.requires.sound c.in_ok-line.line c.if-self-ge-MAX_LINES.false is c.run_line.new.self
     (string_bytes c.args.text.now) (string_bytes c.run_line.new.text) c.run_line.result c.run_line.ensures.done
+
+pub returns-then-self-ge-MAX_LINES-clause-settled : goal.returns-then-self-ge-MAX_LINES-clause-settled
+returns-then-self-ge-MAX_LINES-clause-settled g c = run_settled g.D.Disk c.args.self.now c.requires.sound
+
+pub returns-in_err-meaning-clause-settled : goal.returns-in_err-meaning-clause-settled
+returns-in_err-meaning-clause-settled g c = run_settled g.D.Disk c.args.self.now c.requires.sound
+
+pub returns-in_err-line-clause-settled : goal.returns-in_err-line-clause-settled
+returns-in_err-line-clause-settled g c = run_settled g.D.Disk c.args.self.now c.requires.sound

@@ -1,10 +1,11 @@
-use Rattle.std.proofs.Common.{◌≡◌, inl, inr, Ok, sym, subst}
+use Rattle.std.proofs.Common.{◌≡◌, inl, inr, Ok, sym, subst, Some}
 use Rattle.std.specs.String.{string_bytes}
 use Rattle.cell_script.specs.declared.lines.Line.{Line}
 use Rattle.cell_runs.specs.ScriptDatabase.{script_database}
 use Rattle.ubik_cell.specs.LineRuns.{LineDone}
 use Rattle.ubik_cell.proofs.Lifting.{IsNoAsk, kept_line, lifted}
 use Rattle.ubik_cell.proofs.Opened.{nothing_keeps, nothing_line}
+use Rattle.ubik_cell.proofs.Settling.{joined_settled, run_settled}
 use Rattle.ubik_cell.proofs.scripts.CellRun.run_line.Goals as goal
 
 pub returns-in-Nothing-clause-done : goal.returns-in-Nothing-clause-done
@@ -42,4 +43,11 @@ returns-in-Some g c =
           c.run_in_cell.ensures.done c.run_in_cell.ensures.kept;
       kept = kept_line g.D.Disk c.run_in_cell.result run c.in-Some.cell c.run_in_cell.new.cell c.in-Some.is c.requires.sound c.requires.room
           c.run_in_cell.ensures.kept;
+      settled = joined_settled g.D.Disk (Some c.run_in_cell.new.cell) run.spare.items c.run_in_cell.ensures.settled c.requires.sound.settled;
     }
+
+pub returns-in-Nothing-clause-settled : goal.returns-in-Nothing-clause-settled
+returns-in-Nothing-clause-settled g c = run_settled g.D.Disk c.args.self.now c.requires.sound
+
+pub returns-in-None-clause-settled : goal.returns-in-None-clause-settled
+returns-in-None-clause-settled g c = run_settled g.D.Disk c.args.self.now c.requires.sound
