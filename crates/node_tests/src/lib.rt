@@ -4,6 +4,8 @@
 #[cfg(test)]
 mod appending;
 #[cfg(test)]
+mod folders;
+#[cfg(test)]
 mod images;
 #[cfg(test)]
 mod servers;
