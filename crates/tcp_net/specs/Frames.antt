@@ -1,5 +1,5 @@
 -- Where the first frame of some bytes ends: its first four bytes, the high byte first, count what follows them.
-use Rattle.std.specs.Prelude.{ℕ, ◌+◌, ◌<◌, ◌≤◌, ◌⊎◌, List, length, take}
+use Rattle.std.specs.Prelude.{ℕ, Bool, ◌+◌, ◌<◌, ◌≤◌, ◌⊎◌, ◌==◌, ◌&&◌, nat_le, List, length, take, drop}
 use Rattle.std.specs.Int.{w32, from_be_bytes}
 use Rattle.io_base.specs.declared.frames.TheConstants.{MAX_FRAME}
 
@@ -21,3 +21,11 @@ pub record LacksBytes (bytes : List ℕ) : Type 0 where
 -- no whole frame came yet
 abbrev pub IsPart : List ℕ → Type 0
 IsPart bytes = (length bytes < 4) ⊎ LacksBytes bytes
+
+-- the kind of a packet to another server
+abbrev pub packet_kind : ℕ
+packet_kind = 0
+
+-- the kind, the word behind the length, is that of a packet
+abbrev pub is_packet : List ℕ → Bool
+is_packet frame = nat_le 8 (length frame) && (from_be_bytes w32 (take 4 (drop 4 frame)) == packet_kind)

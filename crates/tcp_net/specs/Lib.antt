@@ -1,3 +1,4 @@
 pub mod Frames
 pub mod Inputs
+pub mod Origins
 pub mod Queues

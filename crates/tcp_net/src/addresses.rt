@@ -1,4 +1,8 @@
 //! The addresses of a cell, as its connections show them.
+ghost use Rattle.std.specs.Prelude.{◌≡◌, ◌/◌, ◌==◌};
+ghost use Rattle.tcp_net.specs.Origins.{is_of_cell, origin_of};
+
+use crate::connections::Origin;
 use std::net::{Ipv4Addr, SocketAddr};
 use ubik_types::Host;
 
@@ -20,15 +24,31 @@ impl Addresses {
 
     /// Whether a connection from there comes from the cell. A server at a loopback address has all its peers on its
     /// own machine, and their connections come from 127.0.0.1.
-    pub(crate) fn has(&self, host: Host) -> bool {
+    pub(crate) fn has(&self, host: Host) -> bool
+        ensures { result ≡ is_of_cell self.now host }
+    {
         host == self.own
             || self.peers.contains(&host)
             || (host == LOOPBACK && is_loopback(self.own))
     }
+
+    /// What a connection from there counts as.
+    pub(crate) fn origin_of(&self, host: Host) -> Origin
+        ensures { result ≡ origin_of self.now host }
+    {
+        if self.has(host) {
+            Origin::Cell(host)
+        } else {
+            Origin::Client(host)
+        }
+    }
 }
 
-fn is_loopback(host: Host) -> bool {
-    Ipv4Addr::from_bits(host.0).is_loopback()
+/// Whether an address is one of 127.0.0.0/8.
+fn is_loopback(host: Host) -> bool
+    ensures { result ≡ (host.0 / 16777216 == 127) }
+{
+    host.0 / 16_777_216 == 127
 }
 
 pub(crate) fn socket_address(host: Host, port: u16) -> SocketAddr {

@@ -1,5 +1,6 @@
 //! One connection, over a socket that never waits.
 ghost use Rattle.std.specs.Prelude.{◌≡◌, ◌≢◌, ◌≤◌, [], length};
+ghost use Rattle.tcp_net.specs.Origins.{handed};
 ghost use Rattle.tcp_net.specs.Queues.{HasRoom};
 
 use crate::frames::{is_packet, is_whole};
@@ -91,7 +92,9 @@ pub(crate) struct Connection {
 }
 
 impl Connection {
-    pub(crate) fn new(alloc: Global, stream: TcpStream, origin: Origin, now: u64) -> Connection {
+    pub(crate) fn new(alloc: Global, stream: TcpStream, origin: Origin, now: u64) -> Connection
+        ensures { result.origin ≡ origin }
+    {
         prepare(&stream);
         let (frames, bytes) = match origin {
             Origin::Client(_) => (CLIENT_FRAMES, MAX_FRAME),
@@ -166,7 +169,9 @@ impl Connection {
     }
 
     /// Looks whether a connection that was begun is up by now.
-    fn come_up(&mut self) -> Standing {
+    fn come_up(&mut self) -> Standing
+        ensures { self.new.origin ≡ self.old.origin }
+    {
         if !self.is_up {
             match self.stream.take_error() {
                 Ok(None) => self.is_up = self.stream.peer_addr().is_ok(),
@@ -182,7 +187,9 @@ impl Connection {
 
     /// Does what an event allows. `ends` says that the peer writes no more, or that the connection failed.
     pub(crate) fn serve(&mut self, now: u64, ends: bool, frame: &mut Vec<u8>) -> Served
-        ensures { result ≢ Served.Frame → frame.new.items ≡ [] }
+        ensures given { result ≡ Served.Frame → handed self.new.origin frame.new.items ≡ Served.Frame }
+        ensures origin { self.new.origin ≡ self.old.origin }
+        ensures emptied { result ≢ Served.Frame → frame.new.items ≡ [] }
     {
         frame.clear();
         self.is_drained = true;
@@ -203,7 +210,9 @@ impl Connection {
 
     fn read_frame(&mut self, now: u64, ends: bool, frame: &mut Vec<u8>) -> Served
         requires { frame.old.items ≡ [] }
-        ensures { result ≢ Served.Frame → frame.new.items ≡ [] }
+        ensures given { result ≡ Served.Frame → handed self.new.origin frame.new.items ≡ Served.Frame }
+        ensures origin { self.new.origin ≡ self.old.origin }
+        ensures emptied { result ≢ Served.Frame → frame.new.items ≡ [] }
     {
         for _ in 0..STEPS {
             match self.input.take(frame) {
@@ -229,8 +238,12 @@ impl Connection {
         Served::Nothing
     }
 
+    /// Gives out a whole frame, but for a packet from elsewhere than the cell.
     fn hand_out(&mut self, now: u64, frame: &mut Vec<u8>) -> Served
-        ensures { result ≢ Served.Frame → frame.new.items ≡ [] }
+        ensures served { result ≡ handed self.old.origin frame.old.items }
+        ensures origin { self.new.origin ≡ self.old.origin }
+        ensures same { result ≡ Served.Frame → frame.new.items ≡ frame.old.items }
+        ensures emptied { result ≢ Served.Frame → frame.new.items ≡ [] }
     {
         if let Origin::Client(host) = self.origin
             && is_packet(frame)
@@ -244,7 +257,9 @@ impl Connection {
     }
 
     /// Writes what waits until the system takes no more. An event tells of room.
-    fn flush(&mut self, now: u64) -> io::Result<()> {
+    fn flush(&mut self, now: u64) -> io::Result<()>
+        ensures { self.new.origin ≡ self.old.origin }
+    {
         for _ in 0..HOST_FRAMES {
             if self.queue.is_empty() {
                 break;

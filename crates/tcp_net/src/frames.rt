@@ -1,7 +1,7 @@
 //! Where a frame ends, and what it is.
 ghost use Rattle.std.specs.Prelude.{◌≡◌, ◌≤◌, ◌↔◌, IfOk, OnErr, IfSome, IfNone, IsTrue, length, take};
 ghost use Rattle.io_base.specs.Frame.{IsWhole};
-ghost use Rattle.tcp_net.specs.Frames.{IsPart, IsTooLong};
+ghost use Rattle.tcp_net.specs.Frames.{IsPart, IsTooLong, is_packet};
 
 use io_base::MAX_FRAME;
 use ubik_types::{WORD_LEN, first_word};
@@ -44,9 +44,11 @@ pub(crate) fn is_whole(bytes: &[u8]) -> bool
 }
 
 /// Whether a whole frame is a packet. A frame that is too short for a kind is none.
-pub(crate) fn is_packet(frame: &[u8]) -> bool {
-    match first_word(frame) {
-        Some((_, rest)) => first_word(rest).is_some_and(|(kind, _)| kind == PACKET),
+pub(crate) fn is_packet(frame: &[u8]) -> bool
+    ensures { result ≡ is_packet frame.now }
+{
+    match frame.get(WORD_LEN..) {
+        Some(behind) => first_word(behind).is_some_and(|(kind, _)| kind == PACKET),
         None => false,
     }
 }

@@ -262,16 +262,12 @@ impl<R: net::Net + Wait + Clock + Drop> TcpNet<R> {
 
     /// Gives a connection a place, or hands it back where there is none.
     fn admit(&self, arrival: Arrival, now: u64) -> Option<Arrival> {
-        let is_of_cell = self.addresses.has(arrival.host);
+        let origin = self.addresses.origin_of(arrival.host);
+        let is_of_cell = matches!(origin, Origin::Cell(_));
         let Some(at) = self.place_for(is_of_cell, now) else {
             return Some(arrival);
         };
-        let Arrival { stream, host } = arrival;
-        let origin = if is_of_cell {
-            Origin::Cell(host)
-        } else {
-            Origin::Client(host)
-        };
+        let Arrival { stream, .. } = arrival;
         if let Some(place) = self.places.get(at) {
             self.seat(&mut place.lock(&self.rt), stream, origin, now);
         }

@@ -2,6 +2,7 @@
 ghost use Rattle.std.specs.Prelude.{◌≡◌, ◌≢◌, ◌+◌, ◌<◌, ◌%◌, [], false, None};
 ghost use Rattle.std.specs.Bool.{OnTrue};
 ghost use Rattle.tcp_net.specs.declared.places.TheConstants.{PLACES};
+ghost use Rattle.tcp_net.specs.Origins.{IsGivenOut};
 
 use crate::connections::{Connection, Handed, Served, Standing};
 use mio::{Registry, Token};
@@ -87,6 +88,7 @@ impl Place {
         frame: &mut Vec<u8>,
     ) -> Served
         requires { frame.old.items ≡ [] }
+        ensures given { result ≡ Served.Frame → IsGivenOut self.new.connection frame.new.items }
         ensures emptied { result ≢ Served.Frame → frame.new.items ≡ [] }
         ensures number { self.new.peer ≡ self.old.peer }
     {

@@ -2,4 +2,4 @@ use Rattle.std.proofs.Common.{◌≡◌, []}
 use Rattle.tcp_net.proofs.connections.Connection.read_frame.Given as goal
 
 abbrev pub invariant-loop : goal.invariant-loop
-invariant-loop l = l.frame.items ≡ []
+invariant-loop l = (l.frame.items ≡ []) × (l.self.origin ≡ l.initial.self.origin)
