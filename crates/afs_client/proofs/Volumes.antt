@@ -3,6 +3,7 @@ use Rattle.std.proofs.Common.{◌≡◌, ℕ, Bool, true, List, [], ◌∷◌, �
 use Rattle.std.specs.Prelude.{nat_lt, if◌then◌else◌, length, is_some, IfSome, option_and_then, fold}
 use Rattle.std.specs.List.{AllByRecursion, list_all}
 use Rattle.afs_words.specs.Command.{Command}
+use Rattle.afs_words.specs.Given.{value_at, values_at}
 use Rattle.afs_words.specs.Tables.{parameters_of}
 use Rattle.afs_words.specs.declared.tables.Form.TheVariants as form
 use Rattle.afs_words.specs.declared.tables.Operation.{Operation}
@@ -26,7 +27,7 @@ use Rattle.vos_tool.specs.Addresses.{changeaddr_text, listaddrs_text}
 use Rattle.vos_tool.specs.Answers.{as_page, done_in, entry_in, hosts_in, id_in, is_page, page_in}
 use Rattle.vos_tool.specs.Asking.{asks}
 use Rattle.vos_tool.specs.Changing.{change_text, changes_sites, entry_with, replaces, replaces_if}
-use Rattle.vos_tool.specs.Command.{text_by, value_at, values_at, vos_course, vos_text, word_at}
+use Rattle.vos_tool.specs.Command.{text_by, vos_course, vos_text, word_at}
 use Rattle.vos_tool.specs.Deleting.{deletes, deletes_each, delentry_text}
 use Rattle.vos_tool.specs.Each.{each}
 use Rattle.vos_tool.specs.Listing.{entries_of, last_id, listing_text, listvldb_text, one_text, page_call, pages, releases_each, unlockvldb_text}
@@ -34,8 +35,8 @@ use Rattle.vos_tool.specs.Locking.{lock_text, releases_lock, sets_lock, unlock_t
 use Rattle.vos_tool.specs.Sites.{changed_sites}
 use Rattle.vos_tool.specs.Volumes.{any_type, entry_by, entry_named, id_of, id_or_named, volume_entry, volume_id}
 use Rattle.vos_tool.specs.declared.listing.Filter.{Filter}
-use Rattle.vos_tool.specs.declared.listing.Style.{Style}
-use Rattle.vos_tool.specs.declared.places.Place.{Place}
+use Rattle.afs_commands.specs.declared.places.Style.{Style}
+use Rattle.afs_commands.specs.declared.places.Place.{Place}
 use Rattle.vos_tool.specs.declared.sites.SiteChange.{SiteChange}
 use Rattle.vos_tool.specs.declared.adding.TheConstants.{NEW_IDS}
 use Rattle.vos_tool.specs.declared.locks.TheConstants.{LOCK_SITES, WHOLE_LOCK}
@@ -218,36 +219,33 @@ change_sound change place word short =
     chain (volume_id word) _ (volume_id_sound word short) (λ id. chain (changes_sites change place id) _ (changes_sound change place id) (λ done. value _))
 
 -- the names in the words of an operation are such as a call takes
-abbrev pub VosNames : Operation → Command → Type 0
-VosNames op.AddEntry c = IsShort (word_at c 0)
-VosNames op.ListVldb c = IfSome (value_at c 0) IsShort
-VosNames op.Lock c = IsShort (word_at c 0)
-VosNames op.Unlock c = IsShort (word_at c 0)
-VosNames op.DelEntry c = AllByRecursion IsShort (values_at c 0)
-VosNames op.AddSite c = IsShort (word_at c 2)
-VosNames op.RemSite c = IsShort (word_at c 2)
-VosNames op.ChangeLoc c = IsShort (word_at c 2)
-VosNames _ c = Unit {0}
+abbrev pub VosNames : Operation → List Slot → Type 0
+VosNames op.AddEntry s = IsShort (word_at s 0)
+VosNames op.ListVldb s = IfSome (value_at s 0) IsShort
+VosNames op.Lock s = IsShort (word_at s 0)
+VosNames op.Unlock s = IsShort (word_at s 0)
+VosNames op.DelEntry s = AllByRecursion IsShort (values_at s 0)
+VosNames op.AddSite s = IsShort (word_at s 2)
+VosNames op.RemSite s = IsShort (word_at s 2)
+VosNames op.ChangeLoc s = IsShort (word_at s 2)
+VosNames _ s = Unit {0}
 
-text_sound : (o : Operation) (c : Command) → VosNames o c → VosSound (text_by o c)
-text_sound op.AddEntry c names = addentry_sound _ _ _ names
-text_sound op.ListVldb c names = listvldb_sound _ _ _ names
-text_sound op.Lock c names = lock_sound _ names
-text_sound op.Unlock c names = unlock_sound _ names
-text_sound op.UnlockVldb c names = unlockvldb_sound _
-text_sound op.DelEntry c names = delentry_sound _ names
-text_sound op.AddSite c names = change_sound _ _ _ names
-text_sound op.RemSite c names = change_sound _ _ _ names
-text_sound op.ChangeLoc c names = change_sound _ _ _ names
-text_sound op.ListAddrs c names = listaddrs_sound
-text_sound op.ChangeAddr c names = changeaddr_sound _ _
-text_sound _ c names = value []
+text_sound : (o : Operation) (s : List Slot) → VosNames o s → VosSound (text_by o s)
+text_sound op.AddEntry s names = addentry_sound _ _ _ names
+text_sound op.ListVldb s names = listvldb_sound _ _ _ names
+text_sound op.Lock s names = lock_sound _ names
+text_sound op.Unlock s names = unlock_sound _ names
+text_sound op.UnlockVldb s names = unlockvldb_sound _
+text_sound op.DelEntry s names = delentry_sound _ names
+text_sound op.AddSite s names = change_sound _ _ _ names
+text_sound op.RemSite s names = change_sound _ _ _ names
+text_sound op.ChangeLoc s names = change_sound _ _ _ names
+text_sound op.ListAddrs s names = listaddrs_sound
+text_sound op.ChangeAddr s names = changeaddr_sound _ _
+text_sound _ s names = value []
 
 -- the names of a command that was understood
-abbrev pub command_at : Operation → List Slot → Command
-command_at o slots = record { operation = o; switches = slots }
-
-vos_names : (o : Operation) (slots : List Slot) → map parameter slots ≡ parameters_of o → AllByRecursion Fits slots → VosNames o (command_at o slots)
+vos_names : (o : Operation) (slots : List Slot) → map parameter slots ≡ parameters_of o → AllByRecursion Fits slots → VosNames o slots
 vos_names op.AddEntry slots table forms = some_short _ (all_short form.NewVolume _ new_volume_name (values_fit slots _ 0 _ table forms refl))
 vos_names op.ListVldb slots table forms = first_short _ (all_short form.Volume _ volume_name (values_fit slots _ 0 _ table forms refl))
 vos_names op.Lock slots table forms = some_short _ (all_short form.Volume _ volume_name (values_fit slots _ 0 _ table forms refl))
@@ -262,5 +260,5 @@ vos_names _ slots table forms = tt
 pub vos_sound : (c : Command) → Fitting c → VosSound (vos_course c)
 unfolding vos_text
 vos_sound c fitting =
-    let names : VosNames c.operation c = vos_names c.operation c.switches fitting.table fitting.forms in
-    chain (vos_text c) _ (text_sound c.operation c names) (λ text. chain (says text) _ (λ given. sound_says volumes_database given text) (λ said. value tt))
+    let names : VosNames c.operation c.switches = vos_names c.operation c.switches fitting.table fitting.forms in
+    chain (vos_text c) _ (text_sound c.operation c.switches names) (λ text. chain (says text) _ (λ given. sound_says volumes_database given text) (λ said. value tt))

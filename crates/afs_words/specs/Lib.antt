@@ -1,5 +1,8 @@
 pub mod Command
 pub mod Forms
+pub mod Given
+pub mod Good
+pub mod Making
 pub mod Matching
 pub mod Meaning
 pub mod Slots

@@ -3,11 +3,15 @@
 
 mod faults;
 mod forms;
+mod given;
+mod making;
 mod matching;
+mod pts_commands;
 mod reading;
 mod switches;
 mod tables;
 mod values;
+mod vos_commands;
 
 pub use faults::WordsFault;
 pub use forms::{MAX_NAME, MAX_NEW_ID, MAX_NEW_VOLUME, address, is_signed_numeral, partition};

@@ -3,23 +3,28 @@ ghost use Rattle.std.specs.Prelude.{◌≡◌, ◌<◌, ◌++◌, length, map, t
 ghost use Rattle.std.specs.List.{find};
 ghost use Rattle.std.specs.Option.{option_copied};
 ghost use Rattle.afs_words.specs.Slots.{is_chosen, is_missing};
+ghost use Rattle.afs_words.specs.Making.{IsCommand};
 ghost use Rattle.afs_words.specs.Tables.{parameters_of, common_parameters};
 ghost use Rattle.afs_words.specs.Meaning.{Means, left, first_missing, first_count, first_bad, unless_bad, judged, slots_of, command_of, meaning_of};
 
 use crate::faults::WordsFault;
+use crate::making::tool_command;
 use crate::matching::{Meant, Named, find_named};
 use crate::switches::{Switches, front};
 use crate::tables::{COMMON, Operation, Parameter, Tool};
 use crate::values::{Slot, Word};
+use afs_commands::ToolCommand;
 use std::alloc::Global;
 use std::marker::Model;
 use ubik_types::NoMemory;
 
-/// A command that was understood: its operation, and its own switches in the order of the table with their values.
-#[derive(Debug, Drop)]
+/// A command that was understood: its operation, its own switches in the order of the table with their values, and
+/// the command that these make.
+#[derive(Drop)]
 pub struct Words {
     operation: Operation,
     switches: Switches,
+    command: ToolCommand,
 }
 
 impl Model for Words {
@@ -27,7 +32,11 @@ impl Model for Words {
 
     ghost Value = { Command };
 
+    ghost use Rattle.afs_words.specs.Making.{IsCommand};
+
     ghost view = { λ w. record { operation = w.operation; switches = w.switches } };
+
+    ghost invariant = { λ w. IsCommand w.command w.operation w.switches };
 }
 
 impl Words {
@@ -42,6 +51,13 @@ impl Words {
         ensures { result.now ≡ self.now.switches }
     {
         self.switches.as_slice()
+    }
+
+    /// What the command is asked to do, with its values read.
+    pub fn command(&self) -> &ToolCommand
+        ensures { IsCommand result.now self.now.operation self.now.switches }
+    {
+        &self.command
     }
 
     /// How many values the switch at this place of the operation's table has.
@@ -113,9 +129,11 @@ fn read_command(alloc: Global, operation: Operation, words: &[String]) -> Result
         .map_err(NoMemory::from)?;
     let mut switches = read_slots(alloc, parameters.as_slice(), words)?;
     switches.truncate(own.len());
+    let command = tool_command(alloc, operation, switches.as_slice())?;
     Ok(Words {
         operation,
         switches,
+        command,
     })
 }
 

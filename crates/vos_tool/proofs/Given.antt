@@ -9,7 +9,7 @@ use Rattle.vldb_records.specs.declared.entries.VlSite.{VlSite}
 use Rattle.vos_tool.specs.Adding.{new_entry}
 use Rattle.vos_tool.specs.Answers.{IsEntry, is_site}
 use Rattle.vos_tool.specs.Changing.{entry_with}
-use Rattle.vos_tool.specs.declared.places.Place.{Place}
+use Rattle.afs_commands.specs.declared.places.Place.{Place}
 
 both : (a b : Bool) → (a && b) ≡ true → (a ≡ true) × (b ≡ true)
 both true b is = (refl, is)

@@ -3,6 +3,7 @@ pub mod Attempting
 pub mod Given
 pub mod Items
 pub mod Lengths
+pub mod Made
 pub mod Paged
 pub mod Short
 pub mod Sorting

@@ -8,7 +8,7 @@ use Rattle.tool_base.specs.Texts.{joined}
 use Rattle.vos_tool.specs.Asking.{asks_done, asks_id}
 use Rattle.vos_tool.specs.Texts.{line_end}
 use Rattle.vos_tool.specs.Volumes.{if_callable}
-use Rattle.vos_tool.specs.declared.places.Place.{Place}
+use Rattle.afs_commands.specs.declared.places.Place.{Place}
 use Rattle.vos_tool.specs.declared.adding.TheConstants.{HAS_READ_WRITE, NEW_IDS}
 use Rattle.vos_tool.specs.declared.places.TheConstants.{READ_WRITE}
 

@@ -16,7 +16,7 @@ use Rattle.vos_tool.specs.Sites.{changed_sites}
 use Rattle.vos_tool.specs.Texts.{place_text, volume_line}
 use Rattle.vos_tool.specs.Volumes.{any_type, volume_id}
 use Rattle.vos_tool.specs.declared.locks.TheConstants.{WHOLE_LOCK}
-use Rattle.vos_tool.specs.declared.places.Place.{Place}
+use Rattle.afs_commands.specs.declared.places.Place.{Place}
 use Rattle.vos_tool.specs.declared.sites.SiteChange.{SiteChange}
 use Rattle.vos_tool.specs.declared.sites.SiteChange.TheVariants.{Add, Remove, Move}
 use Rattle.vos_tool.specs.declared.sites.TheConstants.{NO_SUCH_SITE}

@@ -1,7 +1,9 @@
 -- `listvldb`, `unlockvldb`: entries, read in pages.
-use Rattle.std.specs.Prelude.{ℕ, zero, suc, nat_lt, if◌then◌else◌, List, [], ◌∷◌, ◌++◌, length, codes, Option, Some, None, fold}
+use Rattle.std.specs.Prelude.{ℕ, ℤ, pos, negsuc, min, zero, suc, nat_lt, Bool, if◌then◌else◌, List, [], ◌∷◌, ◌++◌, length, codes, Option, Some, None, unwrap_or, fold}
 use Rattle.std.specs.Fmt.{decimal}
 use Rattle.std.specs.List.{flat_map}
+use Rattle.afs_commands.specs.declared.places.SiteFilter.{SiteFilter}
+use Rattle.afs_commands.specs.declared.places.Style.{Style}
 use Rattle.vl_calls.specs.declared.calls.VlCall.{VlCall}
 use Rattle.vl_calls.specs.declared.calls.VlCall.TheVariants as call
 use Rattle.vl_calls.specs.declared.limits.TheConstants.{MAX_PAGE}
@@ -15,8 +17,20 @@ use Rattle.vos_tool.specs.Ordering.{by_name}
 use Rattle.vos_tool.specs.Texts.{entry_text, line_end}
 use Rattle.vos_tool.specs.Volumes.{volume_entry}
 use Rattle.vos_tool.specs.declared.listing.Filter.{Filter}
-use Rattle.vos_tool.specs.declared.listing.Style.{Style}
 use Rattle.vos_tool.specs.declared.paging.TheConstants.{MOST_PAGES}
+
+-- any partition where none is given
+abbrev pub any_partition : Option ℕ → ℤ
+any_partition (Some partition) = pos (min partition 255)
+any_partition None = negsuc 0
+
+-- the entries that have one of these sites: the host 0 is any
+abbrev pub filter_of : SiteFilter → Bool → Filter
+filter_of sites locked = record {
+  host = unwrap_or sites.server 0;
+  partition = any_partition sites.partition;
+  locked = locked;
+}
 
 abbrev pub page_call : Filter → ℕ → VlCall
 page_call filter after = call.ListAttributes after filter.host filter.partition filter.locked

@@ -2,7 +2,7 @@
 use Rattle.std.specs.Prelude.{ℕ, ◌==◌, ◌&&◌, Bool, List, [], ◌∷◌, ◌++◌, position, remove, slice_get, slice_set, Option, Some, option_map, option_and_then}
 use Rattle.vldb_records.specs.declared.entries.VlSite.{VlSite}
 use Rattle.vos_tool.specs.Texts.{has_flag}
-use Rattle.vos_tool.specs.declared.places.Place.{Place}
+use Rattle.afs_commands.specs.declared.places.Place.{Place}
 use Rattle.vos_tool.specs.declared.places.TheConstants.{READ_ONLY, READ_WRITE}
 use Rattle.vos_tool.specs.declared.sites.SiteChange.{SiteChange}
 use Rattle.vos_tool.specs.declared.sites.SiteChange.TheVariants.{Add, Remove, Move}

@@ -5,7 +5,7 @@ use Rattle.std.specs.List.{flat_map}
 use Rattle.tool_base.specs.Texts.{at_left, joined}
 use Rattle.vldb_records.specs.declared.entries.VlEntry.{VlEntry}
 use Rattle.vldb_records.specs.declared.entries.VlSite.{VlSite}
-use Rattle.vos_tool.specs.declared.places.Place.{Place}
+use Rattle.afs_commands.specs.declared.places.Place.{Place}
 
 abbrev pub line_end : List ℕ
 line_end = 10 ∷ []

@@ -5,7 +5,8 @@ ghost use Rattle.vos_tool.specs.Adding.{added_text, addentry_text, makes, makes_
 
 use crate::answers::{Done, MAX_ID, NewId};
 use crate::asking::ask;
-use crate::places::{Place, READ_WRITE};
+use crate::places::READ_WRITE;
+use afs_commands::Place;
 use call_grammar::MAX_TEXT;
 use io_base::Link;
 use std::alloc::Global;

@@ -9,10 +9,10 @@ ghost use Rattle.vos_tool.specs.Sites.{changed_sites};
 use crate::answers::{Done, OneEntry};
 use crate::asking::ask;
 use crate::locks::{WHOLE_LOCK, release_lock, set_lock};
-use crate::places::Place;
 use crate::sites::{NO_SUCH_SITE, SiteChange, changed_sites};
 use crate::texts::{place_text, volume_line};
 use crate::volumes::{ANY_TYPE, volume_id};
+use afs_commands::{Place, Volume};
 use io_base::Link;
 use std::alloc::Global;
 use tool_base::{Client, Refusal, Stop, joined};
@@ -26,13 +26,13 @@ pub fn change<L: Link>(
     link: &mut L,
     change: SiteChange,
     place: Place,
-    word: &[u8],
+    volume: &Volume,
 ) -> Result<Bytes, Stop>
-    ensures { Ran (change_text change place word.now) client.old client.new (L.exchanges link.old) (L.exchanges link.new) result }
+    ensures { Ran (change_text change place volume.now) client.old client.new (L.exchanges link.old) (L.exchanges link.new) result }
 {
-    let id = volume_id(client, link, word)?;
+    let id = volume_id(client, link, volume)?;
     change_sites(client, link, change, place, id)?;
-    let text = changed_text(client.alloc(), change, place, word)?;
+    let text = changed_text(client.alloc(), change, place, volume.word())?;
     Ok(text)
 }
 

@@ -7,7 +7,7 @@ use crate::answers::Done;
 use crate::asking::ask;
 use crate::texts::count_text;
 use crate::volumes::{ANY_TYPE, volume_id};
-use afs_words::Word;
+use afs_commands::Volume;
 use io_base::Link;
 use std::alloc::Global;
 use tool_base::{Client, Stop, joined};
@@ -18,12 +18,12 @@ use vl_calls::VlCall;
 pub fn delete_entries<L: Link>(
     client: &mut Client<'_>,
     link: &mut L,
-    words: &[Word],
+    volumes: &[Volume],
 ) -> Result<Bytes, Stop>
-    ensures { Ran (delentry_text words.now) client.old client.new (L.exchanges link.old) (L.exchanges link.new) result }
+    ensures { Ran (delentry_text volumes.now) client.old client.new (L.exchanges link.old) (L.exchanges link.new) result }
 {
-    delete_each(client, link, words)?;
-    let text = deleted_text(client.alloc(), words.len())?;
+    delete_each(client, link, volumes)?;
+    let text = deleted_text(client.alloc(), volumes.len())?;
     Ok(text)
 }
 
@@ -38,20 +38,24 @@ fn deleted_text(alloc: Global, count: usize) -> Result<Bytes, NoMemory>
     )
 }
 
-fn delete_each<L: Link>(client: &mut Client<'_>, link: &mut L, words: &[Word]) -> Result<(), Stop>
-    ensures { Ran (deletes_each words.now) client.old client.new (L.exchanges link.old) (L.exchanges link.new) result }
+fn delete_each<L: Link>(
+    client: &mut Client<'_>,
+    link: &mut L,
+    volumes: &[Volume],
+) -> Result<(), Stop>
+    ensures { Ran (deletes_each volumes.now) client.old client.new (L.exchanges link.old) (L.exchanges link.new) result }
 {
-    for word in words {
-        delete(client, link, word.as_bytes())?;
+    for volume in volumes {
+        delete(client, link, volume)?;
     }
     Ok(())
 }
 
 /// Deletes the entry of a volume.
-fn delete<L: Link>(client: &mut Client<'_>, link: &mut L, word: &[u8]) -> Result<(), Stop>
-    ensures { Ran (deletes word.now) client.old client.new (L.exchanges link.old) (L.exchanges link.new) result }
+fn delete<L: Link>(client: &mut Client<'_>, link: &mut L, volume: &Volume) -> Result<(), Stop>
+    ensures { Ran (deletes volume.now) client.old client.new (L.exchanges link.old) (L.exchanges link.new) result }
 {
-    let id = volume_id(client, link, word)?;
+    let id = volume_id(client, link, volume)?;
     let call = VlCall::DeleteEntry {
         id,
         volume_type: ANY_TYPE,

@@ -2,7 +2,7 @@
 ghost use Rattle.std.specs.Prelude.{◌≡◌, IfOk};
 ghost use Rattle.std.specs.List.{flat_map};
 ghost use Rattle.tool_base.specs.Running.{Ran};
-ghost use Rattle.vos_tool.specs.Listing.{entries_text, in_order, listing_text, one_text, released_text, releases_each, total_text, unlockvldb_text};
+ghost use Rattle.vos_tool.specs.Listing.{any_partition, entries_text, filter_of, in_order, listing_text, listvldb_text, one_text, released_text, releases_each, total_text, unlockvldb_text};
 ghost use Rattle.vos_tool.specs.Texts.{entry_text};
 
 use crate::locks::release_lock;
@@ -10,6 +10,7 @@ use crate::ordering::by_name;
 use crate::paging::entries_of;
 use crate::texts::{count_text, entry_text};
 use crate::volumes::volume_entry;
+use afs_commands::{SiteFilter, Style, Volume};
 use io_base::Link;
 use std::alloc::Global;
 use tool_base::{Client, Stop, joined};
@@ -26,24 +27,56 @@ pub struct Filter {
     pub locked: bool,
 }
 
-/// How entries are listed: without the line of their number, and by their ids instead of their names.
-#[derive(Clone, Copy, Debug, PartialEq, Eq)]
-pub struct Style {
-    pub quiet: bool,
-    pub unsorted: bool,
+impl Filter {
+    /// Those that have one of these sites, all or only the locked ones.
+    pub fn of(sites: SiteFilter, locked: bool) -> Filter
+        ensures { result ≡ filter_of sites locked }
+    {
+        Filter {
+            host: sites.server.unwrap_or(0),
+            partition: any_partition(sites.partition),
+            locked,
+        }
+    }
+}
+
+/// A partition, or -1 for any. None is above 255.
+fn any_partition(partition: Option<u32>) -> i32
+    ensures { result ≡ any_partition partition }
+{
+    match partition {
+        Some(partition) => partition.min(255) as i32,
+        None => -1,
+    }
+}
+
+/// `listvldb`: the entry of one volume, or all that a filter lets through.
+pub fn list<L: Link>(
+    client: &mut Client<'_>,
+    link: &mut L,
+    volume: &Option<Volume>,
+    filter: Filter,
+    style: Style,
+) -> Result<Bytes, Stop>
+    ensures { Ran (listvldb_text volume.now filter style) client.old client.new (L.exchanges link.old) (L.exchanges link.new) result }
+{
+    match volume {
+        Some(volume) => list_one(client, link, volume),
+        None => list_all(client, link, filter, style),
+    }
 }
 
 /// `listvldb` of one volume.
-pub fn list_one<L: Link>(client: &mut Client<'_>, link: &mut L, word: &[u8]) -> Result<Bytes, Stop>
-    ensures { Ran (one_text word.now) client.old client.new (L.exchanges link.old) (L.exchanges link.new) result }
+fn list_one<L: Link>(client: &mut Client<'_>, link: &mut L, volume: &Volume) -> Result<Bytes, Stop>
+    ensures { Ran (one_text volume.now) client.old client.new (L.exchanges link.old) (L.exchanges link.new) result }
 {
-    let entry = volume_entry(client, link, word)?;
+    let entry = volume_entry(client, link, volume)?;
     let text = entry_text(client.alloc(), &entry)?;
     Ok(text)
 }
 
 /// `listvldb` of all that a filter lets through.
-pub fn list_all<L: Link>(
+fn list_all<L: Link>(
     client: &mut Client<'_>,
     link: &mut L,
     filter: Filter,

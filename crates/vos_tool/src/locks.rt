@@ -7,6 +7,7 @@ use crate::answers::Done;
 use crate::asking::ask;
 use crate::texts::volume_line;
 use crate::volumes::{ANY_TYPE, volume_id};
+use afs_commands::Volume;
 use io_base::Link;
 use tool_base::{Client, Stop};
 use ubik_types::Bytes;
@@ -43,25 +44,33 @@ pub fn release_lock<L: Link>(client: &mut Client<'_>, link: &mut L, id: u32) -> 
 }
 
 /// `lock`: the text, once the entry of the volume is locked.
-pub fn lock<L: Link>(client: &mut Client<'_>, link: &mut L, word: &[u8]) -> Result<Bytes, Stop>
-    ensures { Ran (lock_text word.now) client.old client.new (L.exchanges link.old) (L.exchanges link.new) result }
+pub fn lock<L: Link>(client: &mut Client<'_>, link: &mut L, volume: &Volume) -> Result<Bytes, Stop>
+    ensures { Ran (lock_text volume.now) client.old client.new (L.exchanges link.old) (L.exchanges link.new) result }
 {
-    let id = volume_id(client, link, word)?;
+    let id = volume_id(client, link, volume)?;
     set_lock(client, link, id)?;
-    let text = volume_line(client.alloc(), b"Locked VLDB entry for volume ", word)?;
+    let text = volume_line(
+        client.alloc(),
+        b"Locked VLDB entry for volume ",
+        volume.word(),
+    )?;
     Ok(text)
 }
 
 /// `unlock`: the text, once the lock is released.
-pub fn unlock<L: Link>(client: &mut Client<'_>, link: &mut L, word: &[u8]) -> Result<Bytes, Stop>
-    ensures { Ran (unlock_text word.now) client.old client.new (L.exchanges link.old) (L.exchanges link.new) result }
+pub fn unlock<L: Link>(
+    client: &mut Client<'_>,
+    link: &mut L,
+    volume: &Volume,
+) -> Result<Bytes, Stop>
+    ensures { Ran (unlock_text volume.now) client.old client.new (L.exchanges link.old) (L.exchanges link.new) result }
 {
-    let id = volume_id(client, link, word)?;
+    let id = volume_id(client, link, volume)?;
     release_lock(client, link, id)?;
     let text = volume_line(
         client.alloc(),
         b"Released lock on vldb entry for volume ",
-        word,
+        volume.word(),
     )?;
     Ok(text)
 }

@@ -2,7 +2,8 @@
 ghost use Rattle.std.specs.Prelude.{◌≡◌, ◌+◌, ◌≤◌, IfOk, IfSome, length, position};
 ghost use Rattle.vos_tool.specs.Sites.{changed_sites, is_read_write, is_replica_at, site_at};
 
-use crate::places::{Place, READ_ONLY, READ_WRITE};
+use crate::places::{READ_ONLY, READ_WRITE};
+use afs_commands::Place;
 use call_grammar::Items;
 use std::alloc::Global;
 use ubik_types::NoMemory;
@@ -22,16 +23,14 @@ pub enum SiteChange {
     Move,
 }
 
-impl Place {
-    /// A site here.
-    fn site(self, flags: u32) -> VlSite
-        ensures { result ≡ site_at self flags }
-    {
-        VlSite {
-            host: self.host,
-            partition: self.partition,
-            flags,
-        }
+/// A site at a place.
+fn site_at(place: Place, flags: u32) -> VlSite
+    ensures { result ≡ site_at place flags }
+{
+    VlSite {
+        host: place.host,
+        partition: place.partition,
+        flags,
     }
 }
 
@@ -46,7 +45,7 @@ pub fn changed_sites(
 {
     let mut list = sites.into_vec();
     match change {
-        SiteChange::Add => list.push(place.site(READ_ONLY))?,
+        SiteChange::Add => list.push(site_at(place, READ_ONLY))?,
         SiteChange::Remove => match replica_place(&list, place) {
             Some(at) => {
                 list.remove(at);
@@ -56,7 +55,7 @@ pub fn changed_sites(
         SiteChange::Move => match read_write_place(&list) {
             Some(at) => {
                 let flags = list[at].flags;
-                list[at] = place.site(flags);
+                list[at] = site_at(place, flags);
             }
             None => return Ok(None),
         },

@@ -5,7 +5,8 @@ ghost use Rattle.std.specs.List.{flat_map};
 ghost use Rattle.std.specs.String.{string_bytes};
 ghost use Rattle.vos_tool.specs.Texts.{dotted, entry_text, has_flag, id_text, ids_text, letters, lock_mark, new_mark, partition_text, place_text, site_kind, site_text, sites_text, volume_line};
 
-use crate::places::{Place, READ_ONLY, READ_WRITE};
+use crate::places::{READ_ONLY, READ_WRITE};
+use afs_commands::Place;
 use std::alloc::Global;
 use tool_base::{at_left, joined, number_text};
 use ubik_types::{Bytes, NoMemory, bytes_of};

@@ -1,14 +1,14 @@
 //! Volumes, as words name them.
-ghost use Rattle.std.specs.Prelude.{◌≡◌, IfOk};
+ghost use Rattle.std.specs.Prelude.{IfOk};
 ghost use Rattle.tool_base.specs.Running.{Ran};
 ghost use Rattle.vos_tool.specs.Answers.{IsEntry};
-ghost use Rattle.vos_tool.specs.Volumes.{entry_named, id_of, volume_entry, volume_id};
+ghost use Rattle.vos_tool.specs.Volumes.{entry_named, volume_entry, volume_id};
 
 use crate::answers::OneEntry;
 use crate::asking::ask;
+use afs_commands::Volume;
 use call_grammar::MAX_TEXT;
 use io_base::Link;
-use script_words::number_within;
 use tool_base::{Client, Refusal, Stop};
 use ubik_types::bytes_of;
 use vl_calls::VlCall;
@@ -17,35 +17,32 @@ use vldb_records::VlEntry;
 /// The type of a volume that any of an entry's three ids fits.
 pub const ANY_TYPE: i32 = -1;
 
-/// The id that a word is.
-fn id_of(word: &[u8]) -> Option<u32>
-    ensures { result ≡ id_of word.now }
+/// The id of a volume: its own, or the read-write id of the entry that has its name.
+pub fn volume_id<L: Link>(
+    client: &mut Client<'_>,
+    link: &mut L,
+    volume: &Volume,
+) -> Result<u32, Stop>
+    ensures { Ran (volume_id volume.now) client.old client.new (L.exchanges link.old) (L.exchanges link.new) result }
 {
-    number_within(word, 0, u32::MAX)
-}
-
-/// The id of the volume that a word names: the word itself, or the read-write id of the entry that has this name.
-pub fn volume_id<L: Link>(client: &mut Client<'_>, link: &mut L, word: &[u8]) -> Result<u32, Stop>
-    ensures { Ran (volume_id word.now) client.old client.new (L.exchanges link.old) (L.exchanges link.new) result }
-{
-    match id_of(word) {
+    match volume.id() {
         Some(id) => Ok(id),
         None => {
-            let entry = entry_named(client, link, word)?;
+            let entry = entry_named(client, link, volume.word())?;
             Ok(entry.rw)
         }
     }
 }
 
-/// The entry of the volume that a word names.
+/// The entry of a volume.
 pub fn volume_entry<L: Link>(
     client: &mut Client<'_>,
     link: &mut L,
-    word: &[u8],
+    volume: &Volume,
 ) -> Result<VlEntry, Stop>
-    ensures { Ran (volume_entry word.now) client.old client.new (L.exchanges link.old) (L.exchanges link.new) result }
+    ensures { Ran (volume_entry volume.now) client.old client.new (L.exchanges link.old) (L.exchanges link.new) result }
 {
-    match id_of(word) {
+    match volume.id() {
         Some(id) => {
             let call = VlCall::GetEntryById {
                 id,
@@ -53,7 +50,7 @@ pub fn volume_entry<L: Link>(
             };
             ask(client, link, &call, &OneEntry)
         }
-        None => entry_named(client, link, word),
+        None => entry_named(client, link, volume.word()),
     }
 }
 
