@@ -2,18 +2,23 @@
 //! `--help` or `--version` it prints that instead.
 #![tactic(auto)]
 
+ghost use Rattle.disk_base.specs.Crash.{Only};
+ghost use Rattle.disk_base.specs.Mirrored.{mirrored_files, mirrored_may_leave};
+
 mod first_turns;
+mod notes;
 mod servers;
 mod texts;
 
 use crate::first_turns::FirstTurns;
+use crate::notes::{NoteSink, WAITING_TEXTS, write_notes};
 use crate::servers::{Asked, Ready, read_given, say_no_memory};
 use disk_base::{MemDisk, WriterSink};
 use io_base::{MemNet, NoSpawner, OpenGate, ThreadSpawner, WallClock};
 use node_server::{server_over, server_top};
 use server_station::GhostJournal;
 use std::process::ExitCode;
-use std::{env, io};
+use std::{env, io, thread};
 
 // Only here the machine's own runtime may start threads, so the top call is made here.
 fn main(rt: HostRuntime) -> ExitCode {
@@ -33,29 +38,41 @@ fn main(rt: HostRuntime) -> ExitCode {
             }
             Err(_) => say_no_memory(&mut err),
         },
-        Asked::Served(ready) => {
-            let Ready {
-                words,
-                disk,
-                net,
-                place,
-            } = ready;
-            let gate = FirstTurns { rt, place };
-            let journal = GhostJournal::new();
-            server_over(
-                &rt,
-                alloc,
-                &words,
-                disk,
-                journal,
-                &net,
-                &clock,
-                &ThreadSpawner,
-                &gate,
-                &mut err,
-            )
-            .status
-        }
+        Asked::Served(ready) => match crossbeam_channel::bounded(alloc, WAITING_TEXTS) {
+            Ok((to, texts)) => {
+                let Ready {
+                    words,
+                    disk,
+                    net,
+                    place,
+                } = ready;
+                let (near, shared, clock) = (&rt, &net, &clock);
+                let ((), status) = thread::join(
+                    near,
+                    || write_notes(near, alloc, shared, &texts, &mut err),
+                    move || -> u8
+                        requires { Only (mirrored_files disk) (mirrored_may_leave disk) }
+                    {
+                        let mut said = NoteSink::new(rt, alloc, to);
+                        server_over(
+                            near,
+                            alloc,
+                            &words,
+                            disk,
+                            GhostJournal::new(),
+                            shared,
+                            clock,
+                            &ThreadSpawner,
+                            &FirstTurns { rt, place },
+                            &mut said,
+                        )
+                        .status
+                    },
+                );
+                status
+            }
+            Err(_) => say_no_memory(&mut err),
+        },
     };
     ExitCode::from(status)
 }

@@ -70,6 +70,7 @@ pub enum Asked<R: Wait + Clock + Net + Drop> {
 }
 
 /// A server that is to run: its words, its files, its net, and its place in the cell.
+#[derive(Drop)]
 pub struct Ready<R: Wait + Clock + Net + Drop> {
     pub words: Vec<String>,
     pub disk: Mirrored<FileDisk>,
