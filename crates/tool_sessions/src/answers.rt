@@ -1,10 +1,12 @@
 //! What stands behind a call: the answer, in words. `ok` comes with the fields of the answer, `rule`, `noquorum`, `notsync`,
-//! `linefull`, `toolarge` and `badrecord` with the numbers of the reply. `othernumber` stands before a reply that has the number of
-//! another call, `garbage` for bytes that are no frame, `debug` for a frame of another kind. `notsent`, `noanswer` and `lacks` are
-//! the ends of an ask without a frame; at the last, memory ran out before anything was sent. `bytes` comes with a frame as it is.
+//! `linefull`, `toolarge` and `badrecord` with the numbers of the reply. `state` comes with what a server says of itself: its host and
+//! moment, epoch and counter, the number of its phase, the end of its lease, the sync site, whom it voted for, and when. `othernumber`
+//! stands before an answer that has the number of another call, `garbage` for bytes that are no frame, `debug` for a frame of another
+//! kind. `notsent`, `noanswer` and `lacks` are the ends of an ask without a frame; at the last, memory ran out before anything was
+//! sent. `bytes` comes with a frame as it is.
 use crate::bytes::bytes_in;
 use crate::faults::Fault;
-use crate::frames::{DEBUG, REPLY, frame_of};
+use crate::frames::{DEBUG, REPLY, STATE, frame_of};
 use io_base::Answer;
 use script_words::{number, number_within, signed_number};
 use std::alloc::Global;
@@ -14,6 +16,9 @@ use xdr_base::XdrWriter;
 /// The longest name of a session, in bytes.
 const MAX_NAME: usize = 255;
 
+/// How many words say what a server says of itself.
+const STATE_WORDS: u32 = 9;
+
 /// What comes back to the call of this number: how the ask ends, and the frame.
 pub fn answer_to(
     alloc: Global,
@@ -21,7 +26,6 @@ pub fn answer_to(
     call: &str,
     answer: &str,
 ) -> Result<(Answer, Bytes), Fault> {
-    let (call, _) = call.split_once(' ').unwrap_or((call, ""));
     let (word, rest) = answer.split_once(' ').unwrap_or((answer, ""));
     match word {
         "notsent" => Ok((Answer::NotSent, Bytes::new(Vec::new(alloc)))),
@@ -30,47 +34,36 @@ pub fn answer_to(
         "bytes" => Ok((Answer::Got, bytes_in(alloc, rest)?)),
         "garbage" => Ok((Answer::Got, bytes_of(alloc, b"garbage")?)),
         "debug" => Ok((Answer::Got, frame_of(alloc, DEBUG, number, &[])?)),
-        "othernumber" => {
-            let fields = reply_fields(alloc, call, rest)?;
-            Ok((
-                Answer::Got,
-                frame_of(alloc, REPLY, number.wrapping_add(1), fields.as_slice())?,
-            ))
-        }
-        _ => {
-            let fields = reply_fields(alloc, call, answer)?;
-            Ok((
-                Answer::Got,
-                frame_of(alloc, REPLY, number, fields.as_slice())?,
-            ))
-        }
+        "othernumber" => Ok((
+            Answer::Got,
+            answer_frame(alloc, number.wrapping_add(1), call, rest)?,
+        )),
+        _ => Ok((Answer::Got, answer_frame(alloc, number, call, answer)?)),
     }
 }
 
-/// The tag of a reply and what stands behind it.
-fn reply_fields(alloc: Global, call: &str, answer: &str) -> Result<Bytes, Fault> {
+/// The frame that answers the call of this number: a reply, or what a server says of itself.
+fn answer_frame(alloc: Global, number: u32, call: &str, answer: &str) -> Result<Bytes, Fault> {
+    let (call, _) = call.split_once(' ').unwrap_or((call, ""));
     let mut fields = Fields {
         rest: answer,
         out: XdrWriter::new(alloc),
     };
-    match fields.word()? {
-        "ok" => fields.put_answer(call)?,
-        "rule" => fields.put_tagged(1, 1)?,
-        "noquorum" => fields.put_tagged(2, 4)?,
-        "notsync" => fields.put_tagged(3, 2)?,
-        "linefull" => fields.put_tagged(4, 1)?,
-        "toolarge" => fields.put_too_large()?,
-        "malformed" => fields.out.put_u32(6)?,
-        "diskfault" => fields.out.put_u32(7)?,
-        "nomemory" => fields.out.put_u32(8)?,
-        "badrecord" => fields.put_tagged(9, 1)?,
-        _ => return Err(Fault::Form),
-    }
+    let kind = match fields.word()? {
+        "state" => {
+            fields.put_numbers(STATE_WORDS)?;
+            STATE
+        }
+        word => {
+            fields.put_reply(call, word)?;
+            REPLY
+        }
+    };
     let Fields { rest, out } = fields;
     if !rest.is_empty() {
         return Err(Fault::Form);
     }
-    Ok(out.finish())
+    frame_of(alloc, kind, number, out.finish().as_slice())
 }
 
 /// Words that are left, and the fields that those before them spell.
@@ -88,6 +81,23 @@ impl<'a> Fields<'a> {
         let (word, rest) = self.rest.split_once(' ').unwrap_or((self.rest, ""));
         self.rest = rest;
         Ok(word)
+    }
+
+    /// Spells the tag of a reply, which this word names, and what stands behind it.
+    fn put_reply(&mut self, call: &str, tag: &str) -> Result<(), Fault> {
+        match tag {
+            "ok" => self.put_answer(call),
+            "rule" => self.put_tagged(1, 1),
+            "noquorum" => self.put_tagged(2, 4),
+            "notsync" => self.put_tagged(3, 2),
+            "linefull" => self.put_tagged(4, 1),
+            "toolarge" => self.put_too_large(),
+            "malformed" => self.put_tagged(6, 0),
+            "diskfault" => self.put_tagged(7, 0),
+            "nomemory" => self.put_tagged(8, 0),
+            "badrecord" => self.put_tagged(9, 1),
+            _ => Err(Fault::Form),
+        }
     }
 
     /// Spells a number of 32 bits, which may have a sign.

@@ -3,7 +3,7 @@ use crate::answers::answer_to;
 use crate::bytes::bytes_in;
 use crate::differences::{Difference, byte_difference, text_difference};
 use crate::faults::Fault;
-use crate::frames::{ASK, frame_of};
+use crate::frames::{ASK, DEBUG, frame_of};
 use afs_client::client_top;
 use afs_words::{Tool, address};
 use disk_base::MemSink;
@@ -14,6 +14,15 @@ use ubik_types::{Bytes, Host, bytes_of};
 
 /// The first host of each command.
 const FIRST_HOST: &str = "10.0.0.1";
+
+/// What a command asks servers for.
+#[derive(Clone, Copy)]
+enum Subject {
+    /// Calls of the tool's database.
+    Calls(Tool),
+    /// What servers say of themselves.
+    States,
+}
 
 /// A call that a command is to make: where it goes, and its frame.
 #[derive(Drop)]
@@ -27,7 +36,7 @@ struct Asked {
 /// answered, and what it is to write.
 #[derive(Drop)]
 pub struct Command {
-    tool: Tool,
+    subject: Subject,
     words: Vec<String>,
     hosts: Option<String>,
     number: u32,
@@ -57,7 +66,7 @@ impl Command {
             }
         }
         Ok(Command {
-            tool: tool_of(name)?,
+            subject: subject_of(name)?,
             words,
             hosts,
             number: 0,
@@ -102,7 +111,7 @@ impl Command {
         let (host, rest) = asked.split_once(' ').ok_or(Fault::Form)?;
         let (port, call) = rest.split_once(' ').ok_or(Fault::Form)?;
         let (host, port) = (host_of(host)?, port_of(port)?);
-        let frame = ask_frame(alloc, self.tool, self.number, call)?;
+        let frame = ask_frame(alloc, self.subject, self.number, call)?;
         let (answer, reply) = answer_to(alloc, self.number, call, answer)?;
         // What is not handed on for want of memory is no exchange.
         if answer != Answer::NoMemory {
@@ -184,11 +193,12 @@ fn add_line(text: &mut String, line: &str) -> Result<(), Fault> {
     Ok(())
 }
 
-/// The tool whose calls the lines below a command name.
-fn tool_of(name: &str) -> Result<Tool, Fault> {
+/// What the lines below a command of this name ask for.
+fn subject_of(name: &str) -> Result<Subject, Fault> {
     match name {
-        "vos" | "afs_client" => Ok(Tool::Vos),
-        "pts" => Ok(Tool::Pts),
+        "vos" | "afs_client" => Ok(Subject::Calls(Tool::Vos)),
+        "pts" => Ok(Subject::Calls(Tool::Pts)),
+        "udebug" => Ok(Subject::States),
         _ => Err(Fault::Form),
     }
 }
@@ -202,8 +212,16 @@ fn port_of(word: &str) -> Result<u16, Fault> {
     u16::try_from(port).map_err(|_| Fault::Form)
 }
 
-/// The frame of a call, which these words name.
-fn ask_frame(alloc: Global, tool: Tool, number: u32, call: &str) -> Result<Bytes, Fault> {
+/// The frame of a call, which these words name. A question about a server is the one word `debug`.
+fn ask_frame(alloc: Global, subject: Subject, number: u32, call: &str) -> Result<Bytes, Fault> {
+    match subject {
+        Subject::Calls(tool) => call_frame(alloc, tool, number, call),
+        Subject::States if call == "debug" => frame_of(alloc, DEBUG, number, &[]),
+        Subject::States => Err(Fault::Form),
+    }
+}
+
+fn call_frame(alloc: Global, tool: Tool, number: u32, call: &str) -> Result<Bytes, Fault> {
     let mut words = Vec::new(alloc);
     for word in call.split(' ') {
         words.push(bytes_of(alloc, word.as_bytes())?)?;

@@ -13,6 +13,9 @@ pub const REPLY: u32 = 2;
 /// The kind of a frame that asks a server for its state.
 pub const DEBUG: u32 = 3;
 
+/// The kind of a frame in which a server says its state.
+pub const STATE: u32 = 4;
+
 /// A frame: its length, its kind, the number of its call, and what is left of it.
 pub fn frame_of(alloc: Global, kind: u32, number: u32, fields: &[u8]) -> Result<Bytes, Fault> {
     let len = u32::try_from(fields.len()).map_err(|_| Fault::Form)?;

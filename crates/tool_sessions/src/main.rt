@@ -1,4 +1,4 @@
-//! Replays sessions of `vos` and `pts`, which stand on standard input, over links in memory that give the answers which stand there.
+//! Replays sessions of `vos`, `pts` and `udebug`, which stand on standard input, over links in memory that give the answers which stand there.
 //! Tells how many commands each session had, each command that did not go as it says, and at last how many did and did not.
 #![tactic(auto)]
 
