@@ -1,10 +1,11 @@
 -- The courses of `pts` are sound, where the names in its words are such as a call takes.
 use Rattle.std.proofs.Common.{◌≡◌, ℕ, ℤ, Bool, true, false, List, [], ◌∷◌, ◌++◌, map, take, drop, length, Option, Some, None, Ok, Err, refl, subst, zero, suc, arith}
-use Rattle.std.specs.Prelude.{◌&&◌, nat_le, nat_lt, if◌then◌else◌, pos, IfSome, option_and_then, slice_get}
+use Rattle.std.specs.Prelude.{◌&&◌, nat_le, nat_lt, if◌then◌else◌, pos, IfSome, option_and_then, option_map, slice_get}
 use Rattle.std.specs.List.{AllByRecursion, flat_map, list_all}
 use Rattle.std.specs.Ordering.{int_eq}
 use Rattle.script_words.specs.Numbers.{signed_of}
 use Rattle.afs_words.specs.Command.{Command}
+use Rattle.afs_words.specs.Given.{number_at, value_at, values_at}
 use Rattle.afs_words.specs.Tables.{parameters_of, row}
 use Rattle.afs_words.specs.declared.tables.Form.TheVariants as form
 use Rattle.afs_words.specs.declared.tables.Need.{Need}
@@ -32,12 +33,13 @@ use Rattle.pts_tool.specs.Asking.{asks, has_spelling, taken_from}
 use Rattle.pts_tool.specs.Courses.{changes, creates, deletes, does, examines, found_line, given_id, kind_of, lists_entries, lists_maxima, lists_members, lists_names, lists_owned, lists_pages, member_call, moves, new_id, next_id, owner_line, pts_course, sets_fields, task_course, works}
 use Rattle.pts_tool.specs.Names.{calls_for, id_or, name_id, names_by, owner_id, the_id, the_names}
 use Rattle.pts_tool.specs.Pages.{is_page, last_id}
-use Rattle.pts_tool.specs.Plans.{entry_task, fields, flags_in, made, maximum, number_in, slot_values, tasks_for, tasks_of, values_at}
+use Rattle.pts_tool.specs.Flags.{flags_of}
+use Rattle.pts_tool.specs.Plans.{fields, first_of, made, maximum, tasks_for, tasks_of}
 use Rattle.pts_tool.specs.Texts.{rows}
 use Rattle.afs_client.specs.Questions.{is_pt_answer, is_taken, is_user_id, pt_fits, pt_page_has_bits, users_database}
 use Rattle.afs_client.proofs.Asked.{Taken, sound_call}
 use Rattle.afs_client.proofs.Sounding.{AlwaysSound, Any, Sound, always_then, sound_gives, sound_if, sound_met, sound_own, sound_says, sound_with}
-use Rattle.afs_client.proofs.Words.{Fits, Fitting, IsShort, all_short, entry_name, first_short, first_true, let_through, new_name, parameter, second_true, some_short, values_fit, values_in}
+use Rattle.afs_client.proofs.Words.{Fits, Fitting, IsShort, all_short, entry_name, first_short, first_true, let_through, new_name, parameter, second_true, some_short, values_fit}
 
 abbrev pub PtsSound : {A : Type 0} → Course A → Type 1
 PtsSound m = AlwaysSound users_database m
@@ -252,48 +254,40 @@ each_pair P item has (user ∷ users) groups users_short groups_short =
     (each_item P (λ group. item user group) (λ group short. has user group users_short.0 short) groups groups_short)
     (each_pair P item has users groups users_short.1 groups_short)
 
-made_sound : (given : Type 0) (is_group : Bool) (owner : Option (List ℕ)) (names ids : List (List ℕ)) → IfSome owner IsShort → AllByRecursion IsShort names
+made_sound : (given : Type 0) (is_group : Bool) (owner : Option (List ℕ)) (names : List (List ℕ)) → (ids : List (Option ℤ)) → IfSome owner IsShort → AllByRecursion IsShort names
     → AllByRecursion (λ t. Sound users_database given Any (task_course t)) (made is_group owner names ids)
 made_sound given is_group owner [] ids owned short = tt
 made_sound given is_group owner (name ∷ names) ids owned short =
-    (creates_sound name is_group owner (number_in ids) short.0 owned given, made_sound given is_group owner names (drop 1 ids) owned short.1)
+    (creates_sound name is_group owner (first_of ids) short.0 owned given, made_sound given is_group owner names (drop 1 ids) owned short.1)
 
 maximum_sound : (given : Type 0) (is_group : Bool) (id : Option ℤ)
     → AllByRecursion (λ t. Sound users_database given Any (task_course t)) (maximum is_group id)
 maximum_sound given is_group None = tt
 maximum_sound given is_group (Some id) = (does_sound (call.SetMax id is_group) (λ bytes. refl) refl refl given, tt)
 
-same_values : (found : Option Slot) → values_in found ≡ slot_values found
-same_values None = refl
-same_values (Some slot) = refl
-
--- the values at a place of the table are names
-names_at : (slots : List Slot) (place : ℕ) → AllByRecursion IsShort (values_in (slice_get slots place)) → AllByRecursion IsShort (values_at slots place)
-names_at slots place short = subst (λ (values : List (List ℕ)). AllByRecursion IsShort values) (same_values (slice_get slots place)) short
-
 entries_at : (slots : List Slot) (ps : List Parameter) (place : ℕ) (must : Need) (switch : Switch) → map parameter slots ≡ ps → AllByRecursion Fits slots
     → slice_get ps place ≡ Some (row switch must (Many form.Entry)) → AllByRecursion IsShort (values_at slots place)
 entries_at slots ps place must switch table forms at =
-    names_at slots place (all_short form.Entry _ entry_name (values_fit slots ps place _ table forms at))
+    all_short form.Entry _ entry_name (values_fit slots ps place _ table forms at)
 
 entry_at : (slots : List Slot) (ps : List Parameter) (place : ℕ) (must : Need) (switch : Switch) → map parameter slots ≡ ps → AllByRecursion Fits slots
     → slice_get ps place ≡ Some (row switch must (One form.Entry)) → AllByRecursion IsShort (values_at slots place)
 entry_at slots ps place must switch table forms at =
-    names_at slots place (all_short form.Entry _ entry_name (values_fit slots ps place _ table forms at))
+    all_short form.Entry _ entry_name (values_fit slots ps place _ table forms at)
 
 -- the items of an operation whose words were understood
 tasks_sound : (o : Operation) (slots : List Slot) → map parameter slots ≡ parameters_of o → AllByRecursion Fits slots → (given : Type 0)
-    → AllByRecursion (λ t. Sound users_database given Any (task_course t)) (tasks_for o (values_at slots))
+    → AllByRecursion (λ t. Sound users_database given Any (task_course t)) (tasks_for o slots)
 tasks_sound op.CreateUser slots table forms given =
-    made_sound given false None _ _ tt (names_at slots 0 (all_short form.NewName _ new_name (values_fit slots _ 0 _ table forms refl)))
+    made_sound given false None _ _ tt (all_short form.NewName _ new_name (values_fit slots _ 0 _ table forms refl))
 tasks_sound op.CreateGroup slots table forms given =
     made_sound given true _ _ _ (first_short _ (entry_at slots _ 1 _ _ table forms refl))
-    (names_at slots 0 (all_short form.NewName _ new_name (values_fit slots _ 0 _ table forms refl)))
+    (all_short form.NewName _ new_name (values_fit slots _ 0 _ table forms refl))
 tasks_sound op.Delete slots table forms given =
-    each_item _ (entry_task op.Delete) (λ word short. deletes_sound word short given) _ (entries_at slots _ 0 _ _ table forms refl)
+    each_item _ _ (λ word short. deletes_sound word short given) _ (entries_at slots _ 0 _ _ table forms refl)
 tasks_sound op.Rename slots table forms given = (
   changes_sound _ _ None (some_short _ (entry_at slots _ 0 _ _ table forms refl))
-      (some_short _ (names_at slots 1 (all_short form.NewName _ new_name (values_fit slots _ 1 _ table forms refl)))) tt given,
+      (some_short _ (all_short form.NewName _ new_name (values_fit slots _ 1 _ table forms refl))) tt given,
   tt,
 )
 tasks_sound op.Chown slots table forms given = (
@@ -308,20 +302,20 @@ tasks_sound op.RemoveUser slots table forms given =
     each_pair _ _ (λ user group user_short group_short. moves_sound user group false user_short group_short given) _ _
     (entries_at slots _ 0 _ _ table forms refl) (entries_at slots _ 1 _ _ table forms refl)
 tasks_sound op.Membership slots table forms given =
-    each_item _ (entry_task op.Membership) (λ word short. lists_members_sound word short given) _ (entries_at slots _ 0 _ _ table forms refl)
+    each_item _ _ (λ word short. lists_members_sound word short given) _ (entries_at slots _ 0 _ _ table forms refl)
 tasks_sound op.Examine slots table forms given =
-    each_item _ (entry_task op.Examine) (λ word short. examines_sound word short given) _ (entries_at slots _ 0 _ _ table forms refl)
+    each_item _ _ (λ word short. examines_sound word short given) _ (entries_at slots _ 0 _ _ table forms refl)
 tasks_sound op.ListOwned slots table forms given =
-    each_item _ (entry_task op.ListOwned) (λ word short. lists_owned_sound word short given) _ (entries_at slots _ 0 _ _ table forms refl)
+    each_item _ _ (λ word short. lists_owned_sound word short given) _ (entries_at slots _ 0 _ _ table forms refl)
 tasks_sound op.ListEntries slots table forms given = (lists_entries_sound _ given, tt)
 tasks_sound op.ListMax slots table forms given = (lists_maxima_sound given, tt)
 tasks_sound op.SetMax slots table forms given =
-    let group : Option ℤ = number_in (values_at slots 0) in
-    let user : Option ℤ = number_in (values_at slots 1) in
+    let group : Option ℤ = number_at slots 0 in
+    let user : Option ℤ = number_at slots 1 in
     all_append (λ t. Sound users_database given Any (task_course t)) (maximum true group) (maximum false user)
     (maximum_sound given true group) (maximum_sound given false user)
 tasks_sound op.SetFields slots table forms given =
-    each_item _ (fields (flags_in (values_at slots 1)) (number_in (values_at slots 2))) (λ word short. sets_fields_sound word _ _ _ short given) _
+    each_item _ (fields (option_map flags_of (value_at slots 1)) (number_at slots 2)) (λ word short. sets_fields_sound word _ _ _ short given) _
     (entries_at slots _ 0 _ _ table forms refl)
 tasks_sound _ slots table forms given = tt
 

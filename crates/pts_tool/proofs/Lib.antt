@@ -1,4 +1,5 @@
 pub mod Asked
+pub mod Made
 pub mod Named
 pub mod Paged
 pub mod Spelling

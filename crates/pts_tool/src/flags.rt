@@ -1,6 +1,9 @@
 //! The flags of an entry and the letters of its access (ptserver): five places of four bits.
 ghost use Rattle.std.specs.Prelude.{◌≡◌, ◌<◌, ◌≤◌, ◌==◌, length, position, IfSome};
+ghost use Rattle.afs_words.specs.Making.{access_word};
 ghost use Rattle.pts_tool.specs.Flags.{letter_of, value_of, flags_text, flags_of};
+
+use afs_commands::Access;
 
 /// The letters of each place, by the value of its bits: `-` stands where a value has none.
 const STATUS: &[u8] = b"-sS";
@@ -26,20 +29,15 @@ pub(crate) fn flags_text(flags: u32) -> [u8; 5]
     ]
 }
 
-/// The flags that five letters write, 0 where they are no five.
-pub(crate) fn flags_of(letters: &[u8]) -> u32
-    ensures { result ≡ flags_of letters.now }
+/// The flags that the letters of access write.
+pub(crate) fn flags_of(access: Access) -> u32
+    ensures { result ≡ flags_of (access_word access) }
 {
-    match letters {
-        [status, owned, membership, add, remove] => {
-            value_of(STATUS, *status) * 65_536
-                + value_of(OWNED, *owned) * 4096
-                + value_of(MEMBERSHIP, *membership) * 256
-                + value_of(ADD, *add) * 16
-                + value_of(REMOVE, *remove)
-        }
-        _ => 0,
-    }
+    value_of(STATUS, access.status) * 65_536
+        + value_of(OWNED, access.owned) * 4096
+        + value_of(MEMBERSHIP, access.membership) * 256
+        + value_of(ADD, access.add) * 16
+        + value_of(REMOVE, access.remove)
 }
 
 /// The letter of a value.

@@ -12,7 +12,6 @@ mod running;
 mod setting;
 mod tasks;
 mod texts;
-mod values;
 
 pub use running::run_pts;
 pub use tool_base::ToolEnd;

@@ -11,6 +11,7 @@ use crate::names::{entry_id, names_of};
 use crate::texts::{
     entry_text, head_row, maxima_text, members_line, names_behind, owned_line, rows_behind,
 };
+use afs_commands::Entry;
 use io_base::Link;
 use pt_calls::{Entries, Ids, MAX_PAGE, PtCall, PtEntry};
 use tool_base::{Client, Stop};
@@ -23,7 +24,7 @@ pub(crate) const MOST_PAGES: u32 = 42_949_673;
 pub(crate) fn list_members<L: Link>(
     client: &mut Client<'_>,
     link: &mut L,
-    entry: &Bytes,
+    entry: &Entry,
 ) -> Result<Bytes, Stop>
     ensures { Ran (lists_members entry.now) client.old client.new (L.exchanges link.old) (L.exchanges link.new) result }
 {
@@ -37,7 +38,7 @@ pub(crate) fn list_members<L: Link>(
 pub(crate) fn list_owned<L: Link>(
     client: &mut Client<'_>,
     link: &mut L,
-    entry: &Bytes,
+    entry: &Entry,
 ) -> Result<Bytes, Stop>
     ensures { Ran (lists_owned entry.now) client.old client.new (L.exchanges link.old) (L.exchanges link.new) result }
 {
@@ -93,7 +94,7 @@ fn list_names<L: Link>(
 pub(crate) fn examine<L: Link>(
     client: &mut Client<'_>,
     link: &mut L,
-    entry: &Bytes,
+    entry: &Entry,
 ) -> Result<Bytes, Stop>
     ensures { Ran (examines entry.now) client.old client.new (L.exchanges link.old) (L.exchanges link.new) result }
 {

@@ -7,6 +7,7 @@ use crate::asking::ask;
 use crate::names::{entry_id, owner_id};
 use crate::setting::do_call;
 use crate::texts::made_text;
+use afs_commands::Entry;
 use io_base::Link;
 use pt_calls::PtCall;
 use tool_base::{Client, Stop};
@@ -18,7 +19,7 @@ pub(crate) fn create<L: Link>(
     link: &mut L,
     name: &Bytes,
     is_group: bool,
-    owner: &Option<Bytes>,
+    owner: &Option<Entry>,
     id: Option<i32>,
 ) -> Result<Bytes, Stop>
     ensures { Ran (creates name.now is_group owner.now id) client.old client.new (L.exchanges link.old) (L.exchanges link.new) result }
@@ -87,7 +88,7 @@ fn given_id<L: Link>(
 pub(crate) fn delete<L: Link>(
     client: &mut Client<'_>,
     link: &mut L,
-    entry: &Bytes,
+    entry: &Entry,
 ) -> Result<Bytes, Stop>
     ensures { Ran (deletes entry.now) client.old client.new (L.exchanges link.old) (L.exchanges link.new) result }
 {
@@ -99,9 +100,9 @@ pub(crate) fn delete<L: Link>(
 pub(crate) fn change<L: Link>(
     client: &mut Client<'_>,
     link: &mut L,
-    entry: &Bytes,
+    entry: &Entry,
     name: &Bytes,
-    owner: &Option<Bytes>,
+    owner: &Option<Entry>,
 ) -> Result<Bytes, Stop>
     ensures { Ran (changes entry.now name.now owner.now) client.old client.new (L.exchanges link.old) (L.exchanges link.new) result }
 {
@@ -121,8 +122,8 @@ pub(crate) fn change<L: Link>(
 pub(crate) fn move_member<L: Link>(
     client: &mut Client<'_>,
     link: &mut L,
-    user: &Bytes,
-    group: &Bytes,
+    user: &Entry,
+    group: &Entry,
     adds: bool,
 ) -> Result<Bytes, Stop>
     ensures { Ran (moves user.now group.now adds) client.old client.new (L.exchanges link.old) (L.exchanges link.new) result }

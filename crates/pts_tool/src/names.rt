@@ -7,9 +7,9 @@ ghost use Rattle.pts_tool.specs.Names.{known_id, name_id, the_id, owner_id, the_
 ghost use Rattle.tool_base.specs.Running.{Ran};
 
 use crate::asking::ask;
+use afs_commands::Entry;
 use io_base::Link;
 use pt_calls::{Ids, Items, MAX_LIST, Names, PtCall};
-use script_words::signed_number;
 use std::alloc::Global;
 use tool_base::{Client, Refusal, Stop};
 use ubik_types::{Bytes, NoMemory, bytes_of};
@@ -20,35 +20,35 @@ pub(crate) const ANONYMOUS: i32 = 32_766;
 /// No entry has the name or id (ptserver).
 pub(crate) const NO_ENTRY: u32 = 267_268;
 
-/// The id of an entry that there is, which was given as its name or its id.
+/// The id of an entry that there is: its own, or the one that its name is translated to.
 pub(crate) fn entry_id<L: Link>(
     client: &mut Client<'_>,
     link: &mut L,
-    word: &Bytes,
+    entry: &Entry,
 ) -> Result<i32, Stop>
-    ensures { Ran (the_id word.now) client.old client.new (L.exchanges link.old) (L.exchanges link.new) result }
+    ensures { Ran (the_id entry.now) client.old client.new (L.exchanges link.old) (L.exchanges link.new) result }
 {
-    match signed_number(word.as_slice()) {
+    match entry.id() {
         Some(id) => Ok(id),
-        None => name_id(client, link, word),
+        None => name_id(client, link, entry.word()),
     }
 }
 
 /// The id of an entry that there is, by its name.
-fn name_id<L: Link>(client: &mut Client<'_>, link: &mut L, name: &Bytes) -> Result<i32, Stop>
+fn name_id<L: Link>(client: &mut Client<'_>, link: &mut L, name: &[u8]) -> Result<i32, Stop>
     ensures { Ran (name_id name.now) client.old client.new (L.exchanges link.old) (L.exchanges link.new) result }
 {
     let names = one_name(client.alloc(), name)?;
     let id = ask(client, link, &PtCall::NameToId { names })?;
-    known_id(name.as_slice(), id)
+    known_id(name, id)
 }
 
 /// A list of one name.
-fn one_name(alloc: Global, name: &Bytes) -> Result<Names, NoMemory>
+fn one_name(alloc: Global, name: &[u8]) -> Result<Names, NoMemory>
     ensures { IfOk result (λ names. names ≡ name.now ∷ []) }
 {
     let mut names = Vec::new(alloc);
-    names.push(bytes_of(alloc, name.as_slice())?)?;
+    names.push(bytes_of(alloc, name)?)?;
     Ok(Items::new(names))
 }
 
@@ -67,12 +67,12 @@ fn known_id(name: &[u8], id: i32) -> Result<i32, Stop>
 pub(crate) fn owner_id<L: Link>(
     client: &mut Client<'_>,
     link: &mut L,
-    owner: &Option<Bytes>,
+    owner: &Option<Entry>,
 ) -> Result<i32, Stop>
     ensures { Ran (owner_id owner.now) client.old client.new (L.exchanges link.old) (L.exchanges link.new) result }
 {
     match owner {
-        Some(word) => entry_id(client, link, word),
+        Some(entry) => entry_id(client, link, entry),
         None => Ok(0),
     }
 }

@@ -1,41 +1,73 @@
 //! The items of a command.
-ghost use Rattle.std.specs.Prelude.{◌≡◌, [], ◌∷◌, ◌++◌, map, drop, true, false, IfOk, OnOk, slice_get, Some, None};
-ghost use Rattle.pts_tool.specs.Plans.{entry_task, made, pairs, maximum, flags_in, mask_of, fields, kinds_of, tasks_of};
+ghost use Rattle.std.specs.Prelude.{◌≡◌, [], ◌∷◌, ◌++◌, map, drop, true, false, IfOk, OnOk, Some, None, option_map};
+ghost use Rattle.afs_words.specs.Making.{access_word};
+ghost use Rattle.pts_tool.specs.Flags.{flags_of};
+ghost use Rattle.pts_tool.specs.Plans.{command_tasks, deed_task, made, pairs, maximum, mask_of, fields, kinds_of};
 ghost use Rattle.pts_tool.specs.declared.tasks.Task.TheVariants as task;
 
 use crate::flags::flags_of;
 use crate::tasks::Task;
-use crate::values::{number_in, value_in, values_at};
-use afs_words::{Operation, Word, Words};
+use afs_commands::{Access, Entry, PtsCommand};
 use std::alloc::Global;
 use ubik_types::{Bytes, NoMemory, bytes_of};
 
-/// The items of a command, in the order in which they are worked through. An operation of `vos` has none.
-pub(crate) fn tasks_of(alloc: Global, words: &Words) -> Result<Vec<Task>, NoMemory>
-    ensures { IfOk result (λ tasks. tasks.items ≡ tasks_of words.now) }
+/// What is done with each entry that a command names.
+#[derive(Clone, Copy)]
+pub(crate) enum Deed {
+    Delete,
+    Membership,
+    Examine,
+    ListOwned,
+}
+
+/// The items of a command, in the order in which they are worked through.
+pub(crate) fn tasks_of(alloc: Global, command: &PtsCommand) -> Result<Vec<Task>, NoMemory>
+    ensures { IfOk result (λ tasks. tasks.items ≡ command_tasks command.now) }
 {
-    let first = values_at(words, 0);
-    let second = values_at(words, 1);
-    let third = values_at(words, 2);
-    match words.operation() {
-        Operation::CreateUser => made(alloc, false, &[], first, second),
-        Operation::CreateGroup => made(alloc, true, second, first, third),
-        Operation::Delete => each(alloc, Operation::Delete, first),
-        Operation::Rename => renamed(alloc, value_in(first), value_in(second)),
-        Operation::Chown => handed(alloc, value_in(first), value_in(second)),
-        Operation::AddUser => pairs(alloc, true, first, second),
-        Operation::RemoveUser => pairs(alloc, false, first, second),
-        Operation::Membership => each(alloc, Operation::Membership, first),
-        Operation::Examine => each(alloc, Operation::Examine, first),
-        Operation::ListOwned => each(alloc, Operation::ListOwned, first),
-        Operation::ListEntries => {
-            let kinds = kinds_of(first, second);
+    match command {
+        PtsCommand::CreateUser { names, ids } => made(
+            alloc,
+            false,
+            &None,
+            names.as_slice(),
+            ids.as_slice(),
+        ),
+        PtsCommand::CreateGroup { names, owner, ids } => made(
+            alloc,
+            true,
+            owner,
+            names.as_slice(),
+            ids.as_slice(),
+        ),
+        PtsCommand::Delete { entries } => each(alloc, Deed::Delete, entries.as_slice()),
+        PtsCommand::Rename { entry, name } => renamed(alloc, entry, name),
+        PtsCommand::Chown { entry, owner } => handed(alloc, entry, owner),
+        PtsCommand::AddUser { users, groups } => pairs(
+            alloc,
+            true,
+            users.as_slice(),
+            groups.as_slice(),
+        ),
+        PtsCommand::RemoveUser { users, groups } => pairs(
+            alloc,
+            false,
+            users.as_slice(),
+            groups.as_slice(),
+        ),
+        PtsCommand::Membership { entries } => each(alloc, Deed::Membership, entries.as_slice()),
+        PtsCommand::Examine { entries } => each(alloc, Deed::Examine, entries.as_slice()),
+        PtsCommand::ListOwned { entries } => each(alloc, Deed::ListOwned, entries.as_slice()),
+        PtsCommand::ListEntries { users, groups } => {
+            let kinds = kinds_of(*users, *groups);
             only(alloc, Task::ListEntries { kinds })
         }
-        Operation::ListMax => only(alloc, Task::ListMax),
-        Operation::SetMax => maxima(alloc, number_in(first), number_in(second)),
-        Operation::SetFields => fields(alloc, flags_in(second), number_in(third), first),
-        _ => Ok(Vec::new(alloc)),
+        PtsCommand::ListMax => only(alloc, Task::ListMax),
+        PtsCommand::SetMax { group, user } => maxima(alloc, *group, *user),
+        PtsCommand::SetFields {
+            entries,
+            access,
+            quota,
+        } => fields(alloc, flags_in(*access), *quota, entries.as_slice()),
     }
 }
 
@@ -52,99 +84,106 @@ fn only(alloc: Global, task: Task) -> Result<Vec<Task>, NoMemory>
 fn made(
     alloc: Global,
     is_group: bool,
-    owner: &[Word],
-    names: &[Word],
-    ids: &[Word],
+    owner: &Option<Entry>,
+    names: &[Bytes],
+    ids: &[i32],
 ) -> Result<Vec<Task>, NoMemory>
-    ensures { IfOk result (λ tasks. tasks.items ≡ made is_group (slice_get owner.now 0) names.now ids.now) }
+    ensures { IfOk result (λ tasks. tasks.items ≡ made is_group owner.now names.now (map Some ids.now)) }
 {
     let mut tasks = Vec::new(alloc);
     let mut left = ids;
     for word in names {
-        let name = bytes_of(alloc, word.as_bytes())?;
+        let name = bytes_of(alloc, word.as_slice())?;
         let by = copied(alloc, owner)?;
         tasks.push(Task::Create {
             name,
             is_group,
             owner: by,
-            id: number_in(left),
+            id: left.first().copied(),
         })?;
         left = behind(left);
     }
     Ok(tasks)
 }
 
-/// What stands behind the first value.
-fn behind(values: &[Word]) -> &[Word]
-    ensures { result.now ≡ drop 1 values.now }
+/// What stands behind the first id.
+fn behind(ids: &[i32]) -> &[i32]
+    ensures { result.now ≡ drop 1 ids.now }
 {
-    match values {
+    match ids {
         [] => &[],
         [_, rest @ ..] => rest,
     }
 }
 
-/// A copy of the first value.
-fn copied(alloc: Global, values: &[Word]) -> Result<Option<Bytes>, NoMemory>
-    ensures { IfOk result (λ value. value ≡ slice_get values.now 0) }
+/// A copy of an owner, where there is one.
+fn copied(alloc: Global, owner: &Option<Entry>) -> Result<Option<Entry>, NoMemory>
+    ensures { IfOk result (λ copy. copy ≡ owner.now) }
 {
-    match values {
-        [] => Ok(None),
-        [first, ..] => Ok(Some(bytes_of(alloc, first.as_bytes())?)),
+    match owner {
+        None => Ok(None),
+        Some(entry) => Ok(Some(entry.copied(alloc)?)),
     }
 }
 
 /// An item for each entry.
-fn each(alloc: Global, operation: Operation, entries: &[Word]) -> Result<Vec<Task>, NoMemory>
-    ensures { IfOk result (λ tasks. tasks.items ≡ map (entry_task operation) entries.now) }
+fn each(alloc: Global, deed: Deed, entries: &[Entry]) -> Result<Vec<Task>, NoMemory>
+    ensures { IfOk result (λ tasks. tasks.items ≡ map (deed_task deed) entries.now) }
 {
     let mut tasks = Vec::new(alloc);
-    for word in entries {
-        let entry = bytes_of(alloc, word.as_bytes())?;
-        tasks.push(entry_task(operation, entry))?;
+    for named in entries {
+        let entry = named.copied(alloc)?;
+        tasks.push(deed.task(entry))?;
     }
     Ok(tasks)
 }
 
-/// What is done with an entry.
-fn entry_task(operation: Operation, entry: Bytes) -> Task
-    ensures { result ≡ entry_task operation entry }
-{
-    match operation {
-        Operation::Delete => Task::Delete { entry },
-        Operation::Membership => Task::Membership { entry },
-        Operation::Examine => Task::Examine { entry },
-        _ => Task::ListOwned { entry },
+impl Deed {
+    /// The item that does this with an entry.
+    fn task(self, entry: Entry) -> Task
+        ensures { result ≡ deed_task self entry }
+    {
+        match self {
+            Deed::Delete => Task::Delete { entry },
+            Deed::Membership => Task::Membership { entry },
+            Deed::Examine => Task::Examine { entry },
+            Deed::ListOwned => Task::ListOwned { entry },
+        }
     }
 }
 
 /// An entry gets another name.
-fn renamed(alloc: Global, entry: &[u8], name: &[u8]) -> Result<Vec<Task>, NoMemory>
+fn renamed(alloc: Global, entry: &Entry, name: &Bytes) -> Result<Vec<Task>, NoMemory>
     ensures { IfOk result (λ tasks. tasks.items ≡ task.Change entry.now name.now None ∷ []) }
 {
-    let entry = bytes_of(alloc, entry)?;
-    let name = bytes_of(alloc, name)?;
+    let entry = entry.copied(alloc)?;
+    let name = bytes_of(alloc, name.as_slice())?;
     let owner = None;
     only(alloc, Task::Change { entry, name, owner })
 }
 
 /// An entry gets another owner.
-fn handed(alloc: Global, entry: &[u8], owner: &[u8]) -> Result<Vec<Task>, NoMemory>
+fn handed(alloc: Global, entry: &Entry, owner: &Entry) -> Result<Vec<Task>, NoMemory>
     ensures { IfOk result (λ tasks. tasks.items ≡ task.Change entry.now [] (Some owner.now) ∷ []) }
 {
-    let entry = bytes_of(alloc, entry)?;
+    let entry = entry.copied(alloc)?;
     let name = Bytes::new(Vec::new(alloc));
-    let owner = Some(bytes_of(alloc, owner)?);
+    let owner = Some(owner.copied(alloc)?);
     only(alloc, Task::Change { entry, name, owner })
 }
 
 /// Each user with each group.
-fn pairs(alloc: Global, adds: bool, users: &[Word], groups: &[Word]) -> Result<Vec<Task>, NoMemory>
+fn pairs(
+    alloc: Global,
+    adds: bool,
+    users: &[Entry],
+    groups: &[Entry],
+) -> Result<Vec<Task>, NoMemory>
     ensures { IfOk result (λ tasks. tasks.items ≡ pairs adds users.now groups.now) }
 {
     let mut tasks = Vec::new(alloc);
     for user in users {
-        put_pairs(alloc, adds, user.as_bytes(), groups, &mut tasks)?;
+        put_pairs(alloc, adds, user, groups, &mut tasks)?;
     }
     Ok(tasks)
 }
@@ -153,15 +192,15 @@ fn pairs(alloc: Global, adds: bool, users: &[Word], groups: &[Word]) -> Result<V
 fn put_pairs(
     alloc: Global,
     adds: bool,
-    user: &[u8],
-    groups: &[Word],
+    user: &Entry,
+    groups: &[Entry],
     tasks: &mut Vec<Task>,
 ) -> Result<(), NoMemory>
     ensures { OnOk result (tasks.new.items ≡ tasks.old.items ++ map (λ group. task.Member user.now group adds) groups.now) }
 {
-    for word in groups {
-        let member = bytes_of(alloc, user)?;
-        let group = bytes_of(alloc, word.as_bytes())?;
+    for named in groups {
+        let member = user.copied(alloc)?;
+        let group = named.copied(alloc)?;
         tasks.push(Task::Member {
             user: member,
             group,
@@ -192,7 +231,7 @@ fn fields(
     alloc: Global,
     flags: Option<u32>,
     quota: Option<i32>,
-    entries: &[Word],
+    entries: &[Entry],
 ) -> Result<Vec<Task>, NoMemory>
     ensures { IfOk result (λ tasks. tasks.items ≡ map (fields flags quota) entries.now) }
 {
@@ -200,8 +239,8 @@ fn fields(
     let bits = flags.unwrap_or(0);
     let limit = quota.unwrap_or(0);
     let mut tasks = Vec::new(alloc);
-    for word in entries {
-        let entry = bytes_of(alloc, word.as_bytes())?;
+    for named in entries {
+        let entry = named.copied(alloc)?;
         tasks.push(Task::SetFields {
             entry,
             mask,
@@ -224,23 +263,23 @@ fn mask_of(flags: Option<u32>, quota: Option<i32>) -> u32
     }
 }
 
-/// The flags that the first value writes.
-fn flags_in(values: &[Word]) -> Option<u32>
-    ensures { result ≡ flags_in values.now }
+/// The flags that access writes.
+fn flags_in(access: Option<Access>) -> Option<u32>
+    ensures { result ≡ option_map flags_of (option_map access_word access) }
 {
-    match values {
-        [] => None,
-        [access, ..] => Some(flags_of(access.as_bytes())),
+    match access {
+        None => None,
+        Some(access) => Some(flags_of(access)),
     }
 }
 
 /// Which entries are listed, by whether users and groups were asked for.
-fn kinds_of(users: &[Word], groups: &[Word]) -> u32
-    ensures { result ≡ kinds_of users.now groups.now }
+fn kinds_of(users: bool, groups: bool) -> u32
+    ensures { result ≡ kinds_of users groups }
 {
     match (users, groups) {
-        (_, []) => 1,
-        ([], _) => 2,
-        _ => 3,
+        (_, false) => 1,
+        (false, true) => 2,
+        (true, true) => 3,
     }
 }

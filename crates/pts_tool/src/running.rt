@@ -1,19 +1,21 @@
 //! A whole command.
-ghost use Rattle.std.specs.Prelude.{◌≡◌, ◌+◌, codes, Err};
+ghost use Rattle.std.specs.Prelude.{◌≡◌, ◌+◌, IfOk, codes, Err};
 ghost use Rattle.disk_base.specs.Count.{HasCause};
 ghost use Rattle.pts_tool.specs.Courses.{pts_course};
+ghost use Rattle.pts_tool.specs.Plans.{tasks_of};
 ghost use Rattle.tool_base.specs.Course.{Asker};
 ghost use Rattle.tool_base.specs.Ending.{Commanded};
 ghost use Rattle.tool_base.specs.Running.{ToldSome};
 
 use crate::plans::tasks_of;
-use crate::tasks::run_all;
+use crate::tasks::{Task, run_all};
+use afs_commands::ToolCommand;
 use afs_words::Words;
 use disk_base::Sink;
 use io_base::Link;
 use std::alloc::Global;
 use tool_base::{Client, Stop, ToolEnd, say_end};
-use ubik_types::Host;
+use ubik_types::{Host, NoMemory};
 
 /// The port of the servers of the protection database.
 pub const PORT: u16 = 7002;
@@ -52,6 +54,16 @@ fn run_words<L: Link, K: Sink>(
         (K.written out.old) (K.written out.new) result }
     ensures cause { HasCause (K.faults out.old) (K.faults out.new) (result ≡ Err Stop.WriteFault) }
 {
-    let tasks = tasks_of(client.alloc(), words)?;
+    let tasks = all_tasks(client.alloc(), words)?;
     run_all(client, link, tasks.as_slice(), out)
+}
+
+/// The items that words mean. A command of `vos` has none.
+fn all_tasks(alloc: Global, words: &Words) -> Result<Vec<Task>, NoMemory>
+    ensures { IfOk result (λ tasks. tasks.items ≡ tasks_of words.now) }
+{
+    match words.command() {
+        ToolCommand::Pts(command) => tasks_of(alloc, command),
+        ToolCommand::Vos(_) => Ok(Vec::new(alloc)),
+    }
 }

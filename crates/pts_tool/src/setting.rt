@@ -5,6 +5,7 @@ ghost use Rattle.tool_base.specs.Running.{Ran};
 
 use crate::asking::ask;
 use crate::names::entry_id;
+use afs_commands::Entry;
 use io_base::Link;
 use pt_calls::PtCall;
 use tool_base::{Client, Stop};
@@ -39,7 +40,7 @@ pub(crate) fn set_max<L: Link>(
 pub(crate) fn set_fields<L: Link>(
     client: &mut Client<'_>,
     link: &mut L,
-    entry: &Bytes,
+    entry: &Entry,
     mask: u32,
     flags: u32,
     quota: i32,

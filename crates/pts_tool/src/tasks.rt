@@ -7,44 +7,45 @@ ghost use Rattle.tool_base.specs.Running.{Ran, ToldSome};
 use crate::listing::{examine, list_entries, list_max, list_members, list_owned};
 use crate::making::{change, create, delete, move_member};
 use crate::setting::{set_fields, set_max};
+use afs_commands::Entry;
 use disk_base::Sink;
 use io_base::Link;
 use tool_base::{Client, Stop, say};
 use ubik_types::Bytes;
 
-/// One item of what a command does. An entry that there is stands as it was given, as its name or its id.
+/// One item of what a command does.
 #[derive(Drop)]
 pub(crate) enum Task {
     /// Makes a user, or a group, with the next id or with this one.
     Create {
         name: Bytes,
         is_group: bool,
-        owner: Option<Bytes>,
+        owner: Option<Entry>,
         id: Option<i32>,
     },
     Delete {
-        entry: Bytes,
+        entry: Entry,
     },
     /// Gives an entry another name, where it is not empty, or another owner.
     Change {
-        entry: Bytes,
+        entry: Entry,
         name: Bytes,
-        owner: Option<Bytes>,
+        owner: Option<Entry>,
     },
     /// Puts a user into a group, or takes him out of it.
     Member {
-        user: Bytes,
-        group: Bytes,
+        user: Entry,
+        group: Entry,
         adds: bool,
     },
     Membership {
-        entry: Bytes,
+        entry: Entry,
     },
     Examine {
-        entry: Bytes,
+        entry: Entry,
     },
     ListOwned {
-        entry: Bytes,
+        entry: Entry,
     },
     /// 1 for users, 2 for groups, 3 for both.
     ListEntries {
@@ -57,7 +58,7 @@ pub(crate) enum Task {
     },
     /// The mask names what is set: 1 for flags, 2 for the quota.
     SetFields {
-        entry: Bytes,
+        entry: Entry,
         mask: u32,
         flags: u32,
         quota: i32,

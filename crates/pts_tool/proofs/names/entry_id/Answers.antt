@@ -8,8 +8,8 @@ use Rattle.pts_tool.proofs.names.entry_id.Goals as goal
 pub returns-in-Some : goal.returns-in-Some
 returns-in-Some g c =
     let fits0 : FitsSigned w32 c.in-Some.id = search rules in
-    ran_number c.args.word.now c.in-Some.id _ _ _ (rw c.as_slice.ensures at c.in-Some.ensures) (ap Ok (to_z-of_z w32 c.in-Some.id fits0))
+    ran_number c.args.entry.now c.in-Some.id _ _ _ c.in-Some.ensures (ap Ok (to_z-of_z w32 c.in-Some.id fits0))
 
 pub returns-in-None : goal.returns-in-None
 returns-in-None g c =
-    ran_name c.args.word.now _ _ _ _ _ (rw c.as_slice.ensures at c.in-None.ensures) c.name_id.ensures
+    ran_name c.args.entry.now _ _ _ _ _ c.in-None.ensures (rw c.word.ensures at c.name_id.ensures)

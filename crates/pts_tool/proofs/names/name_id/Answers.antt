@@ -18,4 +18,4 @@ unfolding name_id
 returns g c =
     let fits0 : FitsSigned w32 c.in_ok-id.id = search rules in
     ran_then (λ (id : ℤ). still (known_id c.args.name.now id)) c.in_ok-id.id refl (rw (c.in_ok-names.ensures) at c.in_ok-id.ensures)
-    (ran_is _ _ (known_id c.args.name.now c.in_ok-id.id) _ (known_quiet c.args.name.now c.in_ok-id.id) (rw (c.as_slice.ensures, to_z-of_z w32 c.in_ok-id.id fits0) at c.known_id.ensures))
+    (ran_is _ _ (known_id c.args.name.now c.in_ok-id.id) _ (known_quiet c.args.name.now c.in_ok-id.id) (rw (to_z-of_z w32 c.in_ok-id.id fits0) at c.known_id.ensures))
