@@ -3,6 +3,7 @@ ghost use Rattle.std.specs.Prelude.{◌≡◌, IsErrOf, ◌⊎◌, ◌≢◌, �
 ghost use Rattle.ubik_types.specs.declared.hosts.Host.{Host};
 ghost use Rattle.ubik_types.specs.Moment.{IsMoment};
 ghost use Rattle.disk_base.specs.Crash.{IsSettled};
+ghost use Rattle.disk_base.specs.Runs.{OnlyReads};
 ghost use Rattle.disk_base.specs.Stops.{IsStopped};
 ghost use Rattle.cell_model.specs.Node as model;
 ghost use Rattle.cell_model.specs.NodeRule.{handled, place_of, received_packet, refusals};
@@ -94,6 +95,7 @@ impl<D: SteadyDisk, V: DraftService> Node<D, V> {
         ensures steps { IfOk result (λ node. IfSome (D.files disk) (λ fs.
             (calls : ℕ) → OpensIn fs calls → D.steps node.store.disk ≡ D.steps disk + calls)) }
         ensures refused { IfErr result (λ refused. IfSome (D.files disk) (λ fs. RefusesFiles fs refused.why)) }
+        ensures unchanged { IfErr result (λ refused. refused.why ≢ StoreFault.DiskFault → OnlyReads D.Disk disk refused.disk ⊥) }
         ensures left { IfErr result (λ refused. refused.why ≢ StoreFault.DiskFault → IsSome (D.files disk) → IsSome (D.files refused.disk)) }
         ensures settled { IfErr result (λ refused. refused.why ≢ StoreFault.DiskFault → IsSettled (D.files refused.disk) (D.may_leave refused.disk)) }
         ensures opening { MatchResult result (λ node. IsOpening D.Disk disk node.store.disk ⊥)
