@@ -8,7 +8,7 @@ programs() {
         [ -f "$main" ] || continue
         found=${main%/src/main.rt}
         found=${found##*/}
-        if [ -d "$here/crates/${found%_main}" ]; then echo "${found%_main}"; else echo "$found"; fi
+        echo "${found%_main}"
     done
 }
 
