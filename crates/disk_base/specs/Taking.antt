@@ -5,14 +5,17 @@ use Rattle.disk_base.specs.declared.mirrored_disks.MirrorFault.{MirrorFault}
 use Rattle.disk_base.specs.declared.mirrored_disks.MirrorFault.TheVariants.{DiskFault, TooLong, NoMemory}
 use Rattle.disk_base.specs.declared.mirrored_disks.MostBytes.{MostBytes}
 use Rattle.disk_base.specs.Count.{HasCause}
-use Rattle.disk_base.specs.Crash.{Narrows}
+use Rattle.disk_base.specs.Crash.{LeavesOnly, Narrows, RisesAtMost}
 use Rattle.disk_base.specs.Files.{Files, file_of, KeepsRoom}
 use Rattle.disk_base.specs.Mirror.{most_of}
 use Rattle.disk_base.specs.Stops.{IsStopped}
 
--- files were read and synced, and changed in no way; `failed` says that a call of the disk failed
-pub record Takes {D : Type 0} (g : Ghosts D) (old new : D) (failed : Type 0) : Type 0 where
+-- Files were read, and synced by at most so many calls, and changed in no way: a crash at any moment of it leaves what one could
+-- leave before. `failed` says that a call of the disk failed.
+pub record Takes {D : Type 0} (g : Ghosts D) (most : ℕ) (old new : D) (failed : Type 0) : Type 0 where
   pub files : ¬ failed → g.files new ≡ g.files old
+  pub at_most : RisesAtMost most (g.steps old) (g.steps new)
+  pub moments : LeavesOnly g.steps g.left_since old new (g.may_leave old)
   pub narrows : Narrows (g.may_leave old) (g.may_leave new)
   pub room : KeepsRoom (g.room old) (g.room new)
   pub cause : HasCause (g.faults old) (g.faults new) failed

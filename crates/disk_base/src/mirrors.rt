@@ -1,5 +1,5 @@
 //! A disk that has its three files in memory too, and tells them.
-ghost use Rattle.std.specs.Prelude.{◌≡◌, ◌+◌, ◌<◌, ◌≤◌, IsTrue, false, OnOk, OnErr, length, take, drop, vec_capacity};
+ghost use Rattle.std.specs.Prelude.{◌≡◌, ◌+◌, ◌<◌, ◌≤◌, IsTrue, true, false, OnOk, OnErr, length, take, drop, vec_capacity};
 ghost use Rattle.disk_base.specs.Files.{three_files, file_of, with_file, laid, KeepsRoom};
 ghost use Rattle.disk_base.specs.Crash.{Torn, CutShort, InFile, Follows, LeavesOthers, Narrows, Only, OnlyIn, Elapses};
 ghost use Rattle.disk_base.specs.Pending.{MayLeave, after_write, after_cut, after_sync, all_at_rest};
@@ -163,6 +163,8 @@ impl Mirror {
         ensures cause { HasCause (mirror_faults self.old) (mirror_faults self.new) (result ≡ DiskEnd.Failed) }
         ensures own { CountsOwn (mirror_faults self.old) (mirror_faults self.new) Unarmed (result ≡ DiskEnd.Failed) }
         ensures broken { self.new.broken ≡ false → (result ≡ DiskEnd.Done) × (self.old.broken ≡ false) }
+        ensures done { result ≡ DiskEnd.Done → self.new.broken ≡ self.old.broken }
+        ensures failed { result ≡ DiskEnd.Failed → self.new.broken ≡ true }
         ensures held { self.new.held ≡ self.old.held }
         ensures rests { KeepsMoments self.old self.new }
     {
