@@ -183,27 +183,3 @@ module _ {D : Type 0} (g : Ghosts D) where
   pub handed_ends : {knows : Type 0} {t : Stepped} {before after : List Output} {n m : Held D} (r : Result (Unit {0}) StoreFault) (e : StoreFault) → IsErrAnd r (λ x. x ≡ e) → Ends g knows t before after n m (Err e) → Ends g knows t before after n m r
   handed_ends (Ok x) e is ends = absurd is
   handed_ends {knows} {t} {before} {after} {n} {m} (Err x) e is ends = subst (λ (y : StoreFault). Ends g knows t before after n m (Err y)) (sym is) ends
-
-  -- one that nothing stood before
-  pub empty_ends : {knows : Type 0} {t : Stepped} {before after : List Output} {n m : Held D} {r : Result (Unit {0}) StoreFault} → before ≡ [] → Ends g knows t before after n m r → Ends g knows t [] after n m r
-  empty_ends {knows} {t} {before} {after} {n} {m} {r} empty ends = subst (λ (o : List Output). Ends g knows t o after n m r) empty ends
-
-  -- a rule that began with a change of the server, of which a halted one would keep the same and whose database is the same; it does not end for want of memory
-  pub begun_ends : {knows : Type 0} {t : Stepped} {before after : List Output} (n : Held D) (s : Server) (place : Member) {m : Held D} (r : Result (Unit {0}) StoreFault) → durable_in s ≡ durable_in n.server → halted_from s ≡ halted_from n.server
-      → place ≡ n.member → IsErrOf r DiskFault ⊎ IsOk r → Ends g knows t before after (record n { server = s; member = place }) m r → Ends g knows t before after n m r
-  begun_ends {knows} {t} {before} {after} n s place {m} r same keeps member fine ends = record {
-    made = λ known.
-        ok_map r (IsMade g t before after (record n { server = s; member = place }) m) (IsMade g t before after n m) (ends.made known) (λ made.
-        record { server = made.server; outputs = made.outputs; disk = subst (λ (d : Durable). Serves g d n.store.disk m.store.disk t.calls) same made.disk });
-    failed = λ known failed. subst (λ (d : Durable). FailsIn g d n.store.disk m.store.disk t.calls) same (ends.failed known failed);
-    short = ends.short;
-    state = never_short r (m.server ≡ n.server) fine;
-    keeps = λ failed. ends.keeps failed ∙ keeps;
-    stored = ends.stored;
-    halts = ends.halts;
-    told = ends.told;
-    calls = ends.calls;
-    halted = ends.halted;
-    last = ends.last;
-    member = ends.member ∙ member;
-  }

@@ -28,7 +28,7 @@ use Rattle.server_state.specs.State.{announced, server_of, server_with}
 use Rattle.ubik_node.proofs.Endings.{fault_is, kept_with, ok_not, short_ends}
 use Rattle.ubik_node.proofs.Received.{front_of}
 
-same_phase : (v : Version) (r : RecoveryRecord) (text : Option ReceivedText) → phase_record v (with_text r text) ≡ phase_record v r
+pub same_phase : (v : Version) (r : RecoveryRecord) (text : Option ReceivedText) → phase_record v (with_text r text) ≡ phase_record v r
 same_phase v r text = by r.phase
   where
     by : (p : Phase) → record_in p v (with_text r text) ≡ record_in p v r
@@ -177,11 +177,3 @@ module _ {D : Type 0} (g : Ghosts D) {knows : Type 0} {t u : Stepped} {before af
 -- the text with its last piece
 pub front_image : (source : TextSource) (at : ℕ) (bytes front whole : List ℕ) (text : Option ReceivedText) → front ≡ take at (received_bytes text) → whole ≡ front ++ bytes → whole ≡ take at (received_bytes text) ++ bytes
 front_image source at bytes front whole text is more = more ∙ ap (λ (xs : List ℕ). xs ++ bytes) is
-
-pub installed_front : (s mid : Server) (at : ℕ) (best : Version) (image whole : List ℕ) (v : Version) (r : RecoveryRecord) → mid ≡ recovering v (front_taken at r) s → whole ≡ image → installed (recovering v r s) best image ≡ installed mid best whole
-installed_front s mid at best image whole v r server same =
-    by (at == 0) ∙ ap (λ (z : Server). installed z best image) (sym server) ∙ ap (λ (bytes : List ℕ). installed mid best bytes) (sym same)
-  where
-    by : (b : Bool) → installed (recovering v r s) best image ≡ installed (recovering v (cond b r (with_text r None)) s) best image
-    by true = refl
-    by false = ap (λ (p : PhaseRecord). installed (record s { phase = p; received = None }) best image) (sym (same_phase v r None))

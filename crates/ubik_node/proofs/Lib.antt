@@ -6,7 +6,9 @@ pub mod Calling
 pub mod Closing
 pub mod Committing
 pub mod Cut
+pub mod Decided
 pub mod Durables
+pub mod Ended
 pub mod Endings
 pub mod Fetching
 pub mod Fronts
@@ -26,7 +28,6 @@ pub mod Relabelled
 pub mod Rested
 pub mod Senders
 pub mod Served
-pub mod Spread
 pub mod Stepping
 pub mod Told
 pub mod Turning

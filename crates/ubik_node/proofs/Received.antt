@@ -21,32 +21,9 @@ use Rattle.cell_model.specs.Step.{Member, followed, is_fetch, quiet, sends_to, s
 use Rattle.ubik_recovery.specs.declared.texts.TextSource.{TextSource}
 use Rattle.ubik_recovery.specs.Record.{RecoveryRecord, phase_record, record_in}
 use Rattle.ubik_recovery.specs.Text.{IsNext, received_bytes, text_of, with_piece}
+use Rattle.server_rules.proofs.Fetches.{take_zero}
 use Rattle.server_state.specs.Held.{held_image}
 use Rattle.server_state.specs.Spreading.{IsSpreading}
-
-not_true : (b : Bool) → (IsTrue b ↔ ⊥) → false ≡ b
-not_true true says = absurd (says.0 refl)
-not_true false says = refl
-
-is_true : (b : Bool) → (IsTrue b ↔ Unit {0}) → true ≡ b
-is_true true says = refl
-is_true false says = absurd (false≢true (says.1 tt))
-
--- whether a server sends its own database
-pub sending_is : (b : Bool) (v : Version) (r : RecoveryRecord) → (IsTrue b ↔ IsSpreading r.phase) → is_sending (phase_record v r) ≡ b
-sending_is b v r says = by_phase r.phase says
-  where
-    by_phase : (p : Phase) → (IsTrue b ↔ IsSpreading p) → is_sending (record_in p v r) ≡ b
-    by_phase phase.None says = not_true b says
-    by_phase phase.Poll says = not_true b says
-    by_phase phase.Fetch says = not_true b says
-    by_phase phase.Relabel says = not_true b says
-    by_phase phase.Send says = is_true b says
-    by_phase phase.Ready says = is_true b says
-
-take_zero : {A : Type 0} (xs : List A) → take 0 xs ≡ []
-take_zero [] = refl
-take_zero (x ∷ xs) = refl
 
 drop_none : {A : Type 0} (n : ℕ) → ◌≡◌ {A = List A} (drop n []) []
 drop_none zero = refl
@@ -62,56 +39,6 @@ effect_whole image text =
 pub held_text : (before after : Option Files) (len : ℕ) (text bytes : List ℕ) → IsSome before → IfSome before (λ _. image_in after ≡ Some text) → bytes ≡ held_image after len → bytes ≡ text
 held_text None after len text bytes told is held = absurd cc
 held_text (Some fs) after len text bytes told is held = held ∙ ap (λ (o : Option (List ℕ)). unwrap_or o (replicate len 0)) is
-
--- how long a text is with a piece
-pub piece_end : (source : TextSource) (at : ℕ) (bytes : List ℕ) (text : Option ReceivedText) → IsNext at text → length (with_piece source at bytes text).bytes ≡ at + length bytes
-piece_end source at bytes text next =
-    ⊎_elim (λ first. rw first (length-append (take 0 (received_bytes text)) bytes ∙ ap (λ (xs : List ℕ). length xs + length bytes) (take_zero (received_bytes text))))
-    (λ goes. length-append (take at (received_bytes text)) bytes ∙ ap (λ (n : ℕ). n + length bytes) (front_long (received_bytes text) at goes)) next
-  where
-    front_long : (xs : List ℕ) (at : ℕ) → at ≡ length xs → length (take at xs) ≡ at
-    front_long xs at is = length-take-le at xs (omega (arith, is))
-
-module _ (m : Member) (s : Server) (host : Host) (poll : ℕ) where
-  module _ (old new : Version) where
-    pub set_ignored : is_sending s.phase ≡ true → set_version_received m s host poll old new ≡ quiet s
-    set_ignored sends = rw sends refl
-
-    pub set_had : is_sending s.phase ≡ false → version_eq s.version new ≡ true → set_version_received m s host poll old new ≡ answers_version_kept m host s
-    set_had rests has = rw (rests, has) refl
-
-    pub set_refused : is_sending s.phase ≡ false → version_eq s.version new ≡ false → (version_eq s.version old && version_lt old new) ≡ false
-        → set_version_received m s host poll old new ≡ answers_version_is m host poll s
-    set_refused rests has lacks = rw (rests, has, lacks) refl
-
-    pub set_made : is_sending s.phase ≡ false → version_eq s.version new ≡ false → (version_eq s.version old && version_lt old new) ≡ true
-        → set_version_received m s host poll old new ≡ followed (relabelled_by s new) (answers_version_kept m host)
-    set_made rests has lacks = rw (rests, has, lacks) refl
-
-  module _ (k : ℕ) (version : Version) (total at : ℕ) (bytes : List ℕ) where
-    pub send_ignored : (is_sending s.phase || is_fetch s.phase) ≡ true → send_piece_received m s host k poll version total at bytes ≡ quiet s
-    send_ignored busy = rw busy refl
-
-    pub send_had : (is_sending s.phase || is_fetch s.phase) ≡ false → version_eq s.version version ≡ true → send_piece_received m s host k poll version total at bytes ≡ answers_version_kept m host s
-    send_had busy has = rw (busy, has) refl
-
-    pub send_late : (is_sending s.phase || is_fetch s.phase) ≡ false → version_eq s.version version ≡ false → version_lt version s.version ≡ true
-        → send_piece_received m s host k poll version total at bytes ≡ answers_version_is m host poll s
-    send_late busy has late = rw (busy, has, late) refl
-
-    pub send_goes : (is_sending s.phase || is_fetch s.phase) ≡ false → version_eq s.version version ≡ false → version_lt version s.version ≡ false
-        → send_piece_received m s host k poll version total at bytes ≡ text_went_on m s host poll (text_with true k version total at bytes s.received)
-    send_goes busy has late = rw (busy, has, late) refl
-
-  pub text_ignored : (text : Option ReceivedText) → text ≡ None → text_went_on m s host poll text ≡ quiet s
-  text_ignored text none = ap (text_went_on m s host poll) none
-
-  pub text_whole : (text : Option ReceivedText) (now : ReceivedText) → text ≡ Some now → is_whole now ≡ true → text_went_on m s host poll text ≡ followed (installed s now.version now.bytes) (answers_version_kept m host)
-  text_whole text now is whole = ap (text_went_on m s host poll) is ∙ rw whole refl
-
-  pub text_goes : (text : Option ReceivedText) (now : ReceivedText) → text ≡ Some now → is_whole now ≡ false
-      → text_went_on m s host poll text ≡ showing (record s { received = Some now }) (sends_to m host (body.PieceKept poll now.version (length now.bytes)))
-  text_goes text now is whole = ap (text_went_on m s host poll) is ∙ rw whole refl
 
 cond_some : {A : Type 0} (b : Bool) (y : Option A) (x : A) → cond b y None ≡ Some x → (b ≡ true) × (y ≡ Some x)
 cond_some true y x is = (refl, is)

@@ -19,16 +19,6 @@ use Rattle.cell_model.specs.Writes.{ended_write, settled, settled_in}
 use Rattle.server_state.specs.declared.spreading.Given.{Given}
 use Rattle.server_state.specs.Spreading.{given_bodies}
 
-neither : {A : Type 0} (b : Bool) → ◌≡◌ {A = Option A} (cond b None None) None
-neither true = refl
-neither false = refl
-
--- after another version is taken over nothing was received, whichever phase there was
-pub sends_as : (s : Server) (v : Version) (image : List ℕ) (poll : Polled) (spread : Spread)
-    → with_phase (with_database s v image) (Send poll spread) ≡ record s { version = v; image = image; phase = Send poll spread; kept = None; received = None }
-sends_as s v image poll spread =
-    ap (λ (text : Option ReceivedText). record s { version = v; image = image; phase = Send poll spread; kept = None; received = text }) (neither (is_fetch s.phase))
-
 pub sends_same : (m : Member) (k : ℕ) (hosts : List Host) (a b : ℕ → List Body) → ((k : ℕ) → a k ≡ b k) → sends_from m k hosts a ≡ sends_from m k hosts b
 sends_same m k [] a b same = refl
 sends_same m k (host ∷ hosts) a b same = rw (same k, sends_same m (k + 1) hosts a b same) refl

@@ -60,24 +60,6 @@ module _ (m : Member) (s : Server) (v : Version) where
   pub relabelling_waits : (r : RecoveryRecord) (now : ℕ) → nat_lt s.version.epoch now ≡ false → relabelled m (recovering v r s) (polled_of r) now ≡ quiet (with_phase (recovering v r s) (model.Relabel (polled_of r)))
   relabelling_waits r now early = rw early refl
 
-  pub relabelling_comes : (r : RecoveryRecord) (now : ℕ) → nat_lt s.version.epoch now ≡ true
-      → relabelled m (recovering v r s) (polled_of r) now ≡ followed (relabelled_to m (recovering v r s) (polled_of r) (first_of_epoch now)) (settled m)
-  relabelling_comes r now late = rw late refl
-
-  -- an answer to the poll
-  pub answer_polled : (r : RecoveryRecord) (k now : ℕ) (w : Version) → r.phase ≡ phase.Poll
-      → polled m (recovering v r s) (with_answer (polled_of r) k w) now ≡ polled m (recovering v (adopted (answered_by (with_text r None) k w) r) s) (polled_of (answered_by (with_text r None) k w)) now
-  answer_polled r k now w polls = by_phase r.phase polls
-    where
-      by_phase : (p : Phase) → p ≡ phase.Poll → polled m (recovering v (record r { phase = p }) s) (with_answer (polled_of r) k w) now
-          ≡ polled m (recovering v (adopted (answered_by (with_text (record r { phase = p }) None) k w) (record r { phase = p })) s) (polled_of (answered_by (with_text r None) k w)) now
-      by_phase phase.None is = absurd cc
-      by_phase phase.Poll is = refl
-      by_phase phase.Fetch is = absurd cc
-      by_phase phase.Relabel is = absurd cc
-      by_phase phase.Send is = absurd cc
-      by_phase phase.Ready is = absurd cc
-
 twice : {A : Type 0} (b : Bool) (x : Option A) → b ≡ false → cond b None (cond b None x) ≡ x
 twice b x is = rw is refl
 
@@ -147,7 +129,3 @@ module _ (m : Member) (s : Server) (now : ℕ) (v : Version) (r : RecoveryRecord
 pub received_long : (text : Option ReceivedText) → length (received_bytes text) ≡ bytes_received text
 received_long None = refl
 received_long (Some text) = refl
-
-pub text_fits : (text : Option ReceivedText) → ForSome text (λ t. length t.bytes ≤ 16777216) → (bytes : List ℕ) → bytes ≡ received_bytes text → length bytes ≤ 16777216
-text_fits None fits bytes is = omega (arith, ap length is)
-text_fits (Some t) fits bytes is = let few = fits t refl in omega (arith, ap length is, few)

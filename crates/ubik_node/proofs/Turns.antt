@@ -1,5 +1,7 @@
 -- The turns of those that wait.
-use Rattle.std.proofs.Common.{◌≡◌, ◌≢◌, ◌++◌, ◌⊎◌, inl, inr, ⊎_elim, ℕ, zero, suc, ◌+◌, ◌<◌, ◌≤◌, Bool, true, false, cond, eqb, Option, Some, None, List, [], ◌∷◌, length, drop, take, replicate, slice_get, IfErr, IsErrAnd, IsErrOf, IsOk, IsSome, Result, Ok, Err, refl, sym, ap, subst, ◌∙◌, append_assoc, arith}
+use Rattle.std.proofs.Common.{◌≡◌, ◌≢◌, ◌++◌, ◌⊎◌, inl, inr, ⊎_elim, ℕ, zero, suc, ◌+◌, ◌<◌, ◌≤◌, Bool, true, false, cond, eqb, Option}
+use Rattle.std.proofs.Common.{Some, None, List, [], ◌∷◌, length, drop, take, replicate, slice_get, IfErr, IsErrAnd, IsErrOf, IsOk, IsSome}
+use Rattle.std.proofs.Common.{Result, Ok, Err, refl, sym, ap, subst, ◌∙◌, append_assoc, arith}
 use Rattle.std.specs.Option.{option_map}
 use Rattle.std.specs.Prelude.{OnErr, count_by}
 use Rattle.std.proofs.lemmas.Bool.{false≢true}
@@ -23,8 +25,10 @@ use Rattle.ubik_store.proofs.Telling.{of_told, ok_map, told}
 use Rattle.cell_model.specs.declared.events.Output.{Output}
 use Rattle.cell_model.specs.Durable.{Durable, Made, durable_after_all}
 use Rattle.cell_model.specs.Node.{Flight, Server, Waiting, halted_from}
-use Rattle.cell_model.specs.Step.{Member, Shown, Stepped, announcing, cell_size, followed, is_ready, is_reply, is_short, outputs_of, quiet, short_after, showing, with_phase}
-use Rattle.cell_model.specs.Writes.{ended_write, flight_settled, is_free, is_free_in, last_counter, next_turns, settled, settled_in, settled_with_turns, turned, write_turn, written_in, written_within}
+use Rattle.cell_model.specs.Step.{Member, Shown, Stepped, announcing, cell_size, followed, is_ready, is_reply, is_short, outputs_of}
+use Rattle.cell_model.specs.Step.{quiet, short_after, showing, with_phase}
+use Rattle.cell_model.specs.Writes.{ended_write, flight_settled, is_free, is_free_in, last_counter, next_turns, settled, settled_in}
+use Rattle.cell_model.specs.Writes.{settled_with_turns, turned, write_turn, written_in, written_within}
 use Rattle.site_writes.specs.OwnWrite.{OwnRecord}
 use Rattle.ubik_node.specs.Disk.{FailsIn, Serves, StandsAs, StandsBetween, StandsWithin, calls_made, has_label}
 use Rattle.ubik_node.specs.Node.{Ends, Held, IsMade, durable_in}
@@ -36,7 +40,8 @@ use Rattle.ubik_node.proofs.Committing.{one_is_few}
 use Rattle.ubik_node.proofs.Endings.{fault_is, same_ends}
 
 -- no write can begin where one is in flight
-pub writes_busy : (p : PhaseRecord) (own : Option OwnRecord) → IsSome own → is_free_in p (option_map (λ (write : OwnRecord). write.flight) own) ≡ false
+pub writes_busy : (p : PhaseRecord) (own : Option OwnRecord) → IsSome own
+    → is_free_in p (option_map (λ (write : OwnRecord). write.flight) own) ≡ false
 writes_busy p None some = absurd (false≢true some)
 writes_busy NoPhase (Some write) some = refl
 writes_busy (Poll poll) (Some write) some = refl
@@ -59,7 +64,8 @@ abbrev pub IsTurn : Server → Stepped → Type 0
 IsTurn s t = (is_free t.server ≡ false) ⊎ ((t.server ≡ s) × (t.calls ≡ []) × (replies t.shown ≡ 1))
 
 module _ (m : Member) (s : Server) (now id : ℕ) (call : List ℕ) (others : 1 < cell_size m) where
-  written_turns : (answer image : List ℕ) (changes : List Change) (p : PhaseRecord) → s.phase ≡ p → IsTurn s (written_in m s now id call answer image changes p)
+  written_turns : (answer image : List ℕ) (changes : List Change) (p : PhaseRecord) → s.phase ≡ p
+      → IsTurn s (written_in m s now id call answer image changes p)
   written_turns answer image changes NoPhase is = inl (ap (λ (p : PhaseRecord). is_free_in p s.flight) is)
   written_turns answer image changes (Poll poll) is = inl (ap (λ (p : PhaseRecord). is_free_in p s.flight) is)
   written_turns answer image changes (Fetch poll best host) is = inl (ap (λ (p : PhaseRecord). is_free_in p s.flight) is)
@@ -67,17 +73,20 @@ module _ (m : Member) (s : Server) (now id : ℕ) (call : List ℕ) (others : 1 
   written_turns answer image changes (Send poll spread) is = inl (ap (λ (p : PhaseRecord). is_free_in p s.flight) is)
   written_turns answer image changes (Ready poll spread announced) is = inl (let few = one_is_few (cell_size m) m.me others in rw few refl)
 
-  counted_turns : (answer image : List ℕ) (changes : List Change) (b : Bool) → IsTurn s (cond b (last_counter m s now id) (written_in m s now id call answer image changes s.phase))
+  counted_turns : (answer image : List ℕ) (changes : List Change) (b : Bool)
+      → IsTurn s (cond b (last_counter m s now id) (written_in m s now id call answer image changes s.phase))
   counted_turns answer image changes true = inl refl
   counted_turns answer image changes false = written_turns answer image changes s.phase refl
 
-  small_turns : (answer image : List ℕ) (changes : List Change) (o : Option ℕ) → IsTurn s (written_within m s now id call answer image changes o)
+  small_turns : (answer image : List ℕ) (changes : List Change) (o : Option ℕ)
+      → IsTurn s (written_within m s now id call answer image changes o)
   small_turns answer image changes (Some bytes) = inr (refl, refl, refl)
   small_turns answer image [] None = inr (refl, refl, refl)
   small_turns answer image (change ∷ changes) None = counted_turns answer image (change ∷ changes) (eqb s.version.counter 2147483647)
 
   replied_turns : (db : Database) (image : List ℕ) (r : CallReply) → IsTurn s (turned db m s now id call image r)
-  replied_turns db image (call_reply.Done answer) = small_turns answer image (changes_of db s.image image) (too_large 0 (length s.image) (changes_of db s.image image))
+  replied_turns db image (call_reply.Done answer) =
+      small_turns answer image (changes_of db s.image image) (too_large 0 (length s.image) (changes_of db s.image image))
   replied_turns db image (call_reply.Rule number) = inr (refl, refl, refl)
   replied_turns db image call_reply.Malformed = inr (refl, refl, refl)
   replied_turns db image (call_reply.BadRecord at) = inr (refl, refl, refl)
@@ -87,7 +96,8 @@ module _ (m : Member) (s : Server) (now id : ℕ) (call : List ℕ) (others : 1 
   turn_is db false = replied_turns db (db.call s.image now call).image (db.call s.image now call).reply
 
 -- where no write can begin nobody has a turn
-pub turns_rest : (db : Database) (m : Member) (now : ℕ) (waiting : List Waiting) (s : Server) (short : List Bool) → is_free s ≡ false → next_turns db m now waiting s short ≡ quiet s
+pub turns_rest : (db : Database) (m : Member) (now : ℕ) (waiting : List Waiting) (s : Server) (short : List Bool) → is_free s ≡ false
+    → next_turns db m now waiting s short ≡ quiet s
 turns_rest db m now [] s short busy = refl
 turns_rest db m now (w ∷ waiting) s short busy = rw busy refl
 
@@ -95,8 +105,10 @@ turns_rest db m now (w ∷ waiting) s short busy = rw busy refl
 abbrev pub turns_from : Database → Member → ℕ → List Waiting → Stepped → List Bool → Stepped
 turns_from db m now waiting t short = followed t (λ after. next_turns db m now waiting after (short_after t.shown short))
 
-turns_first : (db : Database) (m : Member) (now : ℕ) (w : Waiting) (waiting : List Waiting) (s : Server) (short : List Bool) → is_free s ≡ true
-    → next_turns db m now (w ∷ waiting) s short ≡ turns_from db m now waiting (write_turn db m (record s { waiting = waiting }) now w.id w.call (is_short short)) short
+turns_first : (db : Database) (m : Member) (now : ℕ) (w : Waiting) (waiting : List Waiting) (s : Server) (short : List Bool)
+    → is_free s ≡ true
+    → next_turns db m now (w ∷ waiting) s short ≡ turns_from db m now waiting
+    (write_turn db m (record s { waiting = waiting }) now w.id w.call (is_short short)) short
 turns_first db m now w waiting s short free = rw free refl
 
 abbrev with_line : Server → List Waiting → Server
@@ -115,8 +127,10 @@ take_none : (calls : List Made) → take 0 calls ≡ []
 take_none [] = refl
 take_none (made ∷ calls) = refl
 
-stands_none : (d : Durable) (c : Files) (n : ℕ) (calls : List Made) → StandsAs (durable_after_all d (take n [])) c → StandsAs (durable_after_all d (take 0 calls)) c
-stands_none d c n calls stands = subst (λ (made : List Made). StandsAs (durable_after_all d made) c) (none_taken n ∙ sym (take_none calls)) stands
+stands_none : (d : Durable) (c : Files) (n : ℕ) (calls : List Made) → StandsAs (durable_after_all d (take n [])) c
+    → StandsAs (durable_after_all d (take 0 calls)) c
+stands_none d c n calls stands =
+    subst (λ (made : List Made). StandsAs (durable_after_all d made) c) (none_taken n ∙ sym (take_none calls)) stands
 
 module _ {D : Type 0} (g : Ghosts D) (d : Durable) (old new : D) (calls : List Made) (fails : FailsIn g d old new []) where
   abbrev Leaves : List Made → Type 0
@@ -126,24 +140,34 @@ module _ {D : Type 0} (g : Ghosts D) (d : Durable) (old new : D) (calls : List M
   fails_none = record {
     leaves = record {
       moments = told (g.files old) (λ _. Leaves calls) (λ fs is.
-          widened g.steps g.left_since old new (StandsWithin d []) (StandsWithin d calls) (λ c stands. (0, omega arith, stands_none d c stands.0 calls stands.2)) (of_told (g.files old) fs (λ _. Leaves []) is fails.leaves.moments));
+          widened g.steps g.left_since old new (StandsWithin d []) (StandsWithin d calls)
+          (λ c stands. (0, omega arith, stands_none d c stands.0 calls stands.2))
+          (of_told (g.files old) fs (λ _. Leaves []) is fails.leaves.moments));
       plain = λ _. fails.leaves.plain tt;
     };
     whole = 0;
     now = told (g.files old) (λ _. Narrows (StandsBetween d calls 0) (g.may_leave new)) (λ fs is c left.
-        inl (⊎_elim (λ stands. stands_none d c fails.whole calls stands) (λ stands. stands_none d c (fails.whole + 1) calls stands) (of_told (g.files old) fs (λ _. Narrows (StandsBetween d [] fails.whole) (g.may_leave new)) is fails.now c left)));
+        inl (⊎_elim (λ stands. stands_none d c fails.whole calls stands) (λ stands. stands_none d c (fails.whole + 1) calls stands)
+        (of_told (g.files old) fs (λ _. Narrows (StandsBetween d [] fails.whole) (g.may_leave new)) is fails.now c left)));
     least = told (g.files old) (λ fs. g.steps old + calls_made (has_label fs.database) (take 0 calls) ≤ g.steps new) (λ fs is.
-        let few = of_told (g.files old) fs (λ fs. g.steps old + calls_made (has_label fs.database) (take fails.whole []) ≤ g.steps new) is fails.least in
+        let few =
+        of_told (g.files old) fs (λ fs. g.steps old + calls_made (has_label fs.database)
+        (take fails.whole []) ≤ g.steps new) is fails.least in
         let before = ap (calls_made (has_label fs.database)) (none_taken fails.whole) in
         let now = ap (calls_made (has_label fs.database)) (take_none calls) in
         omega (arith, few, before, now));
     most = told (g.files old) (λ fs. g.steps new ≤ g.steps old + calls_made (has_label fs.database) (take 1 calls)) (λ fs is.
-        let few = of_told (g.files old) fs (λ fs. g.steps new ≤ g.steps old + calls_made (has_label fs.database) (take (fails.whole + 1) [])) is fails.most in
+        let few =
+        of_told (g.files old) fs (λ fs. g.steps new ≤ g.steps old + calls_made (has_label fs.database)
+        (take (fails.whole + 1) [])) is fails.most in
         let before = ap (calls_made (has_label fs.database)) (none_taken (fails.whole + 1)) in
         omega (arith, few, before));
-    running = told (g.files old) (λ fs. ¬ IsStopped (after_changes (calls_made (has_label fs.database) (take 0 calls)) (g.stop old))) (λ fs is.
-        subst (λ (made : List Made). ¬ IsStopped (after_changes (calls_made (has_label fs.database) made) (g.stop old))) (none_taken fails.whole ∙ sym (take_none calls))
-        (of_told (g.files old) fs (λ fs. ¬ IsStopped (after_changes (calls_made (has_label fs.database) (take fails.whole [])) (g.stop old))) is fails.running));
+    running =
+        told (g.files old) (λ fs. ¬ IsStopped (after_changes (calls_made (has_label fs.database) (take 0 calls)) (g.stop old))) (λ fs is.
+        subst (λ (made : List Made). ¬ IsStopped (after_changes (calls_made (has_label fs.database) made) (g.stop old)))
+        (none_taken fails.whole ∙ sym (take_none calls))
+        (of_told (g.files old) fs
+        (λ fs. ¬ IsStopped (after_changes (calls_made (has_label fs.database) (take fails.whole [])) (g.stop old))) is fails.running));
   }
 
 -- ---- a rule that begins with a change of the server that a halted one does not tell
@@ -153,12 +177,20 @@ still_so (Ok done) P fine = tt
 still_so (Err why) P fine = λ other. ⊎_elim (λ is. absurd (other (fault_is why is))) (λ is. absurd (false≢true is)) fine
 
 module _ {D : Type 0} (g : Ghosts D) {knows : Type 0} {t : Stepped} {before after : List Output} where
-  pub went_on : (n : Held D) (s : Server) (place : Member) (m : Held D) (r : Result (Unit {0}) StoreFault) → durable_in s ≡ durable_in n.server → (IsErrOf r DiskFault → halted_from s ≡ halted_from n.server) → place ≡ n.member → IsErrOf r DiskFault ⊎ IsOk r
+  pub went_on : (n : Held D) (s : Server) (place : Member) (m : Held D) (r : Result (Unit {0}) StoreFault)
+      → durable_in s ≡ durable_in n.server → (IsErrOf r DiskFault → halted_from s ≡ halted_from n.server) → place ≡ n.member
+      → IsErrOf r DiskFault ⊎ IsOk r
       → Ends g knows t before after (record n { server = s; member = place }) m r → Ends g knows t before after n m r
   went_on n s place m r same keeps member fine ends = record {
     made = λ known.
-        ok_map r (IsMade g t before after (record n { server = s; member = place }) m) (IsMade g t before after n m) (ends.made known) (λ made.
-        record { server = made.server; outputs = made.outputs; disk = subst (λ (d : Durable). Serves g d n.store.disk m.store.disk t.calls) same made.disk });
+        ok_map r (IsMade g t before after (record n { server = s; member = place }) m) (IsMade g t before after n m) (ends.made known)
+        (λ made.
+        record {
+          server = made.server;
+          outputs = made.outputs;
+          disk = subst
+              (λ (d : Durable). Serves g d n.store.disk m.store.disk t.calls) same made.disk;
+        });
     failed = λ known failed. subst (λ (d : Durable). FailsIn g d n.store.disk m.store.disk t.calls) same (ends.failed known failed);
     short = ends.short;
     state = still_so r (m.server ≡ n.server) fine;
@@ -184,18 +216,21 @@ drop_none : (short : List Bool) → drop 0 short ≡ short
 drop_none [] = refl
 drop_none (first ∷ short) = refl
 
-module _ (db : Database) (m : Member) (s : Server) (now : ℕ) (w : Waiting) (waiting : List Waiting) (b : Bool) (free : is_free s ≡ true) (line : s.waiting ≡ w ∷ waiting) where
+module _ (db : Database) (m : Member) (s : Server) (now : ℕ) (w : Waiting) (waiting : List Waiting) (b : Bool) (free : is_free s ≡ true)
+    (line : s.waiting ≡ w ∷ waiting) where
   abbrev turn : Stepped
   turn = write_turn db m (with_line s waiting) now w.id w.call b
 
   first_turn : (short : List Bool) → next_turns db m now s.waiting s (b ∷ short) ≡ turns_from db m now waiting turn (b ∷ short)
-  first_turn short = ap (λ (those : List Waiting). next_turns db m now those s (b ∷ short)) line ∙ turns_first db m now w waiting s (b ∷ short) free
+  first_turn short =
+      ap (λ (those : List Waiting). next_turns db m now those s (b ∷ short)) line ∙ turns_first db m now w waiting s (b ∷ short) free
 
   -- after it no write can begin
   turn_alone : is_free turn.server ≡ false → next_turns db m now s.waiting s (b ∷ []) ≡ turn
   turn_alone busy =
       first_turn []
-      ∙ followed_rest turn (λ after. next_turns db m now waiting after (short_after turn.shown (b ∷ []))) (turns_rest db m now waiting turn.server (short_after turn.shown (b ∷ [])) busy)
+      ∙ followed_rest turn (λ after. next_turns db m now waiting after (short_after turn.shown (b ∷ [])))
+      (turns_rest db m now waiting turn.server (short_after turn.shown (b ∷ [])) busy)
 
   -- its call was replied to, and nothing changed
   turn_then : (short : List Bool) → turn.server ≡ with_line s waiting → turn.calls ≡ [] → replies turn.shown ≡ 1
@@ -210,34 +245,51 @@ module _ (db : Database) (m : Member) (s : Server) (now : ℕ) (w : Waiting) (wa
       ∙ ap (λ (x : Server). at x short turn.calls) same
       ∙ ap (λ (made : List Made). at (with_line s waiting) short made) calls
 
-named : (db : Database) (now : ℕ) (w : Waiting) (b : Bool) (m place : Member) (s t : Server) → place ≡ m → s ≡ t → write_turn db m t now w.id w.call b ≡ write_turn db place s now w.id w.call b
-named db now w b m place s t at is = ap (λ (k : Member). write_turn db k t now w.id w.call b) (sym at) ∙ ap (λ (x : Server). write_turn db place x now w.id w.call b) (sym is)
+named : (db : Database) (now : ℕ) (w : Waiting) (b : Bool) (m place : Member) (s t : Server) → place ≡ m → s ≡ t
+    → write_turn db m t now w.id w.call b ≡ write_turn db place s now w.id w.call b
+named db now w b m place s t at is =
+    ap (λ (k : Member). write_turn db k t now w.id w.call b) (sym at) ∙ ap (λ (x : Server). write_turn db place x now w.id w.call b)
+    (sym is)
 
 -- an end that is known
-pub named_as : {D : Type 0} (g : Ghosts D) {knows : Type 0} {t : Stepped} {before after : List Output} {n m : Held D} (r q : Result (Unit {0}) StoreFault) → r ≡ q → Ends g knows t before after n m r → Ends g knows t before after n m q
-named_as g {knows} {t} {before} {after} {n} {m} r q is ends = subst (λ (x : Result (Unit {0}) StoreFault). Ends g knows t before after n m x) is ends
+pub named_as : {D : Type 0} (g : Ghosts D) {knows : Type 0} {t : Stepped} {before after : List Output} {n m : Held D}
+    (r q : Result (Unit {0}) StoreFault) → r ≡ q → Ends g knows t before after n m r → Ends g knows t before after n m q
+named_as g {knows} {t} {before} {after} {n} {m} r q is ends =
+    subst (λ (x : Result (Unit {0}) StoreFault). Ends g knows t before after n m x) is ends
 
 -- a fault that is one of the disk
-pub named_fault : {D : Type 0} (g : Ghosts D) {knows : Type 0} {t : Stepped} {before after : List Output} {n m : Held D} (e : StoreFault) → e ≡ DiskFault → Ends g knows t before after n m (Err e) → Ends g knows t before after n m (Err DiskFault)
+pub named_fault : {D : Type 0} (g : Ghosts D) {knows : Type 0} {t : Stepped} {before after : List Output} {n m : Held D} (e : StoreFault)
+    → e ≡ DiskFault → Ends g knows t before after n m (Err e) → Ends g knows t before after n m (Err DiskFault)
 named_fault g {knows} {t} {before} {after} {n} {m} e is ends = subst (λ (x : StoreFault). Ends g knows t before after n m (Err x)) is ends
 
-module _ {D : Type 0} (g : Ghosts D) {knows : Type 0} (db : Database) (now : ℕ) (w : Waiting) (waiting : List Waiting) (b : Bool) (before after : List Output) (n : Held D) (free : is_free n.server ≡ true) (others : 1 < cell_size n.member)
-    (line : n.server.waiting ≡ w ∷ waiting) (s : Server) (place : Member) (is : s ≡ with_line n.server waiting) (at : place ≡ n.member) where
+module _ {D : Type 0} (g : Ghosts D) {knows : Type 0} (db : Database) (now : ℕ) (w : Waiting) (waiting : List Waiting) (b : Bool)
+    (before after : List Output) (n : Held D) (free : is_free n.server ≡ true) (others : 1 < cell_size n.member)
+    (line : n.server.waiting ≡ w ∷ waiting) (s : Server) (place : Member) (is : s ≡ with_line n.server waiting)
+    (at : place ≡ n.member) where
   -- a turn after which no write can begin, or in which the disk failed
-  pub turn_over : (last : Held D) (r : Result (Unit {0}) StoreFault) → IsErrOf r DiskFault ⊎ IsOk r → (IsOk r → is_free last.server ≡ false) → Ends g knows (write_turn db place s now w.id w.call b) before after (record n { server = s; member = place }) last r
+  pub turn_over : (last : Held D) (r : Result (Unit {0}) StoreFault) → IsErrOf r DiskFault ⊎ IsOk r
+      → (IsOk r → is_free last.server ≡ false)
+      → Ends g knows (write_turn db place s now w.id w.call b) before after (record n { server = s; member = place }) last r
       → Ends g knows (next_turns db n.member now n.server.waiting n.server (b ∷ [])) before after n last r
   turn_over last r fine busy ends =
-      by r fine busy (went_on g n s place last r (ap durable_in is) (λ failed. ap halted_from is) at fine (same_ends g (named db now w b n.member place s (with_line n.server waiting) at is) ends))
+      by r fine busy (went_on g n s place last r (ap durable_in is)
+      (λ failed. ap halted_from is) at fine (same_ends g (named db now w b n.member place s (with_line n.server waiting) at is) ends))
     where
-      by : (r : Result (Unit {0}) StoreFault) → IsErrOf r DiskFault ⊎ IsOk r → (IsOk r → is_free last.server ≡ false) → Ends g knows (turn db n.member n.server now w waiting b free line) before after n last r
+      by : (r : Result (Unit {0}) StoreFault) → IsErrOf r DiskFault ⊎ IsOk r → (IsOk r → is_free last.server ≡ false)
+          → Ends g knows (turn db n.member n.server now w waiting b free line) before after n last r
           → Ends g knows (next_turns db n.member now n.server.waiting n.server (b ∷ [])) before after n last r
-      by (Ok done) fine busy one = known_so g (Ok done) (λ known. (known, turn_alone db n.member n.server now w waiting b free line (ap is_free (one.made known).server ∙ busy refl))) one
+      by (Ok done) fine busy one =
+          known_so g (Ok done) (λ known.
+          (known, turn_alone db n.member n.server now w waiting b free line (ap is_free (one.made known).server ∙ busy refl))) one
       by (Err why) fine busy one = record {
         made = λ known. tt;
         failed = λ known failed.
-            ⊎_elim (λ rests. subst (λ (t : Stepped). FailsIn g (durable_in n.server) n.store.disk last.store.disk t.calls) (sym (turn_alone db n.member n.server now w waiting b free line rests)) (one.failed known failed))
-            (λ rests. fails_none g (durable_in n.server) n.store.disk last.store.disk (next_turns db n.member now n.server.waiting n.server (b ∷ [])).calls
-            (subst (λ (calls : List Made). FailsIn g (durable_in n.server) n.store.disk last.store.disk calls) rests.1 (one.failed known failed)))
+            ⊎_elim (λ rests. subst (λ (t : Stepped). FailsIn g (durable_in n.server) n.store.disk last.store.disk t.calls)
+            (sym (turn_alone db n.member n.server now w waiting b free line rests)) (one.failed known failed))
+            (λ rests. fails_none g (durable_in n.server) n.store.disk last.store.disk
+            (next_turns db n.member now n.server.waiting n.server (b ∷ [])).calls
+            (subst (λ (calls : List Made). FailsIn g (durable_in n.server) n.store.disk last.store.disk calls) rests.1
+            (one.failed known failed)))
             (turn_is n.member (with_line n.server waiting) now w.id w.call others db b);
         short = one.short;
         state = one.state;
@@ -252,11 +304,15 @@ module _ {D : Type 0} (g : Ghosts D) {knows : Type 0} (db : Database) (now : ℕ
       }
 
   -- a turn after which one can, and then those of the others
-  pub turn_goes : {more : Type 0} (mid last : Held D) (between : List Output) (short : List Bool) (r : Result (Unit {0}) StoreFault) → IsErrOf r DiskFault ⊎ IsOk r → is_free mid.server ≡ true → (knows → more)
-      → Ends g knows (write_turn db place s now w.id w.call b) before between (record n { server = s; member = place }) mid (Ok tt) → IsRepliedTo g before between (record n { server = s; member = place }) mid
-      → Ends g more (next_turns db mid.member now mid.server.waiting mid.server short) between after mid last r → Ends g knows (next_turns db n.member now n.server.waiting n.server (b ∷ short)) before after n last r
+  pub turn_goes : {more : Type 0} (mid last : Held D) (between : List Output) (short : List Bool) (r : Result (Unit {0}) StoreFault)
+      → IsErrOf r DiskFault ⊎ IsOk r → is_free mid.server ≡ true → (knows → more)
+      → Ends g knows (write_turn db place s now w.id w.call b) before between (record n { server = s; member = place }) mid (Ok tt)
+      → IsRepliedTo g before between (record n { server = s; member = place }) mid
+      → Ends g more (next_turns db mid.member now mid.server.waiting mid.server short) between after mid last r
+      → Ends g knows (next_turns db n.member now n.server.waiting n.server (b ∷ short)) before after n last r
   turn_goes {more} mid last between short r fine ready so ends replied later =
-      let named_held : Server → Bool → ℕ → Member → Held D = λ x h l k. record { store = mid.store; server = x; halted = h; last = l; member = k } in
+      let named_held : Server → Bool → ℕ → Member → Held D =
+      λ x h l k. record { store = mid.store; server = x; halted = h; last = l; member = k } in
       let mid_is : mid ≡ record n { store = mid.store; server = s; member = place } =
       ap (λ (x : Server). named_held x mid.halted mid.last mid.member) replied.server
       ∙ ap (λ (h : Bool). named_held s h mid.last mid.member) ends.halted
@@ -268,27 +324,38 @@ module _ {D : Type 0} (g : Ghosts D) {knows : Type 0} (db : Database) (now : ℕ
       ∙ ap (λ (x : Server). next_turns db n.member now x.waiting x short) (replied.server ∙ is) in
       let t = turn db n.member n.server now w waiting b free line in
       let one = went_on g n s place last r (ap durable_in is) (λ failed. ap halted_from is) at fine
-      (after_reads g (record n { server = s; member = place }) mid.store last r replied.reads (λ none. none) (subst (λ (h : Held D). Ends g more u between after h last r) mid_is later)) in
-      let goes : knows → (between ≡ before ++ outputs_of t.shown) × (next_turns db n.member now n.server.waiting n.server (b ∷ short) ≡ stepped u.server u.calls (t.shown ++ u.shown)) = λ known.
+      (after_reads g (record n { server = s; member = place }) mid.store last r replied.reads (λ none. none)
+      (subst (λ (h : Held D). Ends g more u between after h last r) mid_is later)) in
+      let goes : knows → (between ≡ before ++ outputs_of t.shown) ×
+      (next_turns db n.member now n.server.waiting n.server (b ∷ short) ≡ stepped u.server u.calls (t.shown ++ u.shown)) = λ known.
       (let made = ends.made known in
       let first = same_ends g (named db now w b n.member place s (with_line n.server waiting) at is) ends in
       let shown = (first.made known).outputs in
       let server = (first.made known).server in
       let rests : (t.server ≡ with_line n.server waiting) × (t.calls ≡ []) × (replies t.shown ≡ 1) =
-      ⊎_elim (λ busy. absurd (false≢true (sym busy ∙ ap is_free server ∙ ready))) (λ rests. rests) (turn_is n.member (with_line n.server waiting) now w.id w.call others db b) in
-      (shown, turn_then db n.member n.server now w waiting b free line short rests.0 rests.1 rests.2 ∙ ap (λ (x : Stepped). stepped x.server x.calls (t.shown ++ x.shown)) (sym same))) in
+      ⊎_elim (λ busy. absurd (false≢true (sym busy ∙ ap is_free server ∙ ready))) (λ rests. rests)
+      (turn_is n.member (with_line n.server waiting) now w.id w.call others db b) in (
+        shown,
+        turn_then db n.member n.server now w waiting b free line short rests.0 rests.1 rests.2
+            ∙ ap (λ (x : Stepped). stepped x.server x.calls (t.shown ++ x.shown)) (sym same),
+      )) in
       record {
         made = λ known.
             let step = goes known in
-            ok_map r (IsMade g u between after n last) (IsMade g (next_turns db n.member now n.server.waiting n.server (b ∷ short)) before after n last) (one.made (so known)) (λ made.
+            ok_map r (IsMade g u between after n last)
+            (IsMade g (next_turns db n.member now n.server.waiting n.server (b ∷ short)) before after n last) (one.made (so known))
+            (λ made.
             subst (λ (x : Stepped). IsMade g x before after n last) (sym step.1) (record {
               server = made.server;
               outputs =
-                  made.outputs ∙ ap (λ (o : List Output). o ++ outputs_of u.shown) step.0 ∙ append_assoc before (outputs_of t.shown) (outputs_of u.shown)
+                  made.outputs ∙ ap (λ (o : List Output). o ++ outputs_of u.shown) step.0 ∙ append_assoc before (outputs_of t.shown)
+                  (outputs_of u.shown)
                   ∙ ap (λ (o : List Output). before ++ o) (sym (map-append (λ (one : Shown). one.output) t.shown u.shown));
               disk = made.disk;
             }));
-        failed = λ known failed. subst (λ (x : Stepped). FailsIn g (durable_in n.server) n.store.disk last.store.disk x.calls) (sym (goes known).1) (one.failed (so known) failed);
+        failed =
+            λ known failed. subst (λ (x : Stepped). FailsIn g (durable_in n.server) n.store.disk last.store.disk x.calls)
+            (sym (goes known).1) (one.failed (so known) failed);
         short = one.short;
         state = one.state;
         keeps = one.keeps;
@@ -302,11 +369,14 @@ module _ {D : Type 0} (g : Ghosts D) {knows : Type 0} (db : Database) (now : ℕ
       }
 
 -- nobody waits
-pub nobody_left : (db : Database) (m : Member) (now : ℕ) (s after : Server) (short : List Bool) (out : List Output) → s.waiting ≡ [] → after ≡ without_first s → ShowsBehind (next_turns db m now s.waiting s short) after out out
+pub nobody_left : (db : Database) (m : Member) (now : ℕ) (s after : Server) (short : List Bool) (out : List Output) → s.waiting ≡ []
+    → after ≡ without_first s → ShowsBehind (next_turns db m now s.waiting s short) after out out
 nobody_left db m now s after short out none is =
     let rests : next_turns db m now s.waiting s short ≡ quiet s = ap (λ (those : List Waiting). next_turns db m now those s short) none in
-    let same : s ≡ after = ap (λ (those : List Waiting). with_line s those) (none ∙ sym (ap (λ (those : List Waiting). drop 1 those) none)) ∙ sym is in
-    subst (λ (t : Stepped). ShowsBehind t after out out) (sym rests) (record { server = same; calls = refl; outputs = sym (append-nil out) })
+    let same : s ≡ after =
+    ap (λ (those : List Waiting). with_line s those) (none ∙ sym (ap (λ (those : List Waiting). drop 1 those) none)) ∙ sym is in
+    subst (λ (t : Stepped). ShowsBehind t after out out) (sym rests)
+    (record { server = same; calls = refl; outputs = sym (append-nil out) })
 
 -- ---- a write that a majority has, and then the turns
 
@@ -314,9 +384,11 @@ drop_past : (n : ℕ) (short : List Bool) → drop n (replicate n false ++ short
 drop_past zero short = drop_none short
 drop_past (suc n) short = drop_past n short
 
-pub settled_comes : (db : Database) (m : Member) (s mid : Server) (now : ℕ) (short : List Bool) → (settled m s).server ≡ mid → (settled m s).calls ≡ []
+pub settled_comes : (db : Database) (m : Member) (s mid : Server) (now : ℕ) (short : List Bool) → (settled m s).server ≡ mid
+    → (settled m s).calls ≡ []
     → (let u = next_turns db m now mid.waiting mid short in
-    settled_with_turns db m s now (replicate (replies (settled m s).shown) false ++ short) ≡ stepped u.server u.calls ((settled m s).shown ++ u.shown))
+    settled_with_turns db m s now (replicate (replies (settled m s).shown) false ++ short) ≡ stepped u.server u.calls
+    ((settled m s).shown ++ u.shown))
 settled_comes db m s mid now short server calls =
     let t = settled m s in
     let at : Server → List Bool → List Made → Stepped = λ x choices made.
@@ -327,7 +399,8 @@ settled_comes db m s mid now short server calls =
     ∙ ap (λ (made : List Made). at mid short made) calls
 
 module _ (m : Member) (s : Server) where
-  ended_keeps : (poll : Polled) (spread : Spread) (announced : Version) → s.phase ≡ Ready poll spread announced → (o : Option Flight) → halted_from (flight_settled m s poll spread announced o).server ≡ halted_from s
+  ended_keeps : (poll : Polled) (spread : Spread) (announced : Version) → s.phase ≡ Ready poll spread announced → (o : Option Flight)
+      → halted_from (flight_settled m s poll spread announced o).server ≡ halted_from s
   ended_keeps poll spread announced is None = refl
   ended_keeps poll spread announced is (Some f) = by (is_majority (cell_size m) spread.holders)
     where
@@ -347,7 +420,8 @@ module _ (m : Member) (s : Server) where
       by (Send poll spread) is ready = absurd (false≢true ready)
       by (Ready poll spread announced) is ready = ended_keeps poll spread announced is s.flight
 
-  ended_line : (poll : Polled) (spread : Spread) (announced : Version) (o : Option Flight) → (flight_settled m s poll spread announced o).server.waiting ≡ s.waiting
+  ended_line : (poll : Polled) (spread : Spread) (announced : Version) (o : Option Flight)
+      → (flight_settled m s poll spread announced o).server.waiting ≡ s.waiting
   ended_line poll spread announced None = refl
   ended_line poll spread announced (Some f) = by (is_majority (cell_size m) spread.holders)
     where
@@ -358,7 +432,8 @@ module _ (m : Member) (s : Server) where
   pub settled_line : (settled m s).server.waiting ≡ s.waiting
   settled_line = by s.phase
     where
-      by_majority : (poll : Polled) (spread : Spread) (b : Bool) → (cond b (showing (with_phase s (Ready poll spread s.version)) (announcing s.version ∷ [])) (quiet s)).server.waiting ≡ s.waiting
+      by_majority : (poll : Polled) (spread : Spread) (b : Bool)
+          → (cond b (showing (with_phase s (Ready poll spread s.version)) (announcing s.version ∷ [])) (quiet s)).server.waiting ≡ s.waiting
       by_majority poll spread true = refl
       by_majority poll spread false = refl
 
@@ -371,7 +446,8 @@ module _ (m : Member) (s : Server) where
       by (Ready poll spread announced) = ended_line poll spread announced s.flight
 
 -- so does one at which nobody waits, or one whose disk does not fail
-pub settled_halts : (m : Member) (s mid : Server) → (settled m s).server ≡ mid → (is_ready s.phase ≡ false → halted_from mid ≡ halted_from s) → halted_from mid ≡ halted_from s
+pub settled_halts : (m : Member) (s mid : Server) → (settled m s).server ≡ mid
+    → (is_ready s.phase ≡ false → halted_from mid ≡ halted_from s) → halted_from mid ≡ halted_from s
 settled_halts m s mid is rests = by (is_ready s.phase) refl
   where
     by : (b : Bool) → is_ready s.phase ≡ b → halted_from mid ≡ halted_from s
@@ -395,7 +471,8 @@ several (suc zero) me w waiting rest inside alone line = let none : waiting ≡ 
 several (suc (suc n)) me w waiting rest inside alone line = omega arith
 
 -- an error that is handed on
-pub handed_fine : (r : Result (Unit {0}) StoreFault) (e : StoreFault) → IsErrAnd r (λ x. x ≡ e) → IsErrOf (ended e) DiskFault ⊎ IsOk (ended e) → IsErrOf r DiskFault ⊎ IsOk r
+pub handed_fine : (r : Result (Unit {0}) StoreFault) (e : StoreFault) → IsErrAnd r (λ x. x ≡ e)
+    → IsErrOf (ended e) DiskFault ⊎ IsOk (ended e) → IsErrOf r DiskFault ⊎ IsOk r
 handed_fine (Ok done) e is fine = absurd is
 handed_fine (Err why) e is fine = ⊎_elim (λ failed. inl (ap ended is ∙ failed)) (λ ok. absurd (false≢true ok)) fine
 

@@ -1,3 +1,4 @@
+pub mod Acts
 pub mod Appending
 pub mod Built
 pub mod Database

@@ -4,21 +4,20 @@
 //! It is built whole: votes, recovery, and writes over a majority, in cells of 1 to 20 servers.
 #![tactic(auto)]
 
+mod acts;
 mod asking;
 mod database;
 mod evaluations;
 mod flights;
-mod keeping;
 mod lines;
 mod nodes;
 mod pieces;
-mod receiving;
-mod relabelling;
+mod receiver;
+mod recovery;
 mod serving;
 mod steady_disks;
 mod store_images;
 mod taking;
-mod telling;
 mod threads;
 mod unanswered;
 mod verdicts;

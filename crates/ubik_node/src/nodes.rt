@@ -22,7 +22,7 @@ use server_state::{Dropped, Heard, HeldImage, Outputs, State};
 use std::alloc::Global;
 use std::marker::PhantomData;
 use ubik_calls::{Body, DebugIs, Packet, Reply};
-use ubik_recovery::{Recovery, TextSource};
+use ubik_recovery::Recovery;
 use ubik_store::{Store, StoreFault};
 use ubik_types::{Cell, Host, Phase, Version};
 use ubik_votes::Votes;
@@ -369,72 +369,7 @@ impl<D: SteadyDisk, V: DraftService> Node<D, V> {
                 self.state.hear_beacon(now, from, host, heard, out);
                 Ok(())
             }
-            Body::Vote { start, yes } => {
-                self.state.hear_vote(from, *start, *yes);
-                Ok(())
-            }
-            Body::GetVersion { poll } => {
-                let version = self.state.version;
-                let told = Body::VersionIs {
-                    poll: *poll,
-                    version,
-                };
-                self.state.send(host, told, out);
-                Ok(())
-            }
-            Body::VersionKept { version } => self.hear_kept(now, from, *version, out),
-            Body::VersionIs { poll, version } => self.hear_version(
-                now, from, host, *poll, *version, out,
-            ),
-            Body::GetPiece {
-                poll,
-                version,
-                offset,
-            } => self.tell_piece(host, *poll, *version, *offset, out),
-            Body::PieceKept { version, next, .. } => self.send_next(host, *version, *next, out),
-            Body::SetVersion { poll, old, new } => self.set_version(host, *poll, *old, *new, out),
-            Body::Piece {
-                poll,
-                version,
-                total,
-                offset,
-                bytes,
-            } => {
-                let source = TextSource {
-                    server: from,
-                    version: *version,
-                    total: *total,
-                };
-                self.fetch_piece(now, *poll, source, *offset, bytes.as_slice(), out)
-            }
-            Body::SendPiece {
-                poll,
-                version,
-                total,
-                offset,
-                bytes,
-            } => {
-                let source = TextSource {
-                    server: from,
-                    version: *version,
-                    total: *total,
-                };
-                self.take_piece(host, *poll, source, *offset, bytes.as_slice(), out)
-            }
-            Body::Begin {
-                old,
-                new,
-                pieces,
-                len,
-            } => self.begin_received(*old, *new, *pieces, *len),
-            Body::PutPiece { new, number, bytes } => {
-                self.put_piece_received(*new, *number, bytes.as_slice())
-            }
-            Body::Commit { old, new } => self.commit_received(host, *old, *new, out),
-            Body::Abort { new } => {
-                self.state.abort_received(*new);
-                Ok(())
-            }
+            body => self.heard(now, from, host, body, out),
         }
     }
 }

@@ -25,24 +25,3 @@ returns g c =
     let next : c.begin.new.self ≡ begun = c.begin.ensures ∙ ap (λ (r : RecoveryRecord). poll_begun r c.args.now st.me st.version) c.marks-next.ensures in
     same_ends g.D.Disk (begun_asked (member_of st) (server_of st) (announced st) st.recovery c.args.now (sym st.of_cell.servers))
     (subst (λ (r : RecoveryRecord). Ends g.D.Disk (Knows g.D.Disk n) (poll_asked (member_of st) (server_with st (adopted r st.recovery)) (polled_of r) c.args.now) c.args.out.now c.poll_asked.new.out (held n) (held c.poll_asked.new.self) c.poll_asked.result) next c.poll_asked.ensures)
-
-pub begin-requires : goal.begin-requires
-begin-requires g c = omega (arith, c.args.self.now.state.place, c.args.self.now.state.few)
-
-pub poll_asked-requires-clause-moment : goal.poll_asked-requires-clause-moment
-poll_asked-requires-clause-moment g c = c.requires.moment
-
-pub poll_asked-requires-clause-not_halted : goal.poll_asked-requires-clause-not_halted
-poll_asked-requires-clause-not_halted g c = c.requires.not_halted
-
-pub poll_asked-requires-clause-stored : goal.poll_asked-requires-clause-stored
-poll_asked-requires-clause-stored g c = c.requires.stored
-
-pub poll_asked-requires-clause-few : goal.poll_asked-requires-clause-few
-poll_asked-requires-clause-few g c = c.requires.few
-
-pub poll_asked-requires-clause-phase : goal.poll_asked-requires-clause-phase
-poll_asked-requires-clause-phase g c = ap (λ (r : RecoveryRecord). r.phase) c.begin.ensures
-
-pub poll_asked-requires-clause-resting : goal.poll_asked-requires-clause-resting
-poll_asked-requires-clause-resting g c = c.requires.resting

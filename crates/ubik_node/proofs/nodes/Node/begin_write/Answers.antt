@@ -137,11 +137,6 @@ returns-clause-ends g c = λ image.
           ∙ ap (λ (o : List Output). c.args.out.now ++ o) (sym (leads known).outputs),
     ))
 
-pub commit_all-requires-clause-none : goal.commit_all-requires-clause-none
-commit_all-requires-clause-none g c =
-    let went = λ (failed : _). false≢true (ap is_err failed) in
-    (stored_read g.D.Disk (held c.args.self.now) c.flight_over.new.store c.requires.stored c.requires.not_halted c.in_ok-flight.ensures.sound (c.in_ok-flight.ensures.same went) c.in_ok-flight.ensures.disk went).none_begun c.requires.not_halted
-
 pub begin_flight-requires-clause-fits : goal.begin_flight-requires-clause-fits
 begin_flight-requires-clause-fits g c =
     let later = c.commit_all.new.store in

@@ -77,8 +77,5 @@ returns-clause-ends g c = λ now call image.
           ∙ append_assoc c.args.out.now (output.Announce v ∷ []) (output.Reply c.args.id (reply.Ok c.args.answer) ∷ []) ∙ ap (λ (o : List Output). c.args.out.now ++ o) (sym leads.outputs),
     ))
 
-pub commit_all-requires-clause-none : goal.commit_all-requires-clause-none
-commit_all-requires-clause-none g c = c.requires.stored.none_begun c.requires.not_halted
-
 pub returns-clause-line : goal.returns-clause-line
 returns-clause-line g c = omega (arith, ap (λ (s : Server). length s.waiting) c.take_commit.ensures.after)

@@ -1,19 +1,19 @@
-use Rattle.std.proofs.Common.{◌≡◌, ◌∙◌, ℕ, List, length, refl, sym, ap, arith}
+use Rattle.std.proofs.Common.{◌∙◌, ℕ, List, length, refl, sym, ap, arith, ◌≡◌}
+use Rattle.ubik_node.proofs.Rested.{phase_is}
+use Rattle.server_state.specs.declared.state.State.{State}
+use Rattle.ubik_types.specs.Phase.{phase_of}
 use Rattle.cell_model.specs.Durable as durable
 use Rattle.cell_model.specs.Durable.{Received}
 use Rattle.cell_model.specs.Step.{with_database}
 use Rattle.ubik_store.specs.DurableCall.{whole_image}
 use Rattle.ubik_store.specs.Store.{IsTooLong}
-use Rattle.ubik_types.specs.Phase.{phase_of}
 use Rattle.cell_model.specs.Node.{Server}
-use Rattle.server_state.specs.declared.state.State.{State}
 use Rattle.ubik_node.specs.Node.{held}
-use Rattle.server_state.specs.State.{announced, member_of, server_of}
+use Rattle.server_state.specs.State.{member_of, server_of, announced}
 use Rattle.ubik_node.proofs.Calling.{call_failed, call_made}
 use Rattle.ubik_node.proofs.Endings.{handed_ends, ok_not, reads_none}
 use Rattle.ubik_node.proofs.HeldImages.{held_length, held_there}
 use Rattle.ubik_node.proofs.Received.{effect_whole, held_text}
-use Rattle.ubik_node.proofs.Rested.{phase_is}
 use Rattle.ubik_node.proofs.nodes.Node.install.Goals as goal
 
 -- what a server serves by is told by its phase
@@ -50,29 +50,8 @@ returns-clause-ends g c =
       refl,
     ))
 
-pub install-requires-clause-sound : goal.install-requires-clause-sound
-install-requires-clause-sound g c = c.requires.stored.sound
-
 pub install-requires-clause-version : goal.install-requires-clause-version
 install-requires-clause-version g c = c.requires.version
-
-pub install-requires-clause-none : goal.install-requires-clause-none
-install-requires-clause-none g c = c.requires.stored.none_begun c.requires.not_halted
-
-pub of-requires-clause-sound : goal.of-requires-clause-sound
-of-requires-clause-sound g c = c.install.ensures.sound
-
-pub of-requires-clause-fresh : goal.of-requires-clause-fresh
-of-requires-clause-fresh g c = c.in_ok-install.ensures.ended.failed
-
-pub take_over-requires-clause-resting : goal.take_over-requires-clause-resting
-take_over-requires-clause-resting g c = c.requires.resting
-
-pub take_over-requires-clause-version : goal.take_over-requires-clause-version
-take_over-requires-clause-version g c = c.requires.version
-
-pub take_over-requires-clause-fits : goal.take_over-requires-clause-fits
-take_over-requires-clause-fits g c = omega (arith, c.install.ensures.sound.len, ap length c.of.ensures, held_length g.D.Disk c.install.new.self (c.install.ensures.sound.ready c.in_ok-install.ensures.ended.failed))
 
 pub returns-clause-resting : goal.returns-clause-resting
 returns-clause-resting g c = λ serves. c.requires.resting (sym (same_phase c.take_over.new.self c.args.self.now.state (ap (λ (s : Server). s.phase) c.take_over.ensures.after)) ∙ serves)

@@ -2,7 +2,6 @@ use Rattle.std.proofs.Common.{◌≡◌, ◌∙◌, ◌∷◌, ℕ, List, length
 use Rattle.std.specs.Result.{is_err}
 use Rattle.std.proofs.lemmas.Bool.{false≢true}
 use Rattle.ubik_types.specs.declared.versions.Version.{Version}
-use Rattle.ubik_types.specs.declared.hosts.Host.{Host}
 use Rattle.ubik_types.specs.Phase.{Send}
 use Rattle.ubik_types.specs.Version.{version_lt}
 use Rattle.ubik_recovery.specs.Record.{polled_of}
@@ -12,14 +11,13 @@ use Rattle.cell_model.specs.Durable as durable
 use Rattle.cell_model.specs.Durable.{Made, Received}
 use Rattle.cell_model.specs.Node.{Server}
 use Rattle.cell_model.specs.Polls.{only_holder}
-use Rattle.cell_model.specs.Recovery.{first_of_epoch, own_relabelling, relabelled_to}
+use Rattle.cell_model.specs.Recovery.{own_relabelling, relabelled_to}
 use Rattle.cell_model.specs.Step.{Member, with_database, with_phase}
 use Rattle.cell_model.specs.Writes.{settled}
 use Rattle.ubik_node.specs.Node.{held}
-use Rattle.server_state.specs.Recovering.{IsOfCell}
 use Rattle.server_state.specs.State.{ShowsBehind, member_of, server_of}
-use Rattle.ubik_node.proofs.Endings.{handed_ends, same_ends, short_ends}
-use Rattle.ubik_node.proofs.Fetching.{first_of, held_twice, installed_comes, later_epoch, past_newer}
+use Rattle.ubik_node.proofs.Endings.{handed_ends, short_ends}
+use Rattle.ubik_node.proofs.Fetching.{first_of, held_twice}
 use Rattle.ubik_node.proofs.HeldImages.{held_length, held_there}
 use Rattle.ubik_node.proofs.Received.{effect_whole}
 use Rattle.ubik_node.proofs.Relabelled.{relabel_outputs, settled_calls}
@@ -41,17 +39,13 @@ returns-in_err-install g c =
     let m = member_of st in
     let text = c.args.text.now in
     let best = c.args.best in
-    let v = first_of_epoch c.args.now in
+    let v = c.args.new in
     let installs : Made = record { call = durable.Install best text; reason = Received } in
     let s = with_database (server_of st) best text in
     handed_ends g.D.Disk c.from_residual-in_err-install.result c.in_err-install.field-0.0 c.from_residual-in_err-install.ensures.1
-    (same_ends g.D.Disk (installed_comes m (server_of st) best text (polled_of c.args.next) c.args.now (later_epoch best.epoch c.args.now c.requires.past))
     (first_failed g.D.Disk (held n) c.requires.stored c.requires.not_halted c.install.new.self c.install.ensures.sound (whole_image text) best text installs (own_relabelling v) (effect_whole st.image text) refl (λ _. (tt, tt)) refl
     (ap (λ (calls : List Made). installs ∷ own_relabelling v ∷ calls) (settled_calls m (relabelled_to m s (polled_of c.args.next) v).server)) (IsTooLong text) c.in_err-install.field-0.0 c.in_err-install.ensures.ended
-    (rw (c.requires.stored.version c.requires.not_halted) c.requires.newer) (λ bytes long. absurd (omega (arith, long.0, c.requires.fits))) (c.in_err-install.ensures.durable (c.requires.stored.failed ∙ c.requires.not_halted))))
-
-pub relabel-requires-clause-none : goal.relabel-requires-clause-none
-relabel-requires-clause-none g c = c.in_ok-install.ensures.ended.begun
+    (rw (c.requires.stored.version c.requires.not_halted) c.requires.may.newer) (λ bytes long. absurd (omega (arith, long.0, c.requires.fits))) (c.in_err-install.ensures.durable (c.requires.stored.failed ∙ c.requires.not_halted)))
 
 pub returns-in_err-relabel : goal.returns-in_err-relabel
 returns-in_err-relabel g c =
@@ -60,26 +54,15 @@ returns-in_err-relabel g c =
     let m = member_of st in
     let text = c.args.text.now in
     let best = c.args.best in
-    let v = first_of_epoch c.args.now in
+    let v = c.args.new in
     let installs : Made = record { call = durable.Install best text; reason = Received } in
     let s = with_database (server_of st) best text in
     let done = c.in_ok-install.ensures.ended in
     handed_ends g.D.Disk c.from_residual-in_err-relabel.result c.in_err-relabel.field-0.0 c.from_residual-in_err-relabel.ensures.1
-    (same_ends g.D.Disk (installed_comes m (server_of st) best text (polled_of c.args.next) c.args.now (later_epoch best.epoch c.args.now c.requires.past))
     (second_failed g.D.Disk (held n) c.requires.stored c.requires.not_halted c.install.new.self c.install.ensures.sound (whole_image text) best text installs (own_relabelling v) (effect_whole st.image text) refl (λ _. (tt, tt)) refl
     done
     (c.install.ensures.durable (c.requires.stored.failed ∙ c.requires.not_halted)) (λ failed. false≢true (ap is_err (sym c.in_ok-install.was ∙ failed))) c.relabel.new.self c.relabel.ensures.sound v refl refl (ap (λ (calls : List Made). installs ∷ own_relabelling v ∷ calls) (settled_calls m (relabelled_to m s (polled_of c.args.next) v).server)) c.in_err-relabel.field-0.0 c.in_err-relabel.ensures.ended
-    (λ is. c.in_err-relabel.ensures.no_memory done.room (ap Err is)) (ap (λ (w : Version). version_lt w v) done.version ∙ past_newer best c.args.now c.requires.past) (c.in_err-relabel.ensures.durable done.failed)))
-
-pub take_over-requires-clause-fits : goal.take_over-requires-clause-fits
-take_over-requires-clause-fits g c =
-    let later = c.relabel.new.self in
-    let long = held_length g.D.Disk later (c.relabel.ensures.sound.ready c.in_ok-relabel.ensures.ended.failed) in
-    omega (arith, ap length c.of.ensures, long, c.relabel.ensures.sound.len)
-
-pub begin_sending-requires-clause-of_cell : goal.begin_sending-requires-clause-of_cell
-begin_sending-requires-clause-of_cell g c =
-    subst (λ (hosts : List Host). IsOfCell (length hosts) c.args.next) (sym (ap (λ (m : Member). m.hosts) c.take_over.ensures.place)) c.requires.of_cell
+    (λ is. c.in_err-relabel.ensures.no_memory done.room (ap Err is)) (ap (λ (w : Version). version_lt w v) done.version ∙ c.requires.newer) (c.in_err-relabel.ensures.durable done.failed))
 
 pub returns : goal.returns
 returns g c =
@@ -89,7 +72,7 @@ returns g c =
     let text = c.args.text.now in
     let best = c.args.best in
     let poll = polled_of c.args.next in
-    let v = first_of_epoch c.args.now in
+    let v = c.args.new in
     let installs : Made = record { call = durable.Install best text; reason = Received } in
     let done = c.in_ok-install.ensures.ended in
     let also = c.in_ok-relabel.ensures.ended in
@@ -101,8 +84,7 @@ returns g c =
     let after : Server = (relabelled_to m s poll v).server in
     let sent : Server → Member → Server = λ x k. with_phase (with_database x v x.image) (Send poll (record { old = x.version; holders = only_holder k })) in
     let image = c.settle.ensures.kept.image ∙ c.begin_sending.ensures.image ∙ c.take_over.ensures.image ∙ c.of.ensures in
-    same_ends g.D.Disk (installed_comes m (server_of st) best text poll c.args.now (later_epoch best.epoch c.args.now c.requires.past))
-    (both_made g.D.Disk (held n) c.requires.stored c.requires.not_halted c.install.new.self c.install.ensures.sound (whole_image text) best text installs (own_relabelling v) (effect_whole st.image text) refl (λ _. (tt, tt)) refl
+    both_made g.D.Disk (held n) c.requires.stored c.requires.not_halted c.install.new.self c.install.ensures.sound (whole_image text) best text installs (own_relabelling v) (effect_whole st.image text) refl (λ _. (tt, tt)) refl
     done (c.install.ensures.durable (c.requires.stored.failed ∙ c.requires.not_halted)) (λ failed. false≢true (ap is_err (sym c.in_ok-install.was ∙ failed))) later c.relabel.ensures.sound v refl refl (ap (λ (calls : List Made). installs ∷ own_relabelling v ∷ calls) (settled_calls m after))
     (server_of last) (member_of last) (c.settle.ensures.kept.member ∙ c.begin_sending.ensures.place ∙ c.take_over.ensures.place) also (c.relabel.ensures.durable done.failed) (λ failed. false≢true (ap is_err (sym c.in_ok-relabel.was ∙ failed))) (c.settle.ensures.kept.version ∙ c.begin_sending.ensures.version)
     (ap length image ∙ held_length g.D.Disk later (c.relabel.ensures.sound.ready also.failed)) (held_there (g.D.Disk.files later.disk) later.len last.image image)
@@ -117,52 +99,16 @@ returns g c =
       shows.server,
       relabel_outputs m poll best after c.poll.result (length text) c.in_ok-bytes_of.field-0 c.args.out.now c.give.new.out c.settle.new.out (settled m after).shown st.place c.poll.ensures refl
           (λ more. first_of text c.in_ok-bytes_of.field-0 c.min.result (omega (arith, c.min.ensures)) c.in_ok-bytes_of.ensures) c.in_ok-give.ensures.given shows.outputs,
-    )))
+    ))
 
 pub give-requires-clause-few : goal.give-requires-clause-few
 give-requires-clause-few g c = omega (arith, c.requires.few)
 
-pub install-requires-clause-sound : goal.install-requires-clause-sound
-install-requires-clause-sound g c = c.requires.stored.sound
-
 pub install-requires-clause-version : goal.install-requires-clause-version
-install-requires-clause-version g c = c.requires.version
-
-pub install-requires-clause-none : goal.install-requires-clause-none
-install-requires-clause-none g c = c.requires.stored.none_begun c.requires.not_halted
-
-pub relabel-requires-clause-sound : goal.relabel-requires-clause-sound
-relabel-requires-clause-sound g c = c.install.ensures.sound
-
-pub relabel-requires-clause-version : goal.relabel-requires-clause-version
-relabel-requires-clause-version g c = record { epoch = omega (arith, c.requires.moment.fits); counter = omega arith }
-
-pub of-requires-clause-sound : goal.of-requires-clause-sound
-of-requires-clause-sound g c = c.relabel.ensures.sound
-
-pub of-requires-clause-fresh : goal.of-requires-clause-fresh
-of-requires-clause-fresh g c = c.in_ok-relabel.ensures.ended.failed
-
-pub take_over-requires-clause-resting : goal.take_over-requires-clause-resting
-take_over-requires-clause-resting g c = c.requires.resting
-
-pub take_over-requires-clause-version : goal.take_over-requires-clause-version
-take_over-requires-clause-version g c = c.requires.version
-
-pub begin_sending-requires-clause-version : goal.begin_sending-requires-clause-version
-begin_sending-requires-clause-version g c = record { epoch = omega (arith, c.requires.moment.fits); counter = omega arith }
-
-pub settle-requires : goal.settle-requires
-settle-requires g c = record { few = omega (arith, c.in_ok-give.ensures.few, c.requires.few) }
+install-requires-clause-version g c = c.requires.may.version
 
 pub slice_bounds-first-end : goal.slice_bounds-first-end
 slice_bounds-first-end g c = omega (arith, length-take c.min.result c.args.text.now, c.min.ensures)
 
-pub overflow_cast-given : goal.overflow_cast-given
-overflow_cast-given g c = omega (arith, c.requires.fits)
-
-pub same-next : goal.same-next
-same-next g c = search rules
-
 pub give-requires-clause-plain : goal.give-requires-clause-plain
-give-requires-clause-plain g c = record { old = c.requires.version; new = record { epoch = omega (arith, c.requires.moment.fits); counter = omega arith }; piece = omega (arith, ap length c.in_ok-bytes_of.ensures, length-take c.min.result c.args.text.now, c.min.ensures) }
+give-requires-clause-plain g c = record { old = c.requires.may.version; new = c.requires.new; piece = omega (arith, ap length c.in_ok-bytes_of.ensures, length-take c.min.result c.args.text.now, c.min.ensures) }

@@ -1,4 +1,4 @@
-use Rattle.std.proofs.Common.{◌++◌, ℕ, List, ap, ◌∙◌, length, arith}
+use Rattle.std.proofs.Common.{◌++◌, ℕ, List, ap, ◌∙◌, length}
 use Rattle.ubik_types.specs.Quorum.{marked}
 use Rattle.ubik_recovery.specs.Record.{polled_of}
 use Rattle.cell_model.specs.Polls.{is_marked}
@@ -19,26 +19,5 @@ returns g c =
     (c.ask_versions.ensures.asked ∙ ap (λ (p : ℕ). c.args.out.now ++ outputs_of (asks_versions m p (is_marked (marked (length st.cell) c.answered.result.set)))) c.poll.ensures
     ∙ ap (λ (shown : List Shown). c.args.out.now ++ outputs_of shown) (asks_answered m poll (length st.cell) next.servers c.answered.result.set c.answered.ensures c.requires.of_cell.servers)) c.polled.ensures
 
-pub polled-requires-clause-moment : goal.polled-requires-clause-moment
-polled-requires-clause-moment g c = c.requires.moment
-
-pub polled-requires-clause-not_halted : goal.polled-requires-clause-not_halted
-polled-requires-clause-not_halted g c = c.requires.not_halted
-
-pub polled-requires-clause-stored : goal.polled-requires-clause-stored
-polled-requires-clause-stored g c = c.requires.stored
-
-pub polled-requires-clause-few : goal.polled-requires-clause-few
-polled-requires-clause-few g c = omega (arith, c.ask_versions.ensures.few, c.requires.few)
-
 pub polled-requires-clause-of_cell : goal.polled-requires-clause-of_cell
 polled-requires-clause-of_cell g c = c.requires.of_cell
-
-pub polled-requires-clause-phase : goal.polled-requires-clause-phase
-polled-requires-clause-phase g c = c.requires.phase
-
-pub ask_versions-requires : goal.ask_versions-requires
-ask_versions-requires g c = omega (arith, c.requires.few)
-
-pub polled-requires-clause-resting : goal.polled-requires-clause-resting
-polled-requires-clause-resting g c = c.requires.resting

@@ -1,4 +1,4 @@
-use Rattle.std.proofs.Common.{◌≡◌, ◌≤◌, ◌∙◌, ℕ, true, false, length, refl, rules, sym, ap, subst, arith}
+use Rattle.std.proofs.Common.{◌≡◌, ◌∙◌, ℕ, true, false, length, refl, sym, ap, subst}
 use Rattle.std.proofs.lemmas.List.{append-nil}
 use Rattle.ubik_types.specs.declared.phases.Phase.TheVariants as phase
 use Rattle.cell_model.specs.Recovery.{poll_asked, relabelled}
@@ -18,7 +18,7 @@ use Rattle.cell_model.specs.Step.{host_at}
 use Rattle.ubik_recovery.specs.Record.{best_of, host_of}
 use Rattle.ubik_node.proofs.Endings.{shown_ends}
 use Rattle.ubik_node.proofs.Told.{sent_as}
-use Rattle.ubik_node.proofs.Turning.{received_long, text_fits, turn_fetches}
+use Rattle.ubik_node.proofs.Turning.{received_long, turn_fetches}
 use Rattle.ubik_node.proofs.nodes.Node.recover.Goals as goal
 
 pub returns-in-None : goal.returns-in-None
@@ -68,75 +68,6 @@ pub poll_asked-requires-clause-of_cell : goal.poll_asked-requires-clause-of_cell
 poll_asked-requires-clause-of_cell g c =
     let st = c.args.self.now.state in subst (λ (r : RecoveryRecord). IsOfCell (length st.cell) r) (sym c.marks-next.ensures) (of_marks (length st.cell) st.recovery st.of_cell)
 
-pub relabelled-requires-clause-of_cell : goal.relabelled-requires-clause-of_cell
-relabelled-requires-clause-of_cell g c =
-    let st = c.args.self.now.state in subst (λ (r : RecoveryRecord). IsOfCell (length st.cell) r) (sym c.marks-next-in-Relabel.ensures) (of_marks (length st.cell) st.recovery st.of_cell)
-
-pub begin_poll-requires-clause-moment : goal.begin_poll-requires-clause-moment
-begin_poll-requires-clause-moment g c = c.requires.moment
-
-pub begin_poll-requires-clause-not_halted : goal.begin_poll-requires-clause-not_halted
-begin_poll-requires-clause-not_halted g c = c.requires.not_halted
-
-pub begin_poll-requires-clause-stored : goal.begin_poll-requires-clause-stored
-begin_poll-requires-clause-stored g c = c.requires.stored
-
-pub begin_poll-requires-clause-few : goal.begin_poll-requires-clause-few
-begin_poll-requires-clause-few g c = c.requires.few
-
-pub begin_poll-requires-in-Fetch-clause-moment : goal.begin_poll-requires-in-Fetch-clause-moment
-begin_poll-requires-in-Fetch-clause-moment g c = c.requires.moment
-
-pub begin_poll-requires-in-Fetch-clause-not_halted : goal.begin_poll-requires-in-Fetch-clause-not_halted
-begin_poll-requires-in-Fetch-clause-not_halted g c = c.requires.not_halted
-
-pub begin_poll-requires-in-Fetch-clause-stored : goal.begin_poll-requires-in-Fetch-clause-stored
-begin_poll-requires-in-Fetch-clause-stored g c = c.requires.stored
-
-pub begin_poll-requires-in-Fetch-clause-few : goal.begin_poll-requires-in-Fetch-clause-few
-begin_poll-requires-in-Fetch-clause-few g c = c.requires.few
-
-pub poll_asked-requires-clause-moment : goal.poll_asked-requires-clause-moment
-poll_asked-requires-clause-moment g c = c.requires.moment
-
-pub poll_asked-requires-clause-not_halted : goal.poll_asked-requires-clause-not_halted
-poll_asked-requires-clause-not_halted g c = c.requires.not_halted
-
-pub poll_asked-requires-clause-stored : goal.poll_asked-requires-clause-stored
-poll_asked-requires-clause-stored g c = c.requires.stored
-
-pub poll_asked-requires-clause-few : goal.poll_asked-requires-clause-few
-poll_asked-requires-clause-few g c = c.requires.few
-
-pub poll_asked-requires-clause-phase : goal.poll_asked-requires-clause-phase
-poll_asked-requires-clause-phase g c = ap (λ (r : RecoveryRecord). r.phase) c.marks-next.ensures ∙ sym c.phase.ensures ∙ c.in-Poll.is
-
-pub relabelled-requires-clause-moment : goal.relabelled-requires-clause-moment
-relabelled-requires-clause-moment g c = c.requires.moment
-
-pub relabelled-requires-clause-not_halted : goal.relabelled-requires-clause-not_halted
-relabelled-requires-clause-not_halted g c = c.requires.not_halted
-
-pub relabelled-requires-clause-stored : goal.relabelled-requires-clause-stored
-relabelled-requires-clause-stored g c = c.requires.stored
-
-pub relabelled-requires-clause-few : goal.relabelled-requires-clause-few
-relabelled-requires-clause-few g c = omega (arith, c.requires.few)
-
-pub relabelled-requires-clause-phase : goal.relabelled-requires-clause-phase
-relabelled-requires-clause-phase g c = ap (λ (r : RecoveryRecord). is_fetch r.phase) c.marks-next-in-Relabel.ensures ∙ ap is_fetch (sym c.phase.ensures ∙ c.in-Relabel.is)
-
-pub ask_piece-requires : goal.ask_piece-requires
-ask_piece-requires g c = omega (arith, c.requires.few)
-
-pub spread_again-requires-clause-few : goal.spread_again-requires-clause-few
-spread_again-requires-clause-few g c = omega (arith, c.requires.few)
-
-pub overflow_cast-offset : goal.overflow_cast-offset
-overflow_cast-offset g c =
-    let st = c.args.self.now.state in
-    let long : length c.received.result.now ≤ 16777216 = text_fits st.recovery.text st.of_cell.text c.received.result.now c.received.ensures in omega (arith, long)
-
 pub returns-in-Fetch-2 : goal.returns-in-Fetch-2
 returns-in-Fetch-2 g c =
     let n = c.args.self.now in
@@ -153,9 +84,6 @@ returns-in-Fetch-2 g c =
           (ap (λ (k : ℕ). body.GetPiece r.poll (best_of r) k) (ap length c.received.ensures ∙ received_long r.text));
     }))
 
-pub spread_again-requires-clause-phase : goal.spread_again-requires-clause-phase
-spread_again-requires-clause-phase g c = search rules
-
 pub returns-in_err-spread_again-in-Send : goal.returns-in_err-spread_again-in-Send
 returns-in_err-spread_again-in-Send g c =
     let n = c.args.self.now in
@@ -168,15 +96,3 @@ returns-in_ok-spread_again-in-Send g c =
     let n = c.args.self.now in
     shown_ends g.D.Disk (held n) n.state c.spread_again.new.self c.requires.stored c.requires.not_halted refl refl c.spread_again.ensures.kept
     (c.in_ok-spread_again-in-Send.ensures.shows c.args.now)
-
-pub begin_poll-requires-clause-resting : goal.begin_poll-requires-clause-resting
-begin_poll-requires-clause-resting g c = λ serves. let not = c.phase.ensures in let none = c.in-None.is in absurd cc
-
-pub begin_poll-requires-in-Fetch-clause-resting : goal.begin_poll-requires-in-Fetch-clause-resting
-begin_poll-requires-in-Fetch-clause-resting g c = λ serves. let not = c.phase.ensures in let fetch = c.in-Fetch.is in absurd cc
-
-pub poll_asked-requires-clause-resting : goal.poll_asked-requires-clause-resting
-poll_asked-requires-clause-resting g c = λ serves. let not = c.phase.ensures in let poll = c.in-Poll.is in absurd cc
-
-pub relabelled-requires-clause-resting : goal.relabelled-requires-clause-resting
-relabelled-requires-clause-resting g c = λ serves. let not = c.phase.ensures in let waits = c.in-Relabel.is in absurd cc

@@ -1,19 +1,23 @@
-use Rattle.std.proofs.Common.{◌∙◌, ℕ, List, length, refl, ap, arith}
+use Rattle.std.proofs.Common.{◌≡◌, ◌∙◌, ◌++◌, ℕ, Bool, true, false, cond, List, length, refl, ap, arith}
 use Rattle.std.specs.Result.{is_err}
 use Rattle.std.proofs.lemmas.Bool.{false≢true}
+use Rattle.ubik_calls.specs.declared.packets.Body.{Body}
 use Rattle.ubik_calls.specs.declared.packets.Body.TheVariants as body
-use Rattle.cell_model.specs.Recovery.{sent_piece}
-use Rattle.ubik_node.specs.Node.{held}
+use Rattle.cell_model.specs.Node.{Server}
+use Rattle.cell_model.specs.Pieces.{piece_from}
+use Rattle.cell_model.specs.Step.{outputs_of, sends_to}
+use Rattle.server_rules.specs.Acts.{own_piece}
 use Rattle.server_state.specs.State.{member_of, server_of}
+use Rattle.ubik_node.specs.Node.{held}
 use Rattle.ubik_node.proofs.Calling.{stored_read, unread_ends}
 use Rattle.ubik_node.proofs.Endings.{handed_ends, read_ends}
 use Rattle.ubik_node.proofs.Relabelled.{piece_known}
-use Rattle.ubik_node.proofs.Told.{sent_as}
-use Rattle.server_state.proofs.Plain.{own_version}
 use Rattle.ubik_node.proofs.nodes.Node.send_piece.Goals as goal
 
-pub read_piece-requires-clause-within : goal.read_piece-requires-clause-within
-read_piece-requires-clause-within g c = omega (arith, c.requires.within, c.requires.stored.len c.requires.not_halted)
+own_as : (s : Server) (poll at : ℕ) (asked : Bool) (bytes : List ℕ) → bytes ≡ piece_from s.image at
+    → cond asked (body.Piece poll s.version (length s.image) at bytes) (body.SendPiece poll s.version (length s.image) at bytes) ≡ own_piece s poll at asked
+own_as s poll at true bytes is = ap (λ (xs : List ℕ). body.Piece poll s.version (length s.image) at xs) is
+own_as s poll at false bytes is = ap (λ (xs : List ℕ). body.SendPiece poll s.version (length s.image) at xs) is
 
 pub returns-in_err-bytes : goal.returns-in_err-bytes
 returns-in_err-bytes g c =
@@ -32,21 +36,7 @@ returns g c =
     (stored_read g.D.Disk (held n) s c.requires.stored c.requires.not_halted c.in_ok-bytes.ensures.sound (c.in_ok-bytes.ensures.same went) c.in_ok-bytes.ensures.disk went) refl
     (λ told. (
       refl,
-      sent_as (member_of st) c.args.host c.args.out.now c.send.new.out (body.SendPiece c.poll.result st.version c.len.result c.args.at bytes) (sent_piece (server_of st) st.recovery.poll c.args.at) c.send.ensures.sent
-          (ap (λ (p : ℕ). body.SendPiece p st.version c.len.result c.args.at bytes) c.poll.ensures
-          ∙ ap (λ (k : ℕ). body.SendPiece st.recovery.poll st.version k c.args.at bytes) c.len.ensures
-          ∙ ap (λ (xs : List ℕ). body.SendPiece st.recovery.poll st.version (length st.image) c.args.at xs)
+      c.send.ensures.sent ∙ ap (λ (x : Body). c.args.out.now ++ outputs_of (sends_to (member_of st) c.args.to x))
+          (c.piece_of-piece.ensures.piece ∙ own_as (server_of st) c.args.poll c.args.at c.args.asked bytes
           (piece_known (g.D.Disk.files n.store.disk) bytes st.image c.args.at told c.in_ok-bytes.ensures.piece (c.requires.stored.image c.requires.not_halted))),
     ))
-
-pub read_piece-requires-clause-sound : goal.read_piece-requires-clause-sound
-read_piece-requires-clause-sound g c = c.requires.stored.sound
-
-pub read_piece-requires-clause-fresh : goal.read_piece-requires-clause-fresh
-read_piece-requires-clause-fresh g c = c.requires.stored.failed ∙ c.requires.not_halted
-
-pub send-requires-clause-few : goal.send-requires-clause-few
-send-requires-clause-few g c = omega (arith, c.requires.few)
-
-pub send-requires-clause-plain : goal.send-requires-clause-plain
-send-requires-clause-plain g c = (own_version c.args.self.now.state, c.in_ok-bytes.ensures.short)

@@ -9,7 +9,7 @@ use Rattle.cell_model.specs.Step.{Member}
 use Rattle.cell_model.specs.Writes.{next_turns, settled}
 use Rattle.ubik_node.specs.Node.{durable_in, held, IsMeantIn}
 use Rattle.server_state.specs.State.{announced, member_of, server_of}
-use Rattle.ubik_node.proofs.Endings.{behind_ends, kept_with, known_ends, same_ends}
+use Rattle.ubik_node.proofs.Endings.{behind_ends, known_ends, same_ends}
 use Rattle.server_state.proofs.Polled.{ready_phase}
 use Rattle.ubik_node.proofs.Turns.{replies, settled_comes, settled_halts, settled_line, went_on}
 use Rattle.ubik_node.proofs.nodes.Node.settle_with_turns.Goals as goal
@@ -38,6 +38,3 @@ returns-clause-ends g c =
           (known_ends g.D.Disk (λ (meant : IsMeantIn d files st.image). subst (λ (image : List ℕ). IsMeantIn d files image) (sym kept.image) meant)
           (same_ends g.D.Disk (ap (λ (k : Member). next_turns d.database k c.args.now (server_of mid).waiting (server_of mid) turns.0) (sym kept.member)) turns.1)))),
     )
-
-pub take_turns-requires-clause-stored : goal.take_turns-requires-clause-stored
-take_turns-requires-clause-stored g c = kept_with g.D.Disk (held c.args.self.now) (server_of c.settle.new.self) c.requires.stored c.settle.ensures.kept.version c.settle.ensures.kept.image

@@ -114,9 +114,6 @@ returns-in_err-write_turn-clause-ends g c =
     let fine = handed_fine r e is c.in_err-write_turn.ensures.memory in
     inv.goes free out (held last) r fine (b ∷ [], turn_over g.D.Disk d.database c.args.now w rest b c.loop-self.out out (held n) free others line (server_of now) (member_of now) c.next_asked.ensures.after kept.member (held last) r fine (λ ok. handed_not r e is ok) ends)
 
-pub returns-in_err-write_turn-clause-memory : goal.returns-in_err-write_turn-clause-memory
-returns-in_err-write_turn-clause-memory g c = handed_fine c.from_residual.result c.in_err-write_turn.field-0.0 c.from_residual.ensures.1 c.in_err-write_turn.ensures.memory
-
 pub returns-in_err-write_turn-clause-nobody : goal.returns-in_err-write_turn-clause-nobody
 returns-in_err-write_turn-clause-nobody g c = λ none.
     let st = c.loop-self.self.state in

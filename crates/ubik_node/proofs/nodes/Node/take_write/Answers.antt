@@ -1,12 +1,13 @@
-use Rattle.std.proofs.Common.{◌≡◌, ◌∙◌, ℕ, List, None, Err, IsErrOf, length, refl, sym, ap, subst, arith}
+use Rattle.std.proofs.Common.{◌≡◌, ◌∙◌, ◌++◌, ℕ, List, None, Err, IsErrOf, length, refl, sym, ap, subst}
 use Rattle.ubik_types.specs.declared.images.Change.{Change}
 use Rattle.ubik_types.specs.Image.{effect}
 use Rattle.ubik_types.specs.Logged.{logged, too_large}
 use Rattle.ubik_types.specs.declared.versions.Version.{Version}
 use Rattle.ubik_types.specs.Version.{version_lt}
+use Rattle.ubik_calls.specs.declared.packets.Body.TheVariants as body
 use Rattle.cell_model.specs.Durable as durable
 use Rattle.cell_model.specs.Durable.{Received}
-use Rattle.cell_model.specs.Step.{with_database}
+use Rattle.cell_model.specs.Step.{Member, outputs_of, sends_to, with_database}
 use Rattle.ubik_store.specs.declared.faults.StoreFault.TheVariants.{DiskFault}
 use Rattle.ubik_store.specs.DurableCall.{Commits, IsDurable, IsNeverLong}
 use Rattle.ubik_node.specs.Node.{held}
@@ -27,7 +28,7 @@ returns-in_err-commit_all g c =
     let kept = logged (length st.image) c.args.changes.now in
     let same : logged n.store.len c.as_slice.result.now ≡ kept = ap (λ (cs : List Change). logged n.store.len cs) c.as_slice.ensures ∙ ap (λ (k : ℕ). logged k c.args.changes.now) (c.requires.stored.len c.requires.not_halted) in
     let fits : too_large 0 n.store.len c.as_slice.result.now ≡ None = ap (λ (cs : List Change). too_large 0 n.store.len cs) c.as_slice.ensures ∙ ap (λ (k : ℕ). too_large 0 k c.args.changes.now) (c.requires.stored.len c.requires.not_halted) ∙ c.requires.fits in
-    let newer = ap (λ (own : Version). version_lt own v) (c.requires.stored.version c.requires.not_halted) ∙ c.requires.newer in
+    let newer = ap (λ (own : Version). version_lt own v) (c.requires.stored.version c.requires.not_halted) ∙ c.requires.may.newer in
     handed_ends g.D.Disk c.from_residual.result e c.from_residual.ensures.1
     (call_failed g.D.Disk (held n) c.requires.stored c.requires.not_halted n.store (reads_none g.D.Disk n.store.disk) (λ none. none) c.requires.stored.sound (record { version = refl; len = refl; begun = refl; failed = refl }) later
     c.commit_all.ensures.sound kept v (effect st.image kept) (record { call = durable.Commit v kept (effect st.image kept); reason = Received }) refl refl (λ cuts. cuts) refl refl IsNeverLong e
@@ -53,10 +54,5 @@ returns g c =
     (λ told. (
       sym (c.take_over.ensures.after
           ∙ ap (λ (bytes : List ℕ). with_database (server_of st) v bytes) (c.of.ensures ∙ held_after (g.D.Disk.files n.store.disk) (g.D.Disk.files later.disk) later.len kept st.image (effect st.image kept) told (c.requires.stored.image c.requires.not_halted) done.image refl)),
-      refl,
+      c.send.ensures.sent ∙ ap (λ (m : Member). c.args.out.now ++ outputs_of (sends_to m c.args.to (body.VersionKept v))) c.take_over.ensures.place,
     ))
-
-pub take_over-requires-clause-fits : goal.take_over-requires-clause-fits
-take_over-requires-clause-fits g c =
-    let later = c.commit_all.new.store in
-    omega (arith, c.commit_all.ensures.sound.len, ap length c.of.ensures, held_length g.D.Disk later (c.commit_all.ensures.sound.ready c.in_ok-commit_all.ensures.done.failed))

@@ -1,0 +1,133 @@
+//! The packets of another server.
+ghost use Rattle.std.specs.Prelude.{◌≡◌, ◌<◌, ◌≤◌, Bool, List, IfOk, IsOk, OnErr, length};
+ghost use Rattle.ubik_types.specs.Moment.{IsMoment};
+ghost use Rattle.db_image.specs.Database.{Database};
+ghost use Rattle.cell_model.specs.NodeRule.{received_from};
+ghost use Rattle.server_state.specs.State.{member_of, server_of};
+ghost use Rattle.server_rules.specs.Acts.{Leaves, MayEndShort, act_need, stepped_by};
+ghost use Rattle.server_rules.specs.Packets.{BodyTakesNoMemory, IsActed, IsBuiltBody, IsSmall, body_need};
+
+use crate::acts::Act;
+use crate::receiver::{
+    piece_asked, piece_put, piece_sent, version_asked, version_set, write_begun, write_committed,
+};
+use crate::recovery::{piece_kept, piece_told, version_kept, version_told};
+use crate::voting::vote_heard;
+use server_state::State;
+use std::alloc::Global;
+use ubik_calls::Body;
+use ubik_recovery::TextSource;
+use ubik_types::{Host, NoMemory};
+
+/// What a server does about a packet of a server of the cell, by its place and host. Where memory runs out nothing changed.
+pub fn packet_heard<'a>(
+    state: &mut State,
+    alloc: Global,
+    now: u32,
+    from: usize,
+    host: Host,
+    packet: &'a Body,
+) -> Result<Act<'a>, NoMemory>
+    requires from { from < length state.old.cell }
+    requires moment { IsMoment now }
+    requires built { IsBuiltBody packet.now }
+    requires acted { IsActed packet.now }
+    ensures step { (db : Database) (short : List Bool) → IfOk result (λ act.
+        received_from db (member_of state.old) (server_of state.old) now host from packet.now short
+        ≡ stepped_by db (member_of state.new) now short (server_of state.new) act) }
+    ensures leaves { IfOk result (Leaves state.old state.new) }
+    ensures need { IfOk result (λ act. act_need act ≤ body_need packet.now) }
+    ensures memory { BodyTakesNoMemory packet.now → IsOk result × IfOk result (λ act. ¬ MayEndShort act) }
+    ensures err { OnErr result (state.new ≡ state.old) }
+{
+    match packet {
+        Body::Piece {
+            poll,
+            version,
+            total,
+            offset,
+            bytes,
+        } => {
+            let source = TextSource {
+                server: from,
+                version: *version,
+                total: *total,
+            };
+            return piece_told(state, now, *poll, source, *offset, bytes.as_slice());
+        }
+        Body::SendPiece {
+            poll,
+            version,
+            total,
+            offset,
+            bytes,
+        } => {
+            let source = TextSource {
+                server: from,
+                version: *version,
+                total: *total,
+            };
+            return piece_sent(state, host, *poll, source, *offset, bytes.as_slice());
+        }
+        _ => {}
+    }
+    small_heard(state, alloc, now, from, host, packet)
+}
+
+/// What it does about one that brings no piece of an image.
+fn small_heard(
+    state: &mut State,
+    alloc: Global,
+    now: u32,
+    from: usize,
+    host: Host,
+    packet: &Body,
+) -> Result<Act<'static>, NoMemory>
+    requires from { from < length state.old.cell }
+    requires moment { IsMoment now }
+    requires built { IsBuiltBody packet.now }
+    requires acted { IsSmall packet.now }
+    ensures step { (db : Database) (short : List Bool) → IfOk result (λ act.
+        received_from db (member_of state.old) (server_of state.old) now host from packet.now short
+        ≡ stepped_by db (member_of state.new) now short (server_of state.new) act) }
+    ensures leaves { IfOk result (Leaves state.old state.new) }
+    ensures need { IfOk result (λ act. act_need act ≤ body_need packet.now) }
+    ensures memory { BodyTakesNoMemory packet.now → IsOk result × IfOk result (λ act. ¬ MayEndShort act) }
+    ensures err { OnErr result (state.new ≡ state.old) }
+{
+    match packet {
+        Body::Vote { start, yes } => Ok(vote_heard(state, from, *start, *yes)),
+        Body::GetVersion { poll } => Ok(version_asked(state, host, *poll)),
+        Body::VersionIs { poll, version } => {
+            Ok(version_told(state, now, from, host, *poll, *version))
+        }
+        Body::VersionKept { version } => Ok(version_kept(state, from, *version)),
+        Body::GetPiece {
+            poll,
+            version,
+            offset,
+        } => Ok(piece_asked(state, host, *poll, *version, *offset)),
+        Body::PieceKept { version, next, .. } => Ok(piece_kept(state, host, *version, *next)),
+        Body::SetVersion { poll, old, new } => Ok(version_set(state, host, *poll, *old, *new)),
+        Body::Begin {
+            old,
+            new,
+            pieces,
+            len,
+        } => {
+            write_begun(state, alloc, *old, *new, *pieces, *len)?;
+            Ok(Act::Rest)
+        }
+        Body::PutPiece { new, number, bytes } => {
+            piece_put(state, *new, *number, bytes.as_slice())?;
+            Ok(Act::Rest)
+        }
+        Body::Commit { old, new } => write_committed(state, host, *old, *new),
+        Body::Abort { new } => {
+            state.abort_received(*new);
+            Ok(Act::Rest)
+        }
+        // Heard elsewhere.
+        Body::Beacon { .. } | Body::Piece { .. } | Body::SendPiece { .. } => Ok(Act::Rest),
+    }
+}

@@ -1,0 +1,121 @@
+-- What is left of a rule after its decision.
+use Rattle.std.proofs.Common.{◌≡◌, ◌≢◌, ◌≤◌, ◌<◌, ◌⊎◌, ◌∙◌, ℕ, zero, suc, Bool, List, Result, Ok, Err, OnOk, IfErr, IsErrOf, IsOk, refl, sym, ap, subst, arith}
+use Rattle.disk_base.specs.declared.disks.Disk.{Ghosts}
+use Rattle.ubik_calls.specs.declared.packets.Body.{Body}
+use Rattle.ubik_calls.specs.declared.packets.Body.TheVariants as body
+use Rattle.ubik_store.specs.declared.faults.StoreFault.{StoreFault}
+use Rattle.ubik_store.specs.declared.faults.StoreFault.TheVariants.{DiskFault}
+use Rattle.db_image.specs.Database.{Database}
+use Rattle.cell_model.specs.declared.events.Output.{Output}
+use Rattle.cell_model.specs.Durable.{Durable}
+use Rattle.cell_model.specs.Node.{Server, halted_from}
+use Rattle.cell_model.specs.Step.{Member, Stepped}
+use Rattle.server_rules.specs.declared.acts.Act.{Act}
+use Rattle.server_rules.specs.declared.acts.Act.TheVariants as act
+use Rattle.server_rules.specs.Acts.{HasRoom, MayEndShort, MayFail, act_need, stepped_by}
+use Rattle.server_rules.specs.Packets.{body_need}
+use Rattle.ubik_store.proofs.Telling.{ok_map}
+use Rattle.ubik_node.specs.Acts.{ActNeeds, needs_at}
+use Rattle.ubik_node.specs.Disk.{FailsIn, Serves}
+use Rattle.ubik_node.proofs.Endings.{never_short, ok_not}
+use Rattle.std.proofs.lemmas.Bool.{false≢true}
+use Rattle.ubik_node.specs.Node.{Ends, EndsSo, Held, IsMade, NeedsFiles, durable_in}
+
+module _ {D : Type 0} (g : Ghosts D) (db : Database) (m : Member) (now : ℕ) (s : Server) (knows tells meant : Type 0) {before after : List Output} {n k : Held D} {r : Result (Unit {0}) StoreFault} where
+  -- an act, from what it is
+  pub act_ends : (a b : Act) → a ≡ b → EndsSo g (ActNeeds b knows tells meant) (λ short. stepped_by db m now short s b) before after n k r
+      → EndsSo g (ActNeeds a knows tells meant) (λ short. stepped_by db m now short s a) before after n k r
+  act_ends a b is ends =
+      subst (λ (x : Act). EndsSo g (ActNeeds x knows tells meant) (λ short. stepped_by db m now short s x) before after n k r) (sym is) ends
+
+not_both : (r : Result (Unit {0}) StoreFault) {P : Type 0} → IsOk r → IsErrOf r DiskFault → P
+not_both (Ok x) went failed = absurd (ok_not x failed)
+not_both (Err e) went failed = absurd (false≢true went)
+
+always : (r : Result (Unit {0}) StoreFault) {P : Type 0} → P → IfErr r (λ why. why ≢ DiskFault → P)
+always (Ok x) p = tt
+always (Err e) p = λ other. p
+
+-- ---- what is needed
+
+module _ (knows tells meant : Type 0) (less : tells → knows) (more : meant → tells) where
+  needs_less : (a b : ℕ) → a ≤ b → needs_at b knows tells meant → needs_at a knows tells meant
+  needs_less zero b few needs = tt
+  needs_less (suc zero) zero few needs = absurd (omega (arith, few))
+  needs_less (suc zero) (suc zero) few needs = needs
+  needs_less (suc zero) (suc (suc zero)) few needs = less needs
+  needs_less (suc zero) (suc (suc (suc b))) few needs = less (more needs)
+  needs_less (suc (suc zero)) zero few needs = absurd (omega (arith, few))
+  needs_less (suc (suc zero)) (suc zero) few needs = absurd (omega (arith, few))
+  needs_less (suc (suc zero)) (suc (suc zero)) few needs = needs
+  needs_less (suc (suc zero)) (suc (suc (suc b))) few needs = more needs
+  needs_less (suc (suc (suc a))) zero few needs = absurd (omega (arith, few))
+  needs_less (suc (suc (suc a))) (suc zero) few needs = absurd (omega (arith, few))
+  needs_less (suc (suc (suc a))) (suc (suc zero)) few needs = absurd (omega (arith, few))
+  needs_less (suc (suc (suc a))) (suc (suc (suc b))) few needs = needs
+
+  body_needs : (b : Body) → NeedsFiles b tells meant → needs_at (body_need b) knows tells meant
+  body_needs (body.Beacon start claim ready version) needs = tt
+  body_needs (body.Vote start granted) needs = tt
+  body_needs (body.GetVersion poll) needs = tt
+  body_needs (body.VersionIs poll version) needs = needs
+  body_needs (body.GetPiece poll version offset) needs = needs
+  body_needs (body.Piece poll version total offset bytes) needs = needs
+  body_needs (body.SendPiece poll version total offset bytes) needs = needs
+  body_needs (body.PieceKept poll version next) needs = needs
+  body_needs (body.SetVersion poll old new) needs = tt
+  body_needs (body.Begin old new pieces len) needs = tt
+  body_needs (body.PutPiece new number bytes) needs = tt
+  body_needs (body.Commit old new) needs = needs
+  body_needs (body.Abort new) needs = tt
+  body_needs (body.VersionKept version) needs = needs
+
+  pub act_needs : (b : Body) (a : Act) → act_need a ≤ body_need b → NeedsFiles b tells meant → ActNeeds a knows tells meant
+  act_needs b a few needs = needs_less (act_need a) (body_need b) few (body_needs b needs)
+
+-- behind a hundred outputs there is room for every act
+pub has_room : (a : Act) (outputs : ℕ) → outputs ≤ 100 → HasRoom a outputs
+has_room act.Rest outputs few = tt
+has_room (act.Send host b) outputs few = omega (arith, few)
+has_room (act.Relabel next new) outputs few = omega (arith, few)
+has_room other outputs few = few
+
+-- ---- a decision, and then what is left
+
+-- the server after the decision is of the same database and place; where the disk can fail it keeps the same, and where memory can run out it is the same
+pub decided_ends : {D : Type 0} (g : Ghosts D) {knows less : Type 0} {t u : Stepped} {before after : List Output} (n : Held D) (s : Server) (place : Member) {m : Held D} (r : Result (Unit {0}) StoreFault) → t ≡ u → (less → knows)
+    → durable_in s ≡ durable_in n.server → place ≡ n.member → (IsErrOf r DiskFault → halted_from s ≡ halted_from n.server) → IfErr r (λ why. why ≢ DiskFault → s ≡ n.server)
+    → Ends g knows u before after (record n { server = s; member = place }) m r → Ends g less t before after n m r
+decided_ends {D} g {knows} {less} {t} {u} {before} {after} n s place {m} r is so same here keeps stays ends = subst (λ (x : Stepped). Ends g less x before after n m r) (sym is) (record {
+  made = λ known.
+      ok_map r (IsMade g u before after (record n { server = s; member = place }) m) (IsMade g u before after n m) (ends.made (so known)) (λ made.
+      record { server = made.server; outputs = made.outputs; disk = subst (λ (d : Durable). Serves g d n.store.disk m.store.disk u.calls) same made.disk });
+  failed = λ known failed. subst (λ (d : Durable). FailsIn g d n.store.disk m.store.disk u.calls) same (ends.failed (so known) failed);
+  short = ends.short;
+  state = back r ends.state stays;
+  keeps = λ failed. ends.keeps failed ∙ keeps failed;
+  stored = ends.stored;
+  halts = ends.halts;
+  told = ends.told;
+  calls = ends.calls;
+  halted = ends.halted;
+  last = ends.last;
+  member = ends.member ∙ here;
+})
+  where
+    back : (r : Result (Unit {0}) StoreFault) → IfErr r (λ why. why ≢ DiskFault → m.server ≡ s) → IfErr r (λ why. why ≢ DiskFault → s ≡ n.server) → IfErr r (λ why. why ≢ DiskFault → m.server ≡ n.server)
+    back (Ok x) state stays = tt
+    back (Err e) state stays = λ other. state other ∙ stays other
+
+-- ---- what an act can end in
+
+pub fails_so : (a : Act) (r : Result (Unit {0}) StoreFault) (P : Type 0) → (¬ MayFail a → IsOk r) → (MayFail a → P) → IsErrOf r DiskFault → P
+fails_so act.Rest r P fine keeps failed = not_both r (fine (λ is. is)) failed
+fails_so (act.Send to b) r P fine keeps failed = not_both r (fine (λ is. is)) failed
+fails_so other r P fine keeps failed = keeps tt
+
+pub stays_so : (a : Act) (r : Result (Unit {0}) StoreFault) (P : Type 0) → (¬ MayEndShort a → IsErrOf r DiskFault ⊎ IsOk r) → (MayEndShort a → P) → IfErr r (λ why. why ≢ DiskFault → P)
+stays_so act.Rest r P fine stays = never_short r P (fine (λ is. is))
+stays_so (act.Send to b) r P fine stays = never_short r P (fine (λ is. is))
+stays_so act.Settle r P fine stays = never_short r P (fine (λ is. is))
+stays_so other r P fine stays = always r (stays tt)

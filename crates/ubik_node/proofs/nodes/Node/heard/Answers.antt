@@ -1,0 +1,46 @@
+use Rattle.std.proofs.Common.{◌≡◌, ◌<◌, ◌∙◌, [], List, ℕ, IsSome, length, sym, ap, subst}
+use Rattle.ubik_types.specs.declared.versions.Version.{Version}
+use Rattle.cell_model.specs.Durable.{durable}
+use Rattle.cell_model.specs.Step.{Member, cell_size}
+use Rattle.server_state.specs.declared.state.State.{State}
+use Rattle.server_state.specs.State.{member_of, server_of}
+use Rattle.ubik_node.specs.Acts.{ActNeeds}
+use Rattle.ubik_node.specs.Node.{IsMeantIn, Knows, held}
+use Rattle.ubik_node.proofs.Decided.{act_needs, decided_ends, fails_so, has_room, stays_so}
+use Rattle.ubik_node.proofs.Endings.{handed_ends}
+use Rattle.ubik_node.proofs.Fronts.{short_back}
+use Rattle.ubik_node.proofs.nodes.Node.heard.Goals as goal
+
+pub returns-in_err-act-clause-ends : goal.returns-in_err-act-clause-ends
+returns-in_err-act-clause-ends g c =
+    let n = c.args.self.now in
+    let err = c.in_err-act.ensures.err in
+    let last = c.packet_heard.new.state in (
+      [],
+      handed_ends g.D.Disk c.from_residual.result _ c.from_residual.ensures.1
+          (short_back g.D.Disk (held n) (server_of last) (member_of last) c.requires.stored c.requires.not_halted (ap (λ (st : State). server_of st) err) (ap (λ (st : State). member_of st) err)),
+    )
+
+pub returns-clause-ends : goal.returns-clause-ends
+returns-clause-ends g c =
+    let n = c.args.self.now in
+    let st = n.state in
+    let mid = c.packet_heard.new.state in
+    let d = g.V.DraftService.standing in
+    let files = g.D.Disk.files n.store.disk in
+    let says = c.in_ok-act.ensures in
+    let kept = says.leaves.kept in
+    let act = c.in_ok-act.act in
+    let needs = act_needs (Knows g.D.Disk n) (IsSome files) (IsMeantIn d files st.image) (λ told more. told) (λ meant. meant.0) c.args.packet.now act says.need in
+    let made = c.perform.ensures.ends in (
+      made.0,
+      decided_ends g.D.Disk (held n) (server_of mid) (member_of mid) c.perform.result (says.step d.database made.0)
+          (λ needed. subst (λ (m : Member). ActNeeds act (1 < cell_size m → IsSome files) (IsSome files) (IsMeantIn d files mid.image)) (sym kept.member)
+          (subst (λ (bytes : List ℕ). ActNeeds act (Knows g.D.Disk n) (IsSome files) (IsMeantIn d files bytes)) (sym kept.image) (needs needed)))
+          (ap (λ (v : Version). durable v mid.image) kept.version ∙ ap (durable st.version) kept.image) kept.member
+          (fails_so act c.perform.result _ c.perform.ensures.fine says.leaves.halts)
+          (stays_so act c.perform.result _ c.perform.ensures.memory says.leaves.stays) made.1,
+    )
+
+pub perform-requires-clause-room : goal.perform-requires-clause-room
+perform-requires-clause-room g c = has_room c.in_ok-act.act (length c.args.out.now) c.requires.few
