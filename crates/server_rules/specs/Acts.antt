@@ -1,5 +1,5 @@
 -- What an act comes to, and what a decision keeps to.
-use Rattle.std.specs.Prelude.{◌≡◌, ◌≤◌, ◌+◌, ◌==◌, ℕ, Bool, true, false, None, Option, Some, List, length}
+use Rattle.std.specs.Prelude.{◌≡◌, ◌≤◌, ◌+◌, ◌++◌, ◌==◌, ℕ, Bool, true, false, None, Option, Some, List, length}
 use Rattle.ubik_types.specs.declared.limits.TheConstants.{MAX_IMAGE}
 use Rattle.ubik_types.specs.declared.versions.Version.{Version}
 use Rattle.ubik_types.specs.Logged.{too_large}
@@ -8,11 +8,12 @@ use Rattle.ubik_types.specs.Phase as phases
 use Rattle.ubik_calls.specs.declared.packets.Body.{Body}
 use Rattle.ubik_calls.specs.declared.packets.Body.TheVariants as body
 use Rattle.db_image.specs.Database.{Database}
+use Rattle.cell_model.specs.declared.events.Output.{Output}
 use Rattle.cell_model.specs.Node.{ReceivedText, Server, halted_from}
 use Rattle.cell_model.specs.Pieces.{piece_from}
 use Rattle.cell_model.specs.Receiver.{answers_version_kept, committed_by, relabelled_by}
 use Rattle.cell_model.specs.Recovery.{installed, relabelled_to, sent_piece, text_with}
-use Rattle.cell_model.specs.Step.{Member, Stepped, followed, quiet, sends_to, showing, with_phase}
+use Rattle.cell_model.specs.Step.{Member, Shown, Stepped, followed, outputs_of, quiet, sends_to, showing, with_phase}
 use Rattle.cell_model.specs.Writes.{settled, settled_with_turns}
 use Rattle.ubik_recovery.specs.declared.texts.TextSource.{TextSource}
 use Rattle.ubik_recovery.specs.Record.{RecoveryRecord, is_fetch, polled_of}
@@ -127,3 +128,9 @@ pub record Leaves (old new : State) (act : Act) : Type 0 where
   pub kept : Keeps old new
   pub halts : MayFail act → halted_from (server_of new) ≡ halted_from (server_of old)
   pub stays : MayEndShort act → server_of new ≡ server_of old
+
+-- A decision has put this out, and its act does the rest of the step.
+pub record GoesOn (t u : Stepped) (before after : List Output) : Type 0 where
+  pub shown : List Shown
+  pub outputs : after ≡ before ++ outputs_of shown
+  pub step : t ≡ record { server = u.server; calls = u.calls; shown = shown ++ u.shown }

@@ -10,3 +10,4 @@ mod voting;
 
 pub use acts::{Act, TextEnd};
 pub use packets::packet_heard;
+pub use recovery::recovery_turn;

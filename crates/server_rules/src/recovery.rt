@@ -1,9 +1,10 @@
 //! Recovery: polls, the image that is fetched, relabelling, and who has the own version or lacks it.
-ghost use Rattle.std.specs.Prelude.{◌≡◌, ◌≤◌, ◌<◌, ◌==◌, ℕ, Bool, false, List, IfOk, OnErr, length};
+ghost use Rattle.std.specs.Prelude.{◌≡◌, ◌≤◌, ◌<◌, ◌+◌, ◌==◌, nat_lt, ℕ, Bool, false, List, IfOk, OnErr, length};
+ghost use Rattle.ubik_types.specs.declared.limits.TheConstants.{SMALLTIME};
 ghost use Rattle.ubik_types.specs.Moment.{IsMoment};
 ghost use Rattle.ubik_types.specs.Version.{IsVersion};
 ghost use Rattle.db_image.specs.Database.{Database};
-ghost use Rattle.cell_model.specs.Recovery.{lacking_sent, piece_kept_received, piece_received, polled, relabelled, told_to_spread, version_is_received, version_kept_received};
+ghost use Rattle.cell_model.specs.Recovery.{lacking_sent, next_asked, piece_kept_received, piece_received, poll_asked, poll_begun, polled, recovery_turn, relabelled, told_to_spread, version_is_received, version_kept_received};
 ghost use Rattle.cell_model.specs.Step.{host_at};
 ghost use Rattle.ubik_recovery.specs.Record.{adopted, best_of, host_of, is_fetch, polled_of, spread_of};
 ghost use Rattle.ubik_recovery.specs.Text.{received_bytes, with_piece};
@@ -11,13 +12,116 @@ ghost use Rattle.server_state.specs.Receiving.{fetched};
 ghost use Rattle.server_state.specs.Recovering.{IsOfCell, IsServing};
 ghost use Rattle.server_state.specs.Spreading.{IsSpreading};
 ghost use Rattle.server_state.specs.State.{member_of, server_of, server_with};
-ghost use Rattle.server_rules.specs.Acts.{CanAct, EndsText, Leaves, MayEndShort, act_need, stepped_by};
+ghost use Rattle.server_rules.specs.Acts.{CanAct, EndsText, GoesOn, HasRoom, Leaves, MayEndShort, MayFail, act_need, stepped_by};
 
 use crate::acts::{Act, TextEnd};
-use server_state::State;
+use server_state::{Outputs, State};
+use std::alloc::Global;
 use ubik_calls::Body;
 use ubik_recovery::{Recovery, TextSource};
-use ubik_types::{Host, NoMemory, Phase, Version, majority};
+use ubik_types::{Host, NoMemory, Phase, SMALLTIME, Version, majority};
+
+/// The recovery turn, after the lapse: what is asked of the others is put out. Where memory runs out, some packets of the write in flight are out,
+/// and nothing else changed.
+pub fn recovery_turn(
+    state: &mut State,
+    alloc: Global,
+    now: u32,
+    out: &mut Outputs,
+) -> Result<Act<'static>, NoMemory>
+    requires moment { IsMoment now }
+    requires few { length out.old ≤ 100 }
+    ensures step { (db : Database) (short : List Bool) → IfOk result (λ act. GoesOn (recovery_turn (member_of state.old) (server_of state.old) now)
+        (stepped_by db (member_of state.new) now short (server_of state.new) act) out.old out.new) }
+    ensures leaves { IfOk result (Leaves state.old state.new) }
+    ensures need { IfOk result (λ act. act_need act ≤ 1) }
+    ensures room { IfOk result (λ act. HasRoom act (length out.new)) }
+    ensures err { OnErr result (state.new ≡ state.old) }
+{
+    let leased = state.votes.in_lease(now);
+    let over = poll_is_over(state, now);
+    match state.recovery.phase() {
+        Phase::None if leased => Ok(poll_begun(state, now, out)),
+        Phase::None => Ok(Act::Rest),
+        Phase::Poll => {
+            let next = state.recovery.marks();
+            Ok(poll_asked(state, next, now, out))
+        }
+        Phase::Fetch if over => Ok(poll_begun(state, now, out)),
+        Phase::Fetch => Ok(piece_wanted(state)),
+        Phase::Relabel => {
+            let next = state.recovery.marks();
+            Ok(relabelled(state, next, now))
+        }
+        Phase::Send | Phase::Ready => {
+            state.spread_again(alloc, out)?;
+            Ok(Act::Rest)
+        }
+    }
+}
+
+/// Whether the poll began more than 60 seconds ago.
+fn poll_is_over(state: &State, now: u32) -> bool
+    ensures { result ≡ nat_lt (state.now.recovery.poll + SMALLTIME) now }
+{
+    now.saturating_sub(state.recovery.poll()) > SMALLTIME
+}
+
+/// A poll begins, and the others are asked.
+fn poll_begun(state: &mut State, now: u32, out: &mut Outputs) -> Act<'static>
+    requires resting { ¬ IsServing state.old.recovery }
+    requires moment { IsMoment now }
+    requires few { length out.old ≤ 100 }
+    ensures step { (db : Database) (short : List Bool) → GoesOn (poll_begun (member_of state.old) (server_of state.old) now)
+        (stepped_by db (member_of state.new) now short (server_of state.new) result) out.old out.new }
+    ensures leaves { Leaves state.old state.new result }
+    ensures need { act_need result ≤ 1 }
+    ensures room { HasRoom result (length out.new) }
+{
+    let mut next = state.recovery.marks();
+    next.begin(now, state.me, state.version);
+    poll_asked(state, next, now, out)
+}
+
+/// Each server that has not answered the poll of a recovery is asked, and the poll goes on.
+fn poll_asked(state: &mut State, next: Recovery, now: u32, out: &mut Outputs) -> Act<'static>
+    requires resting { ¬ IsServing state.old.recovery }
+    requires of_cell { IsOfCell (length state.old.cell) next }
+    requires moment { IsMoment now }
+    requires phase { next.phase ≡ Phase.Poll }
+    requires few { length out.old ≤ 100 }
+    ensures step { (db : Database) (short : List Bool)
+        → GoesOn (poll_asked (member_of state.old) (server_with state.old (adopted next state.old.recovery)) (polled_of next) now)
+        (stepped_by db (member_of state.new) now short (server_of state.new) result) out.old out.new }
+    ensures leaves { Leaves state.old state.new result }
+    ensures need { act_need result ≤ 1 }
+    ensures room { HasRoom result (length out.new) }
+{
+    state.ask_versions(&next.answered(), next.poll(), out);
+    polled(state, next, now)
+}
+
+/// In a fetch the next piece is asked for.
+fn piece_wanted(state: &State) -> Act<'static>
+    ensures step { (db : Database) (now : ℕ) (short : List Bool)
+        → next_asked (member_of state.now) (server_of state.now) (polled_of state.now.recovery) (best_of state.now.recovery) (host_of state.now.recovery)
+        ≡ stepped_by db (member_of state.now) now short (server_of state.now) result }
+    ensures can { CanAct state.now result }
+    ensures need { act_need result ≤ 0 }
+    ensures memory { ¬ MayEndShort result }
+    ensures fine { ¬ MayFail result }
+    ensures room { (outputs : ℕ) → outputs ≤ 120 → HasRoom result outputs }
+{
+    let (version, _) = state.recovery.best();
+    Act::Send {
+        to: fetched_from(state),
+        body: Body::GetPiece {
+            poll: state.recovery.poll(),
+            version,
+            offset: state.recovery.received().len() as u32,
+        },
+    }
+}
 
 /// The relabelling for the poll of a recovery, once the moment is past the own epoch.
 fn relabelled(state: &mut State, next: Recovery, now: u32) -> Act<'static>
@@ -30,6 +134,7 @@ fn relabelled(state: &mut State, next: Recovery, now: u32) -> Act<'static>
         ≡ stepped_by db (member_of state.new) now short (server_of state.new) result }
     ensures leaves { Leaves state.old state.new result }
     ensures need { act_need result ≤ 1 }
+    ensures room { (outputs : ℕ) → outputs ≤ 120 → HasRoom result outputs }
 {
     if state.version.epoch < now {
         return Act::Relabel {
@@ -55,6 +160,7 @@ fn polled(state: &mut State, next: Recovery, now: u32) -> Act<'static>
         ≡ stepped_by db (member_of state.new) now short (server_of state.new) result }
     ensures leaves { Leaves state.old state.new result }
     ensures need { act_need result ≤ 1 }
+    ensures room { (outputs : ℕ) → outputs ≤ 120 → HasRoom result outputs }
 {
     if !majority(&state.cell, &next.answered()) {
         state.adopt(next);

@@ -36,7 +36,7 @@ use Rattle.server_state.specs.Beacons.{alone}
 use Rattle.ubik_node.specs.Verdict.{Leads}
 use Rattle.server_state.specs.Writing.{write_begun}
 use Rattle.ubik_node.proofs.Durables.{IsThere}
-use Rattle.ubik_node.proofs.Relabelled.{sends_same}
+use Rattle.server_rules.proofs.Turns.{sends_same}
 
 module _ (db : Database) (m : Member) (s : Server) (now id : ℕ) (call : List ℕ) where
   -- a call that the database refuses

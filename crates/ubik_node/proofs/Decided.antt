@@ -1,15 +1,17 @@
 -- What is left of a rule after its decision.
-use Rattle.std.proofs.Common.{◌≡◌, ◌≢◌, ◌≤◌, ◌<◌, ◌⊎◌, ◌∙◌, ℕ, zero, suc, Bool, List, Result, Ok, Err, OnOk, IfErr, IsErrOf, IsOk, refl, sym, ap, subst, arith}
+use Rattle.std.proofs.Common.{◌≡◌, ◌≢◌, ◌≤◌, ◌<◌, ◌⊎◌, ◌∙◌, ℕ, zero, suc, Bool, List, Result, Ok, Err, OnOk, IfErr, IsErrOf, IsOk, refl, sym, ap, subst, arith, Option, IsSome}
 use Rattle.disk_base.specs.declared.disks.Disk.{Ghosts}
 use Rattle.ubik_calls.specs.declared.packets.Body.{Body}
 use Rattle.ubik_calls.specs.declared.packets.Body.TheVariants as body
 use Rattle.ubik_store.specs.declared.faults.StoreFault.{StoreFault}
 use Rattle.ubik_store.specs.declared.faults.StoreFault.TheVariants.{DiskFault}
+use Rattle.disk_base.specs.Files.{Files}
 use Rattle.db_image.specs.Database.{Database}
+use Rattle.db_image.specs.Standing.{Standing}
 use Rattle.cell_model.specs.declared.events.Output.{Output}
 use Rattle.cell_model.specs.Durable.{Durable}
 use Rattle.cell_model.specs.Node.{Server, halted_from}
-use Rattle.cell_model.specs.Step.{Member, Stepped}
+use Rattle.cell_model.specs.Step.{Member, Stepped, cell_size}
 use Rattle.server_rules.specs.declared.acts.Act.{Act}
 use Rattle.server_rules.specs.declared.acts.Act.TheVariants as act
 use Rattle.server_rules.specs.Acts.{HasRoom, MayEndShort, MayFail, act_need, stepped_by}
@@ -19,7 +21,7 @@ use Rattle.ubik_node.specs.Acts.{ActNeeds, needs_at}
 use Rattle.ubik_node.specs.Disk.{FailsIn, Serves}
 use Rattle.ubik_node.proofs.Endings.{never_short, ok_not}
 use Rattle.std.proofs.lemmas.Bool.{false≢true}
-use Rattle.ubik_node.specs.Node.{Ends, EndsSo, Held, IsMade, NeedsFiles, durable_in}
+use Rattle.ubik_node.specs.Node.{Ends, EndsSo, Held, IsMade, IsMeantIn, NeedsFiles, durable_in}
 
 module _ {D : Type 0} (g : Ghosts D) (db : Database) (m : Member) (now : ℕ) (s : Server) (knows tells meant : Type 0) {before after : List Output} {n k : Held D} {r : Result (Unit {0}) StoreFault} where
   -- an act, from what it is
@@ -39,7 +41,7 @@ always (Err e) p = λ other. p
 -- ---- what is needed
 
 module _ (knows tells meant : Type 0) (less : tells → knows) (more : meant → tells) where
-  needs_less : (a b : ℕ) → a ≤ b → needs_at b knows tells meant → needs_at a knows tells meant
+  pub needs_less : (a b : ℕ) → a ≤ b → needs_at b knows tells meant → needs_at a knows tells meant
   needs_less zero b few needs = tt
   needs_less (suc zero) zero few needs = absurd (omega (arith, few))
   needs_less (suc zero) (suc zero) few needs = needs
@@ -72,6 +74,13 @@ module _ (knows tells meant : Type 0) (less : tells → knows) (more : meant →
 
   pub act_needs : (b : Body) (a : Act) → act_need a ≤ body_need b → NeedsFiles b tells meant → ActNeeds a knows tells meant
   act_needs b a few needs = needs_less (act_need a) (body_need b) few (body_needs b needs)
+
+-- at another state of the same place and image
+pub needs_there : (d : Standing) (files : Option Files) (a : Act) {m k : Member} {image bytes : List ℕ} → m ≡ k → image ≡ bytes
+    → ActNeeds a (1 < cell_size k → IsSome files) (IsSome files) (IsMeantIn d files bytes) → ActNeeds a (1 < cell_size m → IsSome files) (IsSome files) (IsMeantIn d files image)
+needs_there d files a {m} {k} {image} {bytes} here same needs =
+    subst (λ (x : Member). ActNeeds a (1 < cell_size x → IsSome files) (IsSome files) (IsMeantIn d files image)) (sym here)
+    (subst (λ (xs : List ℕ). ActNeeds a (1 < cell_size k → IsSome files) (IsSome files) (IsMeantIn d files xs)) (sym same) needs)
 
 -- behind a hundred outputs there is room for every act
 pub has_room : (a : Act) (outputs : ℕ) → outputs ≤ 100 → HasRoom a outputs

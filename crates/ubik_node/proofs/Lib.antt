@@ -30,7 +30,6 @@ pub mod Senders
 pub mod Served
 pub mod Stepping
 pub mod Told
-pub mod Turning
 pub mod Turns
 pub mod TwoCalls
 pub mod Voted

@@ -16,12 +16,9 @@ use Rattle.cell_model.specs.Recovery.{spread_answer}
 use Rattle.cell_model.specs.Step.{Member, Shown, announcing, cell_size, is_fetch, outputs_of, quiet, sends_from, sends_to_each, showing, with_database, with_phase}
 use Rattle.cell_model.specs.declared.events.Output.{Output}
 use Rattle.cell_model.specs.Writes.{ended_write, settled, settled_in}
+use Rattle.server_rules.proofs.Turns.{sends_same}
 use Rattle.server_state.specs.declared.spreading.Given.{Given}
 use Rattle.server_state.specs.Spreading.{given_bodies}
-
-pub sends_same : (m : Member) (k : ℕ) (hosts : List Host) (a b : ℕ → List Body) → ((k : ℕ) → a k ≡ b k) → sends_from m k hosts a ≡ sends_from m k hosts b
-sends_same m k [] a b same = refl
-sends_same m k (host ∷ hosts) a b same = rw (same k, sends_same m (k + 1) hosts a b same) refl
 
 alone_sends : (m : Member) (a : ℕ → List Body) → length m.hosts ≤ 1 → m.me < length m.hosts → sends_to_each m a ≡ []
 alone_sends m a one inside = by m.hosts m.me one inside

@@ -2,6 +2,7 @@
 ghost use Rattle.std.specs.Prelude.{◌≡◌, ◌≤◌, ◌<◌, ◌⊎◌, if◌then◌else◌, length, false, IsErrOf, IsOk, IsSome};
 ghost use Rattle.ubik_types.specs.Moment.{IsMoment};
 ghost use Rattle.cell_model.specs.NodeRule.{received_from};
+ghost use Rattle.cell_model.specs.Recovery.{recovery_turn};
 ghost use Rattle.cell_model.specs.Step.{sends_to, showing};
 ghost use Rattle.server_rules.specs.Acts.{CanAct, HasRoom, MayEndShort, MayFail, own_piece, stepped_by};
 ghost use Rattle.server_rules.specs.Packets.{IsActed};
@@ -13,7 +14,7 @@ use crate::nodes::Node;
 use crate::pieces::read_piece;
 use crate::steady_disks::SteadyDisk;
 use db_image::DraftService;
-use server_rules::{Act, packet_heard};
+use server_rules::{Act, packet_heard, recovery_turn};
 use server_state::{Outputs, State};
 use ubik_calls::Body;
 use ubik_store::StoreFault;
@@ -44,6 +45,19 @@ impl<D: SteadyDisk, V: DraftService> Node<D, V> {
         ensures memory { BodyTakesNoMemory packet.now → IsErrOf result StoreFault.DiskFault ⊎ IsOk result }
     {
         let act = packet_heard(&mut self.state, self.alloc, now, from, host, packet)?;
+        self.perform(now, act, out)
+    }
+
+    /// The recovery turn of a server that is not halted, after the lapse.
+    pub(crate) fn recover(&mut self, now: u32, out: &mut Outputs) -> Result<(), StoreFault>
+        requires moment { IsMoment now }
+        requires not_halted { self.old.halted ≡ false }
+        requires stored { IsStored D.Disk self.old }
+        requires few { length out.old ≤ 100 }
+        ensures { EndsSo D.Disk (Knows D.Disk self.old) (λ _. recovery_turn (own_member self.old) (up_server self.old) now)
+            out.old out.new (held self.old) (held self.new) result }
+    {
+        let act = recovery_turn(&mut self.state, self.alloc, now, out)?;
         self.perform(now, act, out)
     }
 

@@ -1,16 +1,14 @@
-//! Recovery: the turn of a server, the end of a fetch, and relabelling: the database gets the first version of a moment past its epoch, and goes
-//! to the servers that answered the poll. All memory is taken before the disk is changed.
-ghost use Rattle.std.specs.Prelude.{◌≡◌, ◌+◌, ◌≤◌, ◌<◌, length, nat_lt, true, false, IsSome};
-ghost use Rattle.ubik_types.specs.declared.limits.TheConstants.{MAX_IMAGE, SMALLTIME};
-ghost use Rattle.ubik_types.specs.Moment.{IsMoment};
+//! Recovery: relabelling, the own database or a fetched one: it gets the first version of a moment past its epoch, and goes to the servers that
+//! answered the poll. All memory is taken before the disk is changed.
+ghost use Rattle.std.specs.Prelude.{◌≡◌, ◌≤◌, length, true, false, IsSome};
+ghost use Rattle.ubik_types.specs.declared.limits.TheConstants.{MAX_IMAGE};
 ghost use Rattle.ubik_types.specs.Version.{IsVersion, version_lt};
-ghost use Rattle.cell_model.specs.Recovery.{installed, polled, poll_asked, poll_begun, recovery_turn, relabelled, relabelled_to};
+ghost use Rattle.cell_model.specs.Recovery.{installed, relabelled_to};
 ghost use Rattle.cell_model.specs.Step.{followed};
 ghost use Rattle.cell_model.specs.Writes.{settled};
-ghost use Rattle.ubik_recovery.specs.Record.{adopted, is_fetch, polled_of};
+ghost use Rattle.ubik_recovery.specs.Record.{polled_of};
 ghost use Rattle.server_rules.specs.Acts.{IsOver, MayTake};
-ghost use Rattle.server_state.specs.State.{server_with};
-ghost use Rattle.server_state.specs.Recovering.{IsOfCell, IsServing};
+ghost use Rattle.server_state.specs.Recovering.{IsOfCell};
 
 use crate::nodes::Node;
 use crate::pieces::first_piece;
@@ -20,7 +18,7 @@ use server_state::{Given, HeldImage, Outputs};
 use ubik_calls::MAX_PIECE;
 use ubik_recovery::Recovery;
 use ubik_store::StoreFault;
-use ubik_types::{Phase, SMALLTIME, Version, bytes_of, majority};
+use ubik_types::{Version, bytes_of};
 
 impl<D: SteadyDisk, V: DraftService> Node<D, V> {
     ghost use Rattle.ubik_node.specs.Node.{Ends, held, IsStored, Knows, own_member, up_server};
@@ -54,132 +52,6 @@ impl<D: SteadyDisk, V: DraftService> Node<D, V> {
         self.state.begin_sending(next, new);
         self.state.settle(out);
         Ok(())
-    }
-
-    /// The relabelling for the poll of a recovery, once the moment is past the own epoch.
-    pub(crate) fn relabelled(
-        &mut self,
-        next: Recovery,
-        now: u32,
-        out: &mut Outputs,
-    ) -> Result<(), StoreFault>
-        requires resting { ¬ IsServing self.old.state.recovery }
-        requires moment { IsMoment now }
-        requires not_halted { self.old.halted ≡ false }
-        requires stored { IsStored D.Disk self.old }
-        requires few { length out.old ≤ 120 }
-        requires of_cell { IsOfCell (length self.old.state.cell) next }
-        requires phase { is_fetch next.phase ≡ false }
-        ensures { Ends D.Disk (Knows D.Disk self.old)
-            (relabelled (own_member self.old) (server_with self.old.state (adopted next self.old.state.recovery)) (polled_of next) now)
-            out.old out.new (held self.old) (held self.new) result }
-    {
-        let late = self.state.version.epoch < now;
-        if late {
-            let new = Version {
-                epoch: now,
-                counter: 1,
-            };
-            return self.relabel(next, new, out);
-        }
-        self.state.wait(next);
-        Ok(())
-    }
-
-    /// A poll of a recovery goes on: at a majority of answers it is known which version is the best.
-    pub(crate) fn polled(
-        &mut self,
-        next: Recovery,
-        now: u32,
-        out: &mut Outputs,
-    ) -> Result<(), StoreFault>
-        requires resting { ¬ IsServing self.old.state.recovery }
-        requires moment { IsMoment now }
-        requires not_halted { self.old.halted ≡ false }
-        requires stored { IsStored D.Disk self.old }
-        requires few { length out.old ≤ 120 }
-        requires of_cell { IsOfCell (length self.old.state.cell) next }
-        requires phase { next.phase ≡ Phase.Poll }
-        ensures { Ends D.Disk (Knows D.Disk self.old)
-            (polled (own_member self.old) (server_with self.old.state (adopted next self.old.state.recovery)) (polled_of next) now)
-            out.old out.new (held self.old) (held self.new) result }
-    {
-        let known = majority(&self.state.cell, &next.answered());
-        if !known {
-            self.state.adopt(next);
-            return Ok(());
-        }
-        let better = self.state.version < next.best().0;
-        if better {
-            self.state.fetch_best(next, out);
-            return Ok(());
-        }
-        self.relabelled(next, now, out)
-    }
-
-    /// Each server that has not answered the poll of a recovery is asked, and the poll goes on.
-    fn poll_asked(&mut self, next: Recovery, now: u32, out: &mut Outputs) -> Result<(), StoreFault>
-        requires resting { ¬ IsServing self.old.state.recovery }
-        requires moment { IsMoment now }
-        requires not_halted { self.old.halted ≡ false }
-        requires stored { IsStored D.Disk self.old }
-        requires few { length out.old ≤ 100 }
-        requires of_cell { IsOfCell (length self.old.state.cell) next }
-        requires phase { next.phase ≡ Phase.Poll }
-        ensures { Ends D.Disk (Knows D.Disk self.old)
-            (poll_asked (own_member self.old) (server_with self.old.state (adopted next self.old.state.recovery)) (polled_of next) now)
-            out.old out.new (held self.old) (held self.new) result }
-    {
-        self.state.ask_versions(&next.answered(), next.poll(), out);
-        self.polled(next, now, out)
-    }
-
-    /// A poll begins, and the others are asked.
-    fn begin_poll(&mut self, now: u32, out: &mut Outputs) -> Result<(), StoreFault>
-        requires resting { ¬ IsServing self.old.state.recovery }
-        requires moment { IsMoment now }
-        requires not_halted { self.old.halted ≡ false }
-        requires stored { IsStored D.Disk self.old }
-        requires few { length out.old ≤ 100 }
-        ensures { Ends D.Disk (Knows D.Disk self.old) (poll_begun (own_member self.old) (up_server self.old) now) out.old out.new (held self.old) (held self.new) result }
-    {
-        let mut next = self.state.recovery.marks();
-        next.begin(now, self.state.me, self.state.version);
-        self.poll_asked(next, now, out)
-    }
-
-    /// The recovery turn of a server that is not halted, after the lapse.
-    pub(crate) fn recover(&mut self, now: u32, out: &mut Outputs) -> Result<(), StoreFault>
-        requires moment { IsMoment now }
-        requires not_halted { self.old.halted ≡ false }
-        requires stored { IsStored D.Disk self.old }
-        requires few { length out.old ≤ 100 }
-        ensures { Ends D.Disk (Knows D.Disk self.old) (recovery_turn (own_member self.old) (up_server self.old) now) out.old out.new (held self.old) (held self.new) result }
-    {
-        let leased = self.state.votes.in_lease(now);
-        let over = self.poll_is_over(now);
-        match self.state.recovery.phase() {
-            Phase::None if leased => self.begin_poll(now, out),
-            Phase::None => Ok(()),
-            Phase::Poll => {
-                let next = self.state.recovery.marks();
-                self.poll_asked(next, now, out)
-            }
-            Phase::Fetch if over => self.begin_poll(now, out),
-            Phase::Fetch => {
-                let offset = self.state.recovery.received().len() as u32;
-                self.state.ask_piece(offset, out);
-                Ok(())
-            }
-            Phase::Relabel => {
-                let next = self.state.recovery.marks();
-                self.relabelled(next, now, out)
-            }
-            Phase::Send | Phase::Ready => {
-                self.state.spread_again(self.alloc, out)?;
-                Ok(())
-            }
-        }
     }
 
     /// Another server's whole image is installed, and then relabelled, for the poll of a recovery.
@@ -219,12 +91,5 @@ impl<D: SteadyDisk, V: DraftService> Node<D, V> {
         self.state.begin_sending(next, new);
         self.state.settle(out);
         Ok(())
-    }
-
-    /// Whether the poll began more than 60 seconds ago.
-    fn poll_is_over(&self, now: u32) -> bool
-        ensures { result ≡ nat_lt (self.now.state.recovery.poll + SMALLTIME) now }
-    {
-        now.saturating_sub(self.state.recovery.poll()) > SMALLTIME
     }
 }

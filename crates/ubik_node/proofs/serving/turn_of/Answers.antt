@@ -5,7 +5,7 @@ use Rattle.cell_model.specs.Step.{Announced_image, Beacon_image, told_version}
 use Rattle.ubik_recovery.specs.Record.{phase_record}
 use Rattle.server_state.specs.State.{announced, member_of, server_of}
 use Rattle.server_state.specs.Writing.{own_of}
-use Rattle.ubik_node.proofs.Alone.{leased_here}
+use Rattle.server_rules.proofs.Turns.{leased_here}
 use Rattle.server_state.proofs.Polled.{ready_phase}
 use Rattle.ubik_node.proofs.Served.{reads_announced, reads_own, waits_or_writes}
 use Rattle.server_state.proofs.Writes.{none_in_flight}

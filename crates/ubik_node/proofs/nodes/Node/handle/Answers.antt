@@ -25,7 +25,7 @@ pub returns-in-RecoverTurn-clause-ends : goal.returns-in-RecoverTurn-clause-ends
 returns-in-RecoverTurn-clause-ends g c =
     let n = c.args.self.now in
     let d = g.V.DraftService.standing in
-    event_ends g.D.Disk d (member_of n.state) (server_of n.state) c.args.now c.args.event.now event.RecoverTurn (g.D.Disk.files n.store.disk) c.in-RecoverTurn.is ([], c.recover.ensures)
+    event_ends g.D.Disk d (member_of n.state) (server_of n.state) c.args.now c.args.event.now event.RecoverTurn (g.D.Disk.files n.store.disk) c.in-RecoverTurn.is c.recover.ensures
 
 pub returns-in-Ask-clause-ends : goal.returns-in-Ask-clause-ends
 returns-in-Ask-clause-ends g c =

@@ -1,12 +1,10 @@
 use Rattle.std.proofs.Common.{◌≡◌, ◌<◌, ◌∙◌, [], List, ℕ, IsSome, length, sym, ap, subst}
 use Rattle.ubik_types.specs.declared.versions.Version.{Version}
 use Rattle.cell_model.specs.Durable.{durable}
-use Rattle.cell_model.specs.Step.{Member, cell_size}
 use Rattle.server_state.specs.declared.state.State.{State}
 use Rattle.server_state.specs.State.{member_of, server_of}
-use Rattle.ubik_node.specs.Acts.{ActNeeds}
 use Rattle.ubik_node.specs.Node.{IsMeantIn, Knows, held}
-use Rattle.ubik_node.proofs.Decided.{act_needs, decided_ends, fails_so, has_room, stays_so}
+use Rattle.ubik_node.proofs.Decided.{act_needs, decided_ends, fails_so, has_room, needs_there, stays_so}
 use Rattle.ubik_node.proofs.Endings.{handed_ends}
 use Rattle.ubik_node.proofs.Fronts.{short_back}
 use Rattle.ubik_node.proofs.nodes.Node.heard.Goals as goal
@@ -35,8 +33,7 @@ returns-clause-ends g c =
     let made = c.perform.ensures.ends in (
       made.0,
       decided_ends g.D.Disk (held n) (server_of mid) (member_of mid) c.perform.result (says.step d.database made.0)
-          (λ needed. subst (λ (m : Member). ActNeeds act (1 < cell_size m → IsSome files) (IsSome files) (IsMeantIn d files mid.image)) (sym kept.member)
-          (subst (λ (bytes : List ℕ). ActNeeds act (Knows g.D.Disk n) (IsSome files) (IsMeantIn d files bytes)) (sym kept.image) (needs needed)))
+          (λ needed. needs_there d files act kept.member kept.image (needs needed))
           (ap (λ (v : Version). durable v mid.image) kept.version ∙ ap (durable st.version) kept.image) kept.member
           (fails_so act c.perform.result _ c.perform.ensures.fine says.leaves.halts)
           (stays_so act c.perform.result _ c.perform.ensures.memory says.leaves.stays) made.1,

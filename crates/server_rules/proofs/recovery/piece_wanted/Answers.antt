@@ -1,0 +1,9 @@
+use Rattle.std.proofs.Common.{sym, subst}
+use Rattle.ubik_types.specs.Version.{IsVersion}
+use Rattle.server_state.proofs.Polled.{version_best}
+use Rattle.server_rules.proofs.recovery.piece_wanted.Goals as goal
+
+pub returns-clause-can : goal.returns-clause-can
+returns-clause-can c =
+    let st = c.args.state.now in
+    subst IsVersion (sym c.best.ensures.version) (version_best st.recovery st.of_cell.answers)
