@@ -13,7 +13,7 @@ TOP = Path(__file__).resolve().parent.parent
 PORTS = {"ptserver": 7002, "vlserver": 7003}
 # Kinds of frames, and tags of replies: docs/FORMATS.md, "Frames".
 PACKET, ASK, REPLY, DEBUG, DEBUG_ANSWER = range(5)
-OK, READY = 0, 5
+OK, NO_QUORUM, NOT_SYNC, LINE_FULL, READY = 0, 2, 3, 4, 5
 
 
 class Failed(Exception):
@@ -25,7 +25,7 @@ class Refused(Exception):
 
     def __init__(self, tag, fields):
         super().__init__(f"reply with tag {tag}: {fields.hex(' ')}")
-        self.tag = tag
+        self.tag, self.fields = tag, fields
 
 
 def program(crate):
@@ -45,12 +45,13 @@ def count(text):
 
 
 class Cell:
-    """A cell of servers as processes, each over a folder of its own below one folder. Several cells of other addresses may share that."""
+    """A cell of servers as processes, each over a folder of its own below one folder. Several cells of other addresses may share that.
+    `around` gives the words before those of the server at an address, and its environment, where that is not this script's."""
 
-    def __init__(self, folder, addresses):
+    def __init__(self, folder, addresses, around=lambda address: ([], None)):
         self.server = program("afs_dbserver")
         self.folder, self.addresses, self.running = Path(folder), addresses, {}
-        self.hosts = ",".join(addresses)
+        self.hosts, self.around = ",".join(addresses), around
 
     @functools.cached_property
     def client(self):
@@ -66,8 +67,9 @@ class Cell:
         folder = self.folder_of(kind, address)
         folder.mkdir(exist_ok=True)
         with open(self.folder / f"{kind}-{address}.log", "ab") as log:
-            words = [self.server, kind, str(folder), address, self.hosts]
-            self.running[kind, address] = subprocess.Popen(words, stdin=subprocess.DEVNULL, stdout=log, stderr=log)
+            before, environment = self.around(address)
+            words = [*before, self.server, kind, str(folder), address, self.hosts]
+            self.running[kind, address] = subprocess.Popen(words, stdin=subprocess.DEVNULL, stdout=log, stderr=log, env=environment)
 
     def start_all(self, *kinds):
         for kind in kinds:
@@ -102,12 +104,12 @@ class Cell:
         return text
 
     def sync_site(self, kind):
-        """Returns the address of the server that says of itself that it is ready, or None."""
+        """Returns the address of the server that says of itself that it is the ready sync site, or None."""
         for kind_of, address in self.running:
             if kind_of == kind:
                 try:
                     with Connection(address, PORTS[kind], 2) as server:
-                        if server.phase() == READY:
+                        if server.is_ready():
                             return address
                 except OSError:
                     pass
@@ -174,14 +176,22 @@ class Connection:
             raise Refused(tag, reply[8:])
         return reply[8:]
 
-    def phase(self):
-        """Returns the number of the phase in which the server says that it is."""
+    def state(self):
+        """Returns what the server says of itself: host, moment, epoch, counter, phase, lease's end, sync host, voted host, and when."""
         self.number += 1
         self.send(DEBUG, word(self.number))
         kind, says = self.receive()
         if kind != DEBUG_ANSWER:
             raise Failed(f"a frame of kind {kind} in place of what a server says of itself")
-        return struct.unpack(">I", says[20:24])[0]
+        return struct.unpack(">9I", says[4:])
+
+    def is_ready(self):
+        """Whether the server is the ready sync site. A phase outlives its lease, until the server makes a step."""
+        _, now, _, _, phase, until = self.state()[:6]
+        return phase == READY and now <= until
+
+    def version(self):
+        return self.state()[2:4]
 
 
 def word(number):
