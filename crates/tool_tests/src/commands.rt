@@ -1,4 +1,4 @@
-//! A command of each tool over a link in memory, done and with sinks that fail.
+//! A command of each tool over a link in memory, with sinks that fail.
 use afs_words::{Tool, read_words};
 use disk_base::MemSink;
 use io_base::{Answer, MemAnswer, MemLink};
@@ -79,14 +79,6 @@ fn run_case(rt: &impl Abort, alloc: Global, case: &Case) -> Result<(), Fail> {
     assert_eq!(rt; made.host, HOST);
     assert_eq!(rt; made.port, if case.tool == Tool::Vos { 7003 } else { 7002 });
     assert_eq!(rt; made.frame.as_slice(), case.frame);
-    Ok(())
-}
-
-#[test]
-fn commands_are_done(rt: HostRuntime) -> Result<(), Fail> {
-    for case in [LIST_ADDRESSES, LIST_MAXIMA] {
-        run_case(&rt, rt.alloc(), &case)?;
-    }
     Ok(())
 }
 
