@@ -1,5 +1,5 @@
-//! The database as a service, over an image in memory and over one whose reads fail.
-use db_image::{CallEnd, DraftService, DraftWords, ImageRead, ReadEnd, VecImage};
+//! The database as a service, over an image whose reads fail.
+use db_image::{CallEnd, DraftService, DraftWords, ImageRead, ReadEnd};
 use std::alloc::Global;
 use std::test::Fail;
 use ubik_types::{Bytes, bytes_of};
@@ -89,24 +89,6 @@ fn call_of(alloc: Global, words: &[&[u8]]) -> Result<Bytes, Fail> {
         list.push(bytes_of(alloc, word)?)?;
     }
     Ok(VlService::call_words(alloc, list.as_slice())?.ok_or("a call")?)
-}
-
-#[test]
-fn a_call_is_served(rt: HostRuntime) -> Result<(), Fail> {
-    let alloc = rt.alloc();
-    let mut draft = VlService::draft(alloc, VecImage::new(alloc, &[])?);
-    assert!(rt; draft.len() == 0);
-    let call = call_of(alloc, &[b"getnewvolumeid", b"3"])?;
-    assert_eq!(rt; VlService::writes(call.as_slice()), Some(true));
-    match VlService::call(alloc, &mut draft, 7, call.as_slice()) {
-        CallEnd::Done(fields) => {
-            let mut text = String::new(alloc);
-            VlService::tell_answer(&mut text, call.as_slice(), fields.as_slice())?;
-            assert_eq!(rt; text.as_str(), " 536870912");
-        }
-        _ => panic!(rt; "no answer"),
-    }
-    Ok(())
 }
 
 #[test]

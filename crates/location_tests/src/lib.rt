@@ -3,7 +3,3 @@
 
 #[cfg(test)]
 mod database;
-#[cfg(test)]
-mod records;
-#[cfg(test)]
-mod service;
