@@ -2,22 +2,12 @@
 #![tactic(auto)]
 
 #[cfg(test)]
-mod laws;
-#[cfg(test)]
 mod links;
-#[cfg(test)]
-mod locks;
 #[cfg(test)]
 mod nets;
 #[cfg(test)]
-mod recoveries;
-#[cfg(test)]
 mod scripts;
 #[cfg(test)]
-mod sites;
-#[cfg(test)]
 mod values;
-#[cfg(test)]
-mod votes;
 #[cfg(test)]
 mod writes;

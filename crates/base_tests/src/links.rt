@@ -1,6 +1,5 @@
-//! Links in memory, and over sockets of this machine.
-use io_base::{Answer, CONNECT_SECONDS, Exchange, Link, MemAnswer, MemLink, TcpLink, Waits};
-use std::alloc::Global;
+//! Links over sockets of this machine.
+use io_base::{Answer, CONNECT_SECONDS, Exchange, Link, TcpLink, Waits};
 use std::io::{Read, Write};
 use std::net::{Ipv4Addr, Net, SocketAddr, TcpListener, TcpStream};
 use std::process::Abort;
@@ -8,27 +7,12 @@ use std::sync::atomic::{AtomicBool, AtomicU64, Ordering};
 use std::test::Fail;
 use std::time::{Clock, Duration, Instant};
 use std::{io, thread};
-use ubik_types::{Host, bytes_of};
-
-const FIRST: Host = Host(167_772_161);
-
-const SECOND: Host = Host(167_772_162);
+use ubik_types::Host;
 
 /// This machine, 127.0.0.1.
 const LOOPBACK: Host = Host(2_130_706_433);
 
-const PORT: u16 = 7_003;
-
 const FRAME: [u8; 8] = [0, 0, 0, 4, 0, 0, 0, 9];
-
-fn item(alloc: Global, host: Host, answer: Answer, reply: &[u8]) -> Result<MemAnswer, Fail> {
-    let reply = bytes_of(alloc, reply)?;
-    Ok(MemAnswer {
-        host,
-        answer,
-        reply,
-    })
-}
 
 fn expect_exchange(
     rt: &impl Abort,
@@ -42,82 +26,6 @@ fn expect_exchange(
     assert_eq!(rt; exchange.frame.as_slice(), frame);
     assert_eq!(rt; exchange.answer, end.0);
     assert_eq!(rt; exchange.reply.as_slice(), end.1);
-}
-
-/// Four asks, of which the one at `place` ends otherwise than by an answer.
-fn expect_fault_at(
-    rt: &impl Abort,
-    alloc: Global,
-    place: usize,
-    fault: Answer,
-) -> Result<(), Fail> {
-    let mut items = Vec::new(alloc);
-    for at in 0..4 {
-        let answer = if at == place { fault } else { Answer::Got };
-        items.push(item(alloc, FIRST, answer, &[at as u8, 7])?)?;
-    }
-    let mut link = MemLink::new(items);
-    let mut reply = Vec::new(alloc);
-    for at in 0..4 {
-        let answer = link.ask(FIRST, PORT, &FRAME, &mut reply);
-        let told = [at as u8, 7];
-        if at == place {
-            assert_eq!(rt; answer, fault);
-            assert_eq!(rt; reply.as_slice(), [].as_slice());
-        } else {
-            assert_eq!(rt; answer, Answer::Got);
-            assert_eq!(rt; reply.as_slice(), told.as_slice());
-        }
-    }
-    let kept = link.exchanges();
-    let made = if fault == Answer::NoMemory { 3 } else { 4 };
-    assert_eq!(rt; kept.len(), made);
-    assert_eq!(rt; link.left().len(), 0);
-    for exchange in kept {
-        assert_eq!(rt; exchange.frame.as_slice(), FRAME.as_slice());
-        assert_eq!(rt;
-            exchange.reply.as_slice().is_empty(),
-            exchange.answer != Answer::Got
-        );
-    }
-    Ok(())
-}
-
-/// Each host has its own answers.
-fn expect_two_hosts(rt: &impl Abort, alloc: Global) -> Result<(), Fail> {
-    let mut items = Vec::new(alloc);
-    items.push(item(alloc, FIRST, Answer::Got, &[1])?)?;
-    items.push(item(alloc, SECOND, Answer::Got, &[2])?)?;
-    items.push(item(alloc, FIRST, Answer::NoAnswer, &[])?)?;
-    let mut link = MemLink::new(items);
-    let mut reply = Vec::new(alloc);
-    let asked = [
-        (SECOND, Answer::Got, [2].as_slice()),
-        (FIRST, Answer::Got, [1].as_slice()),
-        (SECOND, Answer::NotSent, [].as_slice()),
-        (FIRST, Answer::NoAnswer, [].as_slice()),
-        (FIRST, Answer::NotSent, [].as_slice()),
-    ];
-    for (host, answer, told) in &asked {
-        assert_eq!(rt; link.ask(*host, PORT, &FRAME, &mut reply), *answer);
-        assert_eq!(rt; reply.as_slice(), *told);
-    }
-    for (exchange, (host, answer, told)) in link.exchanges().iter().zip(&asked) {
-        expect_exchange(rt, exchange, (*host, PORT), &FRAME, (*answer, *told));
-    }
-    assert_eq!(rt; link.exchanges().len(), 5);
-    Ok(())
-}
-
-/// Each fault at each place of four asks, and two hosts.
-#[test]
-fn answers_of_a_link_in_memory(rt: HostRuntime) -> Result<(), Fail> {
-    for fault in [Answer::NotSent, Answer::NoAnswer, Answer::NoMemory] {
-        for place in 0..4 {
-            expect_fault_at(&rt, rt.alloc(), place, fault)?;
-        }
-    }
-    expect_two_hosts(&rt, rt.alloc())
 }
 
 fn listen<N>(rt: &N) -> io::Result<(TcpListener, u16)>

@@ -1,12 +1,12 @@
-//! A write from its flight to the changes at another server.
+//! A write in its flight, and the image before it.
 ghost use Rattle.std.specs.Prelude.{◌<◌, ◌^◌, length};
 
 use db_image::{ImageRead, ReadEnd, VecImage};
-use std::alloc::{AllocError, Global};
+use std::alloc::Global;
 use std::process::Abort;
 use std::test::Fail;
 use ubik_types::{Change, Changes, NoMemory, Version, bytes_of};
-use ubik_write::{BeforeImage, Flight, FlightFault, Pending, PendingEnd, text_len};
+use ubik_write::{BeforeImage, Flight, FlightFault, text_len};
 
 const OLD: Version = Version {
     epoch: 1076,
@@ -167,63 +167,5 @@ fn reads_that_fail(rt: HostRuntime) -> Result<(), Fail> {
     let made = Flight::make(rt.alloc(), 5, OLD, NEW, 1076, &changes, &mut image);
     assert!(rt; matches!(made, Err(FlightFault::DiskFault)));
     assert_eq!(rt; image.faults, 1);
-    Ok(())
-}
-
-fn sevens(alloc: Global, count: usize) -> Result<Vec<u8>, AllocError> {
-    let mut bytes = Vec::new(alloc);
-    for _ in 0..count {
-        bytes.push(7)?;
-    }
-    Ok(bytes)
-}
-
-/// A put of nine thousand bytes and a cut, whose text has two pieces.
-fn long_changes(alloc: Global) -> Result<Changes, Fail> {
-    let sevens = sevens(alloc, 9000)?;
-    let mut list = Vec::new(alloc);
-    list.push(put(alloc, 0, &sevens)?)?;
-    list.push(Change::Cut { len: 9000 })?;
-    Ok(Changes::new(list))
-}
-
-/// Whether these are the changes of `long_changes`.
-fn are_long_changes(changes: &Changes) -> bool {
-    match changes.as_slice() {
-        [Change::Put { at: 0, bytes }, Change::Cut { len: 9000 }] => {
-            bytes.as_slice().len() == 9000 && bytes.as_slice().iter().all(|byte| *byte == 7)
-        }
-        _ => false,
-    }
-}
-
-/// Whether a write has come whole, and has those changes.
-fn is_long(write: &Pending) -> bool {
-    match write.finish() {
-        PendingEnd::Whole(changes) => are_long_changes(&changes),
-        _ => false,
-    }
-}
-
-fn is_missing(write: &Pending) -> bool {
-    matches!(write.finish(), PendingEnd::Missing)
-}
-
-/// A text of two pieces at another server: they come in any order, one takes the place of another, one past the count changes nothing.
-#[test]
-fn pieces_in_any_order(rt: HostRuntime) -> Result<(), Fail> {
-    let changes = long_changes(rt.alloc())?;
-    let flight = short_flight(&rt, rt.alloc(), &changes, b"")?;
-    assert_eq!(rt; flight.text_len(), 9020);
-    assert_eq!(rt; flight.pieces(), 2);
-    let mut write = Pending::begin(rt.alloc(), OLD, NEW, 2, 9020)?;
-    assert_eq!(rt; write.versions(), (OLD, NEW));
-    write.piece(1, flight.piece(1))?;
-    assert!(rt; is_missing(&write));
-    write.piece(0, b"another")?;
-    assert!(rt; is_missing(&write));
-    write.piece(0, flight.piece(0))?;
-    write.piece(2, b"late")?;
-    assert!(rt; is_long(&write));
     Ok(())
 }
