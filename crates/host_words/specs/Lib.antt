@@ -1,0 +1,2 @@
+-- Hosts, as the words of commands name them.
+pub mod Hosts
